@@ -1,0 +1,17 @@
+//! Media and the commands that run on them: RBC (reduced block commands) over boxed media.
+#![tactic(auto)]
+
+mod command;
+mod media;
+mod medium;
+mod ram;
+mod run;
+
+pub use command::{BLOCK, BufferPlan, Command, Need, Outcome, Sense, TRANSFER};
+pub use media::{run_unit, unit_needs};
+pub use medium::Medium;
+pub use ram::RamMedium;
+pub use run::{needs, run_command};
+
+#[cfg(test)]
+mod tests;
