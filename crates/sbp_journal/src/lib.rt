@@ -1,13 +1,12 @@
-// A library with one function.
+//! The journal: lines as events, notes, the text of a note, and the laws of a run.
 #![tactic(auto)]
 
-ghost use Rattle.std.specs.Prelude.{◌≡◌};
-ghost use Rattle.sbp_journal.specs.Echo.{echo_of};
+mod event;
+mod journal;
+mod note;
+mod text;
 
-// The `ensures` clause is the contract: what `echo` returns is `echo_of` of its argument, a definition
-// in `specs/Echo.antt`, which a caller's clause can cite too.
-pub fn echo(x: usize) -> usize
-    ensures { result ≡ echo_of x }
-{
-    x
-}
+pub use event::{Action, Cmd, Event};
+pub use journal::{Journal, Text};
+pub use note::{Note, NoteBuffer, StatusKind};
+pub use text::write_note;
