@@ -1,1 +1,2 @@
 pub mod MediaLists
+pub mod PlainDiskLemmas

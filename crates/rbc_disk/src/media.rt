@@ -42,6 +42,7 @@ fn run_boxed(
     ensures ended { MayEnd (first_check cdb.now buffer (disk medium.old)) (failure_of (command_of cdb.now)) (check_in result) }
     ensures count { media_faults medium.old ≤ media_faults medium.new }
     ensures failed { is_failure (check_in result) ≡ true → Rose (media_faults medium.old) (media_faults medium.new) }
+    ensures room { answered_length result ≤ 16384 }
     ensures len { check_in result ≡ None → answered_length result ≡ answer_length (command_of cdb.now) }
     ensures answered { check_in result ≡ None → IfSome (answer_of (command_of cdb.now) (disk medium.old)) (λ told. take (answered_length result) answer.new ≡ told) }
     ensures disk { disk medium.new ≡ after_run cdb.now payload.now (check_in result) (disk medium.old) }
@@ -68,6 +69,7 @@ pub fn run_unit(
     ensures counts { map media_faults media.new.items ≡ slice_set (map media_faults media.old.items) unit (slice_index (map media_faults media.new.items) unit) }
     ensures rising { slice_index (map media_faults media.old.items) unit ≤ slice_index (map media_faults media.new.items) unit }
     ensures failed { is_failure (check_in result) ≡ true → Rose (slice_index (map media_faults media.old.items) unit) (slice_index (map media_faults media.new.items) unit) }
+    ensures room { answered_length result ≤ 16384 }
     ensures len { check_in result ≡ None → answered_length result ≡ answer_length (command_of cdb.now) }
     ensures answered { check_in result ≡ None → IfSome (answer_of (command_of cdb.now) (disk_at (map disk media.old.items) unit)) (λ told. take (answered_length result) answer.new ≡ told) }
 {

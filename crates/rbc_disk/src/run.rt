@@ -68,6 +68,7 @@ fn transfer(medium: &mut dyn Medium, command: Command, payload: &[u8], answer: &
     ensures ended { MayEnd None (failure_of (Ok command)) (check_in result) }
     ensures count { media_faults medium.old ≤ media_faults medium.new }
     ensures failed { is_failure (check_in result) ≡ true → Rose (media_faults medium.old) (media_faults medium.new) }
+    ensures room { answered_length result ≤ 16384 }
     ensures len { check_in result ≡ None → answered_length result ≡ answer_length (Ok command) }
     ensures answered { check_in result ≡ None → IfSome (answer_of (Ok command) (disk medium.old)) (λ told. take (answered_length result) answer.new ≡ told) }
     ensures disk { disk medium.new ≡ after_checked (Ok command) payload.now (check_in result) (disk medium.old) }
@@ -103,6 +104,7 @@ pub fn run_command(
     ensures ended { MayEnd (first_check cdb.now buffer (disk medium.old)) (failure_of (command_of cdb.now)) (check_in result) }
     ensures count { media_faults medium.old ≤ media_faults medium.new }
     ensures failed { is_failure (check_in result) ≡ true → Rose (media_faults medium.old) (media_faults medium.new) }
+    ensures room { answered_length result ≤ 16384 }
     ensures len { check_in result ≡ None → answered_length result ≡ answer_length (command_of cdb.now) }
     ensures answered { check_in result ≡ None → IfSome (answer_of (command_of cdb.now) (disk medium.old)) (λ told. take (answered_length result) answer.new ≡ told) }
     ensures disk { disk medium.new ≡ after_run cdb.now payload.now (check_in result) (disk medium.old) }

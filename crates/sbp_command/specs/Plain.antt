@@ -1,0 +1,108 @@
+-- The plain list: commands of initiator 0 that wait, in their order.
+use Rattle.std.specs.Prelude.{◌≡◌, ◌≢◌, ℕ, suc, ◌+◌, ◌==◌, ◌<◌, ◌≤◌, Bool, true, false, if◌then◌else◌, List, [], ◌∷◌, ◌++◌, length, reverse, slice_set, slice_index, slice_index_or, Option, Some, None}
+use Rattle.std.specs.List.{AllByRecursion}
+use Rattle.rbc_disk.specs.Disk.{Disk, disk_at}
+use Rattle.rbc_disk.specs.Command.{command_of}
+use Rattle.rbc_disk.specs.PlainDisk.{after_run, data_length, is_failure}
+use Rattle.rbc_disk.specs.declared.command.Sense.{Sense}
+use Rattle.sbp_base.specs.Faults.{Rose}
+use Rattle.sbp_journal.specs.declared.note.Note.{Note}
+use Rattle.sbp_journal.specs.declared.event.Cmd.{Cmd}
+use Rattle.sbp_journal.specs.declared.event.Event.{Event}
+use Rattle.sbp_journal.specs.declared.event.Event.TheVariants.{Begin, Act, Settle}
+use Rattle.sbp_journal.specs.declared.event.Action.TheVariants.{Append}
+use Rattle.sbp_journal.specs.Run.{Run, history}
+use Rattle.sbp_journal.specs.Terms.{Request, lists, appends, ends, runs, takes, request_at, unit_of}
+use Rattle.sbp_journal.specs.DiskFold.{disk_of, DisksAre, FailuresFit}
+use Rattle.sbp_journal.specs.Form.{IsCheck}
+use Rattle.sbp_journal.specs.ExecutionLaw.{RunsOn}
+use Rattle.sbp_journal.specs.AnswerLaw.{IsAnswerOf}
+use Rattle.sbp_journal.specs.ActionLaw.{ActionLaw, buffer_of, served}
+use Rattle.sbp_journal.specs.Lawful.{AreLawful}
+
+-- the commands that wait, how many were appended and how many ended, and the notes of the latest line
+pub record PlainState : Type 0 where
+  pub begun : Bool
+  pub waiting : List Cmd
+  pub appended : ℕ
+  pub ended : ℕ
+  pub fresh : List Note
+
+abbrev pub empty_list : PlainState
+empty_list = record { begun = false; waiting = []; appended = 0; ended = 0; fresh = [] }
+
+-- what the media hold, and their counts of faults
+pub record Held : Type 0 where
+  pub disks : List Disk
+  pub faults : List ℕ
+
+abbrev pub held : List Disk → List ℕ → Held
+held disks faults = record { disks = disks; faults = faults }
+
+-- a command whose data, if it goes to the target, is what its command block asks for
+pub record Fits (cmd : Cmd) : Type 0 where
+  pub some : 0 < cmd.length
+  pub whole : cmd.to_initiator ≡ false → length cmd.payload ≡ cmd.length
+  pub asked : cmd.to_initiator ≡ false → data_length (command_of cmd.cdb) ≡ length cmd.payload
+
+abbrev pub request_of : Cmd → Request
+request_of cmd = record { cdb = cmd.cdb; buffer = buffer_of cmd }
+
+-- the events of a script in their places
+abbrev pub InPlace : Bool → Event → Type 0
+InPlace false (Begin initiators ready) = (initiators ≡ 1) × (ready ≡ true)
+InPlace true (Act initiator (Append cmd)) = (initiator ≡ 0) × Fits cmd
+InPlace true Settle = Unit {0}
+InPlace _ _ = ⊥
+
+-- A command ran on unit 0 and was told: what it brought, and what it left.
+pub record RunsAndTells (cmd : Cmd) (orb : ℕ) (old new : List Note) (before now : Held) : Type 0 where
+  pub bytes : List ℕ
+  pub check : Option Sense
+  pub answer : List ℕ
+  pub fresh : new ≡ old ++ served 0 0 orb 0 cmd.cdb bytes check answer
+  pub form : IsCheck check
+  pub runs_on : RunsOn (request_of cmd) (disk_at before.disks 0) cmd.cdb bytes check
+  pub answers : check ≡ None → IsAnswerOf (request_of cmd) (disk_at before.disks 0) answer
+  pub silent : check ≢ None → answer ≡ []
+  pub disks : now.disks ≡ slice_set before.disks 0 (after_run cmd.cdb bytes check (disk_at before.disks 0))
+  pub faults : now.faults ≡ slice_set before.faults 0 (slice_index now.faults 0)
+  pub rising : slice_index before.faults 0 ≤ slice_index now.faults 0
+  pub failed : is_failure check ≡ true → Rose (slice_index before.faults 0) (slice_index now.faults 0)
+
+-- The first waiting command was served.
+pub record Serves (old new : PlainState) (before now : Held) : Type 0 where
+  pub cmd : Cmd
+  pub waiting : old.waiting ≡ cmd ∷ new.waiting
+  pub ended : new.ended ≡ old.ended + 1
+  pub appended : new.appended ≡ old.appended
+  pub begun : new.begun ≡ old.begun
+  pub told : RunsAndTells cmd old.ended old.fresh new.fresh before now
+
+-- The list and the media are what the notes ns, the latest one first, say; and the notes are lawful.
+pub record Stands (start now : Held) (ns : List Note) (state : PlainState) : Type 0 where
+  pub lawful : AreLawful start.disks ns
+  pub login : state.begun ≡ true → unit_of ns 0 ≡ Some 0
+  pub of_appends : appends ns 0 0 ≡ state.appended
+  pub of_lists : lists ns 0 ≡ (if state.appended == 0 then 0 else 1)
+  pub alone : (i : ℕ) → i ≢ 0 → lists ns i ≡ 0
+  pub of_ends : ends ns 0 0 ≡ state.ended
+  pub count : state.ended + length state.waiting ≡ state.appended
+  pub queued : (j : ℕ) (d : Cmd) → j < length state.waiting → request_at ns 0 0 (state.ended + j) ≡ Some (request_of (slice_index_or state.waiting j d))
+  pub not_run : (k : ℕ) → state.ended ≤ k → runs ns 0 0 k ≡ 0
+  pub not_taken : (k : ℕ) → state.ended ≤ k → takes ns 0 0 k ≡ 0
+  pub disks : DisksAre start.disks ns now.disks
+  pub failures : FailuresFit start.faults ns now.faults
+  pub some : 0 < length now.disks
+  pub counted : 0 < length now.faults
+
+-- The list and the media stand for a lawful run.
+pub record StandsFor (start now : Held) (run : Run) (state : PlainState) : Type 0 where
+  pub begins : run.start ≡ start.disks
+  pub notes : Stands start now (history run.entries) state
+  pub action : ActionLaw run.entries
+
+-- the data with which a command runs
+abbrev pub carried_of : Cmd → Bool → List ℕ
+carried_of cmd true = cmd.payload
+carried_of cmd false = []

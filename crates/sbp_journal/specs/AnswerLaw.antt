@@ -1,0 +1,21 @@
+-- The answer law: a good status carries the answer of the plain disk as it was before the ORB ran.
+use Rattle.std.specs.Prelude.{◌≡◌, ℕ, List, [], ◌∷◌, length, Option, IfSome, IsSomeAnd}
+use Rattle.rbc_disk.specs.Disk.{Disk}
+use Rattle.rbc_disk.specs.Command.{command_of}
+use Rattle.rbc_disk.specs.PlainDisk.{answer_of, answer_length}
+use Rattle.sbp_journal.specs.Terms.{Request, request_at}
+use Rattle.sbp_journal.specs.DiskFold.{before_run}
+use Rattle.sbp_journal.specs.declared.note.Note.{Note}
+use Rattle.sbp_journal.specs.declared.note.Note.TheVariants.{Taken}
+use Rattle.sbp_journal.specs.declared.note.StatusKind.TheVariants.{Good}
+
+-- the answer to a request by this disk: its length, and its bytes where the disk tells them
+pub record IsAnswerOf (request : Request) (disk : Disk) (answer : List ℕ) : Type 0 where
+  pub len : length answer ≡ answer_length (command_of request.cdb)
+  pub told : IfSome (answer_of (command_of request.cdb) disk) (λ bytes. answer ≡ bytes)
+
+abbrev pub AnswerLaw : List Disk → List Note → Type 0
+AnswerLaw start [] = Unit {0}
+AnswerLaw start (Taken i n k Good answer ∷ ns) =
+    IsSomeAnd (request_at ns i n k) (λ request. IsAnswerOf request (before_run start ns i n k) answer) × AnswerLaw start ns
+AnswerLaw start (_ ∷ ns) = AnswerLaw start ns

@@ -1,0 +1,44 @@
+-- A run: what the media hold at the start, and an entry for each line that was run.
+use Rattle.std.specs.Prelude.{ℕ, List, [], ◌∷◌, ◌++◌, reverse}
+use Rattle.rbc_disk.specs.Disk.{Disk}
+use Rattle.sbp_journal.specs.declared.event.Event.{Event}
+use Rattle.sbp_journal.specs.declared.note.Note.{Note}
+
+-- a line's number, its event, and its notes in their order
+pub record Entry : Type 0 where
+  pub line : ℕ
+  pub event : Event
+  pub notes : List Note
+
+-- what each unit's medium holds at the start, and the entries, the latest one first
+pub record Run : Type 0 where
+  pub start : List Disk
+  pub entries : List Entry
+
+-- the run before any line
+abbrev pub empty_run : List Disk → Run
+empty_run start = record { start = start; entries = [] }
+
+-- the run with one more entry
+abbrev pub with_entry : Run → ℕ → Event → List Note → Run
+with_entry run line event notes = record run { entries = record { line = line; event = event; notes = notes } ∷ run.entries }
+
+-- the notes of all entries, in their order
+abbrev pub notes_of : List Entry → List Note
+notes_of [] = []
+notes_of (entry ∷ before) = notes_of before ++ entry.notes
+
+abbrev pub journal : Run → List Note
+journal run = notes_of run.entries
+
+-- the notes, the latest one first: what stood before a note is the rest of the list
+abbrev pub history : List Entry → List Note
+history entries = reverse (notes_of entries)
+
+-- the numbered events, in their order
+abbrev pub events_in : List Entry → List (ℕ × Event)
+events_in [] = []
+events_in (entry ∷ before) = events_in before ++ (entry.line, entry.event) ∷ []
+
+abbrev pub events_of : Run → List (ℕ × Event)
+events_of run = events_in run.entries
