@@ -1,10 +1,10 @@
 -- The script in a list of bytes: the numbered events of the lines before the first faulty one, and that line's fault.
-use Rattle.std.specs.Prelude.{ℕ, suc, ◌+◌, ◌*◌, ◌^◌, ◌-◌, ◌==◌, ◌&&◌, ◌||◌, nat_lt, Bool, true, false, not, if◌then◌else◌, List, [], ◌∷◌, take, drop, fold, length, slice_index, codes, bytes_eq, Option, Some, None, Result, Ok, Err}
+use Rattle.std.specs.Prelude.{◌≡◌, ◌⊎◌, ◌++◌, ℕ, suc, ◌+◌, ◌*◌, ◌^◌, ◌-◌, ◌==◌, ◌&&◌, ◌||◌, nat_lt, Bool, true, false, not, if◌then◌else◌, List, [], ◌∷◌, take, drop, fold, length, slice_index, codes, bytes_eq, Option, Some, None, Result, Ok, Err}
 use Rattle.std.specs.Option.{ok_or, option_map}
 use Rattle.hex.specs.Hex.{decode_of}
 use Rattle.hex.specs.declared.error.FromHexError.{FromHexError}
 use Rattle.sbp_journal.specs.declared.event.Cmd.{Cmd}
-use Rattle.std.specs.List.{slice_split, list_all}
+use Rattle.std.specs.List.{slice_split, list_all, AllByRecursion}
 use Rattle.std.specs.Char.{is_ascii_digit}
 use Rattle.std.specs.Str.Lines.{lines}
 use Rattle.sbp_journal.specs.declared.event.Event.{Event}
@@ -66,6 +66,18 @@ reading number line =
     if nat_lt 65536 number then Err TooMany
     else if nat_lt 8192 (length line) then Err TooLong
     else ok_or (event_at number line) NoForm
+
+-- no line feed stands in these bytes
+abbrev pub NoFeed : List ℕ → Type 0
+NoFeed bytes = AllByRecursion (λ byte. (byte == 10) ≡ false) bytes
+
+-- whole lines: no bytes, or bytes that end with a line feed
+abbrev pub IsWhole : List ℕ → Type 0
+IsWhole bytes = (bytes ≡ []) ⊎ ((front : List ℕ) × (bytes ≡ front ++ 10 ∷ []))
+
+-- a line that is too long whatever follows: more than 8,193 bytes, or 8,193 of which the last is no carriage return
+abbrev pub is_surely_long : List ℕ → Bool
+is_surely_long rest = nat_lt 8193 (length rest) || (nat_lt 8192 (length rest) && not (slice_index rest (length rest - 1) == 13))
 
 -- numbered events, and the first faulty line's number and fault
 pub record Script : Type 0 where
