@@ -13,6 +13,8 @@ use Rattle.sbp_journal.specs.declared.event.Action.TheVariants.{Append}
 use Rattle.sbp_command.specs.Blocks.{read_block, write_block}
 use Rattle.sbp_command.specs.declared.script.LineFault.{LineFault}
 use Rattle.sbp_command.specs.declared.script.LineFault.TheVariants.{TooMany, TooLong, NoForm}
+use Rattle.sbp_command.specs.declared.script.LineError.{LineError}
+use Rattle.sbp_command.specs.declared.script.LineError.TheVariants.{Fault, NoMemory}
 
 -- a decimal number without a leading zero
 unfoldable pub is_numeral : List ℕ → Bool
@@ -102,3 +104,9 @@ abbrev pub fault_number : LineFault → ℕ
 fault_number TooMany = 2
 fault_number TooLong = 1
 fault_number NoForm = 10
+
+-- an answer gives a reading, unless memory was wanting
+abbrev pub Reads : Result Event LineError → Result Event LineFault → Type 0
+Reads (Ok event) read = read ≡ Ok event
+Reads (Err (Fault fault)) read = read ≡ Err fault
+Reads (Err NoMemory) read = Unit {0}

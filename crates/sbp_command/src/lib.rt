@@ -3,4 +3,4 @@
 
 mod script;
 
-pub use script::LineFault;
+pub use script::{LineError, LineFault, read_line};
