@@ -255,3 +255,6 @@ fn one_block(opcode: u8, lba: u32) -> [u8; 12]
     BigEndian::write_u32(&mut cdb[2..6], lba);
     cdb
 }
+
+#[cfg(test)]
+mod tests;
