@@ -1,10 +1,10 @@
-ghost use Rattle.std.specs.Prelude.{◌≡◌, ◌^◌, nat_lt, ℕ, List, map, length, Option, Some, None, IfOk, IsTrue, if◌then◌else◌};
+ghost use Rattle.std.specs.Prelude.{◌≡◌, ◌^◌, nat_lt, map, IfOk, if◌then◌else◌};
 ghost use Rattle.std.specs.Option.{ok_or};
 ghost use Rattle.std.specs.List.{list_all};
 ghost use Rattle.std.specs.Char.{is_ascii_digit};
 ghost use Rattle.sbp_command.specs.Blocks as blocks;
 ghost use Rattle.sbp_command.specs.Script as script;
-ghost use Rattle.sbp_command.specs.Script.{fault_number, Reads, reading, value, is_numeral, is_lba, fill_of, words};
+ghost use Rattle.sbp_command.specs.Script.{fault_number, Reads, reading, value, is_lba, fill_of, words};
 
 use byteorder::{BigEndian, ByteOrder};
 use hex::FromHex;
