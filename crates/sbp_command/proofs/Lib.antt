@@ -1,2 +1,4 @@
+pub mod Numbers
 pub mod Running
+pub mod ScriptLines
 pub mod Standing

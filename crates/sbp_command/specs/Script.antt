@@ -1,10 +1,10 @@
 -- The script in a list of bytes: the numbered events of the lines before the first faulty one, and that line's fault.
-use Rattle.std.specs.Prelude.{ℕ, suc, ◌+◌, ◌*◌, ◌^◌, ◌-◌, ◌==◌, ◌&&◌, ◌||◌, nat_lt, Bool, true, false, not, if◌then◌else◌, List, [], ◌∷◌, take, drop, fold, length, slice_index, codes, bytes_eq, Option, Some, None, Result, Ok, Err}
+use Rattle.std.specs.Prelude.{◌≡◌, ◌⊎◌, ◌++◌, ℕ, suc, ◌+◌, ◌*◌, ◌^◌, ◌-◌, ◌==◌, ◌&&◌, ◌||◌, nat_lt, Bool, true, false, not, if◌then◌else◌, List, [], ◌∷◌, take, drop, fold, length, slice_index, codes, bytes_eq, Option, Some, None, Result, Ok, Err}
 use Rattle.std.specs.Option.{ok_or, option_map}
 use Rattle.hex.specs.Hex.{decode_of}
 use Rattle.hex.specs.declared.error.FromHexError.{FromHexError}
 use Rattle.sbp_journal.specs.declared.event.Cmd.{Cmd}
-use Rattle.std.specs.List.{slice_split, list_all}
+use Rattle.std.specs.List.{slice_split, list_all, AllByRecursion}
 use Rattle.std.specs.Char.{is_ascii_digit}
 use Rattle.std.specs.Str.Lines.{lines}
 use Rattle.sbp_journal.specs.declared.event.Event.{Event}
@@ -13,6 +13,8 @@ use Rattle.sbp_journal.specs.declared.event.Action.TheVariants.{Append}
 use Rattle.sbp_command.specs.Blocks.{read_block, write_block}
 use Rattle.sbp_command.specs.declared.script.LineFault.{LineFault}
 use Rattle.sbp_command.specs.declared.script.LineFault.TheVariants.{TooMany, TooLong, NoForm}
+use Rattle.sbp_command.specs.declared.script.LineError.{LineError}
+use Rattle.sbp_command.specs.declared.script.LineError.TheVariants.{Fault, NoMemory}
 
 -- a decimal number without a leading zero
 unfoldable pub is_numeral : List ℕ → Bool
@@ -67,6 +69,18 @@ reading number line =
     else if nat_lt 8192 (length line) then Err TooLong
     else ok_or (event_at number line) NoForm
 
+-- no line feed stands in these bytes
+abbrev pub NoFeed : List ℕ → Type 0
+NoFeed bytes = AllByRecursion (λ byte. (byte == 10) ≡ false) bytes
+
+-- whole lines: no bytes, or bytes that end with a line feed
+abbrev pub IsWhole : List ℕ → Type 0
+IsWhole bytes = (bytes ≡ []) ⊎ ((front : List ℕ) × (bytes ≡ front ++ 10 ∷ []))
+
+-- a line that is too long whatever follows: more than 8,193 bytes, or 8,193 of which the last is no carriage return
+abbrev pub is_surely_long : List ℕ → Bool
+is_surely_long rest = nat_lt 8193 (length rest) || (nat_lt 8192 (length rest) && not (slice_index rest (length rest - 1) == 13))
+
 -- numbered events, and the first faulty line's number and fault
 pub record Script : Type 0 where
   pub events : List (ℕ × Event)
@@ -90,3 +104,9 @@ abbrev pub fault_number : LineFault → ℕ
 fault_number TooMany = 2
 fault_number TooLong = 1
 fault_number NoForm = 10
+
+-- an answer gives a reading, unless memory was wanting
+abbrev pub Reads : Result Event LineError → Result Event LineFault → Type 0
+Reads (Ok event) read = read ≡ Ok event
+Reads (Err (Fault fault)) read = read ≡ Err fault
+Reads (Err NoMemory) read = Unit {0}

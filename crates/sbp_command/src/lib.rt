@@ -5,4 +5,4 @@ mod plain;
 mod script;
 
 pub use plain::PlainList;
-pub use script::LineFault;
+pub use script::{LineError, LineFault, read_line};
