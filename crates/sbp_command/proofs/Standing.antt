@@ -28,6 +28,9 @@ at_orb-same f k value = grind arith
 at_orb-other : {A : Type 0} (f : ℕ → ℕ → ℕ → A) (k l : ℕ) (value : A) → l ≢ k → at_orb f 0 0 k value 0 0 l ≡ f 0 0 l
 at_orb-other f k l value h = grind arith
 
+at_initiator-other : {A : Type 0} (f : ℕ → A) (u : ℕ) (value : A) → u ≢ 0 → at_initiator f 0 value u ≡ f u
+at_initiator-other f u value h = grind arith
+
 -- a status and an answer have the form of a note's
 form_status : (check : Option Sense) → IsCheck check → IsStatus (status_of check)
 form_status None h = tt
@@ -55,4 +58,5 @@ disks_after start ns disks orb cdb bytes check some h = record {
     each_disk : (u : ℕ) → u < length start → disk_at (set disks 0 (after_run cdb bytes check (disk_at disks 0))) u ≡ disk_of start (Ran 0 (Some 0) orb 0 cdb bytes check ∷ ns) u
     each_disk zero below =
         get_or-set_same disks 0 (after_run cdb bytes check (disk_at disks 0)) no_disk some ∙ ap (after_run cdb bytes check) (h.each 0 below)
-    each_disk (suc u) below = ?
+    each_disk (suc u) below = get_or-set_other disks 0 (suc u) (after_run cdb bytes check (disk_at disks 0)) no_disk (λ e. cc e) ∙ h.each (suc u) below
+        ∙ sym (at_initiator-other (disk_of start ns) (suc u) (after_run cdb bytes check (disk_of start ns 0)) (λ e. cc e))

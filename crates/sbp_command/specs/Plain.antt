@@ -45,6 +45,12 @@ pub record Fits (cmd : Cmd) : Type 0 where
   pub whole : cmd.to_initiator ≡ false → length cmd.payload ≡ cmd.length
   pub asked : cmd.to_initiator ≡ false → data_length (command_of cmd.cdb) ≡ length cmd.payload
 
+-- each command that waits fits, each ORB has ended or waits, and the largest answer has room
+pub record IsSound (waiting : List Cmd) (ended appended room : ℕ) : Type 0 where
+  pub fits : AllByRecursion Fits waiting
+  pub count : ended + length waiting ≡ appended
+  pub roomy : room ≡ 16384
+
 abbrev pub request_of : Cmd → Request
 request_of cmd = record { cdb = cmd.cdb; buffer = buffer_of cmd }
 

