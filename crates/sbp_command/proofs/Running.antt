@@ -23,10 +23,10 @@ use Rattle.sbp_command.specs.Plain.{Fits, request_of, carried_of}
 abbrev pub plan : Cmd → BufferPlan
 plan cmd = record { to_initiator = cmd.to_initiator; bytes = cmd.length }
 
-buffer_in : (cmd : Cmd) → Fits cmd → cmd.to_initiator ≡ true → buffer_of cmd ≡ In cmd.length
+pub buffer_in : (cmd : Cmd) → Fits cmd → cmd.to_initiator ≡ true → buffer_of cmd ≡ In cmd.length
 buffer_in cmd f e = let some = f.some in grind arith
 
-buffer_out : (cmd : Cmd) → Fits cmd → cmd.to_initiator ≡ false → buffer_of cmd ≡ Out cmd.payload
+pub buffer_out : (cmd : Cmd) → Fits cmd → cmd.to_initiator ≡ false → buffer_of cmd ≡ Out cmd.payload
 buffer_out cmd f e = let some = f.some in grind arith
 
 pub plan-buffer : (cmd : Cmd) → Fits cmd → plan_of (buffer_of cmd) ≡ plan cmd
