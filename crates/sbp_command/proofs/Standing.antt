@@ -34,11 +34,11 @@ at_initiator-other : {A : Type 0} (f : ℕ → A) (u : ℕ) (value : A) → u �
 at_initiator-other f u value h = grind arith
 
 -- a status and an answer have the form of a note's
-form_status : (check : Option Sense) → IsCheck check → IsStatus (status_of check)
+pub form_status : (check : Option Sense) → IsCheck check → IsStatus (status_of check)
 form_status None h = tt
 form_status (Some sense) h = h
 
-form_answer : (check : Option Sense) (answer : List ℕ) → IsCheck check → (check ≢ None → answer ≡ []) → IsAnswer (status_of check) answer
+pub form_answer : (check : Option Sense) (answer : List ℕ) → IsCheck check → (check ≢ None → answer ≡ []) → IsAnswer (status_of check) answer
 form_answer None answer h silent = tt
 form_answer (Some sense) answer h silent = (silent (λ e. cc e), h)
 

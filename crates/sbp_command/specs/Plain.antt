@@ -7,6 +7,7 @@ use Rattle.rbc_disk.specs.PlainDisk.{after_run, data_length, is_failure}
 use Rattle.rbc_disk.specs.declared.command.Sense.{Sense}
 use Rattle.sbp_base.specs.Faults.{Rose}
 use Rattle.sbp_journal.specs.declared.note.Note.{Note}
+use Rattle.sbp_journal.specs.declared.note.Note.TheVariants.{Settled}
 use Rattle.sbp_journal.specs.declared.event.Cmd.{Cmd}
 use Rattle.sbp_journal.specs.declared.event.Event.{Event}
 use Rattle.sbp_journal.specs.declared.event.Event.TheVariants.{Begin, Act, Settle}
@@ -14,10 +15,10 @@ use Rattle.sbp_journal.specs.declared.event.Action.TheVariants.{Append}
 use Rattle.sbp_journal.specs.Run.{Run, history}
 use Rattle.sbp_journal.specs.Terms.{Request, lists, appends, ends, runs, takes, request_at, unit_of}
 use Rattle.sbp_journal.specs.DiskFold.{disk_of, DisksAre, FailuresFit}
-use Rattle.sbp_journal.specs.Form.{IsCheck}
+use Rattle.sbp_journal.specs.Form.{HasForm, IsCheck}
 use Rattle.sbp_journal.specs.ExecutionLaw.{RunsOn}
 use Rattle.sbp_journal.specs.AnswerLaw.{IsAnswerOf}
-use Rattle.sbp_journal.specs.ActionLaw.{ActionLaw, buffer_of, served}
+use Rattle.sbp_journal.specs.ActionLaw.{ActionLaw, AreServed, buffer_of, served}
 use Rattle.sbp_journal.specs.Lawful.{AreLawful}
 
 -- the commands that wait, how many were appended and how many ended, and the notes of the latest line
@@ -112,3 +113,18 @@ pub record StandsFor (start now : Held) (run : Run) (state : PlainState) : Type 
 abbrev pub carried_of : Cmd → Bool → List ℕ
 carried_of cmd true = cmd.payload
 carried_of cmd false = []
+
+-- Commands were served since the list was `old`: their notes, and what the list and the media then stand for.
+pub record Settling (old new : PlainState) (before now : Held) : Type 0 where
+  pub begun : new.begun ≡ old.begun
+  pub appended : new.appended ≡ old.appended
+  pub served_all : AreServed new.fresh
+  pub form : AllByRecursion HasForm new.fresh
+  pub stands : (start : Held) (notes : List Note) → Stands start before (reverse notes) old → Stands start now (reverse (notes ++ new.fresh)) new
+
+-- All that waited was served, and the line told that nothing waits.
+pub record HasSettled (old new : PlainState) (before now : Held) : Type 0 where
+  pub state : PlainState
+  pub settling : Settling old state before now
+  pub none : state.waiting ≡ []
+  pub settled : new ≡ record state { fresh = state.fresh ++ Settled ∷ [] }

@@ -11,7 +11,7 @@ ghost use Rattle.sbp_journal.specs.ExecutionLaw.{RunsOn};
 ghost use Rattle.sbp_journal.specs.AnswerLaw.{IsAnswerOf};
 ghost use Rattle.sbp_journal.specs.ActionLaw.{append_notes, buffer_of, served, AreServed};
 ghost use Rattle.sbp_journal.specs.declared.note.Note.TheVariants as notes;
-ghost use Rattle.sbp_command.specs.Plain.{PlainState, empty_list, Held, held, Fits, InPlace, RunsAndTells, Serves, Stands, StandsFor, request_of, carried_of};
+ghost use Rattle.sbp_command.specs.Plain.{PlainState, empty_list, Held, held, Fits, InPlace, RunsAndTells, Serves, Stands, StandsFor, Settling, HasSettled, request_of, carried_of};
 
 use std::alloc::Global;
 use std::collections::VecDeque;
@@ -262,6 +262,35 @@ impl PlainList {
         self.ended += 1;
         let room = self.answer.as_mut_slice();
         serve_command(self.alloc, &mut self.fresh, media, orb, &cmd, room)
+    }
+}
+
+impl PlainList {
+    /// Serves the waiting commands, in their order, until none waits.
+    fn serve_all(&mut self, media: &mut Vec<Box<dyn Medium>>) -> Result<(), NoMemory>
+        requires begun { self.old.begun ≡ true }
+        requires fresh { self.old.fresh ≡ [] }
+        requires media { 0 < length media.old.items }
+        ensures count { length media.new.items ≡ length media.old.items }
+        ensures served { OnOk result (Settling self.old self.new (held (map disk media.old.items) (map media_faults media.old.items)) (held (map disk media.new.items) (map media_faults media.new.items))) }
+        ensures none { OnOk result (self.new.waiting ≡ []) }
+    {
+        while !self.waiting.is_empty() {
+            self.serve(media)?;
+        }
+        Ok(())
+    }
+
+    /// What waits is served, until nothing does.
+    fn settle(&mut self, media: &mut Vec<Box<dyn Medium>>) -> Result<(), NoMemory>
+        requires begun { self.old.begun ≡ true }
+        requires fresh { self.old.fresh ≡ [] }
+        requires media { 0 < length media.old.items }
+        ensures count { length media.new.items ≡ length media.old.items }
+        ensures settled { OnOk result (HasSettled self.old self.new (held (map disk media.old.items) (map media_faults media.old.items)) (held (map disk media.new.items) (map media_faults media.new.items))) }
+    {
+        self.serve_all(media)?;
+        self.fresh.push(Note::Settled)
     }
 }
 
