@@ -1,6 +1,6 @@
 -- A line's notes extend a run.
 use Rattle.std.proofs.Common.{◌≡◌, ◌≢◌, ℕ, zero, suc, ◌+◌, ◌-◌, ◌<◌, ◌≤◌, Bool, true, false, List, [], ◌∷◌, ◌++◌, length, reverse, refl, sym, ap, ◌∙◌, subst, arith, append_assoc, append-nil}
-use Rattle.std.specs.Prelude.{◌==◌, if◌then◌else◌, Option, Some, None}
+use Rattle.std.specs.Prelude.{◌==◌, if◌then◌else◌, Option, Some, None, Result, Ok, Err, OnOk}
 use Rattle.std.specs.List.{AllByRecursion}
 use Rattle.std.proofs.lemmas.List.{reverse-append}
 use Rattle.rbc_disk.specs.declared.command.Sense.{Sense}
@@ -10,11 +10,13 @@ use Rattle.sbp_journal.specs.Form.{HasForm}
 use Rattle.sbp_journal.specs.OrderLaw.{IsPresent}
 use Rattle.sbp_journal.specs.ActionLaw.{ActionLaw, AreServed, none, more, Settles, NothingWaits, append_notes, link_notes, served, buffer_of}
 use Rattle.sbp_journal.specs.declared.event.Cmd.{Cmd}
+use Rattle.sbp_journal.specs.declared.event.Event.{Event}
 use Rattle.sbp_journal.specs.declared.event.Event.TheVariants as events
+use Rattle.sbp_journal.specs.declared.event.Action.{Action}
 use Rattle.sbp_journal.specs.declared.event.Action.TheVariants as actions
 use Rattle.sbp_journal.specs.declared.note.Note.{Note}
 use Rattle.sbp_journal.specs.declared.note.Note.TheVariants.{Begin, Append, Low, Linked, Rung, Ran, Ended, Taken, Settled}
-use Rattle.sbp_command.specs.Plain.{PlainState, Held, Fits, RunsAndTells, Serves, Stands, StandsFor, Settling, HasSettled}
+use Rattle.sbp_command.specs.Plain.{PlainState, Held, Fits, InPlace, command_in, with_command, RunsAndTells, Serves, Stands, StandsFor, Settling, HasSettled}
 use Rattle.sbp_command.proofs.Standing.{form_status, form_answer, stands_begun, stands_rung, stands_linked, stands_settled, stands_told, stands_appended, stands_served}
 
 -- nothing is served yet
@@ -65,23 +67,27 @@ nothing_waits start now ns state s e (suc i) n present =
     let impossible : suc n ≡ 0 = present ∙ none in
     cc impossible
 
+-- the list with other notes of its latest line
+abbrev pub with_notes : PlainState → List Note → PlainState
+with_notes state fresh = record state { fresh = fresh }
+
 -- the list before a line, with the notes of the latest line gone
-abbrev cleared : PlainState → PlainState
+abbrev pub cleared : PlainState → PlainState
 cleared state = record state { fresh = [] }
+
+-- the list with the run begun
+abbrev pub begun_list : PlainState → PlainState
+begun_list old = record old { begun = true; fresh = Begin 1 true ∷ [] }
 
 -- a run with an entry that begins it
 pub extends_begin : (start now : Held) (run : Run) (line : ℕ) (old : PlainState) → StandsFor start now run old →
-    StandsFor start now (with_entry run line (events.Begin 1 true) (Begin 1 true ∷ [])) (record old { begun = true; fresh = Begin 1 true ∷ [] })
+    StandsFor start now (with_entry run line (events.Begin 1 true) (Begin 1 true ∷ [])) (begun_list old)
 extends_begin start now run line old s = record {
   begins = s.begins;
-  notes = subst (λ ns. Stands start now ns (record old { begun = true; fresh = Begin 1 true ∷ [] })) (sym (reverse-append (notes_of run.entries) (Begin 1 true ∷ [])))
+  notes = subst (λ ns. Stands start now ns (begun_list old)) (sym (reverse-append (notes_of run.entries) (Begin 1 true ∷ [])))
     (stands_begun start now (history run.entries) (Begin 1 true ∷ []) old s.notes);
   action = (refl, s.action)
 }
-
--- the list with one more command
-abbrev behind : PlainState → Cmd → PlainState
-behind old cmd = record old { waiting = old.waiting ++ cmd ∷ []; appended = old.appended + 1; fresh = append_notes 0 0 old.appended cmd }
 
 -- the notes of an append, by whether it is the first one
 abbrev append_by : Bool → ℕ → Cmd → List Note
@@ -92,7 +98,7 @@ first_list appended listed e = grind arith
 
 -- a run with an entry that appends a command
 pub extends_append : (start now : Held) (run : Run) (line : ℕ) (old : PlainState) (cmd : Cmd) → Fits cmd → StandsFor start now run old →
-    StandsFor start now (with_entry run line (events.Act 0 (actions.Append cmd)) (append_notes 0 0 old.appended cmd)) (behind old cmd)
+    StandsFor start now (with_entry run line (events.Act 0 (actions.Append cmd)) (append_notes 0 0 old.appended cmd)) (with_command old cmd)
 extends_append start now run line old cmd f s = record {
   begins = s.begins;
   notes = by_place (old.appended == 0);
@@ -104,16 +110,16 @@ extends_append start now run line old cmd f s = record {
         let list = first_list old.appended (lists (history run.entries) 0) s.notes.of_lists in
         ap (λ k. append_notes 0 0 k cmd) (sym s.notes.of_appends) ∙ ap (λ n. append_notes 0 n (appends (history run.entries) 0 n) cmd) (sym list)
 
-    after : Stands start now (Append 0 0 old.appended cmd.cdb (buffer_of cmd) ∷ history run.entries) (behind old cmd)
+    after : Stands start now (Append 0 0 old.appended cmd.cdb (buffer_of cmd) ∷ history run.entries) (with_command old cmd)
     after = stands_appended start now (history run.entries) (append_notes 0 0 old.appended cmd) old cmd f s.notes
 
-    by_place : (first : Bool) → Stands start now (reverse (notes_of run.entries ++ append_by first old.appended cmd)) (behind old cmd)
+    by_place : (first : Bool) → Stands start now (reverse (notes_of run.entries ++ append_by first old.appended cmd)) (with_command old cmd)
     by_place true =
-        subst (λ ns. Stands start now ns (behind old cmd)) (sym (reverse-append (notes_of run.entries) (append_by true old.appended cmd)))
-        (stands_rung start now _ (behind old cmd) 0 0 old.appended after)
+        subst (λ ns. Stands start now ns (with_command old cmd)) (sym (reverse-append (notes_of run.entries) (append_by true old.appended cmd)))
+        (stands_rung start now _ (with_command old cmd) 0 0 old.appended after)
     by_place false =
-        subst (λ ns. Stands start now ns (behind old cmd)) (sym (reverse-append (notes_of run.entries) (append_by false old.appended cmd)))
-        (stands_rung start now _ (behind old cmd) 0 0 old.appended (stands_linked start now _ (behind old cmd) 0 0 old.appended after))
+        subst (λ ns. Stands start now ns (with_command old cmd)) (sym (reverse-append (notes_of run.entries) (append_by false old.appended cmd)))
+        (stands_rung start now _ (with_command old cmd) 0 0 old.appended (stands_linked start now _ (with_command old cmd) 0 0 old.appended after))
 
 -- a run with an entry that settles what waits
 pub extends_settle : (start before now : Held) (run : Run) (line : ℕ) (old new : PlainState) → HasSettled (cleared old) new before now → StandsFor start before run old →
@@ -149,3 +155,49 @@ extends_settle start before now run line old new h s = record {
         subst (λ state. Stands start now (reverse (notes_of run.entries ++ new.fresh)) state) (sym h.settled)
         (subst (λ ns. Stands start now ns (record h.state { fresh = h.state.fresh ++ Settled ∷ [] })) (sym told_backwards)
         (stands_told start now _ _ h.state (stands_settled start now _ h.state in_line)))
+
+-- what holds at Ok
+pub on_ok : {A E : Type 0} (P Q : Type 0) (result : Result A E) → (P → Q) → OnOk result P → OnOk result Q
+on_ok P Q (Ok a) f p = f p
+on_ok P Q (Err e) f p = p
+
+-- an event in its place
+begin_place : (begun : Bool) (initiators : ℕ) (ready : Bool) → InPlace begun (events.Begin initiators ready) → events.Begin initiators ready ≡ events.Begin 1 true
+begin_place true initiators ready h = absurd h
+begin_place false initiators ready h = ap (λ n. events.Begin n ready) h.0 ∙ ap (λ b. events.Begin 1 b) h.1
+
+append_place : (begun : Bool) (initiator : ℕ) (action : Action) → InPlace begun (events.Act initiator action) → (initiator ≡ 0) × Fits (command_in action)
+append_place true initiator action h = h
+append_place false initiator action h = absurd h
+
+an_append : (action : Action) → action ≡ actions.Append (command_in action)
+an_append (actions.Append cmd) = refl
+
+-- the list after its notes are cleared
+pub cleared_from : (viewed old : PlainState) (fresh : List Note) → viewed ≡ old → fresh ≡ [] → with_notes viewed fresh ≡ cleared old
+cleared_from viewed old fresh e f = ap (λ (state : PlainState). with_notes state fresh) e ∙ ap (with_notes old) f
+
+-- a line runs: from the list `old`, whose notes are cleared, to the list `new`
+module _ (start now : Held) (run : Run) (line : ℕ) (old clear new : PlainState) (event : Event) (is_clear : clear ≡ cleared old) (place : InPlace old.begun event) where
+  pub line_begins : (initiators : ℕ) (ready : Bool) → event ≡ events.Begin initiators ready → new ≡ begun_list clear → StandsFor start now run old →
+      StandsFor start now (with_entry run line event new.fresh) new
+  line_begins initiators ready e told s =
+      let is : event ≡ events.Begin 1 true = e ∙ begin_place old.begun initiators ready (subst (InPlace old.begun) e place) in
+      let whole : new ≡ begun_list old = told ∙ ap begun_list is_clear in
+      subst (λ state. StandsFor start now (with_entry run line event state.fresh) state) (sym whole)
+      (subst (λ event. StandsFor start now (with_entry run line event (Begin 1 true ∷ [])) (begun_list old)) (sym is) (extends_begin start now run line old s))
+
+  pub line_appends : (initiator : ℕ) (action : Action) → event ≡ events.Act initiator action → new ≡ with_command clear (command_in action) → StandsFor start now run old →
+      StandsFor start now (with_entry run line event new.fresh) new
+  line_appends initiator action e told s =
+      let here = append_place old.begun initiator action (subst (InPlace old.begun) e place) in
+      let is : event ≡ events.Act 0 (actions.Append (command_in action)) = e ∙ ap (λ i. events.Act i action) here.0 ∙ ap (events.Act 0) (an_append action) in
+      let whole : new ≡ with_command old (command_in action) = told ∙ ap (λ (state : PlainState). with_command state (command_in action)) is_clear in
+      subst (λ state. StandsFor start now (with_entry run line event state.fresh) state) (sym whole)
+      (subst (λ event. StandsFor start now (with_entry run line event (append_notes 0 0 old.appended (command_in action))) (with_command old (command_in action))) (sym is)
+      (extends_append start now run line old (command_in action) here.1 s))
+
+  pub line_settles : (later : Held) → event ≡ events.Settle → HasSettled clear new now later → StandsFor start now run old → StandsFor start later (with_entry run line event new.fresh) new
+  line_settles later e h s =
+      subst (λ event. StandsFor start later (with_entry run line event new.fresh) new) (sym e)
+      (extends_settle start now later run line old new (subst (λ state. HasSettled state new now later) is_clear h) s)

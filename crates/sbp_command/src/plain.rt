@@ -11,7 +11,7 @@ ghost use Rattle.sbp_journal.specs.ExecutionLaw.{RunsOn};
 ghost use Rattle.sbp_journal.specs.AnswerLaw.{IsAnswerOf};
 ghost use Rattle.sbp_journal.specs.ActionLaw.{append_notes, buffer_of, served, AreServed};
 ghost use Rattle.sbp_journal.specs.declared.note.Note.TheVariants as notes;
-ghost use Rattle.sbp_command.specs.Plain.{PlainState, empty_list, Held, held, Fits, InPlace, RunsAndTells, Serves, Stands, StandsFor, Settling, HasSettled, request_of, carried_of};
+ghost use Rattle.sbp_command.specs.Plain.{PlainState, empty_list, Held, held, Fits, InPlace, RunsAndTells, Serves, Stands, StandsFor, Settling, HasSettled, request_of, carried_of, command_in, with_command};
 
 use std::alloc::Global;
 use std::collections::VecDeque;
@@ -88,10 +88,7 @@ impl PlainList {
         requires fits { Fits cmd }
         requires fresh { self.old.fresh ≡ [] }
         requires room { self.old.appended < 65536 }
-        ensures { OnOk result (self.new ≡ record self.old {
-            waiting = self.old.waiting ++ cmd ∷ [];
-            appended = self.old.appended + 1;
-            fresh = append_notes 0 0 self.old.appended cmd }) }
+        ensures { OnOk result (self.new ≡ with_command self.old cmd) }
     {
         let orb = self.appended;
         tell_append(self.alloc, &mut self.fresh, orb, &cmd)?;
@@ -266,6 +263,18 @@ impl PlainList {
 }
 
 impl PlainList {
+    /// Initiator 0 acts.
+    fn act(&mut self, action: Action) -> Result<(), NoMemory>
+        requires fits { Fits (command_in action) }
+        requires fresh { self.old.fresh ≡ [] }
+        requires room { self.old.appended < 65536 }
+        ensures { OnOk result (self.new ≡ with_command self.old (command_in action)) }
+    {
+        match action {
+            Action::Append(cmd) => self.append(cmd),
+        }
+    }
+
     /// Serves the waiting commands, in their order, until none waits.
     fn serve_all(&mut self, media: &mut Vec<Box<dyn Medium>>) -> Result<(), NoMemory>
         requires begun { self.old.begun ≡ true }
@@ -308,9 +317,9 @@ impl PlainList {
     {
         self.fresh.clear();
         match event {
-            Event::Begin { .. } => Err(NoMemory),
-            Event::Act { .. } => Err(NoMemory),
-            Event::Settle => Err(NoMemory),
+            Event::Begin { .. } => self.begin(),
+            Event::Act { action, .. } => self.act(action),
+            Event::Settle => self.settle(media),
         }
     }
 }
