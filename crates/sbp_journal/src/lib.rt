@@ -1,6 +1,7 @@
 //! The journal: lines as events, notes, the text of a note, and the laws of a run.
 #![tactic(auto)]
 
+mod canonical;
 mod event;
 mod journal;
 mod note;
@@ -10,3 +11,6 @@ pub use event::{Action, Cmd, Event};
 pub use journal::{Journal, Text};
 pub use note::{Note, NoteBuffer, StatusKind};
 pub use text::write_note;
+
+#[cfg(test)]
+mod tests;
