@@ -1,12 +1,12 @@
 -- Bytes without a fault, by the table; and bytes that spell a packet have none.
-use Rattle.std.proofs.Common.{◌≡◌, ◌∙◌, refl, sym, subst, ap, ℕ, ◌+◌, ◌≤◌, nat_lt, Bool, true, false, not, ◌&&◌, ◌==◌, if◌then◌else◌, List, [], ◌∷◌, length, Some, None, arith}
-use Rattle.std.specs.Prelude.{Option, IsTrue}
-use Rattle.std.proofs.lemmas.Bool.{ltb-false, le-ltb, not-false, not_from_true, cond-false, and_left, and_right, cases_Bool}
+use Rattle.std.proofs.Common.{◌≡◌, ◌∙◌, refl, sym, subst, ℕ, ◌+◌, ◌≤◌, Bool, true, false, ◌&&◌, if◌then◌else◌, List, length, Some, None, arith}
+use Rattle.std.specs.Prelude.{Option}
+use Rattle.std.proofs.lemmas.Bool.{ltb-false, le-ltb, not-false, not_from_true, cond-false}
 use Rattle.async_packet.specs.declared.fault.PacketFault.{PacketFault}
 use Rattle.async_packet.specs.declared.packet.Header.{Header}
 use Rattle.async_packet.specs.Packet.{Packet, write_quadlet, write_block, write_response, read_quadlet, read_block, read_quadlet_response, read_block_response, lock, lock_response}
 use Rattle.async_packet.specs.Fields.{tcode_of, length_of, extended_of, is_kind, has_length, is_lock, is_extended, is_request_length, is_response_length, is_lock_length, head_of, whole_of, padded, largest}
-use Rattle.async_packet.specs.Faults.{Row, first, rows, fault_of}
+use Rattle.async_packet.specs.Faults.{first, rows, fault_of}
 use Rattle.async_packet.specs.Spells.{IsRow, HasPayload, HasExtended, Spells}
 
 -- what the table asks of bytes: as many, with this tcode, data_length and extended_tcode
@@ -68,14 +68,14 @@ clear bytes tcode is p =
     let whole : ℕ = whole_of tcode declared in
     let same : count ≡ whole = p.whole in
     let none : first (rows count tcode declared (extended_of bytes)) ≡ None =
-        cond-false _ _ _ (le-ltb count 4 p.long)
-        ∙ cond-false _ _ _ (not_from_true _ p.kind)
-        ∙ cond-false _ _ _ (le-ltb count (head_of tcode) p.head)
-        ∙ cond-false _ _ _ (unless_holds _ _ (λ h. le-ltb largest declared (p.small h)))
-        ∙ cond-false _ _ _ (unless_holds _ _ (λ h. not_from_true _ (p.known h)))
-        ∙ cond-false _ _ _ (unless_holds _ _ (λ h. not_from_true _ (p.rule h)))
-        ∙ cond-false _ _ _ (le-ltb count whole (omega (arith, same)))
-        ∙ cond-false _ _ _ (le-ltb whole count (omega (arith, same))) in
+    cond-false _ _ _ (le-ltb count 4 p.long)
+    ∙ cond-false _ _ _ (not_from_true _ p.kind)
+    ∙ cond-false _ _ _ (le-ltb count (head_of tcode) p.head)
+    ∙ cond-false _ _ _ (unless_holds _ _ (λ h. le-ltb largest declared (p.small h)))
+    ∙ cond-false _ _ _ (unless_holds _ _ (λ h. not_from_true _ (p.known h)))
+    ∙ cond-false _ _ _ (unless_holds _ _ (λ h. not_from_true _ (p.rule h)))
+    ∙ cond-false _ _ _ (le-ltb count whole (omega (arith, same)))
+    ∙ cond-false _ _ _ (le-ltb whole count (omega (arith, same))) in
     subst (λ t. first (rows count t declared (extended_of bytes)) ≡ None) (sym is) none
 
 -- a kind whose length is fixed

@@ -6,10 +6,10 @@ use Rattle.byteorder.specs.Endian.{big_bytes}
 use Rattle.byteorder.specs.Numbers.{big_number-reads_back}
 use Rattle.sbp_base.specs.Quadlets.{quad}
 use Rattle.async_packet.specs.declared.packet.Header.{Header}
-use Rattle.async_packet.specs.Packet.{Packet, write_quadlet, write_block, write_response, read_quadlet, read_block, read_quadlet_response, read_block_response, lock, lock_response}
+use Rattle.async_packet.specs.Packet.{write_quadlet, write_block, write_response, read_quadlet, read_block, read_quadlet_response, read_block_response, lock, lock_response}
 use Rattle.async_packet.specs.Fields.{tcode_of, header_of, offset_of, rcode_of, value_of, length_of, extended_of, padded, largest, is_extended, is_request_length, is_response_length}
-use Rattle.async_packet.specs.Spells.{IsRow, HasPayload, HasExtended, Spells}
-use Rattle.async_packet.specs.Canon.{three, four, first_quad, request_quad, response_quad, length_quad, request, response, with_pad, canon, encoded_length, FitsHeader, IsValid, CanonSpells, CanonLength}
+use Rattle.async_packet.specs.Spells.{IsRow, HasPayload}
+use Rattle.async_packet.specs.Canon.{three, four, first_quad, request_quad, response_quad, length_quad, request, response, with_pad, canon, FitsHeader, CanonSpells, CanonLength}
 
 -- bytes that begin with three quadlets
 record Begins (bytes : List ℕ) (a b c : ℕ) : Type 0 where

@@ -1,9 +1,8 @@
 -- The one packet that bytes can spell.
-use Rattle.std.proofs.Common.{◌≡◌, ◌∙◌, refl, sym, subst, ap, ℕ, ◌==◌, if◌then◌else◌, List, length, take, drop}
-use Rattle.async_packet.specs.declared.packet.Header.{Header}
+use Rattle.std.proofs.Common.{◌≡◌, ◌∙◌, refl, sym, subst, ap, ℕ, ◌==◌, if◌then◌else◌, List, take, drop}
 use Rattle.async_packet.specs.Packet.{Packet, write_quadlet, write_block, write_response, read_quadlet, read_block, read_quadlet_response, read_block_response, lock, lock_response}
 use Rattle.async_packet.specs.Fields.{tcode_of, header_of, offset_of, rcode_of, value_of, length_of, extended_of}
-use Rattle.async_packet.specs.Spells.{IsRow, HasPayload, HasExtended, Spells, SpellsOnce}
+use Rattle.async_packet.specs.Spells.{HasPayload, Spells, SpellsOnce}
 
 abbrev payload_in : List ℕ → List ℕ
 payload_in bytes = take (length_of bytes) (drop 16 bytes)

@@ -1,6 +1,6 @@
 -- The fields of an asynchronous packet, by their places (IEEE 1394-1995, asynchronous packets). Bit
 -- 31 is the most significant bit of a quadlet.
-use Rattle.std.specs.Prelude.{ℕ, ◌+◌, ◌-◌, ◌*◌, ◌/◌, ◌%◌, ◌^◌, ◌==◌, ◌||◌, ◌&&◌, nat_le, Bool, not, if◌then◌else◌, List}
+use Rattle.std.specs.Prelude.{ℕ, ◌+◌, ◌*◌, ◌/◌, ◌%◌, ◌^◌, ◌==◌, ◌||◌, ◌&&◌, nat_le, Bool, not, if◌then◌else◌, List}
 use Rattle.sbp_base.specs.Quadlets.{quad}
 use Rattle.async_packet.specs.declared.packet.Header.{Header}
 

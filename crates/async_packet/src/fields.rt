@@ -2,9 +2,8 @@ ghost use Rattle.std.specs.Prelude.{◌≡◌, ◌+◌, ◌^◌, ◌<◌, ◌≤
 ghost use Rattle.async_packet.specs.Fields.{tcode_of, header_of, offset_of, rcode_of, length_of, extended_of, value_of, padded, largest};
 ghost use Rattle.async_packet.specs.Spells.{HasPayload};
 
-use sbp_base::{NodeId, Offset, quad_at};
-
 use crate::packet::Header;
+use sbp_base::{NodeId, Offset, quad_at};
 
 /// The most bytes of a payload.
 pub(crate) const LARGEST: u16 = 2048;

@@ -106,7 +106,11 @@ fn whole_bytes(tcode: u8, declared: u16) -> u16
     requires small { declared ≤ largest }
     ensures { result ≡ whole_of tcode declared }
 {
-    if tcode == 5 { 16 } else { 16 + padded_bytes(declared) }
+    if tcode == 5 {
+        16
+    } else {
+        16 + padded_bytes(declared)
+    }
 }
 
 /// A length padded to whole quadlets.

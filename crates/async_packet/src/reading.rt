@@ -5,7 +5,9 @@ ghost use Rattle.async_packet.specs.Faults.{fault_of};
 ghost use Rattle.async_packet.specs.Spells.{Spells, SpellsOnce};
 
 use crate::fault::PacketFault;
-use crate::fields::{extended_at, header_at, length_at, offset_at, payload_at, rcode_at, tcode_at, value_at};
+use crate::fields::{
+    extended_at, header_at, length_at, offset_at, payload_at, rcode_at, tcode_at, value_at,
+};
 use crate::judging::judge;
 use crate::packet::PacketRef;
 
@@ -25,8 +27,7 @@ pub fn decode(bytes: &[u8]) -> Result<PacketRef<'_>, PacketFault>
 /// The law that no bytes spell two packets.
 pub fn spells_once()
     ensures { SpellsOnce }
-{
-}
+{}
 
 /// The packet of bytes that have no fault.
 fn packet_at(bytes: &[u8]) -> PacketRef<'_>

@@ -12,12 +12,20 @@ pub fn is_valid(packet: &PacketRef<'_>) -> bool
     ensures { IsTrue result ↔ IsValid (view packet.now) }
 {
     match packet {
-        PacketRef::WriteQuadlet { header, offset, value } => {
+        PacketRef::WriteQuadlet {
+            header,
+            offset,
+            value,
+        } => {
             let _offset = offset.value();
             let _value = *value;
             fits_header(header)
         }
-        PacketRef::WriteBlock { header, offset, payload } => {
+        PacketRef::WriteBlock {
+            header,
+            offset,
+            payload,
+        } => {
             let _offset = offset.value();
             fits_header(header) && fits_payload(payload)
         }
@@ -26,22 +34,42 @@ pub fn is_valid(packet: &PacketRef<'_>) -> bool
             let _offset = offset.value();
             fits_header(header)
         }
-        PacketRef::ReadBlock { header, offset, length } => {
+        PacketRef::ReadBlock {
+            header,
+            offset,
+            length,
+        } => {
             let _offset = offset.value();
             fits_header(header) && *length <= LARGEST
         }
-        PacketRef::ReadQuadletResponse { header, rcode, value } => {
+        PacketRef::ReadQuadletResponse {
+            header,
+            rcode,
+            value,
+        } => {
             let _value = *value;
             fits_response_header(header, *rcode)
         }
-        PacketRef::ReadBlockResponse { header, rcode, payload } => fits_response_header(header, *rcode) && fits_payload(payload),
-        PacketRef::Lock { header, offset, extended, payload } => {
+        PacketRef::ReadBlockResponse {
+            header,
+            rcode,
+            payload,
+        } => fits_response_header(header, *rcode) && fits_payload(payload),
+        PacketRef::Lock {
+            header,
+            offset,
+            extended,
+            payload,
+        } => {
             let _offset = offset.value();
             fits_header(header) && fits_lock_request(*extended, payload)
         }
-        PacketRef::LockResponse { header, rcode, extended, payload } => {
-            fits_response_header(header, *rcode) && fits_lock_response(*extended, payload)
-        }
+        PacketRef::LockResponse {
+            header,
+            rcode,
+            extended,
+            payload,
+        } => { fits_response_header(header, *rcode) && fits_lock_response(*extended, payload) }
     }
 }
 
@@ -51,7 +79,9 @@ pub fn encoded_len(packet: &PacketRef<'_>) -> usize
 {
     match packet {
         PacketRef::WriteResponse { .. } | PacketRef::ReadQuadlet { .. } => 12,
-        PacketRef::WriteQuadlet { .. } | PacketRef::ReadBlock { .. } | PacketRef::ReadQuadletResponse { .. } => 16,
+        PacketRef::WriteQuadlet { .. }
+        | PacketRef::ReadBlock { .. }
+        | PacketRef::ReadQuadletResponse { .. } => 16,
         PacketRef::WriteBlock { payload, .. } => block_len(payload),
         PacketRef::ReadBlockResponse { payload, .. } => block_len(payload),
         PacketRef::Lock { payload, .. } => block_len(payload),

@@ -3,10 +3,9 @@ ghost use Rattle.async_packet.specs.Packet.{view};
 ghost use Rattle.async_packet.specs.Fields.{padded, largest};
 ghost use Rattle.async_packet.specs.Canon.{three, four, first_quad, request_quad, response_quad, length_quad, with_pad, canon, encoded_length, FitsHeader, IsValid, CanonSpells, CanonLength};
 
-use sbp_base::{Offset, put_quad};
-
 use crate::packet::{Header, PacketRef};
 use crate::validity::padded_len;
+use sbp_base::{Offset, put_quad};
 
 /// Writes a valid packet at the front of `out`, and answers how many bytes it has. Reserved bits and
 /// pad bytes are zero. The rest of `out` stays.
@@ -17,24 +16,72 @@ pub fn encode_into(packet: &PacketRef<'_>, out: &mut [u8]) -> usize
     ensures count { result ≡ encoded_length (view packet.now) }
 {
     match packet {
-        PacketRef::WriteQuadlet { header, offset, value } => put_four(out, &request(0, header, *offset), *value),
-        PacketRef::WriteBlock { header, offset, payload } => {
-            put_block(out, &request(1, header, *offset), length_and_code(payload, 0), payload)
+        PacketRef::WriteQuadlet {
+            header,
+            offset,
+            value,
+        } => put_four(out, &request(0, header, *offset), *value),
+        PacketRef::WriteBlock {
+            header,
+            offset,
+            payload,
+        } => {
+            put_block(
+                out,
+                &request(1, header, *offset),
+                length_and_code(payload, 0),
+                payload,
+            )
         }
         PacketRef::WriteResponse { header, rcode } => put_three(out, &response(2, header, *rcode)),
         PacketRef::ReadQuadlet { header, offset } => put_three(out, &request(4, header, *offset)),
-        PacketRef::ReadBlock { header, offset, length } => {
-            put_four(out, &request(5, header, *offset), u32::from(*length) << 16)
+        PacketRef::ReadBlock {
+            header,
+            offset,
+            length,
+        } => { put_four(out, &request(5, header, *offset), u32::from(*length) << 16) }
+        PacketRef::ReadQuadletResponse {
+            header,
+            rcode,
+            value,
+        } => put_four(out, &response(6, header, *rcode), *value),
+        PacketRef::ReadBlockResponse {
+            header,
+            rcode,
+            payload,
+        } => {
+            put_block(
+                out,
+                &response(7, header, *rcode),
+                length_and_code(payload, 0),
+                payload,
+            )
         }
-        PacketRef::ReadQuadletResponse { header, rcode, value } => put_four(out, &response(6, header, *rcode), *value),
-        PacketRef::ReadBlockResponse { header, rcode, payload } => {
-            put_block(out, &response(7, header, *rcode), length_and_code(payload, 0), payload)
+        PacketRef::Lock {
+            header,
+            offset,
+            extended,
+            payload,
+        } => {
+            put_block(
+                out,
+                &request(9, header, *offset),
+                length_and_code(payload, *extended),
+                payload,
+            )
         }
-        PacketRef::Lock { header, offset, extended, payload } => {
-            put_block(out, &request(9, header, *offset), length_and_code(payload, *extended), payload)
-        }
-        PacketRef::LockResponse { header, rcode, extended, payload } => {
-            put_block(out, &response(11, header, *rcode), length_and_code(payload, *extended), payload)
+        PacketRef::LockResponse {
+            header,
+            rcode,
+            extended,
+            payload,
+        } => {
+            put_block(
+                out,
+                &response(11, header, *rcode),
+                length_and_code(payload, *extended),
+                payload,
+            )
         }
     }
 }
@@ -42,14 +89,12 @@ pub fn encode_into(packet: &PacketRef<'_>, out: &mut [u8]) -> usize
 /// The law that a valid packet's canonical spelling spells it, so that reading it gives the packet.
 pub fn canon_spells()
     ensures { CanonSpells }
-{
-}
+{}
 
 /// The law that the canonical spelling has as many bytes as the packet's encoded length.
 pub fn canon_has_length()
     ensures { CanonLength }
-{
-}
+{}
 
 /// The first three quadlets of a packet.
 #[derive(Drop)]

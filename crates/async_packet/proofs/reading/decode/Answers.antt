@@ -1,4 +1,4 @@
-use Rattle.std.proofs.Common.{◌≡◌, ◌∙◌, sym}
+use Rattle.std.proofs.Common.{◌∙◌, sym}
 use Rattle.async_packet.proofs.Judged.{no_fault}
 use Rattle.async_packet.proofs.reading.decode.Goals as goal
 

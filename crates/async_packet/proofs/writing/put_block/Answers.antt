@@ -9,7 +9,7 @@ joined out front rest head body new_front new_rest n parts long first second =
     let tail : drop 16 out ≡ rest = ap (drop 16) parts ∙ drop_at front rest 16 long in
     let whole : new_front ≡ head = first ∙ ap (λ (z : List ℕ). head ++ z) gone ∙ append-nil head in
     let behind : new_rest ≡ body ++ drop (16 + n) out =
-        second ∙ ap (λ (z : List ℕ). body ++ drop n z) (sym tail) ∙ ap (λ (z : List ℕ). body ++ z) (drop-drop n 16 out) in
+    second ∙ ap (λ (z : List ℕ). body ++ drop n z) (sym tail) ∙ ap (λ (z : List ℕ). body ++ z) (drop-drop n 16 out) in
     ap (λ (z : List ℕ). z ++ new_rest) whole ∙ ap (λ (z : List ℕ). head ++ z) behind ∙ sym (append_assoc head body (drop (16 + n) out))
 
 pub returns-clause-written : goal.returns-clause-written
