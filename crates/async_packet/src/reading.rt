@@ -1,6 +1,7 @@
 ghost use Rattle.std.specs.Prelude.{◌≡◌, ◌+◌, ◌≤◌, length, Option, Some, None, IsTrue, IfOk, IfErr, IsOkAnd};
 ghost use Rattle.async_packet.specs.Packet.{Packet, view};
 ghost use Rattle.async_packet.specs.Fields.{tcode_of, length_of, extended_of, padded, largest, is_extended, is_request_length, is_response_length};
+ghost use Rattle.async_packet.specs.Canon.{DecodesBack};
 ghost use Rattle.async_packet.specs.Faults.{fault_of};
 ghost use Rattle.async_packet.specs.Spells.{Spells, SpellsOnce};
 
@@ -29,6 +30,11 @@ pub fn spells_once()
     ensures { SpellsOnce }
 {}
 
+/// The law that reading a valid packet's canonical spelling gives the packet.
+pub fn decodes_back()
+    ensures { DecodesBack }
+{}
+
 /// The packet of bytes that have no fault.
 fn packet_at(bytes: &[u8]) -> PacketRef<'_>
     requires { fault_of bytes.now ≡ None }
@@ -48,6 +54,7 @@ fn packet_at(bytes: &[u8]) -> PacketRef<'_>
     }
 }
 
+/// tcode 0: 16 bytes, the last 4 of them the value.
 fn write_quadlet(bytes: &[u8]) -> PacketRef<'_>
     requires kind { tcode_of bytes.now ≡ 0 }
     requires whole { length bytes.now ≡ 16 }
@@ -60,6 +67,7 @@ fn write_quadlet(bytes: &[u8]) -> PacketRef<'_>
     }
 }
 
+/// tcode 1: 16 bytes, and the payload and its pad.
 fn write_block(bytes: &[u8]) -> PacketRef<'_>
     requires kind { tcode_of bytes.now ≡ 1 }
     requires small { length_of bytes.now ≤ largest }
@@ -73,6 +81,7 @@ fn write_block(bytes: &[u8]) -> PacketRef<'_>
     }
 }
 
+/// tcode 2: 12 bytes.
 fn write_response(bytes: &[u8]) -> PacketRef<'_>
     requires kind { tcode_of bytes.now ≡ 2 }
     requires whole { length bytes.now ≡ 12 }
@@ -84,6 +93,7 @@ fn write_response(bytes: &[u8]) -> PacketRef<'_>
     }
 }
 
+/// tcode 4: 12 bytes.
 fn read_quadlet(bytes: &[u8]) -> PacketRef<'_>
     requires kind { tcode_of bytes.now ≡ 4 }
     requires whole { length bytes.now ≡ 12 }
@@ -95,6 +105,7 @@ fn read_quadlet(bytes: &[u8]) -> PacketRef<'_>
     }
 }
 
+/// tcode 5: 16 bytes and no payload; the data_length is asked for.
 fn read_block(bytes: &[u8]) -> PacketRef<'_>
     requires kind { tcode_of bytes.now ≡ 5 }
     requires small { length_of bytes.now ≤ largest }
@@ -108,6 +119,7 @@ fn read_block(bytes: &[u8]) -> PacketRef<'_>
     }
 }
 
+/// tcode 6: 16 bytes, the last 4 of them the value.
 fn read_quadlet_response(bytes: &[u8]) -> PacketRef<'_>
     requires kind { tcode_of bytes.now ≡ 6 }
     requires whole { length bytes.now ≡ 16 }
@@ -120,6 +132,7 @@ fn read_quadlet_response(bytes: &[u8]) -> PacketRef<'_>
     }
 }
 
+/// tcode 7: 16 bytes, and the payload and its pad.
 fn read_block_response(bytes: &[u8]) -> PacketRef<'_>
     requires kind { tcode_of bytes.now ≡ 7 }
     requires small { length_of bytes.now ≤ largest }
@@ -133,6 +146,7 @@ fn read_block_response(bytes: &[u8]) -> PacketRef<'_>
     }
 }
 
+/// tcode 9: 16 bytes, and the payload and its pad.
 fn lock(bytes: &[u8]) -> PacketRef<'_>
     requires kind { tcode_of bytes.now ≡ 9 }
     requires small { length_of bytes.now ≤ largest }
@@ -149,6 +163,7 @@ fn lock(bytes: &[u8]) -> PacketRef<'_>
     }
 }
 
+/// tcode B: 16 bytes, and the payload and its pad.
 fn lock_response(bytes: &[u8]) -> PacketRef<'_>
     requires kind { tcode_of bytes.now ≡ 11 }
     requires small { length_of bytes.now ≤ largest }
