@@ -76,7 +76,7 @@ module _ (cmd : Cmd) (disk : Disk) (check : Option Sense) (f : Fits cmd) (may : 
 pub answers_front : (cmd : Cmd) (disk : Disk) (n : ℕ) (room : List ℕ) → length room ≡ 16384 → n ≤ 16384 → n ≡ answer_length (command_of cmd.cdb) → IfSome (answer_of (command_of cmd.cdb) disk) (λ told. take n room ≡ told) → IsAnswerOf (request_of cmd) disk (take n room)
 answers_front cmd disk n room size few len told = record {
   len = length-take-le n room (subst (λ m. n ≤ m) (sym size) few) ∙ len;
-  told = told
+  told = told;
 }
 
 -- a check has a key of four bits

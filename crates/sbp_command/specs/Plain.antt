@@ -65,7 +65,7 @@ abbrev pub with_command : PlainState → Cmd → PlainState
 with_command old cmd = record old {
   waiting = old.waiting ++ cmd ∷ [];
   appended = old.appended + 1;
-  fresh = append_notes 0 0 old.appended cmd
+  fresh = append_notes 0 0 old.appended cmd;
 }
 
 -- the events of a script in their places
