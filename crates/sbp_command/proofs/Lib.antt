@@ -2,3 +2,4 @@ pub mod Numbers
 pub mod Running
 pub mod ScriptLines
 pub mod Standing
+pub mod Writes

@@ -24,6 +24,9 @@ pub record Outside : Type 0 where
   pub disks : List Disk
   pub faults : List ℕ
 
+abbrev pub outside : Option (List ℕ) → ℕ → Option (List ℕ) → ℕ → List Disk → List ℕ → Outside
+outside left reads written writes disks faults = record { left = left; reads = reads; written = written; writes = writes; disks = disks; faults = faults }
+
 -- the line that tells a fault
 abbrev pub fault_text : ℕ → LineFault → List ℕ
 fault_text number fault = codes "script " ++ (decimal number ++ 32 ∷ (decimal (fault_number fault) ++ 10 ∷ []))

@@ -3,7 +3,10 @@
 
 mod plain;
 mod script;
+mod session;
 mod status;
+mod top;
+mod write;
 
 pub use plain::PlainList;
 pub use script::{LineError, LineFault, read_line};
