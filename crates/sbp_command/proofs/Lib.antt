@@ -3,3 +3,4 @@ pub mod Running
 pub mod ScriptLines
 pub mod Standing
 pub mod Writes
+pub mod LineEnds

@@ -88,13 +88,17 @@ pub record LineTorn (before now : Outside) (run : Run) (number : ℕ) (line : Li
   pub tells : Tells run number line made output
   pub written : Appends before.written now.written (take len output)
 
+-- how a line that ends the run ended
+abbrev pub LineFails : Status → Outside → Outside → Run → ℕ → List ℕ → PlainState → Type 0
+LineFails statuses.Script before now run number line list = FaultTold before now run number line list
+LineFails statuses.WriteFault before now run number line list = Rose before.writes now.writes × LineTorn before now run number line
+LineFails statuses.NoMemory before now run number line list = LineTorn before now run number line
+LineFails _ before now run number line list = ⊥
+
 -- how a line ended
 abbrev pub LineEnds : {A : Type 0} → Result A Status → Outside → Outside → Run → ℕ → List ℕ → PlainState → Type 0
 LineEnds (Ok done) before now run number line list = RanLine before now run number line list
-LineEnds (Err statuses.Script) before now run number line list = FaultTold before now run number line list
-LineEnds (Err statuses.WriteFault) before now run number line list = Rose before.writes now.writes × LineTorn before now run number line
-LineEnds (Err statuses.NoMemory) before now run number line list = LineTorn before now run number line
-LineEnds (Err _) before now run number line list = ⊥
+LineEnds (Err status) before now run number line list = LineFails status before now run number line list
 
 -- The whole lines that were read are run and written; behind them stand the rest of a line and the bytes that wait.
 pub record InRun (before now : Outside) (pending : List ℕ) (state : SessionState) : Type 0 where
