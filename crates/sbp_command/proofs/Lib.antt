@@ -4,3 +4,5 @@ pub mod ScriptLines
 pub mod Standing
 pub mod Writes
 pub mod LineEnds
+pub mod Places
+pub mod Sessions

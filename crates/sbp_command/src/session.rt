@@ -75,3 +75,30 @@ fn tell_fault<K: Sink>(alloc: Global, number: u32, fault: LineFault, sink: &mut 
         Err(status) => status,
     }
 }
+
+/// Runs a line that has ended, or tells its fault.
+#[tactic(auto, using(crate::proofs::Places::places))]
+fn run_line<K: Sink>(
+    alloc: Global,
+    number: u32,
+    line: &[u8],
+    list: &mut PlainList,
+    text: &mut Text,
+    media: &mut Vec<Box<dyn Medium>>,
+    sink: &mut K,
+) -> Result<(), Status>
+    requires begun { list.old.begun ≡ nat_lt 1 number }
+    requires room { list.old.appended < number }
+    requires media { 0 < length media.old.items }
+    ensures few { OnOk result (number ≤ 65536) }
+    ensures count { length media.new.items ≡ length media.old.items }
+    ensures begun { OnOk result (list.new.begun ≡ true) }
+    ensures room { OnOk result (list.new.appended ≤ list.old.appended + 1) }
+    ensures ends { (before : Outside) (left : Option (List ℕ)) (reads : ℕ) (run : Run) → RanSoFar before (outside left reads (K.written sink.old) (K.faults sink.old) (map disk media.old.items) (map media_faults media.old.items)) run list.old → LineEnds result before (outside left reads (K.written sink.new) (K.faults sink.new) (map disk media.new.items) (map media_faults media.new.items)) run number line.now list.new }
+{
+    match read_line(alloc, number, line) {
+        Ok(event) => run_event(alloc, event, list, text, media, sink),
+        Err(LineError::Fault(fault)) => Err(tell_fault(alloc, number, fault, sink)),
+        Err(LineError::NoMemory) => Err(Status::NoMemory),
+    }
+}
