@@ -136,7 +136,7 @@ reading-long_cases false false other e = cc e
 pub reading-long : (n : ℕ) (line : List ℕ) → 8192 < length line → reading n line ≡ Err (long_fault n)
 reading-long n line l = reading-long_cases (nat_lt 65536 n) (nat_lt 8192 (length line)) _ (lt-ltb 8192 (length line) l)
 
-surely_long-bytes : (rest : List ℕ) → is_surely_long rest ≡ true → 8192 < length rest
+pub surely_long-bytes : (rest : List ℕ) → is_surely_long rest ≡ true → 8192 < length rest
 surely_long-bytes rest h = elim (or_cases (nat_lt 8193 (length rest)) _ h) [
   | inl e ↦ omega (arith, ltb-true 8193 (length rest) e)
   | inr e ↦ ltb-true 8192 (length rest) ((and_parts (nat_lt 8192 (length rest)) _ e).0)
