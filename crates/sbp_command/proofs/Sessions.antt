@@ -1,10 +1,11 @@
 -- A session goes on byte by byte, and ends as its status says.
-use Rattle.std.proofs.Common.{◌≡◌, ◌∙◌, refl, sym, ap, subst, ℕ, zero, suc, ◌+◌, ◌*◌, ◌-◌, ◌<◌, ◌≤◌, ◌≢◌, inl, inr, nat_lt, ◌==◌, Bool, true, false, not, cond, List, [], ◌∷◌, ◌++◌, take, length, Option, Some, None, Result, Ok, Err, append_assoc, append-nil, length-append, take_all, arith}
+use Rattle.std.proofs.Common.{◌≡◌, ◌∙◌, refl, sym, ap, subst, ℕ, zero, suc, ◌+◌, ◌*◌, ◌-◌, ◌<◌, ◌≤◌, ◌≢◌, inl, inr, nat_lt, ◌==◌, Bool, true, false, not, cond, List, [], ◌∷◌, ◌++◌, take, length, Option, Some, None, Result, Ok, Err, append_assoc, append-nil, length-append, take_all, drop, drop-cons, get_or, add-one, arith}
 use Rattle.std.specs.Prelude.{IfSome}
 use Rattle.std.specs.Io.KnownBytes.{Appends, Consumes, IsAtEnd, Keeps}
 use Rattle.std.proofs.KnownBytes.{Consumes-trans, Consumes-kept}
 use Rattle.std.specs.Str.Lines.{lines, strip_carriage_return}
 use Rattle.std.proofs.Math.Seq.{take-append_seam}
+use Rattle.std.proofs.lemmas.List.{drop_all}
 use Rattle.sbp_base.specs.Faults.{Rose}
 use Rattle.rbc_disk.specs.Disk.{Disk}
 use Rattle.sbp_journal.specs.Run.{Run, Entry, with_entry, journal, history, events_of, empty_run}
@@ -355,3 +356,39 @@ read_fails before old new state h kept rose e1 e2 e3 =
   written = subst (λ w. Appends before.written w (text_of (journal h.run))) e1 h.so_far.written;
   media = leaves before new h.run state.list stands
 })
+
+-- ---- what a session can go on from
+
+pub short_rest : (rest : List ℕ) → is_surely_long rest ≡ false → length rest ≤ 8193
+short_rest rest h = grind arith
+
+pub budget_push : (state : SessionState) (byte : ℕ) → IsReady state → budget (record { number = state.number; rest = state.rest ++ byte ∷ []; list = state.list }) < budget state
+budget_push state byte h = omega (arith, length-append state.rest (byte ∷ []), short_rest state.rest h.short, h.few)
+
+pub budget_line : (state : SessionState) (list : PlainState) → IsReady state → budget (record { number = state.number + 1; rest = []; list = list }) < budget state
+budget_line state list h = omega (arith, short_rest state.rest h.short, h.few)
+
+pub next_begun : (n : ℕ) → nat_lt 0 n ≡ nat_lt 1 (n + 1)
+next_begun n = grind arith
+
+pub has_begun : (n : ℕ) → true ≡ nat_lt 0 (n + 1)
+has_begun n = grind arith
+
+pub next_ready : (state : SessionState) (list : PlainState) → IsReady state → state.number + 1 ≤ 65536 → list.begun ≡ true → list.appended ≤ state.list.appended + 1
+    → IsReady (record { number = state.number + 1; rest = []; list = list })
+next_ready state list h few begun room = record {
+  few = few;
+  short = refl;
+  begun = begun ∙ has_begun state.number;
+  room = omega (arith, h.room)
+}
+
+pub some_rest : (rest : List ℕ) (empty : Bool) → empty ≡ (length rest == 0) → empty ≡ false → 0 < length rest
+some_rest rest empty e f = grind arith
+
+-- the byte of a piece that comes next, and no byte at its end
+pub drop_here : (piece : List ℕ) (i : ℕ) → i < length piece → drop i piece ≡ get_or piece i 0 ∷ drop (i + 1) piece
+drop_here piece i h = rw (add-one) (drop-cons piece i 0 h)
+
+pub drop_end : (piece : List ℕ) (i : ℕ) → length piece ≤ i → drop i piece ≡ []
+drop_end piece i h = drop_all i piece h
