@@ -11,3 +11,4 @@ mod write;
 pub use plain::PlainList;
 pub use script::{LineError, LineFault, read_line};
 pub use status::Status;
+pub use top::sbp2;
