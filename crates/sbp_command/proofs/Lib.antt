@@ -6,3 +6,4 @@ pub mod Writes
 pub mod LineEnds
 pub mod Places
 pub mod Sessions
+pub mod Beginnings

@@ -1,7 +1,6 @@
 -- How a line ends: its event is run and its notes written, or its fault is written.
-use Rattle.std.proofs.Common.{◌≡◌, ◌∙◌, refl, sym, ap, subst, ℕ, ◌+◌, ◌-◌, ◌<◌, ◌≤◌, nat_lt, ◌==◌, Bool, true, false, List, [], ◌∷◌, ◌++◌, take, length, Option, Some, None, Result, Ok, Err, arith, take_all}
+use Rattle.std.proofs.Common.{◌≡◌, sym, subst, ℕ, ◌+◌, ◌≤◌, List, ◌++◌, take, length, Option, Result, Ok, Err, arith, take_all}
 use Rattle.std.specs.Io.KnownBytes.{Appends}
-use Rattle.std.specs.Option.{ok_or}
 use Rattle.std.proofs.KnownBytes.{Appends-trans}
 use Rattle.std.proofs.Math.Seq.{take-append-add}
 use Rattle.std.proofs.lemmas.List.Concat.{flat_map-append}
@@ -15,7 +14,7 @@ use Rattle.sbp_journal.specs.declared.note.Note.{Note}
 use Rattle.sbp_command.specs.Plain.{PlainState, Held, held, StandsFor}
 use Rattle.sbp_command.specs.Script.{reading}
 use Rattle.sbp_command.specs.Headline.{Outside, outside, fault_text}
-use Rattle.sbp_command.specs.Session.{WritesFront, RanSoFar, RanLine, FaultTold, Tells, LineTorn, LineFails, LineEnds}
+use Rattle.sbp_command.specs.Session.{WritesFront, RanSoFar, LineTorn, LineFails, LineEnds}
 use Rattle.sbp_command.specs.Session.Tells.{nothing, event, fault}
 use Rattle.sbp_command.specs.declared.script.LineFault.{LineFault}
 use Rattle.sbp_command.specs.declared.status.Status.{Status}

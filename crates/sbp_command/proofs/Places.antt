@@ -1,17 +1,15 @@
 -- The event of a line stands in its place, and a command that it appends fits its buffer.
-use Rattle.std.proofs.Common.{◌≡◌, ◌∙◌, refl, sym, ap, subst, ℕ, zero, suc, ◌+◌, ◌*◌, ◌<◌, ◌≤◌, nat_lt, ◌==◌, ◌&&◌, not, Bool, true, false, if◌then◌else◌, List, [], ◌∷◌, ◌++◌, length, replicate, Option, Some, None, Result, Ok, Err, arith}
+use Rattle.std.proofs.Common.{◌≡◌, ◌∙◌, refl, sym, subst, ℕ, ◌<◌, ◌≤◌, nat_lt, ◌==◌, not, Bool, true, false, if◌then◌else◌, List, [], ◌∷◌, length, Option, Some, None, Ok, Err, arith}
 use Rattle.std.specs.Option.{ok_or, option_map}
-use Rattle.std.proofs.lemmas.Bool.{ltb-true, lt-ltb, false≢true}
+use Rattle.std.proofs.lemmas.Bool.{false≢true}
 use Rattle.std.proofs.lemmas.List.{length-replicate}
 use Rattle.rbc_disk.specs.PlainDisk.{data_length}
 use Rattle.rbc_disk.specs.Command.{command_of}
 use Rattle.sbp_journal.specs.declared.event.Event.{Event}
-use Rattle.sbp_journal.specs.declared.event.Event.TheVariants.{Begin, Act, Settle}
-use Rattle.sbp_journal.specs.declared.event.Action.TheVariants.{Append}
+use Rattle.sbp_journal.specs.declared.event.Event.TheVariants.{Begin, Settle}
 use Rattle.sbp_command.specs.Blocks.{block_of, one_block, read_block, write_block}
 use Rattle.sbp_command.specs.Plain.{Fits, InPlace}
-use Rattle.sbp_command.specs.Script.{words, appended, block_command, append_of, event_at, reading, is_lba, value, fill_of}
-use Rattle.sbp_command.specs.declared.script.LineFault.{LineFault}
+use Rattle.sbp_command.specs.Script.{words, appended, block_command, append_of, event_at, reading, value, fill_of}
 use Rattle.sbp_command.specs.declared.script.LineFault.TheVariants.{TooMany, TooLong, NoForm}
 
 read_fits : (lba : ℕ) → Fits (read_block lba)

@@ -1,5 +1,5 @@
 -- A session goes on byte by byte, and ends as its status says.
-use Rattle.std.proofs.Common.{◌≡◌, ◌∙◌, refl, sym, ap, subst, ℕ, zero, suc, ◌+◌, ◌*◌, ◌-◌, ◌<◌, ◌≤◌, ◌≢◌, inl, inr, nat_lt, ◌==◌, Bool, true, false, not, cond, List, [], ◌∷◌, ◌++◌, take, length, Option, Some, None, Result, Ok, Err, append_assoc, append-nil, length-append, take_all, drop, drop-cons, get_or, add-one, arith}
+use Rattle.std.proofs.Common.{◌≡◌, ◌∙◌, refl, sym, ap, subst, ℕ, suc, ◌+◌, ◌<◌, ◌≤◌, ◌≢◌, inl, inr, nat_lt, ◌==◌, Bool, true, false, List, [], ◌∷◌, ◌++◌, take, length, Option, Some, None, Result, Ok, Err, append_assoc, append-nil, length-append, take_all, drop, drop-cons, get_or, add-one, arith}
 use Rattle.std.specs.Prelude.{IfSome}
 use Rattle.std.specs.Io.KnownBytes.{Appends, Consumes, IsAtEnd, Keeps}
 use Rattle.std.proofs.KnownBytes.{Consumes-trans, Consumes-kept}
@@ -7,20 +7,18 @@ use Rattle.std.specs.Str.Lines.{lines, strip_carriage_return}
 use Rattle.std.proofs.Math.Seq.{take-append_seam}
 use Rattle.std.proofs.lemmas.List.{drop_all}
 use Rattle.sbp_base.specs.Faults.{Rose}
-use Rattle.rbc_disk.specs.Disk.{Disk}
-use Rattle.sbp_journal.specs.Run.{Run, Entry, with_entry, journal, history, events_of, empty_run}
-use Rattle.sbp_journal.specs.DiskFold.{DisksAre, FailuresFit}
+use Rattle.sbp_journal.specs.Run.{Run, with_entry, journal, history, events_of}
+use Rattle.sbp_journal.specs.DiskFold.{DisksAre}
 use Rattle.sbp_journal.specs.Lawful.{Lawful}
 use Rattle.sbp_journal.specs.Text.{text_of}
 use Rattle.sbp_journal.specs.declared.event.Event.{Event}
 use Rattle.sbp_journal.specs.declared.note.Note.{Note}
 use Rattle.sbp_command.specs.Plain.{PlainState, Held, held, StandsFor}
-use Rattle.sbp_command.specs.Script.{Script, script, script_from, onto_script, reading, IsWhole, NoFeed, is_surely_long}
-use Rattle.sbp_command.specs.Headline.{Outside, outside, fault_text, ending, RunsOver, LeavesMedia, RanScript, RanLines, MayWrite, Torn, RunEnds}
-use Rattle.sbp_command.specs.Session.{SessionState, IsReady, budget, RanSoFar, RanLine, FaultTold, Tells, LineTorn, LineFails, LineEnds, InRun, GoesOn, PieceEnds}
+use Rattle.sbp_command.specs.Script.{Script, script, script_from, onto_script, reading, IsWhole, is_surely_long}
+use Rattle.sbp_command.specs.Headline.{Outside, fault_text, ending, RunsOver, LeavesMedia, Torn, RunEnds}
+use Rattle.sbp_command.specs.Session.{SessionState, IsReady, budget, RanLine, Tells, LineTorn, LineFails, InRun}
 use Rattle.sbp_command.specs.Session.Tells.{nothing, event, fault}
 use Rattle.sbp_command.specs.declared.script.LineFault.{LineFault}
-use Rattle.sbp_command.specs.declared.script.LineFault.TheVariants.{TooMany, TooLong}
 use Rattle.sbp_command.specs.declared.status.Status.{Status}
 use Rattle.sbp_command.specs.declared.status.Status.TheVariants as statuses
 use Rattle.sbp_command.proofs.LineEnds.{lawful_run}

@@ -1,4 +1,4 @@
-ghost use Rattle.std.specs.Prelude.{◌≡◌, ◌≤◌, ◌<◌, ¬◌, ℕ, List, map, length, IfOk, Option, ◌↔◌, ◌++◌, ◌∷◌, [], true};
+ghost use Rattle.std.specs.Prelude.{◌≡◌, ◌≤◌, ◌<◌, ℕ, List, map, length, IfOk, Option, ◌↔◌, ◌++◌, ◌∷◌, [], true};
 ghost use Rattle.std.specs.String.{string_bytes};
 ghost use Rattle.rbc_disk.specs.Disk.{Disk};
 ghost use Rattle.sbp_command.specs.Headline.{Outside, outside, RunEnds, UsageEnds, IsRun, usage};

@@ -1,5 +1,5 @@
 -- What was written so far is the front of the bytes up to `at`.
-use Rattle.std.proofs.Common.{length, ◌-◌, ◌≤◌, ℕ, take}
+use Rattle.std.proofs.Common.{length, ◌-◌, ◌≤◌, take}
 use Rattle.std.specs.Io.KnownBytes.{Appends}
 use Rattle.sbp_command.proofs.write.write_all.Given as goal
 

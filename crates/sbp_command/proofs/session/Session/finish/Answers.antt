@@ -1,6 +1,6 @@
 -- The last line was run, or it ends the run.
 use Rattle.std.proofs.Common.{refl}
-use Rattle.sbp_command.proofs.Sessions.{end_fails, end_ok, end_none, some_rest}
+use Rattle.sbp_command.proofs.Sessions.{end_fails, end_ok, some_rest}
 use Rattle.sbp_command.proofs.session.Session.finish.Goals as goal
 
 pub returns-in-Err : goal.returns-in-Err

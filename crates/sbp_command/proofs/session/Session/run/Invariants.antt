@@ -1,5 +1,5 @@
 -- The whole lines of what was read are run.
-use Rattle.std.proofs.Common.{◌≡◌, ◌+◌, ◌<◌, ◌≤◌, ℕ, List, [], length, map, Option}
+use Rattle.std.proofs.Common.{◌≡◌, [], length, map}
 use Rattle.sbp_command.specs.Headline.{Outside, outside}
 use Rattle.sbp_command.specs.Session.{IsReady, budget, InRun}
 use Rattle.sbp_command.proofs.session.Session.run.Given as goal

@@ -1,5 +1,5 @@
 -- The session has taken the piece up to the byte.
-use Rattle.std.proofs.Common.{◌≡◌, ◌+◌, ◌<◌, ◌≤◌, ℕ, List, length, drop, map, Option}
+use Rattle.std.proofs.Common.{◌≡◌, ◌+◌, ◌≤◌, ℕ, List, length, drop, map, Option}
 use Rattle.sbp_command.specs.Headline.{Outside, outside}
 use Rattle.sbp_command.specs.Session.{IsReady, budget, InRun}
 use Rattle.sbp_command.proofs.session.Session.take_piece.Given as goal
