@@ -20,5 +20,5 @@ fails_next plan = nat_lt plan.calls last_call && list_any (λ number. number == 
 abbrev pub after_call : Plan → Plan
 after_call plan = record plan {
   calls = min (plan.calls + 1) last_call;
-  faults = if fails_next plan then plan.faults + 1 else plan.faults
+  faults = if fails_next plan then plan.faults + 1 else plan.faults;
 }

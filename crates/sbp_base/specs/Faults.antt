@@ -1,5 +1,5 @@
 -- Counts of faults of the outside. They never fall, and stay at their last value.
-use Rattle.std.specs.Prelude.{◌≡◌, ℕ, ◌+◌, ◌-◌, ◌^◌, ◌≤◌, min, Result, OnErr, IsErrOf}
+use Rattle.std.specs.Prelude.{ℕ, ◌+◌, ◌-◌, ◌^◌, ◌≤◌, min, Result, OnErr, IsErrOf}
 use Rattle.sbp_base.specs.declared.outside.SinkFault.{SinkFault}
 use Rattle.sbp_base.specs.declared.outside.SinkFault.TheVariants as faults
 

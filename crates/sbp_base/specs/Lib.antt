@@ -1,3 +1,5 @@
 pub mod Faults
 pub mod Failing
 pub mod Memory
+pub mod Speeds
+pub mod Quadlets

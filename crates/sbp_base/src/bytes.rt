@@ -1,9 +1,8 @@
 ghost use Rattle.std.specs.Prelude.{◌≡◌, ℕ, List, [], ◌∷◌, ◌++◌, IfOk, OnOk, OnErr};
 
+use crate::outside::NoMemory;
 use std::alloc::Global;
 use std::marker::Model;
-
-use crate::outside::NoMemory;
 
 /// Bytes that grow at their end.
 #[derive(Drop)]

@@ -4,12 +4,11 @@ ghost use Rattle.std.specs.Io.KnownBytes.{ReadConsumes, WriteAppends};
 ghost use Rattle.sbp_base.specs.Faults.{HasCause, HasSinkCause};
 ghost use Rattle.sbp_base.specs.Failing.{Plan, fails_next, after_call};
 
-use std::alloc::Global;
-use std::marker::Model;
-
 use crate::bytes::Bytes;
 use crate::failing::FailingCalls;
 use crate::outside::{Failed, Sink, SinkFault, Source};
+use std::alloc::Global;
+use std::marker::Model;
 
 /// A source in memory, some of whose calls fail.
 #[derive(Drop)]

@@ -7,3 +7,4 @@ pub mod LineEnds
 pub mod Places
 pub mod Sessions
 pub mod Beginnings
+pub mod Settling

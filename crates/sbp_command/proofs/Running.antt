@@ -23,10 +23,10 @@ use Rattle.sbp_command.specs.Plain.{Fits, request_of, carried_of}
 abbrev pub plan : Cmd → BufferPlan
 plan cmd = record { to_initiator = cmd.to_initiator; bytes = cmd.length }
 
-buffer_in : (cmd : Cmd) → Fits cmd → cmd.to_initiator ≡ true → buffer_of cmd ≡ In cmd.length
+pub buffer_in : (cmd : Cmd) → Fits cmd → cmd.to_initiator ≡ true → buffer_of cmd ≡ In cmd.length
 buffer_in cmd f e = let some = f.some in grind arith
 
-buffer_out : (cmd : Cmd) → Fits cmd → cmd.to_initiator ≡ false → buffer_of cmd ≡ Out cmd.payload
+pub buffer_out : (cmd : Cmd) → Fits cmd → cmd.to_initiator ≡ false → buffer_of cmd ≡ Out cmd.payload
 buffer_out cmd f e = let some = f.some in grind arith
 
 pub plan-buffer : (cmd : Cmd) → Fits cmd → plan_of (buffer_of cmd) ≡ plan cmd
@@ -76,7 +76,7 @@ module _ (cmd : Cmd) (disk : Disk) (check : Option Sense) (f : Fits cmd) (may : 
 pub answers_front : (cmd : Cmd) (disk : Disk) (n : ℕ) (room : List ℕ) → length room ≡ 16384 → n ≤ 16384 → n ≡ answer_length (command_of cmd.cdb) → IfSome (answer_of (command_of cmd.cdb) disk) (λ told. take n room ≡ told) → IsAnswerOf (request_of cmd) disk (take n room)
 answers_front cmd disk n room size few len told = record {
   len = length-take-le n room (subst (λ m. n ≤ m) (sym size) few) ∙ len;
-  told = told
+  told = told;
 }
 
 -- a check has a key of four bits

@@ -7,17 +7,19 @@ use Rattle.rbc_disk.specs.PlainDisk.{after_run, data_length, is_failure}
 use Rattle.rbc_disk.specs.declared.command.Sense.{Sense}
 use Rattle.sbp_base.specs.Faults.{Rose}
 use Rattle.sbp_journal.specs.declared.note.Note.{Note}
+use Rattle.sbp_journal.specs.declared.note.Note.TheVariants.{Settled}
 use Rattle.sbp_journal.specs.declared.event.Cmd.{Cmd}
 use Rattle.sbp_journal.specs.declared.event.Event.{Event}
 use Rattle.sbp_journal.specs.declared.event.Event.TheVariants.{Begin, Act, Settle}
+use Rattle.sbp_journal.specs.declared.event.Action.{Action}
 use Rattle.sbp_journal.specs.declared.event.Action.TheVariants.{Append}
 use Rattle.sbp_journal.specs.Run.{Run, history}
 use Rattle.sbp_journal.specs.Terms.{Request, lists, appends, ends, runs, takes, request_at, unit_of}
 use Rattle.sbp_journal.specs.DiskFold.{disk_of, DisksAre, FailuresFit}
-use Rattle.sbp_journal.specs.Form.{IsCheck}
+use Rattle.sbp_journal.specs.Form.{HasForm, IsCheck}
 use Rattle.sbp_journal.specs.ExecutionLaw.{RunsOn}
 use Rattle.sbp_journal.specs.AnswerLaw.{IsAnswerOf}
-use Rattle.sbp_journal.specs.ActionLaw.{ActionLaw, buffer_of, served}
+use Rattle.sbp_journal.specs.ActionLaw.{ActionLaw, AreServed, append_notes, buffer_of, served}
 use Rattle.sbp_journal.specs.Lawful.{AreLawful}
 
 -- the commands that wait, how many were appended and how many ended, and the notes of the latest line
@@ -54,10 +56,22 @@ pub record IsSound (waiting : List Cmd) (ended appended room : ℕ) : Type 0 whe
 abbrev pub request_of : Cmd → Request
 request_of cmd = record { cdb = cmd.cdb; buffer = buffer_of cmd }
 
+-- the command of an action
+abbrev pub command_in : Action → Cmd
+command_in (Append cmd) = cmd
+
+-- the list with one more command, behind the others
+abbrev pub with_command : PlainState → Cmd → PlainState
+with_command old cmd = record old {
+  waiting = old.waiting ++ cmd ∷ [];
+  appended = old.appended + 1;
+  fresh = append_notes 0 0 old.appended cmd;
+}
+
 -- the events of a script in their places
 abbrev pub InPlace : Bool → Event → Type 0
 InPlace false (Begin initiators ready) = (initiators ≡ 1) × (ready ≡ true)
-InPlace true (Act initiator (Append cmd)) = (initiator ≡ 0) × Fits cmd
+InPlace true (Act initiator action) = (initiator ≡ 0) × Fits (command_in action)
 InPlace true Settle = Unit {0}
 InPlace _ _ = ⊥
 
@@ -112,3 +126,18 @@ pub record StandsFor (start now : Held) (run : Run) (state : PlainState) : Type 
 abbrev pub carried_of : Cmd → Bool → List ℕ
 carried_of cmd true = cmd.payload
 carried_of cmd false = []
+
+-- Commands were served since the list was `old`: their notes, and what the list and the media then stand for.
+pub record Settling (old new : PlainState) (before now : Held) : Type 0 where
+  pub begun : new.begun ≡ old.begun
+  pub appended : new.appended ≡ old.appended
+  pub served_all : AreServed new.fresh
+  pub form : AllByRecursion HasForm new.fresh
+  pub stands : (start : Held) (notes : List Note) → Stands start before (reverse notes) old → Stands start now (reverse (notes ++ new.fresh)) new
+
+-- All that waited was served, and the line told that nothing waits.
+pub record HasSettled (old new : PlainState) (before now : Held) : Type 0 where
+  pub state : PlainState
+  pub settling : Settling old state before now
+  pub none : state.waiting ≡ []
+  pub settled : new ≡ record state { fresh = state.fresh ++ Settled ∷ [] }

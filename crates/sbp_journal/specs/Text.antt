@@ -1,5 +1,5 @@
 -- The text of a note: one line of words, separated by single blanks.
-use Rattle.std.specs.Prelude.{ℕ, ◌+◌, Bool, true, false, List, [], ◌∷◌, ◌++◌, map, codes, slice_index, Option, Some, None}
+use Rattle.std.specs.Prelude.{ℕ, Bool, true, false, List, [], ◌∷◌, ◌++◌, map, codes, slice_index, Option, Some, None}
 use Rattle.std.specs.Fmt.{decimal}
 use Rattle.std.specs.List.{join_with_byte, flat_map}
 use Rattle.hex.specs.Hex.{encode_upper, upper_digits}
@@ -61,6 +61,10 @@ orb_fields initiator list orb = number initiator ∷ number list ∷ number orb 
 abbrev pub named_fields : ℕ → Option ℕ → Option ℕ → List Field
 named_fields initiator list orb = number initiator ∷ maybe list ∷ maybe orb ∷ []
 
+-- what ran: a command of a unit, with the data that was read for it
+abbrev pub work_fields : ℕ → List ℕ → List ℕ → List Field
+work_fields unit cdb bs = name (117 ∷ decimal unit) ∷ digits cdb ∷ bytes bs ∷ []
+
 abbrev pub keyword : Note → List ℕ
 keyword (Begin initiators ready) = codes "begin"
 keyword (Append initiator list orb cdb buffer) = codes "append"
@@ -79,7 +83,7 @@ fields (Low initiator list orb) = orb_fields initiator list orb
 fields (Linked initiator list orb) = orb_fields initiator list orb
 fields (Rung initiator list orb) = orb_fields initiator list orb
 fields (Ran initiator list orb unit cdb bs check) =
-    named_fields initiator list orb ++ name (117 ∷ decimal unit) ∷ digits cdb ∷ bytes bs ∷ check_fields check
+    named_fields initiator list orb ++ work_fields unit cdb bs ++ check_fields check
 fields (Ended initiator list orb status) = named_fields initiator list orb ++ status_fields status
 fields (Taken initiator list orb status answer) = orb_fields initiator list orb ++ status_fields status ++ answer_fields answer
 fields Settled = []
