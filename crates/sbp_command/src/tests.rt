@@ -108,7 +108,12 @@ fn serve_failing(
 }
 
 /// Whether a script ends so with this output.
-fn ends_with(alloc: Global, script: &[u8], status: Status, written: &[u8]) -> Result<bool, NoMemory> {
+fn ends_with(
+    alloc: Global,
+    script: &[u8],
+    status: Status,
+    written: &[u8],
+) -> Result<bool, NoMemory> {
     let ended = serve_failing(alloc, &["run"], script, &[], &[])?;
     Ok(ended.status == status && ended.written.as_slice() == written)
 }
@@ -124,7 +129,11 @@ fn scripts_run(rt: HostRuntime) {
         ("begin 1 ready\r\n", Status::Done, "begin 1 ready\n"),
         ("begin 1 ready", Status::Done, "begin 1 ready\n"),
         ("begin 1 ready\r", Status::Script, "script 1 10\n"),
-        ("begin 1 ready\n\nsettle\n", Status::Script, "begin 1 ready\nscript 2 10\n"),
+        (
+            "begin 1 ready\n\nsettle\n",
+            Status::Script,
+            "begin 1 ready\nscript 2 10\n",
+        ),
     ] {
         let ends = ends_with(rt.alloc(), script.as_bytes(), status, written.as_bytes());
         assert_eq!(rt; ends, Ok(true), "at {script}");
@@ -132,7 +141,12 @@ fn scripts_run(rt: HostRuntime) {
 }
 
 /// Whether words end so with this output.
-fn answers(alloc: Global, words: &[&str], status: Status, written: &[u8]) -> Result<bool, NoMemory> {
+fn answers(
+    alloc: Global,
+    words: &[&str],
+    status: Status,
+    written: &[u8],
+) -> Result<bool, NoMemory> {
     let ended = serve_failing(alloc, words, SCRIPT.as_bytes(), &[], &[])?;
     Ok(ended.status == status && ended.written.as_slice() == written)
 }
@@ -142,15 +156,27 @@ fn answers(alloc: Global, words: &[&str], status: Status, written: &[u8]) -> Res
 fn other_words_are_refused(rt: HostRuntime) {
     let alloc = rt.alloc();
     let usage = USAGE.as_bytes();
-    assert_eq!(rt; answers(alloc, &["run"], Status::Done, JOURNAL.as_bytes()), Ok(true));
+    assert_eq!(rt;
+        answers(alloc, &["run"], Status::Done, JOURNAL.as_bytes()),
+        Ok(true)
+    );
     assert_eq!(rt; answers(alloc, &["walk"], Status::Words, usage), Ok(true));
     assert_eq!(rt; answers(alloc, &[], Status::Words, usage), Ok(true));
-    assert_eq!(rt; answers(alloc, &["run", "run"], Status::Words, usage), Ok(true));
+    assert_eq!(rt;
+        answers(alloc, &["run", "run"], Status::Words, usage),
+        Ok(true)
+    );
     assert_eq!(rt; answers(alloc, &["Run"], Status::Words, usage), Ok(true));
 }
 
 /// Whether a script with these failing calls ends so, with a front of the journal of this length.
-fn fails_with(alloc: Global, reads: &[u32], writes: &[u32], status: Status, front: usize) -> Result<bool, NoMemory> {
+fn fails_with(
+    alloc: Global,
+    reads: &[u32],
+    writes: &[u32],
+    status: Status,
+    front: usize,
+) -> Result<bool, NoMemory> {
     let ended = serve_failing(alloc, &["run"], SCRIPT.as_bytes(), reads, writes)?;
     let written = ended.written.as_slice();
     Ok(ended.status == status && written.len() == front && JOURNAL.as_bytes().starts_with(written))
@@ -165,7 +191,11 @@ fn source_fails(rt: HostRuntime) {
             2 => (Status::ReadFault, JOURNAL.len()),
             _ => (Status::Done, JOURNAL.len()),
         };
-        assert_eq!(rt; fails_with(rt.alloc(), &[n], &[], status, front), Ok(true), "at call {n}");
+        assert_eq!(rt;
+            fails_with(rt.alloc(), &[n], &[], status, front),
+            Ok(true),
+            "at call {n}"
+        );
     }
 }
 
@@ -181,7 +211,11 @@ fn sink_fails(rt: HostRuntime) {
             5 => (Status::WriteFault, 245),
             _ => (Status::Done, JOURNAL.len()),
         };
-        assert_eq!(rt; fails_with(rt.alloc(), &[], &[n], status, front), Ok(true), "at call {n}");
+        assert_eq!(rt;
+            fails_with(rt.alloc(), &[], &[n], status, front),
+            Ok(true),
+            "at call {n}"
+        );
     }
 }
 
