@@ -33,7 +33,7 @@ empty_stands disks faults some counted = record {
   disks = record { count = refl; each = λ u h. refl };
   failures = record { each = no_failures faults };
   some = some;
-  counted = counted
+  counted = counted;
 }
 
 abbrev pub empty_session : SessionState
@@ -52,9 +52,9 @@ begins before some counted = record {
   so_far = record {
     stands = record { begins = refl; notes = empty_stands before.disks before.faults some counted; action = tt };
     written = Appends-nil before.written;
-    writes = omega arith
+    writes = omega arith;
   };
-  reads = omega arith
+  reads = omega arith;
 }
 
 pub some_mapped : {A B : Type 0} (f : A → B) (xs : List A) → 1 ≤ length xs → 0 < length (map f xs)

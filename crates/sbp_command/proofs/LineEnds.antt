@@ -23,7 +23,7 @@ use Rattle.sbp_command.specs.declared.status.Status.TheVariants as statuses
 pub lawful_run : (before : Outside) (now : Held) (run : Run) (list : PlainState) → StandsFor (held before.disks before.faults) now run list → Lawful run
 lawful_run before now run list h = record {
   notes = subst (λ start. AreLawful start (history run.entries)) (sym h.begins) h.notes.lawful;
-  action = h.action
+  action = h.action;
 }
 
 -- a front of more bytes, behind bytes that are written whole
@@ -46,7 +46,7 @@ line_idle before now kept run number line list stands written = record {
   start = stands.begins;
   lawful = lawful_run before kept run list stands;
   tells = nothing;
-  written = subst (Appends before.written now.written) (sym (take_all (length (text_of (journal run))) (text_of (journal run)) (omega arith))) written
+  written = subst (Appends before.written now.written) (sym (take_all (length (text_of (journal run))) (text_of (journal run)) (omega arith))) written;
 }
 
 -- a front of the notes is written
@@ -60,7 +60,7 @@ event_torn before now kept run number line happened notes list mid len read stan
   start = stands.begins;
   lawful = lawful_run before kept (with_entry run number happened notes) list stands;
   tells = event happened notes read;
-  written = subst (λ bs. Appends before.written now.written (take (length (text_of (journal run)) + len) bs)) (entry_text run number happened notes) (behind_front before.written mid now.written (text_of (journal run)) (text_of notes) len p q)
+  written = subst (λ bs. Appends before.written now.written (take (length (text_of (journal run)) + len) bs)) (entry_text run number happened notes) (behind_front before.written mid now.written (text_of (journal run)) (text_of notes) len p q);
 }
 
 -- a front of the fault is written
@@ -74,7 +74,7 @@ fault_torn before now kept run number line why list mid len read stands p q = re
   start = stands.begins;
   lawful = lawful_run before kept run list stands;
   tells = fault why read;
-  written = behind_front before.written mid now.written (text_of (journal run)) (fault_text number why) len p q
+  written = behind_front before.written mid now.written (text_of (journal run)) (fault_text number why) len p q;
 }
 
 rose_later : (before mid now : ℕ) → before ≤ mid → Rose mid now → Rose before now
@@ -93,8 +93,8 @@ event_ends (Ok done) before left reads mid new some more disks faults run number
   so_far = record {
     stands = stands;
     written = subst (Appends before.written new) (entry_text run number happened notes) (behind_whole before.written mid new (text_of (journal run)) (text_of notes) _ w.whole p w.written);
-    writes = omega (arith, w.later)
-  }
+    writes = omega (arith, w.later);
+  };
 }
 event_ends (Err statuses.WriteFault) before left reads mid new some more disks faults run number line happened notes list read stands p l w =
     (rose_later before.writes some more l w.ends, event_torn before (outside left reads new more disks faults) (held disks faults) run number line happened notes list mid w.len read stands p w.written)
@@ -113,7 +113,7 @@ fault_told before left reads mid new some more disks faults run number line why 
   fault = why;
   is_read = read;
   stands = h.stands;
-  written = behind_whole before.written mid new (text_of (journal run)) (fault_text number why) front e h.written w
+  written = behind_whole before.written mid new (text_of (journal run)) (fault_text number why) front e h.written w;
 }
 
 -- the fault of a line is written in part

@@ -16,7 +16,7 @@ read_fits : (lba : ℕ) → Fits (read_block lba)
 read_fits lba = record {
   some = omega arith;
   whole = λ e. absurd (false≢true (sym e));
-  asked = λ e. absurd (false≢true (sym e))
+  asked = λ e. absurd (false≢true (sym e));
 }
 
 block_length : (byte : ℕ) → length (block_of byte) ≡ 512
@@ -30,7 +30,7 @@ write_fits : (lba byte : ℕ) → Fits (write_block lba byte)
 write_fits lba byte = record {
   some = omega arith;
   whole = λ e. block_length byte;
-  asked = λ e. write_asks lba ∙ sym (block_length byte)
+  asked = λ e. write_asks lba ∙ sym (block_length byte);
 }
 
 moved : (event given : Event) → Some given ≡ Some event → InPlace true given → InPlace true event

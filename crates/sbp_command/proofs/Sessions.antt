@@ -65,34 +65,34 @@ torn_tells before now input run number line made output len all l nothing start 
   told = all;
   over = record { start = start; events_are = front_events (events_of run) l.more (script input).events l.whole; lawful = lawful };
   may_write = inl refl;
-  written = written
+  written = written;
 }
 torn_tells before now input run number line made output len all l (event happened notes read) start lawful written =
     let next = l.with_event happened read in
     record {
-  input = input;
-  run = with_entry run number happened notes;
-  count = length (events_of (with_entry run number happened notes));
-  output = text_of (journal (with_entry run number happened notes));
-  len = len;
-  told = all;
-  over = record { start = start; events_are = next_events (events_of run) next.0 (script input).events (number, happened) next.1; lawful = lawful };
-  may_write = inl refl;
-  written = written
-}
+      input = input;
+      run = with_entry run number happened notes;
+      count = length (events_of (with_entry run number happened notes));
+      output = text_of (journal (with_entry run number happened notes));
+      len = len;
+      told = all;
+      over = record { start = start; events_are = next_events (events_of run) next.0 (script input).events (number, happened) next.1; lawful = lawful };
+      may_write = inl refl;
+      written = written;
+    }
 torn_tells before now input run number line made output len all l (fault why read) start lawful written =
     let here = l.with_fault why read in
     record {
-  input = input;
-  run = run;
-  count = length (events_of run);
-  output = text_of (journal run) ++ fault_text number why;
-  len = len;
-  told = all;
-  over = record { start = start; events_are = front_events (events_of run) l.more (script input).events l.whole; lawful = lawful };
-  may_write = inr (sym here.0, ap (λ found. text_of (journal run) ++ ending found) (sym here.1));
-  written = written
-}
+      input = input;
+      run = run;
+      count = length (events_of run);
+      output = text_of (journal run) ++ fault_text number why;
+      len = len;
+      told = all;
+      over = record { start = start; events_are = front_events (events_of run) l.more (script input).events l.whole; lawful = lawful };
+      may_write = inr (sym here.0, ap (λ found. text_of (journal run) ++ ending found) (sym here.1));
+      written = written;
+    }
 
 torn_line : (before now : Outside) (input : List ℕ) (run : Run) (number : ℕ) (line : List ℕ)
     → IfSome before.left (λ all. all ≡ input) → LineIn input (events_of run) number line → LineTorn before now run number line → Torn before now
@@ -104,21 +104,24 @@ over before now run list events h e = record { start = h.begins; events_are = e;
 leaves : (before now : Outside) (run : Run) (list : PlainState) → StandsFor (held before.disks before.faults) (held now.disks now.faults) run list → LeavesMedia before now run
 leaves before now run list h = record {
   disks = subst (λ start. DisksAre start (history run.entries) now.disks) (sym h.begins) h.notes.disks;
-  failures = h.notes.failures
+  failures = h.notes.failures;
 }
 
 -- a line that ends the run ends it as its status says
 line_fails : (status : Status) (before now : Outside) (input : List ℕ) (run : Run) (number : ℕ) (line : List ℕ) (list : PlainState)
     → IfSome before.left (λ all. all ≡ input) → LineIn input (events_of run) number line → LineFails status before now run number line list → RunEnds status before now
-line_fails statuses.Script before now input run number line list all l t = ((number, t.fault), record {
-  input = input;
-  run = run;
-  told = all;
-  fault_is = (l.with_fault t.fault t.is_read).1;
-  over = over before (held now.disks now.faults) run list (script input).events t.stands (sym (l.with_fault t.fault t.is_read).0);
-  written = t.written;
-  media = leaves before now run list t.stands
-})
+line_fails statuses.Script before now input run number line list all l t = (
+  (number, t.fault),
+  record {
+    input = input;
+    run = run;
+    told = all;
+    fault_is = (l.with_fault t.fault t.is_read).1;
+    over = over before (held now.disks now.faults) run list (script input).events t.stands (sym (l.with_fault t.fault t.is_read).0);
+    written = t.written;
+    media = leaves before now run list t.stands;
+  },
+)
 line_fails statuses.WriteFault before now input run number line list all l t = (t.0, torn_line before now input run number line all l t.1)
 line_fails statuses.NoMemory before now input run number line list all l t = torn_line before now input run number line all l t
 line_fails statuses.Done before now input run number line list all l t = absurd t
@@ -132,13 +135,13 @@ line_head input events number line after (Ok happened) r e f = record {
   more = (number, happened) ∷ after.events;
   whole = e;
   with_event = λ found read. (after.events, let same : happened ≡ found = cc in subst (λ x. (script input).events ≡ events ++ (number, x) ∷ after.events) same e);
-  with_fault = λ why read. absurd (cc)
+  with_fault = λ why read. absurd (cc);
 }
 line_head input events number line after (Err found) r e f = record {
   more = [];
   whole = e;
   with_event = λ happened read. absurd (cc);
-  with_fault = λ why read. (e ∙ append-nil events, let same : found ≡ why = cc in subst (λ x. (script input).fault ≡ Some (number, x)) same f)
+  with_fault = λ why read. (e ∙ append-nil events, let same : found ≡ why = cc in subst (λ x. (script input).fault ≡ Some (number, x)) same f);
 }
 
 -- a line behind whole lines, of which the input has these bytes
@@ -146,7 +149,7 @@ line_behind : (whole bytes line : List ℕ) (others : List (List ℕ)) → IsWho
 line_behind whole bytes line others w clean e =
     let number = 1 + length (lines whole) in
     let found : script (whole ++ bytes) ≡ record { events = (script whole).events ++ (onto_script number (reading number line) (script_from (suc number) others)).events; fault = (onto_script number (reading number line) (script_from (suc number) others)).fault }
-      = script-whole whole bytes w clean ∙ ap (λ ls. record { events = (script whole).events ++ (script_from number ls).events; fault = (script_from number ls).fault }) e in
+    = script-whole whole bytes w clean ∙ ap (λ ls. record { events = (script whole).events ++ (script_from number ls).events; fault = (script_from number ls).fault }) e in
     line_head (whole ++ bytes) (script whole).events number line (script_from (suc number) others) (reading number line) refl (ap (λ s. s.events) found) (ap (λ s. s.fault) found)
 
 line_same : (input input' : List ℕ) (events events' : List (ℕ × Event)) (number number' : ℕ) (line : List ℕ) → input ≡ input' → events ≡ events' → number ≡ number' → LineIn input events number line → LineIn input' events' number' line
@@ -167,8 +170,8 @@ feed_line : (before now : Outside) (pending : List ℕ) (state : SessionState) (
     → LineIn (input_of now h.whole state.rest (10 ∷ pending)) (events_of h.run) (state.number + 1) (strip_carriage_return state.rest)
 feed_line before now pending state h =
     line_same (h.whole ++ (state.rest ++ 10 ∷ (pending ++ told now.left))) _ (script h.whole).events _ (1 + length (lines h.whole)) _ (strip_carriage_return state.rest)
-      (feed_input h.whole state.rest pending (told now.left)) (sym h.events_are) (next_number _ _ h.lines_are)
-      (line_behind h.whole (state.rest ++ 10 ∷ (pending ++ told now.left)) (strip_carriage_return state.rest) (lines (pending ++ told now.left)) h.is_whole h.clean (lines-one_more state.rest (pending ++ told now.left) h.no_feed))
+    (feed_input h.whole state.rest pending (told now.left)) (sym h.events_are) (next_number _ _ h.lines_are)
+    (line_behind h.whole (state.rest ++ 10 ∷ (pending ++ told now.left)) (strip_carriage_return state.rest) (lines (pending ++ told now.left)) h.is_whole h.clean (lines-one_more state.rest (pending ++ told now.left) h.no_feed))
 
 -- a line with its line feed ends the run
 pub feed_fails : (status : Status) (before old new : Outside) (pending : List ℕ) (state : SessionState) (list : PlainState) (h : InRun before old (10 ∷ pending) state)
@@ -192,17 +195,17 @@ feed_ok before old new pending state list h same reads t =
     let read : reading number (strip_carriage_return state.rest) ≡ Ok t.event = subst (λ n. reading n (strip_carriage_return state.rest) ≡ Ok t.event) (sym here) t.is_read in
     let found = script-line h.whole state.rest t.event h.is_whole h.no_feed h.clean read in
     record {
-  whole = h.whole ++ (state.rest ++ 10 ∷ []);
-  run = with_entry h.run (state.number + 1) t.event t.notes;
-  consumed = subst (λ left. Consumes before.left left (((h.whole ++ (state.rest ++ 10 ∷ [])) ++ []) ++ pending)) same (subst (Consumes before.left old.left) (feed_taken h.whole state.rest pending) h.consumed);
-  is_whole = whole-line h.whole state.rest;
-  no_feed = tt;
-  lines_are = lines-count h.whole state.rest h.is_whole h.no_feed ∙ ap (λ n. n + 1) h.lines_are;
-  clean = ap (λ s. s.fault) found;
-  events_are = entry_events h.run (script h.whole).events (state.number + 1) number t.event t.notes h.events_are here ∙ sym (ap (λ s. s.events) found);
-  so_far = t.so_far;
-  reads = subst (λ n. before.reads ≤ n) reads h.reads
-}
+      whole = h.whole ++ (state.rest ++ 10 ∷ []);
+      run = with_entry h.run (state.number + 1) t.event t.notes;
+      consumed = subst (λ left. Consumes before.left left (((h.whole ++ (state.rest ++ 10 ∷ [])) ++ []) ++ pending)) same (subst (Consumes before.left old.left) (feed_taken h.whole state.rest pending) h.consumed);
+      is_whole = whole-line h.whole state.rest;
+      no_feed = tt;
+      lines_are = lines-count h.whole state.rest h.is_whole h.no_feed ∙ ap (λ n. n + 1) h.lines_are;
+      clean = ap (λ s. s.fault) found;
+      events_are = entry_events h.run (script h.whole).events (state.number + 1) number t.event t.notes h.events_are here ∙ sym (ap (λ s. s.events) found);
+      so_far = t.so_far;
+      reads = subst (λ n. before.reads ≤ n) reads h.reads;
+    }
 
 -- the last line, without a line feed
 end_input : (before now : Outside) (state : SessionState) (h : InRun before now [] state) → IsAtEnd now.left → IfSome before.left (λ all. all ≡ h.whole ++ state.rest)
@@ -213,8 +216,8 @@ pub end_fails : (status : Status) (before old new : Outside) (state : SessionSta
     → LineFails status before new h.run (state.number + 1) state.rest list → RunEnds status before new
 end_fails status before old new state list h end some t =
     line_fails status before new (h.whole ++ state.rest) h.run (state.number + 1) state.rest list (end_input before old state h end)
-      (line_same (h.whole ++ state.rest) _ (script h.whole).events _ (1 + length (lines h.whole)) _ state.rest refl (sym h.events_are) (next_number _ _ h.lines_are)
-        (line_behind h.whole state.rest state.rest [] h.is_whole h.clean (lines-last_some state.rest h.no_feed some))) t
+    (line_same (h.whole ++ state.rest) _ (script h.whole).events _ (1 + length (lines h.whole)) _ state.rest refl (sym h.events_are) (next_number _ _ h.lines_are)
+    (line_behind h.whole state.rest state.rest [] h.is_whole h.clean (lines-last_some state.rest h.no_feed some))) t
 
 pub end_ok : (before old new : Outside) (state : SessionState) (list : PlainState) (h : InRun before old [] state) → old.left ≡ new.left → IsAtEnd old.left → 0 < length state.rest
     → RanLine before new h.run (state.number + 1) state.rest list → RunEnds statuses.Done before new
@@ -223,31 +226,35 @@ end_ok before old new state list h same end some t =
     let here : number ≡ state.number + 1 = next_number _ _ h.lines_are in
     let read : reading number state.rest ≡ Ok t.event = subst (λ n. reading n state.rest ≡ Ok t.event) (sym here) t.is_read in
     let found = script-end h.whole state.rest t.event h.is_whole h.no_feed some h.clean read in
-    let run = with_entry h.run (state.number + 1) t.event t.notes in
-    (subst IsAtEnd same end, record {
-  input = h.whole ++ state.rest;
-  run = run;
-  told = end_input before old state h end;
-  fault_is = ap (λ s. s.fault) found;
-  over = over before (held new.disks new.faults) run list (script (h.whole ++ state.rest)).events t.so_far.stands
-    (entry_events h.run (script h.whole).events (state.number + 1) number t.event t.notes h.events_are here ∙ sym (ap (λ s. s.events) found));
-  written = subst (Appends before.written new.written) (sym (append-nil (text_of (journal run)))) t.so_far.written;
-  media = leaves before new run list t.so_far.stands
-})
+    let run = with_entry h.run (state.number + 1) t.event t.notes in (
+      subst IsAtEnd same end,
+      record {
+        input = h.whole ++ state.rest;
+        run = run;
+        told = end_input before old state h end;
+        fault_is = ap (λ s. s.fault) found;
+        over = over before (held new.disks new.faults) run list (script (h.whole ++ state.rest)).events t.so_far.stands
+            (entry_events h.run (script h.whole).events (state.number + 1) number t.event t.notes h.events_are here ∙ sym (ap (λ s. s.events) found));
+        written = subst (Appends before.written new.written) (sym (append-nil (text_of (journal run)))) t.so_far.written;
+        media = leaves before new run list t.so_far.stands;
+      },
+    )
 
 -- nothing is left of the input
 pub end_none : (before now : Outside) (state : SessionState) → InRun before now [] state → IsAtEnd now.left → state.rest ≡ [] → RunEnds statuses.Done before now
 end_none before now state h end none =
-    let whole_is : h.whole ++ state.rest ≡ h.whole = ap (λ rest. h.whole ++ rest) none ∙ append-nil h.whole in
-    (end, record {
-  input = h.whole;
-  run = h.run;
-  told = subst (λ bytes. IfSome before.left (λ all. all ≡ bytes)) whole_is (end_input before now state h end);
-  fault_is = h.clean;
-  over = over before (held now.disks now.faults) h.run state.list (script h.whole).events h.so_far.stands h.events_are;
-  written = subst (Appends before.written now.written) (sym (append-nil (text_of (journal h.run)))) h.so_far.written;
-  media = leaves before now h.run state.list h.so_far.stands
-})
+    let whole_is : h.whole ++ state.rest ≡ h.whole = ap (λ rest. h.whole ++ rest) none ∙ append-nil h.whole in (
+      end,
+      record {
+        input = h.whole;
+        run = h.run;
+        told = subst (λ bytes. IfSome before.left (λ all. all ≡ bytes)) whole_is (end_input before now state h end);
+        fault_is = h.clean;
+        over = over before (held now.disks now.faults) h.run state.list (script h.whole).events h.so_far.stands h.events_are;
+        written = subst (Appends before.written now.written) (sym (append-nil (text_of (journal h.run)))) h.so_far.written;
+        media = leaves before now h.run state.list h.so_far.stands;
+      },
+    )
 
 -- the run stops behind its whole lines
 stop_input : (whole rest pending more : List ℕ) → whole ++ (rest ++ (pending ++ more)) ≡ ((whole ++ rest) ++ pending) ++ more
@@ -257,19 +264,19 @@ pub stops : (before now : Outside) (pending : List ℕ) (state : SessionState) �
 stops before now pending state h =
     let rest = state.rest ++ (pending ++ told now.left) in
     let all : (script (input_of now h.whole state.rest pending)).events ≡ events_of h.run ++ (script_from (1 + length (lines h.whole)) (lines rest)).events
-      = ap (λ bytes. (script bytes).events) (sym (stop_input h.whole state.rest pending (told now.left))) ∙ ap (λ s. s.events) (script-whole h.whole rest h.is_whole h.clean)
-        ∙ ap (λ es. es ++ (script_from (1 + length (lines h.whole)) (lines rest)).events) (sym h.events_are) in
+    = ap (λ bytes. (script bytes).events) (sym (stop_input h.whole state.rest pending (told now.left))) ∙ ap (λ s. s.events) (script-whole h.whole rest h.is_whole h.clean)
+    ∙ ap (λ es. es ++ (script_from (1 + length (lines h.whole)) (lines rest)).events) (sym h.events_are) in
     record {
-  input = input_of now h.whole state.rest pending;
-  run = h.run;
-  count = length (events_of h.run);
-  output = text_of (journal h.run);
-  len = length (text_of (journal h.run));
-  told = input_is before.left now.left _ h.consumed;
-  over = over before (held now.disks now.faults) h.run state.list _ h.so_far.stands (front_events (events_of h.run) (script_from (1 + length (lines h.whole)) (lines rest)).events (script (input_of now h.whole state.rest pending)).events all);
-  may_write = inl refl;
-  written = subst (Appends before.written now.written) (sym (take_all (length (text_of (journal h.run))) (text_of (journal h.run)) (omega arith))) h.so_far.written
-}
+      input = input_of now h.whole state.rest pending;
+      run = h.run;
+      count = length (events_of h.run);
+      output = text_of (journal h.run);
+      len = length (text_of (journal h.run));
+      told = input_is before.left now.left _ h.consumed;
+      over = over before (held now.disks now.faults) h.run state.list _ h.so_far.stands (front_events (events_of h.run) (script_from (1 + length (lines h.whole)) (lines rest)).events (script (input_of now h.whole state.rest pending)).events all);
+      may_write = inl refl;
+      written = subst (Appends before.written now.written) (sym (take_all (length (text_of (journal h.run))) (text_of (journal h.run)) (omega arith))) h.so_far.written;
+    }
 
 -- one more byte of the rest
 push_taken : (whole rest pending : List ℕ) (byte : ℕ) → (whole ++ rest) ++ byte ∷ pending ≡ (whole ++ (rest ++ byte ∷ [])) ++ pending
@@ -290,7 +297,7 @@ push_ok before now pending state byte other h = record {
   clean = h.clean;
   events_are = h.events_are;
   so_far = h.so_far;
-  reads = h.reads
+  reads = h.reads;
 }
 
 -- a rest that is too long already is a faulty line
@@ -305,8 +312,8 @@ long_line before now pending state h long =
     let read : reading number state.rest ≡ Err (long_fault number) = reading-long number state.rest (surely_long-bytes state.rest long) in
     let found : script ((h.whole ++ state.rest) ++ more) ≡ record { events = (script h.whole).events; fault = Some (number, long_fault number) } = script-long h.whole state.rest more h.is_whole h.no_feed h.clean long in
     line_same ((h.whole ++ state.rest) ++ more) _ (script h.whole).events _ number _ state.rest (long_input h.whole state.rest pending (told now.left)) (sym h.events_are) (next_number _ _ h.lines_are)
-      (line_head ((h.whole ++ state.rest) ++ more) (script h.whole).events number state.rest (record { events = []; fault = None }) (Err (long_fault number)) read
-        (ap (λ s. s.events) found ∙ sym (append-nil (script h.whole).events)) (ap (λ s. s.fault) found))
+    (line_head ((h.whole ++ state.rest) ++ more) (script h.whole).events number state.rest (record { events = []; fault = None }) (Err (long_fault number)) read
+    (ap (λ s. s.events) found ∙ sym (append-nil (script h.whole).events)) (ap (λ s. s.fault) found))
 
 pub long_fails : (status : Status) (before old new : Outside) (pending : List ℕ) (state : SessionState) (list : PlainState) (h : InRun before old pending state) → is_surely_long state.rest ≡ true
     → LineFails status before new h.run (state.number + 1) state.rest list → RunEnds status before new
@@ -331,9 +338,9 @@ piece_read before old new piece state h c reads e1 e2 e3 e4 = record {
   so_far = record {
     stands = subst (λ d. StandsFor (held before.disks before.faults) (held d new.faults) h.run state.list) e3 (subst (λ f. StandsFor (held before.disks before.faults) (held old.disks f) h.run state.list) e4 h.so_far.stands);
     written = subst (λ w. Appends before.written w (text_of (journal h.run))) e1 h.so_far.written;
-    writes = subst (λ n. before.writes ≤ n) e2 h.so_far.writes
+    writes = subst (λ n. before.writes ≤ n) e2 h.so_far.writes;
   };
-  reads = omega (arith, h.reads)
+  reads = omega (arith, h.reads);
 }
 
 -- the source failed
@@ -341,19 +348,21 @@ pub read_fails : (before old new : Outside) (state : SessionState) → InRun bef
     → old.written ≡ new.written → old.disks ≡ new.disks → old.faults ≡ new.faults → RunEnds statuses.ReadFault before new
 read_fails before old new state h kept rose e1 e2 e3 =
     let stands : StandsFor (held before.disks before.faults) (held new.disks new.faults) h.run state.list
-      = subst (λ d. StandsFor (held before.disks before.faults) (held d new.faults) h.run state.list) e2 (subst (λ f. StandsFor (held before.disks before.faults) (held old.disks f) h.run state.list) e3 h.so_far.stands) in
-    (omega (arith, h.reads), record {
-  whole = h.whole;
-  rest = state.rest;
-  run = h.run;
-  consumed = Consumes-kept before.left old.left new.left (h.whole ++ state.rest) (subst (Consumes before.left old.left) (append-nil (h.whole ++ state.rest)) h.consumed) kept;
-  is_whole = h.is_whole;
-  no_feed = h.no_feed;
-  fault_is = h.clean;
-  over = over before (held new.disks new.faults) h.run state.list (script h.whole).events stands h.events_are;
-  written = subst (λ w. Appends before.written w (text_of (journal h.run))) e1 h.so_far.written;
-  media = leaves before new h.run state.list stands
-})
+    = subst (λ d. StandsFor (held before.disks before.faults) (held d new.faults) h.run state.list) e2 (subst (λ f. StandsFor (held before.disks before.faults) (held old.disks f) h.run state.list) e3 h.so_far.stands) in (
+      omega (arith, h.reads),
+      record {
+        whole = h.whole;
+        rest = state.rest;
+        run = h.run;
+        consumed = Consumes-kept before.left old.left new.left (h.whole ++ state.rest) (subst (Consumes before.left old.left) (append-nil (h.whole ++ state.rest)) h.consumed) kept;
+        is_whole = h.is_whole;
+        no_feed = h.no_feed;
+        fault_is = h.clean;
+        over = over before (held new.disks new.faults) h.run state.list (script h.whole).events stands h.events_are;
+        written = subst (λ w. Appends before.written w (text_of (journal h.run))) e1 h.so_far.written;
+        media = leaves before new h.run state.list stands;
+      },
+    )
 
 -- ---- what a session can go on from
 
@@ -378,7 +387,7 @@ next_ready state list h few begun room = record {
   few = few;
   short = refl;
   begun = begun ∙ has_begun state.number;
-  room = omega (arith, h.room)
+  room = omega (arith, h.room);
 }
 
 pub some_rest : (rest : List ℕ) (empty : Bool) → empty ≡ (length rest == 0) → empty ≡ false → 0 < length rest

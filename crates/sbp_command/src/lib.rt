@@ -12,3 +12,6 @@ pub use plain::PlainList;
 pub use script::{LineError, LineFault, read_line};
 pub use status::Status;
 pub use top::sbp2;
+
+#[cfg(test)]
+mod tests;

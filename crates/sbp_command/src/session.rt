@@ -10,9 +10,6 @@ ghost use Rattle.sbp_command.specs.Script as script;
 ghost use Rattle.sbp_command.specs.declared.script.LineFault.TheVariants as line_faults;
 ghost use Rattle.sbp_command.specs.Session.{SessionState, IsReady, budget, RanSoFar, LineFails, LineEnds, InRun, GoesOn, PieceEnds};
 
-use std::alloc::Global;
-use std::marker::Model;
-
 use crate::plain::PlainList;
 use crate::script::{LineError, LineFault, read_line};
 use crate::status::Status;
@@ -20,6 +17,8 @@ use crate::write::{write_fault, write_notes};
 use rbc_disk::Medium;
 use sbp_base::{Bytes, Failed, NoMemory, Sink, Source};
 use sbp_journal::{Event, Text};
+use std::alloc::Global;
+use std::marker::Model;
 
 /// The most bytes of a line with a carriage return behind it.
 const LINE_ROOM: usize = 8193;
@@ -150,7 +149,11 @@ impl Session {
     }
 
     /// Runs the line that a line feed ends.
-    fn end_line<K: Sink>(&mut self, media: &mut Vec<Box<dyn Medium>>, sink: &mut K) -> Result<(), Status>
+    fn end_line<K: Sink>(
+        &mut self,
+        media: &mut Vec<Box<dyn Medium>>,
+        sink: &mut K,
+    ) -> Result<(), Status>
         requires ready { IsReady self.old }
         requires media { 0 < length media.old.items }
         ensures count { length media.new.items ≡ length media.old.items }
@@ -160,7 +163,15 @@ impl Session {
     {
         let line = without_return(self.rest.as_slice());
         let number = self.number + 1;
-        if let Err(status) = run_line(self.alloc, number, line, &mut self.list, &mut self.text, media, sink) {
+        if let Err(status) = run_line(
+            self.alloc,
+            number,
+            line,
+            &mut self.list,
+            &mut self.text,
+            media,
+            sink,
+        ) {
             return Err(status);
         }
         self.number = number;
@@ -196,7 +207,12 @@ impl Session {
     }
 
     /// Takes a byte of the input.
-    fn take_byte<K: Sink>(&mut self, byte: u8, media: &mut Vec<Box<dyn Medium>>, sink: &mut K) -> Result<(), Status>
+    fn take_byte<K: Sink>(
+        &mut self,
+        byte: u8,
+        media: &mut Vec<Box<dyn Medium>>,
+        sink: &mut K,
+    ) -> Result<(), Status>
         requires ready { IsReady self.old }
         requires media { 0 < length media.old.items }
         ensures count { length media.new.items ≡ length media.old.items }
@@ -212,7 +228,12 @@ impl Session {
     }
 
     /// Takes a piece of the input.
-    fn take_piece<K: Sink>(&mut self, piece: &[u8], media: &mut Vec<Box<dyn Medium>>, sink: &mut K) -> Result<(), Status>
+    fn take_piece<K: Sink>(
+        &mut self,
+        piece: &[u8],
+        media: &mut Vec<Box<dyn Medium>>,
+        sink: &mut K,
+    ) -> Result<(), Status>
         requires ready { IsReady self.old }
         requires media { 0 < length media.old.items }
         ensures count { length media.new.items ≡ length media.old.items }
@@ -239,7 +260,15 @@ impl Session {
         }
         let line = self.rest.as_slice();
         let number = self.number + 1;
-        if let Err(status) = run_line(self.alloc, number, line, &mut self.list, &mut self.text, media, sink) {
+        if let Err(status) = run_line(
+            self.alloc,
+            number,
+            line,
+            &mut self.list,
+            &mut self.text,
+            media,
+            sink,
+        ) {
             return status;
         }
         Status::Done

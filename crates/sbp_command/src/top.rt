@@ -4,13 +4,12 @@ ghost use Rattle.rbc_disk.specs.Disk.{Disk};
 ghost use Rattle.sbp_command.specs.Headline.{Outside, outside, RunEnds, UsageEnds, IsRun, usage};
 ghost use Rattle.sbp_command.specs.Session.{WritesFront};
 
-use std::alloc::Global;
-
 use crate::session::Session;
 use crate::status::Status;
 use crate::write::write_all;
 use rbc_disk::Medium;
 use sbp_base::{NoMemory, Sink, Source};
+use std::alloc::Global;
 
 /// How many bytes are read by one call.
 const PIECE: usize = 4096;

@@ -5,12 +5,11 @@ ghost use Rattle.sbp_journal.specs.Text.{text_of};
 ghost use Rattle.sbp_command.specs.Headline.{fault_text};
 ghost use Rattle.sbp_command.specs.Session.{WritesFront};
 
-use std::alloc::Global;
-
 use crate::script::LineFault;
 use crate::status::Status;
 use sbp_base::{NoMemory, Sink, SinkFault};
 use sbp_journal::{Note, Text, write_note};
+use std::alloc::Global;
 
 /// Writes all of `bytes`; at an error a front of them was written.
 pub fn write_all<K: Sink>(sink: &mut K, bytes: &[u8]) -> Result<(), Status>
@@ -40,7 +39,12 @@ fn set_text(alloc: Global, notes: &[Note], text: &mut Text) -> Result<(), NoMemo
 }
 
 /// Writes the lines of some notes, for which `text` lends its room.
-pub fn write_notes<K: Sink>(alloc: Global, notes: &[Note], text: &mut Text, sink: &mut K) -> Result<(), Status>
+pub fn write_notes<K: Sink>(
+    alloc: Global,
+    notes: &[Note],
+    text: &mut Text,
+    sink: &mut K,
+) -> Result<(), Status>
     requires { AllByRecursion HasForm notes.now }
     ensures { WritesFront (K.written sink.old) (K.written sink.new) (K.faults sink.old) (K.faults sink.new) result (text_of notes.now) }
 {
@@ -51,7 +55,12 @@ pub fn write_notes<K: Sink>(alloc: Global, notes: &[Note], text: &mut Text, sink
 }
 
 /// Writes the line that tells the fault of a script's line.
-pub fn write_fault<K: Sink>(alloc: Global, number: u32, fault: LineFault, sink: &mut K) -> Result<(), Status>
+pub fn write_fault<K: Sink>(
+    alloc: Global,
+    number: u32,
+    fault: LineFault,
+    sink: &mut K,
+) -> Result<(), Status>
     ensures { WritesFront (K.written sink.old) (K.written sink.new) (K.faults sink.old) (K.faults sink.new) result (fault_text number fault) }
 {
     let code = fault.number();

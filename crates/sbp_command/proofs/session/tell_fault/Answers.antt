@@ -5,4 +5,4 @@ use Rattle.sbp_command.proofs.session.tell_fault.Goals as goal
 pub returns-in-Err : goal.returns-in-Err
 returns-in-Err g c = λ before left reads disks faults run line list read h.
     fault_fails c.in-Err.status before left reads (g.K.Sink.written c.args.sink.now) (g.K.Sink.written c.write_fault.new.sink) (g.K.Sink.faults c.args.sink.now) (g.K.Sink.faults c.write_fault.new.sink) disks faults
-      run c.args.number line c.args.fault list read h c.in-Err.ensures
+    run c.args.number line c.args.fault list read h c.in-Err.ensures

@@ -10,6 +10,6 @@ invariant-loop-byte g l = record {
   count : length l.media.items ≡ length l.initial.media.items;
   budget : l.byte-index + budget l.self ≤ budget l.initial.self;
   told : (before : Outside) (left : Option (List ℕ)) (reads : ℕ)
-    → InRun before (outside left reads (g.K.Sink.written l.initial.sink) (g.K.Sink.faults l.initial.sink) (map (λ b. (goal.Medium-dyn g (b.vtable, b.value)).disk b.value) l.initial.media.items) (map (λ b. (goal.Medium-dyn g (b.vtable, b.value)).media_faults b.value) l.initial.media.items)) l.piece l.initial.self
-    → InRun before (outside left reads (g.K.Sink.written l.sink) (g.K.Sink.faults l.sink) (map (λ b. (goal.Medium-dyn g (b.vtable, b.value)).disk b.value) l.media.items) (map (λ b. (goal.Medium-dyn g (b.vtable, b.value)).media_faults b.value) l.media.items)) (drop l.byte-index l.piece) l.self;
+      → InRun before (outside left reads (g.K.Sink.written l.initial.sink) (g.K.Sink.faults l.initial.sink) (map (λ b. (goal.Medium-dyn g (b.vtable, b.value)).disk b.value) l.initial.media.items) (map (λ b. (goal.Medium-dyn g (b.vtable, b.value)).media_faults b.value) l.initial.media.items)) l.piece l.initial.self
+      → InRun before (outside left reads (g.K.Sink.written l.sink) (g.K.Sink.faults l.sink) (map (λ b. (goal.Medium-dyn g (b.vtable, b.value)).disk b.value) l.media.items) (map (λ b. (goal.Medium-dyn g (b.vtable, b.value)).media_faults b.value) l.media.items)) (drop l.byte-index l.piece) l.self;
 }
