@@ -11,7 +11,7 @@ use Rattle.rbc_disk.specs.Disk.{Disk}
 use Rattle.sbp_journal.specs.Run.{empty_run}
 use Rattle.sbp_command.specs.Plain.{held, empty_list, Stands}
 use Rattle.sbp_command.specs.Headline.{Outside, outside, UsageEnds, usage}
-use Rattle.sbp_command.specs.Session.{WritesFront, SessionState, IsReady, InRun}
+use Rattle.sbp_command.specs.Session.{WritesFront, SessionState, InRun}
 use Rattle.sbp_command.specs.declared.status.Status.{Status}
 use Rattle.sbp_command.specs.declared.status.Status.TheVariants as statuses
 
@@ -59,9 +59,6 @@ begins before some counted = record {
 
 pub some_mapped : {A B : Type 0} (f : A → B) (xs : List A) → 1 ≤ length xs → 0 < length (map f xs)
 some_mapped f xs h = omega (arith, length-map xs f)
-
-pub is_new : IsReady empty_session
-is_new = record { few = omega arith; short = refl; begun = refl; room = omega arith }
 
 -- the usage line was written in part
 pub usage_fails : {A : Type 0} (status : Status) (left : Option (List ℕ)) (reads : ℕ) (mid new : Option (List ℕ)) (some more : ℕ) (disks : List Disk) (faults : List ℕ)

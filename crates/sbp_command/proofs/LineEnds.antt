@@ -105,17 +105,6 @@ event_ends (Err statuses.Words) before left reads mid new some more disks faults
 event_ends (Err statuses.Script) before left reads mid new some more disks faults run number line happened notes list read stands p l w = absurd w.ends
 event_ends (Err statuses.ReadFault) before left reads mid new some more disks faults run number line happened notes list read stands p l w = absurd w.ends
 
--- the fault of a line is written whole
-pub fault_told : (before : Outside) (left : Option (List ℕ)) (reads : ℕ) (mid new : Option (List ℕ)) (some more : ℕ) (disks : List Disk) (faults : List ℕ) (run : Run) (number : ℕ) (line : List ℕ) (why : LineFault) (list : PlainState) (front : List ℕ)
-    → reading number line ≡ Err why → RanSoFar before (outside left reads mid some disks faults) run list → front ≡ fault_text number why → Appends mid new front
-    → LineFails statuses.Script before (outside left reads new more disks faults) run number line list
-fault_told before left reads mid new some more disks faults run number line why list front read h e w = record {
-  fault = why;
-  is_read = read;
-  stands = h.stands;
-  written = behind_whole before.written mid new (text_of (journal run)) (fault_text number why) front e h.written w;
-}
-
 -- the fault of a line is written in part
 pub fault_fails : {A : Type 0} (status : Status) (before : Outside) (left : Option (List ℕ)) (reads : ℕ) (mid new : Option (List ℕ)) (some more : ℕ) (disks : List Disk) (faults : List ℕ) (run : Run) (number : ℕ) (line : List ℕ) (why : LineFault) (list : PlainState)
     → reading number line ≡ Err why → RanSoFar before (outside left reads mid some disks faults) run list → WritesFront {A = A} mid new some more (Err status) (fault_text number why)

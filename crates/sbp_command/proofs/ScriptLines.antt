@@ -187,12 +187,6 @@ script-line whole rest event w f h e = script-whole whole (rest ++ 10 ∷ []) w 
 pub lines-one_more : (rest more : List ℕ) → NoFeed rest → lines (rest ++ 10 ∷ more) ≡ strip_carriage_return rest ∷ lines more
 lines-one_more rest more h = lines-feed rest more ∙ ap (λ ps. map strip_carriage_return ps ++ lines more) (parts-one rest h)
 
--- the first faulty line, with its line feed
-pub script-fault : (whole rest more : List ℕ) (fault : LineFault) → IsWhole whole → NoFeed rest → (script whole).fault ≡ None → reading (1 + length (lines whole)) (strip_carriage_return rest) ≡ Err fault → script ((whole ++ (rest ++ 10 ∷ [])) ++ more) ≡ record { events = (script whole).events; fault = Some (1 + length (lines whole), fault) }
-script-fault whole rest more fault w f h e =
-    let moved : (whole ++ (rest ++ 10 ∷ [])) ++ more ≡ whole ++ (rest ++ 10 ∷ more) = simp append_assoc in
-    ap script moved ∙ script-whole_fault whole (rest ++ 10 ∷ more) fault w h (ap (script_from (1 + length (lines whole))) (lines-one_more rest more f) ∙ script_from-fault _ (strip_carriage_return rest) (lines more) fault e)
-
 lines-last_cases : (rest : List ℕ) (b : Bool) → (length rest == 0) ≡ b → 0 < length rest → (if b then [] else rest ∷ []) ≡ rest ∷ []
 lines-last_cases rest true e l = absurd (omega (arith, eqb-true (length rest) 0 e))
 lines-last_cases rest false e l = refl
@@ -203,10 +197,6 @@ lines-last_some rest f l = lines-last rest f ∙ lines-last_cases rest (length r
 -- the last line, without a line feed
 pub script-end : (whole rest : List ℕ) (event : Event) → IsWhole whole → NoFeed rest → 0 < length rest → (script whole).fault ≡ None → reading (1 + length (lines whole)) rest ≡ Ok event → script (whole ++ rest) ≡ record { events = (script whole).events ++ (1 + length (lines whole), event) ∷ []; fault = None }
 script-end whole rest event w f l h e = script-whole whole rest w h ∙ ap (behind (script whole)) (ap (script_from (1 + length (lines whole))) (lines-last_some rest f l) ∙ script_from-event _ rest event e)
-
--- a faulty last line, without a line feed
-pub script-end_fault : (whole rest : List ℕ) (fault : LineFault) → IsWhole whole → NoFeed rest → 0 < length rest → (script whole).fault ≡ None → reading (1 + length (lines whole)) rest ≡ Err fault → script (whole ++ rest) ≡ record { events = (script whole).events; fault = Some (1 + length (lines whole), fault) }
-script-end_fault whole rest fault w f l h e = script-whole_fault whole rest fault w h (ap (script_from (1 + length (lines whole))) (lines-last_some rest f l) ∙ script_from-fault _ rest [] fault e)
 
 -- a line that is too long already, whatever follows
 pub script-long : (whole rest more : List ℕ) → IsWhole whole → NoFeed rest → (script whole).fault ≡ None → is_surely_long rest ≡ true → script ((whole ++ rest) ++ more) ≡ record { events = (script whole).events; fault = Some (1 + length (lines whole), (if nat_lt 65536 (1 + length (lines whole)) then TooMany else TooLong)) }

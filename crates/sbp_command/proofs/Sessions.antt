@@ -1,12 +1,11 @@
 -- A session goes on byte by byte, and ends as its status says.
-use Rattle.std.proofs.Common.{◌≡◌, ◌∙◌, refl, sym, ap, subst, ℕ, suc, ◌+◌, ◌<◌, ◌≤◌, ◌≢◌, inl, inr, nat_lt, ◌==◌, Bool, true, false, List, [], ◌∷◌, ◌++◌, take, length, Option, Some, None, Result, Ok, Err, append_assoc, append-nil, length-append, take_all, drop, drop-cons, get_or, add-one, arith}
+use Rattle.std.proofs.Common.{◌≡◌, ◌∙◌, refl, sym, ap, subst, ℕ, suc, ◌+◌, ◌<◌, ◌≤◌, ◌≢◌, inl, inr, nat_lt, ◌==◌, Bool, true, false, List, [], ◌∷◌, ◌++◌, take, length, Option, Some, None, Result, Ok, Err, append_assoc, append-nil, take_all, drop, drop-cons, get_or, add-one, arith}
 use Rattle.std.specs.Prelude.{IfSome}
-use Rattle.std.specs.Io.KnownBytes.{Appends, Consumes, IsAtEnd, Keeps}
-use Rattle.std.proofs.KnownBytes.{Consumes-trans, Consumes-kept}
+use Rattle.std.specs.Io.KnownBytes.{Appends, Consumes, IsAtEnd}
+use Rattle.std.proofs.KnownBytes.{Consumes-trans}
 use Rattle.std.specs.Str.Lines.{lines, strip_carriage_return}
 use Rattle.std.proofs.Math.Seq.{take-append_seam}
 use Rattle.std.proofs.lemmas.List.{drop_all}
-use Rattle.sbp_base.specs.Faults.{Rose}
 use Rattle.sbp_journal.specs.Run.{Run, with_entry, journal, history, events_of}
 use Rattle.sbp_journal.specs.DiskFold.{DisksAre}
 use Rattle.sbp_journal.specs.Lawful.{Lawful}
@@ -16,7 +15,7 @@ use Rattle.sbp_journal.specs.declared.note.Note.{Note}
 use Rattle.sbp_command.specs.Plain.{PlainState, Held, held, StandsFor}
 use Rattle.sbp_command.specs.Script.{Script, script, script_from, onto_script, reading, IsWhole, is_surely_long}
 use Rattle.sbp_command.specs.Headline.{Outside, fault_text, ending, RunsOver, LeavesMedia, Torn, RunEnds}
-use Rattle.sbp_command.specs.Session.{SessionState, IsReady, budget, RanLine, Tells, LineTorn, LineFails, InRun}
+use Rattle.sbp_command.specs.Session.{SessionState, RanLine, Tells, LineTorn, LineFails, InRun}
 use Rattle.sbp_command.specs.Session.Tells.{nothing, event, fault}
 use Rattle.sbp_command.specs.declared.script.LineFault.{LineFault}
 use Rattle.sbp_command.specs.declared.status.Status.{Status}
@@ -240,22 +239,6 @@ end_ok before old new state list h same end some t =
       },
     )
 
--- nothing is left of the input
-pub end_none : (before now : Outside) (state : SessionState) → InRun before now [] state → IsAtEnd now.left → state.rest ≡ [] → RunEnds statuses.Done before now
-end_none before now state h end none =
-    let whole_is : h.whole ++ state.rest ≡ h.whole = ap (λ rest. h.whole ++ rest) none ∙ append-nil h.whole in (
-      end,
-      record {
-        input = h.whole;
-        run = h.run;
-        told = subst (λ bytes. IfSome before.left (λ all. all ≡ bytes)) whole_is (end_input before now state h end);
-        fault_is = h.clean;
-        over = over before (held now.disks now.faults) h.run state.list (script h.whole).events h.so_far.stands h.events_are;
-        written = subst (Appends before.written now.written) (sym (append-nil (text_of (journal h.run)))) h.so_far.written;
-        media = leaves before now h.run state.list h.so_far.stands;
-      },
-    )
-
 -- the run stops behind its whole lines
 stop_input : (whole rest pending more : List ℕ) → whole ++ (rest ++ (pending ++ more)) ≡ ((whole ++ rest) ++ pending) ++ more
 stop_input whole rest pending more = simp append_assoc
@@ -343,52 +326,13 @@ piece_read before old new piece state h c reads e1 e2 e3 e4 = record {
   reads = omega (arith, h.reads);
 }
 
--- the source failed
-pub read_fails : (before old new : Outside) (state : SessionState) → InRun before old [] state → Keeps old.left new.left → Rose old.reads new.reads
-    → old.written ≡ new.written → old.disks ≡ new.disks → old.faults ≡ new.faults → RunEnds statuses.ReadFault before new
-read_fails before old new state h kept rose e1 e2 e3 =
-    let stands : StandsFor (held before.disks before.faults) (held new.disks new.faults) h.run state.list
-    = subst (λ d. StandsFor (held before.disks before.faults) (held d new.faults) h.run state.list) e2 (subst (λ f. StandsFor (held before.disks before.faults) (held old.disks f) h.run state.list) e3 h.so_far.stands) in (
-      omega (arith, h.reads),
-      record {
-        whole = h.whole;
-        rest = state.rest;
-        run = h.run;
-        consumed = Consumes-kept before.left old.left new.left (h.whole ++ state.rest) (subst (Consumes before.left old.left) (append-nil (h.whole ++ state.rest)) h.consumed) kept;
-        is_whole = h.is_whole;
-        no_feed = h.no_feed;
-        fault_is = h.clean;
-        over = over before (held new.disks new.faults) h.run state.list (script h.whole).events stands h.events_are;
-        written = subst (λ w. Appends before.written w (text_of (journal h.run))) e1 h.so_far.written;
-        media = leaves before new h.run state.list stands;
-      },
-    )
-
 -- ---- what a session can go on from
 
 pub short_rest : (rest : List ℕ) → is_surely_long rest ≡ false → length rest ≤ 8193
 short_rest rest h = grind arith
 
-pub budget_push : (state : SessionState) (byte : ℕ) → IsReady state → budget (record { number = state.number; rest = state.rest ++ byte ∷ []; list = state.list }) < budget state
-budget_push state byte h = omega (arith, length-append state.rest (byte ∷ []), short_rest state.rest h.short, h.few)
-
-pub budget_line : (state : SessionState) (list : PlainState) → IsReady state → budget (record { number = state.number + 1; rest = []; list = list }) < budget state
-budget_line state list h = omega (arith, short_rest state.rest h.short, h.few)
-
-pub next_begun : (n : ℕ) → nat_lt 0 n ≡ nat_lt 1 (n + 1)
-next_begun n = grind arith
-
 pub has_begun : (n : ℕ) → true ≡ nat_lt 0 (n + 1)
 has_begun n = grind arith
-
-pub next_ready : (state : SessionState) (list : PlainState) → IsReady state → state.number + 1 ≤ 65536 → list.begun ≡ true → list.appended ≤ state.list.appended + 1
-    → IsReady (record { number = state.number + 1; rest = []; list = list })
-next_ready state list h few begun room = record {
-  few = few;
-  short = refl;
-  begun = begun ∙ has_begun state.number;
-  room = omega (arith, h.room);
-}
 
 pub some_rest : (rest : List ℕ) (empty : Bool) → empty ≡ (length rest == 0) → empty ≡ false → 0 < length rest
 some_rest rest empty e f = grind arith
