@@ -1,14 +1,12 @@
 -- A line's notes extend a run.
-use Rattle.std.proofs.Common.{◌≡◌, ◌≢◌, ℕ, zero, suc, ◌+◌, ◌-◌, ◌<◌, ◌≤◌, Bool, true, false, List, [], ◌∷◌, ◌++◌, length, reverse, refl, sym, ap, ◌∙◌, subst, arith, append_assoc, append-nil}
-use Rattle.std.specs.Prelude.{◌==◌, if◌then◌else◌, Option, Some, None, Result, Ok, Err, OnOk}
+use Rattle.std.proofs.Common.{◌≡◌, ℕ, zero, suc, ◌-◌, Bool, true, false, List, [], ◌∷◌, ◌++◌, length, reverse, refl, sym, ap, ◌∙◌, subst, arith, append_assoc, append-nil}
+use Rattle.std.specs.Prelude.{◌==◌, if◌then◌else◌, Some, Result, Ok, Err, OnOk}
 use Rattle.std.specs.List.{AllByRecursion}
 use Rattle.std.proofs.lemmas.List.{reverse-append}
-use Rattle.rbc_disk.specs.declared.command.Sense.{Sense}
-use Rattle.sbp_journal.specs.Run.{Run, Entry, with_entry, history, notes_of}
+use Rattle.sbp_journal.specs.Run.{Run, with_entry, history, notes_of}
 use Rattle.sbp_journal.specs.Terms.{lists, appends, ends, status_of}
 use Rattle.sbp_journal.specs.Form.{HasForm}
-use Rattle.sbp_journal.specs.OrderLaw.{IsPresent}
-use Rattle.sbp_journal.specs.ActionLaw.{ActionLaw, AreServed, none, more, Settles, NothingWaits, append_notes, link_notes, served, buffer_of}
+use Rattle.sbp_journal.specs.ActionLaw.{AreServed, none, more, NothingWaits, append_notes, served, buffer_of}
 use Rattle.sbp_journal.specs.declared.event.Cmd.{Cmd}
 use Rattle.sbp_journal.specs.declared.event.Event.{Event}
 use Rattle.sbp_journal.specs.declared.event.Event.TheVariants as events
@@ -26,7 +24,7 @@ settling_none old before e = record {
   appended = refl;
   served_all = subst AreServed (sym e) none;
   form = subst (AllByRecursion HasForm) (sym e) tt;
-  stands = λ start notes s. subst (λ ns. Stands start before (reverse ns) old) (sym (ap (λ fresh. notes ++ fresh) e ∙ append-nil notes)) s
+  stands = λ start notes s. subst (λ ns. Stands start before (reverse ns) old) (sym (ap (λ fresh. notes ++ fresh) e ∙ append-nil notes)) s;
 }
 
 all_append : (P : Note → Type 0) (xs ys : List Note) → AllByRecursion P xs → AllByRecursion P ys → AllByRecursion P (xs ++ ys)
@@ -40,7 +38,7 @@ settling_more old mid new before now later h v begun = record {
   appended = v.appended ∙ h.appended;
   served_all = subst AreServed (sym t.fresh) (more 0 0 mid.ended 0 v.cmd.cdb t.bytes t.check t.answer h.served_all);
   form = subst (AllByRecursion HasForm) (sym t.fresh) (all_append HasForm mid.fresh _ h.form (t.form, (form_status t.check t.form, (form_answer t.check t.answer t.form t.silent, tt))));
-  stands = λ start notes s. subst (λ ns. Stands start later ns new) (sym (told_backwards notes)) (stands_served start now later (reverse (notes ++ mid.fresh)) mid new (h.stands start notes s) v begun)
+  stands = λ start notes s. subst (λ ns. Stands start later ns new) (sym (told_backwards notes)) (stands_served start now later (reverse (notes ++ mid.fresh)) mid new (h.stands start notes s) v begun);
 }
   where
     t : RunsAndTells v.cmd mid.ended mid.fresh new.fresh now later
@@ -51,7 +49,6 @@ settling_more old mid new before now later h v begun = record {
         ap (λ fresh. reverse (notes ++ fresh)) t.fresh
         ∙ ap reverse (sym (append_assoc notes mid.fresh (served 0 0 mid.ended 0 v.cmd.cdb t.bytes t.check t.answer)))
         ∙ reverse-append (notes ++ mid.fresh) (served 0 0 mid.ended 0 v.cmd.cdb t.bytes t.check t.answer)
-
 
 -- where no command waits, each ORB of a present list has ended
 nothing_waits : (start now : Held) (ns : List Note) (state : PlainState) → Stands start now ns state → state.waiting ≡ [] → NothingWaits ns
@@ -85,8 +82,8 @@ pub extends_begin : (start now : Held) (run : Run) (line : ℕ) (old : PlainStat
 extends_begin start now run line old s = record {
   begins = s.begins;
   notes = subst (λ ns. Stands start now ns (begun_list old)) (sym (reverse-append (notes_of run.entries) (Begin 1 true ∷ [])))
-    (stands_begun start now (history run.entries) (Begin 1 true ∷ []) old s.notes);
-  action = (refl, s.action)
+      (stands_begun start now (history run.entries) (Begin 1 true ∷ []) old s.notes);
+  action = (refl, s.action);
 }
 
 -- the notes of an append, by whether it is the first one
@@ -102,7 +99,7 @@ pub extends_append : (start now : Held) (run : Run) (line : ℕ) (old : PlainSta
 extends_append start now run line old cmd f s = record {
   begins = s.begins;
   notes = by_place (old.appended == 0);
-  action = (told, s.action)
+  action = (told, s.action);
 }
   where
     told : append_notes 0 0 old.appended cmd ≡ append_notes 0 (lists (history run.entries) 0 - 1) (appends (history run.entries) 0 (lists (history run.entries) 0 - 1)) cmd
@@ -127,12 +124,15 @@ pub extends_settle : (start before now : Held) (run : Run) (line : ℕ) (old new
 extends_settle start before now run line old new h s = record {
   begins = s.begins;
   notes = stands;
-  action = (record {
-    front = h.state.fresh;
-    served = h.settling.served_all;
-    settled = fresh_is;
-    done = subst NothingWaits (reverse-append (notes_of run.entries) new.fresh) (nothing_waits start now _ new stands none_waits)
-  }, s.action)
+  action = (
+    record {
+      front = h.state.fresh;
+      served = h.settling.served_all;
+      settled = fresh_is;
+      done = subst NothingWaits (reverse-append (notes_of run.entries) new.fresh) (nothing_waits start now _ new stands none_waits);
+    },
+    s.action,
+  );
 }
   where
     fresh_is : new.fresh ≡ h.state.fresh ++ Settled ∷ []

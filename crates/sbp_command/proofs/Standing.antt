@@ -1,19 +1,16 @@
 -- The plain list goes on standing for its notes.
-use Rattle.std.proofs.Common.{◌≡◌, ◌≢◌, ℕ, zero, suc, ◌+◌, ◌<◌, ◌≤◌, Bool, true, false, List, [], ◌∷◌, ◌++◌, length, get_or, set, reverse, refl, sym, ap, ◌∙◌, subst, arith, inl, inr}
-use Rattle.std.specs.Prelude.{◌==◌, nat_lt, if◌then◌else◌, Option, Some, None, IfSome, IsSomeAnd, slice_index, min}
-use Rattle.std.specs.List.{AllByRecursion}
+use Rattle.std.proofs.Common.{◌≡◌, ◌≢◌, ℕ, zero, suc, ◌+◌, ◌<◌, ◌≤◌, Bool, true, false, List, [], ◌∷◌, ◌++◌, length, get_or, set, refl, sym, ap, ◌∙◌, subst, arith}
+use Rattle.std.specs.Prelude.{◌==◌, nat_lt, if◌then◌else◌, Option, Some, None, IsSomeAnd, slice_index, min}
 use Rattle.std.proofs.lemmas.List.{get_or-set_same, get_or-set_other, length-set, length-append, get_or_push, get_or_append_left}
-use Rattle.std.proofs.lemmas.Grind.{common_steps}
 use Rattle.sbp_base.specs.Faults.{Rose, last_count}
 use Rattle.rbc_disk.specs.Disk.{Disk, disk_at, no_disk}
 use Rattle.rbc_disk.specs.PlainDisk.{after_run, is_failure}
 use Rattle.rbc_disk.specs.declared.command.Sense.{Sense}
-use Rattle.sbp_journal.specs.Terms.{Request, lists, appends, ends, runs, takes, request_at, ran_status, ended_status, unit_of, status_of, at_orb, at_list, at_initiator}
+use Rattle.sbp_journal.specs.Terms.{Request, lists, appends, runs, takes, request_at, ran_status, ended_status, status_of, at_orb, at_initiator}
 use Rattle.sbp_journal.specs.DiskFold.{disk_of, before_run, failures, DisksAre, FailuresFit}
-use Rattle.sbp_journal.specs.Form.{HasForm, IsCheck, IsStatus, IsAnswer, IsBuffer}
-use Rattle.sbp_journal.specs.OrderLaw.{OrderLaw, IsNextEnd, IsNextAppend, IsPresent}
-use Rattle.sbp_journal.specs.ExecutionLaw.{ExecutionLaw, IsNextRun, RunsOn}
-use Rattle.sbp_journal.specs.StatusLaw.{StatusLaw}
+use Rattle.sbp_journal.specs.Form.{IsCheck, IsStatus, IsAnswer, IsBuffer}
+use Rattle.sbp_journal.specs.OrderLaw.{IsPresent}
+use Rattle.sbp_journal.specs.ExecutionLaw.{RunsOn}
 use Rattle.sbp_journal.specs.AnswerLaw.{AnswerLaw, IsAnswerOf}
 use Rattle.sbp_journal.specs.Lawful.{AreLawful}
 use Rattle.sbp_journal.specs.declared.event.Cmd.{Cmd}
@@ -54,7 +51,7 @@ disks_after : (start : List Disk) (ns : List Note) (disks : List Disk) (orb : Op
     0 < length disks → DisksAre start ns disks → DisksAre start (Ran 0 (Some 0) orb 0 cdb bytes check ∷ ns) (set disks 0 (after_run cdb bytes check (disk_at disks 0)))
 disks_after start ns disks orb cdb bytes check some h = record {
   count = length-set disks 0 _ ∙ h.count;
-  each = each_disk
+  each = each_disk;
 }
   where
     each_disk : (u : ℕ) → u < length start → disk_at (set disks 0 (after_run cdb bytes check (disk_at disks 0))) u ≡ disk_of start (Ran 0 (Some 0) orb 0 cdb bytes check ∷ ns) u
@@ -77,9 +74,9 @@ failures_after start now later ns orb cdb bytes check kept rising failed h = rec
     each_count zero = fits_first (is_failure check) refl
     each_count (suc u) =
         let other : failures (Ran 0 (Some 0) orb 0 cdb bytes check ∷ ns) (suc u) ≡ failures ns (suc u) =
-            at_initiator-other (failures ns) (suc u) (if is_failure check then suc (failures ns 0) else failures ns 0) (λ e. cc e) in
+        at_initiator-other (failures ns) (suc u) (if is_failure check then suc (failures ns 0) else failures ns 0) (λ e. cc e) in
         let same : slice_index later (suc u) ≡ slice_index now (suc u) =
-            ap (λ xs. slice_index xs (suc u)) kept ∙ get_or-set_other now 0 (suc u) (slice_index later 0) 0 (λ e. cc e) in
+        ap (λ xs. slice_index xs (suc u)) kept ∙ get_or-set_other now 0 (suc u) (slice_index later 0) 0 (λ e. cc e) in
         let was = h.each (suc u) in
         omega (arith, other, same)
 
@@ -124,7 +121,7 @@ module _ (start now later : Held) (ns : List Note) (old new : PlainState) (s : S
     order = (record { number = sym s.of_ends; appended = before; present = present }, (present, s.lawful.order));
     execution = (at_orb-same (ran_status ns) old.ended (Some (status_of v.told.check)), (record { once = s.not_run old.ended (omega arith); order = sym s.of_ends; login = s.login begun }, subst (λ o. IsSomeAnd o (λ request. RunsOn request (disk_of start.disks ns 0) v.cmd.cdb v.told.bytes v.told.check)) (sym asked) runs_there, s.lawful.execution));
     status = (s.not_taken old.ended (omega arith), at_orb-same (ended_status ns) old.ended (Some (status_of v.told.check)), s.lawful.status);
-    answer = answer_law start.disks ended_notes old.ended v.told.check v.told.answer (request_of v.cmd) asked answers s.lawful.answer
+    answer = answer_law start.disks ended_notes old.ended v.told.check v.told.answer (request_of v.cmd) asked answers s.lawful.answer;
   }
     where
       before : old.ended < appends ns 0 0
@@ -151,7 +148,7 @@ module _ (start now later : Held) (ns : List Note) (old new : PlainState) (s : S
     disks = let d = subst (DisksAre start.disks ran) (sym v.told.disks) (disks_after start.disks ns now.disks (Some old.ended) v.cmd.cdb v.told.bytes v.told.check s.some s.disks) in record { count = d.count; each = d.each };
     failures = let f = failures_after start.faults now.faults later.faults ns (Some old.ended) v.cmd.cdb v.told.bytes v.told.check v.told.faults v.told.rising v.told.failed s.failures in record { each = f.each };
     some = let h : length later.disks ≡ length now.disks = ap length v.told.disks ∙ length-set now.disks 0 _ in let some = s.some in omega (arith, h);
-    counted = let h : length later.faults ≡ length now.faults = ap length v.told.faults ∙ length-set now.faults 0 _ in let some = s.counted in omega (arith, h)
+    counted = let h : length later.faults ≡ length now.faults = ap length v.told.faults ∙ length-set now.faults 0 _ in let some = s.counted in omega (arith, h);
   }
     where
       queued_there : (j : ℕ) (d : Cmd) → j < length new.waiting → request_at ns 0 0 (new.ended + j) ≡ Some (request_of (get_or new.waiting j d))
@@ -177,7 +174,7 @@ stands_begun start now ns fresh old s = record {
   disks = let d = s.disks in record { count = d.count; each = d.each };
   failures = let f = s.failures in record { each = f.each };
   some = s.some;
-  counted = s.counted
+  counted = s.counted;
 }
 
 -- notes that change nothing of what the list stands for
@@ -196,7 +193,7 @@ stands_rung start now ns state i n k s = record {
   disks = let d = s.disks in record { count = d.count; each = d.each };
   failures = let f = s.failures in record { each = f.each };
   some = s.some;
-  counted = s.counted
+  counted = s.counted;
 }
 
 pub stands_linked : (start now : Held) (ns : List Note) (state : PlainState) (i n k : ℕ) → Stands start now ns state → Stands start now (Linked i n k ∷ Low i n k ∷ ns) state
@@ -214,7 +211,7 @@ stands_linked start now ns state i n k s = record {
   disks = let d = s.disks in record { count = d.count; each = d.each };
   failures = let f = s.failures in record { each = f.each };
   some = s.some;
-  counted = s.counted
+  counted = s.counted;
 }
 
 pub stands_settled : (start now : Held) (ns : List Note) (state : PlainState) → Stands start now ns state → Stands start now (Settled ∷ ns) state
@@ -232,7 +229,7 @@ stands_settled start now ns state s = record {
   disks = let d = s.disks in record { count = d.count; each = d.each };
   failures = let f = s.failures in record { each = f.each };
   some = s.some;
-  counted = s.counted
+  counted = s.counted;
 }
 
 -- the notes of the latest line are no part of what the list stands for
@@ -251,7 +248,7 @@ stands_told start now ns fresh state s = record {
   disks = s.disks;
   failures = s.failures;
   some = s.some;
-  counted = s.counted
+  counted = s.counted;
 }
 
 -- a buffer of a command that fits has a byte
@@ -300,7 +297,7 @@ module _ (start now : Held) (ns fresh : List Note) (old : PlainState) (cmd : Cmd
       order = (record { number = sym s.of_appends; list = sym s.of_lists }, l.order);
       execution = l.execution;
       status = l.status;
-      answer = l.answer
+      answer = l.answer;
     };
     login = s.login;
     of_appends = let e = s.of_appends in omega arith;
@@ -314,5 +311,5 @@ module _ (start now : Held) (ns fresh : List Note) (old : PlainState) (cmd : Cmd
     disks = let d = s.disks in record { count = d.count; each = d.each };
     failures = let h = s.failures in record { each = h.each };
     some = s.some;
-    counted = s.counted
+    counted = s.counted;
   }

@@ -13,13 +13,12 @@ ghost use Rattle.sbp_journal.specs.ActionLaw.{append_notes, buffer_of, served, A
 ghost use Rattle.sbp_journal.specs.declared.note.Note.TheVariants as notes;
 ghost use Rattle.sbp_command.specs.Plain.{PlainState, empty_list, Held, held, Fits, InPlace, RunsAndTells, Serves, Stands, StandsFor, Settling, HasSettled, request_of, carried_of, command_in, with_command};
 
-use std::alloc::Global;
-use std::collections::VecDeque;
-use std::marker::Model;
-
 use rbc_disk::{BufferPlan, Medium, Need, Outcome, Sense, TRANSFER, run_unit, unit_needs};
 use sbp_base::{Bytes, NoMemory};
 use sbp_journal::{Action, Cmd, Event, Journal, Note, NoteBuffer, StatusKind};
+use std::alloc::Global;
+use std::collections::VecDeque;
+use std::marker::Model;
 
 /// The commands of initiator 0, which wait in their order until they are settled. All go to unit 0.
 #[derive(Drop)]
@@ -40,11 +39,11 @@ impl Model for PlainList {
     ghost Value = { PlainState };
 
     ghost view = { λ list. record {
-        begun = list.begun;
-        waiting = list.waiting.items;
-        appended = list.appended;
-        ended = list.ended;
-        fresh = list.fresh
+      begun = list.begun;
+      waiting = list.waiting.items;
+      appended = list.appended;
+      ended = list.ended;
+      fresh = list.fresh;
     } };
 
     ghost invariant = { λ list. IsSound list.waiting.items list.ended list.appended (length list.answer.items) };
@@ -78,7 +77,10 @@ impl PlainList {
         requires fresh { self.old.fresh ≡ [] }
         ensures { OnOk result (self.new ≡ record self.old { begun = true; fresh = notes.Begin 1 true ∷ [] }) }
     {
-        self.fresh.push(Note::Begin { initiators: 1, ready: true })?;
+        self.fresh.push(Note::Begin {
+            initiators: 1,
+            ready: true,
+        })?;
         self.begun = true;
         Ok(())
     }
@@ -116,12 +118,30 @@ fn tell_append(alloc: Global, fresh: &mut Journal, orb: u32, cmd: &Cmd) -> Resul
     ensures { OnOk result (fresh.new ≡ fresh.old ++ append_notes 0 0 orb cmd.now) }
 {
     let buffer = note_buffer(alloc, cmd)?;
-    fresh.push(Note::Append { initiator: 0, list: 0, orb, cdb: cmd.cdb, buffer })?;
+    fresh.push(Note::Append {
+        initiator: 0,
+        list: 0,
+        orb,
+        cdb: cmd.cdb,
+        buffer,
+    })?;
     if orb != 0 {
-        fresh.push(Note::Low { initiator: 0, list: 0, orb })?;
-        fresh.push(Note::Linked { initiator: 0, list: 0, orb })?;
+        fresh.push(Note::Low {
+            initiator: 0,
+            list: 0,
+            orb,
+        })?;
+        fresh.push(Note::Linked {
+            initiator: 0,
+            list: 0,
+            orb,
+        })?;
     }
-    fresh.push(Note::Rung { initiator: 0, list: 0, orb })
+    fresh.push(Note::Rung {
+        initiator: 0,
+        list: 0,
+        orb,
+    })
 }
 
 /// How a waiting command ran.
@@ -152,7 +172,10 @@ fn run_waiting(media: &mut Vec<Box<dyn Medium>>, cmd: &Cmd, answer: &mut [u8]) -
     ensures rising { slice_index (map media_faults media.old.items) 0 ≤ slice_index (map media_faults media.new.items) 0 }
     ensures failed { is_failure result.check ≡ true → Rose (slice_index (map media_faults media.old.items) 0) (slice_index (map media_faults media.new.items) 0) }
 {
-    let buffer = BufferPlan { to_initiator: cmd.to_initiator, bytes: u32::from(cmd.length) };
+    let buffer = BufferPlan {
+        to_initiator: cmd.to_initiator,
+        bytes: u32::from(cmd.length),
+    };
     match unit_needs(media, 0, &cmd.cdb, buffer) {
         Need::Payload(_) => {
             let outcome = run_unit(media, 0, &cmd.cdb, buffer, cmd.payload.as_slice(), answer);
@@ -170,8 +193,16 @@ fn run_of(carried: bool, outcome: Outcome) -> Run
     ensures { result ≡ record { carried = carried; check = check_in outcome; answered = answered_length outcome } }
 {
     match outcome {
-        Outcome::Good { answer } => Run { carried, check: None, answered: answer },
-        Outcome::Check(sense) => Run { carried, check: Some(sense), answered: 0 },
+        Outcome::Good { answer } => Run {
+            carried,
+            check: None,
+            answered: answer,
+        },
+        Outcome::Check(sense) => Run {
+            carried,
+            check: Some(sense),
+            answered: 0,
+        },
     }
 }
 
@@ -219,8 +250,19 @@ fn tell_served(
         bytes,
         check: run.check,
     })?;
-    fresh.push(Note::Ended { initiator: 0, list: Some(0), orb: Some(orb), status })?;
-    fresh.push(Note::Taken { initiator: 0, list: 0, orb, status, answer })
+    fresh.push(Note::Ended {
+        initiator: 0,
+        list: Some(0),
+        orb: Some(orb),
+        status,
+    })?;
+    fresh.push(Note::Taken {
+        initiator: 0,
+        list: 0,
+        orb,
+        status,
+        answer,
+    })
 }
 
 /// Runs a command, with `room` for its answer, and tells its run, its end and its status.

@@ -1,4 +1,4 @@
-use Rattle.std.proofs.Common.{refl, sym, ◌∙◌}
+use Rattle.std.proofs.Common.{refl, ◌∙◌}
 use Rattle.sbp_command.proofs.Settling.{settling_none, settling_more}
 use Rattle.sbp_command.proofs.plain.PlainList.serve_all.Goals as goal
 
@@ -10,5 +10,5 @@ loop-self-preserved g c =
     let so_far = c.loop-self.invariant.settling in
     record {
       count = c.serve.ensures.count ∙ c.loop-self.invariant.count;
-      settling = settling_more _ _ _ _ _ _ so_far c.in_ok-serve.ensures.served (so_far.begun ∙ c.requires.begun)
+      settling = settling_more _ _ _ _ _ _ so_far c.in_ok-serve.ensures.served (so_far.begun ∙ c.requires.begun);
     }

@@ -1,5 +1,3 @@
-use Rattle.std.proofs.Common.{◌≡◌, ap, ◌∙◌}
-use Rattle.sbp_command.specs.Plain.{PlainState}
 use Rattle.sbp_command.proofs.Settling.{on_ok, cleared_from, line_begins, line_appends, line_settles}
 use Rattle.sbp_command.proofs.plain.PlainList.step.Goals as goal
 
@@ -7,22 +5,22 @@ pub returns-in-Begin-clause-stands : goal.returns-in-Begin-clause-stands
 returns-in-Begin-clause-stands g c =
     on_ok _ _ c.begin.result
     (λ e start run line s.
-      line_begins start _ run line c.args.self.now _ c.begin.new.self c.args.event (cleared_from _ _ _ c.self.view_is c.clear.ensures) c.requires.place
-      c.in-Begin.initiators c.in-Begin.ready c.in-Begin.is e s)
+    line_begins start _ run line c.args.self.now _ c.begin.new.self c.args.event (cleared_from _ _ _ c.self.view_is c.clear.ensures) c.requires.place
+    c.in-Begin.initiators c.in-Begin.ready c.in-Begin.is e s)
     c.begin.ensures
 
 pub returns-in-Act-clause-stands : goal.returns-in-Act-clause-stands
 returns-in-Act-clause-stands g c =
     on_ok _ _ c.act.result
     (λ e start run line s.
-      line_appends start _ run line c.args.self.now _ c.act.new.self c.args.event (cleared_from _ _ _ c.self.view_is c.clear.ensures) c.requires.place
-      c.in-Act.initiator c.in-Act.action c.in-Act.is e s)
+    line_appends start _ run line c.args.self.now _ c.act.new.self c.args.event (cleared_from _ _ _ c.self.view_is c.clear.ensures) c.requires.place
+    c.in-Act.initiator c.in-Act.action c.in-Act.is e s)
     c.act.ensures
 
 pub returns-in-Settle-clause-stands : goal.returns-in-Settle-clause-stands
 returns-in-Settle-clause-stands g c =
     on_ok _ _ c.settle.result
     (λ h start run line s.
-      line_settles start _ run line c.args.self.now _ c.settle.new.self c.args.event (cleared_from _ _ _ c.self.view_is c.clear.ensures) c.requires.place _
-      c.in-Settle.is h s)
+    line_settles start _ run line c.args.self.now _ c.settle.new.self c.args.event (cleared_from _ _ _ c.self.view_is c.clear.ensures) c.requires.place _
+    c.in-Settle.is h s)
     c.settle.ensures.settled
