@@ -1,3 +1,4 @@
 pub mod Judged
 pub mod Unique
 pub mod RoundTrip
+pub mod Spelled

@@ -1,24 +1,9 @@
 -- The one packet that bytes can spell.
-use Rattle.std.proofs.Common.{◌≡◌, ◌∙◌, refl, sym, subst, ap, ℕ, ◌==◌, if◌then◌else◌, List, take, drop}
+use Rattle.std.proofs.Common.{◌≡◌, ◌∙◌, refl, sym, subst, ap, ℕ, List, take, drop}
 use Rattle.async_packet.specs.Packet.{Packet, write_quadlet, write_block, write_response, read_quadlet, read_block, read_quadlet_response, read_block_response, lock, lock_response}
-use Rattle.async_packet.specs.Fields.{tcode_of, header_of, offset_of, rcode_of, value_of, length_of, extended_of}
+use Rattle.async_packet.specs.Fields.{tcode_of}
+use Rattle.async_packet.specs.Reading.{payload_in, packet_in}
 use Rattle.async_packet.specs.Spells.{HasPayload, Spells, SpellsOnce}
-
-abbrev payload_in : List ℕ → List ℕ
-payload_in bytes = take (length_of bytes) (drop 16 bytes)
-
--- the packet that bytes of this tcode spell, if they spell one
-abbrev packet_in : List ℕ → ℕ → Packet
-packet_in bytes tcode =
-    if tcode == 0 then write_quadlet (header_of bytes) (offset_of bytes) (value_of bytes)
-    else if tcode == 1 then write_block (header_of bytes) (offset_of bytes) (payload_in bytes)
-    else if tcode == 2 then write_response (header_of bytes) (rcode_of bytes)
-    else if tcode == 4 then read_quadlet (header_of bytes) (offset_of bytes)
-    else if tcode == 5 then read_block (header_of bytes) (offset_of bytes) (length_of bytes)
-    else if tcode == 6 then read_quadlet_response (header_of bytes) (rcode_of bytes) (value_of bytes)
-    else if tcode == 7 then read_block_response (header_of bytes) (rcode_of bytes) (payload_in bytes)
-    else if tcode == 9 then lock (header_of bytes) (offset_of bytes) (extended_of bytes) (payload_in bytes)
-    else lock_response (header_of bytes) (rcode_of bytes) (extended_of bytes) (payload_in bytes)
 
 payload_is : (bytes payload : List ℕ) → HasPayload bytes payload → payload ≡ payload_in bytes
 payload_is bytes payload h = h.here ∙ ap (λ (n : ℕ). take n (drop 16 bytes)) h.long

@@ -4,3 +4,4 @@ pub mod Spells
 pub mod Canon
 pub mod Faults
 pub mod Labels
+pub mod Reading

@@ -13,7 +13,7 @@ mod writing;
 pub use fault::PacketFault;
 pub use label::Label;
 pub use packet::{Header, PacketRef};
-pub use reading::{decode, decodes_back, spells_once};
+pub use reading::{decode, decodes_back, reads_spelling, spells_once};
 pub use validity::{encoded_len, is_valid};
 pub use writing::{canon_has_length, canon_spells, encode_into};
 

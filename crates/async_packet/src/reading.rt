@@ -3,6 +3,7 @@ ghost use Rattle.async_packet.specs.Packet.{Packet, view};
 ghost use Rattle.async_packet.specs.Fields.{tcode_of, length_of, extended_of, padded, largest, is_extended, is_request_length, is_response_length};
 ghost use Rattle.async_packet.specs.Canon.{DecodesBack};
 ghost use Rattle.async_packet.specs.Faults.{fault_of};
+ghost use Rattle.async_packet.specs.Reading.{ReadsSpelling, reading, viewed};
 ghost use Rattle.async_packet.specs.Spells.{Spells, SpellsOnce};
 
 use crate::fault::PacketFault;
@@ -18,6 +19,7 @@ pub fn decode(bytes: &[u8]) -> Result<PacketRef<'_>, PacketFault>
     ensures spelled { IfOk result (λ p. Spells bytes.now (view p)) }
     ensures only { (p : Packet) → Spells bytes.now p → IsOkAnd result (λ q. view q ≡ p) }
     ensures fault { IfErr result (λ f. fault_of bytes.now ≡ Some f) }
+    ensures reading { reading bytes.now ≡ viewed result }
 {
     match judge(bytes) {
         Some(fault) => Err(fault),
@@ -33,6 +35,11 @@ pub fn spells_once()
 /// The law that reading a valid packet's canonical spelling gives the packet.
 pub fn decodes_back()
     ensures { DecodesBack }
+{}
+
+/// The law that what bytes are, as a function of them, is the packet that they spell or their fault.
+pub fn reads_spelling()
+    ensures { ReadsSpelling }
 {}
 
 /// The packet of bytes that have no fault.
