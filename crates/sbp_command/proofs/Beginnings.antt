@@ -11,7 +11,7 @@ use Rattle.rbc_disk.specs.Disk.{Disk}
 use Rattle.sbp_journal.specs.Run.{empty_run}
 use Rattle.sbp_command.specs.Plain.{held, empty_list, Stands}
 use Rattle.sbp_command.specs.Headline.{Outside, outside, UsageEnds, usage}
-use Rattle.sbp_command.specs.Session.{WritesFront, SessionState, InRun}
+use Rattle.sbp_command.specs.Session.{WritesFront, RunState, InRun}
 use Rattle.sbp_command.specs.declared.status.Status.{Status}
 use Rattle.sbp_command.specs.declared.status.Status.TheVariants as statuses
 
@@ -36,10 +36,10 @@ empty_stands disks faults some counted = record {
   counted = counted;
 }
 
-abbrev pub empty_session : SessionState
-empty_session = record { number = 0; rest = []; list = empty_list }
+abbrev pub empty_run_state : RunState
+empty_run_state = record { number = 0; rest = []; list = empty_list }
 
-pub begins : (before : Outside) → 0 < length before.disks → 0 < length before.faults → InRun before before [] empty_session
+pub begins : (before : Outside) → 0 < length before.disks → 0 < length before.faults → InRun before before [] empty_run_state
 begins before some counted = record {
   whole = [];
   run = empty_run before.disks;

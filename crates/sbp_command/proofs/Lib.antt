@@ -1,10 +1,12 @@
 pub mod Beginnings
 pub mod LineEnds
+pub mod Listings
 pub mod Numbers
 pub mod Places
 pub mod Running
 pub mod ScriptLines
 pub mod Sessions
+pub mod Serving
 pub mod Settling
 pub mod Standing
 pub mod Writes

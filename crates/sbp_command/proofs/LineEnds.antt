@@ -27,10 +27,10 @@ lawful_run before now run list h = record {
 }
 
 -- a front of more bytes, behind bytes that are written whole
-behind_front : (old mid new : Option (List ℕ)) (first more : List ℕ) (len : ℕ) → Appends old mid first → Appends mid new (take len more) → Appends old new (take (length first + len) (first ++ more))
+pub behind_front : (old mid new : Option (List ℕ)) (first more : List ℕ) (len : ℕ) → Appends old mid first → Appends mid new (take len more) → Appends old new (take (length first + len) (first ++ more))
 behind_front old mid new first more len p q = subst (Appends old new) (sym (take-append-add first more len)) (Appends-trans old mid new first (take len more) p q)
 
-behind_whole : (old mid new : Option (List ℕ)) (first more front : List ℕ) → front ≡ more → Appends old mid first → Appends mid new front → Appends old new (first ++ more)
+pub behind_whole : (old mid new : Option (List ℕ)) (first more front : List ℕ) → front ≡ more → Appends old mid first → Appends mid new front → Appends old new (first ++ more)
 behind_whole old mid new first more front e p q = subst (λ bs. Appends old new (first ++ bs)) e (Appends-trans old mid new first front p q)
 
 -- the text with one more entry
@@ -77,7 +77,7 @@ fault_torn before now kept run number line why list mid len read stands p q = re
   written = behind_front before.written mid now.written (text_of (journal run)) (fault_text number why) len p q;
 }
 
-rose_later : (before mid now : ℕ) → before ≤ mid → Rose mid now → Rose before now
+pub rose_later : (before mid now : ℕ) → before ≤ mid → Rose mid now → Rose before now
 rose_later before mid now h r = omega arith
 
 -- the event of a line is run, and its notes are written

@@ -1,5 +1,5 @@
 -- The lines of a text that grows by pieces, and the script in them.
-use Rattle.std.proofs.Common.{◌≡◌, ◌∙◌, refl, sym, ap, ℕ, suc, ◌+◌, ◌-◌, ◌<◌, ◌==◌, ◌&&◌, ◌||◌, inl, inr, nat_lt, not, Bool, true, false, if◌then◌else◌, cond, List, [], ◌∷◌, ◌++◌, take, length, map, slice_index, Some, None, Result, Ok, Err, append_assoc, append-nil, length-append, length-take-le, add-zero, arith}
+use Rattle.std.proofs.Common.{◌≡◌, ◌∙◌, refl, sym, ap, subst, ℕ, suc, ◌+◌, ◌-◌, ◌<◌, ◌==◌, ◌&&◌, ◌||◌, inl, inr, nat_lt, not, Bool, true, false, if◌then◌else◌, cond, List, [], ◌∷◌, ◌++◌, take, length, map, slice_index, Some, None, Result, Ok, Err, append_assoc, append-nil, length-append, length-take-le, add-zero, arith}
 use Rattle.std.specs.List.{slice_split, onto_first, All}
 use Rattle.std.specs.Str.Lines.{lines, lines_of_parts, strip_carriage_return}
 use Rattle.std.proofs.lemmas.Bool.{ltb-true, lt-ltb, eqb-true, or_cases, and_parts, not-true, false≢true}
@@ -160,18 +160,31 @@ surely_long-stripped line h = stripped_cases line (slice_index line (length line
       | inr k ↦ absurd (let f : (slice_index line (length line - 1) == 13) ≡ false = not-true _ ((and_parts (nat_lt 8192 (length line)) _ k).1) in false≢true (sym f ∙ e))
     ])
 
-script_from-long_last : (n : ℕ) (line : List ℕ) (b : Bool) → is_surely_long line ≡ true → (length line == 0) ≡ b → script_from n (if b then [] else line ∷ []) ≡ record { events = []; fault = Some (n, long_fault n) }
-script_from-long_last n line true h e = absurd (omega (arith, surely_long-bytes line h, eqb-true (length line) 0 e))
-script_from-long_last n line false h e = script_from-fault n line [] (long_fault n) (reading-long n line (surely_long-bytes line h))
+-- Lines of which the first one is too long.
+pub record LongFirst (ls : List (List ℕ)) : Type 0 where
+  pub line : List ℕ
+  pub others : List (List ℕ)
+  pub is : ls ≡ line ∷ others
+  pub long : 8192 < length line
 
-script_from-long_parts : (n : ℕ) (rest : List ℕ) (ps : List (List ℕ)) → is_surely_long rest ≡ true → script_from n (lines_of_parts (onto_front rest ps)) ≡ record { events = []; fault = Some (n, long_fault n) }
-script_from-long_parts n rest [] h = script_from-long_last n rest (length rest == 0) h refl
-script_from-long_parts n rest (p ∷ []) h = script_from-long_last n (rest ++ p) (length (rest ++ p) == 0) (surely_long-append rest p h) refl
-script_from-long_parts n rest (p ∷ q ∷ ps) h = script_from-fault n (strip_carriage_return (rest ++ p)) (lines_of_parts (q ∷ ps)) (long_fault n) (reading-long n (strip_carriage_return (rest ++ p)) (surely_long-stripped (rest ++ p) (surely_long-append rest p h)))
+long_last : (line : List ℕ) (b : Bool) → is_surely_long line ≡ true → (length line == 0) ≡ b → LongFirst (if b then [] else line ∷ [])
+long_last line true h e = absurd (omega (arith, surely_long-bytes line h, eqb-true (length line) 0 e))
+long_last line false h e = record { line = line; others = []; is = refl; long = surely_long-bytes line h }
+
+long_parts : (rest : List ℕ) (ps : List (List ℕ)) → is_surely_long rest ≡ true → LongFirst (lines_of_parts (onto_front rest ps))
+long_parts rest [] h = long_last rest (length rest == 0) h refl
+long_parts rest (p ∷ []) h = long_last (rest ++ p) (length (rest ++ p) == 0) (surely_long-append rest p h) refl
+long_parts rest (p ∷ q ∷ ps) h =
+    record { line = strip_carriage_return (rest ++ p); others = lines_of_parts (q ∷ ps); is = refl; long = surely_long-stripped (rest ++ p) (surely_long-append rest p h) }
+
+pub long_first : (rest more : List ℕ) → NoFeed rest → is_surely_long rest ≡ true → LongFirst (lines (rest ++ more))
+long_first rest more f h = subst (λ ps. LongFirst (lines_of_parts ps)) (sym (parts-no_feed rest more f)) (long_parts rest (parts_of more) h)
 
 -- a line that is too long already is so whatever follows
 pub script_from-long : (n : ℕ) (rest more : List ℕ) → NoFeed rest → is_surely_long rest ≡ true → script_from n (lines (rest ++ more)) ≡ record { events = []; fault = Some (n, (if nat_lt 65536 n then TooMany else TooLong)) }
-script_from-long n rest more f h = ap (λ ps. script_from n (lines_of_parts ps)) (parts-no_feed rest more f) ∙ script_from-long_parts n rest (parts_of more) h
+script_from-long n rest more f h =
+    let first = long_first rest more f h in
+    ap (script_from n) first.is ∙ script_from-fault n first.line first.others (long_fault n) (reading-long n first.line first.long)
 
 -- the script of whole lines and what follows them
 pub script-whole : (whole more : List ℕ) → IsWhole whole → (script whole).fault ≡ None → script (whole ++ more) ≡ behind (script whole) (script_from (1 + length (lines whole)) (lines more))

@@ -5,7 +5,9 @@ use Rattle.std.specs.Io.KnownBytes.{Appends, Consumes, IsAtEnd}
 use Rattle.std.proofs.KnownBytes.{Consumes-trans}
 use Rattle.std.specs.Str.Lines.{lines, strip_carriage_return}
 use Rattle.std.proofs.Math.Seq.{take-append_seam}
+use Rattle.std.proofs.lemmas.Bool.{eqb-true}
 use Rattle.std.proofs.lemmas.List.{drop_all}
+use Rattle.sbp_base.specs.Faults.{Rose}
 use Rattle.sbp_journal.specs.Run.{Run, with_entry, journal, history, events_of}
 use Rattle.sbp_journal.specs.DiskFold.{DisksAre}
 use Rattle.sbp_journal.specs.Lawful.{Lawful}
@@ -15,25 +17,25 @@ use Rattle.sbp_journal.specs.declared.note.Note.{Note}
 use Rattle.sbp_command.specs.Plain.{PlainState, Held, held, StandsFor}
 use Rattle.sbp_command.specs.Script.{Script, script, script_from, onto_script, reading, IsWhole, is_surely_long}
 use Rattle.sbp_command.specs.Headline.{Outside, fault_text, ending, RunsOver, LeavesMedia, Torn, RunEnds}
-use Rattle.sbp_command.specs.Session.{SessionState, RanLine, Tells, LineTorn, LineFails, InRun}
+use Rattle.sbp_command.specs.Session.{RunState, RanLine, Tells, LineTorn, LineFails, InRun}
 use Rattle.sbp_command.specs.Session.Tells.{nothing, event, fault}
 use Rattle.sbp_command.specs.declared.script.LineFault.{LineFault}
 use Rattle.sbp_command.specs.declared.status.Status.{Status}
 use Rattle.sbp_command.specs.declared.status.Status.TheVariants as statuses
-use Rattle.sbp_command.proofs.LineEnds.{lawful_run}
+use Rattle.sbp_command.proofs.LineEnds.{lawful_run, rose_later}
 use Rattle.sbp_command.proofs.ScriptLines.{script-whole, lines-one_more, lines-last_some, lines-count, whole-line, script-line, script-end, script-long, reading-long, long_fault, surely_long-bytes, no_feed-append}
 
 -- the bytes that a source has left, as far as it tells them
-abbrev told : Option (List ℕ) → List ℕ
+abbrev pub told : Option (List ℕ) → List ℕ
 told None = []
 told (Some bytes) = bytes
 
-input_is : (before now : Option (List ℕ)) (bytes : List ℕ) → Consumes before now bytes → IfSome before (λ all. all ≡ bytes ++ told now)
+pub input_is : (before now : Option (List ℕ)) (bytes : List ℕ) → Consumes before now bytes → IfSome before (λ all. all ≡ bytes ++ told now)
 input_is None now bytes h = tt
 input_is (Some all) None bytes h = absurd h
 input_is (Some all) (Some left) bytes h = h
 
-told_end : (left : Option (List ℕ)) → IsAtEnd left → told left ≡ []
+pub told_end : (left : Option (List ℕ)) → IsAtEnd left → told left ≡ []
 told_end None h = refl
 told_end (Some bytes) h = h
 
@@ -155,17 +157,17 @@ line_same : (input input' : List ℕ) (events events' : List (ℕ × Event)) (nu
 line_same input input' events events' number number' line i e n l =
     subst (λ x. LineIn x events' number' line) i (subst (λ x. LineIn input x number' line) e (subst (λ x. LineIn input events x line) n l))
 
-next_number : (n m : ℕ) → n ≡ m → 1 + n ≡ m + 1
+pub next_number : (n m : ℕ) → n ≡ m → 1 + n ≡ m + 1
 next_number n m e = omega arith
 
 -- the whole input, as far as it is known
-abbrev input_of : Outside → List ℕ → List ℕ → List ℕ → List ℕ
+abbrev pub input_of : Outside → List ℕ → List ℕ → List ℕ → List ℕ
 input_of now whole rest pending = ((whole ++ rest) ++ pending) ++ told now.left
 
-feed_input : (whole rest pending more : List ℕ) → whole ++ (rest ++ 10 ∷ (pending ++ more)) ≡ ((whole ++ rest) ++ 10 ∷ pending) ++ more
+pub feed_input : (whole rest pending more : List ℕ) → whole ++ (rest ++ 10 ∷ (pending ++ more)) ≡ ((whole ++ rest) ++ 10 ∷ pending) ++ more
 feed_input whole rest pending more = simp append_assoc
 
-feed_line : (before now : Outside) (pending : List ℕ) (state : SessionState) (h : InRun before now (10 ∷ pending) state)
+feed_line : (before now : Outside) (pending : List ℕ) (state : RunState) (h : InRun before now (10 ∷ pending) state)
     → LineIn (input_of now h.whole state.rest (10 ∷ pending)) (events_of h.run) (state.number + 1) (strip_carriage_return state.rest)
 feed_line before now pending state h =
     line_same (h.whole ++ (state.rest ++ 10 ∷ (pending ++ told now.left))) _ (script h.whole).events _ (1 + length (lines h.whole)) _ (strip_carriage_return state.rest)
@@ -173,12 +175,12 @@ feed_line before now pending state h =
     (line_behind h.whole (state.rest ++ 10 ∷ (pending ++ told now.left)) (strip_carriage_return state.rest) (lines (pending ++ told now.left)) h.is_whole h.clean (lines-one_more state.rest (pending ++ told now.left) h.no_feed))
 
 -- a line with its line feed ends the run
-pub feed_fails : (status : Status) (before old new : Outside) (pending : List ℕ) (state : SessionState) (list : PlainState) (h : InRun before old (10 ∷ pending) state)
+pub feed_fails : (status : Status) (before old new : Outside) (pending : List ℕ) (state : RunState) (list : PlainState) (h : InRun before old (10 ∷ pending) state)
     → LineFails status before new h.run (state.number + 1) (strip_carriage_return state.rest) list → RunEnds status before new
 feed_fails status before old new pending state list h t =
     line_fails status before new (input_of old h.whole state.rest (10 ∷ pending)) h.run (state.number + 1) (strip_carriage_return state.rest) list (input_is before.left old.left _ h.consumed) (feed_line before old pending state h) t
 
-feed_taken : (whole rest pending : List ℕ) → (whole ++ rest) ++ 10 ∷ pending ≡ ((whole ++ (rest ++ 10 ∷ [])) ++ []) ++ pending
+pub feed_taken : (whole rest pending : List ℕ) → (whole ++ rest) ++ 10 ∷ pending ≡ ((whole ++ (rest ++ 10 ∷ [])) ++ []) ++ pending
 feed_taken whole rest pending = simp (append_assoc, append-nil)
 
 entry_events : (run : Run) (events : List (ℕ × Event)) (number here : ℕ) (happened : Event) (notes : List Note) → events_of run ≡ events → here ≡ number
@@ -186,7 +188,7 @@ entry_events : (run : Run) (events : List (ℕ × Event)) (number here : ℕ) (h
 entry_events run events number here happened notes e n = ap (λ es. es ++ (number, happened) ∷ []) e ∙ ap (λ x. events ++ (x, happened) ∷ []) (sym n)
 
 -- a line with its line feed was run
-pub feed_ok : (before old new : Outside) (pending : List ℕ) (state : SessionState) (list : PlainState) (h : InRun before old (10 ∷ pending) state) → old.left ≡ new.left → old.reads ≡ new.reads
+pub feed_ok : (before old new : Outside) (pending : List ℕ) (state : RunState) (list : PlainState) (h : InRun before old (10 ∷ pending) state) → old.left ≡ new.left → old.reads ≡ new.reads
     → RanLine before new h.run (state.number + 1) (strip_carriage_return state.rest) list → InRun before new pending (record { number = state.number + 1; rest = []; list = list })
 feed_ok before old new pending state list h same reads t =
     let number = 1 + length (lines h.whole) in
@@ -207,18 +209,17 @@ feed_ok before old new pending state list h same reads t =
     }
 
 -- the last line, without a line feed
-end_input : (before now : Outside) (state : SessionState) (h : InRun before now [] state) → IsAtEnd now.left → IfSome before.left (λ all. all ≡ h.whole ++ state.rest)
-end_input before now state h end =
-    subst (λ bytes. IfSome before.left (λ all. all ≡ bytes)) (ap (λ left. ((h.whole ++ state.rest) ++ []) ++ left) (told_end now.left end) ∙ append-nil _ ∙ append-nil _) (input_is before.left now.left _ h.consumed)
+pub end_input : (before now : Option (List ℕ)) (bytes : List ℕ) → Consumes before now (bytes ++ []) → IsAtEnd now → IfSome before (λ all. all ≡ bytes)
+end_input before now bytes h end = subst (λ bytes. IfSome before (λ all. all ≡ bytes)) (ap (λ left. (bytes ++ []) ++ left) (told_end now end) ∙ append-nil _ ∙ append-nil _) (input_is before now _ h)
 
-pub end_fails : (status : Status) (before old new : Outside) (state : SessionState) (list : PlainState) (h : InRun before old [] state) → IsAtEnd old.left → 0 < length state.rest
+pub end_fails : (status : Status) (before old new : Outside) (state : RunState) (list : PlainState) (h : InRun before old [] state) → IsAtEnd old.left → 0 < length state.rest
     → LineFails status before new h.run (state.number + 1) state.rest list → RunEnds status before new
 end_fails status before old new state list h end some t =
-    line_fails status before new (h.whole ++ state.rest) h.run (state.number + 1) state.rest list (end_input before old state h end)
+    line_fails status before new (h.whole ++ state.rest) h.run (state.number + 1) state.rest list (end_input before.left old.left (h.whole ++ state.rest) h.consumed end)
     (line_same (h.whole ++ state.rest) _ (script h.whole).events _ (1 + length (lines h.whole)) _ state.rest refl (sym h.events_are) (next_number _ _ h.lines_are)
     (line_behind h.whole state.rest state.rest [] h.is_whole h.clean (lines-last_some state.rest h.no_feed some))) t
 
-pub end_ok : (before old new : Outside) (state : SessionState) (list : PlainState) (h : InRun before old [] state) → old.left ≡ new.left → IsAtEnd old.left → 0 < length state.rest
+pub end_ok : (before old new : Outside) (state : RunState) (list : PlainState) (h : InRun before old [] state) → old.left ≡ new.left → IsAtEnd old.left → 0 < length state.rest
     → RanLine before new h.run (state.number + 1) state.rest list → RunEnds statuses.Done before new
 end_ok before old new state list h same end some t =
     let number = 1 + length (lines h.whole) in
@@ -230,7 +231,7 @@ end_ok before old new state list h same end some t =
       record {
         input = h.whole ++ state.rest;
         run = run;
-        told = end_input before old state h end;
+        told = end_input before.left old.left (h.whole ++ state.rest) h.consumed end;
         fault_is = ap (λ s. s.fault) found;
         over = over before (held new.disks new.faults) run list (script (h.whole ++ state.rest)).events t.so_far.stands
             (entry_events h.run (script h.whole).events (state.number + 1) number t.event t.notes h.events_are here ∙ sym (ap (λ s. s.events) found));
@@ -239,11 +240,26 @@ end_ok before old new state list h same end some t =
       },
     )
 
+-- there is no last line without a line feed
+pub end_none : (before now : Outside) (state : RunState) (h : InRun before now [] state) → IsAtEnd now.left → state.rest ≡ [] → RunEnds statuses.Done before now
+end_none before now state h end none = (
+  end,
+  record {
+    input = h.whole;
+    run = h.run;
+    told = subst (λ bytes. IfSome before.left (λ all. all ≡ bytes)) (ap (λ r. h.whole ++ r) none ∙ append-nil h.whole) (end_input before.left now.left (h.whole ++ state.rest) h.consumed end);
+    fault_is = h.clean;
+    over = over before (held now.disks now.faults) h.run state.list (script h.whole).events h.so_far.stands h.events_are;
+    written = subst (Appends before.written now.written) (sym (append-nil (text_of (journal h.run)))) h.so_far.written;
+    media = leaves before now h.run state.list h.so_far.stands;
+  },
+)
+
 -- the run stops behind its whole lines
-stop_input : (whole rest pending more : List ℕ) → whole ++ (rest ++ (pending ++ more)) ≡ ((whole ++ rest) ++ pending) ++ more
+pub stop_input : (whole rest pending more : List ℕ) → whole ++ (rest ++ (pending ++ more)) ≡ ((whole ++ rest) ++ pending) ++ more
 stop_input whole rest pending more = simp append_assoc
 
-pub stops : (before now : Outside) (pending : List ℕ) (state : SessionState) → InRun before now pending state → Torn before now
+pub stops : (before now : Outside) (pending : List ℕ) (state : RunState) → InRun before now pending state → Torn before now
 stops before now pending state h =
     let rest = state.rest ++ (pending ++ told now.left) in
     let all : (script (input_of now h.whole state.rest pending)).events ≡ events_of h.run ++ (script_from (1 + length (lines h.whole)) (lines rest)).events
@@ -262,13 +278,13 @@ stops before now pending state h =
     }
 
 -- one more byte of the rest
-push_taken : (whole rest pending : List ℕ) (byte : ℕ) → (whole ++ rest) ++ byte ∷ pending ≡ (whole ++ (rest ++ byte ∷ [])) ++ pending
+pub push_taken : (whole rest pending : List ℕ) (byte : ℕ) → (whole ++ rest) ++ byte ∷ pending ≡ (whole ++ (rest ++ byte ∷ [])) ++ pending
 push_taken whole rest pending byte = simp append_assoc
 
-no_feed_byte : (byte : ℕ) → byte ≢ 10 → (byte == 10) ≡ false
+pub no_feed_byte : (byte : ℕ) → byte ≢ 10 → (byte == 10) ≡ false
 no_feed_byte byte h = grind arith
 
-pub push_ok : (before now : Outside) (pending : List ℕ) (state : SessionState) (byte : ℕ) → byte ≢ 10 → InRun before now (byte ∷ pending) state
+pub push_ok : (before now : Outside) (pending : List ℕ) (state : RunState) (byte : ℕ) → byte ≢ 10 → InRun before now (byte ∷ pending) state
     → InRun before now pending (record { number = state.number; rest = state.rest ++ byte ∷ []; list = state.list })
 push_ok before now pending state byte other h = record {
   whole = h.whole;
@@ -284,10 +300,10 @@ push_ok before now pending state byte other h = record {
 }
 
 -- a rest that is too long already is a faulty line
-long_input : (whole rest pending more : List ℕ) → (whole ++ rest) ++ (pending ++ more) ≡ ((whole ++ rest) ++ pending) ++ more
+pub long_input : (whole rest pending more : List ℕ) → (whole ++ rest) ++ (pending ++ more) ≡ ((whole ++ rest) ++ pending) ++ more
 long_input whole rest pending more = simp append_assoc
 
-long_line : (before now : Outside) (pending : List ℕ) (state : SessionState) (h : InRun before now pending state) → is_surely_long state.rest ≡ true
+long_line : (before now : Outside) (pending : List ℕ) (state : RunState) (h : InRun before now pending state) → is_surely_long state.rest ≡ true
     → LineIn (input_of now h.whole state.rest pending) (events_of h.run) (state.number + 1) state.rest
 long_line before now pending state h long =
     let number = 1 + length (lines h.whole) in
@@ -298,7 +314,7 @@ long_line before now pending state h long =
     (line_head ((h.whole ++ state.rest) ++ more) (script h.whole).events number state.rest (record { events = []; fault = None }) (Err (long_fault number)) read
     (ap (λ s. s.events) found ∙ sym (append-nil (script h.whole).events)) (ap (λ s. s.fault) found))
 
-pub long_fails : (status : Status) (before old new : Outside) (pending : List ℕ) (state : SessionState) (list : PlainState) (h : InRun before old pending state) → is_surely_long state.rest ≡ true
+pub long_fails : (status : Status) (before old new : Outside) (pending : List ℕ) (state : RunState) (list : PlainState) (h : InRun before old pending state) → is_surely_long state.rest ≡ true
     → LineFails status before new h.run (state.number + 1) state.rest list → RunEnds status before new
 long_fails status before old new pending state list h long t =
     line_fails status before new (input_of old h.whole state.rest pending) h.run (state.number + 1) state.rest list (input_is before.left old.left _ h.consumed) (long_line before old pending state h long) t
@@ -307,7 +323,7 @@ pub long_is_read : (number : ℕ) (rest : List ℕ) → is_surely_long rest ≡ 
 long_is_read number rest long = reading-long number rest (surely_long-bytes rest long)
 
 -- a piece of the input was read
-pub piece_read : (before old new : Outside) (piece : List ℕ) (state : SessionState) → InRun before old [] state → Consumes old.left new.left piece → old.reads ≤ new.reads
+pub piece_read : (before old new : Outside) (piece : List ℕ) (state : RunState) → InRun before old [] state → Consumes old.left new.left piece → old.reads ≤ new.reads
     → old.written ≡ new.written → old.writes ≡ new.writes → old.disks ≡ new.disks → old.faults ≡ new.faults → InRun before new piece state
 piece_read before old new piece state h c reads e1 e2 e3 e4 = record {
   whole = h.whole;
@@ -326,6 +342,26 @@ piece_read before old new piece state h c reads e1 e2 e3 e4 = record {
   reads = omega (arith, h.reads);
 }
 
+-- the source failed behind whole lines and the rest of one
+pub read_fails : (before old new : Outside) (state : RunState) → InRun before old [] state → Consumes old.left new.left [] → old.reads ≤ new.reads → Rose old.reads new.reads
+    → old.written ≡ new.written → old.writes ≡ new.writes → old.disks ≡ new.disks → old.faults ≡ new.faults → RunEnds statuses.ReadFault before new
+read_fails before old new state h c later rose e1 e2 e3 e4 =
+    let k = piece_read before old new [] state h c later e1 e2 e3 e4 in (
+      rose_later before.reads old.reads new.reads h.reads rose,
+      record {
+        whole = k.whole;
+        rest = state.rest;
+        run = k.run;
+        consumed = subst (Consumes before.left new.left) (append-nil (k.whole ++ state.rest)) k.consumed;
+        is_whole = k.is_whole;
+        no_feed = k.no_feed;
+        fault_is = k.clean;
+        over = over before (held new.disks new.faults) k.run state.list (script k.whole).events k.so_far.stands k.events_are;
+        written = k.so_far.written;
+        media = leaves before new k.run state.list k.so_far.stands;
+      },
+    )
+
 -- ---- what a session can go on from
 
 pub short_rest : (rest : List ℕ) → is_surely_long rest ≡ false → length rest ≤ 8193
@@ -336,6 +372,10 @@ has_begun n = grind arith
 
 pub some_rest : (rest : List ℕ) (empty : Bool) → empty ≡ (length rest == 0) → empty ≡ false → 0 < length rest
 some_rest rest empty e f = grind arith
+
+pub no_rest : (rest : List ℕ) (empty : Bool) → empty ≡ (length rest == 0) → empty ≡ true → rest ≡ []
+no_rest [] empty e f = refl
+no_rest (x ∷ rest) empty e f = absurd (omega (arith, eqb-true (length (x ∷ rest)) 0 (sym e ∙ f)))
 
 -- the byte of a piece that comes next, and no byte at its end
 pub drop_here : (piece : List ℕ) (i : ℕ) → i < length piece → drop i piece ≡ get_or piece i 0 ∷ drop (i + 1) piece

@@ -10,6 +10,7 @@ use Rattle.sbp_journal.specs.Lawful.{Lawful}
 use Rattle.sbp_journal.specs.Text.{text_of}
 use Rattle.sbp_journal.specs.declared.event.Event.{Event}
 use Rattle.sbp_command.specs.Script.{Script, script, fault_number, IsWhole, NoFeed}
+use Rattle.sbp_command.specs.Listing.{Listing, listing}
 use Rattle.sbp_command.specs.declared.script.LineFault.{LineFault}
 use Rattle.sbp_command.specs.declared.status.Status.{Status}
 use Rattle.sbp_command.specs.declared.status.Status.TheVariants as statuses
@@ -97,9 +98,58 @@ RunEnds statuses.ReadFault before now = Rose before.reads now.reads × RanLines 
 RunEnds statuses.WriteFault before now = Rose before.writes now.writes × Torn before now
 RunEnds statuses.NoMemory before now = Torn before now
 
+-- The media and their counts are as they were.
+pub record KeepsMedia (before now : Outside) : Type 0 where
+  pub disks : now.disks ≡ before.disks
+  pub faults : now.faults ≡ before.faults
+
+-- The whole input, where the source tells it, was listed up to its first faulty line, and the sink gained that text, and that of
+-- the fault.
+pub record ListedInput (before now : Outside) (fault : Option (ℕ × LineFault)) : Type 0 where
+  pub input : List ℕ
+  pub told : IfSome before.left (λ bytes. bytes ≡ input)
+  pub fault_is : (listing input).fault ≡ fault
+  pub written : Appends before.written now.written ((listing input).text ++ ending fault)
+  pub media : KeepsMedia before now
+
+-- The whole lines that were read were listed, and the sink gained that text; a line without its line feed was not listed.
+pub record ListedLines (before now : Outside) : Type 0 where
+  pub whole : List ℕ
+  pub rest : List ℕ
+  pub consumed : Consumes before.left now.left (whole ++ rest)
+  pub is_whole : IsWhole whole
+  pub no_feed : NoFeed rest
+  pub fault_is : (listing whole).fault ≡ None
+  pub written : Appends before.written now.written (listing whole).text
+  pub media : KeepsMedia before now
+
+-- the text of the lines before the first faulty one, and that line's fault
+abbrev pub whole_text : Listing → List ℕ
+whole_text l = l.text ++ ending l.fault
+
+-- A front of that text was written.
+pub record TornListing (before now : Outside) : Type 0 where
+  pub input : List ℕ
+  pub len : ℕ
+  pub told : IfSome before.left (λ bytes. bytes ≡ input)
+  pub written : Appends before.written now.written (take len (whole_text (listing input)))
+  pub media : KeepsMedia before now
+
+-- the clause of `decode` by status
+abbrev pub ListingEnds : Status → Outside → Outside → Type 0
+ListingEnds statuses.Done before now = IsAtEnd now.left × ListedInput before now None
+ListingEnds statuses.Words before now = ⊥
+ListingEnds statuses.Script before now = (fault : ℕ × LineFault) × ListedInput before now (Some fault)
+ListingEnds statuses.ReadFault before now = Rose before.reads now.reads × ListedLines before now
+ListingEnds statuses.WriteFault before now = Rose before.writes now.writes × TornListing before now
+ListingEnds statuses.NoMemory before now = TornListing before now
+
 -- the words of the command line that are in the table
 abbrev pub IsRun : List (List ℕ) → Type 0
 IsRun words = words ≡ codes "run" ∷ []
+
+abbrev pub IsDecode : List (List ℕ) → Type 0
+IsDecode words = words ≡ codes "decode" ∷ []
 
 abbrev pub usage : List ℕ
 usage = codes "usage: sbp2 run | drill SEED N | decode | rom | tasks | queue" ++ 10 ∷ []

@@ -1,5 +1,5 @@
--- What the reading of a script has come to, byte by byte and line by line.
-use Rattle.std.specs.Prelude.{◌≡◌, ℕ, ◌*◌, ◌-◌, ◌≤◌, nat_lt, false, List, [], ◌++◌, length, take, Option, None, Result, Ok, Err}
+-- What the reading of lines has come to, byte by byte and line by line.
+use Rattle.std.specs.Prelude.{◌≡◌, ℕ, ◌*◌, ◌-◌, ◌≤◌, ◌<◌, nat_lt, false, List, [], ◌++◌, length, take, Option, None, Result, Ok, Err}
 use Rattle.std.specs.Io.KnownBytes.{Appends, Consumes, IsAtEnd}
 use Rattle.std.specs.Str.Lines.{lines}
 use Rattle.sbp_base.specs.Faults.{Rose}
@@ -8,25 +8,57 @@ use Rattle.sbp_journal.specs.Lawful.{Lawful}
 use Rattle.sbp_journal.specs.Text.{text_of}
 use Rattle.sbp_journal.specs.declared.event.Event.{Event}
 use Rattle.sbp_journal.specs.declared.note.Note.{Note}
-use Rattle.sbp_command.specs.Plain.{PlainState, held, StandsFor}
+use Rattle.sbp_command.specs.Plain.{PlainState, empty_list, held, StandsFor}
 use Rattle.sbp_command.specs.Script.{script, reading, IsWhole, NoFeed, is_surely_long}
-use Rattle.sbp_command.specs.Headline.{Outside, RunEnds, fault_text}
+use Rattle.sbp_command.specs.Listing.{listing, line_listing}
+use Rattle.sbp_command.specs.Headline.{Outside, RunEnds, ListingEnds, KeepsMedia, fault_text}
+use Rattle.sbp_command.specs.declared.session.Server.{Server}
+use Rattle.sbp_command.specs.declared.session.Server.TheVariants as servers
 use Rattle.sbp_command.specs.declared.script.LineFault.{LineFault}
 use Rattle.sbp_command.specs.declared.status.Status.{Status}
 use Rattle.sbp_command.specs.declared.status.Status.TheVariants as statuses
 
--- how many whole lines were read, the bytes of the line that has not ended, and the commands that wait
+-- the word of the command line that is served
+pub data Service : Type 0 where
+  serves_run : Service
+  serves_decode : Service
+
+-- how many whole lines were read, the bytes of the line that has not ended, and what serves the lines
 pub record SessionState : Type 0 where
+  pub number : ℕ
+  pub rest : List ℕ
+  pub server : Server
+
+-- the same of `run`, with the commands that wait
+pub record RunState : Type 0 where
   pub number : ℕ
   pub rest : List ℕ
   pub list : PlainState
 
--- what a reader can go on from: the lines are few and the rest is short, and the list has seen these lines
+-- The list has seen so many lines.
+pub record HasSeen (list : PlainState) (number : ℕ) : Type 0 where
+  pub begun : list.begun ≡ nat_lt 0 number
+  pub room : list.appended ≤ number
+
+-- what serves the lines has seen so many
+abbrev pub Served : Server → ℕ → Type 0
+Served (servers.Run list) number = HasSeen list number
+Served servers.Decode number = Unit {0}
+
+-- The list has room for the line of this number, which is to be run.
+pub record Awaits (list : PlainState) (number : ℕ) : Type 0 where
+  pub begun : list.begun ≡ nat_lt 1 number
+  pub room : list.appended < number
+
+abbrev pub CanServe : Server → ℕ → Type 0
+CanServe (servers.Run list) number = Awaits list number
+CanServe servers.Decode number = Unit {0}
+
+-- what a reader can go on from: the lines are few and the rest is short, and these lines were served
 pub record IsReady (state : SessionState) : Type 0 where
   pub few : state.number ≤ 65536
   pub short : is_surely_long state.rest ≡ false
-  pub begun : state.list.begun ≡ nat_lt 0 state.number
-  pub room : state.list.appended ≤ state.number
+  pub served : Served state.server state.number
 
 -- at least as many bytes as may still be read: it falls with each
 abbrev pub budget : SessionState → ℕ
@@ -99,8 +131,45 @@ abbrev pub LineEnds : {A : Type 0} → Result A Status → Outside → Outside �
 LineEnds (Ok done) before now run number line list = RanLine before now run number line list
 LineEnds (Err status) before now run number line list = LineFails status before now run number line list
 
+-- what a line brings to the sink: its text, or its fault
+abbrev pub line_text : ℕ → Result (List ℕ) LineFault → List ℕ
+line_text number (Ok text) = text
+line_text number (Err why) = fault_text number why
+
+-- how that write ended: `whole` says that all of it is written
+abbrev pub ListedBy : {A : Type 0} → Result A Status → Result (List ℕ) LineFault → Type 0 → ℕ → ℕ → Type 0
+ListedBy (Ok done) (Ok text) whole before now = whole
+ListedBy (Ok done) (Err why) whole before now = ⊥
+ListedBy (Err statuses.Script) (Ok text) whole before now = ⊥
+ListedBy (Err statuses.Script) (Err why) whole before now = whole
+ListedBy (Err statuses.WriteFault) read whole before now = Rose before now
+ListedBy (Err statuses.NoMemory) read whole before now = Unit {0}
+ListedBy (Err statuses.Done) read whole before now = ⊥
+ListedBy (Err statuses.Words) read whole before now = ⊥
+ListedBy (Err statuses.ReadFault) read whole before now = ⊥
+
+-- A front of what a line brings was written.
+pub record WritesLine {A : Type 0} (old new : Option (List ℕ)) (before now : ℕ) (result : Result A Status) (number : ℕ) (read : Result (List ℕ) LineFault) : Type 0 where
+  pub len : ℕ
+  pub written : Appends old new (take len (line_text number read))
+  pub later : before ≤ now
+  pub ends : ListedBy result read (take len (line_text number read) ≡ line_text number read) before now
+
+-- This text is written, and the media are as they were.
+pub record ListedSoFar (before now : Outside) (text : List ℕ) : Type 0 where
+  pub written : Appends before.written now.written text
+  pub writes : before.writes ≤ now.writes
+  pub media : KeepsMedia before now
+
+-- A line was served: of `run` from each run that the list stands for, of `decode` by what was written.
+abbrev pub ServesLine : {A : Type 0} → Result A Status → Outside → Outside → Outside → ℕ → List ℕ → Server → Server → Type 0
+ServesLine result before old new number line (servers.Run list) (servers.Run after) = (run : Run) → RanSoFar before old run list → LineEnds result before new run number line after
+ServesLine result before old new number line servers.Decode servers.Decode = WritesLine old.written new.written old.writes new.writes result number (line_listing number line) × KeepsMedia old new
+ServesLine result before old new number line (servers.Run list) servers.Decode = ⊥
+ServesLine result before old new number line servers.Decode (servers.Run list) = ⊥
+
 -- The whole lines that were read are run and written; behind them stand the rest of a line and the bytes that wait.
-pub record InRun (before now : Outside) (pending : List ℕ) (state : SessionState) : Type 0 where
+pub record InRun (before now : Outside) (pending : List ℕ) (state : RunState) : Type 0 where
   pub whole : List ℕ
   pub run : Run
   pub consumed : Consumes before.left now.left ((whole ++ state.rest) ++ pending)
@@ -112,12 +181,50 @@ pub record InRun (before now : Outside) (pending : List ℕ) (state : SessionSta
   pub so_far : RanSoFar before now run state.list
   pub reads : before.reads ≤ now.reads
 
--- the run goes on, or it ended
-abbrev pub GoesOn : {A : Type 0} → Result A Status → Outside → Outside → List ℕ → SessionState → Type 0
-GoesOn (Ok done) before now pending state = InRun before now pending state
-GoesOn (Err status) before now pending state = RunEnds status before now
+-- The whole lines that were read are listed; behind them stand the rest of a line and the bytes that wait.
+pub record InListing (before now : Outside) (pending : List ℕ) (number : ℕ) (rest : List ℕ) : Type 0 where
+  pub whole : List ℕ
+  pub consumed : Consumes before.left now.left ((whole ++ rest) ++ pending)
+  pub is_whole : IsWhole whole
+  pub no_feed : NoFeed rest
+  pub lines_are : length (lines whole) ≡ number
+  pub clean : (listing whole).fault ≡ None
+  pub so_far : ListedSoFar before now (listing whole).text
+  pub reads : before.reads ≤ now.reads
+
+-- where a session stands, by the word that is served
+abbrev pub StandsAt : Service → Outside → Outside → List ℕ → ℕ → List ℕ → Server → Type 0
+StandsAt serves_run before now pending number rest (servers.Run list) = InRun before now pending (record { number = number; rest = rest; list = list })
+StandsAt serves_decode before now pending number rest servers.Decode = InListing before now pending number rest
+StandsAt serves_run before now pending number rest servers.Decode = ⊥
+StandsAt serves_decode before now pending number rest (servers.Run list) = ⊥
+
+abbrev pub InSession : Service → Outside → Outside → List ℕ → SessionState → Type 0
+InSession service before now pending state = StandsAt service before now pending state.number state.rest state.server
+
+-- what serves a word
+abbrev pub Serves : Service → Server → Type 0
+Serves serves_run (servers.Run list) = list ≡ empty_list
+Serves serves_decode servers.Decode = Unit {0}
+Serves serves_run servers.Decode = ⊥
+Serves serves_decode (servers.Run list) = ⊥
+
+-- nothing waits yet
+abbrev pub IsFresh : Server → Type 0
+IsFresh (servers.Run list) = list ≡ empty_list
+IsFresh servers.Decode = Unit {0}
+
+-- how it ends
+abbrev pub Ends : Service → Status → Outside → Outside → Type 0
+Ends serves_run status before now = RunEnds status before now
+Ends serves_decode status before now = ListingEnds status before now
+
+-- the session goes on, or it ended
+abbrev pub GoesOn : {A : Type 0} → Service → Result A Status → Outside → Outside → List ℕ → SessionState → Type 0
+GoesOn service (Ok done) before now pending state = InSession service before now pending state
+GoesOn service (Err status) before now pending state = Ends service status before now
 
 -- a piece was read and taken; a piece of no bytes is the end
-abbrev pub PieceEnds : Result ℕ Status → Outside → Outside → SessionState → Type 0
-PieceEnds (Ok count) before now state = InRun before now [] state × (count ≡ 0 → IsAtEnd now.left)
-PieceEnds (Err status) before now state = RunEnds status before now
+abbrev pub PieceEnds : Service → Result ℕ Status → Outside → Outside → SessionState → Type 0
+PieceEnds service (Ok count) before now state = InSession service before now [] state × (count ≡ 0 → IsAtEnd now.left)
+PieceEnds service (Err status) before now state = Ends service status before now

@@ -1,6 +1,7 @@
 //! The top call of the program, and the lines that it reads.
 #![tactic(auto)]
 
+mod listing;
 mod plain;
 mod script;
 mod session;

@@ -12,13 +12,13 @@ use sbp_base::{Bytes, NoMemory};
 use sbp_journal::{Action, Cmd, Event};
 use std::alloc::{AllocError, Global};
 
-/// The most lines of a script.
-const LINES: u32 = 65536;
+/// The most lines of an input.
+pub(crate) const LINES: u32 = 65536;
 
 /// The most bytes of a line.
-const LINE_BYTES: usize = 8192;
+pub(crate) const LINE_BYTES: usize = 8192;
 
-/// Why a line of a script is refused.
+/// Why a line is refused.
 #[derive(Clone, Copy, Debug, PartialEq, Eq)]
 pub enum LineFault {
     /// The line's number is above 65,536.
@@ -27,6 +27,8 @@ pub enum LineFault {
     TooLong,
     /// The line is none of the forms in its place.
     NoForm,
+    /// The line's digits are odd in number, or one of them is not hexadecimal.
+    NoDigits,
 }
 
 impl LineFault {
@@ -38,11 +40,12 @@ impl LineFault {
             LineFault::TooMany => 2,
             LineFault::TooLong => 1,
             LineFault::NoForm => 10,
+            LineFault::NoDigits => 9,
         }
     }
 }
 
-/// Why a line gave no event.
+/// Why a line gave nothing.
 #[derive(Clone, Copy, Debug, PartialEq, Eq)]
 pub enum LineError {
     /// The line is refused.

@@ -1,19 +1,22 @@
-ghost use Rattle.std.specs.Prelude.{◌≡◌, ◌≢◌, ◌+◌, ◌<◌, ◌≤◌, ◌∷◌, ◌++◌, [], ℕ, List, map, length, nat_lt, true, Option, Ok, Err, IfOk, OnOk, if◌then◌else◌};
+ghost use Rattle.std.specs.Prelude.{◌≡◌, ◌≢◌, ◌+◌, ◌<◌, ◌≤◌, ◌∷◌, ◌++◌, [], ℕ, List, map, length, nat_lt, true, Option, Result, Ok, Err, IfOk, OnOk, if◌then◌else◌};
 ghost use Rattle.std.specs.Io.KnownBytes.{IsAtEnd};
 ghost use Rattle.std.specs.Str.Lines.{strip_carriage_return};
 ghost use Rattle.rbc_disk.specs.Disk.{Disk};
 ghost use Rattle.sbp_journal.specs.Run.{Run};
 ghost use Rattle.sbp_journal.specs.declared.event.Event.{Event};
 ghost use Rattle.sbp_command.specs.Plain.{PlainState, InPlace, empty_list};
-ghost use Rattle.sbp_command.specs.Headline.{Outside, outside, RunEnds};
+ghost use Rattle.sbp_command.specs.Listing.{line_listing};
+ghost use Rattle.sbp_command.specs.Headline.{Outside, outside};
 ghost use Rattle.sbp_command.specs.Script as script;
 ghost use Rattle.sbp_command.specs.declared.script.LineFault.TheVariants as line_faults;
-ghost use Rattle.sbp_command.specs.Session.{SessionState, IsReady, budget, RanSoFar, LineFails, LineEnds, InRun, GoesOn, PieceEnds};
+ghost use Rattle.sbp_command.specs.declared.session.Server.TheVariants as servers;
+ghost use Rattle.sbp_command.specs.Session.{Service, CanServe, Served, IsReady, budget, RanSoFar, LineFails, LineEnds, WritesLine, ServesLine, InSession, Ends, GoesOn, PieceEnds};
 
+use crate::listing::list_bytes;
 use crate::plain::PlainList;
-use crate::script::{LineError, LineFault, read_line};
+use crate::script::{LINES, LineError, LineFault, read_line};
 use crate::status::Status;
-use crate::write::{write_fault, write_notes};
+use crate::write::{write_all, write_fault, write_notes};
 use rbc_disk::Medium;
 use sbp_base::{Bytes, Failed, NoMemory, Sink, Source};
 use sbp_journal::{Event, Text};
@@ -23,16 +26,31 @@ use std::marker::Model;
 /// The most bytes of a line with a carriage return behind it.
 const LINE_ROOM: usize = 8193;
 
-/// The most lines of a script.
-const LINES: u32 = 65536;
+/// What serves the lines of an input.
+#[derive(Drop)]
+pub enum Server {
+    /// Their events run over the list of commands that wait.
+    Run(PlainList),
+    /// Their packets are listed.
+    Decode,
+}
 
-/// A script that is read: its whole lines so far were run.
+impl Server {
+    /// What runs a script: nothing waits.
+    pub fn run(alloc: Global) -> Result<Self, NoMemory>
+        ensures { IfOk result (λ server. server ≡ servers.Run empty_list) }
+    {
+        Ok(Server::Run(PlainList::new(alloc)?))
+    }
+}
+
+/// An input that is read: its whole lines so far were served.
 #[derive(Drop)]
 pub struct Session {
     alloc: Global,
     number: u32,
     rest: Bytes,
-    list: PlainList,
+    server: Server,
     text: Text,
 }
 
@@ -41,7 +59,7 @@ impl Model for Session {
 
     ghost Value = { SessionState };
 
-    ghost view = { λ session. record { number = session.number; rest = session.rest; list = session.list } };
+    ghost view = { λ session. record { number = session.number; rest = session.rest; server = session.server } };
 }
 
 /// Runs the event of a line, and writes its notes.
@@ -69,7 +87,8 @@ fn run_event<K: Sink>(
 
 /// Writes the fault of a line, which ends the run.
 fn tell_fault<K: Sink>(alloc: Global, number: u32, fault: LineFault, sink: &mut K) -> Status
-    ensures { (before : Outside) (left : Option (List ℕ)) (reads : ℕ) (disks : List Disk) (faults : List ℕ) (run : Run) (line : List ℕ) (list : PlainState) → script.reading number line ≡ Err fault → RanSoFar before (outside left reads (K.written sink.old) (K.faults sink.old) disks faults) run list → LineFails result before (outside left reads (K.written sink.new) (K.faults sink.new) disks faults) run number line list }
+    ensures listed { (read : Result (List ℕ) LineFault) → read ≡ Err fault → WritesLine {A = Unit {0}} (K.written sink.old) (K.written sink.new) (K.faults sink.old) (K.faults sink.new) (Err result) number read }
+    ensures run { (before : Outside) (left : Option (List ℕ)) (reads : ℕ) (disks : List Disk) (faults : List ℕ) (run : Run) (line : List ℕ) (list : PlainState) → script.reading number line ≡ Err fault → RanSoFar before (outside left reads (K.written sink.old) (K.faults sink.old) disks faults) run list → LineFails result before (outside left reads (K.written sink.new) (K.faults sink.new) disks faults) run number line list }
 {
     match write_fault(alloc, number, fault, sink) {
         Ok(()) => Status::Script,
@@ -101,6 +120,41 @@ fn run_line<K: Sink>(
         Ok(event) => run_event(alloc, event, list, text, media, sink),
         Err(LineError::Fault(fault)) => Err(tell_fault(alloc, number, fault, sink)),
         Err(LineError::NoMemory) => Err(Status::NoMemory),
+    }
+}
+
+/// Lists the packet of a line that has ended, or tells its fault.
+fn list_line<K: Sink>(alloc: Global, number: u32, line: &[u8], sink: &mut K) -> Result<(), Status>
+    ensures few { OnOk result (number ≤ 65536) }
+    ensures listed { WritesLine (K.written sink.old) (K.written sink.new) (K.faults sink.old) (K.faults sink.new) result number (line_listing number line.now) }
+{
+    match list_bytes(alloc, number, line) {
+        Ok(text) => write_all(sink, text.as_bytes()),
+        Err(LineError::Fault(fault)) => Err(tell_fault(alloc, number, fault, sink)),
+        Err(LineError::NoMemory) => Err(Status::NoMemory),
+    }
+}
+
+/// Serves a line that has ended.
+fn serve_line<K: Sink>(
+    alloc: Global,
+    number: u32,
+    line: &[u8],
+    server: &mut Server,
+    text: &mut Text,
+    media: &mut Vec<Box<dyn Medium>>,
+    sink: &mut K,
+) -> Result<(), Status>
+    requires served { CanServe server.old number }
+    requires media { 0 < length media.old.items }
+    ensures few { OnOk result (number ≤ 65536) }
+    ensures count { length media.new.items ≡ length media.old.items }
+    ensures served { OnOk result (Served server.new number) }
+    ensures ends { (before : Outside) (left : Option (List ℕ)) (reads : ℕ) → ServesLine result before (outside left reads (K.written sink.old) (K.faults sink.old) (map disk media.old.items) (map media_faults media.old.items)) (outside left reads (K.written sink.new) (K.faults sink.new) (map disk media.new.items) (map media_faults media.new.items)) number line.now server.old server.new }
+{
+    match server {
+        Server::Run(list) => run_line(alloc, number, line, list, text, media, sink),
+        Server::Decode => list_line(alloc, number, line, sink),
     }
 }
 
@@ -136,19 +190,19 @@ fn long_fault(number: u32) -> LineFault
 
 impl Session {
     /// Nothing was read.
-    pub fn new(alloc: Global) -> Result<Self, NoMemory>
-        ensures { IfOk result (λ session. session ≡ record { number = 0; rest = []; list = empty_list }) }
+    pub fn new(alloc: Global, server: Server) -> Self
+        ensures { result ≡ record { number = 0; rest = []; server = server } }
     {
-        Ok(Session {
+        Session {
             alloc,
             number: 0,
             rest: Bytes::new(alloc),
-            list: PlainList::new(alloc)?,
+            server,
             text: Text::new(alloc),
-        })
+        }
     }
 
-    /// Runs the line that a line feed ends.
+    /// Serves the line that a line feed ends.
     fn end_line<K: Sink>(
         &mut self,
         media: &mut Vec<Box<dyn Medium>>,
@@ -159,15 +213,15 @@ impl Session {
         ensures count { length media.new.items ≡ length media.old.items }
         ensures ready { OnOk result (IsReady self.new) }
         ensures budget { OnOk result (budget self.new < budget self.old) }
-        ensures told { (before : Outside) (left : Option (List ℕ)) (reads : ℕ) (pending : List ℕ) → InRun before (outside left reads (K.written sink.old) (K.faults sink.old) (map disk media.old.items) (map media_faults media.old.items)) (10 ∷ pending) self.old → GoesOn result before (outside left reads (K.written sink.new) (K.faults sink.new) (map disk media.new.items) (map media_faults media.new.items)) pending self.new }
+        ensures told { (service : Service) (before : Outside) (left : Option (List ℕ)) (reads : ℕ) (pending : List ℕ) → InSession service before (outside left reads (K.written sink.old) (K.faults sink.old) (map disk media.old.items) (map media_faults media.old.items)) (10 ∷ pending) self.old → GoesOn service result before (outside left reads (K.written sink.new) (K.faults sink.new) (map disk media.new.items) (map media_faults media.new.items)) pending self.new }
     {
         let line = without_return(self.rest.as_slice());
         let number = self.number + 1;
-        if let Err(status) = run_line(
+        if let Err(status) = serve_line(
             self.alloc,
             number,
             line,
-            &mut self.list,
+            &mut self.server,
             &mut self.text,
             media,
             sink,
@@ -183,7 +237,7 @@ impl Session {
     fn tell_long<K: Sink>(&self, sink: &mut K) -> Status
         requires few { self.now.number ≤ 65536 }
         requires long { script.is_surely_long self.now.rest ≡ true }
-        ensures { (before : Outside) (left : Option (List ℕ)) (reads : ℕ) (disks : List Disk) (faults : List ℕ) (pending : List ℕ) → InRun before (outside left reads (K.written sink.old) (K.faults sink.old) disks faults) pending self.now → RunEnds result before (outside left reads (K.written sink.new) (K.faults sink.new) disks faults) }
+        ensures { (service : Service) (before : Outside) (left : Option (List ℕ)) (reads : ℕ) (disks : List Disk) (faults : List ℕ) (pending : List ℕ) → InSession service before (outside left reads (K.written sink.old) (K.faults sink.old) disks faults) pending self.now → Ends service result before (outside left reads (K.written sink.new) (K.faults sink.new) disks faults) }
     {
         let number = self.number + 1;
         tell_fault(self.alloc, number, long_fault(number), sink)
@@ -195,7 +249,7 @@ impl Session {
         requires other { byte ≢ 10 }
         ensures ready { OnOk result (IsReady self.new) }
         ensures budget { OnOk result (budget self.new < budget self.old) }
-        ensures told { (before : Outside) (left : Option (List ℕ)) (reads : ℕ) (disks : List Disk) (faults : List ℕ) (pending : List ℕ) → InRun before (outside left reads (K.written sink.old) (K.faults sink.old) disks faults) (byte ∷ pending) self.old → GoesOn result before (outside left reads (K.written sink.new) (K.faults sink.new) disks faults) pending self.new }
+        ensures told { (service : Service) (before : Outside) (left : Option (List ℕ)) (reads : ℕ) (disks : List Disk) (faults : List ℕ) (pending : List ℕ) → InSession service before (outside left reads (K.written sink.old) (K.faults sink.old) disks faults) (byte ∷ pending) self.old → GoesOn service result before (outside left reads (K.written sink.new) (K.faults sink.new) disks faults) pending self.new }
     {
         if let Err(NoMemory) = self.rest.push(byte) {
             return Err(Status::NoMemory);
@@ -218,7 +272,7 @@ impl Session {
         ensures count { length media.new.items ≡ length media.old.items }
         ensures ready { OnOk result (IsReady self.new) }
         ensures budget { OnOk result (budget self.new < budget self.old) }
-        ensures told { (before : Outside) (left : Option (List ℕ)) (reads : ℕ) (pending : List ℕ) → InRun before (outside left reads (K.written sink.old) (K.faults sink.old) (map disk media.old.items) (map media_faults media.old.items)) (byte ∷ pending) self.old → GoesOn result before (outside left reads (K.written sink.new) (K.faults sink.new) (map disk media.new.items) (map media_faults media.new.items)) pending self.new }
+        ensures told { (service : Service) (before : Outside) (left : Option (List ℕ)) (reads : ℕ) (pending : List ℕ) → InSession service before (outside left reads (K.written sink.old) (K.faults sink.old) (map disk media.old.items) (map media_faults media.old.items)) (byte ∷ pending) self.old → GoesOn service result before (outside left reads (K.written sink.new) (K.faults sink.new) (map disk media.new.items) (map media_faults media.new.items)) pending self.new }
     {
         if byte == b'\n' {
             self.end_line(media, sink)
@@ -239,7 +293,7 @@ impl Session {
         ensures count { length media.new.items ≡ length media.old.items }
         ensures ready { OnOk result (IsReady self.new) }
         ensures budget { OnOk result (length piece.now + budget self.new ≤ budget self.old) }
-        ensures told { (before : Outside) (left : Option (List ℕ)) (reads : ℕ) → InRun before (outside left reads (K.written sink.old) (K.faults sink.old) (map disk media.old.items) (map media_faults media.old.items)) piece.now self.old → GoesOn result before (outside left reads (K.written sink.new) (K.faults sink.new) (map disk media.new.items) (map media_faults media.new.items)) [] self.new }
+        ensures told { (service : Service) (before : Outside) (left : Option (List ℕ)) (reads : ℕ) → InSession service before (outside left reads (K.written sink.old) (K.faults sink.old) (map disk media.old.items) (map media_faults media.old.items)) piece.now self.old → GoesOn service result before (outside left reads (K.written sink.new) (K.faults sink.new) (map disk media.new.items) (map media_faults media.new.items)) [] self.new }
     {
         for byte in piece {
             if let Err(status) = self.take_byte(*byte, media, sink) {
@@ -249,22 +303,22 @@ impl Session {
         Ok(())
     }
 
-    /// Runs the last line, if it has no line feed.
+    /// Serves the last line, if it has no line feed.
     fn finish<K: Sink>(&mut self, media: &mut Vec<Box<dyn Medium>>, sink: &mut K) -> Status
         requires ready { IsReady self.old }
         requires media { 0 < length media.old.items }
-        ensures { (before : Outside) (left : Option (List ℕ)) (reads : ℕ) → IsAtEnd left → InRun before (outside left reads (K.written sink.old) (K.faults sink.old) (map disk media.old.items) (map media_faults media.old.items)) [] self.old → RunEnds result before (outside left reads (K.written sink.new) (K.faults sink.new) (map disk media.new.items) (map media_faults media.new.items)) }
+        ensures { (service : Service) (before : Outside) (left : Option (List ℕ)) (reads : ℕ) → IsAtEnd left → InSession service before (outside left reads (K.written sink.old) (K.faults sink.old) (map disk media.old.items) (map media_faults media.old.items)) [] self.old → Ends service result before (outside left reads (K.written sink.new) (K.faults sink.new) (map disk media.new.items) (map media_faults media.new.items)) }
     {
         if self.rest.as_slice().is_empty() {
             return Status::Done;
         }
         let line = self.rest.as_slice();
         let number = self.number + 1;
-        if let Err(status) = run_line(
+        if let Err(status) = serve_line(
             self.alloc,
             number,
             line,
-            &mut self.list,
+            &mut self.server,
             &mut self.text,
             media,
             sink,
@@ -290,7 +344,7 @@ impl Session {
         ensures room { length room.new ≡ length room.old }
         ensures ready { OnOk result (IsReady self.new) }
         ensures budget { IfOk result (λ count. count + budget self.new ≤ budget self.old) }
-        ensures told { (before : Outside) → InRun before (outside (S.left source.old) (S.faults source.old) (K.written sink.old) (K.faults sink.old) (map disk media.old.items) (map media_faults media.old.items)) [] self.old → PieceEnds result before (outside (S.left source.new) (S.faults source.new) (K.written sink.new) (K.faults sink.new) (map disk media.new.items) (map media_faults media.new.items)) self.new }
+        ensures told { (service : Service) (before : Outside) → InSession service before (outside (S.left source.old) (S.faults source.old) (K.written sink.old) (K.faults sink.old) (map disk media.old.items) (map media_faults media.old.items)) [] self.old → PieceEnds service result before (outside (S.left source.new) (S.faults source.new) (K.written sink.new) (K.faults sink.new) (map disk media.new.items) (map media_faults media.new.items)) self.new }
     {
         match source.read(room) {
             Ok(count) => match self.take_piece(&room[..count], media, sink) {
@@ -301,7 +355,7 @@ impl Session {
         }
     }
 
-    /// Reads the whole input, by pieces that `room` holds, and runs its lines.
+    /// Reads the whole input, by pieces that `room` holds, and serves its lines.
     pub fn run<S: Source, K: Sink>(
         &mut self,
         room: &mut [u8],
@@ -312,7 +366,7 @@ impl Session {
         requires ready { IsReady self.old }
         requires room { 0 < length room.old }
         requires media { 0 < length media.old.items }
-        ensures { (before : Outside) → InRun before (outside (S.left source.old) (S.faults source.old) (K.written sink.old) (K.faults sink.old) (map disk media.old.items) (map media_faults media.old.items)) [] self.old → RunEnds result before (outside (S.left source.new) (S.faults source.new) (K.written sink.new) (K.faults sink.new) (map disk media.new.items) (map media_faults media.new.items)) }
+        ensures { (service : Service) (before : Outside) → InSession service before (outside (S.left source.old) (S.faults source.old) (K.written sink.old) (K.faults sink.old) (map disk media.old.items) (map media_faults media.old.items)) [] self.old → Ends service result before (outside (S.left source.new) (S.faults source.new) (K.written sink.new) (K.faults sink.new) (map disk media.new.items) (map media_faults media.new.items)) }
     {
         loop {
             match self.read_piece(room, media, source, sink) {

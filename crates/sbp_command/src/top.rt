@@ -1,10 +1,10 @@
 ghost use Rattle.std.specs.Prelude.{◌≡◌, ◌≤◌, ◌<◌, ℕ, List, map, length, IfOk, Option, ◌↔◌, ◌++◌, ◌∷◌, [], true};
 ghost use Rattle.std.specs.String.{string_bytes};
 ghost use Rattle.rbc_disk.specs.Disk.{Disk};
-ghost use Rattle.sbp_command.specs.Headline.{Outside, outside, RunEnds, UsageEnds, IsRun, usage};
-ghost use Rattle.sbp_command.specs.Session.{WritesFront};
+ghost use Rattle.sbp_command.specs.Headline.{outside, RunEnds, ListingEnds, UsageEnds, IsRun, IsDecode};
+ghost use Rattle.sbp_command.specs.Session.{Service, IsFresh, Serves, Ends};
 
-use crate::session::Session;
+use crate::session::{Server, Session};
 use crate::status::Status;
 use crate::write::write_all;
 use rbc_disk::Medium;
@@ -37,6 +37,35 @@ fn tell_usage<K: Sink>(sink: &mut K) -> Status
     }
 }
 
+/// Whether the words are `decode` alone.
+fn is_decode(words: &[String]) -> bool
+    ensures { result ≡ true ↔ IsDecode (map string_bytes words.now) }
+{
+    match words {
+        [word] => word.as_str() == "decode",
+        _ => false,
+    }
+}
+
+/// Reads the input and serves its lines.
+fn serve<S: Source, K: Sink>(
+    alloc: Global,
+    server: Server,
+    media: &mut Vec<Box<dyn Medium>>,
+    source: &mut S,
+    sink: &mut K,
+) -> Status
+    requires some { 1 ≤ length media.old.items }
+    requires fresh { IsFresh server }
+    ensures { (service : Service) → Serves service server → Ends service result (outside (S.left source.old) (S.faults source.old) (K.written sink.old) (K.faults sink.old) (map disk media.old.items) (map media_faults media.old.items)) (outside (S.left source.new) (S.faults source.new) (K.written sink.new) (K.faults sink.new) (map disk media.new.items) (map media_faults media.new.items)) }
+{
+    let mut session = Session::new(alloc, server);
+    let Ok(mut room) = vec![in alloc; 0u8; PIECE] else {
+        return Status::NoMemory;
+    };
+    session.run(room.as_mut_slice(), media, source, sink)
+}
+
 /// Reads a script and runs its lines.
 fn run_script<S: Source, K: Sink>(
     alloc: Global,
@@ -47,17 +76,28 @@ fn run_script<S: Source, K: Sink>(
     requires some { 1 ≤ length media.old.items }
     ensures { RunEnds result (outside (S.left source.old) (S.faults source.old) (K.written sink.old) (K.faults sink.old) (map disk media.old.items) (map media_faults media.old.items)) (outside (S.left source.new) (S.faults source.new) (K.written sink.new) (K.faults sink.new) (map disk media.new.items) (map media_faults media.new.items)) }
 {
-    let Ok(mut session) = Session::new(alloc) else {
-        return Status::NoMemory;
-    };
-    let Ok(mut room) = vec![in alloc; 0u8; PIECE] else {
-        return Status::NoMemory;
-    };
-    session.run(room.as_mut_slice(), media, source, sink)
+    match Server::run(alloc) {
+        Ok(server) => serve(alloc, server, media, source, sink),
+        Err(NoMemory) => Status::NoMemory,
+    }
+}
+
+/// Reads packets and lists them.
+fn list_packets<S: Source, K: Sink>(
+    alloc: Global,
+    media: &mut Vec<Box<dyn Medium>>,
+    source: &mut S,
+    sink: &mut K,
+) -> Status
+    requires some { 1 ≤ length media.old.items }
+    ensures { ListingEnds result (outside (S.left source.old) (S.faults source.old) (K.written sink.old) (K.faults sink.old) (map disk media.old.items) (map media_faults media.old.items)) (outside (S.left source.new) (S.faults source.new) (K.written sink.new) (K.faults sink.new) (map disk media.new.items) (map media_faults media.new.items)) }
+{
+    serve(alloc, Server::Decode, media, source, sink)
 }
 
 /// Does what the words say over one to four media: `run` reads a script from `source`, runs it, and
-/// writes the journal to `sink`. The words are read as they are.
+/// writes the journal to `sink`; `decode` reads packets in hexadecimal lines and writes their listing.
+/// The words are read as they are.
 pub fn sbp2<S: Source, K: Sink>(
     alloc: Global,
     words: &[String],
@@ -68,10 +108,13 @@ pub fn sbp2<S: Source, K: Sink>(
     requires some { 1 ≤ length media.old.items }
     requires few { length media.old.items ≤ 4 }
     ensures run { IsRun (map string_bytes words.now) → RunEnds result (outside (S.left source.old) (S.faults source.old) (K.written sink.old) (K.faults sink.old) (map disk media.old.items) (map media_faults media.old.items)) (outside (S.left source.new) (S.faults source.new) (K.written sink.new) (K.faults sink.new) (map disk media.new.items) (map media_faults media.new.items)) }
-    ensures words { ¬ IsRun (map string_bytes words.now) → UsageEnds result (outside (S.left source.old) (S.faults source.old) (K.written sink.old) (K.faults sink.old) (map disk media.old.items) (map media_faults media.old.items)) (outside (S.left source.new) (S.faults source.new) (K.written sink.new) (K.faults sink.new) (map disk media.new.items) (map media_faults media.new.items)) }
+    ensures decode { IsDecode (map string_bytes words.now) → ListingEnds result (outside (S.left source.old) (S.faults source.old) (K.written sink.old) (K.faults sink.old) (map disk media.old.items) (map media_faults media.old.items)) (outside (S.left source.new) (S.faults source.new) (K.written sink.new) (K.faults sink.new) (map disk media.new.items) (map media_faults media.new.items)) }
+    ensures words { ¬ IsRun (map string_bytes words.now) → ¬ IsDecode (map string_bytes words.now) → UsageEnds result (outside (S.left source.old) (S.faults source.old) (K.written sink.old) (K.faults sink.old) (map disk media.old.items) (map media_faults media.old.items)) (outside (S.left source.new) (S.faults source.new) (K.written sink.new) (K.faults sink.new) (map disk media.new.items) (map media_faults media.new.items)) }
 {
     if is_run(words) {
         run_script(alloc, media, source, sink)
+    } else if is_decode(words) {
+        list_packets(alloc, media, source, sink)
     } else {
         tell_usage(sink)
     }

@@ -1,16 +1,22 @@
--- The last line was run, or it ends the run.
+-- The last line was served, or it ends the session.
 use Rattle.std.proofs.Common.{refl}
-use Rattle.sbp_command.proofs.Sessions.{end_fails, end_ok, some_rest}
+use Rattle.sbp_command.proofs.Serving.{end_fails, end_ok, end_none}
+use Rattle.sbp_command.proofs.Sessions.{some_rest, no_rest}
 use Rattle.sbp_command.proofs.session.Session.finish.Goals as goal
 
-pub returns-in-Err : goal.returns-in-Err
-returns-in-Err g c = λ before left reads end h.
+pub returns-then-is_empty : goal.returns-then-is_empty
+returns-then-is_empty g c = λ service before left reads end h.
     let k = rw (← c.self.view_is) at h in
-    end_fails c.in-Err.status before _ _ _ c.run_line.new.list k end (some_rest c.self.inside.rest c.is_empty.result (rw c.as_slice.ensures at c.is_empty.ensures) c.if-is_empty.false)
-    (rw c.as_slice-line.ensures at (c.in-Err.ensures.ends before left reads k.run k.so_far))
+    end_none service before _ _ c.self.inside.rest c.self.inside.server k end (no_rest c.self.inside.rest c.is_empty.result (rw c.as_slice.ensures at c.is_empty.ensures) c.if-is_empty.true)
+
+pub returns-in-Err : goal.returns-in-Err
+returns-in-Err g c = λ service before left reads end h.
+    let k = rw (← c.self.view_is) at h in
+    end_fails service c.in-Err.status before _ _ _ c.self.inside.rest c.self.inside.server c.serve_line.new.server k end (some_rest c.self.inside.rest c.is_empty.result (rw c.as_slice.ensures at c.is_empty.ensures) c.if-is_empty.false)
+    (rw c.as_slice-line.ensures at (c.in-Err.ensures.ends before left reads))
 
 pub returns : goal.returns
-returns g c = λ before left reads end h.
+returns g c = λ service before left reads end h.
     let k = rw (← c.self.view_is) at h in
-    end_ok before _ _ _ c.run_line.new.list k refl end (some_rest c.self.inside.rest c.is_empty.result (rw c.as_slice.ensures at c.is_empty.ensures) c.if-is_empty.false)
-    (rw c.as_slice-line.ensures at (c.in_default.ensures.ends before left reads k.run k.so_far))
+    end_ok service _ before _ _ _ c.self.inside.rest c.self.inside.server c.serve_line.new.server k refl end (some_rest c.self.inside.rest c.is_empty.result (rw c.as_slice.ensures at c.is_empty.ensures) c.if-is_empty.false)
+    (rw c.as_slice-line.ensures at (c.in_default.ensures.ends before left reads))

@@ -3,17 +3,17 @@ use Rattle.std.proofs.Common.{arith}
 use Rattle.sbp_command.proofs.session.Session.run.Goals as goal
 
 pub returns-in-Ok-eq0 : goal.returns-in-Ok-eq0
-returns-in-Ok-eq0 g c = λ before h.
-    let told = c.in-Ok-eq0.ensures.told before (c.loop-self.invariant.told before h) in
-    c.finish.ensures before (g.S.Source.left c.read_piece.new.source) (g.S.Source.faults c.read_piece.new.source) (told.1 c.in-Ok-eq0.field-0-test) told.0
+returns-in-Ok-eq0 g c = λ service before h.
+    let told = c.in-Ok-eq0.ensures.told service before (c.loop-self.invariant.told service before h) in
+    c.finish.ensures service before (g.S.Source.left c.read_piece.new.source) (g.S.Source.faults c.read_piece.new.source) (told.1 c.in-Ok-eq0.field-0-test) told.0
 
 pub loop-self-preserved : goal.loop-self-preserved
 loop-self-preserved g c = record {
   ready = c.in-Ok.ensures.ready;
   room = omega (arith, c.read_piece.ensures.room);
   count = omega (arith, c.read_piece.ensures.count);
-  told = λ before h. (c.in-Ok.ensures.told before (c.loop-self.invariant.told before h)).0;
+  told = λ service before h. (c.in-Ok.ensures.told service before (c.loop-self.invariant.told service before h)).0;
 }
 
 pub returns-in-Err : goal.returns-in-Err
-returns-in-Err g c = λ before h. c.in-Err.ensures.told before (c.loop-self.invariant.told before h)
+returns-in-Err g c = λ service before h. c.in-Err.ensures.told service before (c.loop-self.invariant.told service before h)

@@ -1,11 +1,12 @@
 -- The line is refused for its length, whatever follows.
-use Rattle.std.proofs.Common.{◌+◌}
-use Rattle.sbp_command.proofs.Sessions.{long_fails, long_is_read}
+use Rattle.std.proofs.Common.{refl}
+use Rattle.sbp_command.proofs.Serving.{long_fails}
 use Rattle.sbp_command.proofs.session.Session.tell_long.Goals as goal
 
 pub returns : goal.returns
-returns g c = λ before left reads disks faults pending h.
+returns g c = λ service before left reads disks faults pending h.
     let k = rw (← c.self.view_is) at h in
     let long = rw (← c.self.view_is) at c.requires.long in
-    long_fails c.tell_fault.result before _ _ pending _ c.self.inside.list k long
-    (c.tell_fault.ensures before left reads disks faults k.run c.self.inside.rest c.self.inside.list (rw c.long_fault.ensures (long_is_read (c.self.inside.number + 1) c.self.inside.rest long)) k.so_far)
+    long_fails service c.tell_fault.result before _ _ pending c.self.inside.number c.self.inside.rest c.self.inside.server k long (record { disks = refl; faults = refl })
+    (c.tell_fault.ensures.listed _ (rw c.long_fault.ensures refl))
+    (λ run list read so_far. c.tell_fault.ensures.run before left reads disks faults run c.self.inside.rest list (rw c.long_fault.ensures read) so_far)
