@@ -7,7 +7,7 @@ use Rattle.std.proofs.lemmas.Grind.{common_steps}
 use Rattle.sbp_base.specs.Faults.{Rose, last_count}
 use Rattle.rbc_disk.specs.Disk.{Disk, disk_at, no_disk}
 use Rattle.rbc_disk.specs.PlainDisk.{after_run, is_failure}
-use Rattle.rbc_disk.specs.declared.command.Sense.{Sense}
+use Rattle.rbc_command.specs.declared.sense.Sense.{Sense}
 use Rattle.sbp_journal.specs.Terms.{Request, lists, appends, ends, runs, takes, request_at, ran_status, ended_status, unit_of, status_of, at_orb, at_list, at_initiator}
 use Rattle.sbp_journal.specs.DiskFold.{disk_of, before_run, failures, DisksAre, FailuresFit}
 use Rattle.sbp_journal.specs.Form.{HasForm, IsCheck, IsStatus, IsAnswer, IsBuffer}

@@ -2,7 +2,7 @@
 -- list; each term is a function of such names, and a note changes it at the name that the note has.
 use Rattle.std.specs.Prelude.{ℕ, suc, ◌==◌, ◌&&◌, ◌-◌, nat_lt, Bool, true, false, if◌then◌else◌, List, [], ◌∷◌, length, Option, Some, None}
 use Rattle.rbc_disk.specs.Disk.{Disk}
-use Rattle.rbc_disk.specs.declared.command.Sense.{Sense}
+use Rattle.rbc_command.specs.declared.sense.Sense.{Sense}
 use Rattle.rbc_disk.specs.declared.command.BufferPlan.{BufferPlan}
 use Rattle.sbp_journal.specs.declared.note.Note.{Note}
 use Rattle.sbp_journal.specs.declared.note.Note.TheVariants.{Begin, Append, Ran, Ended, Taken}
