@@ -37,7 +37,7 @@ command_options orb =
 abbrev pub command_quads : CommandOrb → List ℕ
 command_quads orb =
     pointer_high orb.next ∷ pointer_low orb.next
-    ∷ orb.descriptor_node * 2 ^ 16 + orb.descriptor / 2 ^ 32 ∷ orb.descriptor % 2 ^ 32
+    ∷ (orb.descriptor_node * 2 ^ 16 + orb.descriptor / 2 ^ 32) ∷ (orb.descriptor % 2 ^ 32)
     ∷ command_options orb ∷ []
 
 abbrev pub command_bytes : CommandOrb → List ℕ

@@ -20,7 +20,7 @@ read_login bytes = if nat_lt (length bytes) 16 then Err (Length 16) else Ok (log
 -- the four quadlets; the length is 16
 abbrev pub login_quads : LoginResponse → List ℕ
 login_quads response =
-    16 * 2 ^ 16 + response.login ∷ response.agent / 2 ^ 32 ∷ response.agent % 2 ^ 32 ∷ response.hold ∷ []
+    (16 * 2 ^ 16 + response.login) ∷ (response.agent / 2 ^ 32) ∷ (response.agent % 2 ^ 32) ∷ response.hold ∷ []
 
 abbrev pub login_bytes : LoginResponse → List ℕ
 login_bytes response = quad_bytes (login_quads response)

@@ -34,11 +34,11 @@ management_options orb =
 -- the eight quadlets; the node IDs of the two addresses are zero
 abbrev pub management_quads : ManagementOrb → List ℕ
 management_quads orb =
-    orb.first / 2 ^ 32 ∷ orb.first % 2 ^ 32
-    ∷ orb.second / 2 ^ 32 ∷ orb.second % 2 ^ 32
+    (orb.first / 2 ^ 32) ∷ (orb.first % 2 ^ 32)
+    ∷ (orb.second / 2 ^ 32) ∷ (orb.second % 2 ^ 32)
     ∷ management_options orb
-    ∷ orb.password_length * 2 ^ 16 + orb.response_length
-    ∷ orb.fifo / 2 ^ 32 ∷ orb.fifo % 2 ^ 32 ∷ []
+    ∷ (orb.password_length * 2 ^ 16 + orb.response_length)
+    ∷ (orb.fifo / 2 ^ 32) ∷ (orb.fifo % 2 ^ 32) ∷ []
 
 abbrev pub management_bytes : ManagementOrb → List ℕ
 management_bytes orb = quad_bytes (management_quads orb)

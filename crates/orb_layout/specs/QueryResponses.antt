@@ -12,7 +12,7 @@ query_head logins = (4 + 12 * logins) * 2 ^ 16 + 8
 -- the three quadlets of a login
 abbrev pub entry_quads : QueryEntry → List ℕ
 entry_quads entry =
-    entry.node * 2 ^ 16 + entry.login ∷ entry.eui / 2 ^ 32 ∷ entry.eui % 2 ^ 32 ∷ []
+    (entry.node * 2 ^ 16 + entry.login) ∷ (entry.eui / 2 ^ 32) ∷ (entry.eui % 2 ^ 32) ∷ []
 
 abbrev pub entries_bytes : List QueryEntry → List ℕ
 entries_bytes logins = flat_map (λ entry. quad_bytes (entry_quads entry)) logins

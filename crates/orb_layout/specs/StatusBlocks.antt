@@ -108,14 +108,18 @@ status_head block fields =
     block.src * 2 ^ 30 + fields.resp * 2 ^ 28 + fields.dead * 2 ^ 27 + fields.len * 2 ^ 24
     + fields.status * 2 ^ 16 + block.orb / 2 ^ 32
 
+-- the first quadlet of the check part
+abbrev pub sense_head : Sense → ℕ
+sense_head told = 2 * 2 ^ 24 + told.key * 2 ^ 16 + told.code * 2 ^ 8 + told.qualifier
+
 -- the quadlets of the check part
 abbrev pub check_quads : StatusKind → List ℕ
-check_quads (Check told) = 2 * 2 ^ 24 + told.key * 2 ^ 16 + told.code * 2 ^ 8 + told.qualifier ∷ 0 ∷ 0 ∷ 0 ∷ []
+check_quads (Check told) = sense_head told ∷ 0 ∷ 0 ∷ 0 ∷ []
 check_quads _ = []
 
 abbrev pub status_bytes : StatusBlock → List ℕ
 status_bytes block =
-    quad_bytes (status_head block (row_of block.kind) ∷ block.orb % 2 ^ 32 ∷ []) ++ quad_bytes (check_quads block.kind)
+    quad_bytes (status_head block (row_of block.kind) ∷ (block.orb % 2 ^ 32) ∷ []) ++ quad_bytes (check_quads block.kind)
 
 -- The values of a kind that its row has.
 abbrev pub IsKind : StatusKind → Type 0

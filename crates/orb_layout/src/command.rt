@@ -1,8 +1,9 @@
 ghost use Rattle.std.specs.Prelude.{◌≡◌, ◌≤◌, ◌++◌, length, drop};
-ghost use Rattle.orb_layout.specs.CommandOrbs.{CommandFits, read_command, command_bytes, command_orb, command_options};
+ghost use Rattle.orb_layout.specs.CommandOrbs.{CommandFits, read_command, command_bytes, command_orb, command_options, command_quads};
+ghost use Rattle.orb_layout.specs.Pointers.{quad_bytes};
 
 use crate::fault::OrbFault;
-use crate::fields::{bit_of, is_set, put_quads};
+use crate::fields::{bit_of, half, is_set, put_quads};
 use crate::pointer::{OrbPointer, high_half, low_half, offset};
 use sbp_base::{NodeId, Offset, quad_at};
 
@@ -50,7 +51,18 @@ impl CommandOrb {
         ensures written { out.new ≡ command_bytes self.now ++ drop 32 out.old }
         ensures count { result ≡ 32 }
     {
-        let node = u32::from(self.descriptor_node.raw());
+        self.put_quadlets(out);
+        out[20..32].copy_from_slice(&self.cdb);
+        32
+    }
+
+    /// Writes the five quadlets before the command block.
+    fn put_quadlets(&self, out: &mut [u8])
+        requires room { 20 ≤ length out.old }
+        requires fits { CommandFits self.now }
+        ensures { out.new ≡ quad_bytes (command_quads self.now) ++ drop 20 out.old }
+    {
+        let node = half(self.descriptor_node.raw());
         let quads = [
             self.next.high(),
             self.next.low(),
@@ -59,8 +71,6 @@ impl CommandOrb {
             self.options(),
         ];
         put_quads(out, &quads);
-        out[20..32].copy_from_slice(&self.cdb);
-        32
     }
 
     /// Quadlet 4: the bits and numbers of the request.
@@ -76,7 +86,7 @@ impl CommandOrb {
             + (u32::from(self.speed) << 24)
             + (u32::from(self.max_payload) << 20)
             + (u32::from(self.page_size) << 16)
-            + u32::from(self.data_size)
+            + half(self.data_size)
     }
 }
 

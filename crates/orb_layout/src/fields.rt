@@ -29,3 +29,33 @@ pub fn bit_of(word: bool) -> u32
 {
     if word { 1 } else { 0 }
 }
+
+/// A number of 16 bits as the low half of a quadlet.
+pub fn half(number: u16) -> u32
+    ensures value { result ≡ number }
+    ensures small { result < 2 ^ 16 }
+{
+    u32::from(number)
+}
+
+/// A number of 8 bits as the low byte of a quadlet.
+pub fn byte(number: u8) -> u32
+    ensures value { result ≡ number }
+    ensures small { result < 2 ^ 8 }
+{
+    u32::from(number)
+}
+
+/// The high half of a number of 64 bits.
+pub fn high_quad(number: u64) -> u32
+    ensures { result ≡ number / 2 ^ 32 }
+{
+    (number >> 32) as u32
+}
+
+/// The low half of a number of 64 bits.
+pub fn low_quad(number: u64) -> u32
+    ensures { result ≡ number % 2 ^ 32 }
+{
+    (number & 0xffff_ffff) as u32
+}

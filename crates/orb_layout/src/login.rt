@@ -2,7 +2,7 @@ ghost use Rattle.std.specs.Prelude.{◌≡◌, ◌≤◌, ◌++◌, length, drop
 ghost use Rattle.orb_layout.specs.LoginResponses.{read_login, login_bytes};
 
 use crate::fault::OrbFault;
-use crate::fields::put_quads;
+use crate::fields::{half, put_quads};
 use crate::pointer::{high_half, low_half, offset};
 use sbp_base::{Offset, quad_at};
 
@@ -41,10 +41,10 @@ impl LoginResponse {
         ensures count { result ≡ 16 }
     {
         let quads = [
-            (16 << 16) + u32::from(self.login),
+            (16 << 16) + half(self.login),
             high_half(self.agent),
             low_half(self.agent),
-            u32::from(self.hold),
+            half(self.hold),
         ];
         put_quads(out, &quads);
         16

@@ -2,7 +2,7 @@ ghost use Rattle.std.specs.Prelude.{◌≡◌, ◌≤◌, ◌++◌, length, drop
 ghost use Rattle.orb_layout.specs.ManagementOrbs.{ManagementFits, read_management, management_bytes, management_orb, management_options};
 
 use crate::fault::OrbFault;
-use crate::fields::{bit_of, is_set, put_quads};
+use crate::fields::{bit_of, half, high_quad, is_set, low_quad, put_quads};
 use crate::pointer::{high_half, low_half, offset};
 use sbp_base::{Offset, quad_at};
 
@@ -51,12 +51,12 @@ impl ManagementOrb {
         ensures count { result ≡ 32 }
     {
         let quads = [
-            (self.first >> 32) as u32,
-            (self.first & 0xffff_ffff) as u32,
+            high_quad(self.first),
+            low_quad(self.first),
             high_half(self.second),
             low_half(self.second),
             self.options(),
-            (u32::from(self.password_length) << 16) + u32::from(self.response_length),
+            (half(self.password_length) << 16) + half(self.response_length),
             high_half(self.fifo),
             low_half(self.fifo),
         ];
@@ -74,7 +74,7 @@ impl ManagementOrb {
             + (bit_of(self.exclusive) << 28)
             + (u32::from(self.reconnect) << 20)
             + (u32::from(self.function) << 16)
-            + u32::from(self.subject)
+            + half(self.subject)
     }
 }
 

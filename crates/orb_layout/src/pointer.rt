@@ -1,5 +1,5 @@
-ghost use Rattle.std.specs.Prelude.{◌≡◌, ◌+◌, ◌≤◌, ◌<◌, ◌^◌, length};
-ghost use Rattle.orb_layout.specs.Pointers.{offset_at, pointer_at, pointer_high, pointer_low, is_null};
+ghost use Rattle.std.specs.Prelude.{◌≡◌, ◌+◌, ◌/◌, ◌%◌, ◌≤◌, ◌<◌, ◌^◌, length};
+ghost use Rattle.orb_layout.specs.Pointers.{offset_at, pointer_at, pointer_high, pointer_low};
 
 use sbp_base::{Offset, quad_at};
 

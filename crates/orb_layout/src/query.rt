@@ -1,7 +1,8 @@
 ghost use Rattle.std.specs.Prelude.{◌≡◌, ◌≤◌, ◌+◌, ◌*◌, ◌++◌, length, drop};
-ghost use Rattle.orb_layout.specs.QueryResponses.{query_bytes, query_count, entries_bytes};
+ghost use Rattle.orb_layout.specs.QueryResponses.{query_bytes, query_count, entries_bytes, entry_quads};
+ghost use Rattle.orb_layout.specs.Pointers.{quad_bytes};
 
-use crate::fields::put_quads;
+use crate::fields::{half, high_quad, low_quad, put_quads};
 use sbp_base::{NodeId, put_quad, quad_at};
 
 /// A login in the answer to a query.
@@ -52,19 +53,27 @@ impl QueryResponse {
     }
 }
 
+/// Writes a login over the first 12 bytes. The other bytes stay.
+fn put_entry(entry: QueryEntry, out: &mut [u8])
+    requires { 12 ≤ length out.old }
+    ensures { out.new ≡ quad_bytes (entry_quads entry) ++ drop 12 out.old }
+{
+    let node = half(entry.node.raw());
+    let quads = [
+        (node << 16) + half(entry.login),
+        high_quad(entry.eui),
+        low_quad(entry.eui),
+    ];
+    put_quads(out, &quads);
+}
+
 /// Writes logins, one behind the other, over the first bytes. The other bytes stay.
 fn put_entries(logins: &[QueryEntry], out: &mut [u8])
     requires { 12 * length logins.now ≤ length out.old }
     ensures { out.new ≡ entries_bytes logins.now ++ drop (12 * length logins.now) out.old }
 {
     if let [first, rest @ ..] = logins {
-        let node = u32::from(first.node.raw());
-        let quads = [
-            (node << 16) + u32::from(first.login),
-            (first.eui >> 32) as u32,
-            (first.eui & 0xffff_ffff) as u32,
-        ];
-        put_quads(out, &quads);
+        put_entry(*first, out);
         put_entries(rest, &mut out[12..]);
     }
 }

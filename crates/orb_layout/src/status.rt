@@ -1,8 +1,9 @@
-ghost use Rattle.std.specs.Prelude.{◌≡◌, ◌≤◌, ◌<◌, ◌+◌, ◌*◌, ◌^◌, ◌++◌, Some, None, if◌then◌else◌, length, drop, true, false};
-ghost use Rattle.orb_layout.specs.StatusBlocks.{read_block, has, is_check_part, sense_of, is_among, illegal_meanings, management_meanings, management_kind, command_kind, kind_of, src_of, len_of, sbp_status_of, whole_length, row_of, status_head, status_bytes};
+ghost use Rattle.std.specs.Prelude.{◌≡◌, ◌≤◌, ◌<◌, ◌+◌, ◌*◌, ◌^◌, ◌++◌, ◌&&◌, Some, None, if◌then◌else◌, length, drop, true, false};
+ghost use Rattle.orb_layout.specs.StatusBlocks.{read_block, has, is_check_part, sense_of, is_among, illegal_meanings, management_meanings, management_kind, command_kind, kind_of, src_of, len_of, sbp_status_of, whole_length, row_of, status_head, status_bytes, check_quads, sense_head};
+ghost use Rattle.orb_layout.specs.Pointers.{quad_bytes};
 
 use crate::fault::OrbFault;
-use crate::fields::put_quads;
+use crate::fields::{byte, put_quads};
 use crate::pointer::{high_half, low_half, offset};
 use rbc_command::Sense;
 use sbp_base::{Offset, quad_at};
@@ -50,26 +51,8 @@ impl StatusBlock {
         ensures written { out.new ≡ status_bytes self.now ++ drop (length (status_bytes self.now)) out.old }
         ensures count { result ≡ length (status_bytes self.now) }
     {
-        let high = self.head();
-        let low = low_half(self.orb);
-        match self.kind {
-            StatusKind::Check(Sense {
-                key,
-                code,
-                qualifier,
-            }) => {
-                let check = (2 << 24)
-                    + (u32::from(key) << 16)
-                    + (u32::from(code) << 8)
-                    + u32::from(qualifier);
-                put_quads(out, &[high, low, check, 0, 0, 0]);
-                24
-            }
-            _ => {
-                put_quads(out, &[high, low]);
-                8
-            }
-        }
+        put_quads(out, &[self.head(), low_half(self.orb)]);
+        8 + self.kind.put_check(&mut out[8..])
     }
 
     /// Quadlet 0.
@@ -87,7 +70,7 @@ impl StatusBlock {
             + (u32::from(resp) << 28)
             + (u32::from(dead) << 27)
             + (u32::from(len) << 24)
-            + (u32::from(status) << 16)
+            + (byte(status) << 16)
             + high_half(self.orb)
     }
 }
@@ -131,6 +114,29 @@ impl StatusKind {
             StatusKind::Management(meaning) => Row::of(0, 0, 1, meaning),
         }
     }
+
+    /// Writes the check part of a check condition over the first 16 bytes, and nothing of another
+    /// kind; the answer is the number of bytes.
+    fn put_check(self, out: &mut [u8]) -> usize
+        requires { 16 ≤ length out.old }
+        ensures written { out.new ≡ quad_bytes (check_quads self) ++ drop (length (quad_bytes (check_quads self))) out.old }
+        ensures count { result ≡ length (quad_bytes (check_quads self)) }
+    {
+        match self {
+            StatusKind::Check(sense) => {
+                put_quads(out, &[sense_quad(sense), 0, 0, 0]);
+                16
+            }
+            _ => 0,
+        }
+    }
+}
+
+/// The first quadlet of the check part: status CHECK CONDITION, and the sense.
+fn sense_quad(sense: Sense) -> u32
+    ensures { result ≡ sense_head sense }
+{
+    (2 << 24) + (byte(sense.key) << 16) + (byte(sense.code) << 8) + byte(sense.qualifier)
 }
 
 /// Reads a status block, by the word whether it names a management ORB. The error is `Length` where
