@@ -67,15 +67,31 @@ record Options (q n f t s m e p d : ℕ) : Type 0 where
 
 command_of : OrbPointer → ℕ → ℕ → ℕ → Bool → Bool → ℕ → ℕ → Bool → ℕ → ℕ → List ℕ → CommandOrb
 command_of next descriptor node format notify to_initiator speed payload has_table size count cdb = record {
-  next = next; descriptor = descriptor; descriptor_node = node; format = format; notify = notify; to_initiator = to_initiator;
-  speed = speed; max_payload = payload; has_table = has_table; page_size = size; data_size = count; cdb = cdb;
+  next = next;
+  descriptor = descriptor;
+  descriptor_node = node;
+  format = format;
+  notify = notify;
+  to_initiator = to_initiator;
+  speed = speed;
+  max_payload = payload;
+  has_table = has_table;
+  page_size = size;
+  data_size = count;
+  cdb = cdb;
 }
 
 apart : (q n f t s m e p d : ℕ) → n ≤ 1 → f < 2 ^ 2 → t ≤ 1 → s < 2 ^ 3 → m < 2 ^ 4 → e ≤ 1 → p < 2 ^ 3 → d < 2 ^ 16
     → q ≡ n * 2 ^ 31 + f * 2 ^ 29 + t * 2 ^ 27 + s * 2 ^ 24 + m * 2 ^ 20 + e * 2 ^ 19 + p * 2 ^ 16 + d → Options q n f t s m e p d
 apart q n f t s m e p d hn hf ht hs hm he hp hd h = record {
-  notify = omega arith; format = omega arith; direction = omega arith; speed = omega arith;
-  payload = omega arith; table = omega arith; size = omega arith; count = omega arith;
+  notify = omega arith;
+  format = omega arith;
+  direction = omega arith;
+  speed = omega arith;
+  payload = omega arith;
+  table = omega arith;
+  size = omega arith;
+  count = omega arith;
 }
 
 pub command_back : CommandReadsBack
@@ -95,7 +111,7 @@ command_back orb rest h =
     let q16 : quad (command_bytes orb ++ rest) 16 ≡ command_options orb = omega arith in
     let o : Options (quad (command_bytes orb ++ rest) 16) (bit orb.notify) orb.format (bit orb.to_initiator) orb.speed orb.max_payload (bit orb.has_table) orb.page_size orb.data_size =
     apart (quad (command_bytes orb ++ rest) 16) (bit orb.notify) orb.format (bit orb.to_initiator) orb.speed orb.max_payload (bit orb.has_table) orb.page_size orb.data_size
-        n h.narrow.format t h.narrow.speed h.narrow.max_payload e h.narrow.page_size h.data_size q16 in
+    n h.narrow.format t h.narrow.speed h.narrow.max_payload e h.narrow.page_size h.data_size q16 in
     let notify : flag (quad (command_bytes orb ++ rest) 16) 31 ≡ orb.notify = flag_back (quad (command_bytes orb ++ rest) 16) 31 orb.notify o.notify in
     let direction : flag (quad (command_bytes orb ++ rest) 16) 27 ≡ orb.to_initiator = flag_back (quad (command_bytes orb ++ rest) 16) 27 orb.to_initiator o.direction in
     let table : flag (quad (command_bytes orb ++ rest) 16) 19 ≡ orb.has_table = flag_back (quad (command_bytes orb ++ rest) 16) 19 orb.has_table o.table in

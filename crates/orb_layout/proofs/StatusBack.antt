@@ -25,7 +25,12 @@ record Head (bytes : List ℕ) (s r d l v o : ℕ) : Type 0 where
 head_back : (s r d l v o : ℕ) (rest : List ℕ) → s < 2 → r < 2 ^ 2 → d < 2 → l < 2 ^ 3 → v < 2 ^ 8 → o < 2 ^ 48
     → Head (quad_bytes ((s * 2 ^ 30 + r * 2 ^ 28 + d * 2 ^ 27 + l * 2 ^ 24 + v * 2 ^ 16 + o / 2 ^ 32) ∷ (o % 2 ^ 32) ∷ []) ++ rest) s r d l v o
 head_back s r d l v o rest hs hr hd hl hv ho = record {
-  src = omega arith; resp = omega arith; dead = omega arith; len = omega arith; status = omega arith; orb = omega arith;
+  src = omega arith;
+  resp = omega arith;
+  dead = omega arith;
+  len = omega arith;
+  status = omega arith;
+  orb = omega arith;
 }
 
 block_of : ℕ → StatusKind → ℕ → StatusBlock
@@ -90,8 +95,13 @@ record Part (bytes : List ℕ) (k c q : ℕ) : Type 0 where
 
 part_back : (high low k c q : ℕ) → k < 16 → c < 2 ^ 8 → q < 2 ^ 8 → Part (quad_bytes (high ∷ low ∷ []) ++ quad_bytes ((2 * 2 ^ 24 + k * 2 ^ 16 + c * 2 ^ 8 + q) ∷ 0 ∷ 0 ∷ 0 ∷ [])) k c q
 part_back high low k c q hk hc hq = record {
-  first = omega arith; key = omega arith; code = omega arith; qualifier = omega arith;
-  second = refl; third = refl; fourth = refl;
+  first = omega arith;
+  key = omega arith;
+  code = omega arith;
+  qualifier = omega arith;
+  second = refl;
+  third = refl;
+  fourth = refl;
 }
 
 check_read : (bytes : List ℕ) (s k c q o : ℕ) → Head bytes s 0 0 5 0x00 o → Part bytes k c q → length bytes ≡ 24 → s < 2 → k < 16 → read_block false bytes ≡ Ok (block_of s (Check (sense k c q)) o)
@@ -106,8 +116,8 @@ unfolding block_of
 read_back s Good o small managed h place = good_read (status_bytes (block_of s Good o)) s o (head_back s 0 0 1 0 o [] small (omega arith) (omega arith) (omega arith) (omega arith) place) refl small
 read_back s (Check told) o small managed h place =
     check_read (status_bytes (block_of s (Check told) o)) s told.key told.code told.qualifier o
-        (head_back s 0 0 5 0 o (quad_bytes (check_quads (Check told))) small (omega arith) (omega arith) (omega arith) (omega arith) place)
-        (part_back _ _ told.key told.code told.qualifier h.0 h.1 h.2) refl small h.0
+    (head_back s 0 0 5 0 o (quad_bytes (check_quads (Check told))) small (omega arith) (omega arith) (omega arith) (omega arith) place)
+    (part_back _ _ told.key told.code told.qualifier h.0 h.1 h.2) refl small h.0
 read_back s Dummy o small managed h place = dummy_read (status_bytes (block_of s Dummy o)) s o (head_back s 0 0 1 0x0b o [] small (omega arith) (omega arith) (omega arith) (omega arith) place) refl small
 read_back s Aborted o small managed h place = aborted_read (status_bytes (block_of s Aborted o)) s o (head_back s 0 0 1 0x0c o [] small (omega arith) (omega arith) (omega arith) (omega arith) place) refl small
 read_back s (Illegal v) o small managed h place =
