@@ -1,17 +1,17 @@
 -- Reading what was written.
-use Rattle.std.proofs.Common.{arith, ◌≡◌, refl, sym, ◌∙◌, ap, ℕ, zero, suc, ◌+◌, ◌-◌, ◌*◌, ◌/◌, ◌%◌, ◌^◌, ◌==◌, ◌<◌, ◌≤◌, Bool, true, false, List, [], ◌∷◌, ◌++◌, length, nat_lt, Ok, Result}
-use Rattle.std.proofs.lemmas.Bool.{le-ltb, lt-ltb}
+use Rattle.std.proofs.Common.{arith, ◌≡◌, refl, sym, ◌∙◌, ap, ℕ, ◌+◌, ◌*◌, ◌/◌, ◌%◌, ◌^◌, ◌==◌, ◌<◌, ◌≤◌, Bool, true, false, List, ◌++◌, length, nat_lt, Ok}
+use Rattle.std.proofs.lemmas.Bool.{le-ltb}
 use Rattle.sbp_base.specs.Quadlets.{quad}
 use Rattle.orb_layout.specs.declared.pointer.OrbPointer.{OrbPointer}
 use Rattle.orb_layout.specs.declared.pointer.OrbPointer.TheVariants.{Null, At}
 use Rattle.orb_layout.specs.declared.login.LoginResponse.{LoginResponse}
-use Rattle.orb_layout.specs.Pointers.{bit, flag, quad_bytes, offset_at, node_at, pointer_at, pointer_high, pointer_low, IsPointer}
-use Rattle.orb_layout.specs.LoginResponses.{IsLoginResponse, login_bytes, login_response, login_quads}
-use Rattle.std.proofs.Common.{take, drop, length-append}
+use Rattle.orb_layout.specs.Pointers.{bit, flag, offset_at, node_at, pointer_at, pointer_high, pointer_low, IsPointer}
+use Rattle.orb_layout.specs.LoginResponses.{login_bytes, login_response}
+use Rattle.std.proofs.Common.{take, length-append}
 use Rattle.std.proofs.Math.Seq.{take-append_seam}
 use Rattle.std.proofs.lemmas.Bool.Decides.{nat_tests}
 use Rattle.orb_layout.specs.declared.command.CommandOrb.{CommandOrb}
-use Rattle.orb_layout.specs.CommandOrbs.{IsCommandOrb, CommandFits, command_orb, command_options, command_bytes}
+use Rattle.orb_layout.specs.CommandOrbs.{command_orb, command_options, command_bytes}
 use Rattle.orb_layout.specs.ReadBack.{LoginReadsBack, CommandReadsBack}
 
 -- Bytes that are long enough are read.

@@ -1,16 +1,15 @@
 -- Reading the status block that was written.
-use Rattle.std.proofs.Common.{arith, ◌≡◌, refl, sym, ◌∙◌, ap, ℕ, ◌+◌, ◌-◌, ◌*◌, ◌/◌, ◌%◌, ◌^◌, ◌==◌, ◌||◌, ◌<◌, ◌≤◌, Bool, true, false, List, [], ◌∷◌, ◌++◌, length, nat_lt, Ok, Result}
-use Rattle.std.proofs.lemmas.Bool.{le-ltb, lt-ltb, eqb-true}
+use Rattle.std.proofs.Common.{arith, ◌≡◌, refl, sym, ◌∙◌, ap, ℕ, ◌+◌, ◌*◌, ◌/◌, ◌%◌, ◌^◌, ◌==◌, ◌||◌, ◌<◌, Bool, true, false, List, [], ◌∷◌, ◌++◌, length, nat_lt, Ok}
+use Rattle.std.proofs.lemmas.Bool.{lt-ltb, eqb-true}
 use Rattle.std.specs.List.{AllByRecursion}
 use Rattle.std.proofs.lemmas.Bool.Decides.{nat_tests}
 use Rattle.sbp_base.specs.Quadlets.{quad}
-use Rattle.rbc_command.specs.declared.sense.Sense.{Sense}
 use Rattle.rbc_command.specs.SenseData.{sense}
 use Rattle.orb_layout.specs.declared.status.StatusBlock.{StatusBlock}
 use Rattle.orb_layout.specs.declared.status.StatusKind.{StatusKind}
 use Rattle.orb_layout.specs.declared.status.StatusKind.TheVariants.{Good, Check, Dummy, Aborted, Illegal, Failed, Management}
 use Rattle.orb_layout.specs.Pointers.{quad_bytes, offset_at}
-use Rattle.orb_layout.specs.StatusBlocks.{src_of, resp_of, dead_of, len_of, sbp_status_of, is_among, illegal_meanings, management_meanings, is_management, is_check_part, sense_of, sense_head, row_of, status_head, status_bytes, check_quads, read_block, command_kind, kind_of, IsStatusBlock, IsKind}
+use Rattle.orb_layout.specs.StatusBlocks.{src_of, resp_of, dead_of, len_of, sbp_status_of, is_among, illegal_meanings, management_meanings, is_management, status_bytes, check_quads, read_block, command_kind, IsKind}
 use Rattle.orb_layout.specs.ReadBack.{StatusReadsBack}
 
 -- The fields of quadlets 0 and 1.

@@ -1,5 +1,5 @@
 -- Status blocks, 8 to 32 bytes (NCITS 325-1998, status block; the check part is that of SCSI sense data).
-use Rattle.std.specs.Prelude.{◌≡◌, ℕ, ◌+◌, ◌*◌, ◌/◌, ◌%◌, ◌^◌, ◌<◌, ◌≤◌, ◌==◌, ◌&&◌, nat_lt, not, Bool, true, false, if◌then◌else◌, List, [], ◌∷◌, ◌++◌, length, Option, Some, None, Result, Ok, Err}
+use Rattle.std.specs.Prelude.{◌≡◌, ℕ, ◌+◌, ◌*◌, ◌/◌, ◌%◌, ◌^◌, ◌<◌, ◌==◌, ◌&&◌, nat_lt, Bool, true, false, if◌then◌else◌, List, [], ◌∷◌, ◌++◌, length, Option, Some, None, Result, Ok, Err}
 use Rattle.std.specs.List.{list_any}
 use Rattle.sbp_base.specs.Quadlets.{quad}
 use Rattle.rbc_command.specs.declared.sense.Sense.{Sense}
@@ -10,7 +10,7 @@ use Rattle.orb_layout.specs.declared.status.StatusKind.{StatusKind}
 use Rattle.orb_layout.specs.declared.status.StatusKind.TheVariants.{Good, Check, Dummy, Aborted, Illegal, Failed, Management}
 use Rattle.orb_layout.specs.declared.fault.OrbFault.{OrbFault}
 use Rattle.orb_layout.specs.declared.fault.OrbFault.TheVariants.{Length, Form}
-use Rattle.orb_layout.specs.Pointers.{bit, flag, quad_bytes, offset_at}
+use Rattle.orb_layout.specs.Pointers.{quad_bytes, offset_at}
 
 -- the fields of quadlet 0 above the ORB's offset: src, resp, dead, len and sbp_status
 abbrev pub src_of : List ℕ → ℕ

@@ -1,7 +1,6 @@
 -- A list of media, of which one is read or changed.
 use Rattle.std.proofs.Common.{◌≡◌, ℕ, ◌<◌, List, length, map, get_or, set, sym, ap, subst, ◌∙◌}
 use Rattle.std.proofs.lemmas.List.{map-set, get_or-map, get_or-set_same, length-map}
-use Rattle.std.proofs.Math.Seq.{map-set_same}
 use Rattle.rbc_disk.specs.Disk.{Disk, disk_at, no_disk}
 
 pub disk_at-map : {A : Type 0} (f : A → Disk) (xs : List A) (i : ℕ) (x : A) → i < length xs → x ≡ get_or xs i x → disk_at (map f xs) i ≡ f x

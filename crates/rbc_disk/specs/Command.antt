@@ -1,5 +1,5 @@
 -- Command blocks (SCSI block commands, READ(10) and WRITE(10)).
-use Rattle.std.specs.Prelude.{ℕ, ◌==◌, Bool, true, false, if◌then◌else◌, List, drop, slice_index, Result, Ok, Err}
+use Rattle.std.specs.Prelude.{ℕ, ◌==◌, if◌then◌else◌, List, drop, slice_index, Result, Ok, Err}
 use Rattle.byteorder.specs.Endian.{big_number}
 use Rattle.rbc_disk.specs.declared.command.Command.{Command}
 use Rattle.rbc_disk.specs.declared.command.Command.TheVariants.{Read, Write}

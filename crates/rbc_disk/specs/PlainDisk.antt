@@ -1,7 +1,6 @@
 -- What a command does to a plain disk (RBC; the checks of a command, in their order).
-use Rattle.std.specs.Prelude.{◌≡◌, ℕ, ◌+◌, ◌*◌, ◌≤◌, ◌==◌, ◌&&◌, ◌||◌, nat_lt, Bool, true, false, not, if◌then◌else◌, List, [], length, take, drop, Option, Some, None, IfSome, Result, Ok, Err}
+use Rattle.std.specs.Prelude.{◌≡◌, ℕ, ◌+◌, ◌*◌, ◌≤◌, ◌==◌, ◌&&◌, ◌||◌, nat_lt, Bool, true, false, not, if◌then◌else◌, List, [], length, Option, Some, None, Result, Ok, Err}
 use Rattle.std.specs.Option.{option_map}
-use Rattle.sbp_base.specs.Faults.{Rose}
 use Rattle.rbc_disk.specs.Disk.{Disk, blocks_at, written}
 use Rattle.rbc_command.specs.SenseData.{sense}
 use Rattle.rbc_disk.specs.Command.{command_of}

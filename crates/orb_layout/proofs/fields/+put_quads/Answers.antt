@@ -1,6 +1,5 @@
-use Rattle.std.proofs.Common.{arith, rules, refl, ◌≡◌, ◌∙◌, ap, ◌+◌, ◌-◌, ◌*◌, ◌≤◌, ◌<◌, ◌^◌, length, take, drop, get_or, List, ◌++◌, ℕ, length-drop, length-take}
+use Rattle.std.proofs.Common.{arith, refl, ◌≡◌, ◌∙◌, ap, ◌-◌, ◌*◌, length, take, drop, get_or, List, ◌++◌, ℕ, length-drop, length-take}
 use Rattle.byteorder.specs.Endian.{big_bytes}
-use Rattle.orb_layout.specs.Pointers.{quad_bytes}
 use Rattle.orb_layout.proofs.Writing.{rest_written, first_apart}
 use Rattle.orb_layout.proofs.fields.+put_quads.Goals as goal
 

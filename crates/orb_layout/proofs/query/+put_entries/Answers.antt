@@ -1,4 +1,4 @@
-use Rattle.std.proofs.Common.{arith, refl, ◌≡◌, ◌∙◌, ap, ◌+◌, ◌-◌, ◌*◌, ◌≤◌, length, take, drop, get_or, List, ◌++◌, ℕ, length-drop, length-take}
+use Rattle.std.proofs.Common.{arith, refl, ◌≡◌, ◌∙◌, ap, ◌-◌, ◌*◌, length, take, drop, get_or, List, ◌++◌, ℕ, length-drop, length-take}
 use Rattle.orb_layout.specs.Pointers.{quad_bytes}
 use Rattle.orb_layout.specs.QueryResponses.{entry_quads}
 use Rattle.orb_layout.specs.declared.query.QueryEntry.{QueryEntry}

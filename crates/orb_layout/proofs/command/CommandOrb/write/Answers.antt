@@ -1,4 +1,4 @@
-use Rattle.std.proofs.Common.{arith, refl, ◌≡◌, ◌∙◌, sym, ap, List, ◌++◌, drop, ◌≤◌, length, ℕ, append_assoc}
+use Rattle.std.proofs.Common.{refl, ◌∙◌, ap, List, ◌++◌, drop, ℕ}
 use Rattle.orb_layout.specs.Pointers.{quad_bytes}
 use Rattle.orb_layout.specs.CommandOrbs.{command_quads}
 use Rattle.orb_layout.proofs.Writing.{middle_written}
