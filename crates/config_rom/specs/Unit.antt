@@ -71,10 +71,10 @@ abbrev pub first_unit : List Entry → List Directory → Option SbpUnit
 first_unit root [] = None
 first_unit root (directory ∷ directories) = if is_unit root directory then Some (unit_of directory.entries) else first_unit root directories
 
--- the root directory is the first one
-abbrev pub root_entries : List Directory → List Entry
-root_entries [] = []
-root_entries (root ∷ directories) = root.entries
+-- the root directory is the first block
+abbrev pub root_entries : List Block → List Entry → List Entry
+root_entries [] entries = []
+root_entries (root ∷ blocks) entries = take root.length entries
 
 unfoldable pub sbp_unit_of : List Block → List Entry → Option SbpUnit
-sbp_unit_of blocks entries = first_unit (root_entries (directories blocks entries)) (directories blocks entries)
+sbp_unit_of blocks entries = first_unit (root_entries blocks entries) (directories blocks entries)

@@ -1,4 +1,5 @@
 ghost use Rattle.std.specs.Prelude.{◌≡◌, ◌<◌, ◌+◌, length};
+ghost use Rattle.config_rom.specs.Unit.{type_bits, has_key};
 ghost use Rattle.config_rom.specs.Tree.{entry_at, kind_of, names, names_kind, is_link, is_void};
 
 /// A directory or a leaf (IEEE 1212, "Directories" and "Leaves").
@@ -61,6 +62,19 @@ impl EntryKind {
             EntryKind::Directory => is_directory,
         }
     }
+
+    /// Its two bits.
+    fn bits(self) -> u16
+        ensures bits { result ≡ type_bits self }
+        ensures few { result < 4 }
+    {
+        match self {
+            EntryKind::Immediate => 0,
+            EntryKind::Csr => 1,
+            EntryKind::Leaf => 2,
+            EntryKind::Directory => 3,
+        }
+    }
 }
 
 impl Entry {
@@ -106,5 +120,13 @@ impl Entry {
         ensures { result ≡ names at is_directory self.now }
     {
         self.kind.names(is_directory) && self.target() == u64::from(at)
+    }
+
+    /// Whether type and key value together are this key byte.
+    pub(crate) fn has_key(&self, key: u8) -> bool
+        ensures { result ≡ has_key key self.now }
+    {
+        let value = self.key;
+        self.kind.bits() * 64 + u16::from(value) == u16::from(key)
     }
 }

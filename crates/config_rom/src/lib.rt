@@ -11,11 +11,11 @@ mod unit;
 
 pub use block::{Block, Entry, EntryKind};
 pub use fault::RomFault;
-pub use plan::RomPlan;
+pub use plan::{RomPlan, RomWords, make};
 pub use read::parse;
 pub use rom::Rom;
 pub use sum::sum16;
-pub use unit::SbpUnit;
+pub use unit::{SbpUnit, sbp_unit};
 
 #[cfg(test)]
 mod tests;

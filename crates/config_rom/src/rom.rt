@@ -19,9 +19,14 @@ pub struct Rom {
 impl Model for Rom {
     ghost use Rattle.config_rom.specs.Reading.{Tree};
 
+    ghost use Rattle.std.specs.Prelude.{◌<◌};
+    ghost use Rattle.std.specs.List.{All};
+
     ghost Value = { Tree };
 
     ghost view = { λ rom. record { blocks = rom.blocks.items; entries = rom.entries.items; eui = rom.eui; bus_sum_is_right = rom.bus_sum_is_right } };
+
+    ghost invariant = { λ rom. All (λ block. block.length < 256) rom.blocks.items };
 }
 
 impl Rom {
