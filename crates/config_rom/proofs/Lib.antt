@@ -1,3 +1,5 @@
 pub mod Sums
 pub mod Steps
 pub mod Makes
+pub mod Trees
+pub mod Unique

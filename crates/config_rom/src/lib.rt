@@ -3,6 +3,7 @@
 
 mod block;
 mod fault;
+mod law;
 mod plan;
 mod read;
 mod rom;
@@ -11,6 +12,7 @@ mod unit;
 
 pub use block::{Block, Entry, EntryKind};
 pub use fault::RomFault;
+pub use law::one_outcome;
 pub use plan::{RomPlan, RomWords, make};
 pub use read::parse;
 pub use rom::Rom;
