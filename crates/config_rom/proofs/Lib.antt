@@ -3,3 +3,5 @@ pub mod Steps
 pub mod Makes
 pub mod Trees
 pub mod Unique
+pub mod Sound
+pub mod Outcomes
