@@ -5,3 +5,4 @@ pub mod Trees
 pub mod Unique
 pub mod Sound
 pub mod Outcomes
+pub mod Heads

@@ -11,9 +11,3 @@ pub fn one_outcome()
     ensures either { (quads : List ℕ) (blocks : List Block) (entries : List Entry) (fault : RomFault) → RomTree quads blocks entries → FirstFault quads fault → ⊥ }
 {
 }
-
-/// temporary
-fn probe()
-    ensures { ℕ }
-{
-}

@@ -1,6 +1,6 @@
 ghost use Rattle.std.specs.Prelude.{◌≡◌, ◌<◌, ◌≤◌, ◌+◌, ◌-◌, ◌++◌, length, None, Some, Ok, OnOk, IfOk, IfErr, ◌⊎◌};
 ghost use Rattle.std.specs.List.{list_any};
-ghost use Rattle.config_rom.specs.Tree.{block_at, block_fault, root_of, entries_from, first_void, outside, length_at, names};
+ghost use Rattle.config_rom.specs.Tree.{RomTree, FirstFault, eui_of, bus_sum_is_right, block_at, block_fault, root_of, entries_from, first_void, outside, length_at, names};
 ghost use Rattle.config_rom.specs.Reading.{Tells, reading, checked_root, blocks_from, turn, add_block, is_named, lowest_beyond, beyond, nearer, with_block};
 
 use std::alloc::Global;
@@ -16,15 +16,31 @@ const NAME: u32 = 0x31333934;
 /// The fewest quadlets of a configuration ROM: the bus information block and a root header.
 const FEWEST: usize = 6;
 
-/// Steps a configuration ROM (IEEE 1212). Its blocks are the root directory and each directory or
+/// Reads a configuration ROM (IEEE 1212). Its blocks are the root directory and each directory or
 /// leaf that an entry of a read directory names. A wrong sum is told and refuses nothing.
 ///
 /// # Errors
 ///
 /// The first fault in the order of reading: `Short`, then `Name`, then those of the blocks by
 /// rising position, of each first `Outside` and then, of a directory, `Entry`; or `NoMemory`.
-#[tactic(auto, unfolding(crate::specs::Reading::reading))]
+#[tactic(auto, using(crate::proofs::Heads::parse_laws))]
 pub fn parse(alloc: Global, quads: &[u32]) -> Result<Rom, RomFault>
+    requires { length quads.now ≤ 256 }
+    // What is read is the configuration ROM of the quadlets.
+    ensures tree { IfOk result (λ rom. RomTree quads.now rom.blocks rom.entries) }
+    ensures head { IfOk result (λ rom. (rom.eui ≡ eui_of quads.now) × (rom.bus_sum_is_right ≡ bus_sum_is_right quads.now)) }
+    // Which fault it is.
+    ensures fault { IfErr result (λ fault. (fault ≡ RomFault.NoMemory) ⊎ FirstFault quads.now fault) }
+    // The same by the function that reads turn by turn.
+    ensures read { IfOk result (λ rom. reading quads.now ≡ Ok rom) }
+    ensures told { IfErr result (λ fault. Tells fault (reading quads.now)) }
+{
+    read_turns(alloc, quads)
+}
+
+/// Reads a configuration ROM turn by turn.
+#[tactic(auto, unfolding(crate::specs::Reading::reading))]
+fn read_turns(alloc: Global, quads: &[u32]) -> Result<Rom, RomFault>
     requires { length quads.now ≤ 256 }
     ensures ok { IfOk result (λ rom. reading quads.now ≡ Ok rom) }
     ensures err { IfErr result (λ fault. Tells fault (reading quads.now)) }
@@ -64,7 +80,7 @@ fn outside(at: u64) -> RomFault
 }
 
 impl Rom {
-    /// Steps all blocks from the root directory on, each in its turn.
+    /// Reads all blocks from the root directory on, each in its turn.
     #[tactic(auto, using(crate::proofs::Steps::turn_steps), unfolding(crate::specs::Reading::blocks_from))]
     fn read_blocks(&mut self, quads: &[u32], root: u16) -> Result<(), RomFault>
         requires few { length quads.now ≤ 256 }
@@ -83,7 +99,7 @@ impl Rom {
         Ok(())
     }
 
-    /// Steps the directory, or else the leaf, whose header stands at a position, if it is the root
+    /// Reads the directory, or else the leaf, whose header stands at a position, if it is the root
     /// directory or an entry read so far names it.
     #[tactic(auto, unfolding(crate::specs::Reading::turn))]
     fn turn(&mut self, quads: &[u32], root: u16, at: u16, is_directory: bool) -> Result<(), RomFault>
