@@ -6,3 +6,5 @@ pub mod Unique
 pub mod Sound
 pub mod Outcomes
 pub mod Heads
+pub mod Made
+pub mod Units

@@ -27,7 +27,7 @@ beyond-some end at entry h = by (is_link entry && nat_le end (entry.at + entry.v
         let le = leb-true _ _ behind in
         (link, omega arith, same)
 
-link-of : (kind : EntryKind) (is_directory : Bool) → names_kind kind is_directory ≡ true → (names_kind kind true || names_kind kind false) ≡ true
+pub link-of : (kind : EntryKind) (is_directory : Bool) → names_kind kind is_directory ≡ true → (names_kind kind true || names_kind kind false) ≡ true
 link-of kind true h = or_left (names_kind kind true) (names_kind kind false) h
 link-of kind false h = or_right (names_kind kind true) (names_kind kind false) h
 

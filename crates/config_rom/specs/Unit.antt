@@ -7,7 +7,7 @@ use Rattle.config_rom.specs.declared.block.Entry.{Entry}
 use Rattle.config_rom.specs.declared.block.EntryKind.{EntryKind}
 use Rattle.config_rom.specs.declared.block.EntryKind.TheVariants as kinds
 use Rattle.config_rom.specs.declared.unit.SbpUnit.{SbpUnit}
-use Rattle.config_rom.specs.Tree.{names}
+use Rattle.config_rom.specs.Tree.{names, root_of, block_at, entries_of}
 
 -- a directory and its entries
 pub record Directory : Type 0 where
@@ -78,3 +78,16 @@ root_entries (root ∷ blocks) entries = take root.length entries
 
 unfoldable pub sbp_unit_of : List Block → List Entry → Option SbpUnit
 sbp_unit_of blocks entries = first_unit (root_entries blocks entries) (directories blocks entries)
+
+-- ---- the same said of the quadlets
+
+-- an entry of the root directory names the directory as a unit, and its entries are those of SBP-2
+abbrev pub is_unit_block : List ℕ → Block → Bool
+is_unit_block quads block =
+    block.is_directory
+    && (list_any (names_unit block.at) (entries_of quads (block_at quads (root_of quads) true)) && is_sbp (entries_of quads block))
+
+-- the unit of the first such directory
+abbrev pub unit_in : List ℕ → List Block → Option SbpUnit
+unit_in quads [] = None
+unit_in quads (block ∷ blocks) = if is_unit_block quads block then Some (unit_of (entries_of quads block)) else unit_in quads blocks
