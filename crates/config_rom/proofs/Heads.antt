@@ -1,9 +1,9 @@
 -- What parse answers, said of the tree.
-use Rattle.std.proofs.Common.{◌≡◌, ◌∙◌, refl, sym, ap, subst, ℕ, zero, suc, ◌+◌, ◌-◌, ◌⊎◌, inl, inr, Bool, true, false, cond, nat_le, List, [], ◌∷◌, length, Option, Some, None, Result, Ok, Err, arith}
+use Rattle.std.proofs.Common.{◌≡◌, ◌∙◌, refl, sym, subst, ℕ, zero, suc, ◌-◌, ◌⊎◌, inl, inr, Bool, true, false, cond, nat_le, List, length, Option, Some, None, Result, Ok, Err}
 use Rattle.std.specs.Prelude.{IfOk}
 use Rattle.config_rom.specs.declared.fault.RomFault.{RomFault}
 use Rattle.config_rom.specs.declared.fault.RomFault.TheVariants as faults
-use Rattle.config_rom.specs.Tree.{eui_of, bus_sum_is_right, root_of, block_at, block_fault, outside, RomTree, FirstFault}
+use Rattle.config_rom.specs.Tree.{eui_of, bus_sum_is_right, block_fault, outside, RomTree, FirstFault}
 use Rattle.config_rom.specs.Reading.{Tree, Tells, ◌>>=◌, fresh, is_named, add_block, turn, turns, lowest_beyond, inside, checked_root, blocks_from, reading}
 use Rattle.config_rom.proofs.Outcomes.{outcome, Outcome, whole, failed}
 
@@ -32,8 +32,8 @@ turns-keep : (quads : List ℕ) (count at : ℕ) (tree : Tree) → HasHead quads
 turns-keep quads zero at tree h = h
 turns-keep quads (suc count) at tree h =
     keeps-bind quads (turn quads at true tree >>= turn quads at false) (turns quads count (suc at))
-      (keeps-bind quads (turn quads at true tree) (turn quads at false) (turn-keeps quads at true tree h) (turn-keeps quads at false))
-      (turns-keep quads count (suc at))
+    (keeps-bind quads (turn quads at true tree) (turn quads at false) (turn-keeps quads at true tree h) (turn-keeps quads at false))
+    (turns-keep quads count (suc at))
 
 from-keeps : (quads : List ℕ) (root : ℕ) (tree : Tree) → HasHead quads tree → Keeps quads (blocks_from quads root tree)
 unfolding blocks_from

@@ -1,16 +1,13 @@
 -- The configuration ROM that is made is read as it was planned.
-use Rattle.std.proofs.Common.{◌≡◌, ◌∙◌, refl, sym, ap, subst, ℕ, zero, suc, ◌+◌, ◌-◌, ◌*◌, ◌/◌, ◌%◌, ◌^◌, ◌<◌, ◌≤◌, ◌==◌, ◌⊎◌, inl, inr, Bool, true, false, cond, ◌&&◌, ◌||◌, nat_le, nat_lt, List, [], ◌∷◌, ◌++◌, length, take, drop, append-nil, slice_index, filter, Option, Some, None, Result, Ok, Err, arith}
-use Rattle.std.specs.Prelude.{IsTrue}
-use Rattle.std.proofs.lemmas.Bool.{eq-eqb, lt-leb, lt-ltb, le-leb, or_left, or_right, or_from, and_from, and_parts}
-use Rattle.config_rom.specs.declared.fault.RomFault.{RomFault}
+use Rattle.std.proofs.Common.{◌≡◌, ◌∙◌, refl, sym, ap, subst, ℕ, zero, suc, ◌+◌, ◌*◌, ◌/◌, ◌%◌, ◌^◌, ◌<◌, ◌≤◌, ◌==◌, inl, inr, Bool, true, false, cond, ◌&&◌, ◌||◌, nat_le, nat_lt, List, [], ◌∷◌, ◌++◌, length, take, drop, append-nil, slice_index, filter, Some, None, Ok, arith}
+use Rattle.std.proofs.lemmas.Bool.{eq-eqb, lt-leb, lt-ltb, or_from, and_from}
 use Rattle.config_rom.specs.declared.block.Block.{Block}
 use Rattle.config_rom.specs.declared.block.Entry.{Entry}
-use Rattle.config_rom.specs.declared.block.EntryKind.{EntryKind}
 use Rattle.config_rom.specs.declared.block.EntryKind.TheVariants as kinds
-use Rattle.config_rom.specs.Sum.{sum_of, sum_of_bits, quad_bits}
-use Rattle.config_rom.specs.Tree.{has_name, info_length, eui_of, bus_sum_is_right, root_of, kind_of, entry_at, length_at, block_at, entries_from, entries_of, names_kind, is_link, names, outside, block_fault, first_void, IsIn, turn_at, turn_of, Rises, IsNamed, RomTree, FirstFault}
+use Rattle.config_rom.specs.Sum.{sum_of, quad_bits}
+use Rattle.config_rom.specs.Tree.{has_name, info_length, eui_of, bus_sum_is_right, root_of, kind_of, entry_at, length_at, block_at, entries_from, is_link, names, outside, block_fault, first_void, IsIn, IsNamed, RomTree}
 use Rattle.config_rom.specs.Reading.{Tree, reading}
-use Rattle.config_rom.specs.Make.{bus_quads, headed, unit_quads, unit_numbers, root_quads, units_headed, made, made_blocks, made_entries, unit_entries, entry, made_unit}
+use Rattle.config_rom.specs.Make.{bus_quads, headed, unit_quads, root_quads, units_headed, made, made_blocks, made_entries, unit_entries, entry, made_unit}
 use Rattle.config_rom.specs.Unit.{sbp_unit_of}
 use Rattle.config_rom.proofs.Sums.{sum_lt}
 use Rattle.config_rom.proofs.Trees.{names-target}
@@ -81,12 +78,15 @@ root-alone quads m own q none = record {
     stands : (b : Block) → IsIn b (right 5 m ∷ []) → b ≡ block_at quads b.at b.is_directory
     stands b (inl e) = let P : Block → Type 0 = λ c. c ≡ block_at quads c.at c.is_directory in subst P (sym e) (sym q.block)
     stands b (inr h) = absurd h
+
     sound : (b : Block) → IsIn b (right 5 m ∷ []) → block_fault quads b.at b.is_directory ≡ None
     sound b (inl e) = let P : Block → Type 0 = λ c. block_fault quads c.at c.is_directory ≡ None in subst P (sym e) q.sound
     sound b (inr h) = absurd h
+
     only : (b : Block) → IsIn b (right 5 m ∷ []) → IsNamed quads own b.at b.is_directory
     only b (inl e) = let P : Block → Type 0 = λ c. IsNamed quads own c.at c.is_directory in subst P (sym e) (inl (sym q.root, refl))
     only b (inr h) = absurd h
+
     each : (at : ℕ) (d : Bool) → IsNamed quads own at d → IsIn (block_at quads at d) (right 5 m ∷ [])
     each at d (inl (e, f)) = inl (ap (λ n. block_at quads n d) (e ∙ q.root) ∙ ap (block_at quads 5) f ∙ q.block)
     each at d (inr (found, here, n)) =
@@ -116,18 +116,22 @@ root-and-unit quads m n first second q u one here = record {
     stands b (inl e) = let P : Block → Type 0 = λ c. c ≡ block_at quads c.at c.is_directory in subst P (sym e) (sym q.block)
     stands b (inr (inl e)) = let P : Block → Type 0 = λ c. c ≡ block_at quads c.at c.is_directory in subst P (sym e) (sym u.block)
     stands b (inr (inr h)) = absurd h
+
     sound : (b : Block) → IsIn b (right 5 m ∷ right 9 n ∷ []) → block_fault quads b.at b.is_directory ≡ None
     sound b (inl e) = let P : Block → Type 0 = λ c. block_fault quads c.at c.is_directory ≡ None in subst P (sym e) q.sound
     sound b (inr (inl e)) = let P : Block → Type 0 = λ c. block_fault quads c.at c.is_directory ≡ None in subst P (sym e) u.sound
     sound b (inr (inr h)) = absurd h
+
     only : (b : Block) → IsIn b (right 5 m ∷ right 9 n ∷ []) → IsNamed quads (first ++ second) b.at b.is_directory
     only b (inl e) = let P : Block → Type 0 = λ c. IsNamed quads (first ++ second) c.at c.is_directory in subst P (sym e) (inl (sym q.root, refl))
     only b (inr (inl e)) = let P : Block → Type 0 = λ c. IsNamed quads (first ++ second) c.at c.is_directory in subst P (sym e) (inr (unit_entry, here, refl))
     only b (inr (inr h)) = absurd h
+
     unit_named : (at : ℕ) (d : Bool) → names at d unit_entry ≡ true → IsIn (block_at quads at d) (right 5 m ∷ right 9 n ∷ [])
     unit_named at d k =
         let (kind, target) = names-target at d unit_entry k in
         inr (inl (ap (λ x. block_at quads x d) (sym target) ∙ ap (block_at quads 9) kind ∙ u.block))
+
     each : (at : ℕ) (d : Bool) → IsNamed quads (first ++ second) at d → IsIn (block_at quads at d) (right 5 m ∷ right 9 n ∷ [])
     each at d (inl (e, f)) = inl (ap (λ x. block_at quads x d) (e ∙ q.root) ∙ ap (block_at quads 5) f ∙ q.block)
     each at d (inr (found, there, k)) =
@@ -185,10 +189,11 @@ head-is eui rest l =
     let s = sum_of_lt (bus_quads eui) in
     let covered : first_quad eui / 2 ^ 16 % 2 ^ 8 ≡ 4 = omega arith in
     let sum : first_quad eui % 2 ^ 16 ≡ sum_of (bus_quads eui) = omega arith in
-    let quads = first_quad eui ∷ 0x31333934 ∷ 0 ∷ eui / 2 ^ 32 ∷ eui % 2 ^ 32 ∷ rest in
-    (omega arith,
-     ap (λ k. nat_lt k (length quads) && (sum_of (take k (drop 1 quads)) == first_quad eui % 2 ^ 16)) covered
-     ∙ and_from (nat_lt 4 (length quads)) (sum_of (bus_quads eui) == first_quad eui % 2 ^ 16) (lt-ltb 4 (length quads) (omega arith)) (eq-eqb _ _ (sym sum)))
+    let quads = first_quad eui ∷ 0x31333934 ∷ 0 ∷ eui / 2 ^ 32 ∷ eui % 2 ^ 32 ∷ rest in (
+      omega arith,
+      ap (λ k. nat_lt k (length quads) && (sum_of (take k (drop 1 quads)) == first_quad eui % 2 ^ 16)) covered
+          ∙ and_from (nat_lt 4 (length quads)) (sum_of (bus_quads eui) == first_quad eui % 2 ^ 16) (lt-ltb 4 (length quads) (omega arith)) (eq-eqb _ _ (sym sum)),
+    )
 
 top_lt : (eui : ℕ) → eui < 2 ^ 64 → eui / 2 ^ 40 < 2 ^ 24
 top_lt eui l = omega arith

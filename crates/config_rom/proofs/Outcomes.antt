@@ -1,17 +1,15 @@
 -- The whole reading gives the configuration ROM, or the first fault.
-use Rattle.std.proofs.Common.{◌≡◌, ◌∙◌, refl, sym, ap, subst, ℕ, zero, suc, ◌+◌, ◌-◌, ◌*◌, ◌<◌, ◌≤◌, ◌⊎◌, inl, inr, Bool, true, false, cond, ◌&&◌, ◌||◌, nat_le, nat_lt, List, [], ◌∷◌, length, Option, Some, None, Result, Ok, Err, arith}
-use Rattle.std.specs.Prelude.{IsTrue, IfOk, min, not}
+use Rattle.std.proofs.Common.{◌≡◌, ◌∙◌, refl, sym, ap, subst, ℕ, ◌+◌, ◌-◌, ◌*◌, ◌<◌, ◌≤◌, ◌⊎◌, inl, inr, Bool, true, false, cond, ◌&&◌, ◌||◌, nat_le, nat_lt, List, [], ◌∷◌, length, Option, Some, None, Result, Ok, Err, arith}
+use Rattle.std.specs.Prelude.{min, not}
 use Rattle.std.specs.List.{list_any}
-use Rattle.std.proofs.lemmas.Bool.{eqb-true, eq-eqb, leb-true, leb-false, le-leb, ltb-true, ltb-false, not-true, not-false, and_parts, and_from, or_cases, or_parts, or_left, or_right, cases_lt, cases_Bool, cases_order, both_ways}
+use Rattle.std.proofs.lemmas.Bool.{eq-eqb, leb-true, leb-false, le-leb, ltb-true, ltb-false, and_parts, and_from, or_cases, or_left, or_right, cases_lt, cases_order, both_ways}
 use Rattle.config_rom.specs.declared.fault.RomFault.{RomFault}
 use Rattle.config_rom.specs.declared.fault.RomFault.TheVariants as faults
-use Rattle.config_rom.specs.declared.block.Block.{Block}
 use Rattle.config_rom.specs.declared.block.Entry.{Entry}
 use Rattle.config_rom.specs.declared.block.EntryKind.{EntryKind}
-use Rattle.config_rom.specs.Tree.{has_name, eui_of, bus_sum_is_right, root_of, length_at, block_at, entries_of, names_kind, is_link, is_void, names, outside, block_fault, first_void, IsIn, turn_at, turn_of, IsNamed, TreeBelow, RomTree, StopsAt, FirstFault}
-use Rattle.config_rom.specs.Reading.{Tree, ◌>>=◌, fresh, is_named, with_block, add_block, turn, turns, nearer, beyond, lowest_beyond, inside, checked_root, blocks_from, reading}
+use Rattle.config_rom.specs.Tree.{has_name, root_of, length_at, block_at, entries_of, names_kind, is_link, is_void, names, outside, block_fault, first_void, IsIn, turn_at, IsNamed, RomTree, StopsAt, FirstFault}
+use Rattle.config_rom.specs.Reading.{Tree, ◌>>=◌, fresh, turns, nearer, beyond, lowest_beyond, inside, blocks_from, reading}
 use Rattle.config_rom.proofs.Trees.{names-target, any-in, in-any}
-use Rattle.config_rom.proofs.Unique.{sound-inside}
 use Rattle.config_rom.proofs.Sound.{Kept, Turned, goes, ends, IsLong, all-turned}
 
 -- ---- headers behind the end
@@ -172,6 +170,7 @@ stops-behind quads tree m is_directory q r t l h n first = record {
         over : (b : Bool) → 2 * at + 1 < turn_at m b → ⊥
         over true o = omega arith
         over false o = omega arith
+
     before : (at : ℕ) (d : Bool) → IsNamed quads tree.entries at d → turn_at at d < turn_at m is_directory → at < length quads
     before at d (inl (e, f)) o = rw e r
     before at d (inr (entry, here, k)) o =
@@ -272,6 +271,7 @@ outcome quads = short (nat_lt (length quads) 6) refl
     name : (b : Bool) → 6 ≤ length quads → has_name quads ≡ b → Outcome quads (cond (not b) (Err faults.Name) (Ok (root_of quads)) >>= λ root. blocks_from quads root (fresh quads) >>= λ tree. inside (lowest_beyond (length quads) tree.entries) tree)
     name false l e = failed faults.Name refl (l, e)
     name true l e = from-root quads (record { long = l; name = e })
+
     short : (b : Bool) → nat_lt (length quads) 6 ≡ b → Outcome quads (cond b (Err (faults.Short 6)) (cond (not (has_name quads)) (Err faults.Name) (Ok (root_of quads))) >>= λ root. blocks_from quads root (fresh quads) >>= λ tree. inside (lowest_beyond (length quads) tree.entries) tree)
     short true e = failed (faults.Short 6) refl (refl, ltb-true (length quads) 6 e)
     short false e = name (has_name quads) (ltb-false (length quads) 6 e) refl

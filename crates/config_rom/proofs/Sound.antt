@@ -1,16 +1,14 @@
 -- What the reading gives is the configuration ROM, or the first fault.
-use Rattle.std.proofs.Common.{◌≡◌, ◌∙◌, refl, sym, ap, subst, ℕ, zero, suc, ◌+◌, ◌-◌, ◌*◌, ◌<◌, ◌≤◌, ◌⊎◌, inl, inr, Bool, true, false, cond, ◌&&◌, ◌||◌, nat_le, nat_lt, List, [], ◌∷◌, ◌++◌, length, append-nil, Option, Some, None, Result, Ok, Err, arith}
-use Rattle.std.specs.Prelude.{IsTrue, min, not}
-use Rattle.std.specs.List.{list_any, flat_map}
-use Rattle.std.proofs.lemmas.Bool.{eqb-true, eq-eqb, leb-true, leb-false, le-leb, ltb-true, ltb-false, not-true, not-false, and_parts, and_from, or_cases, or_parts, or_left, or_right, cases_lt, cases_Bool, cases_order, both_ways}
+use Rattle.std.proofs.Common.{◌≡◌, ◌∙◌, refl, sym, ap, subst, ℕ, zero, suc, ◌+◌, ◌*◌, ◌<◌, ◌≤◌, ◌⊎◌, inl, inr, Bool, true, false, cond, List, [], ◌∷◌, ◌++◌, length, append-nil, Option, Some, None, Result, Ok, Err, arith}
+use Rattle.std.specs.Prelude.{IsTrue}
+use Rattle.std.specs.List.{flat_map}
+use Rattle.std.proofs.lemmas.Bool.{cases_order, both_ways}
 use Rattle.std.proofs.lemmas.List.Concat.{flat_map-append}
 use Rattle.config_rom.specs.declared.fault.RomFault.{RomFault}
-use Rattle.config_rom.specs.declared.fault.RomFault.TheVariants as faults
 use Rattle.config_rom.specs.declared.block.Block.{Block}
-use Rattle.config_rom.specs.declared.block.Entry.{Entry}
-use Rattle.config_rom.specs.Tree.{has_name, root_of, entry_at, length_at, block_at, entries_from, entries_of, names_kind, is_link, names, outside, block_fault, first_void, IsIn, turn_at, turn_of, Rises, IsNamed, TreeBelow, RomTree, StopsAt, FirstFault}
-use Rattle.config_rom.specs.Reading.{Tree, ◌>>=◌, fresh, is_named, with_block, add_block, turn, turns, nearer, beyond, lowest_beyond, inside, checked_root, blocks_from, reading}
-use Rattle.config_rom.proofs.Trees.{in-left, in-right, in-push, in-append, names-target, names-later, same-turn, rises-push, any-in, in-any, named-true, named-from, named-more}
+use Rattle.config_rom.specs.Tree.{has_name, block_at, entries_of, block_fault, IsIn, turn_at, turn_of, IsNamed, TreeBelow, StopsAt}
+use Rattle.config_rom.specs.Reading.{Tree, ◌>>=◌, is_named, with_block, add_block, turn, turns}
+use Rattle.config_rom.proofs.Trees.{in-left, in-right, in-push, in-append, names-later, same-turn, rises-push, named-true, named-from, named-more}
 
 -- the tree so far, read below a limit
 abbrev pub Kept : ℕ → List ℕ → Tree → Type 0
@@ -58,20 +56,25 @@ added quads at is_directory tree t n s =
     below : (b : Block) → IsIn b tree.blocks ⊎ (b ≡ block_at quads at is_directory) → turn_of b < suc (turn_at at is_directory)
     below b (inl h) = let l = t.below b h in omega arith
     below b (inr e) = let same : turn_of b ≡ turn_at at is_directory = ap turn_of e in omega arith
+
     stands : (b : Block) → IsIn b tree.blocks ⊎ (b ≡ block_at quads at is_directory) → b ≡ block_at quads b.at b.is_directory
     stands b (inl h) = t.stands b h
     stands b (inr e) = e ∙ ap (λ c. block_at quads c.at c.is_directory) (sym e)
+
     sound : (b : Block) → IsIn b tree.blocks ⊎ (b ≡ block_at quads at is_directory) → block_fault quads b.at b.is_directory ≡ None
     sound b (inl h) = t.sound b h
     sound b (inr e) = ap (λ c. block_fault quads c.at c.is_directory) e ∙ s
+
     only : (b : Block) → IsIn b tree.blocks ⊎ (b ≡ block_at quads at is_directory) → IsNamed quads tree.entries b.at b.is_directory
     only b (inl h) = t.only b h
     only b (inr e) = let P : Block → Type 0 = λ c. IsNamed quads tree.entries c.at c.is_directory in subst P (sym e) n
+
     old : (a : ℕ) (d : Bool) → IsNamed quads tree.entries a d → (turn_at a d < turn_at at is_directory) ⊎ (turn_at a d ≡ turn_at at is_directory) → IsIn (block_at quads a d) (tree.blocks ++ block_at quads at is_directory ∷ [])
     old a d m (inl l) = in-left (block_at quads a d) tree.blocks (block_at quads at is_directory ∷ []) (t.each a d m l)
     old a d m (inr e) =
         let (same, kind) = same-turn a at d is_directory e in
         in-right (block_at quads a d) tree.blocks (block_at quads at is_directory ∷ []) (inl (ap (λ x. block_at quads x d) same ∙ ap (λ y. block_at quads at y) kind))
+
     each : (a : ℕ) (d : Bool) → IsNamed quads (tree.entries ++ entries_of quads (block_at quads at is_directory)) a d → turn_at a d < suc (turn_at at is_directory) → IsIn (block_at quads a d) (tree.blocks ++ block_at quads at is_directory ∷ [])
     each a d (inl m) l = old a d (inl m) (at-limit (turn_at a d) (turn_at at is_directory) l)
     each a d (inr (entry, here, m)) l =

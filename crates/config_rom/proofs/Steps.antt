@@ -1,10 +1,10 @@
 -- Steps of the reading.
-use Rattle.std.proofs.Common.{◌≡◌, ◌∙◌, refl, sym, ap, ℕ, zero, suc, ◌+◌, ◌<◌, ◌≤◌, min, List, [], ◌∷◌, Option, Some, None, Result, Ok, Err, Bool, true, false, cond, ◌⊎◌, inl, inr, ◌++◌, append_assoc, subst, arith}
+use Rattle.std.proofs.Common.{◌≡◌, ◌∙◌, refl, sym, ap, ℕ, suc, List, [], ◌∷◌, Option, Some, None, Ok, true, false, cond, inl, inr, ◌++◌, append_assoc, arith}
 use Rattle.config_rom.specs.declared.block.Entry.{Entry}
 use Rattle.config_rom.specs.declared.fault.RomFault.{RomFault}
 use Rattle.config_rom.specs.declared.fault.RomFault.TheVariants as faults
 use Rattle.config_rom.specs.Tree.{entry_at, entries_from, first_void, is_void}
-use Rattle.config_rom.specs.Reading.{Tree, Tells, nearer, turn, turns, ◌>>=◌}
+use Rattle.config_rom.specs.Reading.{Tree, Tells, nearer, turn, turns}
 
 pub nearer-assoc : (a b c : Option ℕ) → nearer (nearer a b) c ≡ nearer a (nearer b c)
 nearer-assoc None b c = refl

@@ -1,5 +1,5 @@
 -- The shifted register holds the sum of the bits so far.
-use Rattle.std.proofs.Common.{◌≡◌, ◌∙◌, refl, sym, ap, ℕ, zero, suc, ◌+◌, ◌*◌, ◌/◌, ◌%◌, ◌^◌, ◌<◌, ◌==◌, ◌⊎◌, inl, inr, Bool, true, false, cond, bit_xor, List, [], ◌∷◌, ◌++◌, length, append_assoc, append-nil, get_or, drop, arith}
+use Rattle.std.proofs.Common.{◌≡◌, ◌∙◌, refl, sym, ap, ℕ, zero, suc, ◌+◌, ◌*◌, ◌/◌, ◌%◌, ◌^◌, ◌<◌, ◌==◌, Bool, true, false, cond, bit_xor, List, [], ◌∷◌, ◌++◌, length, append_assoc, append-nil, get_or, drop, arith}
 use Rattle.std.specs.Int.{bit_at}
 use Rattle.std.proofs.lemmas.Nat.{xor_lt, xor_shr, xor_mod, xor_block, xor_comm}
 use Rattle.std.specs.Int.Bits.{xor_assoc, xor_zero_r}

@@ -1,15 +1,11 @@
 -- What the reading gives is the configuration ROM of the quadlets.
-use Rattle.std.proofs.Common.{◌≡◌, ◌∙◌, refl, sym, ap, subst, ℕ, zero, suc, ◌+◌, ◌-◌, ◌*◌, ◌<◌, ◌≤◌, ◌==◌, ◌⊎◌, inl, inr, Bool, true, false, cond, ◌&&◌, ◌||◌, nat_le, List, [], ◌∷◌, ◌++◌, length, append-nil, Option, Some, None, Result, Ok, Err, arith}
-use Rattle.std.specs.Prelude.{IsTrue, min, not}
+use Rattle.std.proofs.Common.{◌≡◌, ◌∙◌, refl, sym, ap, subst, ℕ, zero, suc, ◌+◌, ◌*◌, ◌<◌, ◌≤◌, ◌==◌, ◌⊎◌, inl, inr, Bool, true, false, cond, ◌&&◌, List, [], ◌∷◌, ◌++◌, arith}
 use Rattle.std.specs.List.{list_any, flat_map}
-use Rattle.std.proofs.lemmas.Bool.{eqb-true, eq-eqb, leb-true, leb-false, le-leb, and_parts, and_from, or_cases, or_parts, or_left, or_right, cases_lt, cases_Bool, cases_order, both_ways}
-use Rattle.std.proofs.lemmas.List.Concat.{flat_map-append}
-use Rattle.config_rom.specs.declared.fault.RomFault.{RomFault}
-use Rattle.config_rom.specs.declared.fault.RomFault.TheVariants as faults
+use Rattle.std.proofs.lemmas.Bool.{eqb-true, eq-eqb, and_parts, and_from, or_cases, or_left, or_right}
 use Rattle.config_rom.specs.declared.block.Block.{Block}
 use Rattle.config_rom.specs.declared.block.Entry.{Entry}
-use Rattle.config_rom.specs.Tree.{has_name, root_of, entry_at, length_at, block_at, entries_from, entries_of, names_kind, is_link, names, outside, block_fault, first_void, IsIn, turn_at, turn_of, Rises, IsNamed, TreeBelow, RomTree, StopsAt, FirstFault}
-use Rattle.config_rom.specs.Reading.{Tree, ◌>>=◌, fresh, is_named, with_block, add_block, turn, turns, nearer, beyond, lowest_beyond, inside, checked_root, blocks_from, reading}
+use Rattle.config_rom.specs.Tree.{root_of, entry_at, entries_from, entries_of, names_kind, names, IsIn, turn_at, turn_of, Rises, IsNamed}
+use Rattle.config_rom.specs.Reading.{is_named}
 
 -- ---- lists
 

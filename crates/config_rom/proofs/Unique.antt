@@ -1,14 +1,13 @@
 -- Quadlets have one configuration ROM, or one first fault.
-use Rattle.std.proofs.Common.{◌≡◌, ◌∙◌, refl, sym, ap, subst, ℕ, zero, suc, ◌+◌, ◌*◌, ◌<◌, ◌≤◌, ◌⊎◌, inl, inr, Bool, true, false, cond, ◌||◌, nat_le, List, [], ◌∷◌, length, Option, Some, None, arith}
-use Rattle.std.specs.Prelude.{IsTrue}
+use Rattle.std.proofs.Common.{◌≡◌, ◌∙◌, refl, sym, ap, subst, ℕ, zero, suc, ◌+◌, ◌*◌, ◌<◌, ◌≤◌, inl, inr, Bool, true, false, cond, List, [], ◌∷◌, length, Option, Some, None, arith}
 use Rattle.std.specs.List.{flat_map}
-use Rattle.std.proofs.lemmas.Bool.{leb-false, or_parts, cases_Bool, cases_order, both_ways}
+use Rattle.std.proofs.lemmas.Bool.{leb-false, or_parts, cases_order, both_ways}
 use Rattle.config_rom.specs.declared.fault.RomFault.{RomFault}
 use Rattle.config_rom.specs.declared.fault.RomFault.TheVariants as faults
 use Rattle.config_rom.specs.declared.block.Block.{Block}
 use Rattle.config_rom.specs.declared.block.Entry.{Entry}
-use Rattle.config_rom.specs.Tree.{has_name, block_at, length_at, entries_of, outside, first_void, block_fault, IsIn, turn_at, turn_of, Rises, IsNamed, TreeBelow, RomTree, StopsAt, FirstFault}
-use Rattle.config_rom.proofs.Trees.{in-flat, from-flat, own-entries, names-later, same-turn, rises-above}
+use Rattle.config_rom.specs.Tree.{has_name, block_at, entries_of, block_fault, IsIn, turn_at, turn_of, Rises, IsNamed, TreeBelow, RomTree, StopsAt, FirstFault}
+use Rattle.config_rom.proofs.Trees.{in-flat, from-flat, names-later, same-turn, rises-above}
 
 -- two rising lists of the same blocks are equal
 heads : (least : ℕ) (x y : Block) (xs ys : List Block) → Rises least (x ∷ xs) → Rises least (y ∷ ys) → IsIn x (y ∷ ys) → IsIn y (x ∷ xs) → x ≡ y
@@ -106,9 +105,9 @@ stops-same quads first second s t =
     elim (cases_order (turn_at s.at s.is_directory) (turn_at t.at t.is_directory)) [
       | inl e ↦ here (same-turn s.at t.at s.is_directory t.is_directory e)
       | inr o ↦ elim o [
-          | inl l ↦ absurd (stops-here quads first (turn_at t.at t.is_directory) t.blocks t.entries s t.before l)
-          | inr l ↦ absurd (stops-here quads second (turn_at s.at s.is_directory) s.blocks s.entries t s.before l)
-        ]
+        | inl l ↦ absurd (stops-here quads first (turn_at t.at t.is_directory) t.blocks t.entries s t.before l)
+        | inr l ↦ absurd (stops-here quads second (turn_at s.at s.is_directory) s.blocks s.entries t s.before l)
+      ]
     ]
   where
     here : (s.at ≡ t.at) × (s.is_directory ≡ t.is_directory) → first ≡ second

@@ -1,11 +1,11 @@
 -- The unit that is found among the blocks is the first one by position.
-use Rattle.std.proofs.Common.{◌≡◌, ◌∙◌, refl, sym, ap, subst, ℕ, zero, suc, ◌+◌, ◌*◌, ◌<◌, ◌≤◌, ◌⊎◌, inl, inr, Bool, true, false, cond, ◌&&◌, List, [], ◌∷◌, ◌++◌, length, take, drop, Option, Some, None, arith}
+use Rattle.std.proofs.Common.{◌≡◌, ◌∙◌, refl, sym, ap, subst, ℕ, zero, suc, ◌+◌, ◌*◌, ◌<◌, ◌≤◌, inl, inr, Bool, true, false, cond, ◌&&◌, List, [], ◌∷◌, ◌++◌, take, drop, Option, Some, None, arith}
 use Rattle.std.specs.List.{list_any, flat_map}
 use Rattle.config_rom.specs.declared.block.Block.{Block}
 use Rattle.config_rom.specs.declared.block.Entry.{Entry}
 use Rattle.config_rom.specs.declared.unit.SbpUnit.{SbpUnit}
-use Rattle.config_rom.specs.Tree.{root_of, block_at, entry_at, entries_from, entries_of, names, IsIn, turn_at, turn_of, Rises, IsNamed, RomTree}
-use Rattle.config_rom.specs.Unit.{Directory, directories, is_sbp, unit_of, names_unit, is_unit, first_unit, root_entries, sbp_unit_of, is_unit_block, unit_in}
+use Rattle.config_rom.specs.Tree.{root_of, block_at, entry_at, entries_from, entries_of, IsIn, turn_at, turn_of, IsNamed, RomTree}
+use Rattle.config_rom.specs.Unit.{directories, is_sbp, unit_of, names_unit, first_unit, root_entries, sbp_unit_of, is_unit_block, unit_in}
 use Rattle.config_rom.proofs.Trees.{from-flat, names-later, rises-above}
 
 take-entries : (quads : List ℕ) (at count : ℕ) (rest : List Entry) → take count (entries_from quads at count ++ rest) ≡ entries_from quads at count

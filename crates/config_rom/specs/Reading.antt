@@ -1,11 +1,11 @@
 -- Reading as a function of the quadlets, turn by turn.
-use Rattle.std.specs.Prelude.{◌≡◌, ℕ, zero, suc, ◌+◌, ◌-◌, ◌<◌, ◌==◌, ◌&&◌, ◌||◌, ◌⊎◌, nat_lt, nat_le, min, not, Bool, true, false, if◌then◌else◌, List, [], ◌∷◌, ◌++◌, length, Option, Some, None, Result, Ok, Err}
+use Rattle.std.specs.Prelude.{◌≡◌, ℕ, zero, suc, ◌+◌, ◌-◌, ◌==◌, ◌&&◌, ◌||◌, ◌⊎◌, nat_lt, nat_le, min, not, Bool, true, false, if◌then◌else◌, List, [], ◌∷◌, ◌++◌, length, Option, Some, None, Result, Ok, Err}
 use Rattle.std.specs.List.{list_any}
 use Rattle.config_rom.specs.declared.fault.RomFault.{RomFault}
 use Rattle.config_rom.specs.declared.fault.RomFault.TheVariants as faults
 use Rattle.config_rom.specs.declared.block.Block.{Block}
 use Rattle.config_rom.specs.declared.block.Entry.{Entry}
-use Rattle.config_rom.specs.Tree.{info_length, has_name, eui_of, bus_sum_is_right, root_of, block_at, entries_of, is_link, names, outside, block_fault}
+use Rattle.config_rom.specs.Tree.{has_name, eui_of, bus_sum_is_right, root_of, block_at, entries_of, is_link, names, outside, block_fault}
 
 -- a configuration ROM that was read
 pub record Tree : Type 0 where

@@ -1,5 +1,5 @@
 -- The sum over quadlets (IEEE 1212, "CRC calculation"): the polynomial x^16 + x^12 + x^5 + 1, bits most significant first.
-use Rattle.std.specs.Prelude.{ℕ, zero, suc, ◌*◌, ◌/◌, ◌%◌, ◌^◌, ◌==◌, nat_le, Bool, if◌then◌else◌, bit_xor, List, [], ◌∷◌, ◌++◌, length}
+use Rattle.std.specs.Prelude.{ℕ, zero, suc, ◌*◌, ◌/◌, ◌%◌, ◌^◌, ◌==◌, if◌then◌else◌, bit_xor, List, [], ◌∷◌, ◌++◌, length}
 use Rattle.std.specs.Int.{bit_at}
 
 -- P_j, what a bit with j places behind it adds: P_0 is 1021h, and the next is twice the one before, reduced by the polynomial

@@ -1,11 +1,10 @@
 ghost use Rattle.std.specs.Prelude.{◌≡◌, ℕ, List, ◌≤◌, ◌<◌, ◌+◌, ◌/◌, ◌^◌, ◌++◌, length, vec_len, IfOk, OnOk};
 ghost use Rattle.config_rom.specs.Make.{made, headed, bus_quads, unit_quads};
 
+use crate::sum::sum16;
 use sbp_base::NoMemory;
 use std::alloc::Global;
 use std::marker::Model;
-
-use crate::sum::sum16;
 
 /// The node's capabilities (IEEE 1212, "Node_Capabilities entry").
 const CAPABILITIES: u32 = 0x0c00_83c0;
@@ -80,7 +79,12 @@ pub fn make(alloc: Global, plan: &RomPlan) -> Result<RomWords, NoMemory>
 fn bus_quads(eui: u64) -> [u32; 4]
     ensures { result ≡ bus_quads eui }
 {
-    [0x3133_3934, 0, (eui >> 32) as u32, (eui & 0xffff_ffff) as u32]
+    [
+        0x3133_3934,
+        0,
+        (eui >> 32) as u32,
+        (eui & 0xffff_ffff) as u32,
+    ]
 }
 
 /// The vendor's entry: the top 24 bits of the EUI-64.

@@ -3,12 +3,11 @@ ghost use Rattle.std.specs.List.{list_any};
 ghost use Rattle.config_rom.specs.Tree.{RomTree, FirstFault, eui_of, bus_sum_is_right, block_at, block_fault, root_of, entries_from, first_void, outside, length_at, names};
 ghost use Rattle.config_rom.specs.Reading.{Tells, reading, checked_root, blocks_from, turn, add_block, is_named, lowest_beyond, beyond, nearer, with_block};
 
-use std::alloc::Global;
-
 use crate::block::{Block, Entry};
 use crate::fault::RomFault;
 use crate::rom::Rom;
 use crate::sum::sum_at;
+use std::alloc::Global;
 
 /// The name of the bus, "1394".
 const NAME: u32 = 0x31333934;
@@ -102,7 +101,13 @@ impl Rom {
     /// Reads the directory, or else the leaf, whose header stands at a position, if it is the root
     /// directory or an entry read so far names it.
     #[tactic(auto, unfolding(crate::specs::Reading::turn))]
-    fn turn(&mut self, quads: &[u32], root: u16, at: u16, is_directory: bool) -> Result<(), RomFault>
+    fn turn(
+        &mut self,
+        quads: &[u32],
+        root: u16,
+        at: u16,
+        is_directory: bool,
+    ) -> Result<(), RomFault>
         requires few { length quads.now ≤ 256 }
         requires root { root ≡ root_of quads.now }
         requires inside { at < length quads.now }
@@ -164,7 +169,12 @@ fn block_of(quads: &[u32], at: u16, is_directory: bool) -> Block
 
 /// Adds the entries of the directory whose header stands at a position.
 
-fn push_entries(entries: &mut Vec<Entry>, quads: &[u32], at: u16, count: u16) -> Result<(), RomFault>
+fn push_entries(
+    entries: &mut Vec<Entry>,
+    quads: &[u32],
+    at: u16,
+    count: u16,
+) -> Result<(), RomFault>
     requires few { length quads.now ≤ 256 }
     requires inside { at + count < length quads.now }
     ensures added { OnOk result (entries.new.items ≡ entries.old.items ++ entries_from quads.now (at + 1) count) }

@@ -1,11 +1,10 @@
 ghost use Rattle.std.specs.Prelude.{◌≡◌, ◌<◌, ◌≤◌, ◌^◌, ◌+◌, length, Ok, Err, OnOk, IfOk, IfErr};
 ghost use Rattle.config_rom.specs.Tree.{has_name, eui_of, bus_sum_is_right, root_of};
 
-use std::alloc::Global;
-use std::marker::Model;
-
 use crate::block::{Block, Entry};
 use crate::sum::sum_at;
+use std::alloc::Global;
+use std::marker::Model;
 
 /// A configuration ROM that was read.
 #[derive(Drop)]
@@ -18,7 +17,6 @@ pub struct Rom {
 
 impl Model for Rom {
     ghost use Rattle.config_rom.specs.Reading.{Tree};
-
     ghost use Rattle.std.specs.Prelude.{◌<◌};
     ghost use Rattle.std.specs.List.{All};
 

@@ -5,7 +5,15 @@ use std::test::Fail;
 
 /// A ROM of four bus quadlets, a root directory with one leaf, and the leaf.
 const SMALL: [u32; 9] = [
-    0x0400_0000, 0x3133_3934, 0, 0x0200_0000, 0x10, 0x0001_bbad, 0x8100_0001, 0x0001_1021, 1,
+    0x0400_0000,
+    0x3133_3934,
+    0,
+    0x0200_0000,
+    0x10,
+    0x0001_bbad,
+    0x8100_0001,
+    0x0001_1021,
+    1,
 ];
 
 /// The sum of one quadlet with its last bit alone is P_0; that of no quadlets is 0.
@@ -22,16 +30,35 @@ fn known_sums(rt: HostRuntime) -> Result<(), Fail> {
 /// The ROM of a target with three units is read again.
 #[test]
 fn made_rom_parses(rt: HostRuntime) -> Result<(), Fail> {
-    let plan = RomPlan { eui: 0x0200_0000_0000_0010, units: 3 };
+    let plan = RomPlan {
+        eui: 0x0200_0000_0000_0010,
+        units: 3,
+    };
     let words = make(rt.alloc(), &plan).ok().ok_or("memory")?;
     assert_eq!(rt; words.as_slice().len(), 19);
     let rom = parse(rt.alloc(), words.as_slice()).ok().ok_or("refused")?;
     assert_eq!(rt; rom.eui(), 0x0200_0000_0000_0010);
     assert!(rt; rom.bus_sum_is_right());
-    let root = Block { at: 5, length: 3, is_directory: true, sum_is_right: true };
-    let unit = Block { at: 9, length: 9, is_directory: true, sum_is_right: true };
+    let root = Block {
+        at: 5,
+        length: 3,
+        is_directory: true,
+        sum_is_right: true,
+    };
+    let unit = Block {
+        at: 9,
+        length: 9,
+        is_directory: true,
+        sum_is_right: true,
+    };
     assert_eq!(rt; rom.blocks(), [root, unit].as_slice());
-    let told = SbpUnit { management: 16384, orb_quads: 8, timeout: 4, units: 3, first_type: 14 };
+    let told = SbpUnit {
+        management: 16384,
+        orb_quads: 8,
+        timeout: 4,
+        units: 3,
+        first_type: 14,
+    };
     assert_eq!(rt; sbp_unit(&rom), Some(told));
     Ok(())
 }
@@ -40,13 +67,28 @@ fn made_rom_parses(rt: HostRuntime) -> Result<(), Fail> {
 #[test]
 fn small_rom(rt: HostRuntime) -> Result<(), Fail> {
     let mut quads = SMALL;
-    let root = Block { at: 5, length: 1, is_directory: true, sum_is_right: true };
-    let leaf = Block { at: 7, length: 1, is_directory: false, sum_is_right: true };
+    let root = Block {
+        at: 5,
+        length: 1,
+        is_directory: true,
+        sum_is_right: true,
+    };
+    let leaf = Block {
+        at: 7,
+        length: 1,
+        is_directory: false,
+        sum_is_right: true,
+    };
     let rom = parse(rt.alloc(), &quads).ok().ok_or("refused")?;
     assert_eq!(rt; rom.blocks(), [root, leaf].as_slice());
     assert_eq!(rt; sbp_unit(&rom), None);
     quads[7] = 0x0001_0000;
-    let wrong = Block { at: 7, length: 1, is_directory: false, sum_is_right: false };
+    let wrong = Block {
+        at: 7,
+        length: 1,
+        is_directory: false,
+        sum_is_right: false,
+    };
     let rom = parse(rt.alloc(), &quads).ok().ok_or("refused")?;
     assert_eq!(rt; rom.blocks(), [root, wrong].as_slice());
     Ok(())
@@ -57,12 +99,36 @@ fn small_rom(rt: HostRuntime) -> Result<(), Fail> {
 #[test]
 fn shared_position(rt: HostRuntime) -> Result<(), Fail> {
     let quads = [
-        0x0400_0000, 0x3133_3934, 0, 0, 0, 0x0003_0000, 0x8100_0003, 0xc100_0002, 0x8100_0001, 0,
+        0x0400_0000,
+        0x3133_3934,
+        0,
+        0,
+        0,
+        0x0003_0000,
+        0x8100_0003,
+        0xc100_0002,
+        0x8100_0001,
+        0,
     ];
     let rom = parse(rt.alloc(), &quads).ok().ok_or("refused")?;
-    let root = Block { at: 5, length: 3, is_directory: true, sum_is_right: false };
-    let directory = Block { at: 9, length: 0, is_directory: true, sum_is_right: true };
-    let leaf = Block { at: 9, length: 0, is_directory: false, sum_is_right: true };
+    let root = Block {
+        at: 5,
+        length: 3,
+        is_directory: true,
+        sum_is_right: false,
+    };
+    let directory = Block {
+        at: 9,
+        length: 0,
+        is_directory: true,
+        sum_is_right: true,
+    };
+    let leaf = Block {
+        at: 9,
+        length: 0,
+        is_directory: false,
+        sum_is_right: true,
+    };
     assert_eq!(rt; rom.blocks(), [root, directory, leaf].as_slice());
     assert_eq!(rt; rom.entries().len(), 3);
     Ok(())
@@ -79,7 +145,10 @@ fn fault_of(rt: &HostRuntime, quads: &[u32]) -> Option<RomFault>
 #[test]
 fn first_faults(rt: HostRuntime) -> Result<(), Fail> {
     assert_eq!(rt; fault_of(&rt, &[]), Some(RomFault::Short { need: 6 }));
-    assert_eq!(rt; fault_of(&rt, &SMALL[..5]), Some(RomFault::Short { need: 6 }));
+    assert_eq!(rt;
+        fault_of(&rt, &SMALL[..5]),
+        Some(RomFault::Short { need: 6 })
+    );
     let mut quads = SMALL;
     quads[1] = 0;
     assert_eq!(rt; fault_of(&rt, &quads), Some(RomFault::Name));
@@ -87,12 +156,24 @@ fn first_faults(rt: HostRuntime) -> Result<(), Fail> {
     quads[6] = 0xd100_0000;
     assert_eq!(rt; fault_of(&rt, &quads), Some(RomFault::Entry { at: 6 }));
     quads[6] = 0xd1ff_ffff;
-    assert_eq!(rt; fault_of(&rt, &quads), Some(RomFault::Outside { at: 65535 }));
+    assert_eq!(rt;
+        fault_of(&rt, &quads),
+        Some(RomFault::Outside { at: 65535 })
+    );
     quads[5] = 0x0004_0000;
     assert_eq!(rt; fault_of(&rt, &quads), Some(RomFault::Outside { at: 5 }));
     let quads = [
-        0x0400_0000, 0x3133_3934, 0, 0, 0, 0x0002_0000, 0xc1ff_ffff, 0xc100_0001, 0x0001_0000,
-        0xc100_0000, 0,
+        0x0400_0000,
+        0x3133_3934,
+        0,
+        0,
+        0,
+        0x0002_0000,
+        0xc1ff_ffff,
+        0xc100_0001,
+        0x0001_0000,
+        0xc100_0000,
+        0,
     ];
     assert_eq!(rt; fault_of(&rt, &quads), Some(RomFault::Entry { at: 9 }));
     Ok(())

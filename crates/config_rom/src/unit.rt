@@ -78,7 +78,8 @@ fn is_unit(root: &[Entry], at: u16, entries: &[Entry]) -> bool
 fn has_unit_name(root: &[Entry], at: u16) -> bool
     ensures { result ≡ list_any (names_unit at) root.now }
 {
-    root.iter().any(|entry| entry.names(at, true) && entry.key == 0x11)
+    root.iter()
+        .any(|entry| entry.names(at, true) && entry.key == 0x11)
 }
 
 /// Whether the entries are those of an SBP-2 unit.
@@ -102,7 +103,9 @@ fn has_key(entries: &[Entry], key: u8) -> bool
 fn has_value(entries: &[Entry], key: u8, value: u32) -> bool
     ensures { result ≡ list_any (has_value key value) entries.now }
 {
-    entries.iter().any(|entry| entry.has_key(key) && entry.value == value)
+    entries
+        .iter()
+        .any(|entry| entry.has_key(key) && entry.value == value)
 }
 
 /// The value of the first entry with this key byte, or else `default`.

@@ -1,5 +1,5 @@
-use Rattle.std.proofs.Common.{◌≡◌, ◌∙◌, sym, ap, inr, ◌+◌, ◌-◌, ◌++◌, ◌∷◌, [], Some, arith}
-use Rattle.config_rom.specs.Tree.{entry_at, entries_from, first_void, is_void}
+use Rattle.std.proofs.Common.{◌∙◌, sym, ap, inr, ◌+◌, ◌-◌, ◌++◌, ◌∷◌, [], arith}
+use Rattle.config_rom.specs.Tree.{entries_from, first_void, is_void}
 use Rattle.config_rom.proofs.Steps.{entries-added, void-next, void-here}
 use Rattle.config_rom.proofs.read.push_entries.Goals as goal
 

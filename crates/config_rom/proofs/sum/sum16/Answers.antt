@@ -1,6 +1,5 @@
-use Rattle.std.proofs.Common.{◌≡◌, ◌∙◌, sym, arith}
+use Rattle.std.proofs.Common.{◌∙◌, arith}
 use Rattle.std.proofs.lemmas.Grind.{common_steps}
-use Rattle.config_rom.specs.Sum.{register_after, quad_bits}
 use Rattle.config_rom.proofs.Sums.{register-sum, quads-next}
 use Rattle.config_rom.proofs.sum.sum16.Goals as goal
 

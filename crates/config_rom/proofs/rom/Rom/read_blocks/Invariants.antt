@@ -1,4 +1,4 @@
-use Rattle.std.proofs.Common.{◌≡◌, ◌-◌, ◌≤◌, length}
+use Rattle.std.proofs.Common.{◌≡◌, ◌-◌, length}
 use Rattle.config_rom.specs.Reading.{turns}
 use Rattle.config_rom.proofs.rom.Rom.read_blocks.Given as goal
 
