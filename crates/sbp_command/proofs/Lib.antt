@@ -1,5 +1,10 @@
+pub mod Beginnings
+pub mod LineEnds
 pub mod Numbers
+pub mod Places
 pub mod Running
 pub mod ScriptLines
-pub mod Standing
+pub mod Sessions
 pub mod Settling
+pub mod Standing
+pub mod Writes

@@ -1,23 +1,22 @@
 -- A waiting command runs.
-use Rattle.std.proofs.Common.{◌≡◌, ◌≢◌, ℕ, zero, suc, ◌<◌, ◌≤◌, Bool, true, false, List, [], length, take, refl, sym, ap, ◌∙◌, subst, arith, inl, inr}
-use Rattle.std.specs.Prelude.{Option, Some, None, IfSome, Result, Ok, Err, ◌⊎◌}
+use Rattle.std.proofs.Common.{◌≡◌, ℕ, ◌<◌, ◌≤◌, Bool, true, false, List, [], length, take, refl, sym, ap, ◌∙◌, subst, arith, inl, inr}
+use Rattle.std.specs.Prelude.{Option, IfSome}
 use Rattle.std.proofs.lemmas.List.{length-take-le}
 use Rattle.rbc_disk.specs.Disk.{Disk}
 use Rattle.rbc_disk.specs.Command.{command_of}
-use Rattle.rbc_disk.specs.PlainDisk.{need_of, data_length, first_check, failure_of, MayEnd, Feeds, answer_of, answer_length}
+use Rattle.rbc_disk.specs.PlainDisk.{need_of, first_check, failure_of, MayEnd, Feeds, answer_of, answer_length}
 use Rattle.rbc_disk.specs.declared.command.Need.{Need}
 use Rattle.rbc_disk.specs.declared.command.Need.TheVariants.{Payload, RunNow}
 use Rattle.rbc_command.specs.declared.sense.Sense.{Sense}
 use Rattle.rbc_disk.specs.declared.command.BufferPlan.{BufferPlan}
 use Rattle.rbc_disk.proofs.PlainDiskLemmas.{asks_data}
-use Rattle.sbp_journal.specs.Form.{IsCheck}
 use Rattle.sbp_journal.specs.Terms.{plan_of, data_of}
-use Rattle.sbp_journal.specs.ExecutionLaw.{RunsOn, MayCarry}
+use Rattle.sbp_journal.specs.ExecutionLaw.{RunsOn}
 use Rattle.sbp_journal.specs.AnswerLaw.{IsAnswerOf}
 use Rattle.sbp_journal.specs.ActionLaw.{buffer_of}
 use Rattle.sbp_journal.specs.declared.event.Cmd.{Cmd}
-use Rattle.sbp_journal.specs.declared.note.NoteBuffer.TheVariants.{Nothing, In, Out}
-use Rattle.sbp_command.specs.Plain.{Fits, request_of, carried_of}
+use Rattle.sbp_journal.specs.declared.note.NoteBuffer.TheVariants.{In, Out}
+use Rattle.sbp_command.specs.Plain.{Fits, request_of}
 
 -- the buffer of a command that fits
 abbrev pub plan : Cmd → BufferPlan
@@ -78,9 +77,5 @@ answers_front cmd disk n room size few len told = record {
   len = length-take-le n room (subst (λ m. n ≤ m) (sym size) few) ∙ len;
   told = told;
 }
-
--- a check has a key of four bits
-pub is_check_none : IsCheck None
-is_check_none = tt
 
 pub ruleset running_steps = (fed_payload, fed_nothing, runs_carrying, runs_silent, answers_front)

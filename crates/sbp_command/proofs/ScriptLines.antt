@@ -133,10 +133,10 @@ reading-long_cases true long other e = refl
 reading-long_cases false true other e = refl
 reading-long_cases false false other e = cc e
 
-reading-long : (n : ℕ) (line : List ℕ) → 8192 < length line → reading n line ≡ Err (long_fault n)
+pub reading-long : (n : ℕ) (line : List ℕ) → 8192 < length line → reading n line ≡ Err (long_fault n)
 reading-long n line l = reading-long_cases (nat_lt 65536 n) (nat_lt 8192 (length line)) _ (lt-ltb 8192 (length line) l)
 
-surely_long-bytes : (rest : List ℕ) → is_surely_long rest ≡ true → 8192 < length rest
+pub surely_long-bytes : (rest : List ℕ) → is_surely_long rest ≡ true → 8192 < length rest
 surely_long-bytes rest h = elim (or_cases (nat_lt 8193 (length rest)) _ h) [
   | inl e ↦ omega (arith, ltb-true 8193 (length rest) e)
   | inr e ↦ ltb-true 8192 (length rest) ((and_parts (nat_lt 8192 (length rest)) _ e).0)
@@ -174,7 +174,7 @@ pub script_from-long : (n : ℕ) (rest more : List ℕ) → NoFeed rest → is_s
 script_from-long n rest more f h = ap (λ ps. script_from n (lines_of_parts ps)) (parts-no_feed rest more f) ∙ script_from-long_parts n rest (parts_of more) h
 
 -- the script of whole lines and what follows them
-script-whole : (whole more : List ℕ) → IsWhole whole → (script whole).fault ≡ None → script (whole ++ more) ≡ behind (script whole) (script_from (1 + length (lines whole)) (lines more))
+pub script-whole : (whole more : List ℕ) → IsWhole whole → (script whole).fault ≡ None → script (whole ++ more) ≡ behind (script whole) (script_from (1 + length (lines whole)) (lines more))
 script-whole whole more w h = ap (script_from 1) (lines-whole whole more w) ∙ script_from-append 1 (lines whole) (lines more) h
 
 script-whole_fault : (whole more : List ℕ) (fault : LineFault) → IsWhole whole → (script whole).fault ≡ None → script_from (1 + length (lines whole)) (lines more) ≡ record { events = []; fault = Some (1 + length (lines whole), fault) } → script (whole ++ more) ≡ record { events = (script whole).events; fault = Some (1 + length (lines whole), fault) }
@@ -184,29 +184,19 @@ script-whole_fault whole more fault w h e = script-whole whole more w h ∙ ap (
 pub script-line : (whole rest : List ℕ) (event : Event) → IsWhole whole → NoFeed rest → (script whole).fault ≡ None → reading (1 + length (lines whole)) (strip_carriage_return rest) ≡ Ok event → script (whole ++ (rest ++ 10 ∷ [])) ≡ record { events = (script whole).events ++ (1 + length (lines whole), event) ∷ []; fault = None }
 script-line whole rest event w f h e = script-whole whole (rest ++ 10 ∷ []) w h ∙ ap (behind (script whole)) (ap (script_from (1 + length (lines whole))) (lines-one rest f) ∙ script_from-event _ (strip_carriage_return rest) event e)
 
-lines-one_more : (rest more : List ℕ) → NoFeed rest → lines (rest ++ 10 ∷ more) ≡ strip_carriage_return rest ∷ lines more
+pub lines-one_more : (rest more : List ℕ) → NoFeed rest → lines (rest ++ 10 ∷ more) ≡ strip_carriage_return rest ∷ lines more
 lines-one_more rest more h = lines-feed rest more ∙ ap (λ ps. map strip_carriage_return ps ++ lines more) (parts-one rest h)
-
--- the first faulty line, with its line feed
-pub script-fault : (whole rest more : List ℕ) (fault : LineFault) → IsWhole whole → NoFeed rest → (script whole).fault ≡ None → reading (1 + length (lines whole)) (strip_carriage_return rest) ≡ Err fault → script ((whole ++ (rest ++ 10 ∷ [])) ++ more) ≡ record { events = (script whole).events; fault = Some (1 + length (lines whole), fault) }
-script-fault whole rest more fault w f h e =
-    let moved : (whole ++ (rest ++ 10 ∷ [])) ++ more ≡ whole ++ (rest ++ 10 ∷ more) = simp append_assoc in
-    ap script moved ∙ script-whole_fault whole (rest ++ 10 ∷ more) fault w h (ap (script_from (1 + length (lines whole))) (lines-one_more rest more f) ∙ script_from-fault _ (strip_carriage_return rest) (lines more) fault e)
 
 lines-last_cases : (rest : List ℕ) (b : Bool) → (length rest == 0) ≡ b → 0 < length rest → (if b then [] else rest ∷ []) ≡ rest ∷ []
 lines-last_cases rest true e l = absurd (omega (arith, eqb-true (length rest) 0 e))
 lines-last_cases rest false e l = refl
 
-lines-last_some : (rest : List ℕ) → NoFeed rest → 0 < length rest → lines rest ≡ rest ∷ []
+pub lines-last_some : (rest : List ℕ) → NoFeed rest → 0 < length rest → lines rest ≡ rest ∷ []
 lines-last_some rest f l = lines-last rest f ∙ lines-last_cases rest (length rest == 0) refl l
 
 -- the last line, without a line feed
 pub script-end : (whole rest : List ℕ) (event : Event) → IsWhole whole → NoFeed rest → 0 < length rest → (script whole).fault ≡ None → reading (1 + length (lines whole)) rest ≡ Ok event → script (whole ++ rest) ≡ record { events = (script whole).events ++ (1 + length (lines whole), event) ∷ []; fault = None }
 script-end whole rest event w f l h e = script-whole whole rest w h ∙ ap (behind (script whole)) (ap (script_from (1 + length (lines whole))) (lines-last_some rest f l) ∙ script_from-event _ rest event e)
-
--- a faulty last line, without a line feed
-pub script-end_fault : (whole rest : List ℕ) (fault : LineFault) → IsWhole whole → NoFeed rest → 0 < length rest → (script whole).fault ≡ None → reading (1 + length (lines whole)) rest ≡ Err fault → script (whole ++ rest) ≡ record { events = (script whole).events; fault = Some (1 + length (lines whole), fault) }
-script-end_fault whole rest fault w f l h e = script-whole_fault whole rest fault w h (ap (script_from (1 + length (lines whole))) (lines-last_some rest f l) ∙ script_from-fault _ rest [] fault e)
 
 -- a line that is too long already, whatever follows
 pub script-long : (whole rest more : List ℕ) → IsWhole whole → NoFeed rest → (script whole).fault ≡ None → is_surely_long rest ≡ true → script ((whole ++ rest) ++ more) ≡ record { events = (script whole).events; fault = Some (1 + length (lines whole), (if nat_lt 65536 (1 + length (lines whole)) then TooMany else TooLong)) }

@@ -1,14 +1,12 @@
 -- A line's notes extend a run.
-use Rattle.std.proofs.Common.{◌≡◌, ◌≢◌, ℕ, zero, suc, ◌+◌, ◌-◌, ◌<◌, ◌≤◌, Bool, true, false, List, [], ◌∷◌, ◌++◌, length, reverse, refl, sym, ap, ◌∙◌, subst, arith, append_assoc, append-nil}
-use Rattle.std.specs.Prelude.{◌==◌, if◌then◌else◌, Option, Some, None, Result, Ok, Err, OnOk}
+use Rattle.std.proofs.Common.{◌≡◌, ℕ, zero, suc, ◌-◌, Bool, true, false, List, [], ◌∷◌, ◌++◌, length, reverse, refl, sym, ap, ◌∙◌, subst, arith, append_assoc, append-nil}
+use Rattle.std.specs.Prelude.{◌==◌, if◌then◌else◌, Some, Result, Ok, Err, OnOk}
 use Rattle.std.specs.List.{AllByRecursion}
 use Rattle.std.proofs.lemmas.List.{reverse-append}
-use Rattle.rbc_command.specs.declared.sense.Sense.{Sense}
-use Rattle.sbp_journal.specs.Run.{Run, Entry, with_entry, history, notes_of}
+use Rattle.sbp_journal.specs.Run.{Run, with_entry, history, notes_of}
 use Rattle.sbp_journal.specs.Terms.{lists, appends, ends, status_of}
 use Rattle.sbp_journal.specs.Form.{HasForm}
-use Rattle.sbp_journal.specs.OrderLaw.{IsPresent}
-use Rattle.sbp_journal.specs.ActionLaw.{ActionLaw, AreServed, none, more, Settles, NothingWaits, append_notes, link_notes, served, buffer_of}
+use Rattle.sbp_journal.specs.ActionLaw.{AreServed, none, more, NothingWaits, append_notes, served, buffer_of}
 use Rattle.sbp_journal.specs.declared.event.Cmd.{Cmd}
 use Rattle.sbp_journal.specs.declared.event.Event.{Event}
 use Rattle.sbp_journal.specs.declared.event.Event.TheVariants as events

@@ -1,19 +1,16 @@
 -- The plain list goes on standing for its notes.
-use Rattle.std.proofs.Common.{◌≡◌, ◌≢◌, ℕ, zero, suc, ◌+◌, ◌<◌, ◌≤◌, Bool, true, false, List, [], ◌∷◌, ◌++◌, length, get_or, set, reverse, refl, sym, ap, ◌∙◌, subst, arith, inl, inr}
-use Rattle.std.specs.Prelude.{◌==◌, nat_lt, if◌then◌else◌, Option, Some, None, IfSome, IsSomeAnd, slice_index, min}
-use Rattle.std.specs.List.{AllByRecursion}
+use Rattle.std.proofs.Common.{◌≡◌, ◌≢◌, ℕ, zero, suc, ◌+◌, ◌<◌, ◌≤◌, Bool, true, false, List, [], ◌∷◌, ◌++◌, length, get_or, set, refl, sym, ap, ◌∙◌, subst, arith}
+use Rattle.std.specs.Prelude.{◌==◌, nat_lt, if◌then◌else◌, Option, Some, None, IsSomeAnd, slice_index, min}
 use Rattle.std.proofs.lemmas.List.{get_or-set_same, get_or-set_other, length-set, length-append, get_or_push, get_or_append_left}
-use Rattle.std.proofs.lemmas.Grind.{common_steps}
 use Rattle.sbp_base.specs.Faults.{Rose, last_count}
 use Rattle.rbc_disk.specs.Disk.{Disk, disk_at, no_disk}
 use Rattle.rbc_disk.specs.PlainDisk.{after_run, is_failure}
 use Rattle.rbc_command.specs.declared.sense.Sense.{Sense}
-use Rattle.sbp_journal.specs.Terms.{Request, lists, appends, ends, runs, takes, request_at, ran_status, ended_status, unit_of, status_of, at_orb, at_list, at_initiator}
+use Rattle.sbp_journal.specs.Terms.{Request, lists, appends, runs, takes, request_at, ran_status, ended_status, status_of, at_orb, at_initiator}
 use Rattle.sbp_journal.specs.DiskFold.{disk_of, before_run, failures, DisksAre, FailuresFit}
-use Rattle.sbp_journal.specs.Form.{HasForm, IsCheck, IsStatus, IsAnswer, IsBuffer}
-use Rattle.sbp_journal.specs.OrderLaw.{OrderLaw, IsNextEnd, IsNextAppend, IsPresent}
-use Rattle.sbp_journal.specs.ExecutionLaw.{ExecutionLaw, IsNextRun, RunsOn}
-use Rattle.sbp_journal.specs.StatusLaw.{StatusLaw}
+use Rattle.sbp_journal.specs.Form.{IsCheck, IsStatus, IsAnswer, IsBuffer}
+use Rattle.sbp_journal.specs.OrderLaw.{IsPresent}
+use Rattle.sbp_journal.specs.ExecutionLaw.{RunsOn}
 use Rattle.sbp_journal.specs.AnswerLaw.{AnswerLaw, IsAnswerOf}
 use Rattle.sbp_journal.specs.Lawful.{AreLawful}
 use Rattle.sbp_journal.specs.declared.event.Cmd.{Cmd}

@@ -1,5 +1,5 @@
 -- What the top call promises, by its status.
-use Rattle.std.specs.Prelude.{◌≡◌, ◌≢◌, ℕ, ◌≤◌, ◌⊎◌, List, [], ◌∷◌, ◌++◌, length, take, codes, Option, Some, None, IfSome}
+use Rattle.std.specs.Prelude.{◌≡◌, ℕ, ◌⊎◌, List, [], ◌∷◌, ◌++◌, take, codes, Option, Some, None, IfSome}
 use Rattle.std.specs.Fmt.{decimal}
 use Rattle.std.specs.Io.KnownBytes.{Appends, Consumes, IsAtEnd}
 use Rattle.sbp_base.specs.Faults.{Rose}
@@ -23,6 +23,9 @@ pub record Outside : Type 0 where
   pub writes : ℕ
   pub disks : List Disk
   pub faults : List ℕ
+
+abbrev pub outside : Option (List ℕ) → ℕ → Option (List ℕ) → ℕ → List Disk → List ℕ → Outside
+outside left reads written writes disks faults = record { left = left; reads = reads; written = written; writes = writes; disks = disks; faults = faults }
 
 -- the line that tells a fault
 abbrev pub fault_text : ℕ → LineFault → List ℕ

@@ -1,5 +1,5 @@
 -- The plain list: commands of initiator 0 that wait, in their order.
-use Rattle.std.specs.Prelude.{◌≡◌, ◌≢◌, ℕ, suc, ◌+◌, ◌==◌, ◌<◌, ◌≤◌, Bool, true, false, if◌then◌else◌, List, [], ◌∷◌, ◌++◌, length, reverse, slice_set, slice_index, slice_index_or, Option, Some, None}
+use Rattle.std.specs.Prelude.{◌≡◌, ◌≢◌, ℕ, ◌+◌, ◌==◌, ◌<◌, ◌≤◌, Bool, true, false, if◌then◌else◌, List, [], ◌∷◌, ◌++◌, length, reverse, slice_set, slice_index, slice_index_or, Option, Some, None}
 use Rattle.std.specs.List.{AllByRecursion}
 use Rattle.rbc_disk.specs.Disk.{Disk, disk_at}
 use Rattle.rbc_disk.specs.Command.{command_of}
@@ -15,7 +15,7 @@ use Rattle.sbp_journal.specs.declared.event.Action.{Action}
 use Rattle.sbp_journal.specs.declared.event.Action.TheVariants.{Append}
 use Rattle.sbp_journal.specs.Run.{Run, history}
 use Rattle.sbp_journal.specs.Terms.{Request, lists, appends, ends, runs, takes, request_at, unit_of}
-use Rattle.sbp_journal.specs.DiskFold.{disk_of, DisksAre, FailuresFit}
+use Rattle.sbp_journal.specs.DiskFold.{DisksAre, FailuresFit}
 use Rattle.sbp_journal.specs.Form.{HasForm, IsCheck}
 use Rattle.sbp_journal.specs.ExecutionLaw.{RunsOn}
 use Rattle.sbp_journal.specs.AnswerLaw.{IsAnswerOf}

@@ -3,8 +3,14 @@
 
 mod plain;
 mod script;
+mod session;
 mod status;
+mod top;
+mod write;
 
-pub use plain::PlainList;
 pub use script::{LineError, LineFault, read_line};
 pub use status::Status;
+pub use top::sbp2;
+
+#[cfg(test)]
+mod tests;

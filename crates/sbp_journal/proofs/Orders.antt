@@ -1,10 +1,10 @@
 -- The order law, read in the order of time.
-use Rattle.std.proofs.Common.{◌≡◌, ℕ, zero, suc, ◌<◌, ◌≤◌, Bool, true, false, List, [], ◌∷◌, ◌++◌, refl, sym, ap, ◌∙◌, arith}
-use Rattle.std.specs.Prelude.{◌==◌, if◌then◌else◌, Some, None}
+use Rattle.std.proofs.Common.{◌≡◌, ℕ, suc, ◌<◌, ◌≤◌, Bool, true, false, List, [], ◌∷◌, ◌++◌, refl, ap, ◌∙◌, arith}
+use Rattle.std.specs.Prelude.{◌==◌, if◌then◌else◌, Some}
 use Rattle.sbp_journal.specs.Terms.{at_list, appends, ends}
 use Rattle.sbp_journal.specs.OrderLaw.{OrderLaw, EndsInOrder, ended_numbers, appended_numbers, numbers_below}
 use Rattle.sbp_journal.specs.declared.note.Note.{Note}
-use Rattle.sbp_journal.specs.declared.note.Note.TheVariants.{Begin, Append, Low, Linked, Rung, Ran, Ended, Taken, Settled}
+use Rattle.sbp_journal.specs.declared.note.Note.TheVariants.{Append, Ran, Ended}
 
 -- two terms that change at one list keep what ties them, where their new values keep it
 at_list-ties : {A B : Type 0} (R : A → B → Type 0) (f : ℕ → ℕ → A) (g : ℕ → ℕ → B) (i n : ℕ) (v : A) (w : B) →

@@ -1,10 +1,9 @@
 -- The action law: which notes each line brings.
-use Rattle.std.specs.Prelude.{◌≡◌, ℕ, ◌==◌, ◌-◌, true, false, if◌then◌else◌, List, [], ◌∷◌, ◌++◌, reverse, Option, Some}
+use Rattle.std.specs.Prelude.{◌≡◌, ℕ, ◌==◌, if◌then◌else◌, List, [], ◌∷◌, ◌++◌, reverse, Option, Some}
 use Rattle.rbc_command.specs.declared.sense.Sense.{Sense}
 use Rattle.sbp_journal.specs.Run.{Entry, history}
-use Rattle.sbp_journal.specs.Terms.{lists, appends, ends, present_list, status_of}
+use Rattle.sbp_journal.specs.Terms.{appends, ends, present_list, status_of}
 use Rattle.sbp_journal.specs.OrderLaw.{IsPresent}
-use Rattle.sbp_journal.specs.declared.event.Action.{Action}
 use Rattle.sbp_journal.specs.declared.event.Action.TheVariants as actions
 use Rattle.sbp_journal.specs.declared.event.Cmd.{Cmd}
 use Rattle.sbp_journal.specs.declared.event.Event.{Event}

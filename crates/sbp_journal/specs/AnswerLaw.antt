@@ -1,5 +1,5 @@
 -- The answer law: a good status carries the answer of the plain disk as it was before the ORB ran.
-use Rattle.std.specs.Prelude.{◌≡◌, ℕ, List, [], ◌∷◌, length, Option, IfSome, IsSomeAnd}
+use Rattle.std.specs.Prelude.{◌≡◌, ℕ, List, [], ◌∷◌, length, IfSome, IsSomeAnd}
 use Rattle.rbc_disk.specs.Disk.{Disk}
 use Rattle.rbc_disk.specs.Command.{command_of}
 use Rattle.rbc_disk.specs.PlainDisk.{answer_of, answer_length}

@@ -1,5 +1,5 @@
 -- The disk fold: what a unit's medium holds, as a fold over the notes (RBC). Notes stand with the latest one first.
-use Rattle.std.specs.Prelude.{ℕ, suc, ◌≡◌, ◌<◌, ◌==◌, ◌+◌, ◌≤◌, min, Bool, if◌then◌else◌, List, [], ◌∷◌, length, slice_index, Option, Some, None}
+use Rattle.std.specs.Prelude.{ℕ, suc, ◌≡◌, ◌<◌, ◌+◌, ◌≤◌, min, if◌then◌else◌, List, [], ◌∷◌, length, slice_index, Some}
 use Rattle.sbp_base.specs.Faults.{last_count}
 use Rattle.rbc_disk.specs.Disk.{Disk, disk_at, no_disk}
 use Rattle.rbc_disk.specs.PlainDisk.{after_run, is_failure}

@@ -1,6 +1,6 @@
 -- The execution law: each ORB runs at most once, in its order, with its own command and data, and with the outcome that the plain
 -- disk allows.
-use Rattle.std.specs.Prelude.{◌≡◌, ◌≢◌, ℕ, ◌<◌, ◌⊎◌, List, [], ◌∷◌, Option, Some, IsSomeAnd}
+use Rattle.std.specs.Prelude.{◌≡◌, ℕ, ◌<◌, ◌⊎◌, List, [], ◌∷◌, Option, Some, IsSomeAnd}
 use Rattle.rbc_disk.specs.Disk.{Disk}
 use Rattle.rbc_disk.specs.Command.{command_of}
 use Rattle.rbc_disk.specs.PlainDisk.{first_check, need_of, data_length, failure_of, MayEnd}
@@ -10,7 +10,6 @@ use Rattle.sbp_journal.specs.Terms.{Request, runs, ends, request_at, ran_status,
 use Rattle.sbp_journal.specs.DiskFold.{disk_of}
 use Rattle.sbp_journal.specs.declared.note.Note.{Note}
 use Rattle.sbp_journal.specs.declared.note.Note.TheVariants.{Ran, Ended}
-use Rattle.sbp_journal.specs.declared.note.StatusKind.TheVariants.{Good, Check}
 
 -- no data, or those of a WRITE of one block or more
 abbrev pub MayCarry : Request → List ℕ → Type 0

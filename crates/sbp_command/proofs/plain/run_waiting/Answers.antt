@@ -1,6 +1,3 @@
-use Rattle.std.proofs.Common.{rules, arith, map, sym}
-use Rattle.std.proofs.lemmas.Grind.{common_steps}
-use Rattle.rbc_disk.specs.Disk.{disk_at}
 use Rattle.sbp_command.proofs.Running.{runs_carrying}
 use Rattle.sbp_command.proofs.plain.run_waiting.Goals as goal
 

@@ -1,4 +1,4 @@
-use Rattle.std.proofs.Common.{◌≡◌, ap, take}
+use Rattle.std.proofs.Common.{ap, take}
 use Rattle.sbp_command.specs.Plain.{carried_of}
 use Rattle.sbp_command.proofs.plain.serve_command.Goals as goal
 

@@ -1,4 +1,4 @@
-use Rattle.std.proofs.Common.{refl, sym, ◌∙◌}
+use Rattle.std.proofs.Common.{refl, ◌∙◌}
 use Rattle.sbp_command.proofs.Settling.{settling_none, settling_more}
 use Rattle.sbp_command.proofs.plain.PlainList.serve_all.Goals as goal
 

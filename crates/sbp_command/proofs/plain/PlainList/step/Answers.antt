@@ -1,5 +1,3 @@
-use Rattle.std.proofs.Common.{◌≡◌, ap, ◌∙◌}
-use Rattle.sbp_command.specs.Plain.{PlainState}
 use Rattle.sbp_command.proofs.Settling.{on_ok, cleared_from, line_begins, line_appends, line_settles}
 use Rattle.sbp_command.proofs.plain.PlainList.step.Goals as goal
 

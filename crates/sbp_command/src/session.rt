@@ -1,0 +1,325 @@
+ghost use Rattle.std.specs.Prelude.{◌≡◌, ◌≢◌, ◌+◌, ◌<◌, ◌≤◌, ◌∷◌, ◌++◌, [], ℕ, List, map, length, nat_lt, true, Option, Ok, Err, IfOk, OnOk, if◌then◌else◌};
+ghost use Rattle.std.specs.Io.KnownBytes.{IsAtEnd};
+ghost use Rattle.std.specs.Str.Lines.{strip_carriage_return};
+ghost use Rattle.rbc_disk.specs.Disk.{Disk};
+ghost use Rattle.sbp_journal.specs.Run.{Run};
+ghost use Rattle.sbp_journal.specs.declared.event.Event.{Event};
+ghost use Rattle.sbp_command.specs.Plain.{PlainState, InPlace, empty_list};
+ghost use Rattle.sbp_command.specs.Headline.{Outside, outside, RunEnds};
+ghost use Rattle.sbp_command.specs.Script as script;
+ghost use Rattle.sbp_command.specs.declared.script.LineFault.TheVariants as line_faults;
+ghost use Rattle.sbp_command.specs.Session.{SessionState, IsReady, budget, RanSoFar, LineFails, LineEnds, InRun, GoesOn, PieceEnds};
+
+use crate::plain::PlainList;
+use crate::script::{LineError, LineFault, read_line};
+use crate::status::Status;
+use crate::write::{write_fault, write_notes};
+use rbc_disk::Medium;
+use sbp_base::{Bytes, Failed, NoMemory, Sink, Source};
+use sbp_journal::{Event, Text};
+use std::alloc::Global;
+use std::marker::Model;
+
+/// The most bytes of a line with a carriage return behind it.
+const LINE_ROOM: usize = 8193;
+
+/// The most lines of a script.
+const LINES: u32 = 65536;
+
+/// A script that is read: its whole lines so far were run.
+#[derive(Drop)]
+pub struct Session {
+    alloc: Global,
+    number: u32,
+    rest: Bytes,
+    list: PlainList,
+    text: Text,
+}
+
+impl Model for Session {
+    ghost use Rattle.sbp_command.specs.Session.{SessionState};
+
+    ghost Value = { SessionState };
+
+    ghost view = { λ session. record { number = session.number; rest = session.rest; list = session.list } };
+}
+
+/// Runs the event of a line, and writes its notes.
+fn run_event<K: Sink>(
+    alloc: Global,
+    event: Event,
+    list: &mut PlainList,
+    text: &mut Text,
+    media: &mut Vec<Box<dyn Medium>>,
+    sink: &mut K,
+) -> Result<(), Status>
+    requires place { InPlace list.old.begun event }
+    requires room { list.old.appended < 65536 }
+    requires media { 0 < length media.old.items }
+    ensures count { length media.new.items ≡ length media.old.items }
+    ensures begun { OnOk result (list.new.begun ≡ true) }
+    ensures room { OnOk result (list.new.appended ≤ list.old.appended + 1) }
+    ensures ends { (before : Outside) (left : Option (List ℕ)) (reads : ℕ) (run : Run) (number : ℕ) (line : List ℕ) → script.reading number line ≡ Ok event → RanSoFar before (outside left reads (K.written sink.old) (K.faults sink.old) (map disk media.old.items) (map media_faults media.old.items)) run list.old → LineEnds result before (outside left reads (K.written sink.new) (K.faults sink.new) (map disk media.new.items) (map media_faults media.new.items)) run number line list.new }
+{
+    match list.step(media, event) {
+        Ok(()) => write_notes(alloc, list.fresh().as_slice(), text, sink),
+        Err(NoMemory) => Err(Status::NoMemory),
+    }
+}
+
+/// Writes the fault of a line, which ends the run.
+fn tell_fault<K: Sink>(alloc: Global, number: u32, fault: LineFault, sink: &mut K) -> Status
+    ensures { (before : Outside) (left : Option (List ℕ)) (reads : ℕ) (disks : List Disk) (faults : List ℕ) (run : Run) (line : List ℕ) (list : PlainState) → script.reading number line ≡ Err fault → RanSoFar before (outside left reads (K.written sink.old) (K.faults sink.old) disks faults) run list → LineFails result before (outside left reads (K.written sink.new) (K.faults sink.new) disks faults) run number line list }
+{
+    match write_fault(alloc, number, fault, sink) {
+        Ok(()) => Status::Script,
+        Err(status) => status,
+    }
+}
+
+/// Runs a line that has ended, or tells its fault.
+#[tactic(auto, using(crate::proofs::Places::places))]
+fn run_line<K: Sink>(
+    alloc: Global,
+    number: u32,
+    line: &[u8],
+    list: &mut PlainList,
+    text: &mut Text,
+    media: &mut Vec<Box<dyn Medium>>,
+    sink: &mut K,
+) -> Result<(), Status>
+    requires begun { list.old.begun ≡ nat_lt 1 number }
+    requires room { list.old.appended < number }
+    requires media { 0 < length media.old.items }
+    ensures few { OnOk result (number ≤ 65536) }
+    ensures count { length media.new.items ≡ length media.old.items }
+    ensures begun { OnOk result (list.new.begun ≡ true) }
+    ensures room { OnOk result (list.new.appended ≤ list.old.appended + 1) }
+    ensures ends { (before : Outside) (left : Option (List ℕ)) (reads : ℕ) (run : Run) → RanSoFar before (outside left reads (K.written sink.old) (K.faults sink.old) (map disk media.old.items) (map media_faults media.old.items)) run list.old → LineEnds result before (outside left reads (K.written sink.new) (K.faults sink.new) (map disk media.new.items) (map media_faults media.new.items)) run number line.now list.new }
+{
+    match read_line(alloc, number, line) {
+        Ok(event) => run_event(alloc, event, list, text, media, sink),
+        Err(LineError::Fault(fault)) => Err(tell_fault(alloc, number, fault, sink)),
+        Err(LineError::NoMemory) => Err(Status::NoMemory),
+    }
+}
+
+/// A line without the one carriage return at its end, if it has one.
+fn without_return(line: &[u8]) -> &[u8]
+    ensures { result.now ≡ strip_carriage_return line.now }
+{
+    if !line.is_empty() && line[line.len() - 1] == b'\r' {
+        &line[..line.len() - 1]
+    } else {
+        line
+    }
+}
+
+/// Whether a line that has not ended is too long whatever follows: a carriage return at its end may
+/// be dropped.
+fn is_surely_long(rest: &[u8]) -> bool
+    ensures { result ≡ script.is_surely_long rest.now }
+{
+    rest.len() > LINE_ROOM || (rest.len() > LINE_ROOM - 1 && rest[rest.len() - 1] != b'\r')
+}
+
+/// The fault of a line that is too long: its number comes first.
+fn long_fault(number: u32) -> LineFault
+    ensures { result ≡ (if nat_lt 65536 number then line_faults.TooMany else line_faults.TooLong) }
+{
+    if number > LINES {
+        LineFault::TooMany
+    } else {
+        LineFault::TooLong
+    }
+}
+
+impl Session {
+    /// Nothing was read.
+    pub fn new(alloc: Global) -> Result<Self, NoMemory>
+        ensures { IfOk result (λ session. session ≡ record { number = 0; rest = []; list = empty_list }) }
+    {
+        Ok(Session {
+            alloc,
+            number: 0,
+            rest: Bytes::new(alloc),
+            list: PlainList::new(alloc)?,
+            text: Text::new(alloc),
+        })
+    }
+
+    /// Runs the line that a line feed ends.
+    fn end_line<K: Sink>(
+        &mut self,
+        media: &mut Vec<Box<dyn Medium>>,
+        sink: &mut K,
+    ) -> Result<(), Status>
+        requires ready { IsReady self.old }
+        requires media { 0 < length media.old.items }
+        ensures count { length media.new.items ≡ length media.old.items }
+        ensures ready { OnOk result (IsReady self.new) }
+        ensures budget { OnOk result (budget self.new < budget self.old) }
+        ensures told { (before : Outside) (left : Option (List ℕ)) (reads : ℕ) (pending : List ℕ) → InRun before (outside left reads (K.written sink.old) (K.faults sink.old) (map disk media.old.items) (map media_faults media.old.items)) (10 ∷ pending) self.old → GoesOn result before (outside left reads (K.written sink.new) (K.faults sink.new) (map disk media.new.items) (map media_faults media.new.items)) pending self.new }
+    {
+        let line = without_return(self.rest.as_slice());
+        let number = self.number + 1;
+        if let Err(status) = run_line(
+            self.alloc,
+            number,
+            line,
+            &mut self.list,
+            &mut self.text,
+            media,
+            sink,
+        ) {
+            return Err(status);
+        }
+        self.number = number;
+        self.rest.clear();
+        Ok(())
+    }
+
+    /// Tells that the line is too long, or one too many.
+    fn tell_long<K: Sink>(&self, sink: &mut K) -> Status
+        requires few { self.now.number ≤ 65536 }
+        requires long { script.is_surely_long self.now.rest ≡ true }
+        ensures { (before : Outside) (left : Option (List ℕ)) (reads : ℕ) (disks : List Disk) (faults : List ℕ) (pending : List ℕ) → InRun before (outside left reads (K.written sink.old) (K.faults sink.old) disks faults) pending self.now → RunEnds result before (outside left reads (K.written sink.new) (K.faults sink.new) disks faults) }
+    {
+        let number = self.number + 1;
+        tell_fault(self.alloc, number, long_fault(number), sink)
+    }
+
+    /// Takes a byte of a line.
+    fn push_byte<K: Sink>(&mut self, byte: u8, sink: &mut K) -> Result<(), Status>
+        requires ready { IsReady self.old }
+        requires other { byte ≢ 10 }
+        ensures ready { OnOk result (IsReady self.new) }
+        ensures budget { OnOk result (budget self.new < budget self.old) }
+        ensures told { (before : Outside) (left : Option (List ℕ)) (reads : ℕ) (disks : List Disk) (faults : List ℕ) (pending : List ℕ) → InRun before (outside left reads (K.written sink.old) (K.faults sink.old) disks faults) (byte ∷ pending) self.old → GoesOn result before (outside left reads (K.written sink.new) (K.faults sink.new) disks faults) pending self.new }
+    {
+        if let Err(NoMemory) = self.rest.push(byte) {
+            return Err(Status::NoMemory);
+        }
+        if is_surely_long(self.rest.as_slice()) {
+            return Err(self.tell_long(sink));
+        }
+        Ok(())
+    }
+
+    /// Takes a byte of the input.
+    fn take_byte<K: Sink>(
+        &mut self,
+        byte: u8,
+        media: &mut Vec<Box<dyn Medium>>,
+        sink: &mut K,
+    ) -> Result<(), Status>
+        requires ready { IsReady self.old }
+        requires media { 0 < length media.old.items }
+        ensures count { length media.new.items ≡ length media.old.items }
+        ensures ready { OnOk result (IsReady self.new) }
+        ensures budget { OnOk result (budget self.new < budget self.old) }
+        ensures told { (before : Outside) (left : Option (List ℕ)) (reads : ℕ) (pending : List ℕ) → InRun before (outside left reads (K.written sink.old) (K.faults sink.old) (map disk media.old.items) (map media_faults media.old.items)) (byte ∷ pending) self.old → GoesOn result before (outside left reads (K.written sink.new) (K.faults sink.new) (map disk media.new.items) (map media_faults media.new.items)) pending self.new }
+    {
+        if byte == b'\n' {
+            self.end_line(media, sink)
+        } else {
+            self.push_byte(byte, sink)
+        }
+    }
+
+    /// Takes a piece of the input.
+    fn take_piece<K: Sink>(
+        &mut self,
+        piece: &[u8],
+        media: &mut Vec<Box<dyn Medium>>,
+        sink: &mut K,
+    ) -> Result<(), Status>
+        requires ready { IsReady self.old }
+        requires media { 0 < length media.old.items }
+        ensures count { length media.new.items ≡ length media.old.items }
+        ensures ready { OnOk result (IsReady self.new) }
+        ensures budget { OnOk result (length piece.now + budget self.new ≤ budget self.old) }
+        ensures told { (before : Outside) (left : Option (List ℕ)) (reads : ℕ) → InRun before (outside left reads (K.written sink.old) (K.faults sink.old) (map disk media.old.items) (map media_faults media.old.items)) piece.now self.old → GoesOn result before (outside left reads (K.written sink.new) (K.faults sink.new) (map disk media.new.items) (map media_faults media.new.items)) [] self.new }
+    {
+        for byte in piece {
+            if let Err(status) = self.take_byte(*byte, media, sink) {
+                return Err(status);
+            }
+        }
+        Ok(())
+    }
+
+    /// Runs the last line, if it has no line feed.
+    fn finish<K: Sink>(&mut self, media: &mut Vec<Box<dyn Medium>>, sink: &mut K) -> Status
+        requires ready { IsReady self.old }
+        requires media { 0 < length media.old.items }
+        ensures { (before : Outside) (left : Option (List ℕ)) (reads : ℕ) → IsAtEnd left → InRun before (outside left reads (K.written sink.old) (K.faults sink.old) (map disk media.old.items) (map media_faults media.old.items)) [] self.old → RunEnds result before (outside left reads (K.written sink.new) (K.faults sink.new) (map disk media.new.items) (map media_faults media.new.items)) }
+    {
+        if self.rest.as_slice().is_empty() {
+            return Status::Done;
+        }
+        let line = self.rest.as_slice();
+        let number = self.number + 1;
+        if let Err(status) = run_line(
+            self.alloc,
+            number,
+            line,
+            &mut self.list,
+            &mut self.text,
+            media,
+            sink,
+        ) {
+            return status;
+        }
+        Status::Done
+    }
+
+    /// Reads a piece of the input into `room` and takes it, and answers how many bytes it has: 0 at
+    /// the end.
+    fn read_piece<S: Source, K: Sink>(
+        &mut self,
+        room: &mut [u8],
+        media: &mut Vec<Box<dyn Medium>>,
+        source: &mut S,
+        sink: &mut K,
+    ) -> Result<usize, Status>
+        requires ready { IsReady self.old }
+        requires room { 0 < length room.old }
+        requires media { 0 < length media.old.items }
+        ensures count { length media.new.items ≡ length media.old.items }
+        ensures room { length room.new ≡ length room.old }
+        ensures ready { OnOk result (IsReady self.new) }
+        ensures budget { IfOk result (λ count. count + budget self.new ≤ budget self.old) }
+        ensures told { (before : Outside) → InRun before (outside (S.left source.old) (S.faults source.old) (K.written sink.old) (K.faults sink.old) (map disk media.old.items) (map media_faults media.old.items)) [] self.old → PieceEnds result before (outside (S.left source.new) (S.faults source.new) (K.written sink.new) (K.faults sink.new) (map disk media.new.items) (map media_faults media.new.items)) self.new }
+    {
+        match source.read(room) {
+            Ok(count) => match self.take_piece(&room[..count], media, sink) {
+                Ok(()) => Ok(count),
+                Err(status) => Err(status),
+            },
+            Err(Failed) => Err(Status::ReadFault),
+        }
+    }
+
+    /// Reads the whole input, by pieces that `room` holds, and runs its lines.
+    pub fn run<S: Source, K: Sink>(
+        &mut self,
+        room: &mut [u8],
+        media: &mut Vec<Box<dyn Medium>>,
+        source: &mut S,
+        sink: &mut K,
+    ) -> Status
+        requires ready { IsReady self.old }
+        requires room { 0 < length room.old }
+        requires media { 0 < length media.old.items }
+        ensures { (before : Outside) → InRun before (outside (S.left source.old) (S.faults source.old) (K.written sink.old) (K.faults sink.old) (map disk media.old.items) (map media_faults media.old.items)) [] self.old → RunEnds result before (outside (S.left source.new) (S.faults source.new) (K.written sink.new) (K.faults sink.new) (map disk media.new.items) (map media_faults media.new.items)) }
+    {
+        loop {
+            match self.read_piece(room, media, source, sink) {
+                Ok(0) => return self.finish(media, sink),
+                Ok(_) => {}
+                Err(status) => return status,
+            }
+        }
+    }
+}

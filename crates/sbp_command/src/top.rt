@@ -1,0 +1,78 @@
+ghost use Rattle.std.specs.Prelude.{◌≡◌, ◌≤◌, ◌<◌, ℕ, List, map, length, IfOk, Option, ◌↔◌, ◌++◌, ◌∷◌, [], true};
+ghost use Rattle.std.specs.String.{string_bytes};
+ghost use Rattle.rbc_disk.specs.Disk.{Disk};
+ghost use Rattle.sbp_command.specs.Headline.{Outside, outside, RunEnds, UsageEnds, IsRun, usage};
+ghost use Rattle.sbp_command.specs.Session.{WritesFront};
+
+use crate::session::Session;
+use crate::status::Status;
+use crate::write::write_all;
+use rbc_disk::Medium;
+use sbp_base::{NoMemory, Sink, Source};
+use std::alloc::Global;
+
+/// How many bytes are read by one call.
+const PIECE: usize = 4096;
+
+/// What is written where the words are in no row.
+const USAGE: &str = "usage: sbp2 run | drill SEED N | decode | rom | tasks | queue\n";
+
+/// Whether the words are `run` alone.
+fn is_run(words: &[String]) -> bool
+    ensures { result ≡ true ↔ IsRun (map string_bytes words.now) }
+{
+    match words {
+        [word] => word.as_str() == "run",
+        _ => false,
+    }
+}
+
+/// Writes the usage line.
+fn tell_usage<K: Sink>(sink: &mut K) -> Status
+    ensures { (left : Option (List ℕ)) (reads : ℕ) (disks : List Disk) (faults : List ℕ) → UsageEnds result (outside left reads (K.written sink.old) (K.faults sink.old) disks faults) (outside left reads (K.written sink.new) (K.faults sink.new) disks faults) }
+{
+    match write_all(sink, USAGE.as_bytes()) {
+        Ok(()) => Status::Words,
+        Err(status) => status,
+    }
+}
+
+/// Reads a script and runs its lines.
+fn run_script<S: Source, K: Sink>(
+    alloc: Global,
+    media: &mut Vec<Box<dyn Medium>>,
+    source: &mut S,
+    sink: &mut K,
+) -> Status
+    requires some { 1 ≤ length media.old.items }
+    ensures { RunEnds result (outside (S.left source.old) (S.faults source.old) (K.written sink.old) (K.faults sink.old) (map disk media.old.items) (map media_faults media.old.items)) (outside (S.left source.new) (S.faults source.new) (K.written sink.new) (K.faults sink.new) (map disk media.new.items) (map media_faults media.new.items)) }
+{
+    let Ok(mut session) = Session::new(alloc) else {
+        return Status::NoMemory;
+    };
+    let Ok(mut room) = vec![in alloc; 0u8; PIECE] else {
+        return Status::NoMemory;
+    };
+    session.run(room.as_mut_slice(), media, source, sink)
+}
+
+/// Does what the words say over one to four media: `run` reads a script from `source`, runs it, and
+/// writes the journal to `sink`. The words are read as they are.
+pub fn sbp2<S: Source, K: Sink>(
+    alloc: Global,
+    words: &[String],
+    media: &mut Vec<Box<dyn Medium>>,
+    source: &mut S,
+    sink: &mut K,
+) -> Status
+    requires some { 1 ≤ length media.old.items }
+    requires few { length media.old.items ≤ 4 }
+    ensures run { IsRun (map string_bytes words.now) → RunEnds result (outside (S.left source.old) (S.faults source.old) (K.written sink.old) (K.faults sink.old) (map disk media.old.items) (map media_faults media.old.items)) (outside (S.left source.new) (S.faults source.new) (K.written sink.new) (K.faults sink.new) (map disk media.new.items) (map media_faults media.new.items)) }
+    ensures words { ¬ IsRun (map string_bytes words.now) → UsageEnds result (outside (S.left source.old) (S.faults source.old) (K.written sink.old) (K.faults sink.old) (map disk media.old.items) (map media_faults media.old.items)) (outside (S.left source.new) (S.faults source.new) (K.written sink.new) (K.faults sink.new) (map disk media.new.items) (map media_faults media.new.items)) }
+{
+    if is_run(words) {
+        run_script(alloc, media, source, sink)
+    } else {
+        tell_usage(sink)
+    }
+}
