@@ -3,10 +3,10 @@ use Rattle.std.proofs.Common.{◌≡◌, ℕ, ◌<◌, ◌*◌, Bool, true, fals
 use Rattle.std.specs.Prelude.{◌==◌, ◌&&◌, nat_lt, not, if◌then◌else◌, Option, Some, None, Result, Ok, Err}
 use Rattle.rbc_disk.specs.Disk.{Disk}
 use Rattle.rbc_disk.specs.PlainDisk.{or_else, check_of, data_length, need_at, is_short, is_outside, is_write, count_in}
-use Rattle.rbc_disk.specs.Command.{sense}
+use Rattle.rbc_command.specs.SenseData.{sense}
 use Rattle.rbc_disk.specs.declared.command.Command.{Command}
 use Rattle.rbc_disk.specs.declared.command.Command.TheVariants.{Read, Write}
-use Rattle.rbc_disk.specs.declared.command.Sense.{Sense}
+use Rattle.rbc_command.specs.declared.sense.Sense.{Sense}
 use Rattle.rbc_disk.specs.declared.command.BufferPlan.{BufferPlan}
 use Rattle.rbc_disk.specs.declared.command.Need.TheVariants.{Payload, RunNow}
 

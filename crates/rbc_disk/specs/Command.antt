@@ -3,10 +3,8 @@ use Rattle.std.specs.Prelude.{ℕ, ◌==◌, if◌then◌else◌, List, drop, sl
 use Rattle.byteorder.specs.Endian.{big_number}
 use Rattle.rbc_disk.specs.declared.command.Command.{Command}
 use Rattle.rbc_disk.specs.declared.command.Command.TheVariants.{Read, Write}
-use Rattle.rbc_disk.specs.declared.command.Sense.{Sense}
-
-abbrev pub sense : ℕ → ℕ → ℕ → Sense
-sense key code qualifier = record { key = key; code = code; qualifier = qualifier }
+use Rattle.rbc_command.specs.SenseData.{sense}
+use Rattle.rbc_command.specs.declared.sense.Sense.{Sense}
 
 -- byte 0: the opcode
 abbrev pub opcode_of : List ℕ → ℕ

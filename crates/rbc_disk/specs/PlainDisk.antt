@@ -2,10 +2,11 @@
 use Rattle.std.specs.Prelude.{◌≡◌, ℕ, ◌+◌, ◌*◌, ◌≤◌, ◌==◌, ◌&&◌, ◌||◌, nat_lt, Bool, true, false, not, if◌then◌else◌, List, [], length, Option, Some, None, Result, Ok, Err}
 use Rattle.std.specs.Option.{option_map}
 use Rattle.rbc_disk.specs.Disk.{Disk, blocks_at, written}
-use Rattle.rbc_disk.specs.Command.{command_of, sense}
+use Rattle.rbc_command.specs.SenseData.{sense}
+use Rattle.rbc_disk.specs.Command.{command_of}
 use Rattle.rbc_disk.specs.declared.command.Command.{Command}
 use Rattle.rbc_disk.specs.declared.command.Command.TheVariants.{Read, Write}
-use Rattle.rbc_disk.specs.declared.command.Sense.{Sense}
+use Rattle.rbc_command.specs.declared.sense.Sense.{Sense}
 use Rattle.rbc_disk.specs.declared.command.BufferPlan.{BufferPlan}
 use Rattle.rbc_disk.specs.declared.command.Need.{Need}
 use Rattle.rbc_disk.specs.declared.command.Need.TheVariants.{Payload, RunNow}

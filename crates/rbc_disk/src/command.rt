@@ -2,71 +2,13 @@ ghost use Rattle.std.specs.Prelude.{◌≡◌};
 ghost use Rattle.rbc_disk.specs.Command.{command_of};
 
 use byteorder::{BigEndian, ByteOrder};
+use rbc_command::Sense;
 
 /// Bytes of a block.
 pub const BLOCK: u32 = 512;
 
 /// The most bytes that a command moves: 32 blocks.
 pub const TRANSFER: u32 = 16384;
-
-/// Sense key, sense code and qualifier of a check condition (SPC, sense data).
-#[derive(Clone, Copy, Debug, PartialEq, Eq)]
-pub struct Sense {
-    pub key: u8,
-    pub code: u8,
-    pub qualifier: u8,
-}
-
-impl Sense {
-    /// No such command: 5/20/00.
-    pub const NO_COMMAND: Sense = Sense {
-        key: 0x5,
-        code: 0x20,
-        qualifier: 0x00,
-    };
-
-    /// The blocks are not all inside the medium: 5/21/00.
-    pub const OUTSIDE: Sense = Sense {
-        key: 0x5,
-        code: 0x21,
-        qualifier: 0x00,
-    };
-
-    /// A field or the buffer does not fit the command: 5/24/00.
-    pub const BAD_FIELD: Sense = Sense {
-        key: 0x5,
-        code: 0x24,
-        qualifier: 0x00,
-    };
-
-    /// The medium is not present: 2/3A/00.
-    pub const NO_MEDIUM: Sense = Sense {
-        key: 0x2,
-        code: 0x3a,
-        qualifier: 0x00,
-    };
-
-    /// The medium is protected: 7/27/00.
-    pub const PROTECTED: Sense = Sense {
-        key: 0x7,
-        code: 0x27,
-        qualifier: 0x00,
-    };
-
-    /// The medium's read failed: 3/11/00.
-    pub const READ_FAILED: Sense = Sense {
-        key: 0x3,
-        code: 0x11,
-        qualifier: 0x00,
-    };
-
-    /// The medium's write failed: 3/0C/00.
-    pub const WRITE_FAILED: Sense = Sense {
-        key: 0x3,
-        code: 0x0c,
-        qualifier: 0x00,
-    };
-}
 
 /// A command of a command block.
 #[derive(Clone, Copy, Debug, PartialEq, Eq)]

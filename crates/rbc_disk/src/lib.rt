@@ -7,10 +7,11 @@ mod medium;
 mod ram;
 mod run;
 
-pub use command::{BLOCK, BufferPlan, Command, Need, Outcome, Sense, TRANSFER};
+pub use command::{BLOCK, BufferPlan, Command, Need, Outcome, TRANSFER};
 pub use media::{run_unit, unit_needs};
 pub use medium::Medium;
 pub use ram::RamMedium;
+pub use rbc_command::Sense;
 pub use run::{needs, run_command};
 
 #[cfg(test)]

@@ -4,8 +4,9 @@ ghost use Rattle.rbc_disk.specs.Disk.{Disk};
 ghost use Rattle.rbc_disk.specs.Command.{command_of};
 ghost use Rattle.rbc_disk.specs.PlainDisk.{first_check, need_of, Feeds, MayEnd, failure_of, check_in, is_failure, answered_length, answer_of, after_run, after_checked, check_of, Passes, answer_length, count_in, is_write, data_length, need_at};
 
-use crate::command::{BLOCK, BufferPlan, Command, Need, Outcome, Sense, TRANSFER};
+use crate::command::{BLOCK, BufferPlan, Command, Need, Outcome, TRANSFER};
 use crate::medium::Medium;
+use rbc_command::Sense;
 use sbp_base::Failed;
 
 /// The first check of a command that holds before any medium call (RBC).

@@ -7,7 +7,7 @@ use Rattle.rbc_disk.specs.Command.{command_of}
 use Rattle.rbc_disk.specs.PlainDisk.{need_of, first_check, failure_of, MayEnd, Feeds, answer_of, answer_length}
 use Rattle.rbc_disk.specs.declared.command.Need.{Need}
 use Rattle.rbc_disk.specs.declared.command.Need.TheVariants.{Payload, RunNow}
-use Rattle.rbc_disk.specs.declared.command.Sense.{Sense}
+use Rattle.rbc_command.specs.declared.sense.Sense.{Sense}
 use Rattle.rbc_disk.specs.declared.command.BufferPlan.{BufferPlan}
 use Rattle.rbc_disk.proofs.PlainDiskLemmas.{asks_data}
 use Rattle.sbp_journal.specs.Terms.{plan_of, data_of}

@@ -5,7 +5,7 @@ use Rattle.std.proofs.lemmas.List.{get_or-set_same, get_or-set_other, length-set
 use Rattle.sbp_base.specs.Faults.{Rose, last_count}
 use Rattle.rbc_disk.specs.Disk.{Disk, disk_at, no_disk}
 use Rattle.rbc_disk.specs.PlainDisk.{after_run, is_failure}
-use Rattle.rbc_disk.specs.declared.command.Sense.{Sense}
+use Rattle.rbc_command.specs.declared.sense.Sense.{Sense}
 use Rattle.sbp_journal.specs.Terms.{Request, lists, appends, runs, takes, request_at, ran_status, ended_status, status_of, at_orb, at_initiator}
 use Rattle.sbp_journal.specs.DiskFold.{disk_of, before_run, failures, DisksAre, FailuresFit}
 use Rattle.sbp_journal.specs.Form.{IsCheck, IsStatus, IsAnswer, IsBuffer}

@@ -4,7 +4,7 @@ use Rattle.std.specs.List.{AllByRecursion}
 use Rattle.rbc_disk.specs.Disk.{Disk, disk_at}
 use Rattle.rbc_disk.specs.Command.{command_of}
 use Rattle.rbc_disk.specs.PlainDisk.{after_run, data_length, is_failure}
-use Rattle.rbc_disk.specs.declared.command.Sense.{Sense}
+use Rattle.rbc_command.specs.declared.sense.Sense.{Sense}
 use Rattle.sbp_base.specs.Faults.{Rose}
 use Rattle.sbp_journal.specs.declared.note.Note.{Note}
 use Rattle.sbp_journal.specs.declared.note.Note.TheVariants.{Settled}

@@ -9,7 +9,6 @@ mod status;
 mod top;
 mod write;
 
-pub use plain::PlainList;
 pub use script::{LineError, LineFault, read_line};
 pub use status::Status;
 pub use top::sbp2;

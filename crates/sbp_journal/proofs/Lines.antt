@@ -3,7 +3,7 @@ use Rattle.std.proofs.Common.{◌≡◌, ℕ, List, [], ◌∷◌, ◌++◌, map
 use Rattle.std.specs.Fmt.{decimal}
 use Rattle.std.specs.List.{join_with_byte}
 use Rattle.hex.specs.Hex.{encode_upper}
-use Rattle.rbc_disk.specs.declared.command.Sense.{Sense}
+use Rattle.rbc_command.specs.declared.sense.Sense.{Sense}
 use Rattle.sbp_journal.specs.Canonical.{canonical}
 use Rattle.sbp_journal.specs.Text.{word, maybe, named_fields, work_fields, status_fields, check_fields, note_text}
 use Rattle.sbp_journal.specs.declared.note.Note.TheVariants.{Ran}

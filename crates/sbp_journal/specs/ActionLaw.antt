@@ -1,6 +1,6 @@
 -- The action law: which notes each line brings.
 use Rattle.std.specs.Prelude.{◌≡◌, ℕ, ◌==◌, if◌then◌else◌, List, [], ◌∷◌, ◌++◌, reverse, Option, Some}
-use Rattle.rbc_disk.specs.declared.command.Sense.{Sense}
+use Rattle.rbc_command.specs.declared.sense.Sense.{Sense}
 use Rattle.sbp_journal.specs.Run.{Entry, history}
 use Rattle.sbp_journal.specs.Terms.{appends, ends, present_list, status_of}
 use Rattle.sbp_journal.specs.OrderLaw.{IsPresent}

@@ -4,7 +4,7 @@ use Rattle.std.specs.Prelude.{◌≡◌, ℕ, ◌<◌, ◌⊎◌, List, [], ◌�
 use Rattle.rbc_disk.specs.Disk.{Disk}
 use Rattle.rbc_disk.specs.Command.{command_of}
 use Rattle.rbc_disk.specs.PlainDisk.{first_check, need_of, data_length, failure_of, MayEnd}
-use Rattle.rbc_disk.specs.declared.command.Sense.{Sense}
+use Rattle.rbc_command.specs.declared.sense.Sense.{Sense}
 use Rattle.rbc_disk.specs.declared.command.Need.TheVariants.{Payload}
 use Rattle.sbp_journal.specs.Terms.{Request, runs, ends, request_at, ran_status, unit_of, plan_of, data_of}
 use Rattle.sbp_journal.specs.DiskFold.{disk_of}

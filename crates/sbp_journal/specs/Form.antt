@@ -1,6 +1,6 @@
 -- The form that each note of a run has; a text of notes in this form can be read back.
 use Rattle.std.specs.Prelude.{◌≡◌, ℕ, ◌<◌, List, [], length, Option, Some, None}
-use Rattle.rbc_disk.specs.declared.command.Sense.{Sense}
+use Rattle.rbc_command.specs.declared.sense.Sense.{Sense}
 use Rattle.sbp_journal.specs.declared.note.Note.{Note}
 use Rattle.sbp_journal.specs.declared.note.Note.TheVariants.{Append, Ran, Ended, Taken}
 use Rattle.sbp_journal.specs.declared.note.NoteBuffer.{NoteBuffer}

@@ -3,7 +3,7 @@ use Rattle.std.specs.Prelude.{ℕ, Bool, true, false, List, [], ◌∷◌, ◌++
 use Rattle.std.specs.Fmt.{decimal}
 use Rattle.std.specs.List.{join_with_byte, flat_map}
 use Rattle.hex.specs.Hex.{encode_upper, upper_digits}
-use Rattle.rbc_disk.specs.declared.command.Sense.{Sense}
+use Rattle.rbc_command.specs.declared.sense.Sense.{Sense}
 use Rattle.sbp_journal.specs.Canonical.{canonical}
 use Rattle.sbp_journal.specs.declared.note.Note.{Note}
 use Rattle.sbp_journal.specs.declared.note.Note.TheVariants.{Begin, Append, Low, Linked, Rung, Ran, Ended, Taken, Settled}

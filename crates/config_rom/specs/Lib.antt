@@ -1,0 +1,5 @@
+pub mod Sum
+pub mod Tree
+pub mod Reading
+pub mod Unit
+pub mod Make

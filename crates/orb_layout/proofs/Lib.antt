@@ -1,0 +1,4 @@
+pub mod Back
+pub mod Writing
+pub mod StatusBack
+pub mod QueryBack

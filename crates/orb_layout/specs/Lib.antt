@@ -1,0 +1,7 @@
+pub mod Pointers
+pub mod CommandOrbs
+pub mod ManagementOrbs
+pub mod LoginResponses
+pub mod QueryResponses
+pub mod StatusBlocks
+pub mod ReadBack

@@ -1,0 +1,34 @@
+-- What ties reading to writing: reading what was written gives the value, whatever stands behind it.
+use Rattle.std.specs.Prelude.{◌≡◌, ℕ, ◌<◌, ◌≤◌, List, ◌++◌, length, take, slice_index_or, Some, Ok}
+use Rattle.std.specs.List.{AllByRecursion}
+use Rattle.orb_layout.specs.declared.command.CommandOrb.{CommandOrb}
+use Rattle.orb_layout.specs.declared.management.ManagementOrb.{ManagementOrb}
+use Rattle.orb_layout.specs.declared.login.LoginResponse.{LoginResponse}
+use Rattle.orb_layout.specs.declared.query.QueryEntry.{QueryEntry}
+use Rattle.orb_layout.specs.declared.status.StatusBlock.{StatusBlock}
+use Rattle.orb_layout.specs.CommandOrbs.{IsCommandOrb, read_command, command_bytes}
+use Rattle.orb_layout.specs.ManagementOrbs.{IsManagementOrb, read_management, management_bytes}
+use Rattle.orb_layout.specs.LoginResponses.{IsLoginResponse, read_login, login_bytes}
+use Rattle.orb_layout.specs.QueryResponses.{IsQueryEntry, query_bytes, query_count, query_entry}
+use Rattle.orb_layout.specs.StatusBlocks.{IsStatusBlock, is_management, read_block, status_bytes}
+
+abbrev pub CommandReadsBack : Type 0
+CommandReadsBack = (orb : CommandOrb) (rest : List ℕ) → IsCommandOrb orb → read_command (command_bytes orb ++ rest) ≡ Ok orb
+
+abbrev pub ManagementReadsBack : Type 0
+ManagementReadsBack = (orb : ManagementOrb) (rest : List ℕ) → IsManagementOrb orb → read_management (management_bytes orb ++ rest) ≡ Ok orb
+
+abbrev pub LoginReadsBack : Type 0
+LoginReadsBack = (response : LoginResponse) (rest : List ℕ) → IsLoginResponse response → read_login (login_bytes response ++ rest) ≡ Ok response
+
+-- A status block has no bytes behind it, and is read by the word whether it is of the kind management.
+abbrev pub StatusReadsBack : Type 0
+StatusReadsBack = (block : StatusBlock) → IsStatusBlock block → read_block (is_management block.kind) (status_bytes block) ≡ Ok block
+
+-- Of a query response the number of logins is read also where it was cut short.
+abbrev pub QueryCountsBack : Type 0
+QueryCountsBack = (logins : List QueryEntry) (kept : ℕ) (rest : List ℕ) → length logins ≤ 8 → 4 ≤ kept → query_count (take kept (query_bytes logins ++ rest)) ≡ Some (length logins)
+
+-- Each login stands at its place.
+abbrev pub QueryEntriesReadBack : Type 0
+QueryEntriesReadBack = (logins : List QueryEntry) (at : ℕ) (other : QueryEntry) (rest : List ℕ) → AllByRecursion IsQueryEntry logins → at < length logins → query_entry (query_bytes logins ++ rest) at ≡ slice_index_or logins at other

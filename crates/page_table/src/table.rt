@@ -1,0 +1,105 @@
+ghost use Rattle.std.specs.Prelude.{◌≡◌, ◌+◌, ◌*◌, ◌/◌, ◌%◌, ◌≤◌, ◌<◌, ◌↔◌, [], ◌∷◌, ◌++◌, length, None, IfOk, OnErr, IsNone};
+ghost use Rattle.page_table.specs.Buffer.{AreSegments, IsSegment, chunk_from, bytes_of};
+ghost use Rattle.page_table.specs.Elements.{elements_of, elements_from, first_fault, told};
+
+use crate::fault::PageFault;
+use crate::read::{element_at, fault_from};
+use crate::segment::{Chunk, Segment, chunk_at, total_of};
+use std::marker::Model;
+
+/// The most elements of a page table.
+const ROOM: usize = 64;
+
+/// The segments of a buffer in their order, with room for 64 of them.
+#[derive(Drop)]
+pub struct SegmentTable {
+    segments: [Segment; 64],
+    count: usize,
+}
+
+impl Model for SegmentTable {
+    ghost use Rattle.std.specs.Prelude.{◌≤◌, take, List};
+    ghost use Rattle.page_table.specs.Buffer.{AreSegments};
+    ghost use Rattle.page_table.specs.declared.segment.Segment.{Segment};
+
+    ghost Value = { List Segment };
+
+    ghost view = { λ table. take table.count table.segments };
+
+    ghost invariant = { λ table. (table.count ≤ 64) × AreSegments (take table.count table.segments) };
+}
+
+impl SegmentTable {
+    /// No segments.
+    pub fn new() -> Self
+        ensures { result ≡ [] }
+    {
+        SegmentTable {
+            segments: [Segment { base: 0, length: 0 }; ROOM],
+            count: 0,
+        }
+    }
+
+    /// The length of the buffer in bytes.
+    pub fn total(&self) -> u32
+        ensures { result ≡ bytes_of self.now }
+    {
+        total_of(&self.segments[0..self.count])
+    }
+
+    /// The chunk that begins `done` bytes into the buffer: it ends with its segment and has at most
+    /// `limit` bytes. There is none exactly at the buffer's end.
+    #[tactic(auto, using(crate::proofs::Chunks::none_at_end))]
+    pub fn next_chunk(&self, done: u32, limit: u16) -> Option<Chunk>
+        requires within { done ≤ bytes_of self.now }
+        requires some { 4 ≤ limit }
+        ensures chunk { result ≡ chunk_from self.now done limit }
+        ensures end { IsNone result ↔ (done ≡ bytes_of self.now) }
+    {
+        chunk_at(&self.segments[0..self.count], done, limit)
+    }
+
+    /// Adds a segment behind the others.
+    fn push(&mut self, segment: Segment)
+        requires room { length self.old < 64 }
+        requires sound { IsSegment segment }
+        ensures { self.new ≡ self.old ++ segment ∷ [] }
+    {
+        self.segments[self.count] = segment;
+        self.count += 1;
+    }
+
+    /// Adds the elements of a page table without a fault, from element `at` on.
+    #[tactic(auto, using(crate::proofs::ElementSteps::elements_step, crate::proofs::ElementSteps::none_behind, crate::proofs::ElementSteps::one_behind, crate::proofs::ElementSteps::rest_sound))]
+    fn fill(&mut self, bytes: &[u8], at: u8)
+        requires whole { length bytes.now % 8 ≡ 0 }
+        requires inside { 8 * at ≤ length bytes.now }
+        requires room { length bytes.now ≤ 512 }
+        requires behind { length self.old ≡ at }
+        requires sound { AreSegments (elements_from at bytes.now) }
+        ensures { self.new ≡ self.old ++ elements_from at bytes.now }
+    {
+        if 8 * usize::from(at) == bytes.len() {
+            return;
+        }
+        self.push(element_at(bytes, at));
+        self.fill(bytes, at + 1);
+    }
+}
+
+/// Reads a page table of whole elements, at most 64, into `out`, whose earlier segments go (NCITS
+/// 325-1998, page tables). The error is the first fault by place, and then `out` stays as it is.
+pub fn elements(bytes: &[u8], out: &mut SegmentTable) -> Result<(), PageFault>
+    requires whole { length bytes.now % 8 ≡ 0 }
+    requires room { length bytes.now ≤ 512 }
+    ensures told { result ≡ told (first_fault 0 (elements_of bytes.now)) }
+    ensures ok { IfOk result (λ _done. out.new ≡ elements_of bytes.now) }
+    ensures err { OnErr result (out.new ≡ out.old) }
+{
+    if let Some(fault) = fault_from(bytes, 0) {
+        return Err(fault);
+    }
+    *out = SegmentTable::new();
+    out.fill(bytes, 0);
+    Ok(())
+}
