@@ -1,5 +1,5 @@
 -- The steps of a session, by the word that it serves.
-use Rattle.std.proofs.Common.{◌≡◌, ◌∙◌, refl, sym, subst, ℕ, ◌+◌, ◌<◌, ◌≤◌, ◌≢◌, nat_lt, true, List, [], ◌∷◌, ◌++◌, length, Option, Ok, Err, arith}
+use Rattle.std.proofs.Common.{◌≡◌, ◌∙◌, refl, sym, subst, ℕ, ◌+◌, ◌<◌, ◌≤◌, ◌≢◌, nat_lt, true, List, [], ◌∷◌, ◌++◌, length, Ok, Err, arith}
 use Rattle.std.specs.Io.KnownBytes.{Consumes, Keeps, IsAtEnd}
 use Rattle.std.proofs.KnownBytes.{Consumes-nil, Consumes-kept}
 use Rattle.std.specs.Str.Lines.{strip_carriage_return}
@@ -135,6 +135,3 @@ long_fails serves_run status before old new pending number rest (runs list) h lo
 long_fails serves_run status before old new pending number rest Decode h long media t f = absurd h
 long_fails serves_decode status before old new pending number rest (runs list) h long media t f = absurd h
 long_fails serves_decode status before old new pending number rest Decode h long media t f = listings.long_fails before old pending number rest status new h long t media
-
-pub media_kept : (now : Outside) (left : Option (List ℕ)) (reads : ℕ) (written : Option (List ℕ)) (writes : ℕ) → KeepsMedia now (record { left = left; reads = reads; written = written; writes = writes; disks = now.disks; faults = now.faults })
-media_kept now left reads written writes = record { disks = refl; faults = refl }

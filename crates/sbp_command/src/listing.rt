@@ -364,3 +364,6 @@ fn register_name(distance: u64) -> Option<&'static str>
         _ => None,
     }
 }
+
+#[cfg(test)]
+mod tests;

@@ -88,13 +88,13 @@ fn serve<K: Sink>(
 
 /// How a call ended, and what was written.
 #[derive(Drop)]
-struct Ended {
-    status: Status,
-    written: Bytes,
+pub(crate) struct Ended {
+    pub(crate) status: Status,
+    pub(crate) written: Bytes,
 }
 
 /// Serves the words; `reads` and `writes` name the calls that fail.
-fn serve_failing(
+pub(crate) fn serve_failing(
     alloc: Global,
     words: &[&str],
     script: &[u8],
@@ -151,7 +151,7 @@ fn answers(
     Ok(ended.status == status && ended.written.as_slice() == written)
 }
 
-/// Only `run` alone is served.
+/// Only `run` alone and `decode` alone are served.
 #[test]
 fn other_words_are_refused(rt: HostRuntime) {
     let alloc = rt.alloc();
@@ -167,6 +167,10 @@ fn other_words_are_refused(rt: HostRuntime) {
         Ok(true)
     );
     assert_eq!(rt; answers(alloc, &["Run"], Status::Words, usage), Ok(true));
+    assert_eq!(rt;
+        answers(alloc, &["decode", "-"], Status::Words, usage),
+        Ok(true)
+    );
 }
 
 /// Whether a script with these failing calls ends so, with a front of the journal of this length.
