@@ -366,4 +366,6 @@ fn register_name(distance: u64) -> Option<&'static str>
 }
 
 #[cfg(test)]
+mod boundaries;
+#[cfg(test)]
 mod tests;
