@@ -1,3 +1,4 @@
 pub mod Requests
 pub mod Table
 pub mod Filter
+pub mod Once

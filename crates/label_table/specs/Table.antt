@@ -84,9 +84,12 @@ unfoldable pub is_current : Table → LabelParts → Bool
 is_current table label = (table.generation == label.generation) && has_serial (place_at table label.number).state label.serial
 
 -- A transaction times out, and its label rests.
+abbrev pub expire_in : Bool → Table → LabelParts → Result (Unit {0}) Stale × Table
+expire_in true table label = (Ok tt, with_state table label.number states.Resting)
+expire_in false table label = (Err (record {}), table)
+
 unfoldable pub expire_step : Table → LabelParts → Result (Unit {0}) Stale × Table
-expire_step table label =
-    if is_current table label then (Ok tt, with_state table label.number states.Resting) else (Err (record {}), table)
+expire_step table label = expire_in (is_current table label) table label
 
 -- the number of free labels
 abbrev pub count_free : List Place → ℕ

@@ -3,6 +3,7 @@
 #![tactic(auto)]
 
 mod filter;
+mod law;
 mod place;
 mod reply;
 mod request;
@@ -11,6 +12,7 @@ mod source;
 mod table;
 
 pub use filter::Seen;
+pub use law::judged_once;
 pub use place::{LabelState, Place};
 pub use reply::{NoLabel, ReplyKind, Stale, Verdict};
 pub use room::RequestRoom;
