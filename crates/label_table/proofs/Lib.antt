@@ -5,3 +5,4 @@ pub mod Tied
 pub mod Steps
 pub mod Sources
 pub mod Course
+pub mod Laws

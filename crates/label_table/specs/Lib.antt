@@ -2,3 +2,4 @@ pub mod Requests
 pub mod Table
 pub mod Filter
 pub mod Once
+pub mod Laws

@@ -12,9 +12,12 @@ mod source;
 mod table;
 
 pub use filter::Seen;
-pub use law::judged_once;
+pub use law::{crowded_by_others, judged_once, label_alone, label_in_header, lowest_label};
 pub use place::{LabelState, Place};
 pub use reply::{NoLabel, ReplyKind, Stale, Verdict};
 pub use room::RequestRoom;
 pub use source::{Remembered, SourceRequests};
 pub use table::Labels;
+
+#[cfg(test)]
+mod tests;

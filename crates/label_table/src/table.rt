@@ -56,7 +56,8 @@ impl Labels {
     pub fn begin(&mut self, bytes: &mut [u8]) -> Result<Label, NoLabel>
         requires request { IsRequest bytes.old }
         requires count { self.old.calls < 2 ^ 56 }
-        ensures { (result, (self.new, bytes.new)) ≡ begin_step self.old bytes.old }
+        ensures step { (result, (self.new, bytes.new)) ≡ begin_step self.old bytes.old }
+        ensures count { self.new.calls ≤ self.old.calls + 1 }
     {
         let Some(number) = lowest(&self.places, bytes) else {
             return Err(NoLabel);
@@ -79,7 +80,8 @@ impl Labels {
     #[tactic(auto, unfolding(crate::specs::Table::close_step))]
     pub fn close(&mut self, number: u8, kind: ReplyKind) -> Option<Label>
         requires { self.old.calls < 2 ^ 56 }
-        ensures { (result, self.new) ≡ close_step self.old number kind }
+        ensures step { (result, self.new) ≡ close_step self.old number kind }
+        ensures count { self.new.calls ≤ self.old.calls + 1 }
     {
         match self.state_at(number) {
             LabelState::UnderWay {
@@ -99,7 +101,8 @@ impl Labels {
     #[tactic(auto, unfolding(crate::specs::Table::expire_step))]
     pub fn expire(&mut self, label: Label) -> Result<(), Stale>
         requires { self.old.calls < 2 ^ 56 }
-        ensures { (result, self.new) ≡ expire_step self.old label }
+        ensures step { (result, self.new) ≡ expire_step self.old label }
+        ensures count { self.new.calls ≤ self.old.calls + 1 }
     {
         if !self.is_under_way(&label) {
             return Err(Stale);
