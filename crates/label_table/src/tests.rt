@@ -64,6 +64,23 @@ fn close(labels: &mut Labels, number: u8, kind: ReplyKind) -> Result<Option<Labe
     Ok(labels.close(number, kind))
 }
 
+/// `expire` while few calls were made.
+fn expire(labels: &mut Labels, label: Label) -> Result<Result<(), Stale>, &'static str> {
+    if labels.calls() > 1000 {
+        return Err("condition");
+    }
+    Ok(labels.expire(label))
+}
+
+/// `clear` while few calls were made, in the same generation.
+fn clear(labels: &mut Labels) -> Result<(), &'static str> {
+    if labels.calls() > 1000 {
+        return Err("condition");
+    }
+    labels.clear(Generation::first());
+    Ok(())
+}
+
 /// A handle made before `clear` is stale, also for the same number.
 #[test]
 fn stale_label(rt: HostRuntime) -> Result<(), Fail> {
@@ -71,11 +88,11 @@ fn stale_label(rt: HostRuntime) -> Result<(), Fail> {
     let mut bytes = DOORBELL;
     let early = begin(&mut labels, &mut bytes)?.map_err(|_| "label")?;
     assert_eq!(rt; early.number(), 0);
-    labels.clear(Generation::first());
+    clear(&mut labels)?;
     let late = begin(&mut labels, &mut bytes)?.map_err(|_| "label")?;
     assert_eq!(rt; late.number(), 0);
-    assert_eq!(rt; labels.expire(early), Err(Stale));
-    assert_eq!(rt; labels.expire(late), Ok(()));
+    assert_eq!(rt; expire(&mut labels, early)?, Err(Stale));
+    assert_eq!(rt; expire(&mut labels, late)?, Ok(()));
     assert_eq!(rt; labels.free(), 63);
     Ok(())
 }
