@@ -3,14 +3,15 @@ use Rattle.std.specs.Prelude.{◌≡◌, ◌≢◌, ℕ, zero, suc, ◌+◌, ◌
 use Rattle.std.proofs.Common.{arith, subst}
 use Rattle.std.proofs.lemmas.Grind.{common_steps}
 use Rattle.std.proofs.lemmas.List.{drop-set-lt}
+use Rattle.std.proofs.lemmas.List.Quantifiers.{position-Some}
 use Rattle.async_packet.specs.declared.packet.Header.{Header}
 use Rattle.async_packet.specs.Fields.{header_of}
 use Rattle.label_table.specs.declared.place.Place.{Place}
 use Rattle.label_table.specs.declared.reply.Verdict.TheVariants as verdicts
 use Rattle.label_table.specs.Requests.{label_of, with_label}
 use Rattle.label_table.specs.Table.{serves, unused, lowest_from}
-use Rattle.label_table.specs.Filter.{SourcePlace, no_source, is_of, or_else, place_for, judged, judge_at}
-use Rattle.label_table.specs.Laws.{IsLowest, LowestLaw, CrowdedLaw, LabelLaw, HeaderLaw}
+use Rattle.label_table.specs.Filter.{SourcePlace, no_source, is_of, or_else, place_for, judged, judge_at, judge_step}
+use Rattle.label_table.specs.Laws.{IsLowest, LowestLaw, HasOthers, CrowdedLaw, LabelLaw, HeaderLaw}
 use Rattle.label_table.proofs.Steps.{lowest_below, lowest_serves}
 use Rattle.label_table.proofs.Sources.{position_none}
 
@@ -62,11 +63,23 @@ crowded_none (Some k) free places bytes e = absurd (judged_not _ bytes e)
 crowded_none None (Some k) places bytes e = absurd (judged_not _ bytes e)
 crowded_none None None places bytes e = (refl, refl)
 
-pub crowded_law : CrowdedLaw
+crowded_only : (places : List SourcePlace) (source : ℕ) (bytes : List ℕ) → judge_step places source bytes ≡ verdicts.Crowded → HasOthers places source
 unfolding place_for
-crowded_law places source bytes e k h =
+crowded_only places source bytes e k h =
     let n = crowded_none (position (is_of (Some source)) places) (position (is_of None) places) places bytes e in
     (position_none (is_of (Some source)) places k no_source n.0 h, position_none (is_of None) places k no_source n.1 h)
+
+all_fail : {A : Type 0} (p : A → Bool) (xs : List A) (d : A) → ((k : ℕ) → k < length xs → p (slice_index_or xs k d) ≡ false) → (found : Option ℕ) → position p xs ≡ found → found ≡ None
+all_fail p xs d fails None e = refl
+all_fail p xs d fails (Some k) e = let s = position-Some p xs k d e in let f = fails k s.0 in cc
+
+crowded_where : (places : List SourcePlace) (source : ℕ) (bytes : List ℕ) → HasOthers places source → judge_step places source bytes ≡ verdicts.Crowded
+unfolding place_for
+crowded_where places source bytes others =
+    rw (all_fail (is_of (Some source)) places no_source (λ k h. (others k h).0) _ refl, all_fail (is_of None) places no_source (λ k h. (others k h).1) _ refl)
+
+pub crowded_law : CrowdedLaw
+crowded_law places source bytes = (crowded_only places source bytes, crowded_where places source bytes)
 
 pub label_law : LabelLaw
 unfolding label_of header_of

@@ -6,3 +6,4 @@ pub mod Steps
 pub mod Sources
 pub mod Course
 pub mod Laws
+pub mod Relabelled

@@ -5,7 +5,7 @@ use Rattle.async_packet.specs.Packet.{Packet, write_quadlet, write_block, write_
 use Rattle.async_packet.specs.Spells.{Spells}
 use Rattle.label_table.specs.Requests.{IsRequest}
 
-least_spelled : (bytes : List ℕ) (p : Packet) → Spells bytes p → 12 ≤ length bytes
+pub least_spelled : (bytes : List ℕ) (p : Packet) → Spells bytes p → 12 ≤ length bytes
 least_spelled bytes (write_quadlet header offset value) s = let e = s.0.whole in omega arith
 least_spelled bytes (write_block header offset payload) s = let e = s.0.whole in omega arith
 least_spelled bytes (write_response header rcode) s = let e = s.0.whole in omega arith

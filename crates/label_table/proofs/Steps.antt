@@ -49,7 +49,7 @@ label_with number bytes small h =
     let e : slice_index_or (slice_set bytes 2 (number * 2 ^ 2 + slice_index_or bytes 2 0 % 2 ^ 2)) 2 0 ≡ number * 2 ^ 2 + slice_index_or bytes 2 0 % 2 ^ 2 = grind (arith, common_steps) in
     rw e (omega arith)
 
-tcode_with : (number : ℕ) (bytes : List ℕ) → 12 ≤ length bytes → tcode_of (with_label number bytes) ≡ tcode_of bytes
+pub tcode_with : (number : ℕ) (bytes : List ℕ) → 12 ≤ length bytes → tcode_of (with_label number bytes) ≡ tcode_of bytes
 unfolding with_label tcode_of
 tcode_with number bytes h =
     let x = number * 2 ^ 2 + slice_index_or bytes 2 0 % 2 ^ 2 in

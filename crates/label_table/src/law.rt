@@ -1,4 +1,4 @@
-ghost use Rattle.label_table.specs.Laws.{CrowdedLaw, HeaderLaw, LabelLaw, LowestLaw};
+ghost use Rattle.label_table.specs.Laws.{CrowdedLaw, HeaderLaw, LabelLaw, LowestLaw, RelabelledLaw};
 ghost use Rattle.label_table.specs.Once.{OnceLaw};
 
 /// The law on repeated writes. Over every list of what a requester and its responder do, in which
@@ -15,7 +15,7 @@ pub fn lowest_label()
     ensures { LowestLaw }
 {}
 
-/// The law that a request is crowded only where each place has another source.
+/// The law that a request is crowded exactly where each place has another source.
 pub fn crowded_by_others()
     ensures { CrowdedLaw }
 {}
@@ -28,4 +28,10 @@ pub fn label_in_header()
 /// The law that writing a label changes the label of the header alone.
 pub fn label_alone()
     ensures { HeaderLaw }
+{}
+
+/// The law that bytes that spell a packet spell the same packet with a label once that is written
+/// into them.
+pub fn label_respelled()
+    ensures { RelabelledLaw }
 {}

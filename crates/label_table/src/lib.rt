@@ -12,7 +12,9 @@ mod source;
 mod table;
 
 pub use filter::Seen;
-pub use law::{crowded_by_others, judged_once, label_alone, label_in_header, lowest_label};
+pub use law::{
+    crowded_by_others, judged_once, label_alone, label_in_header, label_respelled, lowest_label,
+};
 pub use place::{LabelState, Place};
 pub use reply::{NoLabel, ReplyKind, Stale, Verdict};
 pub use room::RequestRoom;
