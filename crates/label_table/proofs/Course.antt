@@ -20,7 +20,7 @@ use Rattle.label_table.proofs.Tied.{Tied, begin_tied, state_tied, deliver_tied, 
 record Kept (requester : ℕ) (c : Course) : Type 0 where
   size : length c.table.places ≡ 64
   fit : IsFit c.filter
-  tied : Tied c.table.calls (λ l. (place_at c.table l).state) (λ l. (place_at c.table l).last) (seen_at requester c.filter) c.sent c.latest c.judgements c.fresh c.closed
+  tied : Tied c.table.calls (λ l. (place_at c.table l).state) (λ l. (place_at c.table l).last) (λ l. (seen_at requester c.filter l).last) c.sent c.latest c.judgements c.fresh c.closed
 
 new_place : (l : ℕ) → place_at new_table l ≡ unused
 new_place l = default_in 64 l unused
@@ -37,7 +37,7 @@ start_kept requester = record {
     begun = λ l s e. cc;
     labelled = λ l s b e. cc;
     sent_last = λ l s e. cc;
-    unseen = λ l e. new_unseen requester l;
+    unseen = λ l e. ap (λ q. q.last) (new_unseen requester l);
     is_seen = λ l s e. cc;
     is_new = λ l s b e. cc;
     freed = λ l s e. cc;
@@ -116,19 +116,19 @@ expired_kept : (requester : ℕ) (c : Course) (label : LabelParts) → Kept requ
 unfolding expire_step
 expired_kept requester c label k = expire_kept requester c label _ k refl
 
-count_judged : (f : List SourcePlace) (n : ℕ) (bytes : List ℕ) → count_fresh (judged (source_at f n) bytes) ≡ cond (is_write bytes && is_last (seen_in (Some n) f (label_of bytes)) bytes) 0 1
+count_judged : (f : List SourcePlace) (n : ℕ) (bytes : List ℕ) → count_fresh (judged (source_at f n) bytes) ≡ cond (is_write bytes && is_last (seen_in (Some n) f (label_of bytes)).last bytes) 0 1
 unfolding judged
 count_judged f n bytes = grind arith
 
 -- a responder that judges a source has a place for it
-place_of : (f : List SourcePlace) (bytes : List ℕ) (place : Option ℕ) → judge_at place f bytes ≢ verdicts.Crowded → IsSome place
+pub place_of : (f : List SourcePlace) (bytes : List ℕ) (place : Option ℕ) → judge_at place f bytes ≢ verdicts.Crowded → IsSome place
 place_of f bytes None room = absurd (room refl)
 place_of f bytes (Some n) room = refl
 
 deliver_at : (requester : ℕ) (c : Course) (serial rcode : ℕ) (bytes : List ℕ) (place : Option ℕ) → Kept requester c → c.sent serial ≡ Some bytes → c.latest (label_of bytes) ≡ Some serial → place_for requester c.filter ≡ place → IsSome place → Kept requester (after_delivery requester serial rcode (Some bytes) c)
 deliver_at requester c serial rcode bytes None k sent current e some = cc
 deliver_at requester c serial rcode bytes (Some n) k sent current e some =
-    let count : count_fresh (judge_step c.filter requester bytes) ≡ cond (is_write bytes && is_last (seen_at requester c.filter (label_of bytes)) bytes) 0 1 =
+    let count : count_fresh (judge_step c.filter requester bytes) ≡ cond (is_write bytes && is_last (seen_at requester c.filter (label_of bytes)).last bytes) 0 1 =
     rw e (count_judged c.filter n bytes) in
     record {
       size = k.size;
@@ -136,7 +136,7 @@ deliver_at requester c serial rcode bytes (Some n) k sent current e some =
       tied = deliver_tied k.tied serial bytes sent current _
           (λ w a. grind arith)
           (λ w a. grind arith)
-          _ (λ l. own_after requester c.filter n bytes rcode l k.fit e);
+          _ (λ l. let o = own_after requester c.filter n bytes rcode l k.fit e in grind arith);
     }
 
 -- A packet that may be delivered is that of its label's latest request.
@@ -152,7 +152,7 @@ other_kept : (requester : ℕ) (c : Course) (source : ℕ) (bytes : List ℕ) (r
 other_kept requester c source bytes rcode k n = record {
   size = k.size;
   fit = remembered_fit c.filter source bytes rcode k.fit;
-  tied = seen_tied k.tied _ (λ l. other_after requester source c.filter bytes rcode l k.fit (λ e. n (sym e)));
+  tied = seen_tied k.tied _ (λ l. ap (λ q. q.last) (other_after requester source c.filter bytes rcode l k.fit (λ e. n (sym e))));
 }
 
 happens_kept : (requester : ℕ) (act : Act) (c : Course) → Kept requester c → May requester act c → Kept requester (happens requester act c)

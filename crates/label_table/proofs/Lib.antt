@@ -7,3 +7,4 @@ pub mod Sources
 pub mod Course
 pub mod Laws
 pub mod Relabelled
+pub mod Last

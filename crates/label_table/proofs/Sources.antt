@@ -8,6 +8,7 @@ use Rattle.std.proofs.lemmas.List.Quantifiers.{position-Some}
 use Rattle.std.proofs.lemmas.List.Folds.{position_or_len-set}
 use Rattle.std.proofs.Math.ListN.{length-set}
 use Rattle.std.proofs.lemmas.List.{get_or-set_same, get_or-set_other}
+use Rattle.label_table.specs.declared.source.Remembered.{Remembered}
 use Rattle.label_table.specs.Requests.{label_of}
 use Rattle.label_table.specs.Filter.{SourcePlace, is_same_source, no_request, no_source, is_of, or_else, place_for, source_at, remembered, remember_at, remember_step, new_filter}
 
@@ -64,28 +65,31 @@ holds : (t : ℕ) (f : List SourcePlace) (k : ℕ) → place_for t f ≡ Some k 
 unfolding place_for
 holds t f k e = holds_in t f k _ refl e
 
+abbrev pub request_with : List ℕ → ℕ → Remembered
+request_with b r = record { last = Some b; rcode = r }
+
 -- each place has 64 requests, and none where no source has it
 pub record IsFit (f : List SourcePlace) : Type 0 where
   pub full : (k : ℕ) → length (source_at f k).requests ≡ 64
-  pub empty : (k l : ℕ) → (source_at f k).source ≡ None → (slice_index_or (source_at f k).requests l no_request).last ≡ None
+  pub empty : (k l : ℕ) → (source_at f k).source ≡ None → slice_index_or (source_at f k).requests l no_request ≡ no_request
 
-abbrev pub seen_in : Option ℕ → List SourcePlace → ℕ → Option (List ℕ)
-seen_in None f l = None
-seen_in (Some k) f l = (slice_index_or (source_at f k).requests l no_request).last
+abbrev pub seen_in : Option ℕ → List SourcePlace → ℕ → Remembered
+seen_in None f l = no_request
+seen_in (Some k) f l = slice_index_or (source_at f k).requests l no_request
 
 -- the last request of a source and label
-abbrev pub seen_at : ℕ → List SourcePlace → ℕ → Option (List ℕ)
+abbrev pub seen_at : ℕ → List SourcePlace → ℕ → Remembered
 seen_at s f l = seen_in (place_for s f) f l
 
 is_free_source : (o : Option ℕ) → is_same_source o None ≡ true → o ≡ None
 is_free_source None e = refl
 is_free_source (Some s) e = cc
 
-free_unseen_in : (f : List SourcePlace) (l : ℕ) → IsFit f → (free : Option ℕ) → position (is_of None) f ≡ free → seen_in free f l ≡ None
+free_unseen_in : (f : List SourcePlace) (l : ℕ) → IsFit f → (free : Option ℕ) → position (is_of None) f ≡ free → seen_in free f l ≡ no_request
 free_unseen_in f l fit None e = refl
 free_unseen_in f l fit (Some k) e = let p = position-Some (is_of None) f k no_source e in fit.empty k l (is_free_source _ p.1)
 
-unknown_unseen : (s : ℕ) (f : List SourcePlace) (l : ℕ) → IsFit f → position (is_of (Some s)) f ≡ None → seen_at s f l ≡ None
+unknown_unseen : (s : ℕ) (f : List SourcePlace) (l : ℕ) → IsFit f → position (is_of (Some s)) f ≡ None → seen_at s f l ≡ no_request
 unfolding place_for
 unknown_unseen s f l fit e = rw e (free_unseen_in f l fit _ refl)
 
@@ -101,7 +105,7 @@ source_set : (f : List SourcePlace) (k j : ℕ) (p : SourcePlace) → k < length
 source_set f k j p h = grind (arith, common_steps)
 
 -- its own source sees it, under its label
-own_seen : (f : List SourcePlace) (k s : ℕ) (b : List ℕ) (r l : ℕ) → IsFit f → k < length f → seen_in (Some k) (with_request f k s b r) l ≡ cond (nat_eq l (label_of b)) (Some b) (seen_in (Some k) f l)
+own_seen : (f : List SourcePlace) (k s : ℕ) (b : List ℕ) (r l : ℕ) → IsFit f → k < length f → seen_in (Some k) (with_request f k s b r) l ≡ cond (nat_eq l (label_of b)) (request_with b r) (seen_in (Some k) f l)
 unfolding remembered label_of
 own_seen f k s b r l fit h =
     let e = source_set f k k (remembered (source_at f k) s b r) h in
@@ -121,7 +125,7 @@ own_unfolded : (s : ℕ) (f : List SourcePlace) (k : ℕ) → place_for s f ≡ 
 unfolding place_for
 own_unfolded s f k e = e
 
-own_remembered : (s : ℕ) (f : List SourcePlace) (k : ℕ) (b : List ℕ) (r l : ℕ) → IsFit f → place_for s f ≡ Some k → seen_at s (with_request f k s b r) l ≡ cond (nat_eq l (label_of b)) (Some b) (seen_at s f l)
+own_remembered : (s : ℕ) (f : List SourcePlace) (k : ℕ) (b : List ℕ) (r l : ℕ) → IsFit f → place_for s f ≡ Some k → seen_at s (with_request f k s b r) l ≡ cond (nat_eq l (label_of b)) (request_with b r) (seen_at s f l)
 own_remembered s f k b r l fit e =
     let h = (holds s f k e).below in
     let p = own_place f k s b r (position (is_of (Some s)) f) h refl (own_unfolded s f k e) in
@@ -141,7 +145,7 @@ other_in s t f k b r l (Some j) fit h n e g =
     let q = source_set f k j (remembered (source_at f k) t b r) h in
     let apart : j ≢ k = λ m. grind arith in
     let same : source_at (with_request f k t b r) j ≡ source_at f j = grind arith in
-    rw (known_place s _ j g, known_place s f j e) (ap (λ place. (slice_index_or place.requests l no_request).last) same)
+    rw (known_place s _ j g, known_place s f j e) (ap (λ place. slice_index_or place.requests l no_request) same)
 
 other_seen : (s t : ℕ) (f : List SourcePlace) (k : ℕ) (b : List ℕ) (r l : ℕ) (known : Option ℕ) → IsFit f → place_for t f ≡ Some k → s ≢ t → position (is_of (Some s)) f ≡ known → seen_at s (with_request f k t b r) l ≡ seen_at s f l
 unfolding remembered
@@ -162,9 +166,9 @@ other_at s t f b r l fit n (Some k) e = other_seen s t f k b r l _ fit e n refl
 pub remembered_fit : (f : List SourcePlace) (t : ℕ) (b : List ℕ) (r : ℕ) → IsFit f → IsFit (remember_step f t b r)
 remembered_fit f t b r fit = fit_at f t b r fit _ refl
 
-pub own_after : (s : ℕ) (f : List SourcePlace) (k : ℕ) (b : List ℕ) (r l : ℕ) → IsFit f → place_for s f ≡ Some k → seen_at s (remember_step f s b r) l ≡ cond (nat_eq l (label_of b)) (Some b) (seen_at s f l)
+pub own_after : (s : ℕ) (f : List SourcePlace) (k : ℕ) (b : List ℕ) (r l : ℕ) → IsFit f → place_for s f ≡ Some k → seen_at s (remember_step f s b r) l ≡ cond (nat_eq l (label_of b)) (request_with b r) (seen_at s f l)
 own_after s f k b r l fit e =
-    subst (λ place. seen_at s (remember_at place f s b r) l ≡ cond (nat_eq l (label_of b)) (Some b) (seen_at s f l)) (sym e) (own_remembered s f k b r l fit e)
+    subst (λ place. seen_at s (remember_at place f s b r) l ≡ cond (nat_eq l (label_of b)) (request_with b r) (seen_at s f l)) (sym e) (own_remembered s f k b r l fit e)
 
 pub other_after : (s t : ℕ) (f : List SourcePlace) (b : List ℕ) (r l : ℕ) → IsFit f → s ≢ t → seen_at s (remember_step f t b r) l ≡ seen_at s f l
 other_after s t f b r l fit n = other_at s t f b r l fit n _ refl
@@ -181,8 +185,8 @@ new_request l = default_in 64 l no_request
 pub new_fit : IsFit new_filter
 new_fit = record {
   full = λ k. let e = new_source k in ap (λ p. length p.requests) e;
-  empty = λ k l n. let e = ap (λ p. (slice_index_or p.requests l no_request).last) (new_source k) in e ∙ ap (λ q. q.last) (new_request l);
+  empty = λ k l n. let e = ap (λ p. slice_index_or p.requests l no_request) (new_source k) in e ∙ new_request l;
 }
 
-pub new_unseen : (s l : ℕ) → seen_at s new_filter l ≡ None
+pub new_unseen : (s l : ℕ) → seen_at s new_filter l ≡ no_request
 new_unseen s l = unknown_unseen s new_filter l new_fit refl

@@ -3,3 +3,4 @@ pub mod Table
 pub mod Filter
 pub mod Once
 pub mod Laws
+pub mod Last

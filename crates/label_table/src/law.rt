@@ -1,4 +1,5 @@
 ghost use Rattle.label_table.specs.Laws.{CrowdedLaw, HeaderLaw, LabelLaw, LowestLaw, RelabelledLaw};
+ghost use Rattle.label_table.specs.Last.{LastLaw};
 ghost use Rattle.label_table.specs.Once.{OnceLaw};
 
 /// The law on repeated writes. Over every list of what a requester and its responder do, in which
@@ -34,4 +35,11 @@ pub fn label_alone()
 /// into them.
 pub fn label_respelled()
     ensures { RelabelledLaw }
+{}
+
+/// The law that the last request of a source and label decides: over every list of requests that were
+/// judged and remembered, a request that is not crowded comes again exactly where it is a write with
+/// the bytes of that last request, and has then its rcode.
+pub fn last_request_decides()
+    ensures { LastLaw }
 {}

@@ -13,7 +13,8 @@ mod table;
 
 pub use filter::Seen;
 pub use law::{
-    crowded_by_others, judged_once, label_alone, label_in_header, label_respelled, lowest_label,
+    crowded_by_others, judged_once, label_alone, label_in_header, label_respelled,
+    last_request_decides, lowest_label,
 };
 pub use place::{LabelState, Place};
 pub use reply::{NoLabel, ReplyKind, Stale, Verdict};
