@@ -1,0 +1,6 @@
+pub mod Requests
+pub mod Table
+pub mod Filter
+pub mod Once
+pub mod Laws
+pub mod Last
