@@ -3,6 +3,7 @@
 
 mod listing;
 mod plain;
+mod rom;
 mod script;
 mod session;
 mod status;
