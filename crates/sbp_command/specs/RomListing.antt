@@ -8,6 +8,7 @@ use Rattle.hex.specs.Hex.{encode_upper, decode_of}
 use Rattle.hex.specs.declared.error.FromHexError.{FromHexError}
 use Rattle.sbp_base.specs.Quadlets.{quad}
 use Rattle.config_rom.specs.Reading.{Tree, reading}
+use Rattle.config_rom.specs.Tree.{eui_of, bus_sum_is_right}
 use Rattle.config_rom.specs.Unit.{sbp_unit_of}
 use Rattle.config_rom.specs.declared.block.Block.{Block}
 use Rattle.config_rom.specs.declared.block.Entry.{Entry}
@@ -91,6 +92,10 @@ block_lines quads (block ∷ blocks) entries = (block_line block ++ own_lines qu
 
 abbrev pub tree_lines : List ℕ → Tree → List ℕ
 tree_lines quads tree = (count_line quads ++ bus_line quads tree) ++ (block_lines quads tree.blocks tree.entries ++ unit_line (sbp_unit_of tree.blocks tree.entries))
+
+-- a ROM with these blocks and entries
+abbrev pub rom_tree : List ℕ → List Block → List Entry → Tree
+rom_tree quads blocks entries = record { blocks = blocks; entries = entries; eui = eui_of quads; bus_sum_is_right = bus_sum_is_right quads }
 
 -- the number of a fault, its name and its position; of Short the need in place of that, of Name nothing
 abbrev pub rom_fault_fields : RomFault → List Field

@@ -1,9 +1,13 @@
-ghost use Rattle.std.specs.Prelude.{◌≡◌, ◌≢◌, Ok, ◌<◌, ◌≤◌, ◌+◌, ◌++◌, ◌∷◌, [], codes, length, take, drop, IfOk, OnOk, not, filter, string_bytes};
+ghost use Rattle.std.specs.Prelude.{◌≡◌, ◌≢◌, ℕ, List, Ok, ◌<◌, ◌≤◌, ◌+◌, ◌++◌, ◌∷◌, [], codes, length, take, drop, IfOk, OnOk, not, filter, string_bytes};
 ghost use Rattle.std.specs.List.{flat_map};
 ghost use Rattle.hex.specs.Hex.{decode_of, encode_upper};
 ghost use Rattle.byteorder.specs.Endian.{big_bytes};
+ghost use Rattle.config_rom.specs.Tree.{RomTree, FirstFault};
+ghost use Rattle.config_rom.specs.declared.block.Block.{Block};
+ghost use Rattle.config_rom.specs.declared.block.Entry.{Entry};
+ghost use Rattle.config_rom.specs.declared.fault.RomFault.{RomFault};
 ghost use Rattle.sbp_command.specs.Listing.{word, rest_of_line, digits, Field};
-ghost use Rattle.sbp_command.specs.RomListing.{hexadecimal, sum_name, block_name, kind_name, count_line, bus_line, block_line, entry_line, quad_line, quad_lines, unit_line, own_lines, entries_behind, block_lines, tree_lines, rom_fault_line, rom_listing, quads_of, with_bytes, with_line, Gathers};
+ghost use Rattle.sbp_command.specs.RomListing.{hexadecimal, sum_name, block_name, kind_name, count_line, bus_line, block_line, entry_line, quad_line, quad_lines, unit_line, own_lines, entries_behind, block_lines, tree_lines, rom_tree, rom_fault_line, rom_listing, quads_of, with_bytes, with_line, Gathers};
 
 use crate::listing::{digits_of, field_line, quadlet_text};
 use crate::script::{LINE_BYTES, LINES, LineError, LineFault};
@@ -92,6 +96,13 @@ impl Quadlets {
         rom_text(alloc, &self.items)
     }
 }
+
+/// The listing of quadlets is that of the blocks and entries of their configuration ROM (IEEE 1212),
+/// which is one, or that of their first fault.
+pub fn rom_tree_is_listed()
+    ensures tree { (quads : List ℕ) (blocks : List Block) (entries : List Entry) → RomTree quads blocks entries → rom_listing quads ≡ tree_lines quads (rom_tree quads blocks entries) }
+    ensures fault { (quads : List ℕ) (fault : RomFault) → FirstFault quads fault → rom_listing quads ≡ rom_fault_line fault }
+{}
 
 /// The quadlets of bytes, as many as are whole.
 #[tactic(auto, unfolding(crate::specs::RomListing::quads_of))]
