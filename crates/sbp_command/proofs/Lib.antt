@@ -3,6 +3,7 @@ pub mod LineEnds
 pub mod Listings
 pub mod Numbers
 pub mod Places
+pub mod RomLines
 pub mod Running
 pub mod ScriptLines
 pub mod Sessions

@@ -60,7 +60,7 @@ listing-more whole more line text w h e read =
     listing-next whole more line [] w h e ∙ ap (behind (listing whole)) (onto-ok (1 + length (lines whole)) _ text _ read)
     ∙ ap (λ t. record { text = (listing whole).text ++ t; fault = None }) (append-nil text)
 
-listing-long_cases : (many long : Bool) (other : Result (List ℕ) LineFault) → long ≡ true → (if many then Err TooMany else if long then Err TooLong else other) ≡ Err (if many then TooMany else TooLong)
+pub listing-long_cases : (many long : Bool) (other : Result (List ℕ) LineFault) → long ≡ true → (if many then Err TooMany else if long then Err TooLong else other) ≡ Err (if many then TooMany else TooLong)
 listing-long_cases true long other e = refl
 listing-long_cases false true other e = refl
 listing-long_cases false false other e = cc e
@@ -105,7 +105,7 @@ torn_front before now input front more all e written media = record {
   media = media;
 }
 
-kept : (before old new : Outside) → KeepsMedia before old → KeepsMedia old new → KeepsMedia before new
+pub kept : (before old new : Outside) → KeepsMedia before old → KeepsMedia old new → KeepsMedia before new
 kept before old new h k = record { disks = k.disks ∙ h.disks; faults = k.faults ∙ h.faults }
 
 -- a front of what the next line brings is written

@@ -1,5 +1,5 @@
 -- What the top call promises, by its status.
-use Rattle.std.specs.Prelude.{◌≡◌, ℕ, ◌⊎◌, List, [], ◌∷◌, ◌++◌, take, codes, Option, Some, None, IfSome}
+use Rattle.std.specs.Prelude.{◌≡◌, ℕ, ◌⊎◌, List, [], ◌∷◌, ◌++◌, take, codes, Option, Some, None, IfSome, Result, Ok, Err}
 use Rattle.std.specs.Fmt.{decimal}
 use Rattle.std.specs.Io.KnownBytes.{Appends, Consumes, IsAtEnd}
 use Rattle.sbp_base.specs.Faults.{Rose}
@@ -11,6 +11,7 @@ use Rattle.sbp_journal.specs.Text.{text_of}
 use Rattle.sbp_journal.specs.declared.event.Event.{Event}
 use Rattle.sbp_command.specs.Script.{Script, script, fault_number, IsWhole, NoFeed}
 use Rattle.sbp_command.specs.Listing.{Listing, listing}
+use Rattle.sbp_command.specs.RomListing.{rom_listing, rom_quads}
 use Rattle.sbp_command.specs.declared.script.LineFault.{LineFault}
 use Rattle.sbp_command.specs.declared.status.Status.{Status}
 use Rattle.sbp_command.specs.declared.status.Status.TheVariants as statuses
@@ -144,12 +145,57 @@ ListingEnds statuses.ReadFault before now = Rose before.reads now.reads × Liste
 ListingEnds statuses.WriteFault before now = Rose before.writes now.writes × TornListing before now
 ListingEnds statuses.NoMemory before now = TornListing before now
 
+-- what the lines of `rom` bring: the listing of their quadlets, or the first faulty line alone
+abbrev pub rom_output : Result (List ℕ) (ℕ × LineFault) → List ℕ
+rom_output (Ok quads) = rom_listing quads
+rom_output (Err (number, fault)) = fault_text number fault
+
+-- The whole input, where the source tells it, was read so, and the sink gained exactly what that brings.
+pub record RomWritten (before now : Outside) (read : Result (List ℕ) (ℕ × LineFault)) : Type 0 where
+  pub input : List ℕ
+  pub told : IfSome before.left (λ bytes. bytes ≡ input)
+  pub is_read : rom_quads input ≡ read
+  pub written : Appends before.written now.written (rom_output read)
+  pub media : KeepsMedia before now
+
+-- The whole lines that were read have no fault, and nothing was written.
+pub record RomUnwritten (before now : Outside) : Type 0 where
+  pub whole : List ℕ
+  pub rest : List ℕ
+  pub quads : List ℕ
+  pub consumed : Consumes before.left now.left (whole ++ rest)
+  pub is_whole : IsWhole whole
+  pub no_feed : NoFeed rest
+  pub is_read : rom_quads whole ≡ Ok quads
+  pub written : Appends before.written now.written []
+  pub media : KeepsMedia before now
+
+-- A front of what the input brings was written.
+pub record TornRom (before now : Outside) : Type 0 where
+  pub input : List ℕ
+  pub len : ℕ
+  pub told : IfSome before.left (λ bytes. bytes ≡ input)
+  pub written : Appends before.written now.written (take len (rom_output (rom_quads input)))
+  pub media : KeepsMedia before now
+
+-- the clause of `rom` by status
+abbrev pub RomEnds : Status → Outside → Outside → Type 0
+RomEnds statuses.Done before now = IsAtEnd now.left × ((quads : List ℕ) × RomWritten before now (Ok quads))
+RomEnds statuses.Words before now = ⊥
+RomEnds statuses.Script before now = (fault : ℕ × LineFault) × RomWritten before now (Err fault)
+RomEnds statuses.ReadFault before now = Rose before.reads now.reads × RomUnwritten before now
+RomEnds statuses.WriteFault before now = Rose before.writes now.writes × TornRom before now
+RomEnds statuses.NoMemory before now = TornRom before now
+
 -- the words of the command line that are in the table
 abbrev pub IsRun : List (List ℕ) → Type 0
 IsRun words = words ≡ codes "run" ∷ []
 
 abbrev pub IsDecode : List (List ℕ) → Type 0
 IsDecode words = words ≡ codes "decode" ∷ []
+
+abbrev pub IsRom : List (List ℕ) → Type 0
+IsRom words = words ≡ codes "rom" ∷ []
 
 abbrev pub usage : List ℕ
 usage = codes "usage: sbp2 run | drill SEED N | decode | rom | tasks | queue" ++ 10 ∷ []

@@ -12,7 +12,7 @@ use Rattle.sbp_journal.specs.declared.event.Event.TheVariants.{Begin, Act, Settl
 use Rattle.sbp_journal.specs.declared.event.Action.TheVariants.{Append}
 use Rattle.sbp_command.specs.Blocks.{read_block, write_block}
 use Rattle.sbp_command.specs.declared.script.LineFault.{LineFault}
-use Rattle.sbp_command.specs.declared.script.LineFault.TheVariants.{TooMany, TooLong, NoForm, NoDigits}
+use Rattle.sbp_command.specs.declared.script.LineFault.TheVariants.{TooMany, TooLong, NoForm, NoDigits, NoQuadlets, ManyQuadlets}
 use Rattle.sbp_command.specs.declared.script.LineError.{LineError}
 use Rattle.sbp_command.specs.declared.script.LineError.TheVariants.{Fault, NoMemory}
 
@@ -105,6 +105,8 @@ fault_number TooMany = 2
 fault_number TooLong = 1
 fault_number NoForm = 10
 fault_number NoDigits = 9
+fault_number NoQuadlets = 4
+fault_number ManyQuadlets = 5
 
 -- an answer gives a reading, unless memory was wanting
 abbrev pub Reads : Result Event LineError → Result Event LineFault → Type 0

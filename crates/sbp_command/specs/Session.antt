@@ -1,5 +1,5 @@
 -- What the reading of lines has come to, byte by byte and line by line.
-use Rattle.std.specs.Prelude.{◌≡◌, ℕ, ◌*◌, ◌-◌, ◌≤◌, ◌<◌, nat_lt, false, List, [], ◌++◌, length, take, Option, None, Result, Ok, Err}
+use Rattle.std.specs.Prelude.{◌≡◌, ℕ, ◌*◌, ◌-◌, ◌≤◌, ◌<◌, nat_lt, false, List, [], ◌++◌, length, take, Option, None, IfSome, Result, Ok, Err, OnOk}
 use Rattle.std.specs.Io.KnownBytes.{Appends, Consumes, IsAtEnd}
 use Rattle.std.specs.Str.Lines.{lines}
 use Rattle.sbp_base.specs.Faults.{Rose}
@@ -11,7 +11,8 @@ use Rattle.sbp_journal.specs.declared.note.Note.{Note}
 use Rattle.sbp_command.specs.Plain.{PlainState, empty_list, held, StandsFor}
 use Rattle.sbp_command.specs.Script.{script, reading, IsWhole, NoFeed, is_surely_long}
 use Rattle.sbp_command.specs.Listing.{listing, line_listing}
-use Rattle.sbp_command.specs.Headline.{Outside, RunEnds, ListingEnds, KeepsMedia, fault_text}
+use Rattle.sbp_command.specs.RomListing.{rom_quads, rom_listing, with_line, quiet}
+use Rattle.sbp_command.specs.Headline.{Outside, RunEnds, ListingEnds, RomEnds, KeepsMedia, fault_text}
 use Rattle.sbp_command.specs.declared.session.Server.{Server}
 use Rattle.sbp_command.specs.declared.session.Server.TheVariants as servers
 use Rattle.sbp_command.specs.declared.script.LineFault.{LineFault}
@@ -22,6 +23,7 @@ use Rattle.sbp_command.specs.declared.status.Status.TheVariants as statuses
 pub data Service : Type 0 where
   serves_run : Service
   serves_decode : Service
+  serves_rom : Service
 
 -- how many whole lines were read, the bytes of the line that has not ended, and what serves the lines
 pub record SessionState : Type 0 where
@@ -44,6 +46,7 @@ pub record HasSeen (list : PlainState) (number : ℕ) : Type 0 where
 abbrev pub Served : Server → ℕ → Type 0
 Served (servers.Run list) number = HasSeen list number
 Served servers.Decode number = Unit {0}
+Served (servers.Rom quads) number = Unit {0}
 
 -- The list has room for the line of this number, which is to be run.
 pub record Awaits (list : PlainState) (number : ℕ) : Type 0 where
@@ -53,6 +56,7 @@ pub record Awaits (list : PlainState) (number : ℕ) : Type 0 where
 abbrev pub CanServe : Server → ℕ → Type 0
 CanServe (servers.Run list) number = Awaits list number
 CanServe servers.Decode number = Unit {0}
+CanServe (servers.Rom quads) number = Unit {0}
 
 -- what a reader can go on from: the lines are few and the rest is short, and these lines were served
 pub record IsReady (state : SessionState) : Type 0 where
@@ -161,12 +165,24 @@ pub record ListedSoFar (before now : Outside) (text : List ℕ) : Type 0 where
   pub writes : before.writes ≤ now.writes
   pub media : KeepsMedia before now
 
--- A line was served: of `run` from each run that the list stands for, of `decode` by what was written.
+-- The quadlets have those of a line behind them, or the line's fault is written as far as memory and the sink allow.
+pub record TakesLine {A : Type 0} (old new : Outside) (result : Result A Status) (number : ℕ) (line quads after : List ℕ) : Type 0 where
+  pub taken : OnOk result (with_line number quads line ≡ Ok after)
+  pub written : WritesLine old.written new.written old.writes new.writes result number (quiet (with_line number quads line))
+  pub media : KeepsMedia old new
+
+-- A line was served: of `run` from each run that the list stands for, of `decode` by what was written, of `rom` by the
+-- quadlets.
 abbrev pub ServesLine : {A : Type 0} → Result A Status → Outside → Outside → Outside → ℕ → List ℕ → Server → Server → Type 0
 ServesLine result before old new number line (servers.Run list) (servers.Run after) = (run : Run) → RanSoFar before old run list → LineEnds result before new run number line after
 ServesLine result before old new number line servers.Decode servers.Decode = WritesLine old.written new.written old.writes new.writes result number (line_listing number line) × KeepsMedia old new
+ServesLine result before old new number line (servers.Rom quads) (servers.Rom after) = TakesLine old new result number line quads after
 ServesLine result before old new number line (servers.Run list) servers.Decode = ⊥
+ServesLine result before old new number line (servers.Run list) (servers.Rom after) = ⊥
 ServesLine result before old new number line servers.Decode (servers.Run list) = ⊥
+ServesLine result before old new number line servers.Decode (servers.Rom after) = ⊥
+ServesLine result before old new number line (servers.Rom quads) (servers.Run list) = ⊥
+ServesLine result before old new number line (servers.Rom quads) servers.Decode = ⊥
 
 -- The whole lines that were read are run and written; behind them stand the rest of a line and the bytes that wait.
 pub record InRun (before now : Outside) (pending : List ℕ) (state : RunState) : Type 0 where
@@ -192,12 +208,29 @@ pub record InListing (before now : Outside) (pending : List ℕ) (number : ℕ) 
   pub so_far : ListedSoFar before now (listing whole).text
   pub reads : before.reads ≤ now.reads
 
+-- The whole lines that were read have these quadlets, and nothing is written; behind them stand the rest of a line and the bytes
+-- that wait.
+pub record InRom (before now : Outside) (pending : List ℕ) (number : ℕ) (rest quads : List ℕ) : Type 0 where
+  pub whole : List ℕ
+  pub consumed : Consumes before.left now.left ((whole ++ rest) ++ pending)
+  pub is_whole : IsWhole whole
+  pub no_feed : NoFeed rest
+  pub lines_are : length (lines whole) ≡ number
+  pub is_read : rom_quads whole ≡ Ok quads
+  pub so_far : ListedSoFar before now []
+  pub reads : before.reads ≤ now.reads
+
 -- where a session stands, by the word that is served
 abbrev pub StandsAt : Service → Outside → Outside → List ℕ → ℕ → List ℕ → Server → Type 0
 StandsAt serves_run before now pending number rest (servers.Run list) = InRun before now pending (record { number = number; rest = rest; list = list })
 StandsAt serves_decode before now pending number rest servers.Decode = InListing before now pending number rest
+StandsAt serves_rom before now pending number rest (servers.Rom quads) = InRom before now pending number rest quads
 StandsAt serves_run before now pending number rest servers.Decode = ⊥
+StandsAt serves_run before now pending number rest (servers.Rom quads) = ⊥
 StandsAt serves_decode before now pending number rest (servers.Run list) = ⊥
+StandsAt serves_decode before now pending number rest (servers.Rom quads) = ⊥
+StandsAt serves_rom before now pending number rest (servers.Run list) = ⊥
+StandsAt serves_rom before now pending number rest servers.Decode = ⊥
 
 abbrev pub InSession : Service → Outside → Outside → List ℕ → SessionState → Type 0
 InSession service before now pending state = StandsAt service before now pending state.number state.rest state.server
@@ -206,18 +239,60 @@ InSession service before now pending state = StandsAt service before now pending
 abbrev pub Serves : Service → Server → Type 0
 Serves serves_run (servers.Run list) = list ≡ empty_list
 Serves serves_decode servers.Decode = Unit {0}
+Serves serves_rom (servers.Rom quads) = quads ≡ []
 Serves serves_run servers.Decode = ⊥
+Serves serves_run (servers.Rom quads) = ⊥
 Serves serves_decode (servers.Run list) = ⊥
+Serves serves_decode (servers.Rom quads) = ⊥
+Serves serves_rom (servers.Run list) = ⊥
+Serves serves_rom servers.Decode = ⊥
 
 -- nothing waits yet
 abbrev pub IsFresh : Server → Type 0
 IsFresh (servers.Run list) = list ≡ empty_list
 IsFresh servers.Decode = Unit {0}
+IsFresh (servers.Rom quads) = quads ≡ []
 
 -- how it ends
 abbrev pub Ends : Service → Status → Outside → Outside → Type 0
 Ends serves_run status before now = RunEnds status before now
 Ends serves_decode status before now = ListingEnds status before now
+Ends serves_rom status before now = RomEnds status before now
+
+-- The whole input, where the source tells it, has these quadlets, and nothing is written.
+pub record RomGathered (before now : Outside) (quads : List ℕ) : Type 0 where
+  pub input : List ℕ
+  pub told : IfSome before.left (λ bytes. bytes ≡ input)
+  pub is_read : rom_quads input ≡ Ok quads
+  pub at_end : IsAtEnd now.left
+  pub so_far : ListedSoFar before now []
+
+-- all lines were served
+abbrev pub AllServed : Service → Outside → Outside → Server → Type 0
+AllServed serves_run before now (servers.Run list) = RunEnds statuses.Done before now
+AllServed serves_decode before now servers.Decode = ListingEnds statuses.Done before now
+AllServed serves_rom before now (servers.Rom quads) = RomGathered before now quads
+AllServed serves_run before now servers.Decode = ⊥
+AllServed serves_run before now (servers.Rom quads) = ⊥
+AllServed serves_decode before now (servers.Run list) = ⊥
+AllServed serves_decode before now (servers.Rom quads) = ⊥
+AllServed serves_rom before now (servers.Run list) = ⊥
+AllServed serves_rom before now servers.Decode = ⊥
+
+-- what a status says of a write
+abbrev pub outcome : Status → Result (Unit {0}) Status
+outcome statuses.Done = Ok tt
+outcome statuses.Words = Err statuses.Words
+outcome statuses.Script = Err statuses.Script
+outcome statuses.ReadFault = Err statuses.ReadFault
+outcome statuses.WriteFault = Err statuses.WriteFault
+outcome statuses.NoMemory = Err statuses.NoMemory
+
+-- what is written when all lines were served: nothing, or the listing of the quadlets
+abbrev pub Closes : Status → Outside → Outside → Server → Type 0
+Closes status old new (servers.Run list) = (status ≡ statuses.Done) × (old ≡ new)
+Closes status old new servers.Decode = (status ≡ statuses.Done) × (old ≡ new)
+Closes status old new (servers.Rom quads) = WritesFront old.written new.written old.writes new.writes (outcome status) (rom_listing quads) × ((old.left ≡ new.left) × KeepsMedia old new)
 
 -- the session goes on, or it ended
 abbrev pub GoesOn : {A : Type 0} → Service → Result A Status → Outside → Outside → List ℕ → SessionState → Type 0

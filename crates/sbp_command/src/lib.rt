@@ -3,12 +3,14 @@
 
 mod listing;
 mod plain;
+mod rom;
 mod script;
 mod session;
 mod status;
 mod top;
 mod write;
 
+pub use rom::rom_tree_is_listed;
 pub use script::{LineError, LineFault, read_line};
 pub use status::Status;
 pub use top::sbp2;

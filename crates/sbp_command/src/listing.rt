@@ -50,7 +50,7 @@ fn list_digits(alloc: Global, line: &[u8]) -> Result<String, LineError>
 }
 
 /// The bytes of a line that are neither spaces nor tabs.
-fn digits_of(alloc: Global, line: &[u8]) -> Result<Vec<u8>, AllocError>
+pub(crate) fn digits_of(alloc: Global, line: &[u8]) -> Result<Vec<u8>, AllocError>
     ensures { IfOk result (λ kept. kept.items ≡ filter (λ byte. not (is_gap byte)) line.now) }
 {
     line.iter()
@@ -90,7 +90,12 @@ fn refusal_line(alloc: Global, fault: PacketFault) -> Result<String, NoMemory>
 }
 
 /// `fault C NAME VALUE`
-fn field_line(alloc: Global, number: u8, name: &str, value: usize) -> Result<String, NoMemory>
+pub(crate) fn field_line(
+    alloc: Global,
+    number: u8,
+    name: &str,
+    value: usize,
+) -> Result<String, NoMemory>
     ensures { IfOk result (λ text. string_bytes text ≡ codes "fault" ++ rest_of_line (Field.numeral number ∷ Field.name name.now ∷ Field.numeral value ∷ [])) }
 {
     Ok(format!(in alloc; "fault {number} {name} {value}\n")?)
@@ -303,7 +308,7 @@ fn offset_text(alloc: Global, offset: Offset) -> Result<String, NoMemory>
 }
 
 /// A quadlet as 8 digits.
-fn quadlet_text(alloc: Global, value: u32) -> Result<String, NoMemory>
+pub(crate) fn quadlet_text(alloc: Global, value: u32) -> Result<String, NoMemory>
     ensures { IfOk result (λ text. string_bytes text ≡ word (Field.quadlet value)) }
 {
     let mut bytes = [0; 4];

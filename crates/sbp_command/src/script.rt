@@ -29,6 +29,10 @@ pub enum LineFault {
     NoForm,
     /// The line's digits are odd in number, or one of them is not hexadecimal.
     NoDigits,
+    /// The line's bytes are no whole quadlets.
+    NoQuadlets,
+    /// With this line the quadlets pass 256.
+    ManyQuadlets,
 }
 
 impl LineFault {
@@ -41,6 +45,8 @@ impl LineFault {
             LineFault::TooLong => 1,
             LineFault::NoForm => 10,
             LineFault::NoDigits => 9,
+            LineFault::NoQuadlets => 4,
+            LineFault::ManyQuadlets => 5,
         }
     }
 }

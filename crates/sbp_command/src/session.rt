@@ -1,4 +1,4 @@
-ghost use Rattle.std.specs.Prelude.{◌≡◌, ◌≢◌, ◌+◌, ◌<◌, ◌≤◌, ◌∷◌, ◌++◌, [], ℕ, List, map, length, nat_lt, true, Option, Result, Ok, Err, IfOk, OnOk, if◌then◌else◌};
+ghost use Rattle.std.specs.Prelude.{◌≡◌, ◌≢◌, ◌+◌, ◌<◌, ◌≤◌, ◌∷◌, ◌++◌, [], ℕ, List, map, length, nat_lt, true, Option, Result, Ok, Err, IfOk, IfErr, OnOk, if◌then◌else◌};
 ghost use Rattle.std.specs.Io.KnownBytes.{IsAtEnd};
 ghost use Rattle.std.specs.Str.Lines.{strip_carriage_return};
 ghost use Rattle.rbc_disk.specs.Disk.{Disk};
@@ -6,14 +6,17 @@ ghost use Rattle.sbp_journal.specs.Run.{Run};
 ghost use Rattle.sbp_journal.specs.declared.event.Event.{Event};
 ghost use Rattle.sbp_command.specs.Plain.{PlainState, InPlace, empty_list};
 ghost use Rattle.sbp_command.specs.Listing.{line_listing};
+ghost use Rattle.sbp_command.specs.RomListing.{rom_listing, with_line, quiet};
 ghost use Rattle.sbp_command.specs.Headline.{Outside, outside};
 ghost use Rattle.sbp_command.specs.Script as script;
 ghost use Rattle.sbp_command.specs.declared.script.LineFault.TheVariants as line_faults;
 ghost use Rattle.sbp_command.specs.declared.session.Server.TheVariants as servers;
-ghost use Rattle.sbp_command.specs.Session.{Service, CanServe, Served, IsReady, budget, RanSoFar, LineFails, LineEnds, WritesLine, ServesLine, InSession, Ends, GoesOn, PieceEnds};
+ghost use Rattle.sbp_command.specs.declared.status.Status.TheVariants as statuses;
+ghost use Rattle.sbp_command.specs.Session.{Service, CanServe, Served, IsReady, budget, RanSoFar, LineFails, LineEnds, WritesFront, WritesLine, ServesLine, Closes, outcome, InSession, Ends, GoesOn, PieceEnds};
 
 use crate::listing::list_bytes;
 use crate::plain::PlainList;
+use crate::rom::Quadlets;
 use crate::script::{LINES, LineError, LineFault, read_line};
 use crate::status::Status;
 use crate::write::{write_all, write_fault, write_notes};
@@ -33,6 +36,8 @@ pub enum Server {
     Run(PlainList),
     /// Their packets are listed.
     Decode,
+    /// Their quadlets are gathered, and listed as one configuration ROM at the end.
+    Rom(Quadlets),
 }
 
 impl Server {
@@ -135,6 +140,46 @@ fn list_line<K: Sink>(alloc: Global, number: u32, line: &[u8], sink: &mut K) -> 
     }
 }
 
+/// Gathers the quadlets of a line that has ended, or tells its fault.
+fn gather_line<K: Sink>(
+    alloc: Global,
+    number: u32,
+    line: &[u8],
+    quads: &mut Quadlets,
+    sink: &mut K,
+) -> Result<(), Status>
+    ensures few { OnOk result (number ≤ 65536) }
+    ensures taken { OnOk result (with_line number quads.old line.now ≡ Ok quads.new) }
+    ensures written { WritesLine (K.written sink.old) (K.written sink.new) (K.faults sink.old) (K.faults sink.new) result number (quiet (with_line number quads.old line.now)) }
+{
+    match quads.take_line(alloc, number, line) {
+        Ok(()) => Ok(()),
+        Err(LineError::Fault(fault)) => Err(tell_fault(alloc, number, fault, sink)),
+        Err(LineError::NoMemory) => Err(Status::NoMemory),
+    }
+}
+
+/// Writes the listing of a configuration ROM.
+fn write_rom<K: Sink>(alloc: Global, quads: &Quadlets, sink: &mut K) -> Status
+    ensures { WritesFront (K.written sink.old) (K.written sink.new) (K.faults sink.old) (K.faults sink.new) (outcome result) (rom_listing quads.now) }
+{
+    match quads.listing(alloc) {
+        Ok(text) => status_of(write_all(sink, text.as_bytes())),
+        Err(NoMemory) => Status::NoMemory,
+    }
+}
+
+/// The status of a write that ends a call.
+fn status_of(written: Result<(), Status>) -> Status
+    ensures ok { OnOk written (result ≡ statuses.Done) }
+    ensures err { IfErr written (λ status. result ≡ status) }
+{
+    match written {
+        Ok(()) => Status::Done,
+        Err(status) => status,
+    }
+}
+
 /// Serves a line that has ended.
 fn serve_line<K: Sink>(
     alloc: Global,
@@ -155,6 +200,17 @@ fn serve_line<K: Sink>(
     match server {
         Server::Run(list) => run_line(alloc, number, line, list, text, media, sink),
         Server::Decode => list_line(alloc, number, line, sink),
+        Server::Rom(quads) => gather_line(alloc, number, line, quads, sink),
+    }
+}
+
+/// Writes what stands behind the last line.
+fn close<K: Sink>(alloc: Global, server: &Server, sink: &mut K) -> Status
+    ensures { (left : Option (List ℕ)) (reads : ℕ) (disks : List Disk) (faults : List ℕ) → Closes result (outside left reads (K.written sink.old) (K.faults sink.old) disks faults) (outside left reads (K.written sink.new) (K.faults sink.new) disks faults) server.now }
+{
+    match server {
+        Server::Run(_) | Server::Decode => Status::Done,
+        Server::Rom(quads) => write_rom(alloc, quads, sink),
     }
 }
 
@@ -303,14 +359,14 @@ impl Session {
         Ok(())
     }
 
-    /// Serves the last line, if it has no line feed.
+    /// Serves the last line, if it has no line feed, and writes what stands behind it.
     fn finish<K: Sink>(&mut self, media: &mut Vec<Box<dyn Medium>>, sink: &mut K) -> Status
         requires ready { IsReady self.old }
         requires media { 0 < length media.old.items }
         ensures { (service : Service) (before : Outside) (left : Option (List ℕ)) (reads : ℕ) → IsAtEnd left → InSession service before (outside left reads (K.written sink.old) (K.faults sink.old) (map disk media.old.items) (map media_faults media.old.items)) [] self.old → Ends service result before (outside left reads (K.written sink.new) (K.faults sink.new) (map disk media.new.items) (map media_faults media.new.items)) }
     {
         if self.rest.as_slice().is_empty() {
-            return Status::Done;
+            return close(self.alloc, &self.server, sink);
         }
         let line = self.rest.as_slice();
         let number = self.number + 1;
@@ -325,7 +381,7 @@ impl Session {
         ) {
             return status;
         }
-        Status::Done
+        close(self.alloc, &self.server, sink)
     }
 
     /// Reads a piece of the input into `room` and takes it, and answers how many bytes it has: 0 at

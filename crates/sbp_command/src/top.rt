@@ -1,9 +1,10 @@
 ghost use Rattle.std.specs.Prelude.{◌≡◌, ◌≤◌, ◌<◌, ℕ, List, map, length, IfOk, Option, ◌↔◌, ◌++◌, ◌∷◌, [], true};
 ghost use Rattle.std.specs.String.{string_bytes};
 ghost use Rattle.rbc_disk.specs.Disk.{Disk};
-ghost use Rattle.sbp_command.specs.Headline.{outside, RunEnds, ListingEnds, UsageEnds, IsRun, IsDecode};
+ghost use Rattle.sbp_command.specs.Headline.{outside, RunEnds, ListingEnds, RomEnds, UsageEnds, IsRun, IsDecode, IsRom};
 ghost use Rattle.sbp_command.specs.Session.{Service, IsFresh, Serves, Ends};
 
+use crate::rom::Quadlets;
 use crate::session::{Server, Session};
 use crate::status::Status;
 use crate::write::write_all;
@@ -43,6 +44,16 @@ fn is_decode(words: &[String]) -> bool
 {
     match words {
         [word] => word.as_str() == "decode",
+        _ => false,
+    }
+}
+
+/// Whether the words are `rom` alone.
+fn is_rom(words: &[String]) -> bool
+    ensures { result ≡ true ↔ IsRom (map string_bytes words.now) }
+{
+    match words {
+        [word] => word.as_str() == "rom",
         _ => false,
     }
 }
@@ -95,8 +106,23 @@ fn list_packets<S: Source, K: Sink>(
     serve(alloc, Server::Decode, media, source, sink)
 }
 
+/// Reads the quadlets of a configuration ROM and lists it.
+fn list_rom<S: Source, K: Sink>(
+    alloc: Global,
+    media: &mut Vec<Box<dyn Medium>>,
+    source: &mut S,
+    sink: &mut K,
+) -> Status
+    requires some { 1 ≤ length media.old.items }
+    ensures { RomEnds result (outside (S.left source.old) (S.faults source.old) (K.written sink.old) (K.faults sink.old) (map disk media.old.items) (map media_faults media.old.items)) (outside (S.left source.new) (S.faults source.new) (K.written sink.new) (K.faults sink.new) (map disk media.new.items) (map media_faults media.new.items)) }
+{
+    let server = Server::Rom(Quadlets::new(alloc));
+    serve(alloc, server, media, source, sink)
+}
+
 /// Does what the words say over one to four media: `run` reads a script from `source`, runs it, and
-/// writes the journal to `sink`; `decode` reads packets in hexadecimal lines and writes their listing.
+/// writes the journal to `sink`; `decode` reads packets in hexadecimal lines and writes their listing;
+/// `rom` reads the quadlets of one configuration ROM in hexadecimal lines and writes its listing.
 /// The words are read as they are.
 pub fn sbp2<S: Source, K: Sink>(
     alloc: Global,
@@ -109,12 +135,15 @@ pub fn sbp2<S: Source, K: Sink>(
     requires few { length media.old.items ≤ 4 }
     ensures run { IsRun (map string_bytes words.now) → RunEnds result (outside (S.left source.old) (S.faults source.old) (K.written sink.old) (K.faults sink.old) (map disk media.old.items) (map media_faults media.old.items)) (outside (S.left source.new) (S.faults source.new) (K.written sink.new) (K.faults sink.new) (map disk media.new.items) (map media_faults media.new.items)) }
     ensures decode { IsDecode (map string_bytes words.now) → ListingEnds result (outside (S.left source.old) (S.faults source.old) (K.written sink.old) (K.faults sink.old) (map disk media.old.items) (map media_faults media.old.items)) (outside (S.left source.new) (S.faults source.new) (K.written sink.new) (K.faults sink.new) (map disk media.new.items) (map media_faults media.new.items)) }
-    ensures words { ¬ IsRun (map string_bytes words.now) → ¬ IsDecode (map string_bytes words.now) → UsageEnds result (outside (S.left source.old) (S.faults source.old) (K.written sink.old) (K.faults sink.old) (map disk media.old.items) (map media_faults media.old.items)) (outside (S.left source.new) (S.faults source.new) (K.written sink.new) (K.faults sink.new) (map disk media.new.items) (map media_faults media.new.items)) }
+    ensures rom { IsRom (map string_bytes words.now) → RomEnds result (outside (S.left source.old) (S.faults source.old) (K.written sink.old) (K.faults sink.old) (map disk media.old.items) (map media_faults media.old.items)) (outside (S.left source.new) (S.faults source.new) (K.written sink.new) (K.faults sink.new) (map disk media.new.items) (map media_faults media.new.items)) }
+    ensures words { ¬ IsRun (map string_bytes words.now) → ¬ IsDecode (map string_bytes words.now) → ¬ IsRom (map string_bytes words.now) → UsageEnds result (outside (S.left source.old) (S.faults source.old) (K.written sink.old) (K.faults sink.old) (map disk media.old.items) (map media_faults media.old.items)) (outside (S.left source.new) (S.faults source.new) (K.written sink.new) (K.faults sink.new) (map disk media.new.items) (map media_faults media.new.items)) }
 {
     if is_run(words) {
         run_script(alloc, media, source, sink)
     } else if is_decode(words) {
         list_packets(alloc, media, source, sink)
+    } else if is_rom(words) {
+        list_rom(alloc, media, source, sink)
     } else {
         tell_usage(sink)
     }
