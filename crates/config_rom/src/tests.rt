@@ -134,6 +134,38 @@ fn shared_position(rt: HostRuntime) -> Result<(), Fail> {
     Ok(())
 }
 
+/// A leaf whose header is an entry of the root directory: each is read as its quadlets stand.
+#[test]
+fn block_inside_a_block(rt: HostRuntime) -> Result<(), Fail> {
+    let quads = [
+        0x0400_0000,
+        0x3133_3934,
+        0,
+        0,
+        0,
+        0x0003_0000,
+        0x8100_0001,
+        0x0001_0000,
+        0,
+    ];
+    let rom = parse(rt.alloc(), &quads).ok().ok_or("refused")?;
+    let root = Block {
+        at: 5,
+        length: 3,
+        is_directory: true,
+        sum_is_right: false,
+    };
+    let leaf = Block {
+        at: 7,
+        length: 1,
+        is_directory: false,
+        sum_is_right: true,
+    };
+    assert_eq!(rt; rom.blocks(), [root, leaf].as_slice());
+    assert_eq!(rt; rom.entries().len(), 3);
+    Ok(())
+}
+
 /// The fault of these quadlets.
 fn fault_of(rt: &HostRuntime, quads: &[u32]) -> Option<RomFault>
     requires { length quads.now ≤ 256 }
