@@ -1,0 +1,99 @@
+ghost use Rattle.std.specs.Prelude.{◌≡◌, ◌<◌, ◌≤◌, length, None, Some, IfOk};
+ghost use Rattle.label_table.specs.Requests.{is_last, with_label};
+ghost use Rattle.std.specs.Str.{bytes_eq};
+
+use sbp_base::NoMemory;
+use std::alloc::Global;
+use std::marker::Model;
+
+/// The most bytes of a request: 16 bytes and a payload of 2,048.
+pub(crate) const LONGEST: usize = 2064;
+
+/// Room for the bytes of one request, taken when it is made. Contracts see the request that is
+/// kept in it, or none.
+#[derive(Drop)]
+pub struct RequestRoom {
+    room: Vec<u8>,
+    count: usize,
+    is_kept: bool,
+}
+
+impl Model for RequestRoom {
+    ghost use Rattle.std.specs.Prelude.{◌≡◌, ◌≤◌, ℕ, List, length, take, Option, Some, None, if◌then◌else◌};
+
+    ghost Value = { Option (List ℕ) };
+
+    ghost view = { λ a. if a.is_kept then Some (take a.count a.room.items) else None };
+
+    ghost invariant = { λ a. (length a.room.items ≡ 2064) × (a.count ≤ 2064) };
+}
+
+impl RequestRoom {
+    /// Room with no request in it.
+    pub(crate) fn new(alloc: Global) -> Result<RequestRoom, NoMemory>
+        ensures { IfOk result (λ room. room ≡ None) }
+    {
+        Ok(RequestRoom {
+            room: vec![in alloc; 0; LONGEST]?,
+            count: 0,
+            is_kept: false,
+        })
+    }
+
+    /// Keeps a request of at most 2,064 bytes in place of the one before.
+    pub(crate) fn keep(&mut self, bytes: &[u8])
+        requires { length bytes.now ≤ 2064 }
+        ensures { self.new ≡ Some bytes.now }
+    {
+        let count = bytes.len();
+        self.room[0..count].copy_from_slice(bytes);
+        self.count = count;
+        self.is_kept = true;
+    }
+
+    /// Keeps none.
+    pub(crate) fn forget(&mut self)
+        ensures { self.new ≡ None }
+    {
+        self.is_kept = false;
+    }
+
+    /// Whether a request is kept and has these bytes.
+    pub(crate) fn is(&self, bytes: &[u8]) -> bool
+        ensures { result ≡ is_last self.now bytes.now }
+    {
+        self.is_kept && &self.room[0..self.count] == bytes
+    }
+
+    /// Whether a request is kept and has these bytes with this label, below 64, in them.
+    #[tactic(auto, unfolding(crate::specs::Requests::with_label))]
+    pub(crate) fn is_labelled(&self, bytes: &[u8], number: u8) -> bool
+        requires size { 12 ≤ length bytes.now }
+        requires small { number < 64 }
+        ensures { result ≡ is_last self.now (with_label number bytes.now) }
+    {
+        self.is_kept && has_label(&self.room[0..self.count], bytes, number)
+    }
+}
+
+/// Whether these are the bytes of a request with this label, below 64, in them.
+fn has_label(last: &[u8], bytes: &[u8], number: u8) -> bool
+    requires size { 12 ≤ length bytes.now }
+    requires small { number < 64 }
+    ensures { result ≡ bytes_eq last.now (with_label number bytes.now) }
+{
+    last.len() == bytes.len() && has_label_within(last, bytes, number)
+}
+
+/// The same for as many bytes: those before byte 2, that byte, and those behind it.
+fn has_label_within(last: &[u8], bytes: &[u8], number: u8) -> bool
+    requires size { 12 ≤ length bytes.now }
+    requires same { length last.now ≡ length bytes.now }
+    requires small { number < 64 }
+    ensures { result ≡ bytes_eq last.now (with_label number bytes.now) }
+{
+    let is_front = last[0..2] == bytes[0..2];
+    let is_labelled = last[2] == number * 4 + bytes[2] % 4;
+    let is_rest = last[3..] == bytes[3..];
+    is_front && (is_labelled && is_rest)
+}
