@@ -1,15 +1,12 @@
 -- The role that the tcode tells is that of the packet which the bytes spell.
-use Rattle.std.proofs.Common.{◌≡◌, ◌∙◌, refl, sym, subst, ap, ℕ, List, None, Some, arith}
+use Rattle.std.proofs.Common.{◌≡◌, refl, sym, ℕ, List}
 use Rattle.std.specs.Prelude.{if◌then◌else◌}
-use Rattle.async_packet.specs.Fields.{tcode_of, header_of}
-use Rattle.async_packet.specs.Faults.{fault_of}
 use Rattle.async_packet.specs.Spells.{IsRow, Spells}
 use Rattle.async_packet.specs.declared.packet.Header.{Header}
 use Rattle.async_packet.proofs.Judged.{no_fault}
 use Rattle.async_packet.specs.Packet.{Packet, write_quadlet, write_block, write_response, read_quadlet, read_block, read_quadlet_response, read_block_response, lock, lock_response}
-use Rattle.packet_store.specs.declared.role.Role.{Role}
-use Rattle.packet_store.specs.declared.role.Role.TheVariants.{Request, Response, NoPacket}
-use Rattle.packet_store.specs.Roles.{is_response, role_by, role_of, role_in}
+use Rattle.packet_store.specs.declared.role.Role.TheVariants.{Request, Response}
+use Rattle.packet_store.specs.Roles.{is_response, role_of, role_in}
 
 -- the role of bytes with a known tcode
 by_row : (bytes : List ℕ) (p : Packet) (tcode count : ℕ) (header : Header) → Spells bytes p → IsRow tcode count bytes header → role_of bytes ≡ (if is_response tcode then Response header.label else Request header.label)

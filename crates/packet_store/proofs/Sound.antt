@@ -1,6 +1,6 @@
 -- The ties between the packets, the serials in flight and the index after each change.
-use Rattle.std.proofs.Common.{◌≡◌, ◌∙◌, refl, sym, subst, ap, ℕ, zero, suc, ◌+◌, ◌<◌, ◌≤◌, Bool, true, false, List, [], ◌∷◌, ◌++◌, length, None, Some, cond, arith}
-use Rattle.std.specs.Prelude.{◌≢◌, ◌==◌, ◌&&◌, ◌||◌, nat_lt, not, Option, if◌then◌else◌}
+use Rattle.std.proofs.Common.{◌≡◌, ◌∙◌, refl, sym, subst, ap, ℕ, ◌+◌, ◌<◌, ◌≤◌, Bool, true, false, List, [], ◌∷◌, ◌++◌, Some, cond, arith}
+use Rattle.std.specs.Prelude.{◌≢◌, ◌==◌, ◌&&◌, ◌||◌, nat_lt, not, Option}
 use Rattle.std.specs.List.{filter}
 use Rattle.std.specs.Set.{remove_key}
 use Rattle.std.specs.BTreeMap.{is_at}
@@ -14,7 +14,7 @@ use Rattle.packet_store.specs.declared.transaction.Transaction.{Transaction}
 use Rattle.packet_store.specs.declared.index.Index.{Index}
 use Rattle.packet_store.specs.Transactions.{belongs, is_that, transaction_of}
 use Rattle.packet_store.specs.Indexes.{has}
-use Rattle.packet_store.specs.Kept.{without, with_delivered, delivered, found, flying, is_delivered, AreBelow}
+use Rattle.packet_store.specs.Kept.{without, with_delivered, found, flying, is_delivered, AreBelow}
 use Rattle.packet_store.specs.Stored.{stays, newest}
 use Rattle.packet_store.specs.declared.sent.Sent.{Sent}
 use Rattle.packet_store.specs.Sound.{IsKept, AreKept, Tied, is_earlier, withdrawn}

@@ -1,6 +1,6 @@
 -- Which transaction a packet belongs to, and which it begins (IEEE 1394-1995, transaction layer): a
 -- transaction is told apart by its generation, its requester, its responder and its label.
-use Rattle.std.specs.Prelude.{ℕ, ◌==◌, ◌&&◌, Bool, false, if◌then◌else◌, Option, Some, None}
+use Rattle.std.specs.Prelude.{◌==◌, ◌&&◌, Bool, false, if◌then◌else◌, Option, Some, None}
 use Rattle.packet_store.specs.declared.sent.Sent.{Sent}
 use Rattle.packet_store.specs.declared.transaction.Transaction.{Transaction}
 use Rattle.packet_store.specs.declared.role.Role.{Role}

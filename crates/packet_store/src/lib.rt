@@ -13,3 +13,6 @@ mod transaction;
 pub use sent::{Kept, Sent};
 pub use store::Store;
 pub use transaction::Transaction;
+
+#[cfg(test)]
+mod tests;

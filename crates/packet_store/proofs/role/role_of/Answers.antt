@@ -1,6 +1,5 @@
-use Rattle.std.proofs.Common.{rules, ◌≡◌, ◌∙◌, refl, sym}
-use Rattle.async_packet.specs.Packet.{view}
-use Rattle.packet_store.specs.Roles.{role_of, role_in}
+use Rattle.std.proofs.Common.{◌∙◌, refl}
+use Rattle.packet_store.specs.Roles.{role_of}
 use Rattle.packet_store.proofs.Roles.{spelled_role}
 use Rattle.packet_store.proofs.role.role_of.Goals as goal
 

@@ -1,5 +1,4 @@
-use Rattle.std.proofs.Common.{◌≡◌, ◌∙◌, ap, sym, subst, true, false, arith, None}
-use Rattle.std.specs.Prelude.{IfNone}
+use Rattle.std.proofs.Common.{◌≡◌, subst, true}
 use Rattle.std.specs.BTreeSet.{contains}
 use Rattle.packet_store.specs.Indexes.{has, place, place_cmp}
 use Rattle.packet_store.proofs.Orders.{within, ranged}

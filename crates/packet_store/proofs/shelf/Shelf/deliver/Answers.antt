@@ -1,7 +1,6 @@
-use Rattle.std.proofs.Common.{◌≡◌, ◌∙◌, ap, sym, subst, refl, rules}
+use Rattle.std.proofs.Common.{◌≡◌, ◌∙◌, ap, sym, subst}
 use Rattle.std.specs.Option.{option_copied}
 use Rattle.packet_store.specs.Kept.{with_delivered}
-use Rattle.packet_store.specs.Shelves.{slot, shelved}
 use Rattle.packet_store.proofs.Shelves.{marked, absent, looked}
 use Rattle.packet_store.proofs.shelf.Shelf.deliver.Goals as goal
 

@@ -1,4 +1,4 @@
-use Rattle.std.proofs.Common.{◌≡◌, ◌∙◌, ap, sym, subst, rules, None, Some}
+use Rattle.std.proofs.Common.{◌≡◌, ◌∙◌, ap, sym, subst, None, Some}
 use Rattle.std.specs.Option.{option_copied}
 use Rattle.packet_store.specs.Kept.{found}
 use Rattle.packet_store.proofs.Shelves.{shelved_found, taken}

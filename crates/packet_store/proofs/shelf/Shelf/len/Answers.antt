@@ -1,4 +1,4 @@
-use Rattle.std.proofs.Common.{◌≡◌, ◌∙◌, ap, length}
+use Rattle.std.proofs.Common.{◌∙◌, ap, length}
 use Rattle.packet_store.proofs.Shelves.{shelved_length}
 use Rattle.packet_store.proofs.shelf.Shelf.len.Goals as goal
 

@@ -1,8 +1,8 @@
-use Rattle.std.proofs.Common.{◌≡◌, ◌∙◌, ap, sym, subst, refl, rules, ◌++◌, ◌∷◌, [], arith}
+use Rattle.std.proofs.Common.{◌≡◌, ◌∙◌, ap, sym, subst, ◌++◌, ◌∷◌, []}
 use Rattle.slab.specs.Slab.{Slab}
 use Rattle.packet_store.specs.declared.sent.Kept.{Kept}
 use Rattle.packet_store.specs.Shelves.{shelved, HoldsAll}
-use Rattle.packet_store.proofs.Shelves.{Left, Others, pushed}
+use Rattle.packet_store.proofs.Shelves.{Left, pushed}
 use Rattle.packet_store.proofs.shelf.Shelf.push.Goals as goal
 
 pub invariant_of-self : goal.invariant_of-self

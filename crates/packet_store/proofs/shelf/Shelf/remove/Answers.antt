@@ -1,7 +1,7 @@
-use Rattle.std.proofs.Common.{◌≡◌, ◌∙◌, ap, sym, subst, refl, rules, ℕ}
+use Rattle.std.proofs.Common.{◌∙◌, ap, sym}
 use Rattle.packet_store.specs.Kept.{without}
 use Rattle.packet_store.specs.Shelves.{shelved}
-use Rattle.packet_store.proofs.Shelves.{Left, Others, taken_out, absent}
+use Rattle.packet_store.proofs.Shelves.{taken_out, absent}
 use Rattle.packet_store.proofs.shelf.Shelf.remove.Goals as goal
 
 pub returns-in_default : goal.returns-in_default

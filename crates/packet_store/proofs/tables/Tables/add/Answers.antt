@@ -1,8 +1,7 @@
-use Rattle.std.proofs.Common.{◌≡◌, ◌∙◌, ap, subst, sym, refl, ℕ, ◌+◌, ◌-◌, ◌<◌, ◌≤◌, arith, nat_cmp}
+use Rattle.std.proofs.Common.{◌∙◌, ap, subst, sym, ◌+◌, ◌-◌, ◌<◌, arith, nat_cmp}
 use Rattle.std.specs.BTreeMap.{is_at}
 use Rattle.std.specs.Set.{remove_key}
 use Rattle.packet_store.specs.Sound.{Tied}
-use Rattle.packet_store.specs.Transactions.{transaction_of}
 use Rattle.packet_store.proofs.Sound.{are_below, tied_same, tied_pushed, undone_flights, undone_index, More}
 use Rattle.packet_store.proofs.tables.Tables.add.Goals as goal
 

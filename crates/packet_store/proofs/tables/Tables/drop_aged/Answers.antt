@@ -1,6 +1,5 @@
-use Rattle.std.proofs.Common.{◌≡◌, ◌∙◌, ap, subst, sym, refl, ℕ, ◌+◌, ◌-◌, ◌≤◌, arith}
+use Rattle.std.proofs.Common.{◌≡◌, ◌∙◌, ap, subst, sym, ℕ, ◌-◌, arith}
 use Rattle.std.specs.List.{filter}
-use Rattle.packet_store.specs.Kept.{without}
 use Rattle.packet_store.specs.Stored.{stays}
 use Rattle.packet_store.specs.Sound.{Tied}
 use Rattle.packet_store.proofs.Sound.{tied_raised, aged_list, without_aged, all_stay}

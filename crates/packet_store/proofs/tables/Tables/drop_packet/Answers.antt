@@ -1,6 +1,3 @@
-use Rattle.std.proofs.Common.{◌≡◌, ◌∙◌, ap, subst, sym}
-use Rattle.packet_store.specs.declared.index.Index.{Index}
-use Rattle.packet_store.specs.declared.transaction.Transaction.{Transaction}
 use Rattle.packet_store.specs.Transactions.{is_same}
 use Rattle.packet_store.proofs.Sound.{Fewer, tied_fewer, fewer}
 use Rattle.packet_store.proofs.tables.Tables.drop_packet.Goals as goal

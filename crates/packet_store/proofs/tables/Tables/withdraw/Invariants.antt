@@ -1,4 +1,4 @@
-use Rattle.std.specs.Prelude.{◌≡◌, ◌-◌, ℕ, length}
+use Rattle.std.specs.Prelude.{◌≡◌, ◌-◌, length}
 use Rattle.packet_store.specs.Sound.{Tied, withdrawn}
 use Rattle.packet_store.proofs.tables.Tables.withdraw.Given as goal
 
