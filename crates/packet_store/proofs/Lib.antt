@@ -1,0 +1,4 @@
+pub mod Roles
+pub mod Orders
+pub mod Shelves
+pub mod Sound

@@ -1,0 +1,5 @@
+use Rattle.std.proofs.Common.{arith}
+use Rattle.packet_store.proofs.store.Store.new.Goals as goal
+
+pub invariant_of-result : goal.invariant_of-result
+invariant_of-result c = let e = c.new.ensures.last in record { tied = c.new.ensures.tied _; counted = omega arith }

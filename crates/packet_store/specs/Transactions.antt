@@ -1,0 +1,44 @@
+-- Which transaction a packet belongs to, and which it begins (IEEE 1394-1995, transaction layer): a
+-- transaction is told apart by its generation, its requester, its responder and its label.
+use Rattle.std.specs.Prelude.{◌==◌, ◌&&◌, Bool, false, if◌then◌else◌, Option, Some, None}
+use Rattle.packet_store.specs.declared.sent.Sent.{Sent}
+use Rattle.packet_store.specs.declared.transaction.Transaction.{Transaction}
+use Rattle.packet_store.specs.declared.role.Role.{Role}
+use Rattle.packet_store.specs.declared.role.Role.TheVariants.{Request, Response, NoPacket}
+use Rattle.packet_store.specs.Roles.{role_of}
+
+-- of a packet with this role: a request is its sender's, and an injected one is of no transaction; a
+-- response is of the node that it goes to
+abbrev pub transaction_by : Role → Sent → Option Transaction
+transaction_by (Request label) sent =
+    if sent.injected
+    then None
+    else Some (record { generation = sent.generation; requester = sent.from; responder = sent.to; label = label })
+transaction_by (Response label) sent =
+    Some (record { generation = sent.generation; requester = sent.to; responder = sent.from; label = label })
+transaction_by NoPacket sent = None
+
+unfoldable pub transaction_of : Sent → Option Transaction
+transaction_of sent = transaction_by (role_of sent.bytes) sent
+
+-- the transaction that a packet with this role begins
+abbrev pub begun_as : Role → Sent → Option Transaction
+begun_as (Request label) sent = transaction_of sent
+begun_as role sent = None
+
+unfoldable pub begun_by : Sent → Option Transaction
+begun_by sent = begun_as (role_of sent.bytes) sent
+
+-- two transactions are the same
+abbrev pub is_same : Transaction → Transaction → Bool
+is_same t u =
+    (t.generation == u.generation) && ((t.requester == u.requester) && ((t.responder == u.responder) && (t.label == u.label)))
+
+-- a transaction is the one of a packet
+abbrev pub is_that : Transaction → Option Transaction → Bool
+is_that t None = false
+is_that t (Some u) = is_same u t
+
+-- a packet belongs to a transaction
+unfoldable pub belongs : Transaction → Sent → Bool
+belongs t sent = is_that t (transaction_of sent)

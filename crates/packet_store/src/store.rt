@@ -1,0 +1,126 @@
+ghost use Rattle.std.specs.Prelude.{◌≡◌, ◌+◌, ◌^◌, ◌<◌, ◌≤◌, length, IsTrue, IfOk, OnOk, OnErr};
+ghost use Rattle.std.specs.Option.{option_copied};
+ghost use Rattle.packet_store.specs.Kept.{flying, found_sent, is_flying, first};
+ghost use Rattle.packet_store.specs.Stored.{empty, send_step, deliver_step, lose_step};
+
+use crate::sent::Sent;
+use crate::tables::Tables;
+use crate::transaction::begun_by;
+use sbp_base::NoMemory;
+use std::alloc::Global;
+use std::marker::Model;
+
+/// The packets in flight, and the delivered ones among the last 1,024 serials.
+#[derive(Drop)]
+pub struct Store {
+    tables: Tables,
+    calls: u64,
+}
+
+impl Model for Store {
+    ghost use Rattle.packet_store.specs.Stored.{Stored, IsStored};
+
+    ghost Value = { Stored };
+
+    ghost view = { λ a. record { kept = a.tables.shelf; last = a.tables.last; calls = a.calls } };
+
+    ghost invariant = { λ a. IsStored a.tables.shelf a.tables.flying.keys a.tables.index a.tables.last a.calls };
+}
+
+impl Store {
+    /// The store with no packet, in which no serial is given.
+    pub fn new(alloc: Global) -> Store
+        ensures { result ≡ empty }
+    {
+        Store {
+            tables: Tables::new(alloc),
+            calls: 0,
+        }
+    }
+
+    /// Sends a packet: it is in flight under the next serial, counted from 1. A request that was
+    /// not injected withdraws each earlier packet of its transaction. Where there is no memory the
+    /// store stays.
+    pub fn send(&mut self, packet: Sent) -> Result<u64, NoMemory>
+        requires { self.old.calls < 2 ^ 56 }
+        ensures serial { IfOk result (λ serial. serial ≡ self.old.last + 1) }
+        ensures sent { OnOk result (self.new ≡ send_step self.old packet) }
+        ensures failed { OnErr result (self.new ≡ self.old) }
+    {
+        let begun = begun_by(&packet);
+        self.tables.add(packet)?;
+        if let Some(transaction) = begun {
+            self.tables.withdraw(transaction);
+        }
+        self.tables.drop_aged();
+        self.calls += 1;
+        Ok(self.tables.last)
+    }
+
+    /// The lowest serial in flight.
+    pub fn lowest(&self) -> Option<u64>
+        ensures { result ≡ first (flying self.now.kept) }
+    {
+        self.tables.flying.first().copied()
+    }
+
+    /// The packet of a serial, in flight or delivered among the last 1,024 serials.
+    pub fn get(&self, serial: u64) -> Option<&Sent>
+        ensures { option_copied result ≡ found_sent serial self.now.kept }
+    {
+        let kept = self.tables.shelf.get(serial)?;
+        Some(&kept.sent)
+    }
+
+    /// Whether a serial is in flight.
+    pub fn is_in_flight(&self, serial: u64) -> bool
+        ensures { result ≡ is_flying serial self.now.kept }
+    {
+        self.tables.flying.contains(&serial)
+    }
+
+    /// A packet in flight is delivered.
+    pub fn delivered(&mut self, serial: u64)
+        requires flight { IsTrue (is_flying serial self.old.kept) }
+        requires count { self.old.calls < 2 ^ 56 }
+        ensures { self.new ≡ deliver_step self.old serial }
+    {
+        if self.tables.last - self.tables.last.min(1024) < serial {
+            self.tables.deliver(serial);
+        } else {
+            self.tables.drop_packet(serial);
+        }
+        self.calls += 1;
+    }
+
+    /// A packet in flight is lost.
+    pub fn lost(&mut self, serial: u64)
+        requires flight { IsTrue (is_flying serial self.old.kept) }
+        requires count { self.old.calls < 2 ^ 56 }
+        ensures { self.new ≡ lose_step self.old serial }
+    {
+        self.tables.drop_packet(serial);
+        self.calls += 1;
+    }
+
+    /// How many packets are in flight.
+    pub fn in_flight(&self) -> usize
+        ensures { result ≡ length (flying self.now.kept) }
+    {
+        self.tables.flying.len()
+    }
+
+    /// How many packets are kept.
+    pub fn kept(&self) -> usize
+        ensures { result ≡ length self.now.kept }
+    {
+        self.tables.shelf.len()
+    }
+
+    /// How many calls changed the store.
+    pub fn calls(&self) -> u64
+        ensures { result ≡ self.now.calls }
+    {
+        self.calls
+    }
+}

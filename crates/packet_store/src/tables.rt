@@ -1,0 +1,150 @@
+ghost use Rattle.std.specs.Prelude.{◌≡◌, ℕ, ◌+◌, ◌-◌, ◌^◌, ◌<◌, ◌==◌, ◌&&◌, ◌||◌, ◌++◌, [], ◌∷◌, OnOk, OnErr};
+ghost use Rattle.std.specs.List.{filter};
+ghost use Rattle.packet_store.specs.declared.transaction.Transaction.{Transaction};
+ghost use Rattle.packet_store.specs.Transactions.{is_that};
+ghost use Rattle.packet_store.specs.Indexes.{has};
+ghost use Rattle.packet_store.specs.Stored.{newest, stays};
+ghost use Rattle.packet_store.specs.Kept.{without, with_delivered, found, is_delivered};
+ghost use Rattle.packet_store.specs.Sound.{Tied, withdrawn};
+
+use crate::index::Index;
+use crate::sent::{Kept, Sent};
+use crate::shelf::Shelf;
+use crate::transaction::{Transaction, transaction_of};
+use sbp_base::NoMemory;
+use std::alloc::Global;
+use std::collections::BTreeSet;
+
+/// The kept packets, the serials in flight, the index by transaction, and the last serial.
+#[derive(Drop)]
+pub(crate) struct Tables {
+    pub(crate) shelf: Shelf,
+    pub(crate) flying: BTreeSet<u64>,
+    pub(crate) index: Index,
+    pub(crate) last: u64,
+}
+
+impl Tables {
+    /// No packet, and no serial given.
+    pub(crate) fn new(alloc: Global) -> Tables
+        ensures shelf { result.shelf ≡ [] }
+        ensures last { result.last ≡ 0 }
+        ensures tied { (since : ℕ) → Tied result.shelf result.flying.keys result.index result.last since }
+    {
+        Tables {
+            shelf: Shelf::new(alloc),
+            flying: BTreeSet::new(alloc),
+            index: Index::new(alloc),
+            last: 0,
+        }
+    }
+
+    /// Takes out the packet of a serial, but for its place in the index.
+    fn discard(&mut self, serial: u64)
+        ensures shelf { self.new.shelf ≡ without serial self.old.shelf }
+        ensures index { self.new.index ≡ self.old.index }
+        ensures last { self.new.last ≡ self.old.last }
+        ensures tied { (since : ℕ) → Tied self.old.shelf self.old.flying.keys self.old.index self.old.last since → Tied self.new.shelf self.new.flying.keys self.new.index self.new.last since }
+    {
+        self.flying.remove(&serial);
+        self.shelf.remove(serial);
+    }
+
+    /// The packet of a serial becomes delivered.
+    pub(crate) fn deliver(&mut self, serial: u64)
+        ensures shelf { self.new.shelf ≡ with_delivered serial self.old.shelf }
+        ensures last { self.new.last ≡ self.old.last }
+        ensures tied { (since : ℕ) → since < serial → Tied self.old.shelf self.old.flying.keys self.old.index self.old.last since → Tied self.new.shelf self.new.flying.keys self.new.index self.new.last since }
+    {
+        self.flying.remove(&serial);
+        self.shelf.deliver(serial);
+    }
+
+    /// Takes out the packet of a serial.
+    pub(crate) fn drop_packet(&mut self, serial: u64)
+        ensures shelf { self.new.shelf ≡ without serial self.old.shelf }
+        ensures last { self.new.last ≡ self.old.last }
+        ensures tied { (since : ℕ) → Tied self.old.shelf self.old.flying.keys self.old.index self.old.last since → Tied self.new.shelf self.new.flying.keys self.new.index self.new.last since }
+    {
+        let transaction = self.transaction_at(serial);
+        self.discard(serial);
+        if let Some(transaction) = transaction {
+            self.index.remove(transaction, serial);
+        }
+    }
+
+    /// The transaction of the packet of a serial.
+    fn transaction_at(&self, serial: u64) -> Option<Transaction> {
+        transaction_of(&self.shelf.get(serial)?.sent)
+    }
+
+    /// Withdraws each packet of a transaction that was sent before the last one.
+    pub(crate) fn withdraw(&mut self, transaction: Transaction)
+        requires { Tied self.old.shelf self.old.flying.keys self.old.index self.old.last (self.old.last - 1025) }
+        ensures shelf { self.new.shelf ≡ withdrawn transaction self.old.last self.old.shelf }
+        ensures last { self.new.last ≡ self.old.last }
+        ensures tied { Tied self.new.shelf self.new.flying.keys self.new.index self.new.last (self.new.last - 1025) }
+    {
+        while let Some(serial) = self.index.first_below(transaction, self.last) {
+            self.discard(serial);
+            self.index.remove(transaction, serial);
+        }
+    }
+
+    /// Puts a packet in flight under the next serial.
+    pub(crate) fn add(&mut self, sent: Sent) -> Result<(), NoMemory>
+        requires room { self.old.last < 2 ^ 63 }
+        requires tied { Tied self.old.shelf self.old.flying.keys self.old.index self.old.last (self.old.last - 1024) }
+        ensures added { OnOk result (self.new.shelf ≡ self.old.shelf ++ newest (self.old.last + 1) sent ∷ []) }
+        ensures failed { OnErr result (self.new.shelf ≡ self.old.shelf) }
+        ensures last { OnOk result (self.new.last ≡ self.old.last + 1) }
+        ensures no_last { OnErr result (self.new.last ≡ self.old.last) }
+        ensures tied { Tied self.new.shelf self.new.flying.keys self.new.index self.new.last (self.old.last - 1024) }
+    {
+        let serial = self.last + 1;
+        let transaction = transaction_of(&sent);
+        self.flying.insert(serial)?;
+        if let Err(error) = self.index.insert_for(transaction, serial) {
+            self.flying.remove(&serial);
+            return Err(error);
+        }
+        let kept = Kept {
+            serial,
+            in_flight: true,
+            sent,
+        };
+        if let Err(error) = self.shelf.push(kept) {
+            self.flying.remove(&serial);
+            self.index.remove_for(transaction, serial);
+            return Err(error);
+        }
+        self.last = serial;
+        Ok(())
+    }
+
+    /// Drops the delivered packet that is not among the last 1,024 serials any more.
+    pub(crate) fn drop_aged(&mut self)
+        requires { Tied self.old.shelf self.old.flying.keys self.old.index self.old.last (self.old.last - 1025) }
+        ensures shelf { self.new.shelf ≡ filter (stays (self.old.last - 1024)) self.old.shelf }
+        ensures last { self.new.last ≡ self.old.last }
+        ensures tied { Tied self.new.shelf self.new.flying.keys self.new.index self.new.last (self.new.last - 1024) }
+    {
+        if self.last <= 1024 {
+            return;
+        }
+        let aged = self.last - 1024;
+        if self.is_delivered(aged) {
+            self.drop_packet(aged);
+        }
+    }
+
+    /// Whether the packet of a serial is kept as delivered.
+    fn is_delivered(&self, serial: u64) -> bool
+        ensures { result ≡ is_delivered (found serial self.now.shelf) }
+    {
+        match self.shelf.get(serial) {
+            Some(kept) => !kept.in_flight,
+            None => false,
+        }
+    }
+}
