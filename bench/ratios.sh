@@ -1,0 +1,42 @@
+#!/usr/bin/env bash
+# The cost of a line must not grow with the length of the input. Runs the proved program twice for each
+# word and prints the processor time of both runs and their ratio: `run` over 10,000 and 20,000 append
+# lines and one settle (in proportion is about 2), `decode` over traces of 1 MB and 10 MB (about 10).
+# First build the program: cd crates/sbp2 && rt run -- run < stdin
+cd "$(dirname "$0")/.." || exit 1
+program=crates/sbp2/out/sbp2
+work=$(mktemp -d)
+trap 'rm -r "$work"' EXIT
+
+# blocks written and read in turn, and one settle
+appends() {
+    awk -v n="$1" 'BEGIN {
+        print "begin 1 ready"
+        for (i = 0; i < n; i++) if (i % 2) print "append 0 read " i % 64 " 1"; else print "append 0 write " i % 64 " A5*512"
+        print "settle"
+    }'
+}
+
+# block writes of 512 bytes, 1,061 bytes a line
+trace() {
+    awk -v n="$1" 'BEGIN {
+        for (i = 0; i < 128; i++) payload = payload "0011AAFF"
+        for (i = 0; i < n; i++) print "FFC00910 FFC10000 11000000 02000000 " payload
+    }'
+}
+
+# the processor time of a word over so many lines of an input, in milliseconds
+cost() {
+    "$2" "$3" > "$work/input"
+    { TIMEFORMAT='%U %S'; time "$program" "$1" < "$work/input" > "$work/output"; } 2> "$work/time"
+    awk '{ printf "%d\n", ($1 + $2) * 1000 }' "$work/time"
+}
+
+# both runs of a word, and their ratio
+compare() {
+    awk -v word="$1" -v a="$(cost "$1" "$2" "$3")" -v b="$(cost "$1" "$2" "$4")" \
+        'BEGIN { printf "%s: %d ms and %d ms, ratio %.2f\n", word, a, b, b / a }'
+}
+
+compare run appends 10000 20000
+compare decode trace 950 9500
