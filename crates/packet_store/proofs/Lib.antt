@@ -2,3 +2,5 @@ pub mod Roles
 pub mod Orders
 pub mod Shelves
 pub mod Sound
+pub mod Flights
+pub mod Calls

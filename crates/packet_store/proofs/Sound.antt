@@ -1,6 +1,6 @@
 -- The ties between the packets, the serials in flight and the index after each change.
 use Rattle.std.proofs.Common.{◌≡◌, ◌∙◌, refl, sym, subst, ap, ℕ, ◌+◌, ◌<◌, ◌≤◌, Bool, true, false, List, [], ◌∷◌, ◌++◌, Some, cond, arith}
-use Rattle.std.specs.Prelude.{◌≢◌, ◌==◌, ◌&&◌, ◌||◌, nat_lt, not, Option}
+use Rattle.std.specs.Prelude.{length, ◌≢◌, ◌==◌, ◌&&◌, ◌||◌, nat_lt, not, Option}
 use Rattle.std.specs.List.{filter}
 use Rattle.std.specs.Set.{remove_key}
 use Rattle.std.specs.BTreeMap.{is_at}
@@ -14,7 +14,7 @@ use Rattle.packet_store.specs.declared.transaction.Transaction.{Transaction}
 use Rattle.packet_store.specs.declared.index.Index.{Index}
 use Rattle.packet_store.specs.Transactions.{belongs, is_that, transaction_of}
 use Rattle.packet_store.specs.Indexes.{has}
-use Rattle.packet_store.specs.Kept.{without, with_delivered, found, flying, is_delivered, AreBelow}
+use Rattle.packet_store.specs.Kept.{without, with_delivered, found, flying, is_delivered, recent, AreBelow}
 use Rattle.packet_store.specs.Stored.{stays, newest}
 use Rattle.packet_store.specs.declared.sent.Sent.{Sent}
 use Rattle.packet_store.specs.Sound.{IsKept, AreKept, Tied, is_earlier, withdrawn}
@@ -388,3 +388,12 @@ pub undone_index : (kept : List Kept) (serials : List ℕ) (index middle after :
 undone_index kept serials index middle after last since of d m a t q =
     let l : last < last + 1 = omega arith in
     undo_both (is_that t of && (last + 1 == q)) (has index t q) (has middle t q) (has after t q) (fresh_at (is_that t of) true index t (last + 1) q (d.fresh t (last + 1) l)) (m t q) (a t q)
+
+count_step : (since : ℕ) (k : Kept) (ks : List Kept) (b : Bool) → k.in_flight ≡ b → (b ≡ false → since < k.serial) → length ks ≡ length (flying ks) + length (recent since ks) → length (k ∷ ks) ≡ length (cond b (k.serial ∷ flying ks) (flying ks)) + length (cond (not b && nat_lt since k.serial) (k ∷ recent since ks) (recent since ks))
+count_step since k ks true e h ind = omega (arith, ind)
+count_step since k ks false e h ind = rw (ltb_of since k.serial (h refl)) (omega (arith, ind))
+
+-- each kept packet is in flight or a recent delivered one
+pub kept_counted : (index : Index) (last since low : ℕ) (ks : List Kept) → AreKept index last since low ks → length ks ≡ length (flying ks) + length (recent since ks)
+kept_counted index last since low [] h = refl
+kept_counted index last since low (k ∷ ks) h = count_step since k ks k.in_flight refl h.0.recent (kept_counted index last since k.serial ks h.1)

@@ -1,5 +1,5 @@
 -- The list of the kept packets, by rising serial.
-use Rattle.std.specs.Prelude.{ℕ, ◌<◌, ◌==◌, Bool, false, not, if◌then◌else◌, List, [], ◌∷◌, Option, Some, None}
+use Rattle.std.specs.Prelude.{ℕ, ◌<◌, ◌==◌, ◌&&◌, nat_lt, Bool, false, not, if◌then◌else◌, List, [], ◌∷◌, Option, Some, None}
 use Rattle.std.specs.List.{filter, list_any}
 use Rattle.packet_store.specs.declared.sent.Sent.{Sent}
 use Rattle.packet_store.specs.declared.sent.Kept.{Kept}
@@ -52,3 +52,7 @@ first (x ∷ xs) = Some x
 abbrev pub AreBelow : ℕ → List Kept → Type 0
 AreBelow serial [] = Unit {0}
 AreBelow serial (k ∷ kept) = (k.serial < serial) × AreBelow serial kept
+
+-- the delivered packets above this serial
+abbrev pub recent : ℕ → List Kept → List Kept
+recent aged kept = filter (λ k. not k.in_flight && nat_lt aged k.serial) kept

@@ -5,3 +5,5 @@ pub mod Kept
 pub mod Shelves
 pub mod Sound
 pub mod Stored
+pub mod Calls
+pub mod Laws

@@ -3,6 +3,7 @@
 #![tactic(auto)]
 
 mod index;
+mod law;
 mod role;
 mod sent;
 mod shelf;
@@ -10,6 +11,7 @@ mod store;
 mod tables;
 mod transaction;
 
+pub use law::{closed_by_request, keeps_flights, never_again, serials_in_turn};
 pub use sent::{Kept, Sent};
 pub use store::Store;
 pub use transaction::Transaction;

@@ -1,6 +1,6 @@
-ghost use Rattle.std.specs.Prelude.{◌≡◌, ◌+◌, ◌^◌, ◌<◌, ◌≤◌, length, IsTrue, IfOk, OnOk, OnErr};
+ghost use Rattle.std.specs.Prelude.{◌≡◌, ◌+◌, ◌-◌, ◌^◌, ◌<◌, ◌≤◌, length, IsTrue, IfOk, OnOk, OnErr};
 ghost use Rattle.std.specs.Option.{option_copied};
-ghost use Rattle.packet_store.specs.Kept.{flying, found_sent, is_flying, first};
+ghost use Rattle.packet_store.specs.Kept.{flying, found_sent, is_flying, first, recent};
 ghost use Rattle.packet_store.specs.Stored.{empty, send_step, deliver_step, lose_step};
 
 use crate::sent::Sent;
@@ -110,9 +110,11 @@ impl Store {
         self.tables.flying.len()
     }
 
-    /// How many packets are kept.
+    /// How many packets are kept: those in flight and the delivered ones among the last 1,024
+    /// serials.
     pub fn kept(&self) -> usize
-        ensures { result ≡ length self.now.kept }
+        ensures all { result ≡ length self.now.kept }
+        ensures shares { result ≡ length (flying self.now.kept) + length (recent (self.now.last - 1024) self.now.kept) }
     {
         self.tables.shelf.len()
     }

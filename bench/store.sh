@@ -1,0 +1,29 @@
+#!/usr/bin/env bash
+# The cost of a call of the store of packets must grow with the logarithm of the packets kept alone. Builds
+# bench/store/main.rt over the crates and prints the processor time of 200,000 turns beside 1,000 and 100,000
+# packets in flight (the logarithm: below 2), and of 200,000 and 400,000 turns beside 1,000 (in proportion: about 2).
+set -e
+cd "$(dirname "$0")/.."
+work=$(mktemp -d)
+trap 'rm -r "$work"' EXIT
+mkdir -p "$work/crates/store_bench/src"
+cp -r crates/sbp_base crates/async_packet crates/packet_store "$work/crates"
+cp bench/store/main.rt "$work/crates/store_bench/src"
+cp HANDLES "$work"
+grep -E '^(sbp_base|async_packet|packet_store):' crates.txt > "$work/crates.txt"
+echo 'store_bench: sbp_base packet_store' >> "$work/crates.txt"
+(cd "$work/crates/store_bench" && rt run -- 1 1 > "$work/log" 2>&1) || { tail -5 "$work/log"; exit 1; }
+
+# the processor time of a run, in milliseconds
+cost() {
+    { TIMEFORMAT='%U %S'; time "$work/crates/store_bench/out/store_bench" "$@"; } 2> "$work/time"
+    awk '{ printf "%d\n", ($1 + $2) * 1000 }' "$work/time"
+}
+
+ratio() {
+    awk -v what="$1" -v a="$2" -v b="$3" 'BEGIN { printf "%s: %d ms and %d ms, ratio %.2f\n", what, a, b, b / a }'
+}
+
+few=$(cost 1000 200000)
+ratio "packets in flight" "$few" "$(($(cost 100000 200000) - $(cost 100000 1)))"
+ratio turns "$few" "$(cost 1000 400000)"

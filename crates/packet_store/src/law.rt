@@ -1,0 +1,24 @@
+ghost use Rattle.packet_store.specs.Laws.{SerialLaw, KeepsLaw, GoneLaw, ClosedLaw};
+
+/// The law that the serials count from 1 without a gap, over every list of calls.
+pub fn serials_in_turn()
+    ensures { SerialLaw }
+{}
+
+/// The law that a store keeps exactly the packets in flight and the delivered ones among the last
+/// 1,024 serials, over every list of calls; the state of a packet is that of the bus rule.
+pub fn keeps_flights()
+    ensures { KeepsLaw }
+{}
+
+/// The law that a packet which is in flight no more never is again, over every list of calls; a
+/// withdrawn packet is such a one.
+pub fn never_again()
+    ensures { GoneLaw }
+{}
+
+/// The law that a request under a label ends the transaction before it: of that one no packet is in
+/// flight or kept from then on, over every list of calls.
+pub fn closed_by_request()
+    ensures { ClosedLaw }
+{}
