@@ -1,3 +1,3 @@
-pub mod Lines
+pub mod LineWords
 pub mod Runs
 pub mod Orders
