@@ -1,3 +1,4 @@
 pub mod LineWords
+pub mod MaximalRuns
 pub mod Runs
 pub mod Orders
