@@ -10,11 +10,10 @@ use Rattle.sbp_journal.specs.ActionLaw.{AreServed, none, more, NothingWaits, app
 use Rattle.sbp_journal.specs.declared.event.Cmd.{Cmd}
 use Rattle.sbp_journal.specs.declared.event.Event.{Event}
 use Rattle.sbp_journal.specs.declared.event.Event.TheVariants as events
-use Rattle.sbp_journal.specs.declared.event.Action.{Action}
 use Rattle.sbp_journal.specs.declared.event.Action.TheVariants as actions
 use Rattle.sbp_journal.specs.declared.note.Note.{Note}
 use Rattle.sbp_journal.specs.declared.note.Note.TheVariants.{Begin, Append, Low, Linked, Rung, Ran, Ended, Taken, Settled}
-use Rattle.sbp_command.specs.Plain.{PlainState, Held, Fits, InPlace, command_in, with_command, RunsAndTells, Serves, Stands, StandsFor, Settling, HasSettled}
+use Rattle.sbp_command.specs.Plain.{PlainState, Held, Fits, InPlace, with_command, RunsAndTells, Serves, Stands, StandsFor, Settling, HasSettled}
 use Rattle.sbp_command.proofs.Standing.{form_status, form_answer, stands_begun, stands_rung, stands_linked, stands_settled, stands_told, stands_appended, stands_served}
 
 -- nothing is served yet
@@ -166,12 +165,9 @@ begin_place : (begun : Bool) (initiators : ℕ) (ready : Bool) → InPlace begun
 begin_place true initiators ready h = absurd h
 begin_place false initiators ready h = ap (λ n. events.Begin n ready) h.0 ∙ ap (λ b. events.Begin 1 b) h.1
 
-append_place : (begun : Bool) (initiator : ℕ) (action : Action) → InPlace begun (events.Act initiator action) → (initiator ≡ 0) × Fits (command_in action)
-append_place true initiator action h = h
-append_place false initiator action h = absurd h
-
-an_append : (action : Action) → action ≡ actions.Append (command_in action)
-an_append (actions.Append cmd) = refl
+append_place : (begun : Bool) (initiator : ℕ) (cmd : Cmd) → InPlace begun (events.Act initiator (actions.Append cmd)) → (initiator ≡ 0) × Fits cmd
+append_place true initiator cmd h = h
+append_place false initiator cmd h = absurd h
 
 -- the list after its notes are cleared
 pub cleared_from : (viewed old : PlainState) (fresh : List Note) → viewed ≡ old → fresh ≡ [] → with_notes viewed fresh ≡ cleared old
@@ -187,15 +183,15 @@ module _ (start now : Held) (run : Run) (line : ℕ) (old clear new : PlainState
       subst (λ state. StandsFor start now (with_entry run line event state.fresh) state) (sym whole)
       (subst (λ event. StandsFor start now (with_entry run line event (Begin 1 true ∷ [])) (begun_list old)) (sym is) (extends_begin start now run line old s))
 
-  pub line_appends : (initiator : ℕ) (action : Action) → event ≡ events.Act initiator action → new ≡ with_command clear (command_in action) → StandsFor start now run old →
+  pub line_appends : (initiator : ℕ) (cmd : Cmd) → event ≡ events.Act initiator (actions.Append cmd) → new ≡ with_command clear cmd → StandsFor start now run old →
       StandsFor start now (with_entry run line event new.fresh) new
-  line_appends initiator action e told s =
-      let here = append_place old.begun initiator action (subst (InPlace old.begun) e place) in
-      let is : event ≡ events.Act 0 (actions.Append (command_in action)) = e ∙ ap (λ i. events.Act i action) here.0 ∙ ap (events.Act 0) (an_append action) in
-      let whole : new ≡ with_command old (command_in action) = told ∙ ap (λ (state : PlainState). with_command state (command_in action)) is_clear in
+  line_appends initiator cmd e told s =
+      let here = append_place old.begun initiator cmd (subst (InPlace old.begun) e place) in
+      let is : event ≡ events.Act 0 (actions.Append cmd) = e ∙ ap (λ i. events.Act i (actions.Append cmd)) here.0 in
+      let whole : new ≡ with_command old cmd = told ∙ ap (λ (state : PlainState). with_command state cmd) is_clear in
       subst (λ state. StandsFor start now (with_entry run line event state.fresh) state) (sym whole)
-      (subst (λ event. StandsFor start now (with_entry run line event (append_notes 0 0 old.appended (command_in action))) (with_command old (command_in action))) (sym is)
-      (extends_append start now run line old (command_in action) here.1 s))
+      (subst (λ event. StandsFor start now (with_entry run line event (append_notes 0 0 old.appended cmd)) (with_command old cmd)) (sym is)
+      (extends_append start now run line old cmd here.1 s))
 
   pub line_settles : (later : Held) → event ≡ events.Settle → HasSettled clear new now later → StandsFor start now run old → StandsFor start later (with_entry run line event new.fresh) new
   line_settles later e h s =

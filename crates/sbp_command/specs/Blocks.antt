@@ -12,7 +12,7 @@ unfoldable pub block_of : ℕ → List ℕ
 block_of byte = replicate 512 byte
 
 abbrev pub read_block : ℕ → Cmd
-read_block lba = record { cdb = one_block 0x28 lba; to_initiator = true; length = 512; payload = [] }
+read_block lba = record { cdb = one_block 0x28 lba; to_initiator = true; length = 512; payload = []; segments = []; max_payload = 9 }
 
 abbrev pub write_block : ℕ → ℕ → Cmd
-write_block lba byte = record { cdb = one_block 0x2a lba; to_initiator = false; length = 512; payload = block_of byte }
+write_block lba byte = record { cdb = one_block 0x2a lba; to_initiator = false; length = 512; payload = block_of byte; segments = []; max_payload = 9 }

@@ -11,7 +11,6 @@ use Rattle.sbp_journal.specs.declared.note.Note.TheVariants.{Settled}
 use Rattle.sbp_journal.specs.declared.event.Cmd.{Cmd}
 use Rattle.sbp_journal.specs.declared.event.Event.{Event}
 use Rattle.sbp_journal.specs.declared.event.Event.TheVariants.{Begin, Act, Settle}
-use Rattle.sbp_journal.specs.declared.event.Action.{Action}
 use Rattle.sbp_journal.specs.declared.event.Action.TheVariants.{Append}
 use Rattle.sbp_journal.specs.Run.{Run, history}
 use Rattle.sbp_journal.specs.Terms.{Request, lists, appends, ends, runs, takes, request_at, unit_of}
@@ -56,10 +55,6 @@ pub record IsSound (waiting : List Cmd) (ended appended room : ℕ) : Type 0 whe
 abbrev pub request_of : Cmd → Request
 request_of cmd = record { cdb = cmd.cdb; buffer = buffer_of cmd }
 
--- the command of an action
-abbrev pub command_in : Action → Cmd
-command_in (Append cmd) = cmd
-
 -- the list with one more command, behind the others
 abbrev pub with_command : PlainState → Cmd → PlainState
 with_command old cmd = record old {
@@ -71,7 +66,7 @@ with_command old cmd = record old {
 -- the events of a script in their places
 abbrev pub InPlace : Bool → Event → Type 0
 InPlace false (Begin initiators ready) = (initiators ≡ 1) × (ready ≡ true)
-InPlace true (Act initiator action) = (initiator ≡ 0) × Fits (command_in action)
+InPlace true (Act initiator (Append cmd)) = (initiator ≡ 0) × Fits cmd
 InPlace true Settle = Unit {0}
 InPlace _ _ = ⊥
 

@@ -11,11 +11,12 @@ ghost use Rattle.sbp_journal.specs.ExecutionLaw.{RunsOn};
 ghost use Rattle.sbp_journal.specs.AnswerLaw.{IsAnswerOf};
 ghost use Rattle.sbp_journal.specs.ActionLaw.{append_notes, buffer_of, served, AreServed};
 ghost use Rattle.sbp_journal.specs.declared.note.Note.TheVariants as notes;
-ghost use Rattle.sbp_command.specs.Plain.{PlainState, empty_list, Held, held, Fits, InPlace, RunsAndTells, Serves, Stands, StandsFor, Settling, HasSettled, request_of, carried_of, command_in, with_command};
+ghost use Rattle.sbp_command.specs.Plain.{PlainState, empty_list, Held, held, Fits, InPlace, RunsAndTells, Serves, Stands, StandsFor, Settling, HasSettled, request_of, carried_of, with_command};
 
+use orb_layout::StatusKind;
 use rbc_disk::{BufferPlan, Medium, Need, Outcome, Sense, TRANSFER, run_unit, unit_needs};
 use sbp_base::{Bytes, NoMemory};
-use sbp_journal::{Action, Cmd, Event, Journal, Note, NoteBuffer, StatusKind};
+use sbp_journal::{Action, Cmd, Event, Journal, Note, NoteBuffer};
 use std::alloc::Global;
 use std::collections::VecDeque;
 use std::marker::Model;
@@ -305,18 +306,6 @@ impl PlainList {
 }
 
 impl PlainList {
-    /// Initiator 0 acts.
-    fn act(&mut self, action: Action) -> Result<(), NoMemory>
-        requires fits { Fits (command_in action) }
-        requires fresh { self.old.fresh ≡ [] }
-        requires room { self.old.appended < 65536 }
-        ensures { OnOk result (self.new ≡ with_command self.old (command_in action)) }
-    {
-        match action {
-            Action::Append(cmd) => self.append(cmd),
-        }
-    }
-
     /// Serves the waiting commands, in their order, until none waits.
     fn serve_all(&mut self, media: &mut Vec<Box<dyn Medium>>) -> Result<(), NoMemory>
         requires begun { self.old.begun ≡ true }
@@ -360,8 +349,12 @@ impl PlainList {
         self.fresh.clear();
         match event {
             Event::Begin { .. } => self.begin(),
-            Event::Act { action, .. } => self.act(action),
+            Event::Act {
+                action: Action::Append(cmd),
+                ..
+            } => self.append(cmd),
             Event::Settle => self.settle(media),
+            _ => unreachable!(),
         }
     }
 }

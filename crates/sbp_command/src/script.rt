@@ -8,7 +8,7 @@ ghost use Rattle.sbp_command.specs.Script.{fault_number, Reads, reading, value, 
 
 use byteorder::{BigEndian, ByteOrder};
 use hex::FromHex;
-use sbp_base::{Bytes, NoMemory};
+use sbp_base::{Bytes, Lengths, NoMemory};
 use sbp_journal::{Action, Cmd, Event};
 use std::alloc::{AllocError, Global};
 
@@ -17,6 +17,9 @@ pub(crate) const LINES: u32 = 65536;
 
 /// The most bytes of a line.
 pub(crate) const LINE_BYTES: usize = 8192;
+
+/// The field max_payload of the ORB of a command: 2,048 bytes a packet.
+const MAX_PAYLOAD: u8 = 9;
 
 /// Why a line is refused.
 #[derive(Clone, Copy, Debug, PartialEq, Eq)]
@@ -232,6 +235,8 @@ fn read_block(alloc: Global, lba: u32) -> Cmd
         to_initiator: true,
         length: 512,
         payload: Bytes::new(alloc),
+        segments: Lengths::new(alloc),
+        max_payload: MAX_PAYLOAD,
     }
 }
 
@@ -244,6 +249,8 @@ fn write_block(alloc: Global, lba: u32, byte: u8) -> Result<Cmd, NoMemory>
         to_initiator: false,
         length: 512,
         payload: Bytes::from_slice(alloc, &block_of(byte))?,
+        segments: Lengths::new(alloc),
+        max_payload: MAX_PAYLOAD,
     })
 }
 

@@ -1,3 +1,4 @@
-pub mod Lines
+pub mod LineWords
+pub mod MaximalRuns
 pub mod Runs
 pub mod Orders

@@ -51,6 +51,7 @@ abbrev pub Brings : List Note → Event → List Note → Type 0
 Brings ns (events.Begin initiators ready) notes = notes ≡ Begin initiators ready ∷ []
 Brings ns (events.Act i (actions.Append cmd)) notes = let n = present_list ns i in notes ≡ append_notes i n (appends ns i n) cmd
 Brings ns events.Settle notes = Settles ns notes
+Brings ns _ notes = ⊥  -- no run has another line yet
 
 abbrev pub ActionLaw : List Entry → Type 0
 ActionLaw [] = Unit {0}

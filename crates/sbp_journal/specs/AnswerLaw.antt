@@ -7,7 +7,7 @@ use Rattle.sbp_journal.specs.Terms.{Request, request_at}
 use Rattle.sbp_journal.specs.DiskFold.{before_run}
 use Rattle.sbp_journal.specs.declared.note.Note.{Note}
 use Rattle.sbp_journal.specs.declared.note.Note.TheVariants.{Taken}
-use Rattle.sbp_journal.specs.declared.note.StatusKind.TheVariants.{Good}
+use Rattle.orb_layout.specs.declared.status.StatusKind.TheVariants.{Good}
 
 -- the answer to a request by this disk: its length, and its bytes where the disk tells them
 pub record IsAnswerOf (request : Request) (disk : Disk) (answer : List ℕ) : Type 0 where

@@ -1,8 +1,8 @@
 -- Bytes in the canonical form: each maximal run of four or more equal bytes is HH*N, the bytes between such runs are one
 -- string of digits, and the pieces are joined by `+`. No bytes are `-`.
-use Rattle.std.specs.Prelude.{ℕ, ◌+◌, ◌==◌, nat_le, if◌then◌else◌, List, [], ◌∷◌, ◌++◌, map, replicate}
+use Rattle.std.specs.Prelude.{◌≡◌, ◌≢◌, ◌<◌, ℕ, ◌+◌, ◌==◌, nat_le, if◌then◌else◌, List, [], ◌∷◌, ◌++◌, map, replicate}
 use Rattle.std.specs.Fmt.{decimal}
-use Rattle.std.specs.List.{join_with_byte}
+use Rattle.std.specs.List.{join_with_byte, flat_map}
 use Rattle.hex.specs.Hex.{encode_upper}
 
 -- equal bytes side by side
@@ -21,6 +21,25 @@ onto_runs byte (run ∷ runs) =
 abbrev pub runs_of : List ℕ → List Run
 runs_of [] = []
 runs_of (byte ∷ bytes) = onto_runs byte (runs_of bytes)
+
+-- the bytes of a run
+abbrev pub run_bytes : Run → List ℕ
+run_bytes run = replicate run.count run.byte
+
+-- the first run, if there is one, is of another byte
+abbrev pub BeginsOtherwise : ℕ → List Run → Type 0
+BeginsOtherwise byte [] = Unit {0}
+BeginsOtherwise byte (run ∷ runs) = byte ≢ run.byte
+
+-- each run has a byte, and no two runs side by side have the same one
+abbrev pub AreMaximal : List Run → Type 0
+AreMaximal [] = Unit {0}
+AreMaximal (run ∷ runs) = (0 < run.count) × BeginsOtherwise run.byte runs × AreMaximal runs
+
+-- The maximal runs of some bytes, of which there is one list (`maximal_runs`).
+pub record AreRunsOf (bytes : List ℕ) (runs : List Run) : Type 0 where
+  pub join : flat_map run_bytes runs ≡ bytes
+  pub maximal : AreMaximal runs
 
 -- a piece: some bytes as digits, or one byte and how often it stands
 pub data Piece : Type 0 where

@@ -7,8 +7,8 @@ use Rattle.sbp_journal.specs.declared.note.Note.{Note}
 use Rattle.sbp_journal.specs.declared.note.Note.TheVariants.{Begin, Append, Ran, Ended, Taken}
 use Rattle.sbp_journal.specs.declared.note.NoteBuffer.{NoteBuffer}
 use Rattle.sbp_journal.specs.declared.note.NoteBuffer.TheVariants.{Nothing, In, Out}
-use Rattle.sbp_journal.specs.declared.note.StatusKind.{StatusKind}
-use Rattle.sbp_journal.specs.declared.note.StatusKind.TheVariants.{Good, Check}
+use Rattle.orb_layout.specs.declared.status.StatusKind.{StatusKind}
+use Rattle.orb_layout.specs.declared.status.StatusKind.TheVariants.{Good, Check}
 
 -- a term that changes at one initiator, at one list, at one ORB
 abbrev pub at_initiator : {A : Type 0} → (ℕ → A) → ℕ → A → ℕ → A

@@ -1,4 +1,6 @@
-ghost use Rattle.std.specs.Prelude.{List};
+ghost use Rattle.std.specs.Prelude.{◌≡◌, ℕ, List};
+ghost use Rattle.sbp_journal.specs.Canonical as canonical;
+ghost use Rattle.sbp_journal.specs.Canonical.{AreRunsOf, runs_of};
 ghost use Rattle.sbp_journal.specs.OrderLaw.{OrderLaw, EndsInOrder};
 ghost use Rattle.sbp_journal.specs.declared.note.Note as notes;
 
@@ -6,4 +8,11 @@ ghost use Rattle.sbp_journal.specs.declared.note.Note as notes;
 /// each once, a front of those that were appended.
 pub fn ends_in_order()
     ensures { (ns : List notes.Note) → OrderLaw ns → EndsInOrder ns }
+{}
+
+/// The runs by which the canonical form of bytes goes are the maximal ones: they join to the bytes,
+/// each has a byte, and no two side by side have the same one; and no other list of runs does so.
+pub fn maximal_runs()
+    ensures are_runs { (bytes : List ℕ) → AreRunsOf bytes (runs_of bytes) }
+    ensures no_others { (bytes : List ℕ) (runs : List canonical.Run) → AreRunsOf bytes runs → runs ≡ runs_of bytes }
 {}

@@ -1,17 +1,28 @@
-//! The journal: lines as events, notes, the text of a note, and the laws of a run.
+//! The journal: lines as events, notes, what nodes hand out, the text of a note, and the laws of a
+//! run.
 #![tactic(auto)]
 
 mod canonical;
+mod cause;
 mod event;
 mod journal;
 mod laws;
+mod lines;
 mod note;
+mod operation;
+mod outbox;
+mod side;
 mod text;
+mod words;
 
+pub use cause::{Cause, CutCause, Judged, TargetFault};
 pub use event::{Action, Cmd, Event};
 pub use journal::{Journal, Text};
-pub use laws::ends_in_order;
-pub use note::{Note, NoteBuffer, StatusKind};
+pub use laws::{ends_in_order, maximal_runs};
+pub use note::{Note, NoteBuffer};
+pub use operation::{FunctionWord, OpWord, Operation};
+pub use outbox::{Outbox, Outgoing};
+pub use side::Side;
 pub use text::write_note;
 
 #[cfg(test)]

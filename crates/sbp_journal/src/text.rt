@@ -1,14 +1,16 @@
-ghost use Rattle.std.specs.Prelude.{◌≡◌, ◌<◌, [], ◌∷◌, ◌++◌, map, IfOk, OnOk, OnErr, slice_index, string_bytes};
-ghost use Rattle.std.specs.List.{join_with_byte};
-ghost use Rattle.hex.specs.Hex.{upper_digits};
-ghost use Rattle.sbp_journal.specs.Form.{HasForm, IsSense, IsStatus, IsAnswer, IsCheck};
-ghost use Rattle.sbp_journal.specs.Text.{note_text, orb_fields, named_fields, work_fields, status_fields, check_fields, word, maybe, mode, sense_word};
+ghost use Rattle.std.specs.Prelude.{◌≡◌, ◌++◌, IfOk, OnOk, OnErr, string_bytes};
+ghost use Rattle.sbp_journal.specs.Form.{HasForm};
+ghost use Rattle.sbp_journal.specs.Text.{note_text};
 
-use crate::canonical::canonical_text;
 use crate::journal::Text;
-use crate::note::{Note, NoteBuffer, StatusKind};
-use rbc_disk::Sense;
-use sbp_base::{Bytes, NoMemory};
+use crate::lines::{
+    append_line, begin_line, ended_line, ignored_line, list_line, managed_line, named_line,
+    number_line, op_line, orb_line, pair_line, ran_line, seen_line, sent_line, taken_line,
+    told_line, word_line,
+};
+use crate::note::Note;
+use crate::words::{cut_text, fail_text};
+use sbp_base::NoMemory;
 use std::alloc::Global;
 
 /// Adds the line of a note, with its line feed.
@@ -28,10 +30,7 @@ fn line_of(alloc: Global, note: &Note) -> Result<String, NoMemory>
     ensures { IfOk result (λ line. string_bytes line ≡ note_text note.now) }
 {
     match note {
-        Note::Begin { initiators, ready } => {
-            let mode = mode_text(*ready);
-            Ok(format!(in alloc; "begin {initiators} {mode}\n")?)
-        }
+        Note::Begin { initiators, ready } => begin_line(alloc, *initiators, *ready),
         Note::Append {
             initiator,
             list,
@@ -54,6 +53,23 @@ fn line_of(alloc: Global, note: &Note) -> Result<String, NoMemory>
             list,
             orb,
         } => orb_line(alloc, "rung", *initiator, *list, *orb),
+        Note::Dummied {
+            initiator,
+            list,
+            orb,
+        } => orb_line(alloc, "dummied", *initiator, *list, *orb),
+        Note::Sent {
+            serial,
+            generation,
+            from,
+            to,
+            bytes,
+        } => sent_line(alloc, *serial, *generation, *from, *to, bytes),
+        Note::Injected { serial } => number_line(alloc, "injected", *serial),
+        Note::Got { serial } => number_line(alloc, "got", *serial),
+        Note::Ignored { serial, cause } => ignored_line(alloc, *serial, *cause),
+        Note::Lost { serial } => number_line(alloc, "lost", *serial),
+        Note::TimedOut { serial } => number_line(alloc, "timedout", *serial),
         Note::Ran {
             initiator,
             list,
@@ -76,205 +92,50 @@ fn line_of(alloc: Global, note: &Note) -> Result<String, NoMemory>
             status,
             answer,
         } => taken_line(alloc, *initiator, *list, *orb, *status, answer),
-        Note::Settled => Ok(format!(in alloc; "settled\n")?),
-    }
-}
-
-/// The word for how a run begins.
-fn mode_text(ready: bool) -> &'static str
-    ensures { result.now ≡ mode ready }
-{
-    if ready { "ready" } else { "cold" }
-}
-
-/// `KEYWORD INITIATOR LIST ORB`
-fn orb_line(
-    alloc: Global,
-    keyword: &str,
-    initiator: u8,
-    list: u32,
-    orb: u32,
-) -> Result<String, NoMemory>
-    ensures { IfOk result (λ line. string_bytes line ≡ join_with_byte 32 (keyword.now ∷ map word (orb_fields initiator list orb)) ++ 10 ∷ []) }
-{
-    Ok(format!(in alloc; "{keyword} {initiator} {list} {orb}\n")?)
-}
-
-/// `append INITIATOR LIST ORB CDB`, and `none`, `in LENGTH` or `out BYTES`
-fn append_line(
-    alloc: Global,
-    initiator: u8,
-    list: u32,
-    orb: u32,
-    cdb: &[u8; 12],
-    buffer: &NoteBuffer,
-) -> Result<String, NoMemory>
-    ensures { IfOk result (λ line. string_bytes line ≡ note_text (Note.Append initiator list orb cdb.now buffer.now)) }
-{
-    let cdb = hex::encode_upper(alloc, cdb.as_slice())?;
-    match buffer {
-        NoteBuffer::Nothing => Ok(format!(in alloc;
-            "append {initiator} {list} {orb} {cdb} none\n"
-        )?),
-        NoteBuffer::In(len) => Ok(format!(in alloc;
-            "append {initiator} {list} {orb} {cdb} in {len}\n"
-        )?),
-        NoteBuffer::Out(bytes) => {
-            let bytes = canonical_text(alloc, bytes.as_slice())?;
-            Ok(format!(in alloc; "append {initiator} {list} {orb} {cdb} out {bytes}\n")?)
-        }
-    }
-}
-
-/// `ran INITIATOR LIST ORB uUNIT CDB BYTES` and the words of the check.
-fn ran_line(
-    alloc: Global,
-    initiator: u8,
-    list: Option<u32>,
-    orb: Option<u32>,
-    unit: u8,
-    cdb: &[u8; 12],
-    bytes: &Bytes,
-    check: Option<Sense>,
-) -> Result<String, NoMemory>
-    requires { IsCheck check }
-    ensures { IfOk result (λ line. string_bytes line ≡ note_text (Note.Ran initiator list orb unit cdb.now bytes.now check)) }
-{
-    let named = named_text(alloc, initiator, list, orb)?;
-    let work = work_text(alloc, unit, cdb, bytes.as_slice())?;
-    let check = check_text(alloc, check)?;
-    Ok(format!(in alloc; "ran {named} {work} {check}\n")?)
-}
-
-/// `ended INITIATOR LIST ORB` and the words of the status.
-#[tactic(auto, using(crate::proofs::Lines::line_steps))]
-fn ended_line(
-    alloc: Global,
-    initiator: u8,
-    list: Option<u32>,
-    orb: Option<u32>,
-    status: StatusKind,
-) -> Result<String, NoMemory>
-    requires { IsStatus status }
-    ensures { IfOk result (λ line. string_bytes line ≡ note_text (Note.Ended initiator list orb status)) }
-{
-    let named = named_text(alloc, initiator, list, orb)?;
-    let status = status_text(alloc, status)?;
-    Ok(format!(in alloc; "ended {named} {status}\n")?)
-}
-
-/// `taken INITIATOR LIST ORB`, the words of the status, and the bytes of the answer, if there are any.
-#[tactic(auto, using(crate::proofs::Lines::line_steps))]
-fn taken_line(
-    alloc: Global,
-    initiator: u8,
-    list: u32,
-    orb: u32,
-    status: StatusKind,
-    answer: &Bytes,
-) -> Result<String, NoMemory>
-    requires { IsAnswer status answer.now }
-    ensures { IfOk result (λ line. string_bytes line ≡ note_text (Note.Taken initiator list orb status answer.now)) }
-{
-    let status = status_text(alloc, status)?;
-    let answer = answer.as_slice();
-    if answer.is_empty() {
-        return Ok(format!(in alloc; "taken {initiator} {list} {orb} {status}\n")?);
-    }
-    let answer = canonical_text(alloc, answer)?;
-    Ok(format!(in alloc; "taken {initiator} {list} {orb} {status} {answer}\n")?)
-}
-
-/// The words of a check condition, or of none.
-fn check_text(alloc: Global, check: Option<Sense>) -> Result<String, NoMemory>
-    requires { IsCheck check }
-    ensures { IfOk result (λ text. string_bytes text ≡ join_with_byte 32 (map word (check_fields check))) }
-{
-    match check {
-        None => status_text(alloc, StatusKind::Good),
-        Some(sense) => status_text(alloc, StatusKind::Check(sense)),
-    }
-}
-
-/// `good`, or `check K/CC/QQ`
-fn status_text(alloc: Global, status: StatusKind) -> Result<String, NoMemory>
-    requires { IsStatus status }
-    ensures { IfOk result (λ text. string_bytes text ≡ join_with_byte 32 (map word (status_fields status))) }
-{
-    match status {
-        StatusKind::Good => Ok(format!(in alloc; "good")?),
-        StatusKind::Check(sense) => {
-            let sense = sense_text(alloc, sense)?;
-            Ok(format!(in alloc; "check {sense}")?)
-        }
-    }
-}
-
-/// `INITIATOR LIST ORB`, where a list and an ORB that are not known are `-`.
-fn named_text(
-    alloc: Global,
-    initiator: u8,
-    list: Option<u32>,
-    orb: Option<u32>,
-) -> Result<String, NoMemory>
-    ensures { IfOk result (λ text. string_bytes text ≡ join_with_byte 32 (map word (named_fields initiator list orb))) }
-{
-    let list = number_or_dash(alloc, list)?;
-    let orb = number_or_dash(alloc, orb)?;
-    Ok(format!(in alloc; "{initiator} {list} {orb}")?)
-}
-
-/// `uUNIT CDB BYTES`
-fn work_text(alloc: Global, unit: u8, cdb: &[u8; 12], bytes: &[u8]) -> Result<String, NoMemory>
-    ensures { IfOk result (λ text. string_bytes text ≡ join_with_byte 32 (map word (work_fields unit cdb.now bytes.now))) }
-{
-    let cdb = hex::encode_upper(alloc, cdb.as_slice())?;
-    let bytes = canonical_text(alloc, bytes)?;
-    Ok(format!(in alloc; "u{unit} {cdb} {bytes}")?)
-}
-
-/// A number in decimal, or `-`.
-fn number_or_dash(alloc: Global, number: Option<u32>) -> Result<String, NoMemory>
-    ensures { IfOk result (λ text. string_bytes text ≡ word (maybe number)) }
-{
-    match number {
-        None => Ok(format!(in alloc; "-")?),
-        Some(number) => Ok(format!(in alloc; "{number}")?),
-    }
-}
-
-/// `K/CC/QQ`: sense key, code and qualifier.
-fn sense_text(alloc: Global, sense: Sense) -> Result<String, NoMemory>
-    requires { IsSense sense }
-    ensures { IfOk result (λ text. string_bytes text ≡ sense_word sense) }
-{
-    let key = key_text(sense.key);
-    let code = hex::encode_upper(alloc, [sense.code])?;
-    let qualifier = hex::encode_upper(alloc, [sense.qualifier])?;
-    Ok(format!(in alloc; "{key}/{code}/{qualifier}")?)
-}
-
-/// A sense key as one digit.
-fn key_text(key: u8) -> &'static str
-    requires { key < 16 }
-    ensures { result.now ≡ slice_index upper_digits key ∷ [] }
-{
-    match key {
-        0 => "0",
-        1 => "1",
-        2 => "2",
-        3 => "3",
-        4 => "4",
-        5 => "5",
-        6 => "6",
-        7 => "7",
-        8 => "8",
-        9 => "9",
-        10 => "A",
-        11 => "B",
-        12 => "C",
-        13 => "D",
-        14 => "E",
-        _ => "F",
+        Note::Cut {
+            initiator,
+            list,
+            cause,
+        } => list_line(alloc, "cut", *initiator, *list, cut_text(*cause)),
+        Note::Dead {
+            initiator,
+            list,
+            cause,
+        } => list_line(alloc, "dead", *initiator, *list, fail_text(*cause)),
+        Note::Drop { initiator, list } => pair_line(alloc, "drop", u32::from(*initiator), *list),
+        Note::Managed {
+            initiator,
+            function,
+            subject,
+            status,
+            login,
+        } => managed_line(alloc, *initiator, *function, *subject, *status, *login),
+        Note::ManageFailed { initiator, cause } => named_line(
+            alloc,
+            "mgmtfail",
+            u64::from(*initiator),
+            fail_text(*cause),
+        ),
+        Note::Held { login } => number_line(alloc, "held", u64::from(*login)),
+        Note::Expired { login } => number_line(alloc, "expired", u64::from(*login)),
+        Note::Back { login } => number_line(alloc, "back", u64::from(*login)),
+        Note::Left { login } => number_line(alloc, "left", u64::from(*login)),
+        Note::Cleared { unit } => number_line(alloc, "cleared", u64::from(*unit)),
+        Note::Op {
+            initiator,
+            operation,
+            word,
+        } => op_line(alloc, *initiator, *operation, *word),
+        Note::Stuck { initiator } => number_line(alloc, "stuck", u64::from(*initiator)),
+        Note::Reset { generation } => number_line(alloc, "reset", u64::from(*generation)),
+        Note::Seen { node, generation } => seen_line(alloc, *node, *generation),
+        Note::Tick => word_line(alloc, "tick"),
+        Note::Refused { line, number } => pair_line(alloc, "refused", *line, u32::from(*number)),
+        Note::Settled => word_line(alloc, "settled"),
+        Note::Stopped => word_line(alloc, "stopped"),
+        Note::Key { unit } => number_line(alloc, "key", u64::from(*unit)),
+        Note::Unsolicited { initiator } => number_line(alloc, "unsolicited", u64::from(*initiator)),
+        Note::Unsent { initiator } => number_line(alloc, "unsent", u64::from(*initiator)),
+        Note::Told { initiator } => told_line(alloc, *initiator),
     }
 }

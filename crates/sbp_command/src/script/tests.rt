@@ -10,6 +10,7 @@ enum Said {
     Begin,
     Append,
     Settle,
+    Other,
     NoEvent(LineError),
 }
 
@@ -24,6 +25,7 @@ fn said_by(alloc: Global, number: u32, line: &[u8]) -> Said {
         Ok(Event::Begin { .. }) => Said::Begin,
         Ok(Event::Act { .. }) => Said::Append,
         Ok(Event::Settle) => Said::Settle,
+        Ok(_) => Said::Other,
         Err(error) => Said::NoEvent(error),
     }
 }

@@ -1,3 +1,5 @@
+use Rattle.std.proofs.Common.{ap, ◌∙◌}
+use Rattle.sbp_journal.specs.declared.event.Event.TheVariants as events
 use Rattle.sbp_command.proofs.Settling.{on_ok, cleared_from, line_begins, line_appends, line_settles}
 use Rattle.sbp_command.proofs.plain.PlainList.step.Goals as goal
 
@@ -9,13 +11,14 @@ returns-in-Begin-clause-stands g c =
     c.in-Begin.initiators c.in-Begin.ready c.in-Begin.is e s)
     c.begin.ensures
 
-pub returns-in-Act-clause-stands : goal.returns-in-Act-clause-stands
-returns-in-Act-clause-stands g c =
-    on_ok _ _ c.act.result
+pub returns-in-Act-default-Append-clause-stands : goal.returns-in-Act-default-Append-clause-stands
+returns-in-Act-default-Append-clause-stands g c =
+    let arm = c.in-Act-default-Append in
+    on_ok _ _ c.append.result
     (λ e start run line s.
-    line_appends start _ run line c.args.self.now _ c.act.new.self c.args.event (cleared_from _ _ _ c.self.view_is c.clear.ensures) c.requires.place
-    c.in-Act.initiator c.in-Act.action c.in-Act.is e s)
-    c.act.ensures
+    line_appends start _ run line c.args.self.now _ c.append.new.self c.args.event (cleared_from _ _ _ c.self.view_is c.clear.ensures) c.requires.place
+    arm.initiator arm.cmd (arm.is ∙ ap (events.Act arm.initiator) arm.action-is) e s)
+    c.append.ensures
 
 pub returns-in-Settle-clause-stands : goal.returns-in-Settle-clause-stands
 returns-in-Settle-clause-stands g c =

@@ -1,6 +1,6 @@
 use Rattle.std.proofs.Common.{◌≡◌, ◌++◌, codes, string_bytes, ◌∙◌}
-use Rattle.sbp_journal.proofs.Lines.{ran_words}
-use Rattle.sbp_journal.proofs.text.ran_line.Goals as goal
+use Rattle.sbp_journal.proofs.LineWords.{ran_words}
+use Rattle.sbp_journal.proofs.lines.ran_line.Goals as goal
 
 pub returns : goal.returns
 returns c =
