@@ -1,4 +1,4 @@
-ghost use Rattle.std.specs.Prelude.{◌≡◌, ◌<◌, ◌≤◌, nat_lt, IfOk};
+ghost use Rattle.std.specs.Prelude.{◌≡◌, ◌<◌, ◌≤◌, nat_lt, IfOk, IfErr};
 ghost use Rattle.rbc_command.specs.Commands.{command_of, command_in, flag, unless_bad, moved_blocks};
 
 use crate::command::Command;
@@ -20,6 +20,7 @@ impl Cdb {
     /// VERIFY, or a READ or WRITE counts more than 32 blocks.
     pub fn read(bytes: &[u8; 12]) -> Result<Command, Sense>
         ensures read { result ≡ command_of bytes.now }
+        ensures illegal { IfErr result (λ check. check.key ≡ 5) }
         ensures few { IfOk result (λ command. moved_blocks command ≤ 32) }
     {
         match Operation::of(bytes[0]) {
@@ -32,6 +33,7 @@ impl Cdb {
 /// The fields of an operation.
 fn fields(operation: Operation, bytes: &[u8; 12]) -> Result<Command, Sense>
     ensures read { result ≡ command_in operation bytes.now }
+    ensures illegal { IfErr result (λ check. check.key ≡ 5) }
     ensures few { IfOk result (λ command. moved_blocks command ≤ 32) }
 {
     let lba = BigEndian::read_u32(&bytes[2..]);
@@ -80,6 +82,7 @@ fn is_set(bytes: &[u8; 12], byte: usize, bit: u8) -> bool
 /// The command, but 5/24/00 where its fields don't fit it.
 fn unless(bad: bool, command: Command) -> Result<Command, Sense>
     ensures told { result ≡ unless_bad bad command }
+    ensures illegal { IfErr result (λ check. check.key ≡ 5) }
     ensures same { IfOk result (λ kept. kept ≡ command) }
 {
     if bad {
@@ -91,6 +94,7 @@ fn unless(bad: bool, command: Command) -> Result<Command, Sense>
 /// A READ of few enough blocks.
 fn read_of(lba: u32, count: u32) -> Result<Command, Sense>
     ensures read { result ≡ unless_bad (nat_lt 32 count) (Command.Read lba count) }
+    ensures illegal { IfErr result (λ check. check.key ≡ 5) }
     ensures few { IfOk result (λ command. moved_blocks command ≤ 32) }
 {
     if count > MOST_BLOCKS {
@@ -102,6 +106,7 @@ fn read_of(lba: u32, count: u32) -> Result<Command, Sense>
 /// A WRITE of few enough blocks.
 fn write_of(lba: u32, count: u32) -> Result<Command, Sense>
     ensures read { result ≡ unless_bad (nat_lt 32 count) (Command.Write lba count) }
+    ensures illegal { IfErr result (λ check. check.key ≡ 5) }
     ensures few { IfOk result (λ command. moved_blocks command ≤ 32) }
 {
     if count > MOST_BLOCKS {

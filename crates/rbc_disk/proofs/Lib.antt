@@ -1,2 +1,4 @@
 pub mod MediaLists
 pub mod PlainDiskLemmas
+pub mod CheckLemmas
+pub mod AnswerLemmas

@@ -4,14 +4,18 @@
 mod command;
 mod media;
 mod medium;
+mod perform;
 mod ram;
+mod request;
 mod run;
+mod unit;
 
 pub use command::{BLOCK, BufferPlan, Command, Need, Outcome, TRANSFER};
 pub use media::{run_unit, unit_needs};
 pub use medium::Medium;
 pub use ram::RamMedium;
 pub use rbc_command::Sense;
+pub use request::Request;
 pub use run::{needs, run_command};
 
 #[cfg(test)]
