@@ -1,18 +1,12 @@
--- Answers that stand at the front of a piece.
-use Rattle.std.proofs.Common.{◌≡◌, ℕ, ◌+◌, ◌≤◌, List, [], ◌∷◌, ◌++◌, length, take, drop, min, suc, zero, refl, sym, ap, ◌∙◌, arith, length-append}
-use Rattle.std.proofs.lemmas.Grind.{common_steps}
+-- The inquiry data, cut to the allocation.
+use Rattle.std.proofs.Common.{◌≡◌, ℕ, List, length, take, min, refl, sym, ap, ◌∙◌}
+use Rattle.std.proofs.lemmas.List.{take_min}
 use Rattle.rbc_disk.specs.Runs.{inquiry_bytes}
 
-pub length-inquiry_bytes : length inquiry_bytes ≡ 36
+take-inquiry : (n : ℕ) → take (min n 36) inquiry_bytes ≡ take n inquiry_bytes
 unfolding inquiry_bytes
-length-inquiry_bytes = refl
+take-inquiry n = take_min n inquiry_bytes
 
--- a front that is cut to the allocation
-pub take-min_length : (n m : ℕ) (bytes : List ℕ) → length bytes ≡ m → take (min n m) bytes ≡ take n bytes
-take-min_length n m bytes h = grind (arith, common_steps)
-
-pub take-inquiry : (n : ℕ) → take (min n 36) inquiry_bytes ≡ take n inquiry_bytes
-take-inquiry n = take-min_length n 36 inquiry_bytes length-inquiry_bytes
-
-pub ruleset inquiry_steps = (take-inquiry)
-pub ruleset capacity_steps = (take-inquiry)
+-- as many bytes as the allocation and the data have stand at the front
+pub inquiry_front : (n size : ℕ) (out : List ℕ) → size ≡ min n 36 → take size out ≡ take size inquiry_bytes → take (min n 36) out ≡ take n inquiry_bytes
+inquiry_front n size out e h = ap (λ k. take k out) (sym e) ∙ h ∙ ap (λ k. take k inquiry_bytes) e ∙ take-inquiry n

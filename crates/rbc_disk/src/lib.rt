@@ -2,17 +2,23 @@
 #![tactic(auto)]
 
 mod command;
+mod empty;
+mod faulty;
 mod media;
 mod medium;
 mod perform;
+mod protected;
 mod ram;
 mod request;
 mod run;
 mod unit;
 
 pub use command::{BLOCK, BufferPlan, Command, Need, Outcome, TRANSFER};
+pub use empty::EmptyMedium;
+pub use faulty::FaultyMedium;
 pub use media::{run_unit, unit_needs};
 pub use medium::Medium;
+pub use protected::ProtectedMedium;
 pub use ram::RamMedium;
 pub use rbc_command::Sense;
 pub use request::Request;

@@ -86,7 +86,6 @@ fn transfer(medium: &mut dyn Medium, command: Command, payload: &[u8], answer: &
 const INQUIRY_DATA: &[u8; 36] = b"\x0e\x00\x04\x02\x1f\x00\x00\x00SBP2DISKPROFILE DISK    0001";
 
 /// Writes the inquiry data, cut to the allocation.
-#[tactic(auto, using(crate::proofs::AnswerLemmas::inquiry_steps))]
 fn inquiry(allocation: u8, answer: &mut [u8]) -> Outcome
     requires { length answer.old ≡ 16384 }
     ensures good { result ≡ Outcome.Good (min allocation 36) }
@@ -94,14 +93,22 @@ fn inquiry(allocation: u8, answer: &mut [u8]) -> Outcome
 {
     let len = allocation.min(36);
     let size = usize::from(len);
-    answer[..size].copy_from_slice(&INQUIRY_DATA[..size]);
+    copy_front(INQUIRY_DATA, size, answer);
     Outcome::Good {
         answer: u16::from(len),
     }
 }
 
+/// Copies the first `len` bytes to the front of `out`.
+fn copy_front(bytes: &[u8], len: usize, out: &mut [u8])
+    requires known { len ≤ length bytes.now }
+    requires room { len ≤ length out.old }
+    ensures { take len out.new ≡ take len bytes.now }
+{
+    out[..len].copy_from_slice(&bytes[..len]);
+}
+
 /// Writes the last block and the length of a block.
-#[tactic(auto, using(crate::proofs::AnswerLemmas::capacity_steps))]
 fn capacity(medium: &dyn Medium, answer: &mut [u8]) -> Outcome
     requires { length answer.old ≡ 16384 }
     ensures good { result ≡ Outcome.Good 8 }
