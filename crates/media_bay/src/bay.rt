@@ -48,11 +48,12 @@ impl<M: Medium> Medium for Bay<M> {
 
     ghost media_faults = { λ bay. bay.faults };
 
+    #[tactic(auto, using(crate::proofs::TrayLemmas::sound_steps))]
     fn blocks(&self) -> u32 {
-        if let Some(disc) = &self.tray {
-            let _blocks = disc.blocks();
+        match &self.tray {
+            Some(disc) => disc.blocks(),
+            None => self.blocks,
         }
-        self.blocks
     }
 
     fn is_protected(&self) -> bool {

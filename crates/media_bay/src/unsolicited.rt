@@ -11,6 +11,7 @@ const LENGTH: usize = 24;
 const BLOCK: &[u8; 24] = b"\x85\0\0\0\0\0\0\0\x02\x06\x28\0\0\0\0\0\0\0\0\0\0\0\0\0";
 
 /// Writes the unsolicited status block to the front of `out`, and answers its length, 24.
+#[tactic(auto, unfolding(crate::specs::Unsolicited::block_head))]
 pub fn write_unsolicited(out: &mut [u8]) -> usize
     requires { 24 ≤ length out.old }
     ensures count { result ≡ 24 }
@@ -39,6 +40,7 @@ pub fn read_unsolicited(bytes: &[u8]) -> Option<Sense>
 }
 
 /// The law that ties the two calls: the block is read, whatever its reserved bytes are.
+#[tactic(auto, using(crate::proofs::BlockLemmas::reads_block))]
 pub fn unsolicited_reads_back()
     ensures { ReadsBlock }
 {}
