@@ -23,6 +23,7 @@ pub use ram::RamMedium;
 pub use rbc_command::Sense;
 pub use request::Request;
 pub use run::{needs, run_command};
+pub use unit::Unit;
 
 #[cfg(test)]
 mod tests;
