@@ -42,3 +42,8 @@ bay_disk blocks (Some disc) shelf = record {
 abbrev pub new_bay : ℕ → List Disk → Disk
 new_bay blocks [] = bay_disk blocks None []
 new_bay blocks (disc ∷ shelf) = bay_disk blocks (Some disc) shelf
+
+-- the count of the disc in the tray
+abbrev pub tray_faults : Option ℕ → ℕ
+tray_faults None = 0
+tray_faults (Some faults) = faults

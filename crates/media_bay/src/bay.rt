@@ -3,7 +3,7 @@ ghost use Rattle.std.specs.Option.{option_map};
 ghost use Rattle.std.specs.Bool.{IsFalse};
 ghost use Rattle.sbp_base.specs.Faults.{HasCause, Rose, last_count};
 ghost use Rattle.rbc_disk.specs.Disk.{Disk, IsInside, Gives, written};
-ghost use Rattle.media_bay.specs.Trays.{bay_disk, new_bay, fits_tray, are_discs};
+ghost use Rattle.media_bay.specs.Trays.{bay_disk, new_bay, fits_tray, are_discs, tray_faults};
 
 use rbc_disk::Medium;
 use sbp_base::Failed;
@@ -67,43 +67,55 @@ impl<M: Medium> Medium for Bay<M> {
         self.tray.is_some()
     }
 
-    fn read(&mut self, lba: u32, into: &mut [u8]) -> Result<(), Failed> {
+    fn read(&mut self, lba: u32, into: &mut [u8]) -> Result<(), Failed>
+        requires present { IsTrue (⟦<Bay<M> as Medium>⟧.disk self.old).is_present }
+        requires inside { IsInside (⟦<Bay<M> as Medium>⟧.disk self.old) lba (length into.old) }
+        ensures bytes { OnOk result (Gives (⟦<Bay<M> as Medium>⟧.disk self.old) lba into.new) }
+        ensures kept { ⟦<Bay<M> as Medium>⟧.disk self.new ≡ ⟦<Bay<M> as Medium>⟧.disk self.old }
+        ensures cause { HasCause (⟦<Bay<M> as Medium>⟧.media_faults self.old) (⟦<Bay<M> as Medium>⟧.media_faults self.new) result }
+
+        // It fails only where the disc in the tray failed.
+        ensures disc { OnErr result (Rose (tray_faults (option_map M.media_faults self.old.tray)) (tray_faults (option_map M.media_faults self.new.tray))) }
+    {
         let Some(disc) = &mut self.tray else {
             unreachable!("an empty tray is not read")
         };
-        match disc.read(lba, into) {
-            Ok(()) => Ok(()),
-            Err(Failed) => {
-                self.faults = self.faults.saturating_add(1);
-                Err(Failed)
-            }
-        }
+        let outcome = disc.read(lba, into);
+        count_fault(&mut self.faults, outcome)
     }
 
-    fn write(&mut self, lba: u32, from: &[u8]) -> Result<(), Failed> {
+    fn write(&mut self, lba: u32, from: &[u8]) -> Result<(), Failed>
+        requires present { IsTrue (⟦<Bay<M> as Medium>⟧.disk self.old).is_present }
+        requires open { IsFalse (⟦<Bay<M> as Medium>⟧.disk self.old).is_protected }
+        requires inside { IsInside (⟦<Bay<M> as Medium>⟧.disk self.old) lba (length from.now) }
+        ensures written { OnOk result (⟦<Bay<M> as Medium>⟧.disk self.new ≡ written (⟦<Bay<M> as Medium>⟧.disk self.old) lba from.now) }
+        ensures failed { OnErr result (⟦<Bay<M> as Medium>⟧.disk self.new ≡ ⟦<Bay<M> as Medium>⟧.disk self.old) }
+        ensures cause { HasCause (⟦<Bay<M> as Medium>⟧.media_faults self.old) (⟦<Bay<M> as Medium>⟧.media_faults self.new) result }
+
+        // It fails only where the disc in the tray failed.
+        ensures disc { OnErr result (Rose (tray_faults (option_map M.media_faults self.old.tray)) (tray_faults (option_map M.media_faults self.new.tray))) }
+    {
         let Some(disc) = &mut self.tray else {
             unreachable!("an empty tray is not written")
         };
-        match disc.write(lba, from) {
-            Ok(()) => Ok(()),
-            Err(Failed) => {
-                self.faults = self.faults.saturating_add(1);
-                Err(Failed)
-            }
-        }
+        let outcome = disc.write(lba, from);
+        count_fault(&mut self.faults, outcome)
     }
 
-    fn verify(&mut self, lba: u32, count: u32) -> Result<(), Failed> {
+    fn verify(&mut self, lba: u32, count: u32) -> Result<(), Failed>
+        requires present { IsTrue (⟦<Bay<M> as Medium>⟧.disk self.old).is_present }
+        requires inside { IsInside (⟦<Bay<M> as Medium>⟧.disk self.old) lba (512 * count) }
+        ensures kept { ⟦<Bay<M> as Medium>⟧.disk self.new ≡ ⟦<Bay<M> as Medium>⟧.disk self.old }
+        ensures cause { HasCause (⟦<Bay<M> as Medium>⟧.media_faults self.old) (⟦<Bay<M> as Medium>⟧.media_faults self.new) result }
+
+        // It fails only where the disc in the tray failed.
+        ensures disc { OnErr result (Rose (tray_faults (option_map M.media_faults self.old.tray)) (tray_faults (option_map M.media_faults self.new.tray))) }
+    {
         let Some(disc) = &mut self.tray else {
             unreachable!("an empty tray is not verified")
         };
-        match disc.verify(lba, count) {
-            Ok(()) => Ok(()),
-            Err(Failed) => {
-                self.faults = self.faults.saturating_add(1);
-                Err(Failed)
-            }
-        }
+        let outcome = disc.verify(lba, count);
+        count_fault(&mut self.faults, outcome)
     }
 
     fn is_bay(&self) -> bool {
@@ -123,4 +135,15 @@ impl<M: Medium> Medium for Bay<M> {
     fn eject(&mut self) {
         self.tray = None;
     }
+}
+
+/// Counts a call that failed; the count stays at its last value.
+fn count_fault(faults: &mut u64, outcome: Result<(), Failed>) -> Result<(), Failed>
+    ensures same { result ≡ outcome }
+    ensures cause { HasCause faults.old faults.new result }
+{
+    if outcome.is_err() {
+        *faults = faults.saturating_add(1);
+    }
+    outcome
 }

@@ -8,4 +8,6 @@ pub use bay::Bay;
 pub use unsolicited::{read_unsolicited, unsolicited_reads_back, write_unsolicited};
 
 #[cfg(test)]
+mod disc_tests;
+#[cfg(test)]
 mod tests;

@@ -4,7 +4,7 @@ use Rattle.rbc_command.specs.Commands.{operation_in}
 use Rattle.rbc_command.specs.SenseData.{sense, no_command, bad_field}
 use Rattle.rbc_command.specs.declared.sense.Sense.{Sense}
 use Rattle.rbc_disk.specs.Disk.{Disk, Disc}
-use Rattle.rbc_disk.specs.Units.{UnitState, PlainDisk, has_place}
+use Rattle.rbc_disk.specs.Units.{PlainDisk, has_place}
 use Rattle.rbc_disk.specs.Requests.{request_of, is_inquiry, is_load, is_eject, needs_medium, is_outside, is_write, data_length, answer_length}
 use Rattle.rbc_disk.specs.declared.request.Request.{Request}
 use Rattle.rbc_disk.specs.declared.command.BufferPlan.{BufferPlan}
@@ -47,19 +47,18 @@ abbrev pub field_check : Result Request Sense → BufferPlan → PlainDisk → O
 field_check (Err refused) buffer plain = Some refused
 field_check (Ok request) buffer plain = request_check request buffer plain
 
--- the marks of the login's place, of which INQUIRY is told nothing
-abbrev pub mark_check : UnitState → ℕ → Option Sense
-mark_check unit place =
-    check_if (has_place unit.reset place) (sense 6 0x29 0)
-    (check_if (has_place unit.changed place) (sense 6 0x28 0) None)
+-- the marks of the login's place: that of a reset comes first
+abbrev pub mark_check : Bool → Bool → Option Sense
+mark_check reset changed = check_if reset (sense 6 0x29 0) (check_if changed (sense 6 0x28 0) None)
 
-abbrev pub told_marks : Bool → UnitState → ℕ → Option Sense
-told_marks true unit place = None
-told_marks false unit place = mark_check unit place
+-- INQUIRY is told of no mark
+abbrev pub told_marks : Bool → Option Sense → Option Sense
+told_marks true marks = None
+told_marks false marks = marks
 
 -- The check of a command: that of its operation code, then of the marks of its login's place, then of its fields, and then those of its request; none where no check holds.
 unfoldable pub check_of : List ℕ → BufferPlan → PlainDisk → ℕ → Option Sense
 check_of cdb buffer plain place =
     check_if (is_none (operation_in cdb)) no_command
-    (first_of (told_marks (is_inquiry (operation_in cdb)) plain.unit place)
+    (first_of (told_marks (is_inquiry (operation_in cdb)) (mark_check (has_place plain.unit.reset place) (has_place plain.unit.changed place)))
     (field_check (request_of plain.medium.is_bay cdb) buffer plain))

@@ -5,3 +5,4 @@ pub mod Units
 pub mod Requests
 pub mod Checks
 pub mod Runs
+pub mod Calls

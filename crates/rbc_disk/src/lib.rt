@@ -4,6 +4,7 @@
 mod command;
 mod empty;
 mod faulty;
+mod laws;
 mod media;
 mod medium;
 mod perform;
@@ -16,6 +17,7 @@ mod unit;
 pub use command::{BLOCK, BufferPlan, Command, Need, Outcome, TRANSFER};
 pub use empty::EmptyMedium;
 pub use faulty::FaultyMedium;
+pub use laws::{marked_until_told, told_once};
 pub use media::{run_unit, unit_needs};
 pub use medium::Medium;
 pub use protected::ProtectedMedium;

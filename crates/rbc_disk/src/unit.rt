@@ -35,7 +35,7 @@ impl Model for Unit {
 
 impl Unit {
     ghost use Rattle.rbc_disk.specs.Requests.{request_of, is_inquiry, is_load, Passes, data_length, answer_length};
-    ghost use Rattle.rbc_disk.specs.Checks.{check_of, tray_check, told_marks, request_check};
+    ghost use Rattle.rbc_disk.specs.Checks.{check_of, tray_check, mark_check, told_marks, request_check};
     ghost use Rattle.rbc_disk.specs.Runs.{need_of, Feeds, MayEnd, failure_of, check_in, HasFailed, is_failure, answered_length, answer_length_of, answer_of, medium_after, unit_after, unit_ended, unit_after_check, is_attention};
 
     /// A unit that is started, not prevented and has no mark.
@@ -154,7 +154,7 @@ impl Unit {
     /// The unit attention that a login is told; INQUIRY is told none.
     fn told_marks(&self, operation: Operation, login: u8) -> Option<Sense>
         requires { login < 8 }
-        ensures told { result ≡ told_marks (is_inquiry (Some operation)) self.now login }
+        ensures told { result ≡ told_marks (is_inquiry (Some operation)) (mark_check (has_place self.now.reset login) (has_place self.now.changed login)) }
         ensures no_fault { IfSome result (λ check. is_failure (Some check) ≡ false) }
     {
         if is_inquiry(operation) {

@@ -21,74 +21,83 @@ const WRITE_ALL: [u8; 12] = [0xaa, 0, 0, 0, 0, 0, 0, 0, 0, 32, 0, 0];
 const READ_33: [u8; 12] = [0xa8, 0, 0, 0, 0, 0, 0, 0, 0, 0x21, 0, 0];
 
 /// READ(12) of `count` blocks from block `lba` on.
-fn read(lba: u8, count: u8) -> [u8; 12] {
+const fn read(lba: u8, count: u8) -> [u8; 12] {
     [0xa8, 0, 0, 0, 0, lba, 0, 0, 0, count, 0, 0]
 }
 
-fn buffer(to_initiator: bool, bytes: u32) -> BufferPlan {
-    BufferPlan {
-        to_initiator,
-        bytes,
-    }
-}
+const IN: BufferPlan = BufferPlan {
+    to_initiator: true,
+    bytes: 16384,
+};
 
-const fn good(answer: u16) -> Option<Outcome> {
-    Some(Outcome::Good { answer })
-}
+const OUT: BufferPlan = BufferPlan {
+    to_initiator: false,
+    bytes: 16384,
+};
 
-const fn check(sense: Sense) -> Option<Outcome> {
-    Some(Outcome::Check(sense))
-}
+const GOOD: Outcome = Outcome::Good { answer: 0 };
 
-/// Runs a command whose payload and answer have the lengths that it asks for.
-fn run(
+/// Runs commands of a place in turn, none of which has data.
+fn outcomes(
+    rt: &impl AllocGlobal,
     unit: &mut Unit,
     medium: &mut dyn Medium,
     login: u8,
-    cdb: &[u8; 12],
-    buffer: BufferPlan,
-    payload: &[u8],
+    cdbs: &[[u8; 12]],
     answer: &mut [u8],
-) -> Option<Outcome> {
+) -> Result<Vec<Outcome>, NoMemory> {
+    let mut ended = Vec::new(rt.alloc());
     if login >= 8 || answer.len() != 16384 {
-        return None;
+        return Ok(ended);
     }
-    let fits = match unit.needs(medium, login, cdb, buffer) {
-        Need::Payload(len) => payload.len() == usize::from(len),
-        Need::RunNow => true,
-    };
-    if !fits {
-        return None;
+    for cdb in cdbs {
+        if let Need::RunNow = unit.needs(medium, login, cdb, IN) {
+            ended.push(unit.run(medium, login, cdb, IN, &[], answer))?;
+        }
     }
-    Some(unit.run(medium, login, cdb, buffer, payload, answer))
+    Ok(ended)
 }
 
-/// Runs a command of place 0 that has no payload, with a buffer of so many bytes to the initiator.
-fn ask(
-    unit: &mut Unit,
+/// Runs commands of place 0 on a new unit.
+fn run_all(
+    rt: &impl AllocGlobal,
     medium: &mut dyn Medium,
-    cdb: &[u8; 12],
-    bytes: u32,
+    cdbs: &[[u8; 12]],
     answer: &mut [u8],
-) -> Option<Outcome> {
-    run(unit, medium, 0, cdb, buffer(true, bytes), &[], answer)
+) -> Result<Vec<Outcome>, NoMemory> {
+    outcomes(rt, &mut Unit::new(), medium, 0, cdbs, answer)
+}
+
+/// Writes 32 blocks of 33h.
+fn write_all(medium: &mut dyn Medium, payload: &[u8], answer: &mut [u8]) -> Option<Outcome> {
+    let mut unit = Unit::new();
+    match unit.needs(medium, 0, &WRITE_ALL, OUT) {
+        Need::Payload(16384) if payload.len() == 16384 && answer.len() == 16384 => {
+            Some(unit.run(medium, 0, &WRITE_ALL, OUT, payload, answer))
+        }
+        _ => None,
+    }
 }
 
 #[test]
 fn an_empty_medium(rt: HostRuntime) -> Result<(), Fail> {
-    let mut unit = Unit::new();
     let mut medium = EmptyMedium::new(64);
     let mut answer = vec![in rt.alloc(); 0; 16384]?;
-    let ready = ask(
-        &mut unit,
+    let ended = run_all(
+        &rt,
         &mut medium,
-        &TEST_READY,
-        0,
+        &[TEST_READY, INQUIRY],
         answer.as_mut_slice(),
     );
-    assert_eq!(rt; ready, check(Sense::NO_MEDIUM));
-    let told = ask(&mut unit, &mut medium, &INQUIRY, 36, answer.as_mut_slice());
-    assert_eq!(rt; told, good(36));
+    let ended = ended.ok().ok_or("memory")?;
+    assert_eq!(rt;
+        ended.as_slice(),
+        [
+            Outcome::Check(Sense::NO_MEDIUM),
+            Outcome::Good { answer: 36 }
+        ]
+        .as_slice()
+    );
     assert_eq!(rt;
         answer.as_slice().get(..36),
         Some(b"\x0e\x00\x04\x02\x1f\x00\x00\x00SBP2DISKPROFILE DISK    0001".as_slice())
@@ -102,73 +111,57 @@ fn attention_once(rt: HostRuntime) -> Result<(), Fail> {
     let mut medium = RamMedium::new(rt.alloc(), 1, 0).ok().ok_or("memory")?;
     let mut answer = vec![in rt.alloc(); 0; 16384]?;
     unit.clear(1);
-    let told = ask(&mut unit, &mut medium, &INQUIRY, 36, answer.as_mut_slice());
-    assert_eq!(rt; told, good(36));
-    let first = ask(
+    let ended = outcomes(
+        &rt,
         &mut unit,
         &mut medium,
-        &TEST_READY,
         0,
+        &[INQUIRY, TEST_READY, TEST_READY],
         answer.as_mut_slice(),
     );
-    assert_eq!(rt; first, check(Sense::WAS_RESET));
-    let second = ask(
-        &mut unit,
-        &mut medium,
-        &TEST_READY,
-        0,
-        answer.as_mut_slice(),
+    let ended = ended.ok().ok_or("memory")?;
+    assert_eq!(rt;
+        ended.as_slice(),
+        [
+            Outcome::Good { answer: 36 },
+            Outcome::Check(Sense::WAS_RESET),
+            GOOD
+        ]
+        .as_slice()
     );
-    assert_eq!(rt; second, good(0));
-    let other = run(
+    let other = outcomes(
+        &rt,
         &mut unit,
         &mut medium,
         1,
-        &TEST_READY,
-        buffer(true, 0),
-        &[],
+        &[TEST_READY],
         answer.as_mut_slice(),
     );
-    assert_eq!(rt; other, good(0));
+    assert_eq!(rt; other.ok().ok_or("memory")?.as_slice(), [GOOD].as_slice());
     Ok(())
 }
 
 #[test]
 fn stops_and_starts(rt: HostRuntime) -> Result<(), Fail> {
-    let mut unit = Unit::new();
     let mut medium = RamMedium::new(rt.alloc(), 64, 0).ok().ok_or("memory")?;
     let mut answer = vec![in rt.alloc(); 0; 16384]?;
-    assert_eq!(rt;
-        ask(&mut unit, &mut medium, &STOP, 0, answer.as_mut_slice()),
-        good(0)
+    let ended = run_all(
+        &rt,
+        &mut medium,
+        &[STOP, TEST_READY, START, TEST_READY, EJECT],
+        answer.as_mut_slice(),
     );
+    let ended = ended.ok().ok_or("memory")?;
     assert_eq!(rt;
-        ask(
-            &mut unit,
-            &mut medium,
-            &TEST_READY,
-            0,
-            answer.as_mut_slice()
-        ),
-        check(Sense::NOT_STARTED)
-    );
-    assert_eq!(rt;
-        ask(&mut unit, &mut medium, &START, 0, answer.as_mut_slice()),
-        good(0)
-    );
-    assert_eq!(rt;
-        ask(
-            &mut unit,
-            &mut medium,
-            &TEST_READY,
-            0,
-            answer.as_mut_slice()
-        ),
-        good(0)
-    );
-    assert_eq!(rt;
-        ask(&mut unit, &mut medium, &EJECT, 0, answer.as_mut_slice()),
-        check(Sense::BAD_FIELD)
+        ended.as_slice(),
+        [
+            GOOD,
+            Outcome::Check(Sense::NOT_STARTED),
+            GOOD,
+            GOOD,
+            Outcome::Check(Sense::BAD_FIELD)
+        ]
+        .as_slice()
     );
     Ok(())
 }
@@ -176,53 +169,21 @@ fn stops_and_starts(rt: HostRuntime) -> Result<(), Fail> {
 /// 64 blocks: the last one, the one behind it, none of the last, more than 32; the capacity.
 #[test]
 fn edges_of_the_disk(rt: HostRuntime) -> Result<(), Fail> {
-    let mut unit = Unit::new();
     let mut medium = RamMedium::new(rt.alloc(), 64, 0).ok().ok_or("memory")?;
     let mut answer = vec![in rt.alloc(); 1; 16384]?;
+    let cdbs = [read(63, 1), read(64, 1), read(63, 0), READ_33, CAPACITY];
+    let ended = run_all(&rt, &mut medium, &cdbs, answer.as_mut_slice());
+    let ended = ended.ok().ok_or("memory")?;
     assert_eq!(rt;
-        ask(
-            &mut unit,
-            &mut medium,
-            &read(63, 1),
-            512,
-            answer.as_mut_slice()
-        ),
-        good(512)
-    );
-    assert_eq!(rt; answer.as_slice().get(511..513), Some([0, 1].as_slice()));
-    assert_eq!(rt;
-        ask(
-            &mut unit,
-            &mut medium,
-            &read(64, 1),
-            512,
-            answer.as_mut_slice()
-        ),
-        check(Sense::OUTSIDE)
-    );
-    assert_eq!(rt;
-        ask(
-            &mut unit,
-            &mut medium,
-            &read(63, 0),
-            0,
-            answer.as_mut_slice()
-        ),
-        good(0)
-    );
-    assert_eq!(rt;
-        ask(
-            &mut unit,
-            &mut medium,
-            &READ_33,
-            16384,
-            answer.as_mut_slice()
-        ),
-        check(Sense::BAD_FIELD)
-    );
-    assert_eq!(rt;
-        ask(&mut unit, &mut medium, &CAPACITY, 8, answer.as_mut_slice()),
-        good(8)
+        ended.as_slice(),
+        [
+            Outcome::Good { answer: 512 },
+            Outcome::Check(Sense::OUTSIDE),
+            GOOD,
+            Outcome::Check(Sense::BAD_FIELD),
+            Outcome::Good { answer: 8 },
+        ]
+        .as_slice()
     );
     assert_eq!(rt;
         answer.as_slice().get(..8),
@@ -233,46 +194,48 @@ fn edges_of_the_disk(rt: HostRuntime) -> Result<(), Fail> {
 
 #[test]
 fn sixteen_kilobytes(rt: HostRuntime) -> Result<(), Fail> {
-    let mut unit = Unit::new();
     let mut medium = RamMedium::new(rt.alloc(), 64, 0).ok().ok_or("memory")?;
     let mut answer = vec![in rt.alloc(); 0; 16384]?;
     let payload = vec![in rt.alloc(); 0x33; 16384]?;
-    let plan = buffer(false, 16384);
-    assert_eq!(rt;
-        unit.needs(&medium, 0, &WRITE_ALL, plan),
-        Need::Payload(16384)
-    );
-    let written = run(
-        &mut unit,
+    let written = write_all(&mut medium, payload.as_slice(), answer.as_mut_slice());
+    assert_eq!(rt; written, Some(GOOD));
+    let ended = run_all(
+        &rt,
         &mut medium,
-        0,
-        &WRITE_ALL,
-        plan,
-        payload.as_slice(),
+        &[read(31, 1), read(64, 1)],
         answer.as_mut_slice(),
     );
-    assert_eq!(rt; written, good(0));
+    let ended = ended.ok().ok_or("memory")?;
     assert_eq!(rt;
-        ask(
-            &mut unit,
-            &mut medium,
-            &read(31, 1),
-            512,
-            answer.as_mut_slice()
-        ),
-        good(512)
+        ended.as_slice(),
+        [
+            Outcome::Good { answer: 512 },
+            Outcome::Check(Sense::OUTSIDE)
+        ]
+        .as_slice()
     );
     assert_eq!(rt; answer.as_slice().get(..512), payload.as_slice().get(..512));
-    assert_eq!(rt;
-        ask(
-            &mut unit,
-            &mut medium,
-            &read(64, 1),
-            512,
-            answer.as_mut_slice()
-        ),
-        check(Sense::OUTSIDE)
-    );
+    Ok(())
+}
+
+/// The first call of the medium fails: that of a READ, or that of a VERIFY, which so makes it.
+#[test]
+fn first_call_fails(rt: HostRuntime) -> Result<(), Fail> {
+    let mut answer = vec![in rt.alloc(); 0; 16384]?;
+    for cdb in [read(0, 1), VERIFY] {
+        let mut medium = first_fails(&rt).ok().ok_or("memory")?;
+        let ended = run_all(&rt, &mut medium, &[cdb, read(0, 1)], answer.as_mut_slice());
+        let ended = ended.ok().ok_or("memory")?;
+        assert_eq!(rt;
+            ended.as_slice(),
+            [
+                Outcome::Check(Sense::READ_FAILED),
+                Outcome::Good { answer: 512 }
+            ]
+            .as_slice()
+        );
+        assert_eq!(rt; answer.as_slice().get(..2), Some([0x5a, 0x5a].as_slice()));
+    }
     Ok(())
 }
 
@@ -280,50 +243,4 @@ fn sixteen_kilobytes(rt: HostRuntime) -> Result<(), Fail> {
 fn first_fails(rt: &impl AllocGlobal) -> Result<FaultyMedium, NoMemory> {
     let failing = Vec::from_slice(rt.alloc(), &[1])?;
     FaultyMedium::new(rt.alloc(), 64, 0x5a, failing)
-}
-
-#[test]
-fn first_read_fails(rt: HostRuntime) -> Result<(), Fail> {
-    let mut unit = Unit::new();
-    let mut medium = first_fails(&rt).ok().ok_or("memory")?;
-    let mut answer = vec![in rt.alloc(); 0; 16384]?;
-    assert_eq!(rt;
-        ask(
-            &mut unit,
-            &mut medium,
-            &read(0, 1),
-            512,
-            answer.as_mut_slice()
-        ),
-        check(Sense::READ_FAILED)
-    );
-    assert_eq!(rt;
-        ask(
-            &mut unit,
-            &mut medium,
-            &read(0, 1),
-            512,
-            answer.as_mut_slice()
-        ),
-        good(512)
-    );
-    assert_eq!(rt; answer.as_slice().get(..2), Some([0x5a, 0x5a].as_slice()));
-    Ok(())
-}
-
-/// The failing call is the VERIFY's, so VERIFY makes it.
-#[test]
-fn verify_makes_its_call(rt: HostRuntime) -> Result<(), Fail> {
-    let mut unit = Unit::new();
-    let mut medium = first_fails(&rt).ok().ok_or("memory")?;
-    let mut answer = vec![in rt.alloc(); 0; 16384]?;
-    assert_eq!(rt;
-        ask(&mut unit, &mut medium, &VERIFY, 0, answer.as_mut_slice()),
-        check(Sense::READ_FAILED)
-    );
-    assert_eq!(rt;
-        ask(&mut unit, &mut medium, &VERIFY, 0, answer.as_mut_slice()),
-        good(0)
-    );
-    Ok(())
 }

@@ -1,0 +1,230 @@
+-- Unit attention over a list of calls.
+use Rattle.std.proofs.Common.{◌≡◌, ◌≢◌, ℕ, ◌+◌, ◌-◌, ◌*◌, ◌<◌, ◌^◌, min, max, suc, zero, Bool, true, false, List, [], ◌∷◌, refl, sym, ap, subst, ◌∙◌, arith}
+use Rattle.std.specs.Prelude.{◌==◌, ◌&&◌, ◌||◌, not, nat_lt, if◌then◌else◌, Option, Some, None, is_none, Result, Ok, Err}
+use Rattle.std.specs.Int.{bit_at, bit_not, w8}
+use Rattle.std.specs.Int.Bits.{bit_and, bit_or}
+use Rattle.std.proofs.lemmas.Nat.Bits.{bit_at_or, bit_at_and, bit_at_not, bit_at-zero, bit_at-lt, bit_at-pow_same, bit_at-pow_other}
+use Rattle.std.proofs.Math.Pow.{pow-lt}
+use Rattle.std.proofs.Math.Bool.{and-false, and-true}
+use Rattle.rbc_command.specs.Commands.{operation_in, command_of, command_in, command_by, unless_bad, moves_disc, starts}
+use Rattle.rbc_command.specs.SenseData.{sense, no_command, bad_field}
+use Rattle.rbc_command.specs.declared.sense.Sense.{Sense}
+use Rattle.rbc_command.specs.declared.command.Command.{Command}
+use Rattle.rbc_command.specs.declared.command.Command.{Command}
+use Rattle.rbc_command.specs.declared.command.Command.TheVariants as commands
+use Rattle.rbc_command.specs.declared.operation.Operation.{Operation}
+use Rattle.rbc_command.specs.declared.operation.Operation.TheVariants as operations
+use Rattle.rbc_disk.specs.Disk.{Disk}
+use Rattle.rbc_disk.specs.Units.{UnitState, PlainDisk, plain_disk, new_unit, has_place, with_places, without_place}
+use Rattle.rbc_disk.specs.Requests.{request_of, plain_request, is_inquiry, is_start_stop, is_load, is_eject, needs_medium, is_outside, is_write}
+use Rattle.rbc_disk.specs.Checks.{check_if, is_empty, is_unfit, check_of, first_of, mark_check, told_marks, tray_check, request_check, field_check}
+use Rattle.rbc_disk.specs.Runs.{MayEnd, failure_in, failure_by, failure_of, is_attention, unit_after_check, unit_after_good, unit_ended, unit_after}
+use Rattle.rbc_disk.specs.Calls.Call.{Ran, Cleared, Changed}
+use Rattle.rbc_disk.specs.Calls.{Call, after_call, after_calls, MayHappen, Happened, is_attention_of, owes_reset, minds_marks, MarkLaw, AttentionLaw}
+use Rattle.rbc_disk.specs.declared.request.Request.{Request}
+use Rattle.rbc_disk.specs.declared.request.Request.TheVariants as requests
+use Rattle.rbc_disk.specs.declared.command.BufferPlan.{BufferPlan}
+
+-- the marks are sets
+either_bit : (x y : ℕ) → x < 2 → y < 2 → (max x y == 1) ≡ (x == 1 || y == 1)
+either_bit x y h k = grind arith
+
+pub has_place-with_places : (places more place : ℕ) → has_place (with_places places more) place ≡ (has_place places place || has_place more place)
+has_place-with_places places more place =
+    ap (λ n. n == 1) (bit_at_or places more place) ∙ either_bit (bit_at places place) (bit_at more place) (bit_at-lt places place) (bit_at-lt more place)
+
+-- a bit of the set without a place
+bit_without : (places place asked : ℕ) → place < 8 → asked < 8 → bit_at (without_place places asked) place ≡ min (bit_at places place) (1 - bit_at (2 ^ asked) place)
+bit_without places place asked h k =
+    bit_at_and places (bit_not w8 (2 ^ asked)) place ∙ ap (λ n. min (bit_at places place) n) (bit_at_not w8 (2 ^ asked) place (pow-lt k) h)
+
+pub has_place-without_same : (places place : ℕ) → place < 8 → has_place (without_place places place) place ≡ false
+has_place-without_same places place h =
+    let e : bit_at (without_place places place) place ≡ min (bit_at places place) (1 - 1) = bit_without places place place h h ∙ ap (λ n. min (bit_at places place) (1 - n)) (bit_at-pow_same place) in
+    ap (λ n. n == 1) (e ∙ no_bit (bit_at places place))
+  where
+    no_bit : (x : ℕ) → min x (1 - 1) ≡ 0
+    no_bit x = omega arith
+
+lone_bit : (x : ℕ) → x < 2 → min x (1 - 0) ≡ x
+lone_bit x h = omega arith
+
+pub has_place-without_other : (places place asked : ℕ) → place < 8 → asked < 8 → place ≢ asked → has_place (without_place places asked) place ≡ has_place places place
+has_place-without_other places place asked h k other =
+    let e : bit_at (without_place places asked) place ≡ bit_at places place =
+    bit_without places place asked h k ∙ ap (λ n. min (bit_at places place) (1 - n)) (bit_at-pow_other asked place other) ∙ lone_bit (bit_at places place) (bit_at-lt places place)
+    in
+    ap (λ n. n == 1) e
+
+-- the checks that are no unit attention
+seven_calm : (a b c d e f g : Bool) →
+    is_attention (check_if a (sense 5 0x53 2) (first_of (check_if b (sense 2 0x3a 0) None) (check_if c (sense 2 0x3a 0) (check_if d (sense 2 4 2) (check_if e (sense 5 0x21 0) (check_if f (sense 7 0x27 0) (check_if g bad_field None))))))) ≡ false
+seven_calm true b c d e f g = refl
+seven_calm false true c d e f g = refl
+seven_calm false false true d e f g = refl
+seven_calm false false false true e f g = refl
+seven_calm false false false false true f g = refl
+seven_calm false false false false false true g = refl
+seven_calm false false false false false false true = refl
+seven_calm false false false false false false false = refl
+
+request_check-calm : (request : Request) (buffer : BufferPlan) (plain : PlainDisk) → is_attention (request_check request buffer plain) ≡ false
+request_check-calm request buffer plain =
+    seven_calm (is_eject request && plain.unit.is_prevented) (is_load request && not plain.medium.is_present && is_empty plain.medium.shelf)
+        (needs_medium request && not plain.medium.is_present) (needs_medium request && not plain.unit.is_started)
+        (is_outside request plain.medium.blocks) (is_write request && plain.medium.is_protected) (is_unfit request buffer)
+
+-- a refusal of a command block is no unit attention
+abbrev refuses_by_attention : Result Command Sense → Bool
+refuses_by_attention (Ok command) = false
+refuses_by_attention (Err check) = check.key == 6
+
+unless_bad-calm : (bad : Bool) (command : Command) → refuses_by_attention (unless_bad bad command) ≡ false
+unless_bad-calm true command = refl
+unless_bad-calm false command = refl
+
+command_in-calm : (operation : Operation) (cdb : List ℕ) → refuses_by_attention (command_in operation cdb) ≡ false
+command_in-calm operations.TestReady cdb = refl
+command_in-calm operations.Inquiry cdb = refl
+command_in-calm operations.StartStop cdb = unless_bad-calm _ _
+command_in-calm operations.Prevent cdb = refl
+command_in-calm operations.Capacity cdb = refl
+command_in-calm operations.Read10 cdb = unless_bad-calm _ _
+command_in-calm operations.Write10 cdb = unless_bad-calm _ _
+command_in-calm operations.Verify cdb = unless_bad-calm _ _
+command_in-calm operations.Sync cdb = refl
+command_in-calm operations.Read12 cdb = unless_bad-calm _ _
+command_in-calm operations.Write12 cdb = unless_bad-calm _ _
+
+command_by-calm : (operation : Option Operation) (cdb : List ℕ) → refuses_by_attention (command_by operation cdb) ≡ false
+command_by-calm None cdb = refl
+command_by-calm (Some operation) cdb = command_in-calm operation cdb
+
+field_check-plain : (command : Result Command Sense) (buffer : BufferPlan) (plain : PlainDisk) → refuses_by_attention command ≡ false → is_attention (field_check (plain_request command) buffer plain) ≡ false
+field_check-plain (Ok command) buffer plain h = request_check-calm (requests.Plain command) buffer plain
+field_check-plain (Err check) buffer plain h = h
+
+field_check-if : (tray start : Bool) (command : Result Command Sense) (buffer : BufferPlan) (plain : PlainDisk) → refuses_by_attention command ≡ false →
+    is_attention (field_check (if tray then (if start then Ok requests.Load else Ok requests.Eject) else plain_request command) buffer plain) ≡ false
+field_check-if true true command buffer plain h = request_check-calm requests.Load buffer plain
+field_check-if true false command buffer plain h = request_check-calm requests.Eject buffer plain
+field_check-if false start command buffer plain h = field_check-plain command buffer plain h
+
+field_check-calm : (is_bay : Bool) (cdb : List ℕ) (buffer : BufferPlan) (plain : PlainDisk) → is_attention (field_check (request_of is_bay cdb) buffer plain) ≡ false
+unfolding request_of
+field_check-calm is_bay cdb buffer plain =
+    field_check-if (is_bay && is_start_stop (operation_in cdb) && moves_disc cdb) (starts cdb) (command_of cdb) buffer plain (command_by-calm (operation_in cdb) cdb)
+
+-- nor is a failed call of the medium
+failing_calm : (b : Bool) (check : Sense) → (check.key == 6) ≡ false → is_attention (if b then None else Some check) ≡ false
+failing_calm true check h = refl
+failing_calm false check h = h
+
+failure_by-calm : (request : Result Request Sense) → is_attention (failure_by request) ≡ false
+failure_by-calm (Err refused) = refl
+failure_by-calm (Ok requests.Load) = refl
+failure_by-calm (Ok requests.Eject) = refl
+failure_by-calm (Ok (requests.Plain commands.TestReady)) = refl
+failure_by-calm (Ok (requests.Plain (commands.Inquiry allocation))) = refl
+failure_by-calm (Ok (requests.Plain (commands.StartStop start))) = refl
+failure_by-calm (Ok (requests.Plain (commands.Prevent on))) = refl
+failure_by-calm (Ok (requests.Plain commands.Capacity)) = refl
+failure_by-calm (Ok (requests.Plain (commands.Read lba count))) = failing_calm (count == 0) (sense 3 0x11 0) refl
+failure_by-calm (Ok (requests.Plain (commands.Write lba count))) = failing_calm (count == 0) (sense 3 0x0c 0) refl
+failure_by-calm (Ok (requests.Plain (commands.Verify lba count))) = failing_calm (count == 0) (sense 3 0x11 0) refl
+failure_by-calm (Ok (requests.Plain commands.Sync)) = refl
+
+-- a check that is no unit attention is none of a code
+calm_code : (code : ℕ) (ended : Option Sense) → is_attention ended ≡ false → is_attention_of code ended ≡ false
+calm_code code None h = refl
+calm_code code (Some check) h = ap (λ b. b && check.code == code) h
+
+-- a run without a unit attention to tell ends with none
+ends_calm : (check failure ended : Option Sense) → is_attention check ≡ false → is_attention failure ≡ false → MayEnd check failure ended → is_attention ended ≡ false
+ends_calm (Some check) failure ended h k e = ap is_attention e ∙ h
+ends_calm None failure None h k e = refl
+ends_calm None failure (Some check) h k e = sym (ap is_attention e) ∙ k
+
+-- by four words: an unknown operation, an INQUIRY, the mark of a reset, that of a changed medium
+told_by : (unknown inquiry reset changed : Bool) (others failure ended : Option Sense) → is_attention others ≡ false → is_attention failure ≡ false →
+    MayEnd (check_if unknown no_command (first_of (told_marks inquiry (mark_check reset changed)) others)) failure ended →
+    is_attention_of 0x29 ended ≡ (reset && (not unknown && not inquiry))
+told_by true inquiry true changed others failure ended h k e = calm_code 0x29 ended (ends_calm (Some no_command) failure ended refl k e)
+told_by true inquiry false changed others failure ended h k e = calm_code 0x29 ended (ends_calm (Some no_command) failure ended refl k e)
+told_by false true true changed others failure ended h k e = calm_code 0x29 ended (ends_calm others failure ended h k e)
+told_by false true false changed others failure ended h k e = calm_code 0x29 ended (ends_calm others failure ended h k e)
+told_by false false true changed others failure ended h k e = ap (is_attention_of 0x29) e
+told_by false false false true others failure ended h k e = ap (is_attention_of 0x29) e
+told_by false false false false others failure ended h k e = calm_code 0x29 ended (ends_calm others failure ended h k e)
+
+-- one command is told of a reset exactly where its place is marked and it minds marks
+told_of_mark : (cdb : List ℕ) (buffer : BufferPlan) (plain : PlainDisk) (place : ℕ) (ended : Option Sense) →
+    MayEnd (check_of cdb buffer plain place) (failure_of plain.medium.is_bay cdb) ended →
+    is_attention_of 0x29 ended ≡ (has_place plain.unit.reset place && minds_marks cdb)
+unfolding check_of
+told_of_mark cdb buffer plain place ended e =
+    told_by (is_none (operation_in cdb)) (is_inquiry (operation_in cdb)) (has_place plain.unit.reset place) (has_place plain.unit.changed place)
+    (field_check (request_of plain.medium.is_bay cdb) buffer plain) (failure_of plain.medium.is_bay cdb) ended
+    (field_check-calm plain.medium.is_bay cdb buffer plain) (failure_by-calm (request_of plain.medium.is_bay cdb)) e
+
+-- what a run leaves of the marks of a reset
+reset_good : (request : Result Request Sense) (place : ℕ) (unit : UnitState) → (unit_ended request None place unit).reset ≡ unit.reset
+reset_good (Err refused) place unit = refl
+reset_good (Ok requests.Load) place unit = refl
+reset_good (Ok requests.Eject) place unit = refl
+reset_good (Ok (requests.Plain commands.TestReady)) place unit = refl
+reset_good (Ok (requests.Plain (commands.Inquiry allocation))) place unit = refl
+reset_good (Ok (requests.Plain (commands.StartStop start))) place unit = refl
+reset_good (Ok (requests.Plain (commands.Prevent on))) place unit = refl
+reset_good (Ok (requests.Plain commands.Capacity)) place unit = refl
+reset_good (Ok (requests.Plain (commands.Read lba count))) place unit = refl
+reset_good (Ok (requests.Plain (commands.Write lba count))) place unit = refl
+reset_good (Ok (requests.Plain (commands.Verify lba count))) place unit = refl
+reset_good (Ok (requests.Plain commands.Sync)) place unit = refl
+
+reset_told : (b c : Bool) (asked : ℕ) (unit : UnitState) →
+    (if b then (if c then record unit { reset = without_place unit.reset asked } else record unit { changed = without_place unit.changed asked }) else unit).reset
+    ≡ (if b && c then without_place unit.reset asked else unit.reset)
+reset_told true true asked unit = refl
+reset_told true false asked unit = refl
+reset_told false c asked unit = refl
+
+reset_ended : (request : Result Request Sense) (ended : Option Sense) (asked : ℕ) (unit : UnitState) →
+    (unit_ended request ended asked unit).reset ≡ (if is_attention_of 0x29 ended then without_place unit.reset asked else unit.reset)
+reset_ended request None asked unit = reset_good request asked unit
+reset_ended (Ok request) (Some check) asked unit = reset_told (check.key == 6) (check.code == 0x29) asked unit
+reset_ended (Err refused) (Some check) asked unit = reset_told (check.key == 6) (check.code == 0x29) asked unit
+
+-- the set without a place, where it was told
+mark_told : (is_same : Bool) (places place asked : ℕ) → place < 8 → asked < 8 → (asked == place) ≡ is_same →
+    has_place (without_place places asked) place ≡ (has_place places place && not is_same)
+mark_told true places place asked h k e =
+    let same : asked ≡ place = grind arith in
+    subst (λ n. has_place (without_place places n) place ≡ (has_place places place && false)) (sym same) (has_place-without_same places place h ∙ sym (and-false (has_place places place)))
+mark_told false places place asked h k e =
+    let other : place ≢ asked = grind arith in
+    has_place-without_other places place asked h k other ∙ sym (and-true (has_place places place))
+
+mark_ended : (told : Bool) (places place asked : ℕ) → place < 8 → asked < 8 →
+    has_place (if told then without_place places asked else places) place ≡ (has_place places place && not (asked == place && told))
+mark_ended true places place asked h k = mark_told (asked == place) places place asked h k refl ∙ ap (λ b. has_place places place && not b) (sym (and-true (asked == place)))
+mark_ended false places place asked h k = sym (ap (λ b. has_place places place && not b) (and-false (asked == place)) ∙ and-true (has_place places place))
+
+-- a place is marked exactly where it is owed
+pub marks_owed : MarkLaw
+marks_owed medium [] place h happened = ap (λ n. n == 1) (bit_at-zero place)
+marks_owed medium (Cleared logins ∷ calls) place h happened =
+    has_place-with_places (after_calls calls (plain_disk new_unit medium)).unit.reset logins place
+    ∙ ap (λ b. b || has_place logins place) (marks_owed medium calls place h happened.0)
+marks_owed medium (Changed logins ∷ calls) place h happened = marks_owed medium calls place h happened.0
+marks_owed medium (Ran cdb buffer asked payload ended ∷ calls) place h happened =
+    let plain = after_calls calls (plain_disk new_unit medium) in
+    ap (λ places. has_place places place) (reset_ended (request_of plain.medium.is_bay cdb) ended asked plain.unit)
+    ∙ mark_ended (is_attention_of 0x29 ended) plain.unit.reset place asked h happened.1.0
+    ∙ ap (λ b. b && not (asked == place && is_attention_of 0x29 ended)) (marks_owed medium calls place h happened.0)
+
+-- a command is told of a reset exactly where it minds marks and its place is owed it
+pub attention_owed : AttentionLaw
+attention_owed medium calls cdb buffer place payload ended happened =
+    told_of_mark cdb buffer (after_calls calls (plain_disk new_unit medium)) place ended happened.1.1
+    ∙ ap (λ b. b && minds_marks cdb) (marks_owed medium calls place happened.1.0 happened.0)
