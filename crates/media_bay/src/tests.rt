@@ -19,20 +19,27 @@ const NO_DATA: BufferPlan = BufferPlan {
     bytes: 0,
 };
 
-/// Runs a command of place 0 that has no data.
-fn run(
-    unit: &mut Unit,
-    bay: &mut dyn Medium,
-    cdb: &[u8; 12],
-    answer: &mut [u8],
-) -> Option<Outcome> {
-    if answer.len() != 16384 || unit.needs(bay, 0, cdb, NO_DATA) != Need::RunNow {
-        return None;
-    }
-    Some(unit.run(bay, 0, cdb, NO_DATA, &[], answer))
-}
+const GOOD: Outcome = Outcome::Good { answer: 0 };
 
-const GOOD: Option<Outcome> = Some(Outcome::Good { answer: 0 });
+/// Runs commands of place 0 on a new unit in turn, none of which has data.
+fn run_all(
+    rt: &impl AllocGlobal,
+    bay: &mut dyn Medium,
+    cdbs: &[[u8; 12]],
+    answer: &mut [u8],
+) -> Result<Vec<Outcome>, NoMemory> {
+    let mut unit = Unit::new();
+    let mut ended = Vec::new(rt.alloc());
+    if answer.len() != 16384 {
+        return Ok(ended);
+    }
+    for cdb in cdbs {
+        if let Need::RunNow = unit.needs(bay, 0, cdb, NO_DATA) {
+            ended.push(unit.run(bay, 0, cdb, NO_DATA, &[], answer))?;
+        }
+    }
+    Ok(ended)
+}
 
 /// A bay of one block with two discs, of which the first is in the tray.
 fn two_discs(rt: &impl AllocGlobal) -> Result<Bay<RamMedium>, NoMemory> {
@@ -44,36 +51,23 @@ fn two_discs(rt: &impl AllocGlobal) -> Result<Bay<RamMedium>, NoMemory> {
 
 #[test]
 fn a_prevented_eject(rt: HostRuntime) -> Result<(), Fail> {
-    let mut unit = Unit::new();
     let mut bay = two_discs(&rt).ok().ok_or("memory")?;
     let mut answer = vec![in rt.alloc(); 0; 16384]?;
+    let cdbs = [PREVENT, EJECT, ALLOW, EJECT, LOAD, EJECT, LOAD];
+    let ended = run_all(&rt, &mut bay, &cdbs, answer.as_mut_slice());
+    let ended = ended.ok().ok_or("memory")?;
     assert_eq!(rt;
-        run(&mut unit, &mut bay, &PREVENT, answer.as_mut_slice()),
-        GOOD
-    );
-    assert_eq!(rt;
-        run(&mut unit, &mut bay, &EJECT, answer.as_mut_slice()),
-        Some(Outcome::Check(Sense::REMOVAL_PREVENTED))
-    );
-    assert_eq!(rt;
-        run(&mut unit, &mut bay, &ALLOW, answer.as_mut_slice()),
-        GOOD
-    );
-    assert_eq!(rt;
-        run(&mut unit, &mut bay, &EJECT, answer.as_mut_slice()),
-        GOOD
-    );
-    assert_eq!(rt;
-        run(&mut unit, &mut bay, &LOAD, answer.as_mut_slice()),
-        GOOD
-    );
-    assert_eq!(rt;
-        run(&mut unit, &mut bay, &EJECT, answer.as_mut_slice()),
-        GOOD
-    );
-    assert_eq!(rt;
-        run(&mut unit, &mut bay, &LOAD, answer.as_mut_slice()),
-        Some(Outcome::Check(Sense::NO_MEDIUM))
+        ended.as_slice(),
+        [
+            GOOD,
+            Outcome::Check(Sense::REMOVAL_PREVENTED),
+            GOOD,
+            GOOD,
+            GOOD,
+            GOOD,
+            Outcome::Check(Sense::NO_MEDIUM),
+        ]
+        .as_slice()
     );
     Ok(())
 }
