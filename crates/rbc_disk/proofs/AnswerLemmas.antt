@@ -1,5 +1,5 @@
 -- The inquiry data, cut to the allocation.
-use Rattle.std.proofs.Common.{◌≡◌, ℕ, List, length, take, min, refl, sym, ap, ◌∙◌}
+use Rattle.std.proofs.Common.{◌≡◌, ℕ, List, take, min, sym, ap, ◌∙◌}
 use Rattle.std.proofs.lemmas.List.{take_min}
 use Rattle.rbc_disk.specs.Runs.{inquiry_bytes}
 

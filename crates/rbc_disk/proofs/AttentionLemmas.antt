@@ -1,8 +1,7 @@
 -- Unit attention over a list of calls.
-use Rattle.std.proofs.Common.{◌≡◌, ◌≢◌, ℕ, ◌+◌, ◌-◌, ◌*◌, ◌<◌, ◌^◌, min, max, suc, zero, Bool, true, false, List, [], ◌∷◌, refl, sym, ap, subst, ◌∙◌, arith}
-use Rattle.std.specs.Prelude.{◌==◌, ◌&&◌, ◌||◌, not, nat_lt, if◌then◌else◌, Option, Some, None, is_none, Result, Ok, Err}
+use Rattle.std.proofs.Common.{◌≡◌, ◌≢◌, ℕ, ◌-◌, ◌<◌, ◌^◌, min, max, Bool, true, false, List, [], ◌∷◌, refl, sym, ap, subst, ◌∙◌, arith}
+use Rattle.std.specs.Prelude.{◌==◌, ◌&&◌, ◌||◌, not, if◌then◌else◌, Option, Some, None, is_none, Result, Ok, Err}
 use Rattle.std.specs.Int.{bit_at, bit_not, w8}
-use Rattle.std.specs.Int.Bits.{bit_and, bit_or}
 use Rattle.std.proofs.lemmas.Nat.Bits.{bit_at_or, bit_at_and, bit_at_not, bit_at-zero, bit_at-lt, bit_at-pow_same, bit_at-pow_other}
 use Rattle.std.proofs.Math.Pow.{pow-lt}
 use Rattle.std.proofs.Math.Bool.{and-false, and-true}
@@ -14,13 +13,12 @@ use Rattle.rbc_command.specs.declared.command.Command.{Command}
 use Rattle.rbc_command.specs.declared.command.Command.TheVariants as commands
 use Rattle.rbc_command.specs.declared.operation.Operation.{Operation}
 use Rattle.rbc_command.specs.declared.operation.Operation.TheVariants as operations
-use Rattle.rbc_disk.specs.Disk.{Disk}
 use Rattle.rbc_disk.specs.Units.{UnitState, PlainDisk, plain_disk, new_unit, has_place, with_places, without_place}
 use Rattle.rbc_disk.specs.Requests.{request_of, plain_request, is_inquiry, is_start_stop, is_load, is_eject, needs_medium, is_outside, is_write}
-use Rattle.rbc_disk.specs.Checks.{check_if, is_empty, is_unfit, check_of, first_of, mark_check, told_marks, tray_check, request_check, field_check}
-use Rattle.rbc_disk.specs.Runs.{MayEnd, failure_in, failure_by, failure_of, is_attention, unit_after_check, unit_after_good, unit_ended, unit_after}
+use Rattle.rbc_disk.specs.Checks.{check_if, is_empty, is_unfit, check_of, first_of, mark_check, told_marks, request_check, field_check}
+use Rattle.rbc_disk.specs.Runs.{MayEnd, failure_by, failure_of, is_attention, unit_ended}
 use Rattle.rbc_disk.specs.Calls.Call.{Ran, Cleared, Changed}
-use Rattle.rbc_disk.specs.Calls.{Call, after_call, after_calls, MayHappen, Happened, is_attention_of, owes_reset, minds_marks, MarkLaw, AttentionLaw}
+use Rattle.rbc_disk.specs.Calls.{after_calls, is_attention_of, minds_marks, MarkLaw, AttentionLaw}
 use Rattle.rbc_disk.specs.declared.request.Request.{Request}
 use Rattle.rbc_disk.specs.declared.request.Request.TheVariants as requests
 use Rattle.rbc_disk.specs.declared.command.BufferPlan.{BufferPlan}
@@ -71,8 +69,8 @@ seven_calm false false false false false false false = refl
 request_check-calm : (request : Request) (buffer : BufferPlan) (plain : PlainDisk) → is_attention (request_check request buffer plain) ≡ false
 request_check-calm request buffer plain =
     seven_calm (is_eject request && plain.unit.is_prevented) (is_load request && not plain.medium.is_present && is_empty plain.medium.shelf)
-        (needs_medium request && not plain.medium.is_present) (needs_medium request && not plain.unit.is_started)
-        (is_outside request plain.medium.blocks) (is_write request && plain.medium.is_protected) (is_unfit request buffer)
+    (needs_medium request && not plain.medium.is_present) (needs_medium request && not plain.unit.is_started)
+    (is_outside request plain.medium.blocks) (is_write request && plain.medium.is_protected) (is_unfit request buffer)
 
 -- a refusal of a command block is no unit attention
 abbrev refuses_by_attention : Result Command Sense → Bool

@@ -1,11 +1,11 @@
 -- What is known of a request that passes its checks.
-use Rattle.std.proofs.Common.{◌≡◌, ℕ, ◌≤◌, true, false, Bool, refl, arith}
+use Rattle.std.proofs.Common.{◌≡◌, true, refl, arith}
 use Rattle.std.specs.Prelude.{Option, Some, None}
 use Rattle.rbc_command.specs.declared.sense.Sense.{Sense}
 use Rattle.rbc_disk.specs.declared.command.Need.TheVariants.{RunNow}
 use Rattle.rbc_disk.specs.Disk.{Disk}
 use Rattle.rbc_disk.specs.Units.{PlainDisk}
-use Rattle.rbc_disk.specs.Requests.{is_load, Passes, data_length, answer_length}
+use Rattle.rbc_disk.specs.Requests.{is_load, Passes, data_length}
 use Rattle.rbc_disk.specs.Checks.{request_check, tray_check}
 use Rattle.rbc_disk.specs.Runs.{need_at}
 use Rattle.rbc_disk.specs.declared.request.Request.{Request}

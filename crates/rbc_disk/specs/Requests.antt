@@ -1,5 +1,5 @@
 -- What a command block asks of a unit.
-use Rattle.std.specs.Prelude.{◌≡◌, ◌≤◌, ℕ, ◌+◌, ◌*◌, ◌==◌, ◌&&◌, ◌||◌, min, nat_lt, not, Bool, true, false, if◌then◌else◌, List, Option, Some, None, Result, Ok, Err}
+use Rattle.std.specs.Prelude.{◌≡◌, ◌≤◌, ℕ, ◌+◌, ◌*◌, ◌&&◌, ◌||◌, min, nat_lt, not, Bool, true, false, if◌then◌else◌, List, Option, Some, Result, Ok, Err}
 use Rattle.rbc_command.specs.Commands.{operation_in, command_of, moves_disc, starts}
 use Rattle.rbc_command.specs.declared.command.Command.{Command}
 use Rattle.rbc_command.specs.declared.command.Command.TheVariants as commands
