@@ -16,9 +16,9 @@ use Rattle.rbc_command.specs.declared.operation.Operation.TheVariants as operati
 use Rattle.rbc_disk.specs.Units.{UnitState, PlainDisk, plain_disk, new_unit, has_place, with_places, without_place}
 use Rattle.rbc_disk.specs.Requests.{request_of, plain_request, is_inquiry, is_start_stop, is_load, is_eject, needs_medium, is_outside, is_write}
 use Rattle.rbc_disk.specs.Checks.{check_if, is_empty, is_unfit, check_of, first_of, mark_check, told_marks, request_check, field_check}
-use Rattle.rbc_disk.specs.Runs.{MayEnd, failure_by, failure_of, is_attention, unit_ended}
+use Rattle.rbc_disk.specs.Runs.{MayEnd, failure_by, failure_of, is_attention, has_attention, unit_ended}
 use Rattle.rbc_disk.specs.Calls.Call.{Ran, Cleared, Changed}
-use Rattle.rbc_disk.specs.Calls.{after_calls, is_attention_of, minds_marks, MarkLaw, AttentionLaw}
+use Rattle.rbc_disk.specs.Calls.{after_calls, tells, owes_change, minds_marks, MarkLaw, AttentionLaw}
 use Rattle.rbc_disk.specs.declared.request.Request.{Request}
 use Rattle.rbc_disk.specs.declared.request.Request.TheVariants as requests
 use Rattle.rbc_disk.specs.declared.command.BufferPlan.{BufferPlan}
@@ -133,7 +133,7 @@ failure_by-calm (Ok (requests.Plain (commands.Verify lba count))) = failing_calm
 failure_by-calm (Ok (requests.Plain commands.Sync)) = refl
 
 -- a check that is no unit attention is none of a code
-calm_code : (code : ℕ) (ended : Option Sense) → is_attention ended ≡ false → is_attention_of code ended ≡ false
+calm_code : (code : ℕ) (ended : Option Sense) → is_attention ended ≡ false → tells code ended ≡ false
 calm_code code None h = refl
 calm_code code (Some check) h = ap (λ b. b && check.code == code) h
 
@@ -143,55 +143,87 @@ ends_calm (Some check) failure ended h k e = ap is_attention e ∙ h
 ends_calm None failure None h k e = refl
 ends_calm None failure (Some check) h k e = sym (ap is_attention e) ∙ k
 
--- by four words: an unknown operation, an INQUIRY, the mark of a reset, that of a changed medium
-told_by : (unknown inquiry reset changed : Bool) (others failure ended : Option Sense) → is_attention others ≡ false → is_attention failure ≡ false →
-    MayEnd (check_if unknown no_command (first_of (told_marks inquiry (mark_check reset changed)) others)) failure ended →
-    is_attention_of 0x29 ended ≡ (reset && (not unknown && not inquiry))
-told_by true inquiry true changed others failure ended h k e = calm_code 0x29 ended (ends_calm (Some no_command) failure ended refl k e)
-told_by true inquiry false changed others failure ended h k e = calm_code 0x29 ended (ends_calm (Some no_command) failure ended refl k e)
-told_by false true true changed others failure ended h k e = calm_code 0x29 ended (ends_calm others failure ended h k e)
-told_by false true false changed others failure ended h k e = calm_code 0x29 ended (ends_calm others failure ended h k e)
-told_by false false true changed others failure ended h k e = ap (is_attention_of 0x29) e
-told_by false false false true others failure ended h k e = ap (is_attention_of 0x29) e
-told_by false false false false others failure ended h k e = calm_code 0x29 ended (ends_calm others failure ended h k e)
+-- what is told, by four words: an unknown operation, an INQUIRY, the mark of a reset, that of a changed medium
+record Told (unknown inquiry reset changed : Bool) (ended : Option Sense) : Type 0 where
+  of_reset : tells 0x29 ended ≡ (reset && (not unknown && not inquiry))
+  of_change : tells 0x28 ended ≡ (changed && (not reset && (not unknown && not inquiry)))
 
--- one command is told of a reset exactly where its place is marked and it minds marks
-told_of_mark : (cdb : List ℕ) (buffer : BufferPlan) (plain : PlainDisk) (place : ℕ) (ended : Option Sense) →
+quiet : (unknown inquiry reset changed : Bool) (ended : Option Sense) → is_attention ended ≡ false →
+    (reset && (not unknown && not inquiry)) ≡ false → (changed && (not reset && (not unknown && not inquiry))) ≡ false → Told unknown inquiry reset changed ended
+quiet unknown inquiry reset changed ended calm r c =
+    record { of_reset = calm_code 0x29 ended calm ∙ sym r; of_change = calm_code 0x28 ended calm ∙ sym c }
+
+told_by : (unknown inquiry reset changed : Bool) (others failure ended : Option Sense) → is_attention others ≡ false → is_attention failure ≡ false →
+    MayEnd (check_if unknown no_command (first_of (told_marks inquiry (mark_check reset changed)) others)) failure ended → Told unknown inquiry reset changed ended
+told_by true inquiry true true others failure ended h k e = quiet true inquiry true true ended (ends_calm (Some no_command) failure ended refl k e) refl refl
+told_by true inquiry true false others failure ended h k e = quiet true inquiry true false ended (ends_calm (Some no_command) failure ended refl k e) refl refl
+told_by true inquiry false true others failure ended h k e = quiet true inquiry false true ended (ends_calm (Some no_command) failure ended refl k e) refl refl
+told_by true inquiry false false others failure ended h k e = quiet true inquiry false false ended (ends_calm (Some no_command) failure ended refl k e) refl refl
+told_by false true true true others failure ended h k e = quiet false true true true ended (ends_calm others failure ended h k e) refl refl
+told_by false true true false others failure ended h k e = quiet false true true false ended (ends_calm others failure ended h k e) refl refl
+told_by false true false true others failure ended h k e = quiet false true false true ended (ends_calm others failure ended h k e) refl refl
+told_by false true false false others failure ended h k e = quiet false true false false ended (ends_calm others failure ended h k e) refl refl
+told_by false false true true others failure ended h k e = record { of_reset = ap (tells 0x29) e; of_change = ap (tells 0x28) e }
+told_by false false true false others failure ended h k e = record { of_reset = ap (tells 0x29) e; of_change = ap (tells 0x28) e }
+told_by false false false true others failure ended h k e = record { of_reset = ap (tells 0x29) e; of_change = ap (tells 0x28) e }
+told_by false false false false others failure ended h k e = quiet false false false false ended (ends_calm others failure ended h k e) refl refl
+
+told_of_marks : (cdb : List ℕ) (buffer : BufferPlan) (plain : PlainDisk) (place : ℕ) (ended : Option Sense) →
     MayEnd (check_of cdb buffer plain place) (failure_of plain.medium.is_bay cdb) ended →
-    is_attention_of 0x29 ended ≡ (has_place plain.unit.reset place && minds_marks cdb)
+    Told (is_none (operation_in cdb)) (is_inquiry (operation_in cdb)) (has_place plain.unit.reset place) (has_place plain.unit.changed place) ended
 unfolding check_of
-told_of_mark cdb buffer plain place ended e =
+told_of_marks cdb buffer plain place ended e =
     told_by (is_none (operation_in cdb)) (is_inquiry (operation_in cdb)) (has_place plain.unit.reset place) (has_place plain.unit.changed place)
     (field_check (request_of plain.medium.is_bay cdb) buffer plain) (failure_of plain.medium.is_bay cdb) ended
     (field_check-calm plain.medium.is_bay cdb buffer plain) (failure_by-calm (request_of plain.medium.is_bay cdb)) e
 
--- what a run leaves of the marks of a reset
-reset_good : (request : Result Request Sense) (place : ℕ) (unit : UnitState) → (unit_ended request None place unit).reset ≡ unit.reset
-reset_good (Err refused) place unit = refl
-reset_good (Ok requests.Load) place unit = refl
-reset_good (Ok requests.Eject) place unit = refl
-reset_good (Ok (requests.Plain commands.TestReady)) place unit = refl
-reset_good (Ok (requests.Plain (commands.Inquiry allocation))) place unit = refl
-reset_good (Ok (requests.Plain (commands.StartStop start))) place unit = refl
-reset_good (Ok (requests.Plain (commands.Prevent on))) place unit = refl
-reset_good (Ok (requests.Plain commands.Capacity)) place unit = refl
-reset_good (Ok (requests.Plain (commands.Read lba count))) place unit = refl
-reset_good (Ok (requests.Plain (commands.Write lba count))) place unit = refl
-reset_good (Ok (requests.Plain (commands.Verify lba count))) place unit = refl
-reset_good (Ok (requests.Plain commands.Sync)) place unit = refl
+-- the marks that a run leaves
+record Left (ended : Option Sense) (asked : ℕ) (unit left : UnitState) : Type 0 where
+  of_reset : left.reset ≡ (if tells 0x29 ended then without_place unit.reset asked else unit.reset)
+  of_change : left.changed ≡ (if tells 0x28 ended then without_place unit.changed asked else unit.changed)
 
-reset_told : (b c : Bool) (asked : ℕ) (unit : UnitState) →
-    (if b then (if c then record unit { reset = without_place unit.reset asked } else record unit { changed = without_place unit.changed asked }) else unit).reset
-    ≡ (if b && c then without_place unit.reset asked else unit.reset)
-reset_told true true asked unit = refl
-reset_told true false asked unit = refl
-reset_told false c asked unit = refl
+left_good : (request : Result Request Sense) (asked : ℕ) (unit : UnitState) → Left None asked unit (unit_ended request None asked unit)
+left_good (Err refused) asked unit = record { of_reset = refl; of_change = refl }
+left_good (Ok requests.Load) asked unit = record { of_reset = refl; of_change = refl }
+left_good (Ok requests.Eject) asked unit = record { of_reset = refl; of_change = refl }
+left_good (Ok (requests.Plain commands.TestReady)) asked unit = record { of_reset = refl; of_change = refl }
+left_good (Ok (requests.Plain (commands.Inquiry allocation))) asked unit = record { of_reset = refl; of_change = refl }
+left_good (Ok (requests.Plain (commands.StartStop start))) asked unit = record { of_reset = refl; of_change = refl }
+left_good (Ok (requests.Plain (commands.Prevent on))) asked unit = record { of_reset = refl; of_change = refl }
+left_good (Ok (requests.Plain commands.Capacity)) asked unit = record { of_reset = refl; of_change = refl }
+left_good (Ok (requests.Plain (commands.Read lba count))) asked unit = record { of_reset = refl; of_change = refl }
+left_good (Ok (requests.Plain (commands.Write lba count))) asked unit = record { of_reset = refl; of_change = refl }
+left_good (Ok (requests.Plain (commands.Verify lba count))) asked unit = record { of_reset = refl; of_change = refl }
+left_good (Ok (requests.Plain commands.Sync)) asked unit = record { of_reset = refl; of_change = refl }
 
-reset_ended : (request : Result Request Sense) (ended : Option Sense) (asked : ℕ) (unit : UnitState) →
-    (unit_ended request ended asked unit).reset ≡ (if is_attention_of 0x29 ended then without_place unit.reset asked else unit.reset)
-reset_ended request None asked unit = reset_good request asked unit
-reset_ended (Ok request) (Some check) asked unit = reset_told (check.key == 6) (check.code == 0x29) asked unit
-reset_ended (Err refused) (Some check) asked unit = reset_told (check.key == 6) (check.code == 0x29) asked unit
+-- no check has two codes
+two_codes : (code : ℕ) (key : Bool) → (key && code == 0x29) ≡ true → (key && code == 0x28) ≡ false
+two_codes code true h = grind arith
+two_codes code false h = refl
+
+if_false : {A : Type 0} (b : Bool) (x y : A) → b ≡ false → y ≡ (if b then x else y)
+if_false true x y h = cc h
+if_false false x y h = refl
+
+left_by : (r c : Bool) (check : Sense) (asked : ℕ) (unit : UnitState) → has_attention 0x29 check ≡ r → has_attention 0x28 check ≡ c →
+    Left (Some check) asked unit (if r then record unit { reset = without_place unit.reset asked } else if c then record unit { changed = without_place unit.changed asked } else unit)
+left_by true c check asked unit r-is c-is = record {
+  of_reset = sym (ap (λ b. if b then without_place unit.reset asked else unit.reset) r-is);
+  of_change = if_false (has_attention 0x28 check) (without_place unit.changed asked) unit.changed (two_codes check.code (check.key == 6) r-is);
+}
+left_by false true check asked unit r-is c-is = record {
+  of_reset = sym (ap (λ b. if b then without_place unit.reset asked else unit.reset) r-is);
+  of_change = sym (ap (λ b. if b then without_place unit.changed asked else unit.changed) c-is);
+}
+left_by false false check asked unit r-is c-is = record {
+  of_reset = sym (ap (λ b. if b then without_place unit.reset asked else unit.reset) r-is);
+  of_change = sym (ap (λ b. if b then without_place unit.changed asked else unit.changed) c-is);
+}
+
+left_ended : (request : Result Request Sense) (ended : Option Sense) (asked : ℕ) (unit : UnitState) → Left ended asked unit (unit_ended request ended asked unit)
+left_ended request None asked unit = left_good request asked unit
+left_ended (Ok request) (Some check) asked unit = left_by (has_attention 0x29 check) (has_attention 0x28 check) check asked unit refl refl
+left_ended (Err refused) (Some check) asked unit = left_by (has_attention 0x29 check) (has_attention 0x28 check) check asked unit refl refl
 
 -- the set without a place, where it was told
 mark_told : (is_same : Bool) (places place asked : ℕ) → place < 8 → asked < 8 → (asked == place) ≡ is_same →
@@ -203,26 +235,47 @@ mark_told false places place asked h k e =
     let other : place ≢ asked = grind arith in
     has_place-without_other places place asked h k other ∙ sym (and-true (has_place places place))
 
-mark_ended : (told : Bool) (places place asked : ℕ) → place < 8 → asked < 8 →
-    has_place (if told then without_place places asked else places) place ≡ (has_place places place && not (asked == place && told))
-mark_ended true places place asked h k = mark_told (asked == place) places place asked h k refl ∙ ap (λ b. has_place places place && not b) (sym (and-true (asked == place)))
-mark_ended false places place asked h k = sym (ap (λ b. has_place places place && not b) (and-false (asked == place)) ∙ and-true (has_place places place))
+mark_ended : (told : Bool) (left places place asked : ℕ) → place < 8 → asked < 8 → left ≡ (if told then without_place places asked else places) →
+    has_place left place ≡ (has_place places place && not (asked == place && told))
+mark_ended true left places place asked h k e =
+    ap (λ n. has_place n place) e ∙ mark_told (asked == place) places place asked h k refl ∙ ap (λ b. has_place places place && not b) (sym (and-true (asked == place)))
+mark_ended false left places place asked h k e =
+    ap (λ n. has_place n place) e ∙ sym (ap (λ b. has_place places place && not b) (and-false (asked == place)) ∙ and-true (has_place places place))
+
+no_place : (place : ℕ) → has_place 0 place ≡ false
+no_place place = ap (λ n. n == 1) (bit_at-zero place)
 
 -- a place is marked exactly where it is owed
 pub marks_owed : MarkLaw
-marks_owed medium [] place h happened = ap (λ n. n == 1) (bit_at-zero place)
+marks_owed medium [] place h happened = record { reset = no_place place; changed = no_place place }
 marks_owed medium (Cleared logins ∷ calls) place h happened =
-    has_place-with_places (after_calls calls (plain_disk new_unit medium)).unit.reset logins place
-    ∙ ap (λ b. b || has_place logins place) (marks_owed medium calls place h happened.0)
-marks_owed medium (Changed logins ∷ calls) place h happened = marks_owed medium calls place h happened.0
+    let before = marks_owed medium calls place h happened.0 in
+    record {
+      reset = has_place-with_places (after_calls calls (plain_disk new_unit medium)).unit.reset logins place ∙ ap (λ b. b || has_place logins place) before.reset;
+      changed = before.changed;
+    }
+marks_owed medium (Changed logins ∷ calls) place h happened =
+    let before = marks_owed medium calls place h happened.0 in
+    record {
+      reset = before.reset;
+      changed = has_place-with_places (after_calls calls (plain_disk new_unit medium)).unit.changed logins place ∙ ap (λ b. b || has_place logins place) before.changed;
+    }
 marks_owed medium (Ran cdb buffer asked payload ended ∷ calls) place h happened =
+    let before = marks_owed medium calls place h happened.0 in
     let plain = after_calls calls (plain_disk new_unit medium) in
-    ap (λ places. has_place places place) (reset_ended (request_of plain.medium.is_bay cdb) ended asked plain.unit)
-    ∙ mark_ended (is_attention_of 0x29 ended) plain.unit.reset place asked h happened.1.0
-    ∙ ap (λ b. b && not (asked == place && is_attention_of 0x29 ended)) (marks_owed medium calls place h happened.0)
+    let left = left_ended (request_of plain.medium.is_bay cdb) ended asked plain.unit in
+    record {
+      reset = mark_ended (tells 0x29 ended) _ plain.unit.reset place asked h happened.1.0 left.of_reset ∙ ap (λ b. b && not (asked == place && tells 0x29 ended)) before.reset;
+      changed = mark_ended (tells 0x28 ended) _ plain.unit.changed place asked h happened.1.0 left.of_change ∙ ap (λ b. b && not (asked == place && tells 0x28 ended)) before.changed;
+    }
 
--- a command is told of a reset exactly where it minds marks and its place is owed it
+-- a command is told exactly what its place is owed
 pub attention_owed : AttentionLaw
 attention_owed medium calls cdb buffer place payload ended happened =
-    told_of_mark cdb buffer (after_calls calls (plain_disk new_unit medium)) place ended happened.1.1
-    ∙ ap (λ b. b && minds_marks cdb) (marks_owed medium calls place happened.1.0 happened.0)
+    let before = marks_owed medium calls place happened.1.0 happened.0 in
+    let told = told_of_marks cdb buffer (after_calls calls (plain_disk new_unit medium)) place ended happened.1.1 in
+    record {
+      reset = told.of_reset ∙ ap (λ b. b && minds_marks cdb) before.reset;
+      changed = told.of_change ∙ ap (λ b. b && (not (has_place (after_calls calls (plain_disk new_unit medium)).unit.reset place) && minds_marks cdb)) before.changed
+          ∙ ap (λ b. owes_change place calls && (not b && minds_marks cdb)) before.reset;
+    }

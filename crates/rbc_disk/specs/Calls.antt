@@ -6,7 +6,7 @@ use Rattle.rbc_disk.specs.Disk.{Disk}
 use Rattle.rbc_disk.specs.Units.{PlainDisk, plain_disk, new_unit, has_place, cleared, changed_for}
 use Rattle.rbc_disk.specs.Requests.{is_inquiry}
 use Rattle.rbc_disk.specs.Checks.{check_of}
-use Rattle.rbc_disk.specs.Runs.{MayEnd, failure_of, after_run}
+use Rattle.rbc_disk.specs.Runs.{MayEnd, failure_of, after_run, has_attention}
 use Rattle.rbc_disk.specs.declared.command.BufferPlan.{BufferPlan}
 
 -- a command block of a login's place ran and ended, with a check or with none; a unit reset, or a changed medium, with the places of the logins that it names
@@ -34,30 +34,42 @@ abbrev pub Happened : List Call → PlainDisk → Type 0
 Happened [] start = Unit {0}
 Happened (call ∷ calls) start = Happened calls start × MayHappen call (after_calls calls start)
 
--- a command of this place ended with a unit attention of this code
-abbrev pub is_attention_of : ℕ → Option Sense → Bool
-is_attention_of code None = false
-is_attention_of code (Some check) = check.key == 6 && check.code == code
+-- a command ended with the unit attention of this code
+abbrev pub tells : ℕ → Option Sense → Bool
+tells code None = false
+tells code (Some check) = has_attention code check
 
 -- a reset named the place, and no command of the place was told of it since
 abbrev pub owes_reset : ℕ → List Call → Bool
 owes_reset place [] = false
 owes_reset place (Cleared logins ∷ calls) = owes_reset place calls || has_place logins place
 owes_reset place (Changed logins ∷ calls) = owes_reset place calls
-owes_reset place (Ran cdb buffer asked payload ended ∷ calls) =
-    owes_reset place calls && not (asked == place && is_attention_of 0x29 ended)
+owes_reset place (Ran cdb buffer asked payload ended ∷ calls) = owes_reset place calls && not (asked == place && tells 0x29 ended)
 
--- the commands that are told of a reset: those of the table but INQUIRY
+-- a changed medium named the place, and no command of the place was told of it since
+abbrev pub owes_change : ℕ → List Call → Bool
+owes_change place [] = false
+owes_change place (Cleared logins ∷ calls) = owes_change place calls
+owes_change place (Changed logins ∷ calls) = owes_change place calls || has_place logins place
+owes_change place (Ran cdb buffer asked payload ended ∷ calls) = owes_change place calls && not (asked == place && tells 0x28 ended)
+
+-- the commands that are told of marks: those of the table but INQUIRY
 abbrev pub minds_marks : List ℕ → Bool
 minds_marks cdb = not (is_none (operation_in cdb)) && not (is_inquiry (operation_in cdb))
 
--- A place is marked exactly where a reset named it and no command of it was told since.
-abbrev pub MarkLaw : Type 0
-MarkLaw = (medium : Disk) (calls : List Call) (place : ℕ) → place < 8 → Happened calls (plain_disk new_unit medium) →
-    has_place (after_calls calls (plain_disk new_unit medium)).unit.reset place ≡ owes_reset place calls
+-- A place is marked exactly where it is owed to be told.
+pub record MarksOwed (calls : List Call) (medium : Disk) (place : ℕ) : Type 0 where
+  pub reset : has_place (after_calls calls (plain_disk new_unit medium)).unit.reset place ≡ owes_reset place calls
+  pub changed : has_place (after_calls calls (plain_disk new_unit medium)).unit.changed place ≡ owes_change place calls
 
--- A command is told of a reset exactly where it minds marks, a reset named its place, and no command of its place was told since.
+abbrev pub MarkLaw : Type 0
+MarkLaw = (medium : Disk) (calls : List Call) (place : ℕ) → place < 8 → Happened calls (plain_disk new_unit medium) → MarksOwed calls medium place
+
+-- A command that minds marks is told of a reset exactly where its place is owed that, and of a changed medium exactly where its place is owed that and no reset; another command is told of neither.
+pub record ToldAsOwed (calls : List Call) (cdb : List ℕ) (place : ℕ) (ended : Option Sense) : Type 0 where
+  pub reset : tells 0x29 ended ≡ (owes_reset place calls && minds_marks cdb)
+  pub changed : tells 0x28 ended ≡ (owes_change place calls && (not (owes_reset place calls) && minds_marks cdb))
+
 abbrev pub AttentionLaw : Type 0
 AttentionLaw = (medium : Disk) (calls : List Call) (cdb : List ℕ) (buffer : BufferPlan) (place : ℕ) (payload : List ℕ) (ended : Option Sense) →
-    Happened (Ran cdb buffer place payload ended ∷ calls) (plain_disk new_unit medium) →
-    is_attention_of 0x29 ended ≡ (owes_reset place calls && minds_marks cdb)
+    Happened (Ran cdb buffer place payload ended ∷ calls) (plain_disk new_unit medium) → ToldAsOwed calls cdb place ended

@@ -1,5 +1,5 @@
 -- A command runs on a unit: what it needs, how it may end, its answer, and what it leaves.
-use Rattle.std.specs.Prelude.{◌≡◌, ℕ, ◌≤◌, ◌-◌, ◌==◌, Bool, true, false, if◌then◌else◌, List, [], ◌∷◌, ◌++◌, length, take, codes, Option, Some, None, Result, Ok, Err}
+use Rattle.std.specs.Prelude.{◌≡◌, ℕ, ◌≤◌, ◌-◌, ◌==◌, ◌&&◌, Bool, true, false, if◌then◌else◌, List, [], ◌∷◌, ◌++◌, length, take, codes, Option, Some, None, Result, Ok, Err}
 use Rattle.std.specs.Option.{option_map}
 use Rattle.sbp_base.specs.Faults.{Rose}
 use Rattle.byteorder.specs.Endian.{big_bytes}
@@ -133,11 +133,15 @@ unit_after_good requests.Load unit = record unit { is_started = true }
 unit_after_good requests.Eject unit = record unit { is_started = false }
 unit_after_good _ unit = unit
 
+-- a check is the unit attention of this code
+abbrev pub has_attention : ℕ → Sense → Bool
+has_attention code check = check.key == 6 && check.code == code
+
 -- a unit attention that was told is told no more
 abbrev pub unit_after_check : Sense → ℕ → UnitState → UnitState
 unit_after_check check place unit =
-    if check.key == 6
-    then (if check.code == 0x29 then record unit { reset = without_place unit.reset place } else record unit { changed = without_place unit.changed place })
+    if has_attention 0x29 check then record unit { reset = without_place unit.reset place }
+    else if has_attention 0x28 check then record unit { changed = without_place unit.changed place }
     else unit
 
 -- what a run leaves of the unit, by the check with which it ended

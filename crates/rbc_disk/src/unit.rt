@@ -208,12 +208,10 @@ impl Unit {
         requires { login < 8 }
         ensures { self.new ≡ unit_after_check check login self.old }
     {
-        if check.key == 6 {
-            if check.code == 0x29 {
-                self.reset = without_place(self.reset, login);
-            } else {
-                self.changed = without_place(self.changed, login);
-            }
+        if check.key == 6 && check.code == 0x29 {
+            self.reset = without_place(self.reset, login);
+        } else if check.key == 6 && check.code == 0x28 {
+            self.changed = without_place(self.changed, login);
         }
     }
 
