@@ -14,8 +14,8 @@ use Rattle.rbc_command.specs.declared.command.Command.TheVariants as commands
 use Rattle.rbc_command.specs.declared.operation.Operation.{Operation}
 use Rattle.rbc_command.specs.declared.operation.Operation.TheVariants as operations
 use Rattle.rbc_disk.specs.Units.{UnitState, PlainDisk, plain_disk, new_unit, has_place, with_places, without_place}
-use Rattle.rbc_disk.specs.Requests.{request_of, plain_request, is_inquiry, is_start_stop, is_load, is_eject, needs_medium, is_outside, is_write}
-use Rattle.rbc_disk.specs.Checks.{check_if, is_empty, is_unfit, check_of, first_of, mark_check, told_marks, request_check, field_check}
+use Rattle.rbc_disk.specs.Requests.{request_of, plain_request, is_inquiry, is_start_stop, is_load, is_eject, needs_medium, is_outside, is_write, is_unfit}
+use Rattle.rbc_disk.specs.Checks.{check_if, is_empty, check_of, first_of, mark_check, told_marks, request_check, field_check}
 use Rattle.rbc_disk.specs.Runs.{MayEnd, failure_by, failure_of, is_attention, has_attention, unit_ended}
 use Rattle.rbc_disk.specs.Calls.Call.{Ran, Cleared, Changed}
 use Rattle.rbc_disk.specs.Calls.{after_calls, tells, owes_change, minds_marks, MarkLaw, AttentionLaw}

@@ -1,11 +1,11 @@
 -- Which check ends a command on a unit (RBC; SPC for unit attention): the first that holds.
-use Rattle.std.specs.Prelude.{ℕ, ◌==◌, ◌&&◌, ◌||◌, nat_lt, not, Bool, true, false, List, [], ◌∷◌, Option, Some, None, is_none, Result, Ok, Err}
+use Rattle.std.specs.Prelude.{ℕ, ◌&&◌, not, Bool, true, false, List, [], ◌∷◌, Option, Some, None, is_none, Result, Ok, Err}
 use Rattle.rbc_command.specs.Commands.{operation_in}
 use Rattle.rbc_command.specs.SenseData.{sense, no_command, bad_field}
 use Rattle.rbc_command.specs.declared.sense.Sense.{Sense}
 use Rattle.rbc_disk.specs.Disk.{Disk, Disc}
 use Rattle.rbc_disk.specs.Units.{PlainDisk, has_place}
-use Rattle.rbc_disk.specs.Requests.{request_of, is_inquiry, is_load, is_eject, needs_medium, is_outside, is_write, data_length, answer_length}
+use Rattle.rbc_disk.specs.Requests.{request_of, is_inquiry, is_load, is_eject, needs_medium, is_outside, is_write, is_unfit}
 use Rattle.rbc_disk.specs.declared.request.Request.{Request}
 use Rattle.rbc_disk.specs.declared.command.BufferPlan.{BufferPlan}
 
@@ -17,12 +17,6 @@ check_if false check others = others
 abbrev pub is_empty : List Disc → Bool
 is_empty [] = true
 is_empty (disc ∷ shelf) = false
-
--- there are data or an answer, and the buffer is shorter or has the other direction
-abbrev pub is_unfit : Request → BufferPlan → Bool
-is_unfit request buffer =
-    (not (data_length request == 0) && (nat_lt buffer.bytes (data_length request) || buffer.to_initiator))
-    || (not (answer_length request == 0) && (nat_lt buffer.bytes (answer_length request) || not buffer.to_initiator))
 
 -- a load into an empty tray from an empty shelf
 abbrev pub tray_check : Request → Disk → Option Sense

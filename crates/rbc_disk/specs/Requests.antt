@@ -1,5 +1,5 @@
 -- What a command block asks of a unit.
-use Rattle.std.specs.Prelude.{◌≡◌, ◌≤◌, ℕ, ◌+◌, ◌*◌, ◌&&◌, ◌||◌, min, nat_lt, not, Bool, true, false, if◌then◌else◌, List, Option, Some, Result, Ok, Err}
+use Rattle.std.specs.Prelude.{◌≡◌, ◌≤◌, ℕ, ◌+◌, ◌*◌, ◌==◌, ◌&&◌, ◌||◌, min, nat_lt, not, Bool, true, false, if◌then◌else◌, List, Option, Some, Result, Ok, Err}
 use Rattle.rbc_command.specs.Commands.{operation_in, command_of, moves_disc, starts}
 use Rattle.rbc_command.specs.declared.command.Command.{Command}
 use Rattle.rbc_command.specs.declared.command.Command.TheVariants as commands
@@ -7,6 +7,7 @@ use Rattle.rbc_command.specs.declared.operation.Operation.{Operation}
 use Rattle.rbc_command.specs.declared.operation.Operation.TheVariants as operations
 use Rattle.rbc_command.specs.declared.sense.Sense.{Sense}
 use Rattle.rbc_disk.specs.Disk.{Disk}
+use Rattle.rbc_disk.specs.declared.command.BufferPlan.{BufferPlan}
 use Rattle.rbc_disk.specs.declared.request.Request.{Request}
 use Rattle.rbc_disk.specs.declared.request.Request.TheVariants as requests
 
@@ -73,6 +74,12 @@ answer_length (requests.Plain (commands.Inquiry allocation)) = min allocation 36
 answer_length (requests.Plain commands.Capacity) = 8
 answer_length (requests.Plain (commands.Read lba count)) = 512 * count
 answer_length _ = 0
+
+-- there are data or an answer, and the buffer is shorter or has the other direction
+abbrev pub is_unfit : Request → BufferPlan → Bool
+is_unfit request buffer =
+    (not (data_length request == 0) && (nat_lt buffer.bytes (data_length request) || buffer.to_initiator))
+    || (not (answer_length request == 0) && (nat_lt buffer.bytes (answer_length request) || not buffer.to_initiator))
 
 -- what is known of a request that passes its checks
 pub record Passes (request : Request) (medium : Disk) : Type 0 where

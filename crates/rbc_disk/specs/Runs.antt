@@ -1,5 +1,5 @@
 -- A command runs on a unit: what it needs, how it may end, its answer, and what it leaves.
-use Rattle.std.specs.Prelude.{◌≡◌, ℕ, ◌≤◌, ◌-◌, ◌==◌, ◌&&◌, Bool, true, false, if◌then◌else◌, List, [], ◌∷◌, ◌++◌, length, take, codes, Option, Some, None, Result, Ok, Err}
+use Rattle.std.specs.Prelude.{◌≡◌, ℕ, ◌<◌, ◌≤◌, ◌-◌, ◌==◌, ◌&&◌, Bool, true, false, if◌then◌else◌, List, [], ◌∷◌, ◌++◌, length, take, codes, Option, Some, None, Result, Ok, Err}
 use Rattle.std.specs.Option.{option_map}
 use Rattle.sbp_base.specs.Faults.{Rose}
 use Rattle.byteorder.specs.Endian.{big_bytes}
@@ -37,6 +37,23 @@ need_at None len = if len == 0 then RunNow else Payload len
 
 abbrev pub need_of : List ℕ → BufferPlan → PlainDisk → ℕ → Need
 need_of cdb buffer plain place = need_at (check_of cdb buffer plain place) (data_length_of plain.medium.is_bay cdb)
+
+-- the data that are needed are 1 to 16,384 bytes, and the buffer holds them and goes to the target
+pub record IsSent (len : ℕ) (buffer : BufferPlan) : Type 0 where
+  pub some : 0 < len
+  pub few : len ≤ 16384
+  pub within : len ≤ buffer.bytes
+  pub outward : buffer.to_initiator ≡ false
+
+abbrev pub NeedFits : Need → BufferPlan → Type 0
+NeedFits RunNow buffer = Unit {0}
+NeedFits (Payload len) buffer = IsSent len buffer
+
+-- an answer has at most 16,384 bytes; where it has any, the buffer holds them and goes to the initiator
+pub record AnswerFits (len : ℕ) (buffer : BufferPlan) : Type 0 where
+  pub few : len ≤ 16384
+  pub within : 0 < len → len ≤ buffer.bytes
+  pub inward : 0 < len → buffer.to_initiator ≡ true
 
 -- the payload is what the command needs
 abbrev pub Feeds : Need → List ℕ → Type 0

@@ -1,7 +1,6 @@
 ghost use Rattle.std.specs.Prelude.{true, false, Some, IfErr, ◌≡◌, ◌≤◌, ◌^◌, ◌<◌, IfOk};
 ghost use Rattle.rbc_command.specs.Commands.{operation_of};
-ghost use Rattle.rbc_disk.specs.Requests.{request_of, is_start_stop, is_load, is_eject, needs_medium, is_outside, is_past, is_write, data_length, answer_length};
-ghost use Rattle.rbc_disk.specs.Checks.{is_unfit};
+ghost use Rattle.rbc_disk.specs.Requests.{request_of, is_start_stop, is_load, is_eject, needs_medium, is_outside, is_past, is_write, is_unfit, data_length, answer_length};
 ghost use Rattle.rbc_disk.specs.Runs.{is_failure};
 
 use crate::command::{BLOCK, BufferPlan};

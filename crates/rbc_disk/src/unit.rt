@@ -1,7 +1,7 @@
 ghost use Rattle.std.specs.Prelude.{◌≡◌, ℕ, ◌*◌, ◌≤◌, ◌<◌, ◌^◌, length, take, None, Some, IfSome, IfNone, IfOk, IfErr, true, false, Ok};
 ghost use Rattle.rbc_disk.specs.Units.{new_unit, cleared, changed_for, plain_disk, has_place, without_place};
-ghost use Rattle.rbc_disk.specs.Requests.{is_inquiry, data_length};
-ghost use Rattle.rbc_disk.specs.Runs.{need_at};
+ghost use Rattle.rbc_disk.specs.Requests.{is_inquiry, data_length, is_unfit};
+ghost use Rattle.rbc_disk.specs.Runs.{need_at, NeedFits};
 
 use crate::command::{BufferPlan, Need, Outcome};
 use crate::medium::Medium;
@@ -36,7 +36,7 @@ impl Model for Unit {
 impl Unit {
     ghost use Rattle.rbc_disk.specs.Requests.{request_of, is_inquiry, is_load, Passes, data_length, answer_length};
     ghost use Rattle.rbc_disk.specs.Checks.{check_of, tray_check, mark_check, told_marks, request_check};
-    ghost use Rattle.rbc_disk.specs.Runs.{need_of, Feeds, MayEnd, failure_of, check_in, HasFailed, is_failure, answered_length, answer_length_of, answer_of, medium_after, unit_after, unit_ended, unit_after_check, is_attention};
+    ghost use Rattle.rbc_disk.specs.Runs.{need_of, NeedFits, AnswerFits, Feeds, MayEnd, failure_of, check_in, HasFailed, is_failure, answered_length, answer_length_of, answer_of, medium_after, unit_after, unit_ended, unit_after_check, is_attention};
 
     /// A unit that is started, not prevented and has no mark.
     pub fn new() -> Unit
@@ -54,10 +54,11 @@ impl Unit {
     /// block or more that passes every check. `login` is the place of the login.
     pub fn needs(&self, medium: &dyn Medium, login: u8, cdb: &[u8; 12], buffer: BufferPlan) -> Need
         requires { login < 8 }
-        ensures { result ≡ need_of cdb.now buffer (plain_disk self.now (disk medium.now)) login }
+        ensures need { result ≡ need_of cdb.now buffer (plain_disk self.now (disk medium.now)) login }
+        ensures fits { NeedFits result buffer }
     {
         match self.admit(medium, login, cdb, buffer) {
-            Ok(request) => data_need(request),
+            Ok(request) => data_need(request, buffer),
             Err(_) => Need::RunNow,
         }
     }
@@ -65,6 +66,7 @@ impl Unit {
     /// Runs a command of a login on a medium: the first check that holds is its outcome; where none
     /// does, it is good, with its answer at the front of `answer`, or has the check of the medium
     /// call that failed. `payload` is the data that [`Unit::needs`] asks for.
+    #[tactic(auto, using(crate::proofs::CheckLemmas::answer_fits))]
     pub fn run(
         &mut self,
         medium: &mut dyn Medium,
@@ -80,7 +82,7 @@ impl Unit {
         ensures ended { MayEnd (check_of cdb.now buffer (plain_disk self.old (disk medium.old)) login) (failure_of (disk medium.old).is_bay cdb.now) (check_in result) }
         ensures cause { HasFailed (check_in result) (media_faults medium.old) (media_faults medium.new) }
         ensures len { check_in result ≡ None → answered_length result ≡ answer_length_of (disk medium.old).is_bay cdb.now }
-        ensures room { answered_length result ≤ 16384 }
+        ensures fits { AnswerFits (answered_length result) buffer }
         ensures answered { check_in result ≡ None → IfSome (answer_of cdb.now (disk medium.old)) (λ told. take (answered_length result) answer.new ≡ told) }
         ensures medium { disk medium.new ≡ medium_after cdb.now payload.now (check_in result) (disk medium.old) }
         ensures unit { self.new ≡ unit_after cdb.now (check_in result) login (disk medium.old).is_bay self.old }
@@ -131,6 +133,7 @@ impl Unit {
         ensures admitted { IfOk result (λ request. check_of cdb.now buffer (plain_disk self.now (disk medium.now)) login ≡ tray_check request (disk medium.now)) }
         ensures request { IfOk result (λ request. request_of (disk medium.now).is_bay cdb.now ≡ Ok request) }
         ensures passes { IfOk result (λ request. Passes request (disk medium.now)) }
+        ensures fit { IfOk result (λ request. is_unfit request buffer ≡ false) }
     {
         let Some(operation) = Operation::of(cdb[0]) else {
             return Err(Sense::NO_COMMAND);
@@ -181,6 +184,7 @@ impl Unit {
         ensures first { result ≡ request_check request buffer (plain_disk self.now (disk medium.now)) }
         ensures no_fault { IfSome result (λ check. is_failure (Some check) ≡ false) }
         ensures passes { IfNone result (Passes request (disk medium.now)) }
+        ensures fit { IfNone result (is_unfit request buffer ≡ false) }
     {
         if request.is_eject() && self.is_prevented {
             return Some(Sense::REMOVAL_PREVENTED);
@@ -241,9 +245,12 @@ fn is_inquiry(operation: Operation) -> bool
 }
 
 /// The data that an admitted request needs.
-fn data_need(request: Request) -> Need
-    requires { data_length request ≤ 16384 }
-    ensures { result ≡ need_at None (data_length request) }
+#[tactic(auto, using(crate::proofs::CheckLemmas::sent_data))]
+fn data_need(request: Request, buffer: BufferPlan) -> Need
+    requires few { data_length request ≤ 16384 }
+    requires fit { is_unfit request buffer ≡ false }
+    ensures need { result ≡ need_at None (data_length request) }
+    ensures fits { NeedFits result buffer }
 {
     match request.data_length() {
         0 => Need::RunNow,
