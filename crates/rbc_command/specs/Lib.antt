@@ -1,1 +1,2 @@
 pub mod SenseData
+pub mod Commands

@@ -35,6 +35,34 @@ impl Sense {
         qualifier: 0x00,
     };
 
+    /// The unit is not started: 2/04/02.
+    pub const NOT_STARTED: Sense = Sense {
+        key: 0x2,
+        code: 0x04,
+        qualifier: 0x02,
+    };
+
+    /// Unit attention, the unit was reset: 6/29/00.
+    pub const WAS_RESET: Sense = Sense {
+        key: 0x6,
+        code: 0x29,
+        qualifier: 0x00,
+    };
+
+    /// Unit attention, the medium may have changed: 6/28/00.
+    pub const MEDIUM_CHANGED: Sense = Sense {
+        key: 0x6,
+        code: 0x28,
+        qualifier: 0x00,
+    };
+
+    /// The removal of the medium is prevented: 5/53/02.
+    pub const REMOVAL_PREVENTED: Sense = Sense {
+        key: 0x5,
+        code: 0x53,
+        qualifier: 0x02,
+    };
+
     /// The medium is protected: 7/27/00.
     pub const PROTECTED: Sense = Sense {
         key: 0x7,
@@ -42,7 +70,7 @@ impl Sense {
         qualifier: 0x00,
     };
 
-    /// The medium's read failed: 3/11/00.
+    /// The medium's read or verify failed: 3/11/00.
     pub const READ_FAILED: Sense = Sense {
         key: 0x3,
         code: 0x11,

@@ -1,2 +1,5 @@
 pub mod MediaLists
 pub mod PlainDiskLemmas
+pub mod CheckLemmas
+pub mod AnswerLemmas
+pub mod AttentionLemmas

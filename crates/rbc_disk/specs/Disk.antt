@@ -1,6 +1,7 @@
 -- What a medium holds.
 use Rattle.std.specs.Prelude.{◌≡◌, ℕ, ◌+◌, ◌*◌, ◌%◌, ◌≤◌, ◌&&◌, Bool, true, false, not, IfSome, if◌then◌else◌, List, [], ◌∷◌, ◌++◌, length, take, drop, replicate, slice_index_or, Option, Some}
 use Rattle.std.specs.Option.{option_map}
+use Rattle.sbp_base.specs.Failing.{Plan}
 
 -- a disc on a shelf: its bytes, where it tells them, and whether it is protected
 pub record Disc : Type 0 where
@@ -85,6 +86,19 @@ blank_disk blocks fill = record {
   is_bay = false;
   shelf = [];
 }
+
+-- the same, but protected
+abbrev pub protected : Disk → Disk
+protected disk = record disk { is_protected = true }
+
+-- the same, but not present
+abbrev pub absent : Disk → Disk
+absent disk = record disk { is_present = false }
+
+-- a medium some of whose calls fail: what it holds, and which of its calls fail
+pub record FaultyDisk : Type 0 where
+  pub held : Disk
+  pub plan : Plan
 
 -- what stands for a medium where there is none
 abbrev pub no_disk : Disk

@@ -1,0 +1,2 @@
+pub mod TrayLemmas
+pub mod BlockLemmas
