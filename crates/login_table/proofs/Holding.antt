@@ -1,13 +1,13 @@
 -- A held login stays until its seconds are over.
-use Rattle.std.specs.Prelude.{◌≡◌, ◌≢◌, ℕ, ◌+◌, ◌-◌, ◌<◌, ◌≤◌, Bool, true, false, List, [], ◌∷◌, length, map, position, is_none, Option, Some, None, Result, Ok, Err, refl}
-use Rattle.std.proofs.Common.{arith, get_or, set, ap, sym, ◌∙◌, subst}
+use Rattle.std.specs.Prelude.{◌≡◌, ◌≢◌, ℕ, ◌+◌, ◌-◌, ◌≤◌, Bool, true, false, List, [], ◌∷◌, position, is_none, Option, Some, None, refl}
+use Rattle.std.proofs.Common.{arith, set, ap, sym, ◌∙◌, subst}
 use Rattle.std.proofs.Math.ListN.{get_or-map}
 use Rattle.std.proofs.lemmas.List.{get_or-set_other}
 use Rattle.login_table.specs.declared.login.Login.{Login}
 use Rattle.login_table.specs.declared.login.Asked.{Asked}
-use Rattle.login_table.specs.Table.{Table, place_at, find, is_live, is_denied, is_old, left_for, without, id_at, enter_at, enter_step, is_held, revived, is_barred, back_to, back_at, back_step, is_live_of, leave_at, leave_step, held, hold_step, is_last, one_less, ticked, tick_step}
-use Rattle.login_table.specs.Laws.{Call, enter, back, leave, hold, tick, after, all_after, Stands, HeldLaw, ticks_of, ticks, Leaves, LeaveAll}
-use Rattle.login_table.proofs.Searching.{Found, found, found_empty}
+use Rattle.login_table.specs.Table.{Table, place_at, find, is_live, is_denied, is_old, left_for, without, enter_at, enter_step, is_held, revived, is_barred, back_to, back_at, back_step, is_live_of, leave_at, leave_step, held, hold_step, ticked}
+use Rattle.login_table.specs.Laws.{Call, enter, back, leave, hold, tick, after, all_after, Stands, HeldLaw, ticks_of, ticks, Leaves}
+use Rattle.login_table.proofs.Searching.{found, found_empty}
 
 -- the login with so many seconds left
 abbrev waiting : Login → ℕ → Login

@@ -1,17 +1,15 @@
 -- Each call keeps what holds between the logins.
-use Rattle.std.specs.Prelude.{◌≡◌, ◌≢◌, ℕ, ◌<◌, ◌≤◌, ◌||◌, nat_eq, not, Bool, true, false, List, [], ◌∷◌, length, replicate, map, position, is_none, Option, Some, None, refl}
-use Rattle.std.proofs.Common.{arith, get_or, set, ap, sym, ◌∙◌, subst}
-use Rattle.std.proofs.Math.ListN.{length-set}
-use Rattle.std.proofs.lemmas.Grind.{common_steps}
+use Rattle.std.specs.Prelude.{◌≡◌, ◌≢◌, ℕ, ◌<◌, ◌≤◌, nat_eq, Bool, true, false, List, [], ◌∷◌, length, map, position, is_none, Option, Some, None, refl}
+use Rattle.std.proofs.Common.{arith, set, ap, sym, ◌∙◌}
 use Rattle.std.proofs.Math.ListN.{get_or-map}
 use Rattle.std.proofs.lemmas.List.{length-map}
 use Rattle.login_table.specs.declared.login.Login.{Login}
 use Rattle.login_table.specs.declared.login.Asked.{Asked}
-use Rattle.login_table.specs.Table.{Table, new_table, place_at, is_live, any_login, find, is_used, next_id, fresh_id, is_of_node, is_double, excludes, is_denied, is_old, without, left_for, entered, enter_at, id_at, enter_step, is_held, revived, is_barred, back_to, back_at, back_step, is_live_of, leave_at, leave_step, held, hold_step, is_last, one_less, ticked, tick_step}
-use Rattle.login_table.specs.Laws.{Call, enter, back, leave, hold, tick, after, made_by, IsNumbered}
-use Rattle.login_table.proofs.Searching.{within, fails, not_found, Found, found, found_empty}
-use Rattle.login_table.proofs.Counting.{logins, fresh_free, fresh_within, next_in, one_empty}
-use Rattle.login_table.proofs.Sound.{Apart, IsSound, new_sound, stood, stood_elsewhere, taken_out, Fits, put_in, Came, CameFrom, all_came}
+use Rattle.login_table.specs.Table.{Table, place_at, is_live, any_login, find, is_used, next_id, fresh_id, is_of_node, is_double, excludes, is_denied, is_old, without, left_for, entered, enter_at, id_at, enter_step, revived, is_barred, back_to, back_at, back_step, leave_at, leave_step, held, hold_step, one_less, ticked, tick_step}
+use Rattle.login_table.specs.Laws.{Call, enter, back, leave, hold, tick, after, made_by}
+use Rattle.login_table.proofs.Searching.{within, fails, not_found, found, found_empty}
+use Rattle.login_table.proofs.Counting.{fresh_free, fresh_within, next_in, one_empty}
+use Rattle.login_table.proofs.Sound.{Apart, IsSound, new_sound, stood, stood_elsewhere, taken_out, Fits, put_in, CameFrom, all_came}
 
 pub record IsTable (table : Table) : Type 0 where
   pub last : table.last ≤ 65535
@@ -84,9 +82,9 @@ fits_new table asked k t d p =
       below = p.0;
       numbered = record { own = refl; below = let z = s.size in omega arith; least = w.0; most = w.1 };
       apart = λ j b e f.
-        let st = left_stood asked table.places j b f in
-        apart_new asked b k (fresh_id 8 (next_id table.last) left) (fails (is_double asked) table.places j b st no_double) (fails (excludes asked) table.places j b st no_other) (no_old asked table.places j b t.sound f)
-        (id_apart (fresh_id 8 (next_id table.last) left) b (fails (λ login. nat_eq login.login (fresh_id 8 (next_id table.last) left)) left j b f u));
+          let st = left_stood asked table.places j b f in
+          apart_new asked b k (fresh_id 8 (next_id table.last) left) (fails (is_double asked) table.places j b st no_double) (fails (excludes asked) table.places j b st no_other) (no_old asked table.places j b t.sound f)
+          (id_apart (fresh_id 8 (next_id table.last) left) b (fails (λ login. nat_eq login.login (fresh_id 8 (next_id table.last) left)) left j b f u));
     }
 
 enter_at_kept : (place : Option ℕ) (table : Table) (asked : Asked) → IsTable table → is_denied asked table.places ≡ false → position is_none (left_for asked table.places) ≡ place

@@ -1,17 +1,14 @@
 -- The laws over every list of calls.
-use Rattle.std.specs.Prelude.{◌≡◌, ◌≢◌, ℕ, ◌+◌, ◌-◌, ◌<◌, ◌≤◌, Bool, true, false, List, [], ◌∷◌, length, map, position, is_none, Option, Some, None, Result, Ok, Err, refl}
-use Rattle.std.proofs.Common.{arith, get_or, set, ap, sym, ◌∙◌, subst}
-use Rattle.std.proofs.Math.ListN.{get_or-map}
-use Rattle.std.proofs.lemmas.List.{get_or-set_other}
+use Rattle.std.specs.Prelude.{◌≡◌, ◌≢◌, ℕ, Bool, true, false, List, [], ◌∷◌, position, is_none, Option, Some, None, Ok, Err, refl}
+use Rattle.std.proofs.Common.{arith, ap, sym, ◌∙◌, subst}
 use Rattle.login_table.specs.declared.login.Login.{Login}
 use Rattle.login_table.specs.declared.login.Asked.{Asked}
 use Rattle.login_table.specs.declared.login.Entered.{Entered}
-use Rattle.login_table.specs.declared.login.LoginRefusal.{LoginRefusal}
-use Rattle.login_table.specs.Table.{Table, place_at, find, has, is_live, is_denied, is_old, left_for, without, id_at, enter_at, enter_step, is_held, revived, is_barred, back_to, back_at, back_step, is_live_of, leave_at, leave_step, held, hold_step, is_last, one_less, ticked, tick_step, fresh_id, next_id}
-use Rattle.login_table.specs.Laws.{Call, enter, back, leave, hold, tick, after, all_after, made_by, Stands, OneByEuiLaw, OneByNodeLaw, ExclusiveLaw, OneByIdLaw, NumberedLaw, NextIdLaw, HeldLaw, IsNextFree, last_by, last_with, last_entered, ticks_of, ticks, Leaves, LeaveAll}
-use Rattle.login_table.proofs.Searching.{Found, found, found_empty}
+use Rattle.login_table.specs.Table.{Table, place_at, find, is_denied, is_old, left_for, id_at, enter_at, enter_step, is_barred, back_to, back_at, back_step, leave_at, leave_step, fresh_id, next_id}
+use Rattle.login_table.specs.Laws.{Call, enter, back, leave, hold, tick, after, made_by, Stands, OneByEuiLaw, OneByNodeLaw, ExclusiveLaw, OneByIdLaw, NumberedLaw, NextIdLaw, IsNextFree, last_by, last_with, last_entered}
+use Rattle.login_table.proofs.Searching.{found_empty}
 use Rattle.login_table.proofs.Counting.{next_counted}
-use Rattle.login_table.proofs.Sound.{Apart, IsSound, Same, is_same, same, other}
+use Rattle.login_table.proofs.Sound.{Same, is_same, same, other}
 use Rattle.login_table.proofs.Kept.{IsTable, always, new_free, left_sound}
 
 -- two places that would break what is apart are one

@@ -1,5 +1,5 @@
 -- What the searches over the places find, and what they do not find.
-use Rattle.std.specs.Prelude.{◌≡◌, ◌≢◌, ℕ, ◌<◌, not, Bool, true, false, List, length, position, is_none, Option, Some, None, refl}
+use Rattle.std.specs.Prelude.{◌≡◌, ℕ, ◌<◌, not, Bool, true, false, List, length, position, is_none, Option, Some, None, refl}
 use Rattle.std.specs.List.{position_or_len, list_any}
 use Rattle.std.proofs.Common.{arith, get_or, set, ap, sym, ◌∙◌}
 use Rattle.std.proofs.Math.ListN.{length-set}

@@ -1,9 +1,9 @@
 -- What holds between the logins of a table, and is kept by taking one out, changing one and putting one in.
-use Rattle.std.specs.Prelude.{◌≡◌, ◌≢◌, ℕ, ◌<◌, ◌≤◌, nat_eq, Bool, true, false, List, length, replicate, map, Option, Some, None, refl}
-use Rattle.std.proofs.Common.{arith, get_or, set, ap, sym, ◌∙◌, subst}
+use Rattle.std.specs.Prelude.{◌≡◌, ◌≢◌, ℕ, ◌<◌, nat_eq, Bool, true, false, List, length, replicate, Option, Some, None, refl}
+use Rattle.std.proofs.Common.{arith, set, ap, sym, ◌∙◌, subst}
 use Rattle.std.proofs.Math.ListN.{length-set}
 use Rattle.std.proofs.lemmas.Grind.{common_steps}
-use Rattle.std.proofs.lemmas.List.{get_or-set_same, get_or-set_other, get_or-replicate, get_or-map, get_or_past, length-map}
+use Rattle.std.proofs.lemmas.List.{get_or-set_same, get_or-set_other}
 use Rattle.login_table.specs.declared.login.Login.{Login}
 use Rattle.login_table.specs.Table.{place_at, is_live}
 use Rattle.login_table.specs.Laws.{IsNumbered}

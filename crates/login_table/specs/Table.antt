@@ -1,5 +1,5 @@
 -- The logins of a target (NCITS 325-1998, access: login, reconnect, logout, reconnect hold).
-use Rattle.std.specs.Prelude.{ℕ, zero, suc, ◌+◌, ◌-◌, ◌==◌, ◌&&◌, ◌||◌, nat_le, not, Bool, true, false, if◌then◌else◌, is_none, List, [], ◌∷◌, map, position, replicate, slice_set, slice_index_or, Option, Some, None, Result, Ok, Err}
+use Rattle.std.specs.Prelude.{ℕ, zero, suc, ◌+◌, ◌-◌, ◌==◌, ◌&&◌, ◌||◌, nat_le, not, Bool, false, if◌then◌else◌, is_none, List, map, position, replicate, slice_set, slice_index_or, Option, Some, None, Result, Ok, Err}
 use Rattle.std.specs.List.{list_any, filter_map}
 use Rattle.login_table.specs.declared.login.Login.{Login}
 use Rattle.login_table.specs.declared.login.Asked.{Asked}

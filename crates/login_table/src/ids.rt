@@ -14,9 +14,7 @@ fn next_id(login: u16) -> u16
 fn is_used(places: &[Option<Login>], login: u16) -> bool
     ensures { result ≡ is_used login places.now }
 {
-    places
-        .iter()
-        .any(|place| matches!(place, Some(entered) if entered.has_id(login)))
+    places.iter().any(|place| matches!(place, Some(entered) if entered.has_id(login)))
 }
 
 /// The first ID in counting order behind the last one that is not in use, found within eight tries.

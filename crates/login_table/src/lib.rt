@@ -11,7 +11,11 @@ mod table;
 
 pub use expired::Expired;
 pub use law::{
-    exclusive_alone, held_for_its_seconds, next_id_free, numbered, one_by_eui, one_by_id, one_by_node,
+    exclusive_alone, held_for_its_seconds, next_id_free, numbered, one_by_eui, one_by_id,
+    one_by_node,
 };
 pub use login::{Entered, Login, LoginRefusal};
 pub use table::Logins;
+
+#[cfg(test)]
+mod tests;

@@ -10,17 +10,13 @@ pub(crate) type Place = Option<Login>;
 fn any_double(places: &[Place], asked: &Asked) -> bool
     ensures { result ≡ any_login (is_double asked.now) places.now }
 {
-    places
-        .iter()
-        .any(|place| matches!(place, Some(login) if login.is_double(asked)))
+    places.iter().any(|place| matches!(place, Some(login) if login.is_double(asked)))
 }
 
 fn any_excludes(places: &[Place], asked: &Asked) -> bool
     ensures { result ≡ any_login (excludes asked.now) places.now }
 {
-    places
-        .iter()
-        .any(|place| matches!(place, Some(login) if login.excludes(asked)))
+    places.iter().any(|place| matches!(place, Some(login) if login.excludes(asked)))
 }
 
 /// Whether the unit is not free to the node.
@@ -34,9 +30,7 @@ pub(crate) fn is_denied(places: &[Place], asked: &Asked) -> bool
 pub(crate) fn any_of_node(places: &[Place], unit: u8, node: NodeId) -> bool
     ensures { result ≡ any_login (is_of_node unit node) places.now }
 {
-    places
-        .iter()
-        .any(|place| matches!(place, Some(login) if login.is_of_node(unit, node)))
+    places.iter().any(|place| matches!(place, Some(login) if login.is_of_node(unit, node)))
 }
 
 /// The place of the held login of the EUI-64 on the unit.
@@ -44,9 +38,7 @@ fn old_place(places: &[Place], asked: &Asked) -> Option<usize>
     ensures place { result ≡ find (is_old asked.now) places.now }
     ensures below { IfSome result (λ place. place < length places.now) }
 {
-    places
-        .iter()
-        .position(|place| matches!(place, Some(login) if login.is_old(asked)))
+    places.iter().position(|place| matches!(place, Some(login) if login.is_old(asked)))
 }
 
 /// The place of the held login with the ID.
@@ -54,9 +46,7 @@ pub(crate) fn held_place(places: &[Place], login: u16) -> Option<usize>
     ensures place { result ≡ find (is_held login) places.now }
     ensures below { IfSome result (λ place. place < length places.now) }
 {
-    places
-        .iter()
-        .position(|place| matches!(place, Some(entered) if entered.is_held(login)))
+    places.iter().position(|place| matches!(place, Some(entered) if entered.is_held(login)))
 }
 
 /// The place of the login with the ID that is live for the node.
@@ -64,9 +54,9 @@ pub(crate) fn live_place(places: &[Place], login: u16, node: NodeId) -> Option<u
     ensures place { result ≡ find (is_live_of login node) places.now }
     ensures below { IfSome result (λ place. place < length places.now) }
 {
-    places
-        .iter()
-        .position(|place| matches!(place, Some(entered) if entered.is_live_of(login, node)))
+    places.iter().position(
+        |place| matches!(place, Some(entered) if entered.is_live_of(login, node)),
+    )
 }
 
 /// The lowest place without a login.

@@ -1,11 +1,12 @@
 ghost use Rattle.std.specs.Prelude.{◌≡◌, ◌<◌, ◌≤◌, length, OnErr, IfOk, IfSome};
 ghost use Rattle.login_table.specs.Table.{new_table, enter_step, back_step, leave_step, hold_step, tick_step, by_agent, place_at};
 
-use crate::login::{Asked, Entered, Login, LoginRefusal};
 use crate::expired::{Expired, tick_all};
 use crate::ids::fresh_id;
+use crate::login::{Asked, Entered, Login, LoginRefusal};
 use crate::places::{
-    Place, any_of_node, empty_place, held_place, hold_all, if_of_node, is_denied, live_place, place_at, remove_old,
+    Place, any_of_node, empty_place, held_place, hold_all, if_of_node, is_denied, live_place,
+    place_at, remove_old,
 };
 use sbp_base::{NodeId, Offset};
 use std::marker::Model;

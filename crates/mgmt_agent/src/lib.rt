@@ -1,0 +1,21 @@
+//! The management agent of a target: one management operation at a time (NCITS 325-1998, management
+//! agent). No call takes memory.
+#![tactic(auto)]
+
+mod decide;
+mod decision;
+mod entries;
+mod function;
+mod law;
+mod manager;
+mod meaning;
+mod operation;
+mod outgoing;
+
+pub use decision::{Decision, Effect, ManagerStep};
+pub use law::whole_operations;
+pub use manager::Manager;
+pub use operation::Busy;
+
+
+
