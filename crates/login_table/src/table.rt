@@ -144,7 +144,8 @@ impl Logins {
     /// The live login of a node in a place; there is none exactly where no live login of that node
     /// has the place.
     pub fn by_agent(&self, place: u8, node: NodeId) -> Option<Login>
-        ensures { result ≡ by_agent self.now.places place node }
+        ensures login { result ≡ by_agent self.now.places place node }
+        ensures size { length self.now.places ≡ 8 }
     {
         if_of_node(place_at(&self.places, place), node)
     }
@@ -152,7 +153,8 @@ impl Logins {
     /// The login in a place; there is none exactly where the place is empty.
     pub fn at(&self, place: u8) -> Option<Login>
         requires { place < 8 }
-        ensures { result ≡ place_at self.now.places place }
+        ensures login { result ≡ place_at self.now.places place }
+        ensures size { length self.now.places ≡ 8 }
     {
         self.places[usize::from(place)]
     }

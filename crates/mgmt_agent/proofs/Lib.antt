@@ -1,1 +1,3 @@
 pub mod Lookup
+pub mod Outcomes
+pub mod Whole

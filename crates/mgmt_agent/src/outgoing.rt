@@ -62,12 +62,22 @@ impl Outgoing {
     pub(crate) fn put_response(&mut self, response: Response, logins: &Logins, allowed: u16)
         ensures { self.new ≡ take allowed (response_bytes response logins.now.places) }
     {
-        let whole = match response {
-            Response::Nothing => 0,
-            Response::Login(response) => response.write(&mut self.room),
-            Response::Query(unit) => put_query(unit, logins, &mut self.room),
-        };
+        let whole = write_response(response, logins, &mut self.room);
         self.length = whole.min(usize::from(allowed));
+    }
+}
+
+/// Writes a response over the first bytes, whose number it answers.
+#[tactic(auto, unfolding(crate::specs::Decisions::response_bytes))]
+fn write_response(response: Response, logins: &Logins, room: &mut [u8]) -> usize
+    requires { length room.old ≡ 100 }
+    ensures written { take result room.new ≡ response_bytes response logins.now.places }
+    ensures most { result ≤ 100 }
+{
+    match response {
+        Response::Nothing => 0,
+        Response::Login(response) => response.write(room),
+        Response::Query(unit) => put_query(unit, logins, room),
     }
 }
 
