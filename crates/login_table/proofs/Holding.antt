@@ -4,7 +4,7 @@ use Rattle.std.proofs.Common.{arith, set, ap, sym, ◌∙◌, subst}
 use Rattle.std.proofs.Math.ListN.{get_or-map}
 use Rattle.std.proofs.lemmas.List.{get_or-set_other}
 use Rattle.login_table.specs.declared.login.Login.{Login}
-use Rattle.login_table.specs.declared.login.Asked.{Asked}
+use Rattle.login_table.specs.Requests.{LoginRequest}
 use Rattle.login_table.specs.Table.{Table, place_at, find, is_live, is_denied, is_old, left_for, without, enter_at, enter_step, is_held, revived, is_barred, back_to, back_at, back_step, is_live_of, leave_at, leave_step, held, hold_step, ticked}
 use Rattle.login_table.specs.Laws.{Call, enter, back, leave, hold, tick, after, all_after, Stands, HeldLaw, ticks_of, ticks, Leaves}
 use Rattle.login_table.proofs.Searching.{found, found_empty}
@@ -28,22 +28,22 @@ without_stands : (place : Option ℕ) (test : Login → Bool) (places : List (Op
 without_stands None test places i x f e t = e
 without_stands (Some k) test places i x f e t = set_stands places k i x None e (not_it test places k i x e t f)
 
-left_stands : (asked : Asked) (places : List (Option Login)) (i : ℕ) (x : Login) → place_at places i ≡ Some x → is_old asked x ≡ false → place_at (left_for asked places) i ≡ Some x
+left_stands : (asked : LoginRequest) (places : List (Option Login)) (i : ℕ) (x : Login) → place_at places i ≡ Some x → is_old asked x ≡ false → place_at (left_for asked places) i ≡ Some x
 unfolding left_for
 left_stands asked places i x e t = without_stands _ (is_old asked) places i x refl e t
 
-enter_at_stands : (place : Option ℕ) (table : Table) (asked : Asked) (left : List (Option Login)) (replaced : Option ℕ) (i : ℕ) (x : Login) → position is_none left ≡ place → place_at table.places i ≡ Some x → place_at left i ≡ Some x → Stands (enter_at place table left replaced asked).1 i x
+enter_at_stands : (place : Option ℕ) (table : Table) (asked : LoginRequest) (left : List (Option Login)) (replaced : Option ℕ) (i : ℕ) (x : Login) → position is_none left ≡ place → place_at table.places i ≡ Some x → place_at left i ≡ Some x → Stands (enter_at place table left replaced asked).1 i x
 enter_at_stands None table asked left replaced i x f e g = e
 enter_at_stands (Some k) table asked left replaced i x f e g =
     let p = found_empty left k f in
     set_stands left k i x _ g (λ s. let no : Some x ≡ None = sym g ∙ ap (place_at left) s ∙ p.1 in cc)
 
-enter_by_stands : (b : Bool) (table : Table) (asked : Asked) (i : ℕ) (x : Login) → is_denied asked table.places ≡ b → Stands table i x → is_old asked x ≡ false → Stands (enter_step table asked).1 i x
+enter_by_stands : (b : Bool) (table : Table) (asked : LoginRequest) (i : ℕ) (x : Login) → is_denied asked table.places ≡ b → Stands table i x → is_old asked x ≡ false → Stands (enter_step table asked).1 i x
 unfolding enter_step
 enter_by_stands true table asked i x d e t = rw d e
 enter_by_stands false table asked i x d e t = rw d (enter_at_stands _ table asked (left_for asked table.places) _ i x refl e (left_stands asked table.places i x e t))
 
-not_old : (asked : Asked) (login : Login) (seconds : ℕ) → (asked.unit ≡ login.unit → asked.eui ≢ login.eui) → (b : Bool) → is_old asked (waiting login seconds) ≡ b → b ≡ false
+not_old : (asked : LoginRequest) (login : Login) (seconds : ℕ) → (asked.unit ≡ login.unit → asked.eui ≢ login.eui) → (b : Bool) → is_old asked (waiting login seconds) ≡ b → b ≡ false
 not_old asked login seconds f false e = refl
 not_old asked login seconds f true e = let u : asked.unit ≡ login.unit = grind arith in let m : asked.eui ≡ login.eui = grind arith in absurd (f u m)
 

@@ -4,7 +4,7 @@ use Rattle.std.proofs.Common.{arith, set, ap, sym, ◌∙◌}
 use Rattle.std.proofs.Math.ListN.{get_or-map}
 use Rattle.std.proofs.lemmas.List.{length-map}
 use Rattle.login_table.specs.declared.login.Login.{Login}
-use Rattle.login_table.specs.declared.login.Asked.{Asked}
+use Rattle.login_table.specs.Requests.{LoginRequest}
 use Rattle.login_table.specs.Table.{Table, place_at, is_live, any_login, find, is_used, next_id, fresh_id, is_of_node, is_double, excludes, is_denied, is_old, without, left_for, entered, enter_at, id_at, enter_step, revived, is_barred, back_to, back_at, back_step, leave_at, leave_step, held, hold_step, one_less, ticked, tick_step}
 use Rattle.login_table.specs.Laws.{Call, enter, back, leave, hold, tick, after, made_by}
 use Rattle.login_table.proofs.Searching.{within, fails, not_found, found, found_empty}
@@ -19,7 +19,7 @@ without_sound : (place : Option ℕ) (places : List (Option Login)) → IsSound 
 without_sound None places s = s
 without_sound (Some k) places s = taken_out places k s
 
-pub left_sound : (asked : Asked) (places : List (Option Login)) → IsSound places → IsSound (left_for asked places)
+pub left_sound : (asked : LoginRequest) (places : List (Option Login)) → IsSound places → IsSound (left_for asked places)
 unfolding left_for
 left_sound asked places s = without_sound _ places s
 
@@ -27,30 +27,30 @@ without_stood : (place : Option ℕ) (places : List (Option Login)) (j : ℕ) (b
 without_stood None places j b e = e
 without_stood (Some k) places j b e = stood places k j b e
 
-pub left_stood : (asked : Asked) (places : List (Option Login)) (j : ℕ) (b : Login) → place_at (left_for asked places) j ≡ Some b → place_at places j ≡ Some b
+pub left_stood : (asked : LoginRequest) (places : List (Option Login)) (j : ℕ) (b : Login) → place_at (left_for asked places) j ≡ Some b → place_at places j ≡ Some b
 unfolding left_for
 left_stood asked places j b e = without_stood _ places j b e
 
-old_twice : (asked : Asked) (a b : Login) (v : Bool) → is_old asked b ≡ v → is_old asked a ≡ true → Apart a b → v ≡ false
+old_twice : (asked : LoginRequest) (a b : Login) (v : Bool) → is_old asked b ≡ v → is_old asked a ≡ true → Apart a b → v ≡ false
 old_twice asked a b false e f p = refl
 old_twice asked a b true e f p = let q = p.euis in absurd (grind arith)
 
-no_old_by : (place : Option ℕ) (asked : Asked) (places : List (Option Login)) (j : ℕ) (b : Login) → IsSound places → find (is_old asked) places ≡ place → place_at (without place places) j ≡ Some b → is_old asked b ≡ false
+no_old_by : (place : Option ℕ) (asked : LoginRequest) (places : List (Option Login)) (j : ℕ) (b : Login) → IsSound places → find (is_old asked) places ≡ place → place_at (without place places) j ≡ Some b → is_old asked b ≡ false
 no_old_by None asked places j b s f e = not_found (is_old asked) places j b e f
 no_old_by (Some k) asked places j b s f e =
     let a = found (is_old asked) places k f in
     old_twice asked a.login b (is_old asked b) refl a.passes (s.apart k j a.login b (λ m. stood_elsewhere places k j b e (sym m)) a.stands (stood places k j b e))
 
 -- No held login of the EUI-64 is left on the unit.
-no_old : (asked : Asked) (places : List (Option Login)) (j : ℕ) (b : Login) → IsSound places → place_at (left_for asked places) j ≡ Some b → is_old asked b ≡ false
+no_old : (asked : LoginRequest) (places : List (Option Login)) (j : ℕ) (b : Login) → IsSound places → place_at (left_for asked places) j ≡ Some b → is_old asked b ≡ false
 unfolding left_for
 no_old asked places j b s e = no_old_by _ asked places j b s refl e
 
-new_eui : (asked : Asked) (b : Login) (live : Bool) → is_live b ≡ live → is_double asked b ≡ false → is_old asked b ≡ false → asked.unit ≡ b.unit → asked.eui ≢ b.eui
+new_eui : (asked : LoginRequest) (b : Login) (live : Bool) → is_live b ≡ live → is_double asked b ≡ false → is_old asked b ≡ false → asked.unit ≡ b.unit → asked.eui ≢ b.eui
 new_eui asked b true l d o u e = absurd (grind arith)
 new_eui asked b false l d o u e = absurd (grind arith)
 
-apart_new : (asked : Asked) (b : Login) (place id : ℕ) → is_double asked b ≡ false → excludes asked b ≡ false → is_old asked b ≡ false → id ≢ b.login → Apart (entered asked place id) b
+apart_new : (asked : LoginRequest) (b : Login) (place id : ℕ) → is_double asked b ≡ false → excludes asked b ≡ false → is_old asked b ≡ false → id ≢ b.login → Apart (entered asked place id) b
 apart_new asked b place id d x o i = record {
   euis = λ u e. new_eui asked b _ refl d o u e;
   nodes = λ u l m e. grind arith;
@@ -68,7 +68,7 @@ new_free left k last z h e m =
     let o = one_empty left k e h in
     fresh_free 8 (next_id last) left (omega arith) (omega arith) n.0 n.1
 
-fits_new : (table : Table) (asked : Asked) (k : ℕ) → IsTable table → is_denied asked table.places ≡ false → (k < length (left_for asked table.places)) × (place_at (left_for asked table.places) k ≡ None)
+fits_new : (table : Table) (asked : LoginRequest) (k : ℕ) → IsTable table → is_denied asked table.places ≡ false → (k < length (left_for asked table.places)) × (place_at (left_for asked table.places) k ≡ None)
     → Fits (left_for asked table.places) k (entered asked k (fresh_id 8 (next_id table.last) (left_for asked table.places)))
 fits_new table asked k t d p =
     let left = left_for asked table.places in
@@ -87,7 +87,7 @@ fits_new table asked k t d p =
           (id_apart (fresh_id 8 (next_id table.last) left) b (fails (λ login. nat_eq login.login (fresh_id 8 (next_id table.last) left)) left j b f u));
     }
 
-enter_at_kept : (place : Option ℕ) (table : Table) (asked : Asked) → IsTable table → is_denied asked table.places ≡ false → position is_none (left_for asked table.places) ≡ place
+enter_at_kept : (place : Option ℕ) (table : Table) (asked : LoginRequest) → IsTable table → is_denied asked table.places ≡ false → position is_none (left_for asked table.places) ≡ place
     → IsTable (enter_at place table (left_for asked table.places) (id_at (find (is_old asked) table.places) table.places) asked).1
 enter_at_kept None table asked t d e = t
 enter_at_kept (Some k) table asked t d e =
@@ -96,12 +96,12 @@ enter_at_kept (Some k) table asked t d e =
     let w = fresh_within 8 (next_id table.last) (left_for asked table.places) n.0 n.1 in
     record { last = w.1; sound = put_in (left_for asked table.places) k _ (left_sound asked table.places t.sound) (fits_new table asked k t d p) }
 
-enter_by : (b : Bool) (table : Table) (asked : Asked) → is_denied asked table.places ≡ b → IsTable table → IsTable (enter_step table asked).1
+enter_by : (b : Bool) (table : Table) (asked : LoginRequest) → is_denied asked table.places ≡ b → IsTable table → IsTable (enter_step table asked).1
 unfolding enter_step
 enter_by true table asked e t = rw e t
 enter_by false table asked e t = rw e (enter_at_kept _ table asked t e refl)
 
-enter_kept : (table : Table) (asked : Asked) → IsTable table → IsTable (enter_step table asked).1
+enter_kept : (table : Table) (asked : LoginRequest) → IsTable table → IsTable (enter_step table asked).1
 enter_kept table asked t = enter_by _ table asked refl t
 
 apart_back : (login b : Login) (node : ℕ) → Apart login b → is_of_node login.unit node b ≡ false → Apart (revived node login) b

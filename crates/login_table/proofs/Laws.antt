@@ -2,7 +2,7 @@
 use Rattle.std.specs.Prelude.{◌≡◌, ◌≢◌, ℕ, Bool, true, false, List, [], ◌∷◌, position, is_none, Option, Some, None, Ok, Err, refl}
 use Rattle.std.proofs.Common.{arith, ap, sym, ◌∙◌, subst}
 use Rattle.login_table.specs.declared.login.Login.{Login}
-use Rattle.login_table.specs.declared.login.Asked.{Asked}
+use Rattle.login_table.specs.Requests.{LoginRequest}
 use Rattle.login_table.specs.declared.login.Entered.{Entered}
 use Rattle.login_table.specs.Table.{Table, place_at, find, is_denied, is_old, left_for, id_at, enter_at, enter_step, is_barred, back_to, back_at, back_step, leave_at, leave_step, fresh_id, next_id}
 use Rattle.login_table.specs.Laws.{Call, enter, back, leave, hold, tick, after, made_by, Stands, OneByEuiLaw, OneByNodeLaw, ExclusiveLaw, OneByIdLaw, NumberedLaw, NextIdLaw, IsNextFree, last_by, last_with, last_entered}
@@ -41,11 +41,11 @@ pub numbered : NumberedLaw
 numbered calls i a e = (always calls).sound.numbered i a e
 
 -- the ID entered last is the one that the table keeps
-enter_at_last : (place : Option ℕ) (table : Table) (asked : Asked) (left : List (Option Login)) (replaced : Option ℕ) → (enter_at place table left replaced asked).1.last ≡ last_by (enter_at place table left replaced asked).0 table.last
+enter_at_last : (place : Option ℕ) (table : Table) (asked : LoginRequest) (left : List (Option Login)) (replaced : Option ℕ) → (enter_at place table left replaced asked).1.last ≡ last_by (enter_at place table left replaced asked).0 table.last
 enter_at_last None table asked left replaced = refl
 enter_at_last (Some k) table asked left replaced = refl
 
-enter_last_by : (b : Bool) (table : Table) (asked : Asked) → is_denied asked table.places ≡ b → (enter_step table asked).1.last ≡ last_by (enter_step table asked).0 table.last
+enter_last_by : (b : Bool) (table : Table) (asked : LoginRequest) → is_denied asked table.places ≡ b → (enter_step table asked).1.last ≡ last_by (enter_step table asked).0 table.last
 unfolding enter_step
 enter_last_by true table asked e = rw e refl
 enter_last_by false table asked e = rw e (enter_at_last _ table asked (left_for asked table.places) _)
@@ -78,7 +78,7 @@ last_kept : (calls : List Call) → (made_by calls).last ≡ last_entered calls
 last_kept [] = refl
 last_kept (call ∷ calls) = after_last call (made_by calls) ∙ ap (last_with call (made_by calls)) (last_kept calls)
 
-next_at : (place : Option ℕ) (table : Table) (asked : Asked) (entered : Entered) → IsTable table → position is_none (left_for asked table.places) ≡ place
+next_at : (place : Option ℕ) (table : Table) (asked : LoginRequest) (entered : Entered) → IsTable table → position is_none (left_for asked table.places) ≡ place
     → (enter_at place table (left_for asked table.places) (id_at (find (is_old asked) table.places) table.places) asked).0 ≡ Ok entered → IsNextFree table.last entered.login (left_for asked table.places)
 next_at None table asked entered t f e = absurd (let no : Err _ ≡ Ok entered = e in cc)
 next_at (Some k) table asked entered t f e =
@@ -90,7 +90,7 @@ next_at (Some k) table asked entered t f e =
     let id : fresh_id 8 (next_id table.last) left ≡ entered.login = grind arith in
     subst (λ (x : ℕ). IsNextFree table.last x left) id (record { passed = c.passed; counted = c.counted; free = free; used = c.used })
 
-next_by : (b : Bool) (table : Table) (asked : Asked) (entered : Entered) → is_denied asked table.places ≡ b → IsTable table → (enter_step table asked).0 ≡ Ok entered → IsNextFree table.last entered.login (left_for asked table.places)
+next_by : (b : Bool) (table : Table) (asked : LoginRequest) (entered : Entered) → is_denied asked table.places ≡ b → IsTable table → (enter_step table asked).0 ≡ Ok entered → IsNextFree table.last entered.login (left_for asked table.places)
 unfolding enter_step
 next_by true table asked entered d t e = absurd (let no = rw d at e in cc)
 next_by false table asked entered d t e = next_at _ table asked entered t refl (let f = rw d at e in f)

@@ -9,7 +9,7 @@ use Rattle.std.proofs.lemmas.List.Folds.{list_any_at}
 use Rattle.std.proofs.lemmas.List.Sums.{prefix_len_passes}
 use Rattle.std.proofs.lemmas.List.Quantifiers.{position-Some}
 use Rattle.login_table.specs.declared.login.Login.{Login}
-use Rattle.login_table.specs.declared.login.Asked.{Asked}
+use Rattle.login_table.specs.Requests.{LoginRequest}
 use Rattle.login_table.specs.Table.{any_login, find, has, is_old, left_for, place_at, without}
 
 none_from : {A : Type 0} (p : A → Bool) (xs : List A) (k : ℕ) (d : A) → k < position_or_len p xs → k < length xs → p (get_or xs k d) ≡ false
@@ -70,6 +70,6 @@ full_kept (Some k) test places e full =
     absurd (let no : is_none (get_or (set places k None) k None) ≡ false = n (grind arith) in grind arith)
 
 -- Where no place is free after the held login was to be removed, there was none to remove.
-pub left_full : (asked : Asked) (places : List (Option Login)) → position is_none (left_for asked places) ≡ None → left_for asked places ≡ places
+pub left_full : (asked : LoginRequest) (places : List (Option Login)) → position is_none (left_for asked places) ≡ None → left_for asked places ≡ places
 unfolding left_for
 left_full asked places full = full_kept (find (is_old asked) places) (is_old asked) places refl full

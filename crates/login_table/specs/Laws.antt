@@ -1,14 +1,14 @@
 -- What holds of the logins after every list of calls (NCITS 325-1998, access).
 use Rattle.std.specs.Prelude.{◌≡◌, ◌≢◌, ℕ, zero, suc, ◌+◌, ◌-◌, ◌<◌, ◌≤◌, true, false, List, [], ◌∷◌, Option, Some, Result, Ok, Err}
 use Rattle.login_table.specs.declared.login.Login.{Login}
-use Rattle.login_table.specs.declared.login.Asked.{Asked}
+use Rattle.login_table.specs.Requests.{LoginRequest}
 use Rattle.login_table.specs.declared.login.Entered.{Entered}
 use Rattle.login_table.specs.declared.login.LoginRefusal.{LoginRefusal}
 use Rattle.login_table.specs.Table.{Table, new_table, place_at, is_live, is_used, next_id, left_for, enter_step, back_step, leave_step, hold_step, tick_step}
 
 -- a call that may change the table
 pub data Call : Type 0 where
-  enter : Asked → Call
+  enter : LoginRequest → Call
   back : (id node eui : ℕ) → Call
   leave : (id node : ℕ) → Call
   hold : Call
@@ -95,7 +95,7 @@ pub record IsNextFree (last id : ℕ) (places : List (Option Login)) : Type 0 wh
 -- A new login has the next ID that is not in use, after the ID entered last.
 abbrev pub NextIdLaw : Type 0
 NextIdLaw =
-    (calls : List Call) (asked : Asked) (entered : Entered) → (enter_step (made_by calls) asked).0 ≡ Ok entered → IsNextFree (last_entered calls) entered.login (left_for asked (made_by calls).places)
+    (calls : List Call) (asked : LoginRequest) (entered : Entered) → (enter_step (made_by calls) asked).0 ≡ Ok entered → IsNextFree (last_entered calls) entered.login (left_for asked (made_by calls).places)
 
 abbrev pub ticks_of : Call → ℕ
 ticks_of (enter asked) = 0

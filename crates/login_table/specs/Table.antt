@@ -2,7 +2,7 @@
 use Rattle.std.specs.Prelude.{ℕ, zero, suc, ◌+◌, ◌-◌, ◌==◌, ◌&&◌, ◌||◌, nat_le, not, Bool, false, if◌then◌else◌, is_none, List, map, position, replicate, slice_set, slice_index_or, Option, Some, None, Result, Ok, Err}
 use Rattle.std.specs.List.{list_any, filter_map}
 use Rattle.login_table.specs.declared.login.Login.{Login}
-use Rattle.login_table.specs.declared.login.Asked.{Asked}
+use Rattle.login_table.specs.Requests.{LoginRequest}
 use Rattle.login_table.specs.declared.login.Entered.{Entered}
 use Rattle.login_table.specs.declared.login.LoginRefusal.{LoginRefusal}
 use Rattle.login_table.specs.declared.login.LoginRefusal.TheVariants.{Denied, NoRoom, Unknown, OtherNode}
@@ -53,18 +53,18 @@ abbrev pub is_of_node : ℕ → ℕ → Login → Bool
 is_of_node unit node login = is_live login && login.unit == unit && login.node == node
 
 -- a live login of the EUI-64, or of the node, on the unit
-abbrev pub is_double : Asked → Login → Bool
+abbrev pub is_double : LoginRequest → Login → Bool
 is_double asked login = is_live login && login.unit == asked.unit && (login.eui == asked.eui || login.node == asked.node)
 
 -- a login of another EUI-64 on the unit, live or held, where it or the new login is exclusive
-abbrev pub excludes : Asked → Login → Bool
+abbrev pub excludes : LoginRequest → Login → Bool
 excludes asked login = login.unit == asked.unit && not (login.eui == asked.eui) && (login.exclusive || asked.exclusive)
 
-abbrev pub is_denied : Asked → List (Option Login) → Bool
+abbrev pub is_denied : LoginRequest → List (Option Login) → Bool
 is_denied asked places = any_login (is_double asked) places || any_login (excludes asked) places
 
 -- a held login of the EUI-64 on the unit
-abbrev pub is_old : Asked → Login → Bool
+abbrev pub is_old : LoginRequest → Login → Bool
 is_old asked login = not (is_live login) && login.unit == asked.unit && login.eui == asked.eui
 
 -- the places without the login of one of them
@@ -81,7 +81,7 @@ id_at None places = None
 id_at (Some place) places = id_of (place_at places place)
 
 -- the login that is entered: it is live
-abbrev pub entered : Asked → ℕ → ℕ → Login
+abbrev pub entered : LoginRequest → ℕ → ℕ → Login
 entered asked place id = record {
   place = place;
   login = id;
@@ -95,17 +95,17 @@ entered asked place id = record {
 }
 
 -- A login is entered into a place, beside those that are left.
-abbrev pub enter_at : Option ℕ → Table → List (Option Login) → Option ℕ → Asked → Result Entered LoginRefusal × Table
+abbrev pub enter_at : Option ℕ → Table → List (Option Login) → Option ℕ → LoginRequest → Result Entered LoginRefusal × Table
 enter_at None table left replaced asked = (Err NoRoom, table)
 enter_at (Some place) table left replaced asked =
     let id = fresh_id 8 (next_id table.last) left in
     (Ok record { place = place; login = id; replaced = replaced }, record { last = id; places = slice_set left place (Some (entered asked place id)) })
 
 -- the places once the held login of the EUI-64 on the unit is removed
-unfoldable pub left_for : Asked → List (Option Login) → List (Option Login)
+unfoldable pub left_for : LoginRequest → List (Option Login) → List (Option Login)
 left_for asked places = without (find (is_old asked) places) places
 
-unfoldable pub enter_step : Table → Asked → Result Entered LoginRefusal × Table
+unfoldable pub enter_step : Table → LoginRequest → Result Entered LoginRefusal × Table
 enter_step table asked =
     if is_denied asked table.places
     then (Err Denied, table)

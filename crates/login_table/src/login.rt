@@ -2,6 +2,7 @@ ghost use Rattle.std.specs.Prelude.{◌≡◌, ◌==◌};
 ghost use Rattle.login_table.specs.Table.{entered, excludes, held_for, is_double, is_held, is_live, is_live_of, is_of_node, is_old, revived};
 
 use sbp_base::{NodeId, Offset};
+use std::marker::Model;
 
 /// A login of a node to a unit.
 #[derive(Clone, Copy, Debug, PartialEq, Eq)]
@@ -24,7 +25,7 @@ pub struct Login {
 }
 
 /// What a login asks for.
-#[derive(Clone, Copy)]
+#[derive(Drop)]
 pub(crate) struct Asked {
     pub(crate) unit: u8,
     pub(crate) node: NodeId,
@@ -32,6 +33,14 @@ pub(crate) struct Asked {
     pub(crate) fifo: Offset,
     pub(crate) hold: u16,
     pub(crate) exclusive: bool,
+}
+
+impl Model for Asked {
+    ghost use Rattle.login_table.specs.Requests.{LoginRequest};
+
+    ghost Value = { LoginRequest };
+
+    ghost view = { λ a. record { unit = a.unit; node = a.node; eui = a.eui; fifo = a.fifo; hold = a.hold; exclusive = a.exclusive } };
 }
 
 /// A login that was entered.

@@ -1,3 +1,4 @@
 pub mod Lookup
 pub mod Outcomes
 pub mod Whole
+pub mod Rows

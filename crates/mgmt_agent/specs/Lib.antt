@@ -3,3 +3,4 @@ pub mod Meanings
 pub mod Decisions
 pub mod Machine
 pub mod Laws
+pub mod Rows

@@ -13,9 +13,12 @@ mod operation;
 mod outgoing;
 
 pub use decision::{Decision, Effect, ManagerStep};
-pub use law::whole_operations;
+pub use law::{decided_by_first_row, whole_operations};
 pub use manager::Manager;
 pub use operation::Busy;
 
 
 
+
+#[cfg(test)]
+mod tests;

@@ -21,7 +21,7 @@ const LOW_EUI: u64 = 0xffff_f000_0410;
 /// The management agent of a target, which has one operation under way at most.
 #[derive(Drop)]
 pub struct Manager {
-    operation: Option<Operation>,
+    pub(crate) operation: Option<Operation>,
     outgoing: Outgoing,
 }
 
