@@ -1,8 +1,6 @@
 -- The search for a live login, place by place.
-use Rattle.std.specs.Prelude.{◌≡◌, ℕ, ◌+◌, ◌<◌, ◌≤◌, Bool, true, false, List, length, position, Option, Some, None, refl}
-use Rattle.std.specs.List.{position_or_len}
-use Rattle.std.proofs.Common.{arith, ap, sym, ◌∙◌, get_or}
-use Rattle.std.proofs.lemmas.Grind.{common_steps}
+use Rattle.std.specs.Prelude.{◌≡◌, ℕ, ◌<◌, true, false, List, length, Option, Some, None}
+use Rattle.std.proofs.Common.{arith, ap}
 use Rattle.std.proofs.lemmas.Bool.Decides.{nat_tests}
 use Rattle.std.proofs.lemmas.List.Sums.{position_or_len_is}
 use Rattle.login_table.specs.declared.login.Login.{Login}

@@ -1,5 +1,5 @@
 -- A decision that has a response has status 00.
-use Rattle.std.specs.Prelude.{◌≡◌, ◌≢◌, ℕ, ◌==◌, not, Bool, true, false, cond, List, [], ◌∷◌, length, take, Option, Some, None, Result, Ok, Err, refl}
+use Rattle.std.specs.Prelude.{◌≡◌, ◌≢◌, ℕ, Bool, true, false, cond, List, [], length, take, Option, Some, None, Result, Ok, Err, refl}
 use Rattle.std.proofs.Common.{arith, length-take}
 use Rattle.orb_layout.specs.declared.management.ManagementOrb.{ManagementOrb}
 use Rattle.login_table.specs.declared.login.Login.{Login}
@@ -14,7 +14,7 @@ use Rattle.mgmt_agent.specs.declared.decision.Effect.{Effect}
 use Rattle.mgmt_agent.specs.declared.decision.Outcome.{Outcome}
 use Rattle.mgmt_agent.specs.declared.decision.Response.{Response}
 use Rattle.mgmt_agent.specs.declared.decision.Response.TheVariants as responses
-use Rattle.mgmt_agent.specs.Decisions.{refused, good, login_decided, back_decided, left_decided, on_login, decide_query, decide_login, decide_reconnect, decide_logout, decide_function, decide, effect_of, live_login, response_bytes}
+use Rattle.mgmt_agent.specs.Decisions.{refused, good, login_decided, back_decided, left_decided, on_login, decide_query, decide_login, decide_function, decide, effect_of, response_bytes}
 
 abbrev pub speaks : Response → Bool
 speaks responses.Nothing = false

@@ -1,19 +1,18 @@
 -- Each decision is the first row that holds.
-use Rattle.std.specs.Prelude.{◌≡◌, ℕ, ◌==◌, ◌||◌, not, Bool, true, false, cond, is_none, List, [], ◌∷◌, position, Option, Some, None, Result, Ok, Err, refl}
-use Rattle.std.proofs.Common.{arith, ap, sym, ◌∙◌}
+use Rattle.std.specs.Prelude.{◌≡◌, ℕ, ◌==◌, ◌||◌, not, Bool, true, false, cond, is_none, List, [], ◌∷◌, position, Option, Some, None, refl}
+use Rattle.std.proofs.Common.{◌∙◌}
 use Rattle.orb_layout.specs.declared.management.ManagementOrb.{ManagementOrb}
 use Rattle.login_table.specs.declared.login.Login.{Login}
 use Rattle.login_table.specs.Requests.{LoginRequest}
 use Rattle.login_table.specs.Table.{Table, place_at, any_login, back_at, back_step, back_to, enter_at, enter_step, excludes, find, id_at, is_barred, is_denied, is_double, is_held, is_live_of, is_old, leave_at, leave_step, left_for}
 use Rattle.login_table.proofs.Searching.{found}
-use Rattle.mgmt_agent.specs.declared.meaning.Meaning.TheVariants as meanings
 use Rattle.mgmt_agent.specs.declared.function.Function.{Function}
 use Rattle.mgmt_agent.specs.declared.function.Function.TheVariants as functions
 use Rattle.mgmt_agent.specs.declared.decision.Effect.{Effect}
 use Rattle.mgmt_agent.specs.declared.decision.Outcome.{Outcome}
 use Rattle.mgmt_agent.specs.Meanings.{number_of, function_of}
-use Rattle.mgmt_agent.specs.Decisions.{back_decided, decide, decide_function, decide_login, decide_logout, decide_query, decide_reconnect, effect_of, left_decided, live_login, login_decided, login_in, on_login, refused, key_at, lacks_key, unit_exists}
-use Rattle.mgmt_agent.specs.Rows.{all_rows, asked_by, first_row, held_login, is_full, is_others, rows_of, DecisionLaw}
+use Rattle.mgmt_agent.specs.Decisions.{back_decided, decide, decide_function, decide_login, decide_logout, decide_reconnect, effect_of, left_decided, live_login, login_decided, login_in, on_login, key_at, lacks_key, unit_exists}
+use Rattle.mgmt_agent.specs.Rows.{asked_by, first_row, is_full, is_others, rows_of, DecisionLaw}
 
 status_of_pair : (b : Bool) (x y : Outcome × Table) (m n : ℕ) → number_of x.0.status ≡ m → number_of y.0.status ≡ n → number_of (cond b x y).0.status ≡ cond b m n
 status_of_pair true x y m n p q = p

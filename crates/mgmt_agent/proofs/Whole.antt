@@ -1,5 +1,5 @@
 -- Each call keeps what ties the manager to the notes, and its notes are lawful.
-use Rattle.std.specs.Prelude.{◌≡◌, ◌≢◌, ℕ, suc, ◌+◌, ◌*◌, ◌^◌, ◌==◌, ◌&&◌, nat_eq, not, Bool, true, false, cond, if◌then◌else◌, List, [], ◌∷◌, length, take, Option, Some, None, Result, Ok, Err, refl}
+use Rattle.std.specs.Prelude.{◌≡◌, ℕ, suc, ◌+◌, ◌*◌, ◌^◌, ◌==◌, ◌&&◌, not, Bool, true, false, cond, List, [], ◌∷◌, length, take, Option, Some, None, refl}
 use Rattle.std.proofs.Common.{arith, ap, sym, ◌∙◌, subst}
 use Rattle.std.proofs.lemmas.Bool.Decides.{nat_tests}
 use Rattle.std.proofs.lemmas.List.{take_all}
@@ -18,9 +18,9 @@ use Rattle.mgmt_agent.specs.declared.operation.Phase.{Phase}
 use Rattle.mgmt_agent.specs.declared.operation.Phase.TheVariants as phases
 use Rattle.mgmt_agent.specs.Meanings.{number_of}
 use Rattle.mgmt_agent.specs.Decisions.{decide, reads_eui}
-use Rattle.mgmt_agent.specs.Machine.{Machine, Answer, Payload, Done, Refused, Expired, NoLabel, start_step, start_with, reply_step, reply_to, reply_in, clear_step, decide_step, decided_as, respond_step, cut_response, status_block, orb_read, high_eui_at, low_eui_at, payload_of, orb_got, high_got, low_got, beside, failure_of, response_written, status_written}
-use Rattle.mgmt_agent.specs.Laws.{Call, start, reply, clear, Note, started, reads, writes, got, decided, ended, failed, cleared, note_step, note_reply, note_ask, note_decided, note_got, note_start, after, noted, manager_after, notes_of, under_way, source_of, address_of, gots, decisions, written, orb_in, eui_in, outcome_on, outcome_of, response_after, reads_for, read_at, write_at, writes_for, IsRead, IsDecision, IsWrite, IsEnd, Lawful, OperationLaw}
-use Rattle.mgmt_agent.proofs.Outcomes.{speaks, IsFit, decide_fit, cut_speaks}
+use Rattle.mgmt_agent.specs.Machine.{Machine, Answer, Payload, Done, Refused, Expired, NoLabel, start_step, reply_step, reply_in, decide_step, decided_as, cut_response, status_block, orb_read, high_eui_at, low_eui_at, payload_of, orb_got, high_got, low_got, beside, failure_of, response_written, status_written}
+use Rattle.mgmt_agent.specs.Laws.{Call, start, reply, clear, Note, reads, writes, got, decided, failed, note_step, note_reply, note_ask, note_decided, note_got, note_start, after, noted, manager_after, notes_of, under_way, source_of, address_of, gots, decisions, written, orb_in, eui_in, outcome_on, outcome_of, response_after, reads_for, read_at, write_at, writes_for, Lawful, OperationLaw}
+use Rattle.mgmt_agent.proofs.Outcomes.{decide_fit, cut_speaks}
 
 -- what was read so far of an operation that is not decided
 record Reading (read : List (List ℕ)) (notes : List Note) : Type 0 where

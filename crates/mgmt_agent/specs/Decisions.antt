@@ -1,16 +1,14 @@
 -- What a target decides on a management ORB (NCITS 325-1998, management functions and their statuses).
-use Rattle.std.specs.Prelude.{ℕ, ◌+◌, ◌-◌, ◌*◌, ◌/◌, ◌%◌, ◌^◌, ◌==◌, ◌&&◌, ◌||◌, min, nat_lt, not, Bool, true, false, if◌then◌else◌, List, [], ◌∷◌, length, take, position, slice_index_or, Option, Some, None, Result, Ok, Err}
+use Rattle.std.specs.Prelude.{ℕ, ◌+◌, ◌-◌, ◌*◌, ◌%◌, ◌^◌, ◌==◌, ◌&&◌, ◌||◌, min, nat_lt, not, Bool, true, false, if◌then◌else◌, List, [], length, slice_index_or, Option, Some, None, Result, Ok, Err}
 use Rattle.std.specs.List.{filter_map}
 use Rattle.sbp_base.specs.Quadlets.{quad}
 use Rattle.orb_layout.specs.declared.management.ManagementOrb.{ManagementOrb}
-use Rattle.orb_layout.specs.declared.login.LoginResponse.{LoginResponse}
 use Rattle.orb_layout.specs.declared.query.QueryEntry.{QueryEntry}
 use Rattle.orb_layout.specs.LoginResponses.{login_bytes}
 use Rattle.orb_layout.specs.QueryResponses.{query_bytes}
 use Rattle.login_table.specs.declared.login.Login.{Login}
 use Rattle.login_table.specs.declared.login.Entered.{Entered}
 use Rattle.login_table.specs.declared.login.LoginRefusal.{LoginRefusal}
-use Rattle.login_table.specs.declared.login.LoginRefusal.TheVariants.{Denied, NoRoom, Unknown, OtherNode}
 use Rattle.login_table.specs.Table.{Table, place_at, find, is_live_of, enter_step, back_step, leave_step}
 use Rattle.mgmt_agent.specs.declared.meaning.Meaning.{Meaning}
 use Rattle.mgmt_agent.specs.declared.meaning.Meaning.TheVariants as meanings

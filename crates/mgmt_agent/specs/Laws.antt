@@ -1,6 +1,6 @@
 -- Whole operations of the management agent, over every list of its calls (NCITS 325-1998, management
 -- agent). What happens is a list of notes, the latest of them first.
-use Rattle.std.specs.Prelude.{◌≡◌, ◌≢◌, ℕ, suc, ◌+◌, ◌*◌, ◌^◌, ◌==◌, ◌&&◌, not, Bool, true, false, if◌then◌else◌, List, [], ◌∷◌, length, take, Option, Some, None, Result, Ok, Err}
+use Rattle.std.specs.Prelude.{◌≡◌, ℕ, suc, ◌+◌, ◌*◌, ◌^◌, ◌==◌, ◌&&◌, not, Bool, true, false, if◌then◌else◌, List, [], ◌∷◌, length, take, Option, Some, None, Result, Ok}
 use Rattle.sbp_base.specs.Quadlets.{quad}
 use Rattle.orb_layout.specs.declared.management.ManagementOrb.{ManagementOrb}
 use Rattle.orb_layout.specs.declared.ask.Ask.{Ask}
@@ -15,7 +15,7 @@ use Rattle.mgmt_agent.specs.declared.decision.ManagerStep.{ManagerStep}
 use Rattle.mgmt_agent.specs.declared.operation.Busy.{Busy}
 use Rattle.mgmt_agent.specs.declared.operation.Operation.{Operation}
 use Rattle.mgmt_agent.specs.Decisions.{decide, reads_eui, told}
-use Rattle.mgmt_agent.specs.Machine.{Machine, Answer, Payload, Done, Refused, Expired, NoLabel, new_machine, start_step, reply_step, clear_step, cut_response, status_block, high_eui_at, low_eui_at}
+use Rattle.mgmt_agent.specs.Machine.{Machine, Answer, Payload, new_machine, start_step, reply_step, clear_step, cut_response, status_block, high_eui_at, low_eui_at}
 
 -- a call, with the logins and the keys that a reply is taken beside
 pub data Call : Type 0 where

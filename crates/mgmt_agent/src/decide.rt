@@ -115,12 +115,7 @@ fn decide_query(orb: &ManagementOrb, keys: &[[u8; 8]]) -> Outcome
 }
 
 /// Makes a held login live again for the source.
-fn decide_reconnect(
-    orb: &ManagementOrb,
-    source: NodeId,
-    eui: u64,
-    logins: &mut Logins,
-) -> Outcome
+fn decide_reconnect(orb: &ManagementOrb, source: NodeId, eui: u64, logins: &mut Logins) -> Outcome
     ensures { (result, logins.new) ≡ decide_reconnect orb.now source eui logins.old }
 {
     match logins.back(orb.subject, source, eui) {
@@ -175,12 +170,7 @@ fn pointed_orb(orb: &ManagementOrb) -> Offset
 }
 
 /// Acts on a login that is live for the source.
-fn decide_on(
-    function: Function,
-    orb: &ManagementOrb,
-    source: NodeId,
-    logins: &Logins,
-) -> Outcome
+fn decide_on(function: Function, orb: &ManagementOrb, source: NodeId, logins: &Logins) -> Outcome
     ensures { result ≡ on_login (effect_of function orb.now) (live_login logins.now.places orb.now.subject source) }
 {
     let Some(login) = live_login(logins, orb.subject, source) else {

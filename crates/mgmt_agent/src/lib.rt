@@ -17,8 +17,5 @@ pub use law::{decided_by_first_row, whole_operations};
 pub use manager::Manager;
 pub use operation::Busy;
 
-
-
-
 #[cfg(test)]
 mod tests;

@@ -86,12 +86,7 @@ impl Manager {
     /// `Refused` exactly at the reply `Expired`, `NoLabel` or `Refused`, and `Grammar` exactly at a
     /// payload of another length than asked for. What was decided then stays.
     #[tactic(auto, unfolding(crate::specs::Machine::reply_step))]
-    pub fn reply(
-        &mut self,
-        logins: &mut Logins,
-        keys: &[[u8; 8]],
-        reply: Reply<'_>,
-    ) -> ManagerStep
+    pub fn reply(&mut self, logins: &mut Logins, keys: &[[u8; 8]], reply: Reply<'_>) -> ManagerStep
         requires { Comes (answer_of reply) self.old.operation }
         ensures { (result, (self.new, logins.new)) ≡ reply_step self.old logins.old keys.now (answer_of reply.entry) }
     {
@@ -229,12 +224,7 @@ impl Manager {
     }
 
     /// Asks for the write of the response that was put; where it is empty, of the status block.
-    fn respond(
-        &mut self,
-        operation: Operation,
-        orb: &ManagementOrb,
-        status: Meaning,
-    ) -> ManagerStep
+    fn respond(&mut self, operation: Operation, orb: &ManagementOrb, status: Meaning) -> ManagerStep
         ensures { (result, self.new) ≡ respond_step self.old operation orb.now status }
     {
         let length = self.outgoing.as_slice().len();
@@ -252,12 +242,7 @@ impl Manager {
     }
 
     /// Asks for the write of the status block to a FIFO.
-    fn write_status(
-        &mut self,
-        operation: Operation,
-        fifo: Offset,
-        status: Meaning,
-    ) -> ManagerStep
+    fn write_status(&mut self, operation: Operation, fifo: Offset, status: Meaning) -> ManagerStep
         ensures { (result, self.new) ≡ status_step self.old operation fifo status }
     {
         self.outgoing.put_status(operation.orb, status);

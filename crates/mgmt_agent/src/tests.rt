@@ -100,7 +100,12 @@ fn login(
     bytes: &[u8],
 ) -> Result<Decision, &'static str> {
     start(manager, logins, keys, physical, bytes)?;
-    reply(manager, logins, keys, Reply::Payload(&[0, 0x11, 0x22, 0x33]))?;
+    reply(
+        manager,
+        logins,
+        keys,
+        Reply::Payload(&[0, 0x11, 0x22, 0x33]),
+    )?;
     let step = reply(manager, logins, keys, Reply::Payload(&[0, 0, 0, physical]))?;
     let decision = step.decided.ok_or("not decided")?;
     let next = reply(manager, logins, keys, Reply::Done)?;
@@ -126,10 +131,19 @@ fn exclusive_login(rt: HostRuntime) -> Result<(), Fail> {
     let mut manager = Manager::new();
     let mut logins = Logins::new();
     let usual = orb(0, false, 0, 16);
-    assert_eq!(rt; login(&mut manager, &mut logins, &NO_KEYS, 1, &orb(0, true, 0, 16))?, decided(0x00, 1));
-    assert_eq!(rt; login(&mut manager, &mut logins, &NO_KEYS, 2, &usual)?, decided(0x04, 0));
+    assert_eq!(rt;
+        login(&mut manager, &mut logins, &NO_KEYS, 1, &orb(0, true, 0, 16))?,
+        decided(0x00, 1)
+    );
+    assert_eq!(rt;
+        login(&mut manager, &mut logins, &NO_KEYS, 2, &usual)?,
+        decided(0x04, 0)
+    );
     assert_eq!(rt; logins.leave(1, node(1)?), Ok(0));
-    assert_eq!(rt; login(&mut manager, &mut logins, &NO_KEYS, 2, &usual)?, decided(0x00, 2));
+    assert_eq!(rt;
+        login(&mut manager, &mut logins, &NO_KEYS, 2, &usual)?,
+        decided(0x00, 2)
+    );
     Ok(())
 }
 
@@ -139,9 +153,30 @@ fn keyed_unit(rt: HostRuntime) -> Result<(), Fail> {
     let mut manager = Manager::new();
     let mut logins = Logins::new();
     let lengths = (8 << 16) + 16;
-    assert_eq!(rt; login(&mut manager, &mut logins, &KEYED, 1, &orb(0, false, 0, 16))?, decided(0x04, 0));
-    assert_eq!(rt; login(&mut manager, &mut logins, &KEYED, 1, &orb(0, false, PASSWORD, lengths))?, decided(0x04, 0));
-    assert_eq!(rt; login(&mut manager, &mut logins, &KEYED, 1, &orb(0, false, PASSWORD, 16))?, decided(0x00, 1));
+    assert_eq!(rt;
+        login(&mut manager, &mut logins, &KEYED, 1, &orb(0, false, 0, 16))?,
+        decided(0x04, 0)
+    );
+    assert_eq!(rt;
+        login(
+            &mut manager,
+            &mut logins,
+            &KEYED,
+            1,
+            &orb(0, false, PASSWORD, lengths)
+        )?,
+        decided(0x04, 0)
+    );
+    assert_eq!(rt;
+        login(
+            &mut manager,
+            &mut logins,
+            &KEYED,
+            1,
+            &orb(0, false, PASSWORD, 16)
+        )?,
+        decided(0x00, 1)
+    );
     Ok(())
 }
 
@@ -152,13 +187,31 @@ fn query_cut_short(rt: HostRuntime) -> Result<(), Fail> {
     let mut manager = Manager::new();
     let mut logins = Logins::new();
     for physical in 1..=8_u8 {
-        let decision = login(&mut manager, &mut logins, &NO_KEYS, physical, &orb(0, false, 0, 0))?;
+        let decision = login(
+            &mut manager,
+            &mut logins,
+            &NO_KEYS,
+            physical,
+            &orb(0, false, 0, 0),
+        )?;
         assert_eq!(rt; decision, decided(0x00, u16::from(physical)));
     }
     logins.hold();
-    let step = start(&mut manager, &mut logins, &NO_KEYS, 9, &orb(1, false, 0, 20))?;
+    let step = start(
+        &mut manager,
+        &mut logins,
+        &NO_KEYS,
+        9,
+        &orb(1, false, 0, 20),
+    )?;
     let response = Offset::new(0x1_0000).ok_or("offset")?;
-    assert_eq!(rt; step.ask, Ask::Write { offset: response, length: 20 });
+    assert_eq!(rt;
+        step.ask,
+        Ask::Write {
+            offset: response,
+            length: 20
+        }
+    );
     let expected = [
         0, 100, 0, 8, 0xff, 0xc1, 0, 1, 0, 0x11, 0x22, 0x33, 0, 0, 0, 1, 0xff, 0xc2, 0, 2,
     ];

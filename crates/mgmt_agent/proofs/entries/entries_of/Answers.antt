@@ -15,11 +15,11 @@ entries_more unit places i h =
 pub loop-place-preserved : goal.loop-place-preserved
 loop-place-preserved c = record {
   told =
-    let place = c.at.ensures.login in
-    let added = c.add.ensures.added in
-    let before = c.loop-place.invariant.told in
-    let more = entries_more c.args.unit c.args.logins.now.places c.loop-place.place (let z = c.at.ensures.size in omega arith) in
-    added ∙ ap (λ (p : Option Login). c.loop-place.entries ++ filter_map (entry_of c.args.unit) (p ∷ [])) place ∙ ap (λ (xs : List _). xs ++ filter_map (entry_of c.args.unit) (get_or c.args.logins.now.places c.loop-place.place None ∷ [])) before ∙ more;
+      let place = c.at.ensures.login in
+      let added = c.add.ensures.added in
+      let before = c.loop-place.invariant.told in
+      let more = entries_more c.args.unit c.args.logins.now.places c.loop-place.place (let z = c.at.ensures.size in omega arith) in
+      added ∙ ap (λ (p : Option Login). c.loop-place.entries ++ filter_map (entry_of c.args.unit) (p ∷ [])) place ∙ ap (λ (xs : List _). xs ++ filter_map (entry_of c.args.unit) (get_or c.args.logins.now.places c.loop-place.place None ∷ [])) before ∙ more;
   most = omega arith;
   size = λ h. c.at.ensures.size;
 }

@@ -1,5 +1,4 @@
-use Rattle.std.proofs.Common.{◌≡◌, ◌∙◌, ap, sym, arith, ℕ, ◌≤◌, ◌<◌, List, [], ◌∷◌, length, take, min}
-use Rattle.std.proofs.lemmas.Grind.{common_steps}
+use Rattle.std.proofs.Common.{◌≡◌, ◌∙◌, ap, sym, arith, ℕ, ◌≤◌, List, length, take, min}
 use Rattle.std.proofs.lemmas.List.{take-take, take_min, length-take}
 use Rattle.mgmt_agent.proofs.outgoing.Outgoing.put_response.Goals as goal
 
