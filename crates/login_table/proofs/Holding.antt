@@ -5,8 +5,8 @@ use Rattle.std.proofs.Math.ListN.{get_or-map}
 use Rattle.std.proofs.lemmas.List.{get_or-set_other}
 use Rattle.login_table.specs.declared.login.Login.{Login}
 use Rattle.login_table.specs.Requests.{LoginRequest}
-use Rattle.login_table.specs.Table.{Table, place_at, find, is_live, is_denied, is_old, left_for, without, enter_at, enter_step, is_held, revived, is_barred, back_to, back_at, back_step, is_live_of, leave_at, leave_step, held, hold_step, ticked}
-use Rattle.login_table.specs.Laws.{Call, enter, back, leave, hold, tick, after, all_after, Stands, HeldLaw, ticks_of, ticks, Leaves}
+use Rattle.login_table.specs.Table.{expired_id, Table, place_at, find, is_live, is_denied, is_old, left_for, without, enter_at, enter_step, is_held, revived, is_barred, back_to, back_at, back_step, is_live_of, leave_at, leave_step, held, hold_step, ticked}
+use Rattle.login_table.specs.Laws.{ExpiryLaw, IsOver, Call, enter, back, leave, hold, tick, after, all_after, Stands, HeldLaw, ticks_of, ticks, Leaves}
 use Rattle.login_table.proofs.Searching.{found, found_empty}
 
 -- the login with so many seconds left
@@ -91,3 +91,12 @@ held_for_its_seconds table i login (call ∷ calls) e l c h =
     let before = held_for_its_seconds table i login calls e l c.1 (omega arith) in
     subst (λ (n : ℕ). Stands (after call (all_after calls (hold_step table))) i (waiting login n)) (omega arith)
     (after_stands call (all_after calls (hold_step table)) i login (login.hold + 1 - ticks calls) before c.0 (omega arith))
+
+last_second : (table : Table) (i : ℕ) (login : Login) → Stands table i (waiting login 1) → IsOver table i login
+last_second table i login e = record { told = ap expired_id e; gone = get_or-map ticked table.places i None ∙ ap ticked e }
+
+pub expires_after_its_seconds : ExpiryLaw
+expires_after_its_seconds table i login calls e l c h =
+    let before = held_for_its_seconds table i login calls e l c (omega arith) in
+    last_second (all_after calls (hold_step table)) i login
+    (subst (λ (n : ℕ). Stands (all_after calls (hold_step table)) i (waiting login n)) (omega arith) before)

@@ -1,10 +1,10 @@
 -- What holds of the logins after every list of calls (NCITS 325-1998, access).
-use Rattle.std.specs.Prelude.{◌≡◌, ◌≢◌, ℕ, zero, suc, ◌+◌, ◌-◌, ◌<◌, ◌≤◌, true, false, List, [], ◌∷◌, Option, Some, Result, Ok, Err}
+use Rattle.std.specs.Prelude.{◌≡◌, ◌≢◌, ℕ, zero, suc, ◌+◌, ◌-◌, ◌<◌, ◌≤◌, true, false, List, [], ◌∷◌, Option, Some, None, Result, Ok, Err}
 use Rattle.login_table.specs.declared.login.Login.{Login}
 use Rattle.login_table.specs.Requests.{LoginRequest}
 use Rattle.login_table.specs.declared.login.Entered.{Entered}
 use Rattle.login_table.specs.declared.login.LoginRefusal.{LoginRefusal}
-use Rattle.login_table.specs.Table.{Table, new_table, place_at, is_live, is_used, next_id, left_for, enter_step, back_step, leave_step, hold_step, tick_step}
+use Rattle.login_table.specs.Table.{Table, new_table, place_at, is_live, is_used, next_id, left_for, enter_step, back_step, leave_step, hold_step, tick_step, expired_id}
 
 -- a call that may change the table
 pub data Call : Type 0 where
@@ -126,3 +126,12 @@ LeaveAll login (call ∷ calls) = Leaves login call × LeaveAll login calls
 abbrev pub HeldLaw : Type 0
 HeldLaw =
     (table : Table) (place : ℕ) (login : Login) (calls : List Call) → Stands table place login → is_live login ≡ true → LeaveAll login calls → ticks calls ≤ login.hold → Stands (all_after calls (hold_step table)) place (record login { remaining = Some (login.hold + 1 - ticks calls) })
+
+-- The second behind those takes its last one: the login is told as expired, and its place is empty.
+pub record IsOver (table : Table) (place : ℕ) (login : Login) : Type 0 where
+  pub told : expired_id (place_at table.places place) ≡ Some login.login
+  pub gone : place_at (tick_step table).1.places place ≡ None
+
+abbrev pub ExpiryLaw : Type 0
+ExpiryLaw =
+    (table : Table) (place : ℕ) (login : Login) (calls : List Call) → Stands table place login → is_live login ≡ true → LeaveAll login calls → ticks calls ≡ login.hold → IsOver (all_after calls (hold_step table)) place login

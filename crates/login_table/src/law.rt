@@ -1,4 +1,4 @@
-ghost use Rattle.login_table.specs.Laws.{ExclusiveLaw, HeldLaw, NextIdLaw, NumberedLaw, OneByEuiLaw, OneByIdLaw, OneByNodeLaw};
+ghost use Rattle.login_table.specs.Laws.{ExclusiveLaw, ExpiryLaw, HeldLaw, NextIdLaw, NumberedLaw, OneByEuiLaw, OneByIdLaw, OneByNodeLaw};
 
 /// The law that after every list of calls an EUI-64 has at most one login on a unit, live or held.
 pub fn one_by_eui()
@@ -37,4 +37,10 @@ pub fn next_id_free()
 /// that each second is taken from it.
 pub fn held_for_its_seconds()
     ensures { HeldLaw }
+{}
+
+/// The law that the second behind a held login's hold seconds, and no earlier one, removes it and tells
+/// its ID.
+pub fn expires_after_its_seconds()
+    ensures { ExpiryLaw }
 {}

@@ -11,8 +11,8 @@ mod table;
 
 pub use expired::Expired;
 pub use law::{
-    exclusive_alone, held_for_its_seconds, next_id_free, numbered, one_by_eui, one_by_id,
-    one_by_node,
+    exclusive_alone, expires_after_its_seconds, held_for_its_seconds, next_id_free, numbered,
+    one_by_eui, one_by_id, one_by_node,
 };
 pub use login::{Entered, Login, LoginRefusal};
 pub use table::Logins;

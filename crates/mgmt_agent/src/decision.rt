@@ -49,7 +49,7 @@ pub struct ManagerStep {
 
 /// What is written to the ORB's response address.
 #[derive(Clone, Copy)]
-pub(crate) enum Response {
+pub enum Response {
     Nothing,
     Login(LoginResponse),
     /// The logins of a unit.
@@ -58,11 +58,11 @@ pub(crate) enum Response {
 
 /// A decision with all that follows from it.
 #[derive(Clone, Copy)]
-pub(crate) struct Outcome {
-    pub(crate) status: Meaning,
-    pub(crate) login: u16,
-    pub(crate) effect: Effect,
-    pub(crate) response: Response,
+pub struct Outcome {
+    pub status: Meaning,
+    pub login: u16,
+    pub effect: Effect,
+    pub response: Response,
 }
 
 impl Outcome {

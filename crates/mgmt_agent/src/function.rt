@@ -4,7 +4,7 @@ ghost use Rattle.mgmt_agent.specs.Decisions.{wants_eui};
 
 /// The functions of a management ORB that this target knows.
 #[derive(Clone, Copy)]
-pub(crate) enum Function {
+pub enum Function {
     Login,
     Query,
     Reconnect,

@@ -12,10 +12,12 @@ mod meaning;
 mod operation;
 mod outgoing;
 
-pub use decision::{Decision, Effect, ManagerStep};
+pub use decision::{Decision, Effect, ManagerStep, Outcome, Response};
+pub use function::Function;
 pub use law::{decided_by_first_row, whole_operations};
 pub use manager::Manager;
-pub use operation::Busy;
+pub use meaning::Meaning;
+pub use operation::{Busy, Operation, Phase};
 
 #[cfg(test)]
 mod tests;

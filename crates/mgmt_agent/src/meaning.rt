@@ -5,7 +5,7 @@ use login_table::LoginRefusal;
 
 /// The sbp_status of a decision (NCITS 325-1998, status block).
 #[derive(Clone, Copy)]
-pub(crate) enum Meaning {
+pub enum Meaning {
     NoFault,
     /// The request format is another than 0.
     RequestType,

@@ -7,17 +7,17 @@ pub struct Busy;
 
 /// An operation under way.
 #[derive(Clone, Copy)]
-pub(crate) struct Operation {
+pub struct Operation {
     /// The node that wrote MANAGEMENT_AGENT.
-    pub(crate) source: NodeId,
+    pub source: NodeId,
     /// The address of the management ORB.
-    pub(crate) orb: Offset,
-    pub(crate) phase: Phase,
+    pub orb: Offset,
+    pub phase: Phase,
 }
 
 /// What an operation waits for.
 #[derive(Clone, Copy)]
-pub(crate) enum Phase {
+pub enum Phase {
     /// The 32 bytes of the ORB.
     Orb,
     /// The high quadlet of the source's EUI-64.
