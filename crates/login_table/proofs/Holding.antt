@@ -1,8 +1,9 @@
 -- A held login stays until its seconds are over.
-use Rattle.std.specs.Prelude.{◌≡◌, ◌≢◌, ℕ, ◌+◌, ◌-◌, ◌≤◌, Bool, true, false, List, [], ◌∷◌, position, is_none, Option, Some, None, refl}
+use Rattle.std.specs.Prelude.{nat_eq, ◌≡◌, ◌≢◌, ℕ, ◌+◌, ◌-◌, ◌≤◌, Bool, true, false, List, [], ◌∷◌, position, is_none, Option, Some, None, refl}
 use Rattle.std.proofs.Common.{arith, set, ap, sym, ◌∙◌, subst}
 use Rattle.std.proofs.Math.ListN.{get_or-map}
 use Rattle.std.proofs.lemmas.List.{get_or-set_other}
+use Rattle.std.specs.Result.{IsErr}
 use Rattle.login_table.specs.declared.login.Login.{Login}
 use Rattle.login_table.specs.Requests.{LoginRequest}
 use Rattle.login_table.specs.Table.{expired_id, Table, place_at, find, is_live, is_denied, is_old, left_for, without, enter_at, enter_step, is_held, revived, is_barred, back_to, back_at, back_step, is_live_of, leave_at, leave_step, held, hold_step, ticked}
@@ -43,9 +44,39 @@ unfolding enter_step
 enter_by_stands true table asked i x d e t = rw d e
 enter_by_stands false table asked i x d e t = rw d (enter_at_stands _ table asked (left_for asked table.places) _ i x refl e (left_stands asked table.places i x e t))
 
-not_old : (asked : LoginRequest) (login : Login) (seconds : ℕ) → (asked.unit ≡ login.unit → asked.eui ≢ login.eui) → (b : Bool) → is_old asked (waiting login seconds) ≡ b → b ≡ false
-not_old asked login seconds f false e = refl
-not_old asked login seconds f true e = let u : asked.unit ≡ login.unit = grind arith in let m : asked.eui ≡ login.eui = grind arith in absurd (f u m)
+enter_at_refused : (place : Option ℕ) (table : Table) (asked : LoginRequest) (left : List (Option Login)) (replaced : Option ℕ) → IsErr (enter_at place table left replaced asked).0 → (enter_at place table left replaced asked).1 ≡ table
+enter_at_refused None table asked left replaced r = refl
+enter_at_refused (Some k) table asked left replaced r = absurd (let no : false ≡ true = r in cc)
+
+-- A login that is refused leaves the table as it was.
+enter_refused : (b : Bool) (table : Table) (asked : LoginRequest) → is_denied asked table.places ≡ b → IsErr (enter_step table asked).0 → (enter_step table asked).1 ≡ table
+unfolding enter_step
+enter_refused true table asked d r = rw d refl
+enter_refused false table asked d r = rw d (enter_at_refused (position is_none (left_for asked table.places)) table asked (left_for asked table.places) _ (let q = rw d at r in q))
+
+enter_stands : (b : Bool) (table : Table) (asked : LoginRequest) (i : ℕ) (login : Login) (seconds : ℕ) → is_old asked (waiting login seconds) ≡ b → Stands table i (waiting login seconds) → (asked.unit ≡ login.unit → asked.eui ≡ login.eui → IsErr (enter_step table asked).0) → Stands (enter_step table asked).1 i (waiting login seconds)
+enter_stands false table asked i login seconds o e l = enter_by_stands _ table asked i (waiting login seconds) refl e o
+enter_stands true table asked i login seconds o e l =
+    let u : asked.unit ≡ login.unit = grind arith in
+    let m : asked.eui ≡ login.eui = grind arith in
+    ap (λ (t : Table). place_at t.places i) (enter_refused _ table asked refl (l u m)) ∙ e
+
+back_by_refused : (b : Bool) (table : Table) (k node eui : ℕ) (other : Login) → is_barred node eui other table.places ≡ b → IsErr (back_to (Some other) table k node eui).0 → (back_to (Some other) table k node eui).1 ≡ table
+back_by_refused true table k node eui other f r = rw f refl
+back_by_refused false table k node eui other f r = absurd (let no : false ≡ true = rw f at r in cc)
+
+back_to_refused : (place : Option Login) (table : Table) (k node eui : ℕ) → IsErr (back_to place table k node eui).0 → (back_to place table k node eui).1 ≡ table
+back_to_refused None table k node eui r = refl
+back_to_refused (Some other) table k node eui r = back_by_refused _ table k node eui other refl r
+
+back_at_refused : (place : Option ℕ) (table : Table) (node eui : ℕ) → IsErr (back_at place table node eui).0 → (back_at place table node eui).1 ≡ table
+back_at_refused None table node eui r = refl
+back_at_refused (Some k) table node eui r = back_to_refused (place_at table.places k) table k node eui r
+
+-- A reconnect that is refused leaves the table as it was.
+back_refused : (table : Table) (id node eui : ℕ) → IsErr (back_step table id node eui).0 → (back_step table id node eui).1 ≡ table
+unfolding back_step
+back_refused table id node eui r = back_at_refused (find (is_held id) table.places) table node eui r
 
 back_by_stands : (b : Bool) (table : Table) (k node eui i : ℕ) (other x : Login) → is_barred node eui other table.places ≡ b → Stands table i x → i ≢ k → Stands (back_to (Some other) table k node eui).1 i x
 back_by_stands true table k node eui i other x f e d = rw f e
@@ -66,12 +97,18 @@ leave_at_stands (Some k) table id node i x f e t = set_stands table.places k i x
 ticked_stands : (login : Login) (seconds : ℕ) → 2 ≤ seconds → ticked (Some (waiting login seconds)) ≡ Some (waiting login (seconds - 1))
 ticked_stands login seconds h = grind arith
 
-after_stands : (call : Call) (table : Table) (i : ℕ) (login : Login) (seconds : ℕ) → Stands table i (waiting login seconds) → Leaves login call → 1 + ticks_of call ≤ seconds → Stands (after call table) i (waiting login (seconds - ticks_of call))
+back_stands : (b : Bool) (table : Table) (id node eui i : ℕ) (login : Login) (seconds : ℕ) → nat_eq login.login id ≡ b → Stands table i (waiting login seconds) → (id ≡ login.login → IsErr (back_step table id node eui).0) → Stands (back_step table id node eui).1 i (waiting login seconds)
+unfolding back_step
+back_stands false table id node eui i login seconds o e l = back_at_stands _ table id node eui i (waiting login seconds) refl e o
+back_stands true table id node eui i login seconds o e l =
+    ap (λ (t : Table). place_at t.places i) (back_refused table id node eui (l (grind arith))) ∙ e
+
+after_stands : (call : Call) (table : Table) (i : ℕ) (login : Login) (seconds : ℕ) → Stands table i (waiting login seconds) → Leaves login call table → 1 + ticks_of call ≤ seconds → Stands (after call table) i (waiting login (seconds - ticks_of call))
 unfolding back_step leave_step
 after_stands (enter asked) table i login seconds e l h =
-    subst (λ (n : ℕ). Stands (enter_step table asked).1 i (waiting login n)) (omega arith) (enter_by_stands _ table asked i (waiting login seconds) refl e (not_old asked login seconds l _ refl))
+    subst (λ (n : ℕ). Stands (enter_step table asked).1 i (waiting login n)) (omega arith) (enter_stands _ table asked i login seconds refl e l)
 after_stands (back id node eui) table i login seconds e l h =
-    subst (λ (n : ℕ). Stands (back_step table id node eui).1 i (waiting login n)) (omega arith) (back_at_stands _ table id node eui i (waiting login seconds) refl e (grind arith))
+    subst (λ (n : ℕ). Stands (back_step table id node eui).1 i (waiting login n)) (omega arith) (back_stands _ table id node eui i login seconds refl e l)
 after_stands (leave id node) table i login seconds e l h =
     subst (λ (n : ℕ). Stands (leave_step table id node).1 i (waiting login n)) (omega arith) (leave_at_stands _ table id node i (waiting login seconds) refl e refl)
 after_stands hold table i login seconds e l h =

@@ -1,5 +1,6 @@
 -- What holds of the logins after every list of calls (NCITS 325-1998, access).
-use Rattle.std.specs.Prelude.{◌≡◌, ◌≢◌, ℕ, zero, suc, ◌+◌, ◌-◌, ◌<◌, ◌≤◌, true, false, List, [], ◌∷◌, Option, Some, None, Result, Ok, Err}
+use Rattle.std.specs.Prelude.{◌≡◌, ℕ, zero, suc, ◌+◌, ◌-◌, ◌<◌, ◌≤◌, true, false, List, [], ◌∷◌, Option, Some, None, Result, Ok, Err}
+use Rattle.std.specs.Result.{IsErr}
 use Rattle.login_table.specs.declared.login.Login.{Login}
 use Rattle.login_table.specs.Requests.{LoginRequest}
 use Rattle.login_table.specs.declared.login.Entered.{Entered}
@@ -109,23 +110,25 @@ abbrev pub ticks : List Call → ℕ
 ticks [] = 0
 ticks (call ∷ calls) = ticks_of call + ticks calls
 
--- The call is no reconnect of the login, and no new login of its EUI-64 to its unit.
-abbrev pub Leaves : Login → Call → Type 0
-Leaves login (enter asked) = asked.unit ≡ login.unit → asked.eui ≢ login.eui
-Leaves login (back id node eui) = id ≢ login.login
-Leaves login (leave id node) = Unit {0}
-Leaves login hold = Unit {0}
-Leaves login tick = Unit {0}
+-- The call is no reconnect of the login that is granted, and no new login of its EUI-64 to its unit that
+-- is.
+abbrev pub Leaves : Login → Call → Table → Type 0
+Leaves login (enter asked) table = asked.unit ≡ login.unit → asked.eui ≡ login.eui → IsErr (enter_step table asked).0
+Leaves login (back id node eui) table = id ≡ login.login → IsErr (back_step table id node eui).0
+Leaves login (leave id node) table = Unit {0}
+Leaves login hold table = Unit {0}
+Leaves login tick table = Unit {0}
 
-abbrev pub LeaveAll : Login → List Call → Type 0
-LeaveAll login [] = Unit {0}
-LeaveAll login (call ∷ calls) = Leaves login call × LeaveAll login calls
+-- so with each of the calls, the latest of them first
+abbrev pub LeaveAll : Login → List Call → Table → Type 0
+LeaveAll login [] table = Unit {0}
+LeaveAll login (call ∷ calls) table = Leaves login call (all_after calls table) × LeaveAll login calls table
 
--- A live login that is held stays for its hold + 1 seconds, whatever else comes, and each second is
--- taken from it.
+-- A live login that is held stays for its hold + 1 seconds, unless it comes back or is replaced, and each
+-- second is taken from it.
 abbrev pub HeldLaw : Type 0
 HeldLaw =
-    (table : Table) (place : ℕ) (login : Login) (calls : List Call) → Stands table place login → is_live login ≡ true → LeaveAll login calls → ticks calls ≤ login.hold → Stands (all_after calls (hold_step table)) place (record login { remaining = Some (login.hold + 1 - ticks calls) })
+    (table : Table) (place : ℕ) (login : Login) (calls : List Call) → Stands table place login → is_live login ≡ true → LeaveAll login calls (hold_step table) → ticks calls ≤ login.hold → Stands (all_after calls (hold_step table)) place (record login { remaining = Some (login.hold + 1 - ticks calls) })
 
 -- The second behind those takes its last one: the login is told as expired, and its place is empty.
 pub record IsOver (table : Table) (place : ℕ) (login : Login) : Type 0 where
@@ -134,4 +137,4 @@ pub record IsOver (table : Table) (place : ℕ) (login : Login) : Type 0 where
 
 abbrev pub ExpiryLaw : Type 0
 ExpiryLaw =
-    (table : Table) (place : ℕ) (login : Login) (calls : List Call) → Stands table place login → is_live login ≡ true → LeaveAll login calls → ticks calls ≡ login.hold → IsOver (all_after calls (hold_step table)) place login
+    (table : Table) (place : ℕ) (login : Login) (calls : List Call) → Stands table place login → is_live login ≡ true → LeaveAll login calls (hold_step table) → ticks calls ≡ login.hold → IsOver (all_after calls (hold_step table)) place login

@@ -33,8 +33,8 @@ pub fn next_id_free()
     ensures { NextIdLaw }
 {}
 
-/// The law that a login that is held stays for its hold + 1 seconds, whatever other calls come, and
-/// that each second is taken from it.
+/// The law that a login that is held stays for its hold + 1 seconds, unless it comes back or is
+/// replaced, and that each second is taken from it.
 pub fn held_for_its_seconds()
     ensures { HeldLaw }
 {}
