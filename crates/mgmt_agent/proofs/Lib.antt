@@ -1,0 +1,4 @@
+pub mod Lookup
+pub mod Outcomes
+pub mod Whole
+pub mod Rows

@@ -1,0 +1,19 @@
+//! The session of an initiator with one unit, as types: each move consumes its state and gives the
+//! next (NCITS 325-1998, login, reconnect and logout). A state that was used in a move cannot be used
+//! again. No call takes memory.
+#![tactic(auto)]
+
+mod held;
+mod law;
+mod live;
+mod out;
+mod seat;
+
+pub use held::{Held, Leaving, Returning};
+pub use law::response_of_latest_login;
+pub use live::Live;
+pub use out::{Entering, Out};
+pub use seat::{Origin, Seat, Stuck};
+
+#[cfg(test)]
+mod tests;
