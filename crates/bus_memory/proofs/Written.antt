@@ -213,7 +213,7 @@ last_set_stands m (Arms slot armed ∷ earlier) asked i whole h w b =
     ap (λ (l : List ℕ). get_or l i 0) (armed_keeps (after earlier m) slot armed asked (after_stays m earlier whole h.1).whole.slots h.0)
     ∙ last_set_stands m earlier asked i whole h.1 w b
 
-replicated : {A : Type 0} (n i : ℕ) (a : A) → get_or (replicate n a) i a ≡ a
+pub replicated : {A : Type 0} (n i : ℕ) (a : A) → get_or (replicate n a) i a ≡ a
 replicated zero i a = refl
 replicated (suc n) zero a = refl
 replicated (suc n) (suc i) a = replicated n i a

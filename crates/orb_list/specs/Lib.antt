@@ -1,0 +1,5 @@
+pub mod Tickets
+pub mod Requests
+pub mod Layout
+pub mod Table
+pub mod Holds
