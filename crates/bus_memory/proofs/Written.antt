@@ -106,7 +106,7 @@ armed_keeps m s armed (windows.Table t) l h = slot_keeps m s t _ (λ slot. slot.
 armed_keeps m s armed (windows.Buffer t) l h = slot_keeps m s t _ (λ slot. slot.buffer) (omega arith) refl
 armed_keeps m s armed _ l h = refl
 
-slots_set : (m : Memory) (window : Window) (at : ℕ) (bytes : List ℕ) → length (with_bytes m window at bytes).slots ≡ length m.slots
+pub slots_set : (m : Memory) (window : Window) (at : ℕ) (bytes : List ℕ) → length (with_bytes m window at bytes).slots ≡ length m.slots
 slots_set m windows.Rom at bytes = refl
 slots_set m (windows.Management s) at bytes = refl
 slots_set m (windows.Response s) at bytes = refl
@@ -114,7 +114,7 @@ slots_set m (windows.Orb s) at bytes = length-set m.slots s _
 slots_set m (windows.Table s) at bytes = length-set m.slots s _
 slots_set m (windows.Buffer s) at bytes = length-set m.slots s _
 
-places_set : (m : Memory) (window : Window) (at : ℕ) (bytes : List ℕ) → length (with_bytes m window at bytes).places ≡ length m.places
+pub places_set : (m : Memory) (window : Window) (at : ℕ) (bytes : List ℕ) → length (with_bytes m window at bytes).places ≡ length m.places
 places_set m (windows.Management s) at bytes = length-set m.places s _
 places_set m (windows.Response s) at bytes = length-set m.places s _
 places_set m windows.Rom at bytes = refl

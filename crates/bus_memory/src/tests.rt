@@ -47,10 +47,12 @@ fn writes(image: &mut Image, cases: &[Case]) -> bool {
 fn set(image: &mut Image, value: u64, quad: u32) -> Option<()> {
     let offset = Offset::new(value)?;
     match image.spot(offset, 4) {
-        Some(Spot {
-            window: Window::Orb(_) | Window::Management(_),
-            ..
-        }) => {
+        Some(
+            Spot {
+                window: Window::Orb(_) | Window::Management(_),
+                ..
+            },
+        ) => {
             image.set_quad(offset, quad);
             Some(())
         }

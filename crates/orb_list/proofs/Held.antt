@@ -107,10 +107,10 @@ held_closed : (slots others : List Slot) (m : Memory) → HoldsSlots slots m →
 held_closed slots others m h l f = record {
   whole = closed_whole others m h.whole;
   armed = λ number b.
-    let w = h.whole.slots in
-    ap (λ (s : SlotMemory). s.is_armed) (closed_at others m number (omega arith) (omega arith))
-    ∙ ap (λ (a : Bool). a && not (is_free (slot_in others number))) (h.armed number b)
-    ∙ free_both (is_free (slot_in slots number)) (is_free (slot_in others number)) (f number b);
+      let w = h.whole.slots in
+      ap (λ (s : SlotMemory). s.is_armed) (closed_at others m number (omega arith) (omega arith))
+      ∙ ap (λ (a : Bool). a && not (is_free (slot_in others number))) (h.armed number b)
+      ∙ free_both (is_free (slot_in slots number)) (is_free (slot_in others number)) (f number b);
 }
 
 over_free : (b : Bool) (slot : Slot) → is_free slot ≡ true → is_free (cond b (freed slot) slot) ≡ true
@@ -150,8 +150,8 @@ pub held_rested : (slots : List Slot) (m : Memory) → length slots ≡ 32 → H
 held_rested slots m l h = record {
   whole = h.whole;
   armed = λ number b.
-    h.armed number b
-    ∙ ap not (sym (ap (λ (s : Slot). is_free s) (get_or-map rested slots number unused unused (omega arith)) ∙ rested_free (slot_in slots number) _ refl));
+      h.armed number b
+      ∙ ap not (sym (ap (λ (s : Slot). is_free s) (get_or-map rested slots number unused unused (omega arith)) ∙ rested_free (slot_in slots number) _ refl));
 }
 
 sum-cons : (count : ℕ) (rest : List ℕ) → sum (count ∷ rest) ≡ count + sum rest
@@ -220,8 +220,8 @@ held_written slots m slot x asked l h s f r =
     record {
       whole = k.whole;
       armed = λ number b.
-        k.armed number ∙ armed_here m slot number _ refl (omega arith)
-        ∙ held_here slots slot number x _ _ refl (omega arith) f (h.armed number b);
+          k.armed number ∙ armed_here m slot number _ refl (omega arith)
+          ∙ held_here slots slot number x _ _ refl (omega arith) f (h.armed number b);
     }
 
 pub waiting_held : (slot : Slot) (t : TicketParts) → waiting slot ≡ Some t → is_free slot ≡ false

@@ -137,7 +137,12 @@ fn put_table(image: &mut Image, slot: u8, number: u32, at: u32, segments: &[u16]
     let table = Window::Table(slot);
     if let [first, rest @ ..] = segments {
         put_slot_quad(image, table, 8 * number, u32::from(*first) << 16);
-        put_slot_quad(image, table, 8 * number + 4, place(Window::Buffer(slot), at).value() as u32);
+        put_slot_quad(
+            image,
+            table,
+            8 * number + 4,
+            place(Window::Buffer(slot), at).value() as u32,
+        );
         put_table(image, slot, number + 1, behind(at, *first), rest);
     }
 }

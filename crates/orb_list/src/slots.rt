@@ -59,11 +59,7 @@ impl Slots {
     /// page table and its data are written into the image. It is refused with `MidLink` where a
     /// prepared ORB is not linked, and else with `NoSlot` where no slot is free.
     #[tactic(auto, unfolding(crate::specs::Table::prepare_step))]
-    pub fn prepare(
-        &mut self,
-        image: &mut Image,
-        request: &Request<'_>,
-    ) -> Result<Ticket, ListFault>
+    pub fn prepare(&mut self, image: &mut Image, request: &Request<'_>) -> Result<Ticket, ListFault>
         requires holds { HoldsSlots self.old.slots image.old }
         requires request { IsRequest (asked_of request.now) }
         requires calls { self.old.calls < 2 ^ 56 }

@@ -7,4 +7,4 @@ returns-clause-kept c =
     let b = c.in-Some.ensures.before in
     c.sweep.ensures.kept
     (rw (c.set_link.ensures, c.put_orb_quad.ensures)
-      (held_quad c.args.self.now.slots c.args.image.now c.in-Some.field-0.before 0 c.high.result c.requires.holds b.in_slot.below (omega arith)))
+    (held_quad c.args.self.now.slots c.args.image.now c.in-Some.field-0.before 0 c.high.result c.requires.holds b.in_slot.below (omega arith)))

@@ -17,6 +17,6 @@ invariant_of-self c =
       size = length-set c.self.inside.slots c.from.result (record (get_or c.self.inside.slots c.from.result c.index-self-from.result) { state = c.after.result }) ∙ i.size;
       lists = i.lists;
       present =
-        subst (λ (p : Option PresentList). HoldsPresent (slice_set c.self.inside.slots c.from.result (record (get_or c.self.inside.slots c.from.result c.index-self-from.result) { state = c.after.result })) c.self.inside.acts p) (sym c.pass.ensures)
-        (sound_status c.self.inside.slots c.self.inside.acts c.from.result c.self.inside.present c.number.result c.index-self-from.result c.after.result i.size (omega arith) held i.present);
+          subst (λ (p : Option PresentList). HoldsPresent (slice_set c.self.inside.slots c.from.result (record (get_or c.self.inside.slots c.from.result c.index-self-from.result) { state = c.after.result })) c.self.inside.acts p) (sym c.pass.ensures)
+          (sound_status c.self.inside.slots c.self.inside.acts c.from.result c.self.inside.present c.number.result c.index-self-from.result c.after.result i.size (omega arith) held i.present);
     }
