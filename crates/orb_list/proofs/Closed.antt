@@ -4,7 +4,7 @@ use Rattle.std.proofs.Math.ListN.{set}
 use Rattle.bus_memory.specs.declared.slot.SlotMemory.{SlotMemory}
 use Rattle.bus_memory.specs.declared.window.Window.{Window}
 use Rattle.bus_memory.specs.declared.window.Window.TheVariants as windows
-use Rattle.bus_memory.specs.Memory.{Memory, empty_slot, slot_at, with_slot, with_armed, bytes_in}
+use Rattle.bus_memory.specs.Memory.{Memory, empty_slot, slot_at, with_armed, bytes_in}
 use Rattle.bus_memory.specs.Laws.{IsWhole, size}
 use Rattle.orb_list.specs.declared.slot.Slot.{Slot}
 use Rattle.orb_list.specs.Table.{is_free, unused, slot_in, closed_slot, closed_slots, closed}

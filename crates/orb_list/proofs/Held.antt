@@ -1,5 +1,5 @@
 -- That a memory holds its slots, step by step.
-use Rattle.std.proofs.Common.{arith, ◌≡◌, refl, sym, ◌∙◌, ap, subst, ℕ, ◌+◌, ◌*◌, ◌/◌, ◌^◌, ◌<◌, ◌≤◌, ◌&&◌, not, nat_eq, Bool, true, false, cond, sum, List, [], ◌∷◌, ◌++◌, length, map, take, drop, replicate, slice_set, Option, Some, None, Result, Ok, Err, length-append, length-take}
+use Rattle.std.proofs.Common.{arith, ◌≡◌, refl, sym, ◌∙◌, ap, subst, ℕ, ◌+◌, ◌*◌, ◌<◌, ◌≤◌, ◌&&◌, not, nat_eq, Bool, true, false, cond, sum, List, [], ◌∷◌, length, map, take, drop, replicate, slice_set, Option, Some, None, length-take}
 use Rattle.std.proofs.lemmas.Bool.Decides.{nat_tests}
 use Rattle.std.proofs.lemmas.List.{get_or-map, length-map}
 use Rattle.std.proofs.lemmas.List.Sums.{sum_by-cons}
@@ -22,8 +22,8 @@ use Rattle.orb_list.specs.declared.slot.Slot.{Slot}
 use Rattle.orb_list.specs.Tickets.{TicketParts}
 use Rattle.orb_list.specs.Requests.{Asked, IsRequest}
 use Rattle.orb_list.specs.Layout.{behind, table_bytes, orb_of, data_in_segments, data_written, written}
-use Rattle.orb_list.specs.Table.{unused, slot_in, is_free, free_state, is_over, released, freed, rested, closed_slot, closed, low_in, high_in, waits_low, waits_high, waits_in, waiting, state_after, with_orb_quad}
-use Rattle.orb_list.specs.Holds.{IsIn, IsBefore, HoldsLink, KeepsLink, HoldsPresent, HoldsSlots}
+use Rattle.orb_list.specs.Table.{unused, slot_in, is_free, free_state, is_over, released, freed, rested, closed, low_in, high_in, waits_low, waits_high, waits_in, waiting, state_after, with_orb_quad}
+use Rattle.orb_list.specs.Holds.{IsBefore, HoldsLink, KeepsLink, HoldsPresent, HoldsSlots}
 use Rattle.orb_list.proofs.Closed.{closed_at, closed_whole}
 use Rattle.orb_layout.specs.declared.status.StatusBlock.{StatusBlock}
 use Rattle.orb_list.proofs.Sound.{slot_after, state_held}

@@ -4,3 +4,6 @@ pub mod Searches
 pub mod Closed
 pub mod Sound
 pub mod Held
+pub mod Tied
+pub mod Spelled
+pub mod Imaged

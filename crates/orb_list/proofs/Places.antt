@@ -1,5 +1,5 @@
 -- Quadlets of slots, at their addresses.
-use Rattle.std.proofs.Common.{arith, ◌≡◌, refl, sym, ◌∙◌, ap, subst, ℕ, ◌+◌, ◌-◌, ◌*◌, ◌^◌, ◌<◌, ◌≤◌, ◌==◌, ◌&&◌, ◌||◌, Bool, true, false, cond, List, [], ◌∷◌, ◌++◌, length, take, drop, Option, Some, None, Result, Ok, Err}
+use Rattle.std.proofs.Common.{arith, ◌≡◌, refl, sym, ◌∙◌, ap, subst, ℕ, ◌+◌, ◌-◌, ◌<◌, ◌≤◌, true, false, List, [], ◌∷◌, length, take, drop, Option, Some, Result, Ok}
 use Rattle.std.proofs.lemmas.Bool.Decides.{nat_tests}
 use Rattle.byteorder.specs.Endian.{big_bytes, big_number}
 use Rattle.sbp_base.specs.Quadlets.{quad}
@@ -8,9 +8,9 @@ use Rattle.bus_memory.specs.declared.access.Access.TheVariants.{Read}
 use Rattle.bus_memory.specs.declared.access.Rcode.{Rcode}
 use Rattle.bus_memory.specs.declared.window.Window.{Window}
 use Rattle.bus_memory.specs.declared.window.Window.TheVariants as windows
-use Rattle.bus_memory.specs.Windows.{IsWindow, start, within, is_fifo}
-use Rattle.bus_memory.specs.Memory.{Memory, slot_at, with_bytes, bytes_in}
-use Rattle.bus_memory.specs.Access.{IsOwn, IsOwnSpot, IsQuadlet, is_open, judged, judged_at, read_at, read_step, spot_of, set_at, set_step}
+use Rattle.bus_memory.specs.Windows.{IsWindow, start, is_fifo}
+use Rattle.bus_memory.specs.Memory.{Memory, slot_at, with_bytes}
+use Rattle.bus_memory.specs.Access.{IsOwn, IsQuadlet, is_open, judged, judged_at, read_at, read_step, spot_of, set_at, set_step}
 use Rattle.bus_memory.specs.Laws.{size, IsWhole, IsInside}
 use Rattle.bus_memory.proofs.Found.{window_law}
 use Rattle.bus_memory.proofs.Written.{whole_set}

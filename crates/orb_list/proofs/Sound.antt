@@ -1,6 +1,5 @@
 -- What each step keeps of a table.
-use Rattle.std.proofs.Common.{arith, ◌≡◌, ◌≢◌, refl, sym, ◌∙◌, ap, subst, ℕ, ◌+◌, ◌<◌, ◌≤◌, ◌&&◌, ◌||◌, ◌==◌, not, nat_eq, nat_lt, Bool, true, false, cond, List, length, map, get_or, slice_set, Option, Some, None}
-use Rattle.std.proofs.Math.ListN.{length-set}
+use Rattle.std.proofs.Common.{arith, ◌≡◌, refl, sym, ◌∙◌, ap, subst, ℕ, ◌+◌, ◌<◌, ◌==◌, nat_eq, nat_lt, Bool, true, false, cond, List, length, map, get_or, slice_set, Option, Some, None}
 use Rattle.std.proofs.lemmas.Bool.Decides.{nat_tests}
 use Rattle.std.proofs.lemmas.Grind.{common_steps}
 use Rattle.std.proofs.lemmas.List.{get_or-map, get_or_default, length-map}
@@ -14,8 +13,8 @@ use Rattle.orb_list.specs.declared.slot.Slot.{Slot}
 use Rattle.orb_layout.specs.declared.status.StatusBlock.{StatusBlock}
 use Rattle.orb_layout.specs.StatusBlocks.{row_of}
 use Rattle.orb_list.specs.Tickets.{TicketParts}
-use Rattle.orb_list.specs.Table.{SlotTable, unused, slot_in, free_state, is_free, is_done, next_is_linked, over_for, over_in, is_over, released, link_set, passed_for, state_after, extended, orb_number, lowest}
-use Rattle.orb_list.specs.Holds.{IsIn, IsBefore, HoldsLink, HoldsList, HoldsPresent, KeepsLink, IsSound}
+use Rattle.orb_list.specs.Table.{SlotTable, unused, slot_in, free_state, is_free, is_done, next_is_linked, over_in, is_over, released, link_set, passed_for, state_after, extended, orb_number, lowest}
+use Rattle.orb_list.specs.Holds.{IsIn, HoldsLink, HoldsPresent, KeepsLink, IsSound}
 
 pub slot_after : (slots : List Slot) (k j : ℕ) (x : Slot) → k < length slots → slot_in (slice_set slots k x) j ≡ cond (nat_eq j k) x (slot_in slots j)
 slot_after slots k j x h = grind (arith, common_steps)

@@ -1,5 +1,5 @@
 -- What every table keeps, and that a memory holds its slots.
-use Rattle.std.specs.Prelude.{◌≡◌, ◌≢◌, ℕ, ◌+◌, ◌<◌, ◌≤◌, not, Bool, true, false, List, length, Option, Some, None}
+use Rattle.std.specs.Prelude.{◌≡◌, ℕ, ◌+◌, ◌<◌, ◌≤◌, not, false, List, length, Option, Some, None}
 use Rattle.bus_memory.specs.Memory.{Memory, slot_at}
 use Rattle.bus_memory.specs.Laws.{IsWhole}
 use Rattle.orb_list.specs.declared.list.Link.{Link}

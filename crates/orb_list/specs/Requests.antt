@@ -1,5 +1,5 @@
 -- Commands that are to be prepared.
-use Rattle.std.specs.Prelude.{◌≡◌, ℕ, ◌<◌, ◌≤◌, ◌⊎◌, ◌^◌, sum, Bool, List, [], length}
+use Rattle.std.specs.Prelude.{◌≡◌, ℕ, ◌<◌, ◌≤◌, ◌^◌, sum, Bool, List, length}
 use Rattle.orb_list.specs.declared.request.Request.{Request}
 
 -- a request, with its data and the lengths of its segments

@@ -3,6 +3,7 @@
 #![tactic(auto)]
 
 mod fault;
+mod laws;
 mod layout;
 mod list;
 mod request;
@@ -11,6 +12,7 @@ mod slots;
 mod ticket;
 
 pub use fault::ListFault;
+pub use laws::{orbs_are_served, slots_are_kept};
 pub use list::{Link, Linking, PresentList};
 pub use request::Request;
 pub use slot::{Slot, SlotState};

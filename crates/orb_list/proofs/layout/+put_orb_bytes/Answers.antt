@@ -1,4 +1,4 @@
-use Rattle.std.proofs.Common.{arith, ℕ, ◌+◌, sym, ◌∙◌, ap, drop}
+use Rattle.std.proofs.Common.{arith, ℕ, ◌+◌, ◌∙◌, ap, drop}
 use Rattle.byteorder.specs.Endian.{big_bytes}
 use Rattle.bus_memory.specs.declared.window.Window.TheVariants as windows
 use Rattle.bus_memory.specs.Memory.{Memory, with_bytes}

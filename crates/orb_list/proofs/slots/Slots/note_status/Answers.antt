@@ -1,7 +1,6 @@
 use Rattle.std.proofs.Common.{arith, Option, get_or, slice_set, ◌∙◌, ap, sym, subst}
 use Rattle.std.proofs.Math.ListN.{length-set}
 use Rattle.orb_list.specs.declared.list.PresentList.{PresentList}
-use Rattle.orb_list.specs.declared.slot.SlotState.{SlotState}
 use Rattle.orb_list.specs.Table.{free_state}
 use Rattle.orb_list.specs.Holds.{HoldsPresent}
 use Rattle.orb_list.proofs.Sound.{sound_status, state_held}
