@@ -7,3 +7,4 @@ pub mod Held
 pub mod Tied
 pub mod Spelled
 pub mod Imaged
+pub mod Tables

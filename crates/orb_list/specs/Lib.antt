@@ -6,3 +6,4 @@ pub mod Holds
 pub mod Runs
 pub mod Kept
 pub mod Laws
+pub mod Tables

@@ -1,5 +1,6 @@
 ghost use Rattle.orb_list.specs.Kept.{ServedLaw};
 ghost use Rattle.orb_list.specs.Laws.{SlotsLaw};
+ghost use Rattle.orb_list.specs.Tables.{TableLaw};
 
 /// Over every list of calls an ORB that waits keeps its slot, no slot in use or at rest is given out,
 /// and no status is taken twice.
@@ -15,4 +16,10 @@ pub fn slots_are_kept()
 #[tactic(auto, using(crate::proofs::Imaged::served_law))]
 pub fn orbs_are_served()
     ensures { ServedLaw }
+{}
+
+/// The page table that is written for a request is read as its segments.
+#[tactic(auto, using(crate::proofs::Tables::table_law))]
+pub fn page_table_reads_back()
+    ensures { TableLaw }
 {}
