@@ -1,0 +1,4 @@
+pub mod Windows
+pub mod Memory
+pub mod Access
+pub mod Laws

@@ -1,0 +1,10 @@
+pub mod Places
+pub mod Quads
+pub mod Searches
+pub mod Closed
+pub mod Sound
+pub mod Held
+pub mod Tied
+pub mod Spelled
+pub mod Imaged
+pub mod Tables

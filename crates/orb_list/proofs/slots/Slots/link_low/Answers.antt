@@ -1,0 +1,9 @@
+use Rattle.std.proofs.Common.{arith}
+use Rattle.orb_list.proofs.Held.{held_quad}
+use Rattle.orb_list.proofs.slots.Slots.link_low.Goals as goal
+
+pub returns-clause-kept : goal.returns-clause-kept
+returns-clause-kept c =
+    let b = c.in-Some.ensures.before in
+    rw (c.set_link.ensures, c.put_orb_quad.ensures)
+    (held_quad c.args.self.now.slots c.args.image.now c.in-Some.field-0.before 4 c.low.result c.requires.holds b.in_slot.below (omega arith))

@@ -1,0 +1,8 @@
+use Rattle.std.proofs.Common.{arith}
+use Rattle.std.proofs.lemmas.Grind.{common_steps}
+use Rattle.std.proofs.lemmas.List.Edits.{map_over_more}
+use Rattle.orb_list.specs.Table.{rested}
+use Rattle.orb_list.proofs.slots.rest_all.Goals as goal
+
+pub loop-slot-preserved : goal.loop-slot-preserved
+loop-slot-preserved c = grind (arith, common_steps, map_over_more rested)

@@ -1,0 +1,25 @@
+ghost use Rattle.orb_list.specs.Kept.{ServedLaw};
+ghost use Rattle.orb_list.specs.Laws.{SlotsLaw};
+ghost use Rattle.orb_list.specs.Tables.{TableLaw};
+
+/// Over every list of calls an ORB that waits keeps its slot, no slot in use or at rest is given out,
+/// and no status is taken twice.
+#[tactic(auto, using(crate::proofs::Tied::slots_law))]
+pub fn slots_are_kept()
+    ensures { SlotsLaw }
+{}
+
+/// Over every list of calls the next pointer of each ORB that was prepared last in its slot is null until
+/// the high quadlet of the ORB behind it was written, and then that ORB's address; its other bytes and its
+/// page table stay as they were prepared, but for the format of a dummy. The high quadlet is written into the
+/// slot of the ORB before the one that is linked.
+#[tactic(auto, using(crate::proofs::Imaged::served_law))]
+pub fn orbs_are_served()
+    ensures { ServedLaw }
+{}
+
+/// The page table that is written for a request is read as its segments.
+#[tactic(auto, using(crate::proofs::Tables::table_law))]
+pub fn page_table_reads_back()
+    ensures { TableLaw }
+{}

@@ -1,0 +1,23 @@
+//! An initiator's command slots, and the lists of ORBs that it links in them (NCITS 325-1998, linked
+//! lists of ORBs). No call takes memory.
+#![tactic(auto)]
+
+mod fault;
+mod laws;
+mod layout;
+mod list;
+mod request;
+mod slot;
+mod slots;
+mod ticket;
+
+pub use fault::ListFault;
+pub use laws::{orbs_are_served, page_table_reads_back, slots_are_kept};
+pub use list::{Link, Linking, PresentList};
+pub use request::Request;
+pub use slot::{Slot, SlotState};
+pub use slots::Slots;
+pub use ticket::Ticket;
+
+#[cfg(test)]
+mod tests;
