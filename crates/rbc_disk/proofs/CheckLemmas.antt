@@ -39,7 +39,7 @@ need_at-tray (requests.Plain command) medium = refl
 -- a load has neither data nor an answer
 pub load_is_unfit : (request : Request) (buffer : BufferPlan) → is_load request ≡ true → is_unfit request buffer ≡ false
 load_is_unfit requests.Load buffer h = refl
-load_is_unfit requests.Eject buffer h = cc h
+load_is_unfit requests.Eject buffer h = refl
 load_is_unfit (requests.Plain command) buffer h = cc h
 
 -- where there are data, the buffer holds them and goes to the target

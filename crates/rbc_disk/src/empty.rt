@@ -1,13 +1,15 @@
-ghost use Rattle.std.specs.Prelude.{◌≡◌, ◌≤◌, Some, false, []};
-ghost use Rattle.rbc_disk.specs.Disk.{Disk, blank_bytes, absent, blank_disk};
+ghost use Rattle.std.specs.Prelude.{◌≡◌, ◌≤◌, Some, false, [], OnOk, OnErr, IsErr};
+ghost use Rattle.sbp_base.specs.Faults.{HasCause};
+ghost use Rattle.rbc_disk.specs.Disk.{Disk, Gives, written, blank_bytes, absent, blank_disk};
 
 use crate::medium::Medium;
 use sbp_base::Failed;
 
-/// A medium that is not present, of zeros.
+/// A medium that is not present, of zeros. Each read, write and verify fails.
 #[derive(Drop)]
 pub struct EmptyMedium {
     blocks: u32,
+    faults: u64,
     ghost some: { 1 ≤ blocks },
     ghost few: { blocks ≤ 65536 },
 }
@@ -20,7 +22,7 @@ impl EmptyMedium {
         ensures disk { ⟦<EmptyMedium as Medium>⟧.disk result ≡ absent (blank_disk blocks 0) }
         ensures faults { ⟦<EmptyMedium as Medium>⟧.media_faults result ≡ 0 }
     {
-        EmptyMedium { blocks }
+        EmptyMedium { blocks, faults: 0 }
     }
 }
 
@@ -34,7 +36,7 @@ impl Medium for EmptyMedium {
       shelf = [];
     } };
 
-    ghost media_faults = { λ _. 0 };
+    ghost media_faults = { λ medium. medium.faults };
 
     #[tactic(auto, unfolding(crate::specs::Disk::blank_bytes))]
     fn blocks(&self) -> u32 {
@@ -49,16 +51,33 @@ impl Medium for EmptyMedium {
         false
     }
 
-    fn read(&mut self, _lba: u32, _into: &mut [u8]) -> Result<(), Failed> {
-        unreachable!("an absent medium is not read")
+    fn read(&mut self, _lba: u32, _into: &mut [u8]) -> Result<(), Failed>
+        ensures bytes { OnOk result (Gives (⟦<EmptyMedium as Medium>⟧.disk self.old) _lba _into.new) }
+        ensures kept { ⟦<EmptyMedium as Medium>⟧.disk self.new ≡ ⟦<EmptyMedium as Medium>⟧.disk self.old }
+        ensures cause { HasCause (⟦<EmptyMedium as Medium>⟧.media_faults self.old) (⟦<EmptyMedium as Medium>⟧.media_faults self.new) result }
+        ensures refused { IsErr result }
+    {
+        self.faults = self.faults.saturating_add(1);
+        Err(Failed)
     }
 
-    fn write(&mut self, _lba: u32, _from: &[u8]) -> Result<(), Failed> {
-        unreachable!("an absent medium is not written")
+    fn write(&mut self, _lba: u32, _from: &[u8]) -> Result<(), Failed>
+        ensures written { OnOk result (⟦<EmptyMedium as Medium>⟧.disk self.new ≡ written (⟦<EmptyMedium as Medium>⟧.disk self.old) _lba _from.now) }
+        ensures failed { OnErr result (⟦<EmptyMedium as Medium>⟧.disk self.new ≡ ⟦<EmptyMedium as Medium>⟧.disk self.old) }
+        ensures cause { HasCause (⟦<EmptyMedium as Medium>⟧.media_faults self.old) (⟦<EmptyMedium as Medium>⟧.media_faults self.new) result }
+        ensures refused { IsErr result }
+    {
+        self.faults = self.faults.saturating_add(1);
+        Err(Failed)
     }
 
-    fn verify(&mut self, _lba: u32, _count: u32) -> Result<(), Failed> {
-        unreachable!("an absent medium is not verified")
+    fn verify(&mut self, _lba: u32, _count: u32) -> Result<(), Failed>
+        ensures kept { ⟦<EmptyMedium as Medium>⟧.disk self.new ≡ ⟦<EmptyMedium as Medium>⟧.disk self.old }
+        ensures cause { HasCause (⟦<EmptyMedium as Medium>⟧.media_faults self.old) (⟦<EmptyMedium as Medium>⟧.media_faults self.new) result }
+        ensures refused { IsErr result }
+    {
+        self.faults = self.faults.saturating_add(1);
+        Err(Failed)
     }
 
     fn is_bay(&self) -> bool {

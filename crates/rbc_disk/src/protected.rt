@@ -1,15 +1,17 @@
-ghost use Rattle.std.specs.Prelude.{◌≡◌, ◌*◌, ◌≤◌, Some, false, true, [], IfOk};
-ghost use Rattle.rbc_disk.specs.Disk.{Disk, protected, blank_disk};
+ghost use Rattle.std.specs.Prelude.{◌≡◌, ◌*◌, ◌≤◌, Some, false, true, [], IfOk, OnOk, OnErr, IsErr};
+ghost use Rattle.sbp_base.specs.Faults.{HasCause};
+ghost use Rattle.rbc_disk.specs.Disk.{Disk, written, protected, blank_disk};
 
 use crate::medium::Medium;
 use crate::ram::RamMedium;
 use sbp_base::{Failed, NoMemory};
 use std::alloc::Global;
 
-/// A medium in memory that can be read and not written. None of its calls fails.
+/// A medium in memory that can be read and not written. Of its calls a write alone fails.
 #[derive(Drop)]
 pub struct ProtectedMedium {
     ram: RamMedium,
+    faults: u64,
 }
 
 impl ProtectedMedium {
@@ -21,7 +23,7 @@ impl ProtectedMedium {
         ensures faults { IfOk result (λ medium. ⟦<ProtectedMedium as Medium>⟧.media_faults medium ≡ 0) }
     {
         let ram = RamMedium::new(alloc, blocks, fill)?;
-        Ok(ProtectedMedium { ram })
+        Ok(ProtectedMedium { ram, faults: 0 })
     }
 }
 
@@ -35,7 +37,7 @@ impl Medium for ProtectedMedium {
       shelf = [];
     } };
 
-    ghost media_faults = { λ _. 0 };
+    ghost media_faults = { λ medium. medium.faults };
 
     fn blocks(&self) -> u32 {
         self.ram.blocks()
@@ -53,8 +55,14 @@ impl Medium for ProtectedMedium {
         self.ram.read(lba, into)
     }
 
-    fn write(&mut self, _lba: u32, _from: &[u8]) -> Result<(), Failed> {
-        unreachable!("a protected medium is not written")
+    fn write(&mut self, _lba: u32, _from: &[u8]) -> Result<(), Failed>
+        ensures written { OnOk result (⟦<ProtectedMedium as Medium>⟧.disk self.new ≡ written (⟦<ProtectedMedium as Medium>⟧.disk self.old) _lba _from.now) }
+        ensures failed { OnErr result (⟦<ProtectedMedium as Medium>⟧.disk self.new ≡ ⟦<ProtectedMedium as Medium>⟧.disk self.old) }
+        ensures cause { HasCause (⟦<ProtectedMedium as Medium>⟧.media_faults self.old) (⟦<ProtectedMedium as Medium>⟧.media_faults self.new) result }
+        ensures refused { IsErr result }
+    {
+        self.faults = self.faults.saturating_add(1);
+        Err(Failed)
     }
 
     fn verify(&mut self, lba: u32, count: u32) -> Result<(), Failed> {
