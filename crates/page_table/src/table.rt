@@ -1,10 +1,11 @@
-ghost use Rattle.std.specs.Prelude.{◌≡◌, ◌+◌, ◌*◌, ◌/◌, ◌%◌, ◌≤◌, ◌<◌, ◌↔◌, [], ◌∷◌, ◌++◌, length, None, IfOk, OnErr, IsNone};
-ghost use Rattle.page_table.specs.Buffer.{AreSegments, IsSegment, chunk_from, bytes_of};
+ghost use Rattle.std.specs.Prelude.{◌≡◌, ◌+◌, ◌*◌, ◌/◌, ◌%◌, ◌≤◌, ◌<◌, ◌^◌, ◌↔◌, [], ◌∷◌, ◌++◌, length, None, IfOk, OnErr, IsNone};
+ghost use Rattle.page_table.specs.Buffer.{AreSegments, IsSegment, chunk_from, bytes_of, single};
 ghost use Rattle.page_table.specs.Elements.{elements_of, elements_from, first_fault, told};
 
 use crate::fault::PageFault;
 use crate::read::{element_at, fault_from};
 use crate::segment::{Chunk, Segment, chunk_at, total_of};
+use sbp_base::Offset;
 use std::marker::Model;
 
 /// The most elements of a page table.
@@ -37,6 +38,21 @@ impl SegmentTable {
         SegmentTable {
             segments: [Segment { base: 0, length: 0 }; ROOM],
             count: 0,
+        }
+    }
+
+    /// The buffer without a page table takes the place of the segments: `length` bytes from `base` on,
+    /// none where `length` is zero. It ends at 2^48 at most.
+    pub fn set_single(&mut self, base: Offset, length: u16)
+        requires { base + length ≤ 2 ^ 48 }
+        ensures { self.new ≡ single base length }
+    {
+        *self = SegmentTable::new();
+        if length != 0 {
+            self.push(Segment {
+                base: base.value(),
+                length,
+            });
         }
     }
 

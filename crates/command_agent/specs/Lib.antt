@@ -1,0 +1,5 @@
+pub mod Replies
+pub mod Machine
+pub mod Checks
+pub mod Steps
+pub mod Runs
