@@ -38,3 +38,7 @@ pub record IsPassed (orb : CommandOrb) : Type 0 where
 -- a page table is read where it has elements
 abbrev pub reads_table : CommandOrb → Bool
 reads_table orb = orb.has_table && not (orb.data_size == 0)
+
+-- the bytes of a buffer whose page table is not read
+abbrev pub plain_length : CommandOrb → ℕ
+plain_length orb = if orb.has_table then 0 else orb.data_size

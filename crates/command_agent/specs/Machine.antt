@@ -132,21 +132,21 @@ cut_to left (Some taken) = chunk taken.offset (min left taken.length)
 abbrev pub chunk_of : Machine → ℕ → ℕ → Chunk
 chunk_of m done total = cut_to (total - done) (chunk_from m.segments done (limit_of m.orb))
 
--- What holds between two calls, by phase.
+-- What always holds, by phase.
 pub record IsTabled (m : Machine) : Type 0 where
   pub few : m.orb.data_size ≤ 64
   pub limit : m.orb.max_payload ≤ 9
   pub fresh : m.payload ≡ []
 
 pub record IsFilling (m : Machine) (wanted : ℕ) : Type 0 where
-  pub below : length m.payload < wanted
+  pub within : length m.payload ≤ wanted
   pub fits : wanted ≤ bytes_of m.segments
   pub room : wanted ≤ 16384
   pub whole : wanted ≡ data_length_of false m.orb.cdb
   pub limit : m.orb.max_payload ≤ 9
 
 pub record IsAnswering (m : Machine) : Type 0 where
-  pub below : m.written < length m.answer
+  pub within : m.written ≤ length m.answer
   pub fits : length m.answer ≤ bytes_of m.segments
   pub limit : m.orb.max_payload ≤ 9
 

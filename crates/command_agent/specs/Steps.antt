@@ -1,5 +1,5 @@
 -- What each call of an agent does (NCITS 325-1998, command block agents), in equations over its state.
-use Rattle.std.specs.Prelude.{ℕ, ◌+◌, ◌-◌, ◌*◌, ◌==◌, ◌&&◌, ◌||◌, Bool, true, false, if◌then◌else◌, List, [], ◌++◌, length, take, drop, Option, Some, None, Result, Ok, Err}
+use Rattle.std.specs.Prelude.{◌≡◌, ◌≤◌, ℕ, ◌+◌, ◌-◌, ◌*◌, ◌==◌, ◌&&◌, ◌||◌, Bool, true, false, if◌then◌else◌, List, [], ◌++◌, length, take, drop, Option, Some, None, Result, Ok, Err}
 use Rattle.orb_layout.specs.declared.ask.Ask.{Ask}
 use Rattle.orb_layout.specs.declared.ask.Ask.TheVariants.{Read, Write, Nothing}
 use Rattle.orb_layout.specs.declared.ask.FailCause.{FailCause}
@@ -22,7 +22,7 @@ use Rattle.rbc_disk.specs.declared.command.Need.TheVariants as needs
 use Rattle.rbc_disk.specs.declared.command.Outcome.{Outcome}
 use Rattle.rbc_disk.specs.declared.command.Outcome.TheVariants as outcomes
 use Rattle.rbc_disk.specs.Units.{PlainDisk}
-use Rattle.rbc_disk.specs.Runs.{need_of}
+use Rattle.rbc_disk.specs.Runs.{need_of, data_length_of}
 use Rattle.command_agent.specs.declared.phase.Phase.{Phase}
 use Rattle.command_agent.specs.declared.phase.Phase.TheVariants as phases
 use Rattle.command_agent.specs.declared.phase.ReadAhead.{ReadAhead}
@@ -36,7 +36,7 @@ use Rattle.command_agent.specs.declared.step.Move.{Move}
 use Rattle.command_agent.specs.declared.step.Move.TheVariants as moves
 use Rattle.command_agent.specs.Replies.{Answer, payload_of, write_failure}
 use Rattle.command_agent.specs.Machine.{Machine, unread, aligned, awaits_run, plan_of, chunk_of}
-use Rattle.command_agent.specs.Checks.{verdict, death_by, reads_table}
+use Rattle.command_agent.specs.Checks.{verdict, death_by, reads_table, plain_length}
 
 -- nothing is sent and nothing told
 abbrev pub quiet : AgentStep
@@ -139,9 +139,12 @@ turn_step m next aheads.Idle = sent (fetch_step m next)
 turn_step m next aheads.UnderWay = (moves.Send quiet, turned m next)
 turn_step m next (aheads.Kept orb) = (moves.Check, record (turned m next) { orb = orb })
 
+abbrev pub wait_step : Machine → AgentStep × Machine
+wait_step m = if m.doorbell then reread_step m else (quiet, record m { phase = phases.Suspended })
+
 abbrev pub follow_step : Machine → OrbPointer → Move × Machine
 follow_step m (At next) = turn_step m next m.ahead
-follow_step m Null = if m.doorbell then sent (reread_step m) else (moves.Send quiet, record m { phase = phases.Suspended })
+follow_step m Null = sent (wait_step m)
 
 abbrev pub status_written : Machine → Option FailCause → Move × Machine
 status_written m (Some cause) = sent (dead_step m cause)
@@ -192,7 +195,7 @@ answer_step m =
      record m { phase = phases.Answering; outgoing = take (answer_chunk m) (drop m.written m.answer) })
 
 abbrev pub answer_grown : Machine → Move × Machine
-answer_grown m = if m.written == length m.answer then sent (end_step m kinds.Good None) else sent (answer_step m)
+answer_grown m = sent (if m.written == length m.answer then end_step m kinds.Good None else answer_step m)
 
 abbrev pub chunk_written : Machine → Option FailCause → Move × Machine
 chunk_written m (Some cause) = sent (fail_step m cause)
@@ -235,7 +238,7 @@ judge_step m place plain told = judged m told (need_of m.orb.cdb (plan_of m) pla
 
 -- the buffer of an ORB whose page table is not read
 abbrev pub unread_buffer : CommandOrb → List Segment
-unread_buffer orb = single orb.descriptor (if orb.has_table then 0 else orb.data_size)
+unread_buffer orb = single orb.descriptor (plain_length orb)
 
 -- the first request of an ORB whose bytes are there
 abbrev pub passed_step : Machine → ℕ → PlainDisk → Told → AgentStep × Machine
@@ -280,3 +283,18 @@ replied m place plain told Ahead answer = ahead_step m answer
 -- a reply, over what the unit and its medium hold and what a run told
 unfoldable pub reply_step : Machine → ℕ → PlainDisk → Told → Which → Answer → AgentStep × Machine
 reply_step m place plain told which answer = replied m place plain told which answer
+
+-- what is known of the present ORB where its command is to be judged, or runs
+pub record IsJudgeable (m : Machine) : Type 0 where
+  pub limit : m.orb.max_payload ≤ 9
+  pub fresh : m.payload ≡ []
+
+pub record IsFed (m : Machine) : Type 0 where
+  pub limit : m.orb.max_payload ≤ 9
+  pub whole : length m.payload ≡ data_length_of false m.orb.cdb
+
+abbrev pub IsReady : Move → Machine → Type 0
+IsReady (moves.Send step) m = step.ran ≡ None
+IsReady moves.Check m = m.phase ≡ phases.Fetching
+IsReady moves.Judge m = IsJudgeable m
+IsReady moves.Run m = IsFed m

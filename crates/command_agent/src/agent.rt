@@ -3,10 +3,10 @@ ghost use Rattle.std.specs.Prelude.{◌≡◌, ◌+◌, ◌-◌, ◌*◌, ◌%�
 use crate::phase::{Phase, ReadAhead};
 use crate::reply::orb_in;
 use crate::room::{Outgoing, Room};
-use crate::step::{AgentState, AgentStep, PointRefusal};
-use orb_layout::{Ask, CommandOrb, FailCause, OrbPointer, StatusBlock, StatusKind};
+use crate::step::{AgentState, AgentStep, PointRefusal, Which};
+use orb_layout::{Ask, CommandOrb, FailCause, OrbPointer, Reply, StatusBlock, StatusKind};
 use page_table::{Chunk, SegmentTable};
-use rbc_disk::BufferPlan;
+use rbc_disk::{BufferPlan, Medium, Unit};
 use sbp_base::{NoMemory, Offset};
 use std::alloc::Global;
 use std::marker::Model;
@@ -80,8 +80,11 @@ impl Model for Agent {
 impl Agent {
     ghost use Rattle.orb_layout.specs.StatusBlocks.{status_bytes};
     ghost use Rattle.page_table.specs.Buffer.{bytes_of};
-    ghost use Rattle.command_agent.specs.Machine.{new_machine, state_in, present_of, awaits_run, aligned, plan_of, limit_of, chunk_of};
-    ghost use Rattle.command_agent.specs.Steps.{point_step, doorbell_step, reset_step, is_reset, abort_step, fetch_step, turned, reread_step, end_step, dead_step, block_of, src_of};
+    ghost use Rattle.command_agent.specs.Machine.{new_machine, state_in, present_of, awaits_run, aligned, is_under_way, plan_of, limit_of, chunk_of};
+    ghost use Rattle.command_agent.specs.Replies.{answer_of};
+    ghost use Rattle.command_agent.specs.Runs.{Leaves, told_by};
+    ghost use Rattle.rbc_disk.specs.Units.{plain_disk};
+    ghost use Rattle.command_agent.specs.Steps.{point_step, doorbell_step, reset_step, is_reset, abort_step, reply_step, fetch_step, turned, reread_step, end_step, dead_step, block_of, src_of};
 
     /// An agent in RESET, with all the room that it will use.
     pub fn new(alloc: Global) -> Result<Agent, NoMemory>
@@ -143,6 +146,31 @@ impl Agent {
         ensures { result.now ≡ self.now.payload }
     {
         self.payload.as_slice()
+    }
+
+    /// What came of the main transaction, or of the read ahead: the agent goes on, and runs the command
+    /// of its present ORB once all of its data is there. `login` is the place of the login.
+    #[tactic(auto, unfolding(crate::specs::Steps::reply_step))]
+    pub fn reply(
+        &mut self,
+        unit: &mut Unit,
+        medium: &mut dyn Medium,
+        login: u8,
+        which: Which,
+        reply: Reply<'_>,
+    ) -> AgentStep
+        requires under_way { is_under_way which self.old ≡ true }
+        requires place { login < 8 }
+        ensures step { (result, self.new) ≡ reply_step self.old login (plain_disk unit.old (disk medium.old)) (told_by result self.new) which (answer_of reply.entry) }
+        ensures left { Leaves result.ran self.new login (plain_disk unit.old (disk medium.old)) (plain_disk unit.new (disk medium.new)) (media_faults medium.old) (media_faults medium.new) }
+    {
+        match which {
+            Which::Main => {
+                let next = self.advance(reply);
+                self.serve(unit, medium, login, next)
+            }
+            Which::Ahead => self.keep_ahead(reply),
+        }
     }
 
     /// A write of ORB_POINTER: in RESET and SUSPENDED a pointer that is not null is taken, and the ORB
@@ -308,23 +336,36 @@ impl Agent {
         }
     }
 
+    /// The most bytes of a chunk.
+    #[tactic(auto, using(crate::proofs::Limits::limit_some, crate::proofs::Limits::limit_few))]
+    fn limit(&self) -> u16
+        requires { self.now.orb.max_payload ≤ 9 }
+        ensures limit { result ≡ limit_of self.now.orb }
+        ensures some { 4 ≤ result }
+        ensures few { result ≤ 2048 }
+    {
+        1 << (self.orb.max_payload + 2)
+    }
+
     /// The chunk behind `done` bytes of the `total` that are to be moved.
     fn chunk(&self, done: u16, total: u16) -> Chunk
-        requires below { done < total }
+        requires within { done ≤ total }
         requires fits { total ≤ bytes_of self.now.segments }
         requires limit { self.now.orb.max_payload ≤ 9 }
         ensures chunk { result ≡ chunk_of self.now done total }
         ensures few { result.length ≤ 2048 }
         ensures left { done + result.length ≤ total }
-        ensures some { 0 < result.length }
+        ensures some { done < total → 0 < result.length }
     {
-        let limit = 1 << (self.orb.max_payload + 2);
-        match self.segments.next_chunk(u32::from(done), limit) {
+        match self.segments.next_chunk(u32::from(done), self.limit()) {
             Some(Chunk { offset, length }) => Chunk {
                 offset,
                 length: length.min(total - done),
             },
-            None => unreachable!(),
+            None => Chunk {
+                offset: start(),
+                length: 0,
+            },
         }
     }
 }

@@ -1,5 +1,5 @@
 ghost use Rattle.std.specs.Prelude.{◌≡◌, ◌+◌, ◌^◌, nat_lt, IfNone};
-ghost use Rattle.command_agent.specs.Checks.{verdict, refusal, IsPassed, death_by, reads_table};
+ghost use Rattle.command_agent.specs.Checks.{verdict, refusal, IsPassed, death_by, reads_table, plain_length};
 
 use orb_layout::{CommandOrb, FailCause, StatusKind};
 
@@ -54,6 +54,13 @@ pub fn reads_table(orb: &CommandOrb) -> bool
     ensures { result ≡ reads_table orb.now }
 {
     orb.has_table && orb.data_size != 0
+}
+
+/// The bytes of a buffer whose page table is not read: none where it is a table of no elements.
+pub fn plain_length(orb: &CommandOrb) -> u16
+    ensures { result ≡ plain_length orb.now }
+{
+    if orb.has_table { 0 } else { orb.data_size }
 }
 
 /// Why an agent becomes dead at an ORB that ends in this way.

@@ -1,4 +1,4 @@
-ghost use Rattle.std.specs.Prelude.{◌≡◌, ◌+◌, ◌*◌, ◌/◌, ◌%◌, ◌≤◌, ◌<◌, ◌^◌, ◌↔◌, [], ◌∷◌, ◌++◌, length, None, IfOk, OnErr, IsNone};
+ghost use Rattle.std.specs.Prelude.{◌≡◌, ◌+◌, ◌*◌, ◌/◌, ◌%◌, ◌≤◌, ◌<◌, ◌^◌, ◌↔◌, [], ◌∷◌, ◌++◌, length, None, IfOk, IfSome, OnErr, IsNone};
 ghost use Rattle.page_table.specs.Buffer.{AreSegments, IsSegment, chunk_from, bytes_of, single};
 ghost use Rattle.page_table.specs.Elements.{elements_of, elements_from, first_fault, told};
 
@@ -71,6 +71,8 @@ impl SegmentTable {
         requires some { 4 ≤ limit }
         ensures chunk { result ≡ chunk_from self.now done limit }
         ensures end { IsNone result ↔ (done ≡ bytes_of self.now) }
+        ensures few { IfSome result (λ chunk. chunk.length ≤ limit) }
+        ensures some { IfSome result (λ chunk. 0 < chunk.length) }
     {
         chunk_at(&self.segments[0..self.count], done, limit)
     }
