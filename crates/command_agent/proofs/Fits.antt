@@ -1,5 +1,5 @@
 -- What the checks of a command leave known of its data and its answer (RBC).
-use Rattle.std.proofs.Common.{◌≡◌, ◌∙◌, ap, ℕ, zero, suc, ◌+◌, ◌*◌, ◌<◌, ◌≤◌, ◌==◌, nat_lt, Bool, true, false, cond, List, length, Option, Some, None, Result, Ok, Err, refl, arith}
+use Rattle.std.proofs.Common.{◌≡◌, ◌∙◌, ap, sym, ℕ, zero, suc, ◌+◌, ◌*◌, ◌<◌, ◌≤◌, ◌==◌, nat_lt, Bool, true, false, cond, List, length, Option, Some, None, Result, Ok, Err, refl, arith}
 use Rattle.std.specs.Prelude.{◌&&◌, ◌||◌, not, is_none}
 use Rattle.std.proofs.lemmas.Bool.Decides.{nat_tests}
 use Rattle.rbc_command.specs.declared.sense.Sense.{Sense}
@@ -115,6 +115,14 @@ needing : (check : Option Sense) (len wanted : ℕ) → need_at check len ≡ ne
 needing (Some check) len wanted e = cc e
 needing None len wanted e = record { passed = refl; same = grind (arith, nat_tests); some = grind (arith, nat_tests) }
 
+-- the data that are needed
+pub data_needed : (cdb : List ℕ) (buffer : BufferPlan) (plain : PlainDisk) (place wanted : ℕ) → need_of cdb buffer plain place ≡ needs.Payload wanted → wanted ≡ data_length_of false cdb
+data_needed cdb buffer plain place wanted e =
+    let n : Needing (check_of cdb buffer plain place) (data_length_of plain.medium.is_bay cdb) wanted = needing (check_of cdb buffer plain place) (data_length_of plain.medium.is_bay cdb) wanted e in
+    let some : 0 < data_length_of plain.medium.is_bay cdb = omega arith in
+    let same : data_length_of plain.medium.is_bay cdb ≡ data_length_of false cdb = data_by plain.medium.is_bay cdb some in
+    omega arith
+
 -- an ORB whose command needs data can be filled
 pub filled_by : (m : Machine) (plain : PlainDisk) (place wanted : ℕ) → IsJudgeable m → need_of m.orb.cdb (plan_of m) plain place ≡ needs.Payload wanted → IsFilling m wanted
 filled_by m plain place wanted j e =
@@ -134,11 +142,7 @@ feeds_at (needs.Payload wanted) len payload h e = e ∙ h wanted refl
 pub feeds_all : (cdb : List ℕ) (buffer : BufferPlan) (plain : PlainDisk) (place : ℕ) (payload : List ℕ) → length payload ≡ data_length_of false cdb → Feeds (need_of cdb buffer plain place) payload
 feeds_all cdb buffer plain place payload e =
     feeds_at (need_of cdb buffer plain place) (data_length_of false cdb) payload
-    (λ wanted h.
-    let n : Needing (check_of cdb buffer plain place) (data_length_of plain.medium.is_bay cdb) wanted = needing (check_of cdb buffer plain place) (data_length_of plain.medium.is_bay cdb) wanted h in
-    let some : 0 < data_length_of plain.medium.is_bay cdb = omega arith in
-    let same : data_length_of plain.medium.is_bay cdb ≡ data_length_of false cdb = data_by plain.medium.is_bay cdb some in
-    omega arith)
+    (λ wanted h. sym (data_needed cdb buffer plain place wanted h))
     e
 
 pub feeds_none : (need : Need) (payload : List ℕ) → need ≡ needs.RunNow → Feeds need payload

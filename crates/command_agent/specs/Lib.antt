@@ -3,3 +3,4 @@ pub mod Machine
 pub mod Checks
 pub mod Steps
 pub mod Runs
+pub mod Calls

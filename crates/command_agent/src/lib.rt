@@ -5,11 +5,13 @@
 
 mod agent;
 mod checks;
+mod laws;
 mod phase;
 mod reply;
 mod room;
 mod step;
 
 pub use agent::Agent;
+pub use laws::{calls_are_lawful, calls_keep_order};
 pub use phase::{Phase, ReadAhead};
 pub use step::{AgentState, AgentStep, PointRefusal, Which};
