@@ -203,9 +203,11 @@ chunk_after : (failure : Option FailCause) (m : Machine) (told : Told) (place : 
 chunk_after (Some cause) m told place plain ns l w a = record { after = end_after m kinds.Failed (Some cause) place plain ns l w.still w.here (λ e. cc e) a }
 chunk_after None m told place plain ns l w a =
     let n : Machine = record m { written = m.written + answer_chunk m } in
-    record { after = by_test place plain ns (n.written == length n.answer) (end_step n kinds.Good None) (answer_step n)
-    (end_after n kinds.Good None place plain ns l w.still w.here (λ _. w.next) a)
-    (answer_after n place plain ns l w a) }
+    record {
+      after = by_test place plain ns (n.written == length n.answer) (end_step n kinds.Good None) (answer_step n)
+          (end_after n kinds.Good None place plain ns l w.still w.here (λ _. w.next) a)
+          (answer_after n place plain ns l w a);
+    }
 
 -- to the write of its status block, and to a read of its next pointer
 turn_after : (ahead : ReadAhead) (next : ℕ) (m : Machine) (told : Told) (place : ℕ) (plain : PlainDisk) (ns : List Note) → Lawful ns → Over (is_open ns) (present_in ns) → next_in ns ≡ At next → KeepsAhead ahead (ahead_in ns) → AfterMove place plain told (turn_notes (At next) ahead ns) (turn_step m next ahead)
@@ -220,9 +222,11 @@ turn_after (aheads.Kept orb) next m told place plain ns l o n a =
 follow_after : (next : OrbPointer) (m : Machine) (told : Told) (place : ℕ) (plain : PlainDisk) (ns : List Note) → Lawful ns → Over (is_open ns) (present_in ns) → next_in ns ≡ next → KeepsAhead m.ahead (ahead_in ns) → AfterMove place plain told (turn_notes next m.ahead ns) (follow_step m next)
 follow_after (At next) m told place plain ns l o n a = turn_after m.ahead next m told place plain ns l o n a
 follow_after Null m told place plain ns l o n a =
-    record { after = by_test place plain ns m.doorbell (reread_step m) (quiet, record m { phase = phases.Suspended })
-    (record { tied = record { lawful = l; phase = o; ahead = a } })
-    (record { tied = record { lawful = l; phase = o; ahead = a } }) }
+    record {
+      after = by_test place plain ns m.doorbell (reread_step m) (quiet, record m { phase = phases.Suspended })
+          (record { tied = record { lawful = l; phase = o; ahead = a } })
+          (record { tied = record { lawful = l; phase = o; ahead = a } });
+    }
 
 dead_after : (m : Machine) (cause : FailCause) (told : Told) (place : ℕ) (plain : PlainDisk) (ns : List Note) → Lawful ns → AfterMove place plain told ns (sent (dead_step m cause))
 dead_after m cause told place plain ns l = record { after = record { tied = record { lawful = l; phase = tt; ahead = tt } } }

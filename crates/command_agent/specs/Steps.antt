@@ -64,9 +64,10 @@ kept_ahead (Some cause) ahead = aheads.Idle
 
 -- the present ORB ends, and its status block is written; with a cause the agent becomes dead
 abbrev pub end_step : Machine → StatusKind → Option FailCause → AgentStep × Machine
-end_step m kind dead =
-    (record quiet { ask = Write 0 (length (status_bytes (block_of m kind))); ended = Some kind; dead = dead },
-     record m { phase = status_phase dead; ahead = kept_ahead dead m.ahead; outgoing = status_bytes (block_of m kind) })
+end_step m kind dead = (
+  record quiet { ask = Write 0 (length (status_bytes (block_of m kind))); ended = Some kind; dead = dead },
+  record m { phase = status_phase dead; ahead = kept_ahead dead m.ahead; outgoing = status_bytes (block_of m kind) },
+)
 
 abbrev pub fail_step : Machine → FailCause → AgentStep × Machine
 fail_step m cause = end_step m kinds.Failed (Some cause)
@@ -172,9 +173,10 @@ table_read m (Ok bytes) =
 
 -- its data, chunk by chunk
 abbrev pub data_step : Machine → ℕ → AgentStep × Machine
-data_step m wanted =
-    (asks (Read (chunk_of m (length m.payload) wanted).offset (chunk_of m (length m.payload) wanted).length),
-     record m { phase = phases.ReadingData wanted })
+data_step m wanted = (
+  asks (Read (chunk_of m (length m.payload) wanted).offset (chunk_of m (length m.payload) wanted).length),
+  record m { phase = phases.ReadingData wanted },
+)
 
 abbrev pub data_grown : Machine → ℕ → Move × Machine
 data_grown m wanted = if length m.payload == wanted then (moves.Run, m) else sent (data_step m wanted)
@@ -190,9 +192,10 @@ abbrev pub answer_chunk : Machine → ℕ
 answer_chunk m = (chunk_of m m.written (length m.answer)).length
 
 abbrev pub answer_step : Machine → AgentStep × Machine
-answer_step m =
-    (asks (Write (chunk_of m m.written (length m.answer)).offset (answer_chunk m)),
-     record m { phase = phases.Answering; outgoing = take (answer_chunk m) (drop m.written m.answer) })
+answer_step m = (
+  asks (Write (chunk_of m m.written (length m.answer)).offset (answer_chunk m)),
+  record m { phase = phases.Answering; outgoing = take (answer_chunk m) (drop m.written m.answer) },
+)
 
 abbrev pub answer_grown : Machine → Move × Machine
 answer_grown m = sent (if m.written == length m.answer then end_step m kinds.Good None else answer_step m)

@@ -117,6 +117,16 @@ impl Agent {
         }
     }
 
+    /// Whether a transaction is under way, so that it can be replied to.
+    pub fn is_under_way(&self, which: Which) -> bool
+        ensures { result ≡ is_under_way which self.now }
+    {
+        match which {
+            Which::Main => !matches!(self.phase, Phase::Reset | Phase::Suspended | Phase::Dead),
+            Which::Ahead => matches!(self.ahead, ReadAhead::UnderWay),
+        }
+    }
+
     /// The bytes of the write last asked for.
     pub fn outgoing(&self) -> &[u8]
         ensures { result.now ≡ self.now.outgoing }

@@ -15,3 +15,6 @@ pub use agent::Agent;
 pub use laws::{calls_are_lawful, calls_keep_order};
 pub use phase::{Phase, ReadAhead};
 pub use step::{AgentState, AgentStep, PointRefusal, Which};
+
+#[cfg(test)]
+mod tests;

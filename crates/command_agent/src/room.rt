@@ -92,7 +92,14 @@ impl Room {
         ensures medium { disk medium.new ≡ medium_after cdb.now payload.now (check_in result) (disk medium.old) }
         ensures unit { unit.new ≡ unit_after cdb.now (check_in result) login (disk medium.old).is_bay unit.old }
     {
-        let outcome = unit.run(medium, login, cdb, buffer, payload, self.bytes.as_mut_slice());
+        let outcome = unit.run(
+            medium,
+            login,
+            cdb,
+            buffer,
+            payload,
+            self.bytes.as_mut_slice(),
+        );
         self.count = match outcome {
             Outcome::Good { answer } => answer as usize,
             Outcome::Check(_) => 0,

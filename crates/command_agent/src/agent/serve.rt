@@ -128,7 +128,9 @@ impl Agent {
     {
         let plan = self.plan();
         let payload = self.payload.as_slice();
-        let outcome = self.answer.run(unit, medium, login, &self.orb.cdb, plan, payload);
+        let outcome = self
+            .answer
+            .run(unit, medium, login, &self.orb.cdb, plan, payload);
         self.written = 0;
         AgentStep {
             ran: Some(outcome),
