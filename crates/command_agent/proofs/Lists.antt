@@ -1,5 +1,6 @@
 -- The law over every list of calls: an invariant by phase, and one lemma for each step.
 use Rattle.std.proofs.Common.{◌≡◌, refl, ap, sym, ◌∙◌, ℕ, zero, suc, ◌+◌, ◌*◌, ◌==◌, ◌<◌, ◌≤◌, Bool, true, false, cond, List, [], ◌∷◌, ◌++◌, length, drop, Option, Some, None, Result, Ok, Err, arith}
+use Rattle.std.specs.Prelude.{◌&&◌, ◌||◌}
 use Rattle.std.proofs.lemmas.Bool.Decides.{nat_tests}
 use Rattle.orb_layout.specs.declared.ask.Ask.{Ask}
 use Rattle.orb_layout.specs.declared.ask.Ask.TheVariants.{Read, Write, Nothing}
@@ -30,10 +31,10 @@ use Rattle.command_agent.specs.declared.step.Move.TheVariants as moves
 use Rattle.command_agent.specs.declared.step.Which.{Which}
 use Rattle.command_agent.specs.declared.step.Which.TheVariants.{Main, Ahead}
 use Rattle.command_agent.specs.Replies.{Answer, payload_of, write_failure}
-use Rattle.command_agent.specs.Machine.{Machine, new_machine, aligned, named, plan_of, chunk_of}
+use Rattle.command_agent.specs.Machine.{Machine, new_machine, aligned, named, rung_in, is_ahead, plan_of, chunk_of}
 use Rattle.command_agent.specs.Checks.{verdict, death_by, reads_table}
-use Rattle.command_agent.specs.Steps.{Told, quiet, sent, dead_step, reread_step, kept_from, end_step, answer_step, with_outcome, ran_as, run_step, judged, judge_step, passed_step, checked, check_step, ahead_of, with_ahead, served, advanced, orb_read, table_read, elements_read, data_read, data_grown, chunk_written, answer_grown, status_written, next_read, follow_step, turn_step, wait_step, pointed, point_step, doorbell_step, reset_step, abort_step, replied, reply_step, unread_buffer, answer_chunk, turned}
-use Rattle.command_agent.specs.Calls.{Call, Point, Doorbell, Reset, Abort, Reply, after_call, after_calls, Note, Pointed, Cut, Turn, Fetched, Reread, AheadRead, AheadUsed, Ran, Answered, Ended, turn_notes, fetch_notes, reread_notes, status_notes, ahead_notes, main_notes, heard, point_notes, run_notes, write_notes, step_notes, noted, notes, is_open, before_present, present_in, fetched_in, next_in, runs_in, ahead_in, Lawful, begun, ended, InOrder, CallsAreLawful, CallsKeepOrder}
+use Rattle.command_agent.specs.Steps.{Told, quiet, sent, is_unsent, ahead_step, dead_step, reread_step, kept_from, end_step, answer_step, with_outcome, ran_as, run_step, judged, judge_step, passed_step, checked, check_step, ahead_of, with_ahead, served, advanced, orb_read, table_read, elements_read, data_read, data_grown, chunk_written, answer_grown, status_written, next_read, follow_step, turn_step, wait_step, pointed, point_step, doorbell_step, reset_step, abort_step, replied, reply_step, unread_buffer, answer_chunk, turned}
+use Rattle.command_agent.specs.Calls.{Call, Point, Doorbell, Reset, Abort, Reply, after_call, after_calls, Note, Pointed, Cut, Turn, Fetched, Reread, AheadRead, AheadUsed, Ran, Answered, Ended, turn_notes, fetch_notes, reread_notes, status_notes, ahead_notes, main_notes, heard, point_notes, run_notes, write_notes, step_notes, noted, notes, is_open, before_present, present_in, fetched_in, next_in, runs_in, ahead_in, Lawful, begun, ended, InOrder, CallsAreLawful, CallsKeepOrder, RereadsEndNothing}
 use Rattle.command_agent.proofs.Fits.{data_needed, feeds_all, feeds_none}
 
 -- What is known by phase, over what the notes say: whether a list is open, the present ORB, how often it ran, its bytes and its next pointer. It was not read yet:
@@ -158,21 +159,21 @@ check_after m told place plain ns r =
 
 -- the reply to a read of the present ORB
 orb_after : (r : Result (List ℕ) FailCause) (m : Machine) (told : Told) (place : ℕ) (plain : PlainDisk) (ns : List Note) → Lawful ns → Begun m.present (is_open ns) (present_in ns) (runs_in ns) → KeepsAhead m.ahead (ahead_in ns) → AfterMove place plain told (fetch_notes r ns) (orb_read m r)
-orb_after (Err cause) m told place plain ns l b a = record { after = end_after m kinds.Failed (Some cause) place plain ns l b.still b.here (λ e. cc e) a }
+orb_after (Err cause) m told place plain ns l b a = record { after = end_after m kinds.Failed (Some cause) place plain ns l b.still b.here (λ e. cc) a }
 orb_after (Ok bytes) m told place plain ns l b a =
     check_after (record m { orb = command_orb bytes }) told place plain (Fetched (command_orb bytes) ∷ ns)
     (record { lawful = l; waits = record { still = b.still; here = b.here; none = b.none; got = refl; next = refl }; ahead = a })
 
 -- of its page table
 elements_after : (fault : Option PageFault) (bytes : List ℕ) (m : Machine) (told : Told) (place : ℕ) (plain : PlainDisk) (ns : List Note) → Ready m ns → AfterMove place plain told ns (elements_read m bytes fault)
-elements_after (Some fault) bytes m told place plain ns r = record { after = end_after m (kinds.Illegal 0xff) (Some causes.Grammar) place plain ns r.lawful r.waits.still r.waits.here (λ e. cc e) r.ahead }
+elements_after (Some fault) bytes m told place plain ns r = record { after = end_after m (kinds.Illegal 0xff) (Some causes.Grammar) place plain ns r.lawful r.waits.still r.waits.here (λ e. cc) r.ahead }
 elements_after None bytes m told place plain ns r = record { after = judge_after (record m { segments = elements_of bytes }) told place plain ns (record { lawful = r.lawful; waits = r.waits; ahead = r.ahead }) }
 
 aborted_after : (m : Machine) (told : Told) (place : ℕ) (plain : PlainDisk) (ns : List Note) → Ready m ns → AfterMove place plain told ns (sent (end_step m kinds.Aborted None))
 aborted_after m told place plain ns r = record { after = end_after m kinds.Aborted None place plain ns r.lawful r.waits.still r.waits.here (λ _. r.waits.next) r.ahead }
 
 failed_after : (m : Machine) (cause : FailCause) (told : Told) (place : ℕ) (plain : PlainDisk) (ns : List Note) → Ready m ns → AfterMove place plain told ns (sent (end_step m kinds.Failed (Some cause)))
-failed_after m cause told place plain ns r = record { after = end_after m kinds.Failed (Some cause) place plain ns r.lawful r.waits.still r.waits.here (λ e. cc e) r.ahead }
+failed_after m cause told place plain ns r = record { after = end_after m kinds.Failed (Some cause) place plain ns r.lawful r.waits.still r.waits.here (λ e. cc) r.ahead }
 
 table_after : (r : Result (List ℕ) FailCause) (m : Machine) (told : Told) (place : ℕ) (plain : PlainDisk) (ns : List Note) → Ready m ns → AfterMove place plain told ns (table_read m r)
 table_after (Err cause) m told place plain ns w = failed_after m cause told place plain ns w
@@ -200,7 +201,7 @@ data_after (Ok bytes) m wanted told place plain ns e w =
 
 -- to a write of its answer
 chunk_after : (failure : Option FailCause) (m : Machine) (told : Told) (place : ℕ) (plain : PlainDisk) (ns : List Note) → Lawful ns → Answers m.present m.orb (is_open ns) (present_in ns) (runs_in ns) (next_in ns) → KeepsAhead m.ahead (ahead_in ns) → AfterMove place plain told ns (chunk_written m failure)
-chunk_after (Some cause) m told place plain ns l w a = record { after = end_after m kinds.Failed (Some cause) place plain ns l w.still w.here (λ e. cc e) a }
+chunk_after (Some cause) m told place plain ns l w a = record { after = end_after m kinds.Failed (Some cause) place plain ns l w.still w.here (λ e. cc) a }
 chunk_after None m told place plain ns l w a =
     let n : Machine = record m { written = m.written + answer_chunk m } in
     record {
@@ -213,7 +214,7 @@ chunk_after None m told place plain ns l w a =
 turn_after : (ahead : ReadAhead) (next : ℕ) (m : Machine) (told : Told) (place : ℕ) (plain : PlainDisk) (ns : List Note) → Lawful ns → Over (is_open ns) (present_in ns) → next_in ns ≡ At next → KeepsAhead ahead (ahead_in ns) → AfterMove place plain told (turn_notes (At next) ahead ns) (turn_step m next ahead)
 turn_after aheads.Idle next m told place plain ns l o n a =
     record { after = record { tied = record { lawful = (o.gone, o.still, ap named n, l); phase = record { still = o.still; here = refl; none = refl }; ahead = tt } } }
-turn_after aheads.UnderWay next m told place plain ns l o n a =
+turn_after (aheads.UnderWay rung) next m told place plain ns l o n a =
     record { after = record { tied = record { lawful = (o.gone, o.still, ap named n, l); phase = record { still = o.still; here = refl; none = refl }; ahead = tt } } }
 turn_after (aheads.Kept orb) next m told place plain ns l o n a =
     check_after (record (turned m next) { orb = orb }) told place plain (Fetched orb ∷ Turn (aligned next) ∷ AheadUsed orb ∷ ns)
@@ -254,14 +255,18 @@ main_after phases.Suspended m told place plain answer ns l k a = record { after 
 main_after phases.Dead m told place plain answer ns l k a = record { after = record { tied = record { lawful = l; phase = k; ahead = a } } }
 
 -- to the read ahead
-kept_after : (r : Result (List ℕ) FailCause) (m : Machine) (place : ℕ) (plain : PlainDisk) (ns : List Note) → Tied m ns → After place plain (ahead_notes r ns) (quiet, record m { ahead = kept_from r })
-kept_after (Ok bytes) m place plain ns t = record { tied = record { lawful = t.lawful; phase = t.phase; ahead = refl } }
-kept_after (Err cause) m place plain ns t = record { tied = record { lawful = t.lawful; phase = t.phase; ahead = tt } }
+kept_after : (r : Result (List ℕ) FailCause) (bell : Bool) (m : Machine) (place : ℕ) (plain : PlainDisk) (ns : List Note) → Tied m ns → After place plain (ahead_notes r ns) (quiet, record m { ahead = kept_from r; doorbell = bell })
+kept_after (Ok bytes) bell m place plain ns t = record { tied = record { lawful = t.lawful; phase = t.phase; ahead = refl } }
+kept_after (Err cause) bell m place plain ns t = record { tied = record { lawful = t.lawful; phase = t.phase; ahead = tt } }
+
+heard_after : (b : Bool) (m : Machine) (place : ℕ) (plain : PlainDisk) (answer : Answer) (ns : List Note) → Tied m ns → After place plain (cond b (ahead_notes (payload_of answer 32) ns) ns) (cond b (ahead_step m answer) (quiet, m))
+heard_after true m place plain answer ns t = kept_after (payload_of answer 32) (m.doorbell || (is_unsent answer && rung_in m.ahead)) m place plain ns t
+heard_after false m place plain answer ns t = record { tied = t }
 
 reply_after : (which : Which) (m : Machine) (told : Told) (place : ℕ) (plain : PlainDisk) (answer : Answer) (ns : List Note) → Tied m ns → After place plain (heard m which answer ns) (reply_step m place plain told which answer)
 unfolding reply_step
 reply_after Main m told place plain answer ns t = (main_after m.phase m told place plain answer ns t.lawful t.phase t.ahead).after
-reply_after Ahead m told place plain answer ns t = kept_after (payload_of answer 32) m place plain ns t
+reply_after Ahead m told place plain answer ns t = heard_after (is_ahead m.ahead) m place plain answer ns t
 
 -- the other calls, by phase
 pointed_after : (pointer : OrbPointer) (m : Machine) (ns : List Note) → Tied m ns → Tied (pointed m pointer).1 (point_notes (pointed m pointer).0 ns)
@@ -296,6 +301,12 @@ calls_tied (call ∷ calls) = call_after call (after_calls calls) (notes calls) 
 
 pub calls_lawful : CallsAreLawful
 calls_lawful calls = (calls_tied calls).lawful
+
+-- a failing read of a next pointer
+pub rereads_end_nothing : RereadsEndNothing
+unfolding reply_step
+rereads_end_nothing m place plain told answer cause e =
+    ap (λ (r : Result (List ℕ) FailCause). (served place plain told (next_read (record m { phase = phases.ReadingNext }) r).0 (next_read (record m { phase = phases.ReadingNext }) r).1).0) e
 
 -- lawful notes are in order
 order : (ns : List Note) → Lawful ns → InOrder ns

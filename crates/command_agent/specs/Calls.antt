@@ -1,5 +1,5 @@
 -- Lists of the calls of an agent, and what they tell of ORBs, the latest first.
-use Rattle.std.specs.Prelude.{◌≡◌, ℕ, suc, Bool, true, false, List, [], ◌∷◌, Option, Some, None, Result, Ok, Err}
+use Rattle.std.specs.Prelude.{◌≡◌, ℕ, suc, Bool, true, false, if◌then◌else◌, List, [], ◌∷◌, Option, Some, None, Result, Ok, Err}
 use Rattle.orb_layout.specs.declared.ask.Ask.{Ask}
 use Rattle.orb_layout.specs.declared.ask.Ask.TheVariants.{Read, Write, Nothing}
 use Rattle.orb_layout.specs.declared.ask.FailCause.{FailCause}
@@ -22,8 +22,8 @@ use Rattle.command_agent.specs.declared.step.PointRefusal.{PointRefusal}
 use Rattle.command_agent.specs.declared.step.Which.{Which}
 use Rattle.command_agent.specs.declared.step.Which.TheVariants.{Main, Ahead}
 use Rattle.command_agent.specs.Replies.{Answer, payload_of, write_failure}
-use Rattle.command_agent.specs.Machine.{Machine, new_machine, aligned, named, plan_of}
-use Rattle.command_agent.specs.Steps.{Told, point_step, doorbell_step, reset_step, abort_step, reply_step}
+use Rattle.command_agent.specs.Machine.{Machine, new_machine, aligned, named, is_ahead, plan_of}
+use Rattle.command_agent.specs.Steps.{Told, quiet, point_step, doorbell_step, reset_step, abort_step, reply_step}
 
 -- a call; a reply with what the unit and its medium hold, and what a run tells where there is one
 pub data Call : Type 0 where
@@ -92,7 +92,7 @@ main_notes _ m answer ns = ns
 
 abbrev pub heard : Machine → Which → Answer → List Note → List Note
 heard m Main answer ns = main_notes m.phase m answer ns
-heard m Ahead answer ns = ahead_notes (payload_of answer 32) ns
+heard m Ahead answer ns = if is_ahead m.ahead then ahead_notes (payload_of answer 32) ns else ns
 
 -- what the step tells of the present ORB
 abbrev pub run_notes : Option Outcome → Note → List Note → List Note
@@ -212,3 +212,9 @@ CallsAreLawful = (calls : List Call) → Lawful (notes calls)
 
 abbrev pub CallsKeepOrder : Type 0
 CallsKeepOrder = (calls : List Call) → InOrder (notes calls)
+
+-- A failing read of a next pointer makes the agent dead; no ORB ends, none runs and nothing is written.
+abbrev pub RereadsEndNothing : Type 0
+RereadsEndNothing = (m : Machine) (place : ℕ) (plain : PlainDisk) (told : Told) (answer : Answer) (cause : FailCause) →
+    payload_of answer 8 ≡ Err cause →
+    (reply_step (record m { phase = phases.ReadingNext }) place plain told Main answer).0 ≡ record quiet { dead = Some cause }

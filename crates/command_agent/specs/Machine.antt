@@ -99,8 +99,13 @@ is_sent phases.Dead = false
 is_sent _ = true
 
 abbrev pub is_ahead : ReadAhead → Bool
-is_ahead aheads.UnderWay = true
+is_ahead (aheads.UnderWay rung) = true
 is_ahead _ = false
+
+-- the doorbell mark that the read ahead cleared
+abbrev pub rung_in : ReadAhead → Bool
+rung_in (aheads.UnderWay rung) = rung
+rung_in _ = false
 
 abbrev pub is_under_way : Which → Machine → Bool
 is_under_way Main m = is_sent m.phase

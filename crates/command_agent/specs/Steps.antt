@@ -34,8 +34,8 @@ use Rattle.command_agent.specs.declared.step.Which.{Which}
 use Rattle.command_agent.specs.declared.step.Which.TheVariants.{Main, Ahead}
 use Rattle.command_agent.specs.declared.step.Move.{Move}
 use Rattle.command_agent.specs.declared.step.Move.TheVariants as moves
-use Rattle.command_agent.specs.Replies.{Answer, payload_of, write_failure}
-use Rattle.command_agent.specs.Machine.{Machine, unread, aligned, awaits_run, plan_of, chunk_of}
+use Rattle.command_agent.specs.Replies.{Answer, NoLabel, payload_of, write_failure}
+use Rattle.command_agent.specs.Machine.{Machine, unread, aligned, awaits_run, rung_in, is_ahead, plan_of, chunk_of}
 use Rattle.command_agent.specs.Checks.{verdict, death_by, reads_table, plain_length}
 
 -- nothing is sent and nothing told
@@ -137,7 +137,7 @@ sent s = (moves.Send s.0, s.1)
 
 abbrev pub turn_step : Machine → ℕ → ReadAhead → Move × Machine
 turn_step m next aheads.Idle = sent (fetch_step m next)
-turn_step m next aheads.UnderWay = (moves.Send quiet, turned m next)
+turn_step m next (aheads.UnderWay rung) = (moves.Send quiet, turned m next)
 turn_step m next (aheads.Kept orb) = (moves.Check, record (turned m next) { orb = orb })
 
 abbrev pub wait_step : Machine → AgentStep × Machine
@@ -259,7 +259,7 @@ check_step m place plain told = checked m place plain told (verdict m.orb m.abor
 
 -- behind it the read ahead of the next ORB: this clears the doorbell mark
 abbrev pub ahead_of : Option FailCause → OrbPointer → AgentStep × Machine → AgentStep × Machine
-ahead_of None (At next) s = (record s.0 { ahead = Read (aligned next) 32 }, record s.1 { ahead = aheads.UnderWay; doorbell = false })
+ahead_of None (At next) s = (record s.0 { ahead = Read (aligned next) 32 }, record s.1 { ahead = aheads.UnderWay s.1.doorbell; doorbell = false })
 ahead_of _ _ s = s
 
 abbrev pub with_ahead : AgentStep × Machine → AgentStep × Machine
@@ -271,17 +271,25 @@ served place plain told moves.Check m = with_ahead (check_step m place plain tol
 served place plain told moves.Judge m = judge_step m place plain told
 served place plain told moves.Run m = run_step m told
 
--- the reply to the read ahead
+-- the reply to the read ahead: one that was not sent has cleared no doorbell mark
 abbrev pub kept_from : Result (List ℕ) FailCause → ReadAhead
 kept_from (Ok bytes) = aheads.Kept (command_orb bytes)
 kept_from (Err cause) = aheads.Idle
 
+abbrev pub is_unsent : Answer → Bool
+is_unsent NoLabel = true
+is_unsent _ = false
+
 abbrev pub ahead_step : Machine → Answer → AgentStep × Machine
-ahead_step m answer = (quiet, record m { ahead = kept_from (payload_of answer 32) })
+ahead_step m answer =
+    (quiet, record m {
+      ahead = kept_from (payload_of answer 32);
+      doorbell = m.doorbell || (is_unsent answer && rung_in m.ahead);
+    })
 
 abbrev pub replied : Machine → ℕ → PlainDisk → Told → Which → Answer → AgentStep × Machine
 replied m place plain told Main answer = served place plain told (advanced m.phase m answer).0 (advanced m.phase m answer).1
-replied m place plain told Ahead answer = ahead_step m answer
+replied m place plain told Ahead answer = if is_ahead m.ahead then ahead_step m answer else (quiet, m)
 
 -- a reply, over what the unit and its medium hold and what a run told
 unfoldable pub reply_step : Machine → ℕ → PlainDisk → Told → Which → Answer → AgentStep × Machine

@@ -123,7 +123,7 @@ impl Agent {
     {
         match which {
             Which::Main => !matches!(self.phase, Phase::Reset | Phase::Suspended | Phase::Dead),
-            Which::Ahead => matches!(self.ahead, ReadAhead::UnderWay),
+            Which::Ahead => matches!(self.ahead, ReadAhead::UnderWay { .. }),
         }
     }
 

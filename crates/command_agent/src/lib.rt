@@ -12,7 +12,7 @@ mod room;
 mod step;
 
 pub use agent::Agent;
-pub use laws::{calls_are_lawful, calls_keep_order};
+pub use laws::{calls_are_lawful, calls_keep_order, failing_reread_ends_nothing};
 pub use phase::{Phase, ReadAhead};
 pub use step::{AgentState, AgentStep, PointRefusal, Which};
 

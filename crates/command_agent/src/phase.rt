@@ -30,8 +30,8 @@ pub enum Phase {
 #[derive(Clone, Copy, Debug, PartialEq, Eq)]
 pub enum ReadAhead {
     Idle,
-    /// The read is under way.
-    UnderWay,
+    /// The read is under way; `rung` is the doorbell mark that it cleared.
+    UnderWay { rung: bool },
     /// The ORB as it was read, unchecked.
     Kept(CommandOrb),
 }

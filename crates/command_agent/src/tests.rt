@@ -4,14 +4,22 @@ use rbc_disk::{Outcome, RamMedium, Unit};
 use sbp_base::{NoMemory, Offset};
 use std::test::Fail;
 
-const GOOD: Outcome = Outcome::Good { answer: 0 };
+/// What comes to an agent.
+#[derive(Clone, Copy)]
+enum Input<'a> {
+    Main(Reply<'a>),
+    Ahead(Reply<'a>),
+    Bell,
+    Abort(u64),
+}
 
-/// An agent of the login at place 0, with the unit and the medium that it works on.
+/// An agent with the unit and the medium that it works on, and its steps so far.
 #[derive(Drop)]
 struct Bench {
     agent: Agent,
     unit: Unit,
     medium: RamMedium,
+    steps: Vec<AgentStep>,
 }
 
 impl Bench {
@@ -21,48 +29,83 @@ impl Bench {
             agent: Agent::new(rt.alloc())?,
             unit: Unit::new(),
             medium: RamMedium::new(rt.alloc(), 16, 0x5a)?,
+            steps: Vec::new(rt.alloc()),
         })
     }
 
-    /// The same, with a read of the ORB at 10000000h under way.
-    fn pointed(rt: &impl AllocGlobal) -> Result<Bench, Fail> {
-        let mut bench = Bench::new(rt).ok().ok_or("memory")?;
-        let _ = bench.agent.point(at(0x1000_0000).ok_or("offset")?);
-        Ok(bench)
-    }
-
-    /// The step of a reply to a transaction that is under way.
-    fn reply(&mut self, which: Which, reply: Reply<'_>) -> Option<AgentStep> {
-        if !self.agent.is_under_way(which) {
-            return None;
+    /// The agent takes an input; a reply to a transaction that is not under way is passed over.
+    fn give(&mut self, input: Input<'_>) -> Result<(), NoMemory> {
+        match input {
+            Input::Main(reply) => self.reply(Which::Main, reply),
+            Input::Ahead(reply) => self.reply(Which::Ahead, reply),
+            Input::Bell => {
+                self.steps.push(AgentStep::asking(self.agent.doorbell()))?;
+                Ok(())
+            }
+            Input::Abort(orb) => {
+                if let Some(orb) = Offset::new(orb) {
+                    self.agent.abort(orb);
+                }
+                Ok(())
+            }
         }
-        Some(
-            self.agent
-                .reply(&mut self.unit, &mut self.medium, 0, which, reply),
-        )
     }
 
-    fn main(&mut self, reply: Reply<'_>) -> Option<AgentStep> {
-        self.reply(Which::Main, reply)
+    fn reply(&mut self, which: Which, reply: Reply<'_>) -> Result<(), NoMemory> {
+        if self.agent.is_under_way(which) {
+            let step = self
+                .agent
+                .reply(&mut self.unit, &mut self.medium, 0, which, reply);
+            self.steps.push(step)?;
+        }
+        Ok(())
     }
 }
 
-fn at(offset: u64) -> Option<OrbPointer> {
-    Some(OrbPointer::At(Offset::new(offset)?))
+/// An agent that was pointed to 10000000h, after these inputs.
+fn run(rt: &impl AllocGlobal, inputs: &[Input<'_>]) -> Result<Bench, NoMemory> {
+    let mut bench = Bench::new(rt)?;
+    let _ = bench.agent.point(at(0x1000_0000));
+    for input in inputs {
+        bench.give(*input)?;
+    }
+    Ok(bench)
 }
 
-fn read(offset: u64, length: u16) -> Option<Ask> {
-    Some(Ask::Read {
-        offset: Offset::new(offset)?,
-        length,
-    })
+/// The last step of the same.
+fn last(rt: &impl AllocGlobal, inputs: &[Input<'_>]) -> Option<AgentStep> {
+    let bench = run(rt, inputs).ok()?;
+    bench.steps.last().copied()
 }
 
-fn write(offset: u64, length: u16) -> Option<Ask> {
-    Some(Ask::Write {
-        offset: Offset::new(offset)?,
-        length,
-    })
+/// What the last step tells: whether a command ran, how the ORB ended, and why the agent is dead.
+fn told(
+    rt: &impl AllocGlobal,
+    inputs: &[Input<'_>],
+) -> Option<(bool, Option<StatusKind>, Option<FailCause>)> {
+    let step = last(rt, inputs)?;
+    Some((step.ran.is_some(), step.ended, step.dead))
+}
+
+fn at(offset: u64) -> OrbPointer {
+    match Offset::new(offset) {
+        Some(offset) => OrbPointer::At(offset),
+        None => OrbPointer::Null,
+    }
+}
+
+fn read(offset: u64, length: u16) -> Ask {
+    match Offset::new(offset) {
+        Some(offset) => Ask::Read { offset, length },
+        None => Ask::Nothing,
+    }
+}
+
+fn write(offset: u64, length: u16) -> Ask {
+    match Offset::new(offset) {
+        Some(offset) => Ask::Write { offset, length },
+        None => Ask::Nothing,
+    }
 }
 
 /// An ORB with a buffer at 11000000h: the next one's address or 0 for none, quadlet 4, the operation
@@ -86,12 +129,12 @@ fn ready(next: u32) -> [u8; 32] {
     orb(next, 0x8290_0000, 0, 0, 0)
 }
 
-/// READ(10) of a block, by chunks of 128 bytes.
+/// READ(10) of block 3, by chunks of 128 bytes.
 fn read_block(next: u32) -> [u8; 32] {
     orb(next, 0x8a50_0200, 0x28, 3, 1)
 }
 
-/// WRITE(10) of two blocks in three segments.
+/// WRITE(10) of blocks 8 and 9 in three segments.
 fn write_segments(next: u32) -> [u8; 32] {
     orb(next, 0x8278_0003, 0x2a, 8, 2)
 }
@@ -102,253 +145,255 @@ const TABLE: [u8; 24] = [
     0x04, 0x14,
 ];
 
-/// What a step tells: whether a command ran, how the ORB ended, and why the agent is dead.
-fn told(step: Option<AgentStep>) -> Option<(bool, Option<StatusKind>, Option<FailCause>)> {
-    let step = step?;
-    Some((step.ran.is_some(), step.ended, step.dead))
+const DONE: Input<'static> = Input::Main(Reply::Done);
+
+#[test]
+fn one_orb(rt: HostRuntime) -> Result<(), Fail> {
+    let bytes = ready(0);
+    let inputs = [Input::Main(Reply::Payload(&bytes))];
+    let bench = run(&rt, &inputs).ok().ok_or("memory")?;
+    let step = AgentStep {
+        ran: Some(Outcome::Good { answer: 0 }),
+        ended: Some(StatusKind::Good),
+        ..AgentStep::asking(write(0, 8))
+    };
+    assert_eq!(rt; bench.steps.as_slice(), [step].as_slice());
+    assert_eq!(rt; bench.agent.outgoing(), [0x41, 0, 0, 0, 0x10, 0, 0, 0].as_slice());
+    assert_eq!(rt; bench.agent.present(), Offset::new(0x1000_0000));
+    Ok(())
 }
 
 #[test]
-fn one_orb_and_the_doorbell(rt: HostRuntime) -> Result<(), Fail> {
-    let mut bench = Bench::new(&rt).ok().ok_or("memory")?;
-    assert_eq!(rt;
-        bench.agent.point(OrbPointer::Null),
-        Err(PointRefusal::Null)
-    );
-    let pointer = at(0x1000_0003).ok_or("offset")?;
-    assert_eq!(rt; bench.agent.point(pointer).ok(), read(0x1000_0000, 32));
-    assert_eq!(rt; bench.agent.point(pointer), Err(PointRefusal::Conflict));
-    let step = bench.main(Reply::Payload(&ready(0))).ok_or("step")?;
-    assert_eq!(rt; step.ran, Some(GOOD));
-    assert_eq!(rt; step.ended, Some(StatusKind::Good));
-    assert_eq!(rt; Some(step.ask), write(0, 8));
-    assert_eq!(rt; step.ahead, Ask::Nothing);
-    assert_eq!(rt;
-        bench.agent.outgoing(),
-        [0x41, 0, 0, 0, 0x10, 0, 0, 0].as_slice()
-    );
-    assert_eq!(rt; bench.agent.present(), Offset::new(0x1000_0000));
-    assert_eq!(rt; bench.agent.doorbell(), Ask::Nothing);
-    let step = bench.main(Reply::Done).ok_or("step")?;
-    assert_eq!(rt; Some(step.ask), read(0x1000_0000, 8));
-    assert_eq!(rt; bench.agent.present(), None);
-    let step = bench.main(Reply::Payload(&[0x80, 0, 0, 0, 0, 0, 0, 0]));
-    assert_eq!(rt; step.ok_or("step")?.ask, Ask::Nothing);
+fn suspended_behind_the_status(rt: HostRuntime) -> Result<(), Fail> {
+    let bytes = ready(0);
+    let inputs = [Input::Main(Reply::Payload(&bytes)), DONE];
+    let bench = run(&rt, &inputs).ok().ok_or("memory")?;
     assert_eq!(rt; bench.agent.state(), AgentState::Suspended);
-    assert_eq!(rt; Some(bench.agent.doorbell()), read(0x1000_0000, 8));
+    assert_eq!(rt; bench.agent.present(), None);
+    Ok(())
+}
+
+#[test]
+fn doorbell(rt: HostRuntime) -> Result<(), Fail> {
+    let bytes = ready(0);
+    let orb = Input::Main(Reply::Payload(&bytes));
+    let reread = Some(AgentStep::asking(read(0x1000_0000, 8)));
+    assert_eq!(rt; last(&rt, &[orb, Input::Bell, DONE]), reread);
+    assert_eq!(rt; last(&rt, &[orb, DONE, Input::Bell]), reread);
+    let null = Input::Main(Reply::Payload(&[0x80, 0, 0, 0, 0, 0, 0, 0]));
+    assert_eq!(rt; last(&rt, &[orb, Input::Bell, DONE, null]), Some(AgentStep::quiet()));
+    Ok(())
+}
+
+#[test]
+fn refusals(rt: HostRuntime) -> Result<(), Fail> {
+    let mut agent = Agent::new(rt.alloc()).ok().ok_or("memory")?;
+    assert_eq!(rt; agent.point(OrbPointer::Null), Err(PointRefusal::Null));
+    assert_eq!(rt; agent.point(at(0x1000_0003)), Ok(read(0x1000_0000, 32)));
+    assert_eq!(rt; agent.point(at(0x1000_0000)), Err(PointRefusal::Conflict));
+    assert!(rt; agent.reset());
+    assert!(rt; !agent.reset());
     Ok(())
 }
 
 /// The data of a WRITE is read segment by segment, and then it runs.
 #[test]
 fn three_segments(rt: HostRuntime) -> Result<(), Fail> {
-    let mut bench = Bench::pointed(&rt)?;
+    let bytes = write_segments(0);
     let block = [0x11; 512];
-    let step = bench.main(Reply::Payload(&write_segments(0)));
-    assert_eq!(rt; Some(step.ok_or("step")?.ask), read(0x1100_0000, 24));
-    let step = bench.main(Reply::Payload(&TABLE)).ok_or("step")?;
-    assert_eq!(rt; Some(step.ask), read(0x1100_0000, 512));
-    let step = bench.main(Reply::Payload(&block)).ok_or("step")?;
-    assert_eq!(rt; Some(step.ask), read(0x1100_0210, 500));
-    let step = bench.main(Reply::Payload(&block[..500])).ok_or("step")?;
-    assert_eq!(rt; Some(step.ask), read(0x1100_0414, 12));
-    assert_eq!(rt; step.ran, None);
-    let step = bench.main(Reply::Payload(&[0x22; 12])).ok_or("step")?;
-    assert_eq!(rt; step.ran, Some(GOOD));
-    assert_eq!(rt; bench.agent.payload().len(), 1024);
-    assert_eq!(rt; bench.agent.payload().last(), Some(&0x22));
-    assert_eq!(rt; bench.agent.cdb()[0], 0x2a);
+    let inputs = [
+        Input::Main(Reply::Payload(&bytes)),
+        Input::Main(Reply::Payload(&TABLE)),
+        Input::Main(Reply::Payload(&block)),
+        Input::Main(Reply::Payload(&block[..500])),
+    ];
+    let bench = run(&rt, &inputs).ok().ok_or("memory")?;
+    let asked = [
+        AgentStep::asking(read(0x1100_0000, 24)),
+        AgentStep::asking(read(0x1100_0000, 512)),
+        AgentStep::asking(read(0x1100_0210, 500)),
+        AgentStep::asking(read(0x1100_0414, 12)),
+    ];
+    assert_eq!(rt; bench.steps.as_slice(), asked.as_slice());
+    assert_eq!(rt; bench.agent.payload().len(), 1012);
+    Ok(())
+}
+
+#[test]
+fn runs_with_all_of_its_data(rt: HostRuntime) -> Result<(), Fail> {
+    let bytes = write_segments(0);
+    let block = [0x11; 512];
+    let inputs = [
+        Input::Main(Reply::Payload(&bytes)),
+        Input::Main(Reply::Payload(&TABLE)),
+        Input::Main(Reply::Payload(&block)),
+        Input::Main(Reply::Payload(&block[..500])),
+        Input::Main(Reply::Payload(&block[..12])),
+    ];
+    assert_eq!(rt; told(&rt, &inputs), Some((true, Some(StatusKind::Good), None)));
     Ok(())
 }
 
 /// An answer is written chunk by chunk, and the status block behind its last one.
 #[test]
 fn answer_in_chunks(rt: HostRuntime) -> Result<(), Fail> {
-    let mut bench = Bench::pointed(&rt)?;
-    let step = bench.main(Reply::Payload(&read_block(0))).ok_or("step")?;
-    assert_eq!(rt; step.ran, Some(Outcome::Good { answer: 512 }));
-    assert_eq!(rt; Some(step.ask), write(0x1100_0000, 128));
+    let bytes = read_block(0);
+    let inputs = [Input::Main(Reply::Payload(&bytes)), DONE, DONE, DONE, DONE];
+    let bench = run(&rt, &inputs[..4]).ok().ok_or("memory")?;
     assert_eq!(rt; bench.agent.outgoing(), [0x5a; 128].as_slice());
-    for place in 1..4 {
-        let step = bench.main(Reply::Done).ok_or("step")?;
-        assert_eq!(rt; Some(step.ask), write(0x1100_0000 + 128 * place, 128));
-        assert_eq!(rt; step.ended, None);
-    }
-    let step = bench.main(Reply::Done).ok_or("step")?;
-    assert_eq!(rt; step.ended, Some(StatusKind::Good));
-    assert_eq!(rt; Some(step.ask), write(0, 8));
+    let chunk = Some(AgentStep::asking(write(0x1100_0180, 128)));
+    assert_eq!(rt; bench.steps.last().copied(), chunk);
+    assert_eq!(rt; told(&rt, &inputs), Some((false, Some(StatusKind::Good), None)));
     Ok(())
 }
 
-/// How an ORB with this quadlet 4 ends as it is checked.
-fn checked(rt: &impl AllocGlobal, options: u32) -> Result<Option<StatusKind>, Fail> {
-    let mut bench = Bench::pointed(rt)?;
-    let step = bench.main(Reply::Payload(&orb(0, options, 0, 0, 0)));
-    let step = step.ok_or("step")?;
-    let is_dead = step.dead == Some(FailCause::Grammar);
-    let is_illegal = matches!(step.ended, Some(StatusKind::Illegal(_)));
-    if is_dead != is_illegal || step.ran.is_some() {
-        return Err("dead exactly at an illegal ORB".into());
-    }
-    Ok(step.ended)
+/// How an ORB with this quadlet 4 ends as it is checked, and whether the agent is then dead.
+fn checked(rt: &impl AllocGlobal, options: u32) -> Option<(StatusKind, bool)> {
+    let bytes = orb(0, options, 0, 0, 0);
+    let step = last(rt, &[Input::Main(Reply::Payload(&bytes))])?;
+    Some((step.ended?, step.dead == Some(FailCause::Grammar)))
 }
 
 #[test]
-fn illegal_orbs(rt: HostRuntime) -> Result<(), Fail> {
-    assert_eq!(rt; checked(&rt, 0xe290_0000)?, Some(StatusKind::Dummy));
-    assert_eq!(rt; checked(&rt, 0xa390_0000)?, Some(StatusKind::Illegal(0x01)));
-    assert_eq!(rt; checked(&rt, 0xc290_0000)?, Some(StatusKind::Illegal(0x01)));
-    assert_eq!(rt; checked(&rt, 0x83b0_0000)?, Some(StatusKind::Illegal(0x02)));
-    assert_eq!(rt; checked(&rt, 0x82a9_0001)?, Some(StatusKind::Illegal(0xff)));
-    assert_eq!(rt; checked(&rt, 0x8299_0041)?, Some(StatusKind::Illegal(0x03)));
-    assert_eq!(rt; checked(&rt, 0x8298_0041)?, Some(StatusKind::Illegal(0xff)));
-    let mut bench = Bench::pointed(&rt)?;
-    let mut past = ready(0);
+fn formats(rt: HostRuntime) -> Result<(), Fail> {
+    let illegal = Some((StatusKind::Illegal(0x01), true));
+    assert_eq!(rt; checked(&rt, 0xe3b0_0000), Some((StatusKind::Dummy, false)));
+    assert_eq!(rt; checked(&rt, 0xa390_0000), illegal);
+    assert_eq!(rt; checked(&rt, 0xc290_0000), illegal);
+    Ok(())
+}
+
+#[test]
+fn illegal_fields(rt: HostRuntime) -> Result<(), Fail> {
+    let unspecified = Some((StatusKind::Illegal(0xff), true));
+    assert_eq!(rt; checked(&rt, 0x83b9_0041), Some((StatusKind::Illegal(0x02), true)));
+    assert_eq!(rt; checked(&rt, 0x82a9_0041), unspecified);
+    assert_eq!(rt; checked(&rt, 0x8299_0041), Some((StatusKind::Illegal(0x03), true)));
+    assert_eq!(rt; checked(&rt, 0x8298_0041), unspecified);
+    Ok(())
+}
+
+#[test]
+fn illegal_buffers(rt: HostRuntime) -> Result<(), Fail> {
+    let illegal = Some((false, Some(StatusKind::Illegal(0xff)), Some(FailCause::Grammar)));
+    let mut past = orb(0, 0x8290_0002, 0, 0, 0);
     past[10..16].copy_from_slice(&[0xff; 6]);
-    past[19] = 2;
-    let step = bench.main(Reply::Payload(&past));
-    assert_eq!(rt;
-        told(step),
-        Some((
-            false,
-            Some(StatusKind::Illegal(0xff)),
-            Some(FailCause::Grammar)
-        ))
-    );
-    let mut bench = Bench::pointed(&rt)?;
-    let _ = bench.main(Reply::Payload(&write_segments(0)));
-    let step = bench.main(Reply::Payload(&[0; 24]));
-    assert_eq!(rt;
-        told(step),
-        Some((
-            false,
-            Some(StatusKind::Illegal(0xff)),
-            Some(FailCause::Grammar)
-        ))
-    );
-    assert_eq!(rt; bench.agent.outgoing().first(), Some(&0x69));
+    assert_eq!(rt; told(&rt, &[Input::Main(Reply::Payload(&past))]), illegal);
+    let bytes = write_segments(0);
+    let inputs = [
+        Input::Main(Reply::Payload(&bytes)),
+        Input::Main(Reply::Payload(&[0; 24])),
+    ];
+    assert_eq!(rt; told(&rt, &inputs), illegal);
     Ok(())
 }
 
-/// An abort counts until the command runs, and then changes nothing.
+const ABORT: Input<'static> = Input::Abort(0x1000_0002);
+
 #[test]
-fn aborts(rt: HostRuntime) -> Result<(), Fail> {
+fn aborted_before_the_run(rt: HostRuntime) -> Result<(), Fail> {
     let aborted = Some((false, Some(StatusKind::Aborted), None));
-    let orb = Offset::new(0x1000_0002).ok_or("offset")?;
-    let mut bench = Bench::pointed(&rt)?;
-    bench.agent.abort(orb);
-    let step = bench.main(Reply::Payload(&write_segments(0)));
-    assert_eq!(rt; told(step), aborted);
-    let mut bench = Bench::pointed(&rt)?;
-    let _ = bench.main(Reply::Payload(&write_segments(0)));
-    bench.agent.abort(orb);
-    let step = bench.main(Reply::Payload(&[0; 24]));
-    assert_eq!(rt; told(step), aborted);
-    let mut bench = Bench::pointed(&rt)?;
-    let _ = bench.main(Reply::Payload(&write_segments(0)));
-    let _ = bench.main(Reply::Payload(&TABLE));
-    bench.agent.abort(Offset::new(0x1000_0004).ok_or("offset")?);
-    let step = bench.main(Reply::Payload(&[0; 512]));
-    assert_eq!(rt; told(step), Some((false, None, None)));
-    bench.agent.abort(orb);
-    let step = bench.main(Reply::Payload(&[0; 500]));
-    assert_eq!(rt; told(step), aborted);
-    let mut bench = Bench::pointed(&rt)?;
-    let _ = bench.main(Reply::Payload(&read_block(0x1000_0040)));
-    bench.agent.abort(orb);
-    let step = bench.main(Reply::Done);
-    assert_eq!(rt; told(step), Some((false, None, None)));
-    bench.agent.abort(orb);
-    let mut bench = Bench::pointed(&rt)?;
-    let _ = bench.main(Reply::Payload(&ready(0)));
-    bench.agent.abort(orb);
-    let _ = bench.main(Reply::Done);
-    assert_eq!(rt; bench.agent.state(), AgentState::Suspended);
+    let bytes = write_segments(0);
+    let block = [0; 512];
+    let orb = Input::Main(Reply::Payload(&bytes));
+    let table = Input::Main(Reply::Payload(&TABLE));
+    let chunk = Input::Main(Reply::Payload(&block));
+    assert_eq!(rt; told(&rt, &[ABORT, orb]), aborted);
+    assert_eq!(rt; told(&rt, &[orb, ABORT, table]), aborted);
+    assert_eq!(rt; told(&rt, &[orb, table, ABORT, chunk]), aborted);
+    assert_eq!(rt; told(&rt, &[orb, table, Input::Abort(4), chunk]), Some((false, None, None)));
     Ok(())
 }
 
-/// A failing reply at each phase.
 #[test]
-fn failing_replies(rt: HostRuntime) -> Result<(), Fail> {
-    let failed = Some(StatusKind::Failed);
-    let mut bench = Bench::pointed(&rt)?;
-    let step = bench.main(Reply::Expired);
-    assert_eq!(rt; told(step), Some((false, failed, Some(FailCause::Timeout))));
-    assert_eq!(rt; bench.agent.outgoing().first(), Some(&0x59));
-    assert_eq!(rt; bench.agent.state(), AgentState::Dead);
-    let step = bench.main(Reply::Expired);
-    assert_eq!(rt; told(step), Some((false, None, None)));
-    assert_eq!(rt; bench.agent.state(), AgentState::Dead);
-    let mut bench = Bench::pointed(&rt)?;
-    let _ = bench.main(Reply::Payload(&write_segments(0x1000_0040)));
-    let step = bench.main(Reply::Refused(4));
-    assert_eq!(rt; told(step), Some((false, failed, Some(FailCause::Refused))));
-    assert_eq!(rt; bench.agent.outgoing().first(), Some(&0x19));
-    let mut bench = Bench::pointed(&rt)?;
-    let _ = bench.main(Reply::Payload(&write_segments(0)));
-    let _ = bench.main(Reply::Payload(&TABLE));
-    let step = bench.main(Reply::Payload(&[0; 500]));
-    assert_eq!(rt; told(step), Some((false, failed, Some(FailCause::Grammar))));
-    let mut bench = Bench::pointed(&rt)?;
-    let _ = bench.main(Reply::Payload(&read_block(0)));
-    let step = bench.main(Reply::NoLabel);
-    assert_eq!(rt; told(step), Some((false, failed, Some(FailCause::Label))));
-    let mut bench = Bench::pointed(&rt)?;
-    let _ = bench.main(Reply::Payload(&ready(0)));
-    let step = bench.main(Reply::Refused(7));
-    assert_eq!(rt; told(step), Some((false, None, Some(FailCause::Refused))));
-    let mut bench = Bench::pointed(&rt)?;
-    let _ = bench.main(Reply::Payload(&ready(0)));
-    let _ = bench.main(Reply::Done);
-    let _ = bench.agent.doorbell();
-    let step = bench.main(Reply::Payload(&[0; 4]));
-    assert_eq!(rt; told(step), Some((false, None, Some(FailCause::Grammar))));
-    assert_eq!(rt; bench.agent.state(), AgentState::Dead);
+fn aborted_behind_the_run(rt: HostRuntime) -> Result<(), Fail> {
+    let bytes = read_block(0);
+    let orb = Input::Main(Reply::Payload(&bytes));
+    assert_eq!(rt; told(&rt, &[orb, ABORT, DONE]), Some((false, None, None)));
+    let inputs = [orb, DONE, DONE, DONE, DONE, ABORT, DONE];
+    assert_eq!(rt; last(&rt, &inputs), Some(AgentStep::quiet()));
     Ok(())
 }
 
-/// A read ahead answered before its turn, after it and never; one kept is not used after a reset.
+#[test]
+fn failing_reads(rt: HostRuntime) -> Result<(), Fail> {
+    let failed = Some(StatusKind::Failed);
+    let bytes = write_segments(0x1000_0040);
+    let orb = Input::Main(Reply::Payload(&bytes));
+    let table = Input::Main(Reply::Payload(&TABLE));
+    let expired = Input::Main(Reply::Expired);
+    let refused = Input::Main(Reply::Refused(4));
+    assert_eq!(rt; told(&rt, &[expired]), Some((false, failed, Some(FailCause::Timeout))));
+    assert_eq!(rt; told(&rt, &[orb, refused]), Some((false, failed, Some(FailCause::Refused))));
+    assert_eq!(rt; told(&rt, &[orb, table, table]), Some((false, failed, Some(FailCause::Grammar))));
+    Ok(())
+}
+
+#[test]
+fn failing_writes(rt: HostRuntime) -> Result<(), Fail> {
+    let bytes = read_block(0);
+    let orb = Input::Main(Reply::Payload(&bytes));
+    let unsent = Input::Main(Reply::NoLabel);
+    let failed = Some((false, Some(StatusKind::Failed), Some(FailCause::Label)));
+    assert_eq!(rt; told(&rt, &[orb, unsent]), failed);
+    let inputs = [orb, DONE, DONE, DONE, DONE, unsent];
+    assert_eq!(rt; told(&rt, &inputs), Some((false, None, Some(FailCause::Label))));
+    assert_eq!(rt; last(&rt, &[unsent, unsent]), Some(AgentStep::quiet()));
+    Ok(())
+}
+
+#[test]
+fn failing_reread(rt: HostRuntime) -> Result<(), Fail> {
+    let bytes = ready(0);
+    let orb = Input::Main(Reply::Payload(&bytes));
+    let short = Input::Main(Reply::Payload(&[0; 4]));
+    let dead = Some((false, None, Some(FailCause::Grammar)));
+    assert_eq!(rt; told(&rt, &[orb, DONE, Input::Bell, short]), dead);
+    Ok(())
+}
+
+/// src is 1 of an ORB that was not read, and else as its next pointer says.
+#[test]
+fn src_and_dead(rt: HostRuntime) -> Result<(), Fail> {
+    let bytes = write_segments(0x1000_0040);
+    let orb = Input::Main(Reply::Payload(&bytes));
+    let expired = Input::Main(Reply::Expired);
+    let bench = run(&rt, &[expired]).ok().ok_or("memory")?;
+    assert_eq!(rt; bench.agent.outgoing(), [0x59, 0xff, 0, 0, 0x10, 0, 0, 0].as_slice());
+    assert_eq!(rt; bench.agent.state(), AgentState::Dead);
+    let bench = run(&rt, &[orb, expired]).ok().ok_or("memory")?;
+    assert_eq!(rt; bench.agent.outgoing(), [0x19, 0xff, 0, 0, 0x10, 0, 0, 0].as_slice());
+    Ok(())
+}
+
+/// A read ahead answered before the turn of its ORB, after it, and never.
 #[test]
 fn read_ahead(rt: HostRuntime) -> Result<(), Fail> {
     let ran = Some((true, Some(StatusKind::Good), None));
-    let mut bench = Bench::pointed(&rt)?;
-    let _ = bench.agent.doorbell();
-    let step = bench.main(Reply::Payload(&ready(0x1000_0041)));
-    let step = step.ok_or("step")?;
-    assert_eq!(rt; Some(step.ahead), read(0x1000_0040, 32));
-    assert_eq!(rt;
-        bench.agent.outgoing(),
-        [0x01, 0, 0, 0, 0x10, 0, 0, 0].as_slice()
-    );
-    let _ = bench.reply(Which::Ahead, Reply::Payload(&ready(0)));
-    let step = bench.main(Reply::Done);
-    assert_eq!(rt; told(step), ran);
-    assert_eq!(rt;
-        bench.agent.outgoing(),
-        [0x41, 0, 0, 0, 0x10, 0, 0, 0x40].as_slice()
-    );
-    let _ = bench.main(Reply::Done);
-    assert_eq!(rt; bench.agent.state(), AgentState::Suspended);
-    let mut bench = Bench::pointed(&rt)?;
-    let _ = bench.main(Reply::Payload(&ready(0x1000_0040)));
-    let step = bench.main(Reply::Done);
-    assert_eq!(rt; told(step), Some((false, None, None)));
-    assert_eq!(rt; bench.agent.present(), Offset::new(0x1000_0040));
-    let step = bench.main(Reply::Payload(&ready(0)));
-    assert_eq!(rt; told(step), ran);
-    let mut bench = Bench::pointed(&rt)?;
-    let _ = bench.main(Reply::Payload(&ready(0x1000_0040)));
-    let _ = bench.reply(Which::Ahead, Reply::Expired);
-    let step = bench.main(Reply::Done).ok_or("step")?;
-    assert_eq!(rt; Some(step.ask), read(0x1000_0040, 32));
-    let step = bench.main(Reply::Payload(&ready(0x1000_0080)));
-    assert_eq!(rt; told(step), ran);
-    let _ = bench.reply(Which::Ahead, Reply::Payload(&ready(0)));
-    assert!(rt; bench.agent.reset());
-    assert!(rt; !bench.agent.reset());
-    assert_eq!(rt;
-        bench.agent.point(at(0x2000_0000).ok_or("offset")?).ok(),
-        read(0x2000_0000, 32)
-    );
+    let bytes = ready(0x1000_0041);
+    let behind = ready(0);
+    let orb = Input::Main(Reply::Payload(&bytes));
+    let kept = Input::Ahead(Reply::Payload(&behind));
+    let late = Input::Main(Reply::Payload(&behind));
+    let lost = Input::Ahead(Reply::Expired);
+    assert_eq!(rt; told(&rt, &[orb, kept, DONE]), ran);
+    assert_eq!(rt; last(&rt, &[orb, DONE]), Some(AgentStep::quiet()));
+    assert_eq!(rt; told(&rt, &[orb, DONE, late]), ran);
+    assert_eq!(rt; last(&rt, &[orb, lost, DONE]), Some(AgentStep::asking(read(0x1000_0040, 32))));
+    Ok(())
+}
+
+#[test]
+fn read_ahead_is_asked_for(rt: HostRuntime) -> Result<(), Fail> {
+    let bytes = ready(0x1000_0041);
+    let inputs = [Input::Main(Reply::Payload(&bytes))];
+    let bench = run(&rt, &inputs).ok().ok_or("memory")?;
+    let step = AgentStep {
+        ahead: read(0x1000_0040, 32),
+        ran: Some(Outcome::Good { answer: 0 }),
+        ended: Some(StatusKind::Good),
+        ..AgentStep::asking(write(0, 8))
+    };
+    assert_eq!(rt; bench.steps.as_slice(), [step].as_slice());
     Ok(())
 }

@@ -42,10 +42,14 @@ impl Agent {
         }
     }
 
-    /// The reply to the read ahead: its bytes are kept unchecked, or it is forgotten.
+    /// The reply to the read ahead: its bytes are kept unchecked, or it is forgotten. One that was not
+    /// sent has cleared no doorbell mark.
     pub fn keep_ahead(&mut self, reply: Reply<'_>) -> AgentStep
         ensures { (result, self.new) ≡ ahead_step self.old (answer_of reply.entry) }
     {
+        if let (Reply::NoLabel, ReadAhead::UnderWay { rung: true }) = (reply, self.ahead) {
+            self.doorbell = true;
+        }
         self.ahead = match payload(reply, 32) {
             Ok(bytes) => ReadAhead::Kept(orb_in(bytes)),
             Err(_) => ReadAhead::Idle,
@@ -223,7 +227,7 @@ impl Agent {
     {
         match self.ahead {
             ReadAhead::Idle => Move::Send(self.fetch(next)),
-            ReadAhead::UnderWay => {
+            ReadAhead::UnderWay { .. } => {
                 self.turn_to(next);
                 Move::Send(AgentStep::quiet())
             }

@@ -48,7 +48,9 @@ impl Agent {
     {
         match (step.dead, self.orb.next) {
             (None, OrbPointer::At(next)) => {
-                self.ahead = ReadAhead::UnderWay;
+                self.ahead = ReadAhead::UnderWay {
+                    rung: self.doorbell,
+                };
                 self.doorbell = false;
                 AgentStep {
                     ahead: Ask::Read {
