@@ -1,0 +1,220 @@
+-- Lists of the calls of an agent, and what they tell of ORBs, the latest first.
+use Rattle.std.specs.Prelude.{◌≡◌, ℕ, suc, Bool, true, false, if◌then◌else◌, List, [], ◌∷◌, Option, Some, None, Result, Ok, Err}
+use Rattle.orb_layout.specs.declared.ask.Ask.{Ask}
+use Rattle.orb_layout.specs.declared.ask.Ask.TheVariants.{Read, Write, Nothing}
+use Rattle.orb_layout.specs.declared.ask.FailCause.{FailCause}
+use Rattle.orb_layout.specs.declared.command.CommandOrb.{CommandOrb}
+use Rattle.orb_layout.specs.declared.pointer.OrbPointer.{OrbPointer}
+use Rattle.orb_layout.specs.declared.pointer.OrbPointer.TheVariants.{Null, At}
+use Rattle.orb_layout.specs.declared.status.StatusKind.{StatusKind}
+use Rattle.orb_layout.specs.CommandOrbs.{command_orb}
+use Rattle.orb_layout.specs.Pointers.{pointer_at}
+use Rattle.rbc_disk.specs.declared.command.BufferPlan.{BufferPlan}
+use Rattle.rbc_disk.specs.declared.command.Outcome.{Outcome}
+use Rattle.rbc_disk.specs.Units.{PlainDisk}
+use Rattle.rbc_disk.specs.Runs.{need_of, Feeds}
+use Rattle.command_agent.specs.declared.phase.Phase.{Phase}
+use Rattle.command_agent.specs.declared.phase.Phase.TheVariants as phases
+use Rattle.command_agent.specs.declared.phase.ReadAhead.{ReadAhead}
+use Rattle.command_agent.specs.declared.phase.ReadAhead.TheVariants as aheads
+use Rattle.command_agent.specs.declared.step.AgentStep.{AgentStep}
+use Rattle.command_agent.specs.declared.step.PointRefusal.{PointRefusal}
+use Rattle.command_agent.specs.declared.step.Which.{Which}
+use Rattle.command_agent.specs.declared.step.Which.TheVariants.{Main, Ahead}
+use Rattle.command_agent.specs.Replies.{Answer, payload_of, write_failure}
+use Rattle.command_agent.specs.Machine.{Machine, new_machine, aligned, named, is_ahead, plan_of}
+use Rattle.command_agent.specs.Steps.{Told, quiet, point_step, doorbell_step, reset_step, abort_step, reply_step}
+
+-- a call; a reply with what the unit and its medium hold, and what a run tells where there is one
+pub data Call : Type 0 where
+  Point : (pointer : OrbPointer) → Call
+  Doorbell : Call
+  Reset : Call
+  Abort : (orb : ℕ) → Call
+  Reply : (place : ℕ) (plain : PlainDisk) (told : Told) (which : Which) (answer : Answer) → Call
+
+abbrev pub after_call : Call → Machine → Machine
+after_call (Point pointer) m = (point_step m pointer).1
+after_call Doorbell m = (doorbell_step m).1
+after_call Reset m = reset_step m
+after_call (Abort orb) m = abort_step m orb
+after_call (Reply place plain told which answer) m = (reply_step m place plain told which answer).1
+
+abbrev pub after_calls : List Call → Machine
+after_calls [] = new_machine
+after_calls (call ∷ calls) = after_call call (after_calls calls)
+
+-- What calls tell of ORBs, each named by its address: a pointer to it was taken; the list was cut; its turn came; its bytes were read, or the next pointer of the last ORB again; the bytes of the ORB behind it were read ahead; its command ran, with this buffer and data; a chunk of its answer was written; it ended, and its status block was written.
+pub data Note : Type 0 where
+  Pointed : (at : ℕ) → Note
+  Cut : Note
+  Turn : (at : ℕ) → Note
+  Fetched : (orb : CommandOrb) → Note
+  Reread : (next : OrbPointer) → Note
+  AheadRead : (orb : CommandOrb) → Note
+  AheadUsed : (orb : CommandOrb) → Note
+  Ran : (at : ℕ) (orb : CommandOrb) (buffer : BufferPlan) (place : ℕ) (plain : PlainDisk) (payload : List ℕ) → Note
+  Answered : (at : ℕ) → Note
+  Ended : (at : ℕ) → Note
+
+abbrev pub point_notes : Result Ask PointRefusal → List Note → List Note
+point_notes (Ok (Read offset length)) ns = Pointed offset ∷ ns
+point_notes _ ns = ns
+
+-- the turn of the next ORB, by the next pointer and what was read ahead
+abbrev pub turn_notes : OrbPointer → ReadAhead → List Note → List Note
+turn_notes Null ahead ns = ns
+turn_notes (At next) (aheads.Kept orb) ns = Fetched orb ∷ Turn (aligned next) ∷ AheadUsed orb ∷ ns
+turn_notes (At next) _ ns = Turn (aligned next) ∷ ns
+
+abbrev pub fetch_notes : Result (List ℕ) FailCause → List Note → List Note
+fetch_notes (Ok bytes) ns = Fetched (command_orb bytes) ∷ ns
+fetch_notes (Err cause) ns = ns
+
+abbrev pub reread_notes : Result (List ℕ) FailCause → ReadAhead → List Note → List Note
+reread_notes (Ok bytes) ahead ns = turn_notes (pointer_at bytes 0) ahead (Reread (pointer_at bytes 0) ∷ ns)
+reread_notes (Err cause) ahead ns = ns
+
+abbrev pub status_notes : Option FailCause → OrbPointer → ReadAhead → List Note → List Note
+status_notes None next ahead ns = turn_notes next ahead ns
+status_notes (Some cause) next ahead ns = ns
+
+abbrev pub ahead_notes : Result (List ℕ) FailCause → List Note → List Note
+ahead_notes (Ok bytes) ns = AheadRead (command_orb bytes) ∷ ns
+ahead_notes (Err cause) ns = ns
+
+-- what a reply to a transaction tells
+abbrev pub main_notes : Phase → Machine → Answer → List Note → List Note
+main_notes phases.Fetching m answer ns = fetch_notes (payload_of answer 32) ns
+main_notes phases.ReadingNext m answer ns = reread_notes (payload_of answer 8) m.ahead ns
+main_notes phases.WritingStatus m answer ns = status_notes (write_failure answer) m.orb.next m.ahead ns
+main_notes _ m answer ns = ns
+
+abbrev pub heard : Machine → Which → Answer → List Note → List Note
+heard m Main answer ns = main_notes m.phase m answer ns
+heard m Ahead answer ns = if is_ahead m.ahead then ahead_notes (payload_of answer 32) ns else ns
+
+-- what the step tells of the present ORB
+abbrev pub run_notes : Option Outcome → Note → List Note → List Note
+run_notes None note ns = ns
+run_notes (Some outcome) note ns = note ∷ ns
+
+-- a write with `ended` is that of the status block, each other one that of a chunk of the answer
+abbrev pub write_notes : Option StatusKind → Ask → ℕ → List Note → List Note
+write_notes (Some kind) ask at ns = Ended at ∷ ns
+write_notes None (Write offset length) at ns = Answered at ∷ ns
+write_notes None _ at ns = ns
+
+abbrev pub step_notes : ℕ → PlainDisk → AgentStep → Machine → List Note → List Note
+step_notes place plain step m ns =
+    write_notes step.ended step.ask m.present (run_notes step.ran (Ran m.present m.orb (plan_of m) place plain m.payload) ns)
+
+abbrev pub noted : Call → Machine → List Note → List Note
+noted (Point pointer) m ns = point_notes (point_step m pointer).0 ns
+noted Doorbell m ns = ns
+noted Reset m ns = Cut ∷ ns
+noted (Abort orb) m ns = ns
+noted (Reply place plain told which answer) m ns =
+    step_notes place plain (reply_step m place plain told which answer).0 (reply_step m place plain told which answer).1 (heard m which answer ns)
+
+abbrev pub notes : List Call → List Note
+notes [] = []
+notes (call ∷ calls) = noted call (after_calls calls) (notes calls)
+
+-- a list is open: a pointer was taken, and it was not cut since
+abbrev pub is_open : List Note → Bool
+is_open [] = false
+is_open (Pointed at ∷ ns) = true
+is_open (Cut ∷ ns) = false
+is_open (_ ∷ ns) = is_open ns
+
+-- the present ORB: the one pointed to, or whose turn came, until it ends
+abbrev pub present_in : List Note → Option ℕ
+present_in [] = None
+present_in (Pointed at ∷ ns) = Some at
+present_in (Turn at ∷ ns) = Some at
+present_in (Cut ∷ ns) = None
+present_in (Ended at ∷ ns) = None
+present_in (_ ∷ ns) = present_in ns
+
+-- its bytes
+abbrev pub fetched_in : List Note → Option CommandOrb
+fetched_in [] = None
+fetched_in (Fetched orb ∷ ns) = Some orb
+fetched_in (Pointed at ∷ ns) = None
+fetched_in (Turn at ∷ ns) = None
+fetched_in (_ ∷ ns) = fetched_in ns
+
+-- the next pointer last read of the present or last ORB
+abbrev pub next_in : List Note → OrbPointer
+next_in [] = Null
+next_in (Fetched orb ∷ ns) = orb.next
+next_in (Reread next ∷ ns) = next
+next_in (Pointed at ∷ ns) = Null
+next_in (Turn at ∷ ns) = Null
+next_in (_ ∷ ns) = next_in ns
+
+-- how often it ran
+abbrev pub runs_in : List Note → ℕ
+runs_in [] = 0
+runs_in (Ran at orb buffer place plain payload ∷ ns) = suc (runs_in ns)
+runs_in (Pointed at ∷ ns) = 0
+runs_in (Turn at ∷ ns) = 0
+runs_in (_ ∷ ns) = runs_in ns
+
+-- the bytes of the ORB behind it, read ahead since its own turn
+abbrev pub ahead_in : List Note → Option CommandOrb
+ahead_in [] = None
+ahead_in (AheadRead orb ∷ ns) = Some orb
+ahead_in (AheadUsed orb ∷ ns) = None
+ahead_in (Pointed at ∷ ns) = None
+ahead_in (Turn at ∷ ns) = None
+ahead_in (Cut ∷ ns) = None
+ahead_in (_ ∷ ns) = ahead_in ns
+
+-- In an open list the turn comes when the ORB before has ended, and to the ORB that its next pointer last read names. Bytes read ahead are used at the turn behind that in which they were read, once. The command of the present ORB runs once, as its bytes were read, with all of its data. A chunk of an answer is written of the present ORB when it has run. The present ORB ends, and is then no more the present one.
+abbrev pub Lawful : List Note → Type 0
+Lawful [] = Unit {0}
+Lawful (Turn at ∷ ns) = (present_in ns ≡ None) × (is_open ns ≡ true) × (named (next_in ns) ≡ Some at) × Lawful ns
+Lawful (AheadUsed orb ∷ ns) = (ahead_in ns ≡ Some orb) × Lawful ns
+Lawful (Ran at orb buffer place plain payload ∷ ns) =
+    (present_in ns ≡ Some at) × (runs_in ns ≡ 0) × (fetched_in ns ≡ Some orb) × Feeds (need_of orb.cdb buffer plain place) payload × Lawful ns
+Lawful (Answered at ∷ ns) = (present_in ns ≡ Some at) × (runs_in ns ≡ 1) × Lawful ns
+Lawful (Ended at ∷ ns) = (present_in ns ≡ Some at) × Lawful ns
+Lawful (_ ∷ ns) = Lawful ns
+
+-- the ORBs that ended since the latest pointer that was taken, the latest first
+abbrev pub ended : List Note → List ℕ
+ended [] = []
+ended (Pointed at ∷ ns) = []
+ended (Ended at ∷ ns) = at ∷ ended ns
+ended (_ ∷ ns) = ended ns
+
+-- those whose turn came, the one pointed to among them, but for one that was cut
+abbrev pub begun : List Note → List ℕ
+begun [] = []
+begun (Pointed at ∷ ns) = at ∷ []
+begun (Turn at ∷ ns) = at ∷ begun ns
+begun (Cut ∷ ns) = ended ns
+begun (_ ∷ ns) = begun ns
+
+abbrev pub before_present : Option ℕ → List ℕ → List ℕ
+before_present None orbs = orbs
+before_present (Some at) orbs = at ∷ orbs
+
+-- The ORBs whose turn came are, in order, those that ended, and then the present one.
+abbrev pub InOrder : List Note → Type 0
+InOrder ns = begun ns ≡ before_present (present_in ns) (ended ns)
+
+-- Over every list of calls.
+abbrev pub CallsAreLawful : Type 0
+CallsAreLawful = (calls : List Call) → Lawful (notes calls)
+
+abbrev pub CallsKeepOrder : Type 0
+CallsKeepOrder = (calls : List Call) → InOrder (notes calls)
+
+-- A failing read of a next pointer makes the agent dead; no ORB ends, none runs and nothing is written.
+abbrev pub RereadsEndNothing : Type 0
+RereadsEndNothing = (m : Machine) (place : ℕ) (plain : PlainDisk) (told : Told) (answer : Answer) (cause : FailCause) →
+    payload_of answer 8 ≡ Err cause →
+    (reply_step (record m { phase = phases.ReadingNext }) place plain told Main answer).0 ≡ record quiet { dead = Some cause }

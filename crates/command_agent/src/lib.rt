@@ -1,0 +1,20 @@
+//! The command agent of one login over an ordered unit (NCITS 325-1998, command block agents): it
+//! fetches the ORBs of a list in their order, moves their data, runs their commands and writes their
+//! status blocks. Only [`Agent::new`] takes memory.
+#![tactic(auto)]
+
+mod agent;
+mod checks;
+mod laws;
+mod phase;
+mod reply;
+mod room;
+mod step;
+
+pub use agent::Agent;
+pub use laws::{calls_are_lawful, calls_keep_order, failing_reread_ends_nothing};
+pub use phase::{Phase, ReadAhead};
+pub use step::{AgentState, AgentStep, PointRefusal, Which};
+
+#[cfg(test)]
+mod tests;

@@ -1,0 +1,158 @@
+ghost use Rattle.std.specs.Prelude.{◌≡◌, ◌+◌, ◌≤◌, ◌<◌, [], ◌++◌, length, None, IfOk, IfSome};
+ghost use Rattle.rbc_disk.specs.Units.{plain_disk};
+ghost use Rattle.rbc_disk.specs.Checks.{check_of};
+ghost use Rattle.rbc_disk.specs.Runs.{need_of, Feeds, MayEnd, failure_of, check_in, HasFailed, answered_length, answer_length_of, answer_of, medium_after, unit_after};
+
+use rbc_disk::{BufferPlan, Medium, Outcome, Unit};
+use sbp_base::NoMemory;
+use std::alloc::Global;
+use std::marker::Model;
+
+/// The most bytes of data and of an answer: 32 blocks.
+const ROOM: usize = 16384;
+
+/// Room for the data or the answer of a command, taken when it is made.
+#[derive(Drop)]
+pub struct Room {
+    bytes: Vec<u8>,
+    count: usize,
+}
+
+impl Model for Room {
+    ghost use Rattle.std.specs.Prelude.{◌≡◌, ◌≤◌, ℕ, List, length, take};
+
+    ghost Value = { List ℕ };
+
+    ghost view = { λ a. take a.count a.bytes.items };
+
+    ghost invariant = { λ a. (length a.bytes.items ≡ 16384) × (a.count ≤ 16384) };
+}
+
+impl Room {
+    /// Room with no bytes in it.
+    pub fn new(alloc: Global) -> Result<Room, NoMemory>
+        ensures { IfOk result (λ room. room ≡ []) }
+    {
+        Ok(Room {
+            bytes: vec![in alloc; 0; ROOM]?,
+            count: 0,
+        })
+    }
+
+    /// The bytes, lent.
+    pub fn as_slice(&self) -> &[u8]
+        ensures bytes { result.now ≡ self.now }
+        ensures few { length self.now ≤ 16384 }
+    {
+        &self.bytes[0..self.count]
+    }
+
+    /// The number of bytes.
+    pub fn len(&self) -> u16
+        ensures count { result ≡ length self.now }
+        ensures few { length self.now ≤ 16384 }
+    {
+        self.count as u16
+    }
+
+    /// Removes all bytes.
+    pub fn clear(&mut self)
+        ensures { self.new ≡ [] }
+    {
+        self.count = 0;
+    }
+
+    /// Adds bytes behind the others.
+    pub fn append(&mut self, bytes: &[u8])
+        requires { length self.old + length bytes.now ≤ 16384 }
+        ensures { self.new ≡ self.old ++ bytes.now }
+    {
+        let end = self.count + bytes.len();
+        self.bytes[self.count..end].copy_from_slice(bytes);
+        self.count = end;
+    }
+
+    /// Runs a command of a unit, whose answer takes the place of the bytes.
+    pub fn run(
+        &mut self,
+        unit: &mut Unit,
+        medium: &mut dyn Medium,
+        login: u8,
+        cdb: &[u8; 12],
+        buffer: BufferPlan,
+        payload: &[u8],
+    ) -> Outcome
+        requires place { login < 8 }
+        requires fed { Feeds (need_of cdb.now buffer (plain_disk unit.old (disk medium.old)) login) payload.now }
+        ensures ended { MayEnd (check_of cdb.now buffer (plain_disk unit.old (disk medium.old)) login) (failure_of (disk medium.old).is_bay cdb.now) (check_in result) }
+        ensures cause { HasFailed (check_in result) (media_faults medium.old) (media_faults medium.new) }
+        ensures len { check_in result ≡ None → answered_length result ≡ answer_length_of (disk medium.old).is_bay cdb.now }
+        ensures room { length self.new ≡ answered_length result }
+        ensures answered { check_in result ≡ None → IfSome (answer_of cdb.now (disk medium.old)) (λ told. self.new ≡ told) }
+        ensures medium { disk medium.new ≡ medium_after cdb.now payload.now (check_in result) (disk medium.old) }
+        ensures unit { unit.new ≡ unit_after cdb.now (check_in result) login (disk medium.old).is_bay unit.old }
+    {
+        let outcome = unit.run(
+            medium,
+            login,
+            cdb,
+            buffer,
+            payload,
+            self.bytes.as_mut_slice(),
+        );
+        self.count = match outcome {
+            Outcome::Good { answer } => answer as usize,
+            Outcome::Check(_) => 0,
+        };
+        outcome
+    }
+}
+
+/// The most bytes of a packet's payload.
+const PAYLOAD: usize = 2048;
+
+/// The bytes of a write.
+#[derive(Drop)]
+pub struct Outgoing {
+    bytes: [u8; 2048],
+    count: usize,
+}
+
+impl Model for Outgoing {
+    ghost use Rattle.std.specs.Prelude.{◌≡◌, ◌≤◌, ℕ, List, length, take};
+
+    ghost Value = { List ℕ };
+
+    ghost view = { λ a. take a.count a.bytes };
+
+    ghost invariant = { λ a. a.count ≤ 2048 };
+}
+
+impl Outgoing {
+    /// No bytes.
+    pub fn new() -> Outgoing
+        ensures { result ≡ [] }
+    {
+        Outgoing {
+            bytes: [0; PAYLOAD],
+            count: 0,
+        }
+    }
+
+    /// The bytes, lent.
+    pub fn as_slice(&self) -> &[u8]
+        ensures { result.now ≡ self.now }
+    {
+        &self.bytes[0..self.count]
+    }
+
+    /// These bytes take the place of those before.
+    pub fn keep(&mut self, bytes: &[u8])
+        requires { length bytes.now ≤ 2048 }
+        ensures { self.new ≡ bytes.now }
+    {
+        let count = bytes.len();
+        self.bytes[0..count].copy_from_slice(bytes);
+        self.count = count;
+    }
+}
