@@ -1,5 +1,5 @@
-ghost use Rattle.std.specs.Prelude.{◌≡◌, map, IfOk};
-ghost use Rattle.sbp2.specs.ProgramMedia.{bay, program_media};
+ghost use Rattle.std.specs.Prelude.{◌≡◌, IfOk};
+ghost use Rattle.sbp2.specs.ProgramMedia.{two_discs, locked, second_fails};
 
 use media_bay::Bay;
 use rbc_disk::{FaultyMedium, Medium, ProtectedMedium, RamMedium};
@@ -9,9 +9,20 @@ use std::alloc::Global;
 /// The blocks of each medium.
 const BLOCKS: u32 = 64;
 
-/// A bay with two discs, both free to read and write; the first one is in the tray.
-fn bay(alloc: Global) -> Result<Bay<RamMedium>, NoMemory>
-    ensures { IfOk result (λ made. ⟦<Bay<RamMedium> as Medium>⟧.disk made ≡ bay) }
+/// The media that the program runs on.
+#[derive(Drop)]
+pub struct ProgramMedia {
+    /// Unit 0, a bay with two discs, both free to read and write; the first one is in the tray.
+    pub bay: Bay<RamMedium>,
+    /// Unit 1, which can't be written.
+    pub locked: ProtectedMedium,
+    /// Unit 2, whose second call fails.
+    pub faulty: FaultyMedium,
+}
+
+/// The bay of unit 0.
+fn two_discs(alloc: Global) -> Result<Bay<RamMedium>, NoMemory>
+    ensures { IfOk result (λ bay. ⟦<Bay<RamMedium> as Medium>⟧.disk bay ≡ two_discs) }
 {
     let first = RamMedium::new(alloc, BLOCKS, 0x00)?;
     let second = RamMedium::new(alloc, BLOCKS, 0x77)?;
@@ -21,18 +32,17 @@ fn bay(alloc: Global) -> Result<Bay<RamMedium>, NoMemory>
     Ok(Bay::new(BLOCKS, shelf))
 }
 
-/// The media that the program runs on: of unit 0 the bay, of unit 1 a protected medium, of unit 2 a
-/// medium whose second call fails.
-pub fn program_media(alloc: Global) -> Result<Vec<Box<dyn Medium>>, NoMemory>
-    ensures { IfOk result (λ media. map disk media.items ≡ program_media) }
-{
-    let bay: Box<dyn Medium> = Box::new(alloc, bay(alloc)?)?;
-    let locked: Box<dyn Medium> = Box::new(alloc, ProtectedMedium::new(alloc, BLOCKS, 0x5a)?)?;
-    let failing = vec![in alloc; 2u32; 1]?;
-    let faulty: Box<dyn Medium> = Box::new(alloc, FaultyMedium::new(alloc, BLOCKS, 0, failing)?)?;
-    let mut media = Vec::new(alloc);
-    media.push(bay)?;
-    media.push(locked)?;
-    media.push(faulty)?;
-    Ok(media)
+impl ProgramMedia {
+    /// The media as the program begins.
+    pub fn new(alloc: Global) -> Result<Self, NoMemory>
+        ensures bay { IfOk result (λ media. ⟦<Bay<RamMedium> as Medium>⟧.disk media.bay ≡ two_discs) }
+        ensures locked { IfOk result (λ media. ⟦<ProtectedMedium as Medium>⟧.disk media.locked ≡ locked) }
+        ensures faulty { IfOk result (λ media. media.faulty ≡ second_fails) }
+    {
+        Ok(ProgramMedia {
+            bay: two_discs(alloc)?,
+            locked: ProtectedMedium::new(alloc, BLOCKS, 0x5a)?,
+            faulty: FaultyMedium::new(alloc, BLOCKS, 0x00, vec![in alloc; 2u32; 1]?)?,
+        })
+    }
 }
