@@ -1,18 +1,22 @@
 #!/usr/bin/env bash
 # The cost of a line must not grow with the length of the input. Runs the proved program twice for each
 # word and prints the processor time of both runs and their ratio: `run` over 10,000 and 20,000 append
-# lines and one settle (in proportion is about 2), `decode` over traces of 1 MB and 10 MB (about 10).
+# lines, with a settle after each 31 (in proportion is about 2), `decode` over traces of 1 MB and 10 MB
+# (about 10).
 # First build the program: cd crates/sbp2 && rt run -- run < stdin
 cd "$(dirname "$0")/.." || exit 1
 program=crates/sbp2/out/sbp2
 work=$(mktemp -d)
 trap 'rm -r "$work"' EXIT
 
-# blocks written and read in turn, and one settle
+# blocks written and read in turn, and a settle before the slots are all in use
 appends() {
     awk -v n="$1" 'BEGIN {
         print "begin 1 ready"
-        for (i = 0; i < n; i++) if (i % 2) print "append 0 read " i % 64 " 1"; else print "append 0 write " i % 64 " A5*512"
+        for (i = 0; i < n; i++) {
+            if (i % 2) print "append 0 read " i % 64 " 1"; else print "append 0 write " i % 64 " A5*512"
+            if (i % 31 == 30) print "settle"
+        }
         print "settle"
     }'
 }

@@ -1,5 +1,6 @@
 pub mod MediaLists
-pub mod PlainDiskLemmas
 pub mod CheckLemmas
 pub mod AnswerLemmas
 pub mod AttentionLemmas
+pub mod NeedLemmas
+pub mod KeyLemmas

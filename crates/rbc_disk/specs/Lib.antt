@@ -1,6 +1,4 @@
 pub mod Disk
-pub mod Command
-pub mod PlainDisk
 pub mod Units
 pub mod Requests
 pub mod Checks

@@ -9,7 +9,7 @@ use Rattle.std.specs.Str.{bytes_eq}
 use Rattle.sbp_base.specs.Faults.{last_count}
 use Rattle.rbc_disk.specs.Disk.{Disk}
 use Rattle.sbp_journal.specs.Run.{empty_run}
-use Rattle.sbp_command.specs.Plain.{held, empty_list, Stands}
+use Rattle.plain_list.specs.Plain.{held, empty_list, Stands}
 use Rattle.sbp_command.specs.Headline.{Outside, outside, UsageEnds, usage}
 use Rattle.sbp_command.specs.Session.{WritesFront, RunState, InRun}
 use Rattle.sbp_command.specs.declared.status.Status.{Status}
@@ -26,10 +26,12 @@ empty_stands disks faults some counted = record {
   of_lists = refl;
   alone = λ i h. refl;
   of_ends = refl;
+  of_statuses = refl;
   count = refl;
   queued = λ j d h. absurd (omega arith);
   not_run = λ k h. refl;
   not_taken = λ k h. refl;
+  unit_is = refl;
   disks = record { count = refl; each = λ u h. refl };
   failures = record { each = no_failures faults };
   some = some;

@@ -4,10 +4,7 @@ pub mod Listings
 pub mod Numbers
 pub mod Places
 pub mod RomLines
-pub mod Running
 pub mod ScriptLines
 pub mod Sessions
 pub mod Serving
-pub mod Settling
-pub mod Standing
 pub mod Writes

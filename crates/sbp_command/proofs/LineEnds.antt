@@ -11,7 +11,7 @@ use Rattle.sbp_journal.specs.Lawful.{Lawful, AreLawful}
 use Rattle.sbp_journal.specs.Text.{text_of, note_text}
 use Rattle.sbp_journal.specs.declared.event.Event.{Event}
 use Rattle.sbp_journal.specs.declared.note.Note.{Note}
-use Rattle.sbp_command.specs.Plain.{PlainState, Held, held, StandsFor}
+use Rattle.plain_list.specs.Plain.{PlainState, Held, held, StandsFor}
 use Rattle.sbp_command.specs.Script.{reading}
 use Rattle.sbp_command.specs.Headline.{Outside, outside, fault_text}
 use Rattle.sbp_command.specs.Session.{WritesFront, RanSoFar, LineTorn, LineFails, LineEnds}

@@ -5,7 +5,7 @@ use Rattle.std.proofs.KnownBytes.{Consumes-nil, Consumes-kept}
 use Rattle.std.specs.Str.Lines.{strip_carriage_return}
 use Rattle.sbp_base.specs.Faults.{Rose}
 use Rattle.sbp_journal.specs.Run.{Run}
-use Rattle.sbp_command.specs.Plain.{PlainState}
+use Rattle.plain_list.specs.Plain.{PlainState}
 use Rattle.sbp_command.specs.Script.{reading, is_surely_long}
 use Rattle.sbp_command.specs.Headline.{Outside, KeepsMedia}
 use Rattle.sbp_command.specs.Session.{Service, serves_run, serves_decode, serves_rom, IsReady, Served, CanServe, HasSeen, Awaits, RanSoFar, LineFails, WritesLine, ServesLine, InRun, InRom, StandsAt, Serves, IsFresh, Ends, AllServed, Closes}

@@ -14,7 +14,7 @@ use Rattle.sbp_journal.specs.Lawful.{Lawful}
 use Rattle.sbp_journal.specs.Text.{text_of}
 use Rattle.sbp_journal.specs.declared.event.Event.{Event}
 use Rattle.sbp_journal.specs.declared.note.Note.{Note}
-use Rattle.sbp_command.specs.Plain.{PlainState, Held, held, StandsFor}
+use Rattle.plain_list.specs.Plain.{PlainState, Held, held, StandsFor}
 use Rattle.sbp_command.specs.Script.{Script, script, script_from, onto_script, reading, IsWhole, is_surely_long}
 use Rattle.sbp_command.specs.Headline.{Outside, fault_text, ending, RunsOver, LeavesMedia, Torn, RunEnds}
 use Rattle.sbp_command.specs.Session.{RunState, RanLine, Tells, LineTorn, LineFails, InRun}

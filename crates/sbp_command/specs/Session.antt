@@ -8,7 +8,7 @@ use Rattle.sbp_journal.specs.Lawful.{Lawful}
 use Rattle.sbp_journal.specs.Text.{text_of}
 use Rattle.sbp_journal.specs.declared.event.Event.{Event}
 use Rattle.sbp_journal.specs.declared.note.Note.{Note}
-use Rattle.sbp_command.specs.Plain.{PlainState, empty_list, held, StandsFor}
+use Rattle.plain_list.specs.Plain.{PlainState, empty_list, held, StandsFor}
 use Rattle.sbp_command.specs.Script.{script, reading, IsWhole, NoFeed, is_surely_long}
 use Rattle.sbp_command.specs.Listing.{listing, line_listing}
 use Rattle.sbp_command.specs.RomListing.{rom_quads, rom_listing, with_line, quiet}

@@ -2,7 +2,6 @@
 #![tactic(auto)]
 
 mod listing;
-mod plain;
 mod rom;
 mod script;
 mod session;

@@ -4,7 +4,7 @@ ghost use Rattle.std.specs.Str.Lines.{strip_carriage_return};
 ghost use Rattle.rbc_disk.specs.Disk.{Disk};
 ghost use Rattle.sbp_journal.specs.Run.{Run};
 ghost use Rattle.sbp_journal.specs.declared.event.Event.{Event};
-ghost use Rattle.sbp_command.specs.Plain.{PlainState, InPlace, empty_list};
+ghost use Rattle.plain_list.specs.Plain.{PlainState, is_served, empty_list};
 ghost use Rattle.sbp_command.specs.Listing.{line_listing};
 ghost use Rattle.sbp_command.specs.RomListing.{rom_listing, with_line, quiet};
 ghost use Rattle.sbp_command.specs.Headline.{Outside, outside};
@@ -15,11 +15,11 @@ ghost use Rattle.sbp_command.specs.declared.status.Status.TheVariants as statuse
 ghost use Rattle.sbp_command.specs.Session.{Service, CanServe, Served, IsReady, budget, RanSoFar, LineFails, LineEnds, WritesFront, WritesLine, ServesLine, Closes, outcome, InSession, Ends, GoesOn, PieceEnds};
 
 use crate::listing::list_bytes;
-use crate::plain::PlainList;
 use crate::rom::Quadlets;
 use crate::script::{LINES, LineError, LineFault, read_line};
 use crate::status::Status;
 use crate::write::{write_all, write_fault, write_notes};
+use plain_list::PlainList;
 use rbc_disk::Medium;
 use sbp_base::{Bytes, Failed, NoMemory, Sink, Source};
 use sbp_journal::{Event, Text};
@@ -70,21 +70,22 @@ impl Model for Session {
 /// Runs the event of a line, and writes its notes.
 fn run_event<K: Sink>(
     alloc: Global,
+    number: u32,
     event: Event,
     list: &mut PlainList,
     text: &mut Text,
     media: &mut Vec<Box<dyn Medium>>,
     sink: &mut K,
 ) -> Result<(), Status>
-    requires place { InPlace list.old.begun event }
+    requires served { is_served list.old.begun event ≡ true }
     requires room { list.old.appended < 65536 }
     requires media { 0 < length media.old.items }
     ensures count { length media.new.items ≡ length media.old.items }
     ensures begun { OnOk result (list.new.begun ≡ true) }
     ensures room { OnOk result (list.new.appended ≤ list.old.appended + 1) }
-    ensures ends { (before : Outside) (left : Option (List ℕ)) (reads : ℕ) (run : Run) (number : ℕ) (line : List ℕ) → script.reading number line ≡ Ok event → RanSoFar before (outside left reads (K.written sink.old) (K.faults sink.old) (map disk media.old.items) (map media_faults media.old.items)) run list.old → LineEnds result before (outside left reads (K.written sink.new) (K.faults sink.new) (map disk media.new.items) (map media_faults media.new.items)) run number line list.new }
+    ensures ends { (before : Outside) (left : Option (List ℕ)) (reads : ℕ) (run : Run) (line : List ℕ) → script.reading number line ≡ Ok event → RanSoFar before (outside left reads (K.written sink.old) (K.faults sink.old) (map disk media.old.items) (map media_faults media.old.items)) run list.old → LineEnds result before (outside left reads (K.written sink.new) (K.faults sink.new) (map disk media.new.items) (map media_faults media.new.items)) run number line list.new }
 {
-    match list.step(media, event) {
+    match list.step(media, number, event) {
         Ok(()) => write_notes(alloc, list.fresh().as_slice(), text, sink),
         Err(NoMemory) => Err(Status::NoMemory),
     }
@@ -122,7 +123,7 @@ fn run_line<K: Sink>(
     ensures ends { (before : Outside) (left : Option (List ℕ)) (reads : ℕ) (run : Run) → RanSoFar before (outside left reads (K.written sink.old) (K.faults sink.old) (map disk media.old.items) (map media_faults media.old.items)) run list.old → LineEnds result before (outside left reads (K.written sink.new) (K.faults sink.new) (map disk media.new.items) (map media_faults media.new.items)) run number line.now list.new }
 {
     match read_line(alloc, number, line) {
-        Ok(event) => run_event(alloc, event, list, text, media, sink),
+        Ok(event) => run_event(alloc, number, event, list, text, media, sink),
         Err(LineError::Fault(fault)) => Err(tell_fault(alloc, number, fault, sink)),
         Err(LineError::NoMemory) => Err(Status::NoMemory),
     }

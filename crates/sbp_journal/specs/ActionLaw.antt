@@ -1,21 +1,29 @@
 -- The action law: which notes each line brings.
-use Rattle.std.specs.Prelude.{◌≡◌, ℕ, ◌==◌, if◌then◌else◌, List, [], ◌∷◌, ◌++◌, reverse, Option, Some}
+use Rattle.std.specs.Prelude.{◌≡◌, ℕ, ◌==◌, nat_lt, if◌then◌else◌, List, [], ◌∷◌, ◌++◌, take, reverse, Option, Some}
 use Rattle.rbc_command.specs.declared.sense.Sense.{Sense}
 use Rattle.sbp_journal.specs.Run.{Entry, history}
-use Rattle.sbp_journal.specs.Terms.{appends, ends, present_list, status_of}
+use Rattle.sbp_journal.specs.Terms.{appends, ends, present_list, slots_in_use, status_of}
 use Rattle.sbp_journal.specs.OrderLaw.{IsPresent}
 use Rattle.sbp_journal.specs.declared.event.Action.TheVariants as actions
 use Rattle.sbp_journal.specs.declared.event.Cmd.{Cmd}
 use Rattle.sbp_journal.specs.declared.event.Event.{Event}
 use Rattle.sbp_journal.specs.declared.event.Event.TheVariants as events
 use Rattle.sbp_journal.specs.declared.note.Note.{Note}
-use Rattle.sbp_journal.specs.declared.note.Note.TheVariants.{Begin, Append, Low, Linked, Rung, Ran, Ended, Taken, Settled}
+use Rattle.sbp_journal.specs.declared.note.Note.TheVariants.{Begin, Append, Low, Linked, Rung, Ran, Ended, Taken, Settled, Refused}
 use Rattle.sbp_journal.specs.declared.note.NoteBuffer.{NoteBuffer}
 use Rattle.sbp_journal.specs.declared.note.NoteBuffer.TheVariants.{Nothing, In, Out}
 
--- the buffer of a command
+-- a buffer that is named has a byte
+abbrev pub in_buffer : ℕ → NoteBuffer
+in_buffer len = if len == 0 then Nothing else In len
+
+abbrev pub out_buffer : List ℕ → NoteBuffer
+out_buffer [] = Nothing
+out_buffer (byte ∷ bytes) = Out (byte ∷ bytes)
+
+-- the buffer of a command: to the target it holds the command's data, as far as its length goes
 abbrev pub buffer_of : Cmd → NoteBuffer
-buffer_of cmd = if cmd.length == 0 then Nothing else if cmd.to_initiator then In cmd.length else Out cmd.payload
+buffer_of cmd = if cmd.to_initiator then in_buffer cmd.length else out_buffer (take cmd.length cmd.payload)
 
 -- an ORB behind another one is linked to it
 abbrev pub link_notes : ℕ → ℕ → ℕ → List Note
@@ -46,13 +54,21 @@ pub record Settles (ns notes : List Note) : Type 0 where
   pub settled : notes ≡ front ++ Settled ∷ []
   pub done : NothingWaits (reverse notes ++ ns)
 
--- the notes of a line's event, after the notes ns
-abbrev pub Brings : List Note → Event → List Note → Type 0
-Brings ns (events.Begin initiators ready) notes = notes ≡ Begin initiators ready ∷ []
-Brings ns (events.Act i (actions.Append cmd)) notes = let n = present_list ns i in notes ≡ append_notes i n (appends ns i n) cmd
-Brings ns events.Settle notes = Settles ns notes
-Brings ns _ notes = ⊥  -- no run has another line yet
+-- the slots of an initiator
+abbrev pub slots : ℕ
+slots = 32
+
+-- the notes of an append to the present list n: it is refused, and that is all, where no slot is free
+abbrev pub append_or_refusal : List Note → ℕ → ℕ → ℕ → Cmd → List Note
+append_or_refusal ns line i n cmd = if nat_lt (slots_in_use ns i) slots then append_notes i n (appends ns i n) cmd else Refused line 9 ∷ []
+
+-- the notes of the event of the line with this number, after the notes ns
+abbrev pub Brings : List Note → ℕ → Event → List Note → Type 0
+Brings ns line (events.Begin initiators ready) notes = notes ≡ Begin initiators ready ∷ []
+Brings ns line (events.Act i (actions.Append cmd)) notes = notes ≡ append_or_refusal ns line i (present_list ns i) cmd
+Brings ns line events.Settle notes = Settles ns notes
+Brings ns line _ notes = ⊥  -- no run has another line yet
 
 abbrev pub ActionLaw : List Entry → Type 0
 ActionLaw [] = Unit {0}
-ActionLaw (entry ∷ before) = Brings (history before) entry.event entry.notes × ActionLaw before
+ActionLaw (entry ∷ before) = Brings (history before) entry.line entry.event entry.notes × ActionLaw before

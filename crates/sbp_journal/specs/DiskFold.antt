@@ -1,17 +1,23 @@
--- The disk fold: what a unit's medium holds, as a fold over the notes (RBC). Notes stand with the latest one first.
+-- The disk fold: what a unit is and what its medium holds, as a fold over the notes (RBC). Notes stand with the latest one first.
 use Rattle.std.specs.Prelude.{ℕ, suc, ◌≡◌, ◌<◌, ◌+◌, ◌≤◌, min, if◌then◌else◌, List, [], ◌∷◌, length, slice_index, Some}
 use Rattle.sbp_base.specs.Faults.{last_count}
 use Rattle.rbc_disk.specs.Disk.{Disk, disk_at, no_disk}
-use Rattle.rbc_disk.specs.PlainDisk.{after_run, is_failure}
-use Rattle.sbp_journal.specs.Terms.{at_orb, at_initiator}
+use Rattle.rbc_disk.specs.Units.{PlainDisk, plain_disk, new_unit}
+use Rattle.rbc_disk.specs.Runs.{after_run, is_failure}
+use Rattle.sbp_journal.specs.Terms.{at_orb, at_initiator, place_of}
 use Rattle.sbp_journal.specs.declared.note.Note.{Note}
 use Rattle.sbp_journal.specs.declared.note.Note.TheVariants.{Ran}
 
--- a WRITE that ran good on the unit replaces its blocks; nothing else changes the disk
+-- The plain disk of a unit: at first a new unit with what its medium holds at the start; a run on it leaves what the plain disk
+-- says; no other note of the runs that are lawful today changes it.
+abbrev pub plain_of : List Disk → List Note → ℕ → PlainDisk
+plain_of start [] = λ u. plain_disk new_unit (disk_at start u)
+plain_of start (Ran i n k unit cdb bytes check ∷ ns) = at_initiator (plain_of start ns) unit (after_run cdb bytes check (place_of i) (plain_of start ns unit))
+plain_of start (_ ∷ ns) = plain_of start ns
+
+-- what the unit's medium holds
 abbrev pub disk_of : List Disk → List Note → ℕ → Disk
-disk_of start [] = disk_at start
-disk_of start (Ran i n k unit cdb bytes check ∷ ns) = at_initiator (disk_of start ns) unit (after_run cdb bytes check (disk_of start ns unit))
-disk_of start (_ ∷ ns) = disk_of start ns
+disk_of start ns u = (plain_of start ns u).medium
 
 -- what the unit's medium held before the run of an ORB
 abbrev pub before_run : List Disk → List Note → ℕ → ℕ → ℕ → Disk

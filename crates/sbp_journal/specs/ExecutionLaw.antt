@@ -1,26 +1,31 @@
 -- The execution law: each ORB runs at most once, in its order, with its own command and data, and with the outcome that the plain
 -- disk allows.
-use Rattle.std.specs.Prelude.{◌≡◌, ℕ, ◌<◌, ◌⊎◌, List, [], ◌∷◌, Option, Some, IsSomeAnd}
+use Rattle.std.specs.Prelude.{◌≡◌, ℕ, ◌<◌, ◌⊎◌, Bool, List, [], ◌∷◌, take, Option, Some, IsSomeAnd}
 use Rattle.rbc_disk.specs.Disk.{Disk}
-use Rattle.rbc_disk.specs.Command.{command_of}
-use Rattle.rbc_disk.specs.PlainDisk.{first_check, need_of, data_length, failure_of, MayEnd}
+use Rattle.rbc_disk.specs.Units.{PlainDisk}
+use Rattle.rbc_disk.specs.Checks.{check_of}
+use Rattle.rbc_disk.specs.Runs.{need_of, data_length_of, failure_of, MayEnd}
 use Rattle.rbc_command.specs.declared.sense.Sense.{Sense}
 use Rattle.rbc_disk.specs.declared.command.Need.TheVariants.{Payload}
-use Rattle.sbp_journal.specs.Terms.{Request, runs, ends, request_at, ran_status, unit_of, plan_of, data_of}
-use Rattle.sbp_journal.specs.DiskFold.{disk_of}
+use Rattle.sbp_journal.specs.Terms.{Request, runs, ends, request_at, ran_status, unit_of, place_of, plan_of, data_of}
+use Rattle.sbp_journal.specs.DiskFold.{plain_of}
 use Rattle.sbp_journal.specs.declared.note.Note.{Note}
 use Rattle.sbp_journal.specs.declared.note.Note.TheVariants.{Ran, Ended}
 
--- no data, or those of a WRITE of one block or more
-abbrev pub MayCarry : Request → List ℕ → Type 0
-MayCarry request bytes = (bytes ≡ []) ⊎ ((0 < data_length (command_of request.cdb)) × (bytes ≡ data_of request.buffer))
+-- as many bytes of its buffer as a WRITE asks for
+abbrev pub asked_data : Request → ℕ → List ℕ
+asked_data request len = take len (data_of request.buffer)
 
--- the request runs with these bytes on this disk, and ends so
-pub record RunsOn (request : Request) (disk : Disk) (cdb bytes : List ℕ) (check : Option Sense) : Type 0 where
+-- no data, or those of a WRITE of one block or more
+abbrev pub MayCarry : Request → Bool → List ℕ → Type 0
+MayCarry request is_bay bytes = (bytes ≡ []) ⊎ ((0 < data_length_of is_bay request.cdb) × (bytes ≡ asked_data request (data_length_of is_bay request.cdb)))
+
+-- the request of the login at a place runs with these bytes on this plain disk, and ends so
+pub record RunsOn (request : Request) (plain : PlainDisk) (place : ℕ) (cdb bytes : List ℕ) (check : Option Sense) : Type 0 where
   pub command : cdb ≡ request.cdb
-  pub carried : MayCarry request bytes
-  pub needed : (len : ℕ) → need_of cdb (plan_of request.buffer) disk ≡ Payload len → bytes ≡ data_of request.buffer
-  pub ended : MayEnd (first_check cdb (plan_of request.buffer) disk) (failure_of (command_of cdb)) check
+  pub carried : MayCarry request plain.medium.is_bay bytes
+  pub needed : (len : ℕ) → need_of cdb (plan_of request.buffer) plain place ≡ Payload len → bytes ≡ asked_data request len
+  pub ended : MayEnd (check_of cdb (plan_of request.buffer) plain place) (failure_of plain.medium.is_bay cdb) check
 
 -- the ORB runs for the first time, after the end of the one before it and before its own, on the unit of the login
 pub record IsNextRun (ns : List Note) (i n k unit : ℕ) : Type 0 where
@@ -31,6 +36,6 @@ pub record IsNextRun (ns : List Note) (i n k unit : ℕ) : Type 0 where
 abbrev pub ExecutionLaw : List Disk → List Note → Type 0
 ExecutionLaw start [] = Unit {0}
 ExecutionLaw start (Ran i (Some n) (Some k) unit cdb bytes check ∷ ns) =
-    IsNextRun ns i n k unit × IsSomeAnd (request_at ns i n k) (λ request. RunsOn request (disk_of start ns unit) cdb bytes check) × ExecutionLaw start ns
+    IsNextRun ns i n k unit × IsSomeAnd (request_at ns i n k) (λ request. RunsOn request (plain_of start ns unit) (place_of i) cdb bytes check) × ExecutionLaw start ns
 ExecutionLaw start (Ended i (Some n) (Some k) status ∷ ns) = (ran_status ns i n k ≡ Some status) × ExecutionLaw start ns
 ExecutionLaw start (_ ∷ ns) = ExecutionLaw start ns

@@ -1,6 +1,6 @@
 -- What is read off the notes of a run, the latest one first. An ORB is named by its initiator, its list and its number in that
 -- list; each term is a function of such names, and a note changes it at the name that the note has.
-use Rattle.std.specs.Prelude.{ℕ, suc, ◌==◌, ◌&&◌, ◌-◌, nat_lt, true, false, if◌then◌else◌, List, [], ◌∷◌, length, Option, Some, None}
+use Rattle.std.specs.Prelude.{ℕ, suc, ◌==◌, ◌&&◌, ◌+◌, ◌-◌, min, nat_lt, true, false, if◌then◌else◌, List, [], ◌∷◌, length, Option, Some, None}
 use Rattle.rbc_command.specs.declared.sense.Sense.{Sense}
 use Rattle.rbc_disk.specs.declared.command.BufferPlan.{BufferPlan}
 use Rattle.sbp_journal.specs.declared.note.Note.{Note}
@@ -92,6 +92,21 @@ unit_of [] = λ i. None
 unit_of (Begin initiators ready ∷ ns) = λ i. if ready && nat_lt i initiators then Some 0 else None
 unit_of (_ ∷ ns) = unit_of ns
 
+-- the place of an initiator's login in the login table: a run that begins ready begins with initiator i at place i
+abbrev pub place_of : ℕ → ℕ
+place_of i = i
+
+-- of how many ORBs of a list the status was taken
+abbrev pub statuses : List Note → ℕ → ℕ → ℕ
+statuses [] = λ i n. 0
+statuses (Taken i n k status answer ∷ ns) = at_list (statuses ns) i n (suc (statuses ns i n))
+statuses (_ ∷ ns) = statuses ns
+
 -- the list that an append joins: the latest one; the first append begins list 0
 abbrev pub present_list : List Note → ℕ → ℕ
 present_list ns i = lists ns i - 1
+
+-- How many slots of an initiator are in use: a slot is in use from its ORB's append until the ORB's status was taken, and that of the
+-- last ORB taken until the next one is.
+abbrev pub slots_in_use : List Note → ℕ → ℕ
+slots_in_use ns i = let n = present_list ns i in (appends ns i n - statuses ns i n) + min (statuses ns i n) 1
