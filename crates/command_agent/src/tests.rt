@@ -1,6 +1,6 @@
 use crate::{Agent, AgentState, AgentStep, PointRefusal, Which};
 use orb_layout::{Ask, FailCause, OrbPointer, Reply, StatusKind};
-use rbc_disk::{Outcome, RamMedium, Unit};
+use rbc_disk::{Medium, Outcome, RamMedium, Unit};
 use sbp_base::{NoMemory, Offset};
 use std::test::Fail;
 
@@ -23,91 +23,87 @@ enum Input {
     Abort(u64),
 }
 
-/// An agent with the unit and the medium that it works on, and its steps so far.
+/// An agent, and its steps so far.
 #[derive(Drop)]
-struct Bench {
+struct Ended {
     agent: Agent,
-    unit: Unit,
-    medium: RamMedium,
     steps: Vec<AgentStep>,
 }
 
-impl Bench {
-    /// A new agent over a disk of 16 blocks of 5Ah.
-    fn new(rt: &impl AllocGlobal) -> Result<Bench, NoMemory> {
-        Ok(Bench {
-            agent: Agent::new(rt.alloc())?,
-            unit: Unit::new(),
-            medium: RamMedium::new(rt.alloc(), 16, 0x5a)?,
-            steps: Vec::new(rt.alloc()),
-        })
+/// An agent of place 0 over a disk of 16 blocks of 5Ah, pointed to 10000000h, after these inputs.
+fn run(rt: &impl AllocGlobal, inputs: &[Input]) -> Result<Ended, NoMemory> {
+    let mut agent = Agent::new(rt.alloc())?;
+    let mut unit = Unit::new();
+    let mut medium = RamMedium::new(rt.alloc(), 16, 0x5a)?;
+    let mut steps = Vec::new(rt.alloc());
+    let _ = agent.point(at(0x1000_0000));
+    for input in inputs {
+        steps.push(give(&mut agent, &mut unit, &mut medium, *input))?;
     }
+    Ok(Ended { agent, steps })
+}
 
-    /// The agent takes an input; a reply to a transaction that is not under way is passed over.
-    fn give(&mut self, input: Input) -> Result<(), NoMemory> {
-        match input {
-            Input::Orb(bytes) => self.reply(Which::Main, Reply::Payload(&bytes)),
-            Input::Table => self.reply(Which::Main, Reply::Payload(&TABLE)),
-            Input::Zeros(count) => self.give_zeros(count),
-            Input::Null => self.reply(Which::Main, Reply::Payload(&NULL)),
-            Input::Done => self.reply(Which::Main, Reply::Done),
-            Input::Expired => self.reply(Which::Main, Reply::Expired),
-            Input::Refused => self.reply(Which::Main, Reply::Refused(4)),
-            Input::NoLabel => self.reply(Which::Main, Reply::NoLabel),
-            Input::Ahead(bytes) => self.reply(Which::Ahead, Reply::Payload(&bytes)),
-            Input::AheadExpired => self.reply(Which::Ahead, Reply::Expired),
-            Input::Bell => self.ring(),
-            Input::Abort(orb) => {
-                self.abort(orb);
-                Ok(())
+/// The step of an input.
+fn give(agent: &mut Agent, unit: &mut Unit, medium: &mut dyn Medium, input: Input) -> AgentStep {
+    match input {
+        Input::Bell => AgentStep::asking(agent.doorbell()),
+        Input::Abort(orb) => {
+            if let Some(orb) = Offset::new(orb) {
+                agent.abort(orb);
             }
+            AgentStep::quiet()
         }
-    }
-
-    fn give_zeros(&mut self, count: usize) -> Result<(), NoMemory> {
-        match [0; 512].get(..count) {
-            Some(bytes) => self.reply(Which::Main, Reply::Payload(bytes)),
-            None => Ok(()),
-        }
-    }
-
-    fn ring(&mut self) -> Result<(), NoMemory> {
-        let step = AgentStep::asking(self.agent.doorbell());
-        self.steps.push(step)?;
-        Ok(())
-    }
-
-    fn abort(&mut self, orb: u64) {
-        if let Some(orb) = Offset::new(orb) {
-            self.agent.abort(orb);
-        }
-    }
-
-    fn reply(&mut self, which: Which, reply: Reply<'_>) -> Result<(), NoMemory> {
-        if self.agent.is_under_way(which) {
-            let step = self
-                .agent
-                .reply(&mut self.unit, &mut self.medium, 0, which, reply);
-            self.steps.push(step)?;
-        }
-        Ok(())
+        Input::Ahead(bytes) => reply(agent, unit, medium, Which::Ahead, Reply::Payload(&bytes)),
+        Input::AheadExpired => reply(agent, unit, medium, Which::Ahead, Reply::Expired),
+        Input::Orb(bytes) => reply(agent, unit, medium, Which::Main, Reply::Payload(&bytes)),
+        Input::Table => reply(agent, unit, medium, Which::Main, Reply::Payload(&TABLE)),
+        Input::Null => reply(agent, unit, medium, Which::Main, Reply::Payload(&NULL)),
+        Input::Zeros(count) => give_zeros(agent, unit, medium, count),
+        Input::Done => reply(agent, unit, medium, Which::Main, Reply::Done),
+        Input::Expired => reply(agent, unit, medium, Which::Main, Reply::Expired),
+        Input::Refused => reply(agent, unit, medium, Which::Main, Reply::Refused(4)),
+        Input::NoLabel => reply(agent, unit, medium, Which::Main, Reply::NoLabel),
     }
 }
 
-/// An agent that was pointed to 10000000h, after these inputs.
-fn run(rt: &impl AllocGlobal, inputs: &[Input]) -> Result<Bench, NoMemory> {
-    let mut bench = Bench::new(rt)?;
-    let _ = bench.agent.point(at(0x1000_0000));
-    for input in inputs {
-        bench.give(*input)?;
+fn give_zeros(
+    agent: &mut Agent,
+    unit: &mut Unit,
+    medium: &mut dyn Medium,
+    count: usize,
+) -> AgentStep {
+    let zeros = [0; 512];
+    if count > 512 {
+        return AgentStep::quiet();
     }
-    Ok(bench)
+    reply(
+        agent,
+        unit,
+        medium,
+        Which::Main,
+        Reply::Payload(&zeros[..count]),
+    )
+}
+
+/// The step of a reply; one to a transaction that is not under way is passed over.
+fn reply(
+    agent: &mut Agent,
+    unit: &mut Unit,
+    medium: &mut dyn Medium,
+    which: Which,
+    reply: Reply<'_>,
+) -> AgentStep {
+    if agent.is_under_way(which) {
+        agent.reply(unit, medium, 0, which, reply)
+    } else {
+        AgentStep::quiet()
+    }
 }
 
 /// The last step of the same.
 fn last(rt: &impl AllocGlobal, inputs: &[Input]) -> Option<AgentStep> {
-    let bench = run(rt, inputs).ok()?;
-    bench.steps.last().copied()
+    let ended = run(rt, inputs).ok()?;
+    ended.steps.last().copied()
 }
 
 /// What the last step tells: whether a command ran, how the ORB ended, and why the agent is dead.
@@ -182,27 +178,27 @@ const NULL: [u8; 8] = [0x80, 0, 0, 0, 0, 0, 0, 0];
 
 #[test]
 fn one_orb(rt: HostRuntime) -> Result<(), Fail> {
-    let bench = run(&rt, &[Input::Orb(ready(0))]).ok().ok_or("memory")?;
+    let ended = run(&rt, &[Input::Orb(ready(0))]).ok().ok_or("memory")?;
     let step = AgentStep {
         ran: Some(Outcome::Good { answer: 0 }),
         ended: Some(StatusKind::Good),
         ..AgentStep::asking(write(0, 8))
     };
-    assert_eq!(rt; bench.steps.as_slice(), [step].as_slice());
+    assert_eq!(rt; ended.steps.as_slice(), [step].as_slice());
     assert_eq!(rt;
-        bench.agent.outgoing(),
+        ended.agent.outgoing(),
         [0x41, 0, 0, 0, 0x10, 0, 0, 0].as_slice()
     );
-    assert_eq!(rt; bench.agent.present(), Offset::new(0x1000_0000));
+    assert_eq!(rt; ended.agent.present(), Offset::new(0x1000_0000));
     Ok(())
 }
 
 #[test]
 fn suspended_behind_the_status(rt: HostRuntime) -> Result<(), Fail> {
-    let bench = run(&rt, &[Input::Orb(ready(0)), Input::Done]);
-    let bench = bench.ok().ok_or("memory")?;
-    assert_eq!(rt; bench.agent.state(), AgentState::Suspended);
-    assert_eq!(rt; bench.agent.present(), None);
+    let ended = run(&rt, &[Input::Orb(ready(0)), Input::Done]);
+    let ended = ended.ok().ok_or("memory")?;
+    assert_eq!(rt; ended.agent.state(), AgentState::Suspended);
+    assert_eq!(rt; ended.agent.present(), None);
     Ok(())
 }
 
@@ -236,14 +232,14 @@ fn refusals(rt: HostRuntime) -> Result<(), Fail> {
 fn three_segments(rt: HostRuntime) -> Result<(), Fail> {
     let orb = Input::Orb(write_segments(0));
     let inputs = [orb, Input::Table, Input::Zeros(512), Input::Zeros(500)];
-    let bench = run(&rt, &inputs).ok().ok_or("memory")?;
+    let ended = run(&rt, &inputs).ok().ok_or("memory")?;
     let asked = [
         AgentStep::asking(read(0x1100_0000, 24)),
         AgentStep::asking(read(0x1100_0000, 512)),
         AgentStep::asking(read(0x1100_0210, 500)),
         AgentStep::asking(read(0x1100_0414, 12)),
     ];
-    assert_eq!(rt; bench.steps.as_slice(), asked.as_slice());
+    assert_eq!(rt; ended.steps.as_slice(), asked.as_slice());
     let whole = [
         orb,
         Input::Table,
@@ -263,10 +259,10 @@ fn three_segments(rt: HostRuntime) -> Result<(), Fail> {
 fn answer_in_chunks(rt: HostRuntime) -> Result<(), Fail> {
     let orb = Input::Orb(read_block(0));
     let three = [orb, Input::Done, Input::Done, Input::Done];
-    let bench = run(&rt, &three).ok().ok_or("memory")?;
-    assert_eq!(rt; bench.agent.outgoing(), [0x5a; 128].as_slice());
+    let ended = run(&rt, &three).ok().ok_or("memory")?;
+    assert_eq!(rt; ended.agent.outgoing(), [0x5a; 128].as_slice());
     let chunk = Some(AgentStep::asking(write(0x1100_0180, 128)));
-    assert_eq!(rt; bench.steps.last().copied(), chunk);
+    assert_eq!(rt; ended.steps.last().copied(), chunk);
     let whole = [orb, Input::Done, Input::Done, Input::Done, Input::Done];
     assert_eq!(rt;
         told(&rt, &whole),
@@ -408,16 +404,16 @@ fn failing_reread(rt: HostRuntime) -> Result<(), Fail> {
 /// src is 1 of an ORB that was not read, and else as its next pointer says.
 #[test]
 fn src_and_dead(rt: HostRuntime) -> Result<(), Fail> {
-    let bench = run(&rt, &[Input::Expired]).ok().ok_or("memory")?;
+    let ended = run(&rt, &[Input::Expired]).ok().ok_or("memory")?;
     assert_eq!(rt;
-        bench.agent.outgoing(),
+        ended.agent.outgoing(),
         [0x59, 0xff, 0, 0, 0x10, 0, 0, 0].as_slice()
     );
-    assert_eq!(rt; bench.agent.state(), AgentState::Dead);
+    assert_eq!(rt; ended.agent.state(), AgentState::Dead);
     let inputs = [Input::Orb(write_segments(0x1000_0040)), Input::Expired];
-    let bench = run(&rt, &inputs).ok().ok_or("memory")?;
+    let ended = run(&rt, &inputs).ok().ok_or("memory")?;
     assert_eq!(rt;
-        bench.agent.outgoing(),
+        ended.agent.outgoing(),
         [0x19, 0xff, 0, 0, 0x10, 0, 0, 0].as_slice()
     );
     Ok(())
