@@ -1,5 +1,5 @@
 -- A buffer: segments joined in order, and the chunks in which its bytes are moved (NCITS 325-1998, page tables).
-use Rattle.std.specs.Prelude.{◌≡◌, ℕ, zero, suc, length, ◌+◌, ◌-◌, ◌/◌, ◌<◌, ◌≤◌, ◌^◌, min, nat_lt, if◌then◌else◌, List, [], ◌∷◌, Option, Some, None}
+use Rattle.std.specs.Prelude.{◌≡◌, ℕ, zero, suc, length, ◌+◌, ◌-◌, ◌/◌, ◌<◌, ◌≤◌, ◌^◌, ◌==◌, min, nat_lt, if◌then◌else◌, List, [], ◌∷◌, Option, Some, None}
 use Rattle.std.specs.List.{AllByRecursion, flat_map}
 use Rattle.page_table.specs.declared.segment.Segment.{Segment}
 use Rattle.page_table.specs.declared.segment.Chunk.{Chunk}
@@ -12,6 +12,10 @@ pub record IsSegment (segment : Segment) : Type 0 where
 
 abbrev pub AreSegments : List Segment → Type 0
 AreSegments segments = AllByRecursion IsSegment segments
+
+-- the buffer of an ORB without a page table: one segment, or none where it has no bytes
+abbrev pub single : ℕ → ℕ → List Segment
+single base len = if len == 0 then [] else record { base = base; length = len } ∷ []
 
 -- the length of the buffer in bytes
 abbrev pub bytes_of : List Segment → ℕ

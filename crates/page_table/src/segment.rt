@@ -1,4 +1,4 @@
-ghost use Rattle.std.specs.Prelude.{◌≡◌, ◌+◌, ◌*◌, ◌≤◌, ◌<◌, ◌^◌, length};
+ghost use Rattle.std.specs.Prelude.{◌≡◌, ◌+◌, ◌*◌, ◌≤◌, ◌<◌, ◌^◌, length, IfSome};
 ghost use Rattle.page_table.specs.Buffer.{AreSegments, chunk_from, bytes_of};
 
 use sbp_base::Offset;
@@ -33,7 +33,9 @@ pub fn total_of(segments: &[Segment]) -> u32
 /// The chunk that begins `done` bytes into the segments, with at most `limit` bytes.
 pub fn chunk_at(segments: &[Segment], done: u32, limit: u16) -> Option<Chunk>
     requires { AreSegments segments.now }
-    ensures { result ≡ chunk_from segments.now done limit }
+    ensures chunk { result ≡ chunk_from segments.now done limit }
+    ensures few { IfSome result (λ chunk. chunk.length ≤ limit) }
+    ensures some { IfSome result (λ chunk. 0 < limit → 0 < chunk.length) }
 {
     match segments {
         [] => None,

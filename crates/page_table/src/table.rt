@@ -1,10 +1,11 @@
-ghost use Rattle.std.specs.Prelude.{◌≡◌, ◌+◌, ◌*◌, ◌/◌, ◌%◌, ◌≤◌, ◌<◌, ◌↔◌, [], ◌∷◌, ◌++◌, length, None, IfOk, OnErr, IsNone};
-ghost use Rattle.page_table.specs.Buffer.{AreSegments, IsSegment, chunk_from, bytes_of};
+ghost use Rattle.std.specs.Prelude.{◌≡◌, ◌+◌, ◌*◌, ◌/◌, ◌%◌, ◌≤◌, ◌<◌, ◌^◌, ◌↔◌, [], ◌∷◌, ◌++◌, length, None, IfOk, IfSome, OnErr, IsNone};
+ghost use Rattle.page_table.specs.Buffer.{AreSegments, IsSegment, chunk_from, bytes_of, single};
 ghost use Rattle.page_table.specs.Elements.{elements_of, elements_from, first_fault, told};
 
 use crate::fault::PageFault;
 use crate::read::{element_at, fault_from};
 use crate::segment::{Chunk, Segment, chunk_at, total_of};
+use sbp_base::Offset;
 use std::marker::Model;
 
 /// The most elements of a page table.
@@ -40,6 +41,21 @@ impl SegmentTable {
         }
     }
 
+    /// The buffer without a page table takes the place of the segments: `length` bytes from `base` on,
+    /// none where `length` is zero. It ends at 2^48 at most.
+    pub fn set_single(&mut self, base: Offset, length: u16)
+        requires { base + length ≤ 2 ^ 48 }
+        ensures { self.new ≡ single base length }
+    {
+        *self = SegmentTable::new();
+        if length != 0 {
+            self.push(Segment {
+                base: base.value(),
+                length,
+            });
+        }
+    }
+
     /// The length of the buffer in bytes.
     pub fn total(&self) -> u32
         ensures { result ≡ bytes_of self.now }
@@ -55,6 +71,8 @@ impl SegmentTable {
         requires some { 4 ≤ limit }
         ensures chunk { result ≡ chunk_from self.now done limit }
         ensures end { IsNone result ↔ (done ≡ bytes_of self.now) }
+        ensures few { IfSome result (λ chunk. chunk.length ≤ limit) }
+        ensures some { IfSome result (λ chunk. 0 < chunk.length) }
     {
         chunk_at(&self.segments[0..self.count], done, limit)
     }
