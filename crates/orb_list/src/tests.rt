@@ -35,8 +35,8 @@ fn fits(request: &Request<'_>) -> bool
 }
 
 impl Desk {
-    fn new(alloc: Global) -> Result<Desk, NoMemory> {
-        let image = Image::new(alloc, &[])?;
+    fn new(alloc: Global, rom: &[u32]) -> Result<Desk, NoMemory> {
+        let image = Image::new(alloc, rom)?;
         let slots = Slots::new();
         Ok(Desk { slots, image })
     }
@@ -134,7 +134,7 @@ fn append(desk: &mut Desk) -> Option<Result<u8, ListFault>> {
 /// steps and after it.
 #[test]
 fn half_a_link(rt: HostRuntime) -> Result<(), Fail> {
-    let mut desk = Desk::new(rt.alloc())?;
+    let mut desk = Desk::new(rt.alloc(), &[])?;
     assert_eq!(rt; append(&mut desk), Some(Ok(0)));
     let second = desk.prepare(&test_ready()).ok_or("condition")?;
     assert!(rt; second.is_ok());
@@ -155,7 +155,7 @@ fn half_a_link(rt: HostRuntime) -> Result<(), Fail> {
 /// The 33rd ORB finds no slot.
 #[test]
 fn slots_run_out(rt: HostRuntime) -> Result<(), Fail> {
-    let mut desk = Desk::new(rt.alloc())?;
+    let mut desk = Desk::new(rt.alloc(), &[])?;
     for slot in 0..32_u8 {
         assert_eq!(rt; append(&mut desk), Some(Ok(slot)));
     }
@@ -166,7 +166,7 @@ fn slots_run_out(rt: HostRuntime) -> Result<(), Fail> {
 /// A pinned slot stays in use, so the next ORB takes another; without the pin it is free again.
 #[test]
 fn pinned_slot(rt: HostRuntime) -> Result<(), Fail> {
-    let mut desk = Desk::new(rt.alloc())?;
+    let mut desk = Desk::new(rt.alloc(), &[])?;
     assert_eq!(rt; append(&mut desk), Some(Ok(0)));
     assert_eq!(rt; append(&mut desk), Some(Ok(1)));
     let first = desk.slots.find(0).ok_or("find")?;
@@ -185,7 +185,7 @@ fn pinned_slot(rt: HostRuntime) -> Result<(), Fail> {
 /// A write of two blocks in three segments: the ORB's fifth quadlet, the page table and the data.
 #[test]
 fn page_table(rt: HostRuntime) -> Result<(), Fail> {
-    let mut desk = Desk::new(rt.alloc())?;
+    let mut desk = Desk::new(rt.alloc(), &[])?;
     let request = Request {
         cdb: [0x2a, 0, 0, 0, 0, 8, 0, 0, 2, 0, 0, 0],
         to_initiator: false,
