@@ -297,7 +297,7 @@ imaged_data s m ns w at bytes d x h i = record {
   fits = i.fits;
 }
 
-data_window : (m : Memory) (w : Window) → takes_writes m w ≡ true → IsData w
+pub data_window : (m : Memory) (w : Window) → takes_writes m w ≡ true → IsData w
 data_window m windows.Rom e = cc
 data_window m (windows.Orb k) e = cc
 data_window m (windows.Table k) e = cc

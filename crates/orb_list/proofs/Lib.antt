@@ -8,3 +8,5 @@ pub mod Tied
 pub mod Spelled
 pub mod Imaged
 pub mod Tables
+pub mod Stays
+pub mod Buffers

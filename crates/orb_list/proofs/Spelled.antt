@@ -143,30 +143,30 @@ pub spelled_closed : (slots : List Slot) (m : Memory) (j : ℕ) (found : Option 
 spelled_closed slots m j found s =
     spelled_same found (slot_at m j) (slot_at (closed slots m) j) (closed_keeps slots m (windows.Orb j)) (closed_keeps slots m (windows.Table j)) s
 
--- Writes to buffers and responses leave them too.
+-- Writes to buffers, responses and places of management leave them too.
 abbrev pub IsData : Window → Type 0
 IsData windows.Rom = ⊥
 IsData (windows.Orb k) = ⊥
 IsData (windows.Table k) = ⊥
 IsData (windows.Buffer k) = Unit {0}
-IsData (windows.Management p) = ⊥
+IsData (windows.Management p) = Unit {0}
 IsData (windows.Response p) = Unit {0}
 
-data_orb : (m : Memory) (w : Window) (at : ℕ) (bytes : List ℕ) (j : ℕ) → IsData w → IsWhole m → IsWindow w → (slot_at (with_bytes m w at bytes) j).orb ≡ (slot_at m j).orb
+pub data_orb : (m : Memory) (w : Window) (at : ℕ) (bytes : List ℕ) (j : ℕ) → IsData w → IsWhole m → IsWindow w → (slot_at (with_bytes m w at bytes) j).orb ≡ (slot_at m j).orb
 data_orb m (windows.Buffer k) at bytes j d h w = window_set m (windows.Buffer k) at bytes (windows.Orb j) h.slots h.places w
 data_orb m (windows.Response p) at bytes j d h w = refl
 data_orb m windows.Rom at bytes j d h w = absurd d
 data_orb m (windows.Orb k) at bytes j d h w = absurd d
 data_orb m (windows.Table k) at bytes j d h w = absurd d
-data_orb m (windows.Management p) at bytes j d h w = absurd d
+data_orb m (windows.Management p) at bytes j d h w = refl
 
-data_table : (m : Memory) (w : Window) (at : ℕ) (bytes : List ℕ) (j : ℕ) → IsData w → IsWhole m → IsWindow w → (slot_at (with_bytes m w at bytes) j).table ≡ (slot_at m j).table
+pub data_table : (m : Memory) (w : Window) (at : ℕ) (bytes : List ℕ) (j : ℕ) → IsData w → IsWhole m → IsWindow w → (slot_at (with_bytes m w at bytes) j).table ≡ (slot_at m j).table
 data_table m (windows.Buffer k) at bytes j d h w = window_set m (windows.Buffer k) at bytes (windows.Table j) h.slots h.places w
 data_table m (windows.Response p) at bytes j d h w = refl
 data_table m windows.Rom at bytes j d h w = absurd d
 data_table m (windows.Orb k) at bytes j d h w = absurd d
 data_table m (windows.Table k) at bytes j d h w = absurd d
-data_table m (windows.Management p) at bytes j d h w = absurd d
+data_table m (windows.Management p) at bytes j d h w = refl
 
 pub spelled_data : (m : Memory) (w : Window) (at : ℕ) (bytes : List ℕ) (j : ℕ) (found : Option Kept) → IsData w → IsWhole m → IsWindow w → IfSpelled found (slot_at m j) → IfSpelled found (slot_at (with_bytes m w at bytes) j)
 spelled_data m w at bytes j found d h x s =

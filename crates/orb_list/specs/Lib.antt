@@ -6,4 +6,6 @@ pub mod Holds
 pub mod Runs
 pub mod Kept
 pub mod Laws
+pub mod Stays
+pub mod Buffers
 pub mod Tables

