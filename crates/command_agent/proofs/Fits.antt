@@ -1,6 +1,6 @@
 -- What the checks of a command leave known of its data and its answer (RBC).
-use Rattle.std.proofs.Common.{◌≡◌, ◌∙◌, ap, sym, ℕ, zero, suc, ◌+◌, ◌*◌, ◌<◌, ◌≤◌, ◌==◌, nat_lt, Bool, true, false, cond, List, length, Option, Some, None, Result, Ok, Err, refl, arith}
-use Rattle.std.specs.Prelude.{◌&&◌, ◌||◌, not, is_none}
+use Rattle.std.proofs.Common.{◌≡◌, ◌∙◌, ap, sym, ℕ, ◌<◌, ◌≤◌, nat_lt, Bool, true, false, List, length, Option, Some, None, Result, Ok, Err, refl, arith}
+use Rattle.std.specs.Prelude.{◌&&◌, not, is_none}
 use Rattle.std.proofs.lemmas.Bool.Decides.{nat_tests}
 use Rattle.rbc_command.specs.declared.sense.Sense.{Sense}
 use Rattle.rbc_command.specs.declared.command.Command.{Command}
@@ -8,14 +8,13 @@ use Rattle.rbc_command.specs.declared.command.Command.TheVariants as commands
 use Rattle.rbc_command.specs.declared.operation.Operation.{Operation}
 use Rattle.rbc_command.specs.declared.operation.Operation.TheVariants as operations
 use Rattle.rbc_command.specs.SenseData.{sense, no_command, bad_field}
-use Rattle.rbc_command.specs.Commands.{operation_in, command_of, command_by, command_in, moves_disc, starts, unless_bad}
+use Rattle.rbc_command.specs.Commands.{operation_in, command_by, command_in, unless_bad}
 use Rattle.rbc_disk.specs.declared.request.Request.{Request}
-use Rattle.rbc_disk.specs.declared.request.Request.TheVariants as requests
 use Rattle.rbc_disk.specs.declared.command.BufferPlan.{BufferPlan}
 use Rattle.rbc_disk.specs.declared.command.Need.{Need}
 use Rattle.rbc_disk.specs.declared.command.Need.TheVariants as needs
 use Rattle.rbc_disk.specs.Units.{PlainDisk, has_place}
-use Rattle.rbc_disk.specs.Requests.{request_of, plain_request, is_start_stop, is_inquiry, is_eject, needs_medium, is_outside, is_write, data_length, answer_length}
+use Rattle.rbc_disk.specs.Requests.{request_of, plain_request, is_inquiry, is_eject, needs_medium, is_outside, is_write, data_length, answer_length}
 use Rattle.rbc_disk.specs.Checks.{check_of, check_if, first_of, field_check, request_check, tray_check, is_unfit, told_marks, mark_check}
 use Rattle.rbc_disk.specs.Runs.{need_of, need_at, data_length_of, data_length_by, answer_length_of, answer_length_by, Feeds}
 use Rattle.page_table.specs.Buffer.{bytes_of}

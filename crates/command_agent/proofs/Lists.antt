@@ -1,9 +1,7 @@
 -- The law over every list of calls: an invariant by phase, and one lemma for each step.
-use Rattle.std.proofs.Common.{◌≡◌, refl, ap, sym, ◌∙◌, ℕ, zero, suc, ◌+◌, ◌*◌, ◌==◌, ◌<◌, ◌≤◌, Bool, true, false, cond, List, [], ◌∷◌, ◌++◌, length, drop, Option, Some, None, Result, Ok, Err, arith}
+use Rattle.std.proofs.Common.{◌≡◌, refl, ap, sym, ◌∙◌, ℕ, suc, ◌+◌, ◌*◌, ◌==◌, Bool, true, false, cond, List, [], ◌∷◌, ◌++◌, length, Option, Some, None, Result, Ok, Err, arith}
 use Rattle.std.specs.Prelude.{◌&&◌, ◌||◌}
 use Rattle.std.proofs.lemmas.Bool.Decides.{nat_tests}
-use Rattle.orb_layout.specs.declared.ask.Ask.{Ask}
-use Rattle.orb_layout.specs.declared.ask.Ask.TheVariants.{Read, Write, Nothing}
 use Rattle.orb_layout.specs.declared.ask.FailCause.{FailCause}
 use Rattle.orb_layout.specs.declared.ask.FailCause.TheVariants as causes
 use Rattle.orb_layout.specs.declared.command.CommandOrb.{CommandOrb}
@@ -31,10 +29,10 @@ use Rattle.command_agent.specs.declared.step.Move.TheVariants as moves
 use Rattle.command_agent.specs.declared.step.Which.{Which}
 use Rattle.command_agent.specs.declared.step.Which.TheVariants.{Main, Ahead}
 use Rattle.command_agent.specs.Replies.{Answer, payload_of, write_failure}
-use Rattle.command_agent.specs.Machine.{Machine, new_machine, aligned, named, rung_in, is_ahead, plan_of, chunk_of}
+use Rattle.command_agent.specs.Machine.{Machine, aligned, named, rung_in, is_ahead, plan_of, chunk_of}
 use Rattle.command_agent.specs.Checks.{verdict, death_by, reads_table}
-use Rattle.command_agent.specs.Steps.{Told, quiet, sent, is_unsent, ahead_step, dead_step, reread_step, kept_from, end_step, answer_step, with_outcome, ran_as, run_step, judged, judge_step, passed_step, checked, check_step, ahead_of, with_ahead, served, advanced, orb_read, table_read, elements_read, data_read, data_grown, chunk_written, answer_grown, status_written, next_read, follow_step, turn_step, wait_step, pointed, point_step, doorbell_step, reset_step, abort_step, replied, reply_step, unread_buffer, answer_chunk, turned}
-use Rattle.command_agent.specs.Calls.{Call, Point, Doorbell, Reset, Abort, Reply, after_call, after_calls, Note, Pointed, Cut, Turn, Fetched, Reread, AheadRead, AheadUsed, Ran, Answered, Ended, turn_notes, fetch_notes, reread_notes, status_notes, ahead_notes, main_notes, heard, point_notes, run_notes, write_notes, step_notes, noted, notes, is_open, before_present, present_in, fetched_in, next_in, runs_in, ahead_in, Lawful, begun, ended, InOrder, CallsAreLawful, CallsKeepOrder, RereadsEndNothing}
+use Rattle.command_agent.specs.Steps.{Told, quiet, sent, is_unsent, ahead_step, dead_step, reread_step, kept_from, end_step, answer_step, with_outcome, ran_as, run_step, judged, judge_step, checked, check_step, ahead_of, served, advanced, orb_read, table_read, elements_read, data_read, data_grown, chunk_written, status_written, next_read, follow_step, turn_step, pointed, point_step, doorbell_step, reset_step, abort_step, reply_step, unread_buffer, answer_chunk, turned}
+use Rattle.command_agent.specs.Calls.{Call, Point, Doorbell, Reset, Abort, Reply, after_call, after_calls, Note, Pointed, Cut, Turn, Fetched, Reread, AheadRead, AheadUsed, Ran, Answered, Ended, turn_notes, fetch_notes, reread_notes, status_notes, ahead_notes, main_notes, heard, point_notes, step_notes, noted, notes, is_open, before_present, present_in, fetched_in, next_in, runs_in, ahead_in, Lawful, ended, InOrder, CallsAreLawful, CallsKeepOrder, RereadsEndNothing}
 use Rattle.command_agent.proofs.Fits.{data_needed, feeds_all, feeds_none}
 
 -- What is known by phase, over what the notes say: whether a list is open, the present ORB, how often it ran, its bytes and its next pointer. It was not read yet:

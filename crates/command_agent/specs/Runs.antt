@@ -1,8 +1,8 @@
 -- What a reply tells and leaves of the unit and its medium: where a command ran, what the unit's run does (RBC); else nothing.
-use Rattle.std.specs.Prelude.{◌≡◌, ℕ, List, [], length, IfSome, Option, Some, None}
+use Rattle.std.specs.Prelude.{◌≡◌, ℕ, length, IfSome, Option, Some, None}
 use Rattle.rbc_disk.specs.declared.command.Outcome.{Outcome}
 use Rattle.rbc_disk.specs.declared.command.Outcome.TheVariants as outcomes
-use Rattle.rbc_disk.specs.Units.{PlainDisk, plain_disk}
+use Rattle.rbc_disk.specs.Units.{PlainDisk}
 use Rattle.rbc_disk.specs.Checks.{check_of}
 use Rattle.rbc_disk.specs.Runs.{need_of, Feeds, MayEnd, failure_of, check_in, HasFailed, answered_length, answer_length_of, answer_of, medium_after, unit_after}
 use Rattle.command_agent.specs.declared.step.AgentStep.{AgentStep}

@@ -281,11 +281,13 @@ is_unsent NoLabel = true
 is_unsent _ = false
 
 abbrev pub ahead_step : Machine → Answer → AgentStep × Machine
-ahead_step m answer =
-    (quiet, record m {
-      ahead = kept_from (payload_of answer 32);
-      doorbell = m.doorbell || (is_unsent answer && rung_in m.ahead);
-    })
+ahead_step m answer = (
+  quiet,
+  record m {
+    ahead = kept_from (payload_of answer 32);
+    doorbell = m.doorbell || (is_unsent answer && rung_in m.ahead);
+  },
+)
 
 abbrev pub replied : Machine → ℕ → PlainDisk → Told → Which → Answer → AgentStep × Machine
 replied m place plain told Main answer = served place plain told (advanced m.phase m answer).0 (advanced m.phase m answer).1

@@ -1,87 +1,115 @@
 use crate::{Agent, AgentState, AgentStep, PointRefusal, Which};
 use orb_layout::{Ask, FailCause, OrbPointer, Reply, StatusKind};
-use rbc_disk::{Outcome, RamMedium, Unit};
+use rbc_disk::{Medium, Outcome, RamMedium, Unit};
 use sbp_base::{NoMemory, Offset};
 use std::test::Fail;
 
-/// What comes to an agent.
+/// What comes to an agent: the payload of the main transaction, or what else came of it; what came of
+/// the read ahead; a doorbell, or an abort.
 #[derive(Clone, Copy)]
-enum Input<'a> {
-    Main(Reply<'a>),
-    Ahead(Reply<'a>),
+enum Input {
+    Orb([u8; 32]),
+    Table,
+    /// So many zero bytes, at most 512.
+    Zeros(usize),
+    Null,
+    Done,
+    Expired,
+    Refused,
+    NoLabel,
+    Ahead([u8; 32]),
+    AheadExpired,
     Bell,
     Abort(u64),
 }
 
-/// An agent with the unit and the medium that it works on, and its steps so far.
+/// An agent, and its steps so far.
 #[derive(Drop)]
-struct Bench {
+struct Ended {
     agent: Agent,
-    unit: Unit,
-    medium: RamMedium,
     steps: Vec<AgentStep>,
 }
 
-impl Bench {
-    /// A new agent over a disk of 16 blocks of 5Ah.
-    fn new(rt: &impl AllocGlobal) -> Result<Bench, NoMemory> {
-        Ok(Bench {
-            agent: Agent::new(rt.alloc())?,
-            unit: Unit::new(),
-            medium: RamMedium::new(rt.alloc(), 16, 0x5a)?,
-            steps: Vec::new(rt.alloc()),
-        })
+/// An agent of place 0 over a disk of 16 blocks of 5Ah, pointed to 10000000h, after these inputs.
+fn run(rt: &impl AllocGlobal, inputs: &[Input]) -> Result<Ended, NoMemory> {
+    let mut agent = Agent::new(rt.alloc())?;
+    let mut unit = Unit::new();
+    let mut medium = RamMedium::new(rt.alloc(), 16, 0x5a)?;
+    let mut steps = Vec::new(rt.alloc());
+    let _ = agent.point(at(0x1000_0000));
+    for input in inputs {
+        steps.push(give(&mut agent, &mut unit, &mut medium, *input))?;
     }
+    Ok(Ended { agent, steps })
+}
 
-    /// The agent takes an input; a reply to a transaction that is not under way is passed over.
-    fn give(&mut self, input: Input<'_>) -> Result<(), NoMemory> {
-        match input {
-            Input::Main(reply) => self.reply(Which::Main, reply),
-            Input::Ahead(reply) => self.reply(Which::Ahead, reply),
-            Input::Bell => {
-                self.steps.push(AgentStep::asking(self.agent.doorbell()))?;
-                Ok(())
+/// The step of an input.
+fn give(agent: &mut Agent, unit: &mut Unit, medium: &mut dyn Medium, input: Input) -> AgentStep {
+    match input {
+        Input::Bell => AgentStep::asking(agent.doorbell()),
+        Input::Abort(orb) => {
+            if let Some(orb) = Offset::new(orb) {
+                agent.abort(orb);
             }
-            Input::Abort(orb) => {
-                if let Some(orb) = Offset::new(orb) {
-                    self.agent.abort(orb);
-                }
-                Ok(())
-            }
+            AgentStep::quiet()
         }
-    }
-
-    fn reply(&mut self, which: Which, reply: Reply<'_>) -> Result<(), NoMemory> {
-        if self.agent.is_under_way(which) {
-            let step = self
-                .agent
-                .reply(&mut self.unit, &mut self.medium, 0, which, reply);
-            self.steps.push(step)?;
-        }
-        Ok(())
+        Input::Ahead(bytes) => reply(agent, unit, medium, Which::Ahead, Reply::Payload(&bytes)),
+        Input::AheadExpired => reply(agent, unit, medium, Which::Ahead, Reply::Expired),
+        Input::Orb(bytes) => reply(agent, unit, medium, Which::Main, Reply::Payload(&bytes)),
+        Input::Table => reply(agent, unit, medium, Which::Main, Reply::Payload(&TABLE)),
+        Input::Null => reply(agent, unit, medium, Which::Main, Reply::Payload(&NULL)),
+        Input::Zeros(count) => give_zeros(agent, unit, medium, count),
+        Input::Done => reply(agent, unit, medium, Which::Main, Reply::Done),
+        Input::Expired => reply(agent, unit, medium, Which::Main, Reply::Expired),
+        Input::Refused => reply(agent, unit, medium, Which::Main, Reply::Refused(4)),
+        Input::NoLabel => reply(agent, unit, medium, Which::Main, Reply::NoLabel),
     }
 }
 
-/// An agent that was pointed to 10000000h, after these inputs.
-fn run(rt: &impl AllocGlobal, inputs: &[Input<'_>]) -> Result<Bench, NoMemory> {
-    let mut bench = Bench::new(rt)?;
-    let _ = bench.agent.point(at(0x1000_0000));
-    for input in inputs {
-        bench.give(*input)?;
+fn give_zeros(
+    agent: &mut Agent,
+    unit: &mut Unit,
+    medium: &mut dyn Medium,
+    count: usize,
+) -> AgentStep {
+    let zeros = [0; 512];
+    if count > 512 {
+        return AgentStep::quiet();
     }
-    Ok(bench)
+    reply(
+        agent,
+        unit,
+        medium,
+        Which::Main,
+        Reply::Payload(&zeros[..count]),
+    )
+}
+
+/// The step of a reply; one to a transaction that is not under way is passed over.
+fn reply(
+    agent: &mut Agent,
+    unit: &mut Unit,
+    medium: &mut dyn Medium,
+    which: Which,
+    reply: Reply<'_>,
+) -> AgentStep {
+    if agent.is_under_way(which) {
+        agent.reply(unit, medium, 0, which, reply)
+    } else {
+        AgentStep::quiet()
+    }
 }
 
 /// The last step of the same.
-fn last(rt: &impl AllocGlobal, inputs: &[Input<'_>]) -> Option<AgentStep> {
-    let bench = run(rt, inputs).ok()?;
-    bench.steps.last().copied()
+fn last(rt: &impl AllocGlobal, inputs: &[Input]) -> Option<AgentStep> {
+    let ended = run(rt, inputs).ok()?;
+    ended.steps.last().copied()
 }
 
 /// What the last step tells: whether a command ran, how the ORB ended, and why the agent is dead.
 fn told(
     rt: &impl AllocGlobal,
-    inputs: &[Input<'_>],
+    inputs: &[Input],
 ) -> Option<(bool, Option<StatusKind>, Option<FailCause>)> {
     let step = last(rt, inputs)?;
     Some((step.ran.is_some(), step.ended, step.dead))
@@ -145,43 +173,46 @@ const TABLE: [u8; 24] = [
     0x04, 0x14,
 ];
 
-const DONE: Input<'static> = Input::Main(Reply::Done);
+/// A null pointer.
+const NULL: [u8; 8] = [0x80, 0, 0, 0, 0, 0, 0, 0];
 
 #[test]
 fn one_orb(rt: HostRuntime) -> Result<(), Fail> {
-    let bytes = ready(0);
-    let inputs = [Input::Main(Reply::Payload(&bytes))];
-    let bench = run(&rt, &inputs).ok().ok_or("memory")?;
+    let ended = run(&rt, &[Input::Orb(ready(0))]).ok().ok_or("memory")?;
     let step = AgentStep {
         ran: Some(Outcome::Good { answer: 0 }),
         ended: Some(StatusKind::Good),
         ..AgentStep::asking(write(0, 8))
     };
-    assert_eq!(rt; bench.steps.as_slice(), [step].as_slice());
-    assert_eq!(rt; bench.agent.outgoing(), [0x41, 0, 0, 0, 0x10, 0, 0, 0].as_slice());
-    assert_eq!(rt; bench.agent.present(), Offset::new(0x1000_0000));
+    assert_eq!(rt; ended.steps.as_slice(), [step].as_slice());
+    assert_eq!(rt;
+        ended.agent.outgoing(),
+        [0x41, 0, 0, 0, 0x10, 0, 0, 0].as_slice()
+    );
+    assert_eq!(rt; ended.agent.present(), Offset::new(0x1000_0000));
     Ok(())
 }
 
 #[test]
 fn suspended_behind_the_status(rt: HostRuntime) -> Result<(), Fail> {
-    let bytes = ready(0);
-    let inputs = [Input::Main(Reply::Payload(&bytes)), DONE];
-    let bench = run(&rt, &inputs).ok().ok_or("memory")?;
-    assert_eq!(rt; bench.agent.state(), AgentState::Suspended);
-    assert_eq!(rt; bench.agent.present(), None);
+    let ended = run(&rt, &[Input::Orb(ready(0)), Input::Done]);
+    let ended = ended.ok().ok_or("memory")?;
+    assert_eq!(rt; ended.agent.state(), AgentState::Suspended);
+    assert_eq!(rt; ended.agent.present(), None);
     Ok(())
 }
 
 #[test]
 fn doorbell(rt: HostRuntime) -> Result<(), Fail> {
-    let bytes = ready(0);
-    let orb = Input::Main(Reply::Payload(&bytes));
+    let orb = Input::Orb(ready(0));
     let reread = Some(AgentStep::asking(read(0x1000_0000, 8)));
-    assert_eq!(rt; last(&rt, &[orb, Input::Bell, DONE]), reread);
-    assert_eq!(rt; last(&rt, &[orb, DONE, Input::Bell]), reread);
-    let null = Input::Main(Reply::Payload(&[0x80, 0, 0, 0, 0, 0, 0, 0]));
-    assert_eq!(rt; last(&rt, &[orb, Input::Bell, DONE, null]), Some(AgentStep::quiet()));
+    let quiet = Some(AgentStep::quiet());
+    assert_eq!(rt; last(&rt, &[orb, Input::Bell, Input::Done]), reread);
+    assert_eq!(rt; last(&rt, &[orb, Input::Done, Input::Bell]), reread);
+    assert_eq!(rt;
+        last(&rt, &[orb, Input::Bell, Input::Done, Input::Null]),
+        quiet
+    );
     Ok(())
 }
 
@@ -196,61 +227,53 @@ fn refusals(rt: HostRuntime) -> Result<(), Fail> {
     Ok(())
 }
 
-/// The data of a WRITE is read segment by segment, and then it runs.
+/// The requests of a WRITE in three segments, until it has run.
 #[test]
 fn three_segments(rt: HostRuntime) -> Result<(), Fail> {
-    let bytes = write_segments(0);
-    let block = [0x11; 512];
-    let inputs = [
-        Input::Main(Reply::Payload(&bytes)),
-        Input::Main(Reply::Payload(&TABLE)),
-        Input::Main(Reply::Payload(&block)),
-        Input::Main(Reply::Payload(&block[..500])),
-    ];
-    let bench = run(&rt, &inputs).ok().ok_or("memory")?;
+    let orb = Input::Orb(write_segments(0));
+    let inputs = [orb, Input::Table, Input::Zeros(512), Input::Zeros(500)];
+    let ended = run(&rt, &inputs).ok().ok_or("memory")?;
     let asked = [
         AgentStep::asking(read(0x1100_0000, 24)),
         AgentStep::asking(read(0x1100_0000, 512)),
         AgentStep::asking(read(0x1100_0210, 500)),
         AgentStep::asking(read(0x1100_0414, 12)),
     ];
-    assert_eq!(rt; bench.steps.as_slice(), asked.as_slice());
-    assert_eq!(rt; bench.agent.payload().len(), 1012);
-    Ok(())
-}
-
-#[test]
-fn runs_with_all_of_its_data(rt: HostRuntime) -> Result<(), Fail> {
-    let bytes = write_segments(0);
-    let block = [0x11; 512];
-    let inputs = [
-        Input::Main(Reply::Payload(&bytes)),
-        Input::Main(Reply::Payload(&TABLE)),
-        Input::Main(Reply::Payload(&block)),
-        Input::Main(Reply::Payload(&block[..500])),
-        Input::Main(Reply::Payload(&block[..12])),
+    assert_eq!(rt; ended.steps.as_slice(), asked.as_slice());
+    let whole = [
+        orb,
+        Input::Table,
+        Input::Zeros(512),
+        Input::Zeros(500),
+        Input::Zeros(12),
     ];
-    assert_eq!(rt; told(&rt, &inputs), Some((true, Some(StatusKind::Good), None)));
+    assert_eq!(rt;
+        told(&rt, &whole),
+        Some((true, Some(StatusKind::Good), None))
+    );
     Ok(())
 }
 
 /// An answer is written chunk by chunk, and the status block behind its last one.
 #[test]
 fn answer_in_chunks(rt: HostRuntime) -> Result<(), Fail> {
-    let bytes = read_block(0);
-    let inputs = [Input::Main(Reply::Payload(&bytes)), DONE, DONE, DONE, DONE];
-    let bench = run(&rt, &inputs[..4]).ok().ok_or("memory")?;
-    assert_eq!(rt; bench.agent.outgoing(), [0x5a; 128].as_slice());
+    let orb = Input::Orb(read_block(0));
+    let three = [orb, Input::Done, Input::Done, Input::Done];
+    let ended = run(&rt, &three).ok().ok_or("memory")?;
+    assert_eq!(rt; ended.agent.outgoing(), [0x5a; 128].as_slice());
     let chunk = Some(AgentStep::asking(write(0x1100_0180, 128)));
-    assert_eq!(rt; bench.steps.last().copied(), chunk);
-    assert_eq!(rt; told(&rt, &inputs), Some((false, Some(StatusKind::Good), None)));
+    assert_eq!(rt; ended.steps.last().copied(), chunk);
+    let whole = [orb, Input::Done, Input::Done, Input::Done, Input::Done];
+    assert_eq!(rt;
+        told(&rt, &whole),
+        Some((false, Some(StatusKind::Good), None))
+    );
     Ok(())
 }
 
 /// How an ORB with this quadlet 4 ends as it is checked, and whether the agent is then dead.
 fn checked(rt: &impl AllocGlobal, options: u32) -> Option<(StatusKind, bool)> {
-    let bytes = orb(0, options, 0, 0, 0);
-    let step = last(rt, &[Input::Main(Reply::Payload(&bytes))])?;
+    let step = last(rt, &[Input::Orb(orb(0, options, 0, 0, 0))])?;
     Some((step.ended?, step.dead == Some(FailCause::Grammar)))
 }
 
@@ -266,103 +289,133 @@ fn formats(rt: HostRuntime) -> Result<(), Fail> {
 #[test]
 fn illegal_fields(rt: HostRuntime) -> Result<(), Fail> {
     let unspecified = Some((StatusKind::Illegal(0xff), true));
-    assert_eq!(rt; checked(&rt, 0x83b9_0041), Some((StatusKind::Illegal(0x02), true)));
+    assert_eq!(rt;
+        checked(&rt, 0x83b9_0041),
+        Some((StatusKind::Illegal(0x02), true))
+    );
     assert_eq!(rt; checked(&rt, 0x82a9_0041), unspecified);
-    assert_eq!(rt; checked(&rt, 0x8299_0041), Some((StatusKind::Illegal(0x03), true)));
+    assert_eq!(rt;
+        checked(&rt, 0x8299_0041),
+        Some((StatusKind::Illegal(0x03), true))
+    );
     assert_eq!(rt; checked(&rt, 0x8298_0041), unspecified);
     Ok(())
 }
 
+/// An ORB with a buffer of two bytes from the last address on.
+fn past_the_end() -> [u8; 32] {
+    let mut bytes = orb(0, 0x8290_0002, 0, 0, 0);
+    bytes[10..16].copy_from_slice(&[0xff; 6]);
+    bytes
+}
+
 #[test]
 fn illegal_buffers(rt: HostRuntime) -> Result<(), Fail> {
-    let illegal = Some((false, Some(StatusKind::Illegal(0xff)), Some(FailCause::Grammar)));
-    let mut past = orb(0, 0x8290_0002, 0, 0, 0);
-    past[10..16].copy_from_slice(&[0xff; 6]);
-    assert_eq!(rt; told(&rt, &[Input::Main(Reply::Payload(&past))]), illegal);
-    let bytes = write_segments(0);
-    let inputs = [
-        Input::Main(Reply::Payload(&bytes)),
-        Input::Main(Reply::Payload(&[0; 24])),
-    ];
-    assert_eq!(rt; told(&rt, &inputs), illegal);
+    let illegal = Some((
+        false,
+        Some(StatusKind::Illegal(0xff)),
+        Some(FailCause::Grammar),
+    ));
+    assert_eq!(rt; told(&rt, &[Input::Orb(past_the_end())]), illegal);
+    assert_eq!(rt;
+        told(&rt, &[Input::Orb(write_segments(0)), Input::Zeros(24)]),
+        illegal
+    );
     Ok(())
 }
 
-const ABORT: Input<'static> = Input::Abort(0x1000_0002);
+const ABORT: Input = Input::Abort(0x1000_0002);
 
 #[test]
 fn aborted_before_the_run(rt: HostRuntime) -> Result<(), Fail> {
     let aborted = Some((false, Some(StatusKind::Aborted), None));
-    let bytes = write_segments(0);
-    let block = [0; 512];
-    let orb = Input::Main(Reply::Payload(&bytes));
-    let table = Input::Main(Reply::Payload(&TABLE));
-    let chunk = Input::Main(Reply::Payload(&block));
+    let orb = Input::Orb(write_segments(0));
     assert_eq!(rt; told(&rt, &[ABORT, orb]), aborted);
-    assert_eq!(rt; told(&rt, &[orb, ABORT, table]), aborted);
-    assert_eq!(rt; told(&rt, &[orb, table, ABORT, chunk]), aborted);
-    assert_eq!(rt; told(&rt, &[orb, table, Input::Abort(4), chunk]), Some((false, None, None)));
+    assert_eq!(rt; told(&rt, &[orb, ABORT, Input::Table]), aborted);
+    assert_eq!(rt;
+        told(&rt, &[orb, Input::Table, ABORT, Input::Zeros(512)]),
+        aborted
+    );
     Ok(())
 }
 
+/// An abort of another ORB, and one behind the run, change nothing.
 #[test]
-fn aborted_behind_the_run(rt: HostRuntime) -> Result<(), Fail> {
-    let bytes = read_block(0);
-    let orb = Input::Main(Reply::Payload(&bytes));
-    assert_eq!(rt; told(&rt, &[orb, ABORT, DONE]), Some((false, None, None)));
-    let inputs = [orb, DONE, DONE, DONE, DONE, ABORT, DONE];
-    assert_eq!(rt; last(&rt, &inputs), Some(AgentStep::quiet()));
+fn not_aborted(rt: HostRuntime) -> Result<(), Fail> {
+    let orb = Input::Orb(read_block(0));
+    let chunk = Some((false, None, None));
+    assert_eq!(rt; told(&rt, &[Input::Abort(4), orb, Input::Done]), chunk);
+    assert_eq!(rt; told(&rt, &[orb, ABORT, Input::Done]), chunk);
     Ok(())
 }
 
 #[test]
 fn failing_reads(rt: HostRuntime) -> Result<(), Fail> {
     let failed = Some(StatusKind::Failed);
-    let bytes = write_segments(0x1000_0040);
-    let orb = Input::Main(Reply::Payload(&bytes));
-    let table = Input::Main(Reply::Payload(&TABLE));
-    let expired = Input::Main(Reply::Expired);
-    let refused = Input::Main(Reply::Refused(4));
-    assert_eq!(rt; told(&rt, &[expired]), Some((false, failed, Some(FailCause::Timeout))));
-    assert_eq!(rt; told(&rt, &[orb, refused]), Some((false, failed, Some(FailCause::Refused))));
-    assert_eq!(rt; told(&rt, &[orb, table, table]), Some((false, failed, Some(FailCause::Grammar))));
+    let orb = Input::Orb(write_segments(0));
+    assert_eq!(rt;
+        told(&rt, &[Input::Expired]),
+        Some((false, failed, Some(FailCause::Timeout)))
+    );
+    assert_eq!(rt;
+        told(&rt, &[orb, Input::Refused]),
+        Some((false, failed, Some(FailCause::Refused)))
+    );
+    assert_eq!(rt;
+        told(&rt, &[orb, Input::Table, Input::Zeros(4)]),
+        Some((false, failed, Some(FailCause::Grammar)))
+    );
     Ok(())
 }
 
 #[test]
 fn failing_writes(rt: HostRuntime) -> Result<(), Fail> {
-    let bytes = read_block(0);
-    let orb = Input::Main(Reply::Payload(&bytes));
-    let unsent = Input::Main(Reply::NoLabel);
-    let failed = Some((false, Some(StatusKind::Failed), Some(FailCause::Label)));
-    assert_eq!(rt; told(&rt, &[orb, unsent]), failed);
-    let inputs = [orb, DONE, DONE, DONE, DONE, unsent];
-    assert_eq!(rt; told(&rt, &inputs), Some((false, None, Some(FailCause::Label))));
-    assert_eq!(rt; last(&rt, &[unsent, unsent]), Some(AgentStep::quiet()));
+    let dead = Some(FailCause::Label);
+    let orb = Input::Orb(ready(0));
+    let answered = Input::Orb(read_block(0));
+    assert_eq!(rt;
+        told(&rt, &[answered, Input::NoLabel]),
+        Some((false, Some(StatusKind::Failed), dead))
+    );
+    assert_eq!(rt;
+        told(&rt, &[orb, Input::NoLabel]),
+        Some((false, None, dead))
+    );
+    assert_eq!(rt;
+        last(&rt, &[Input::NoLabel, Input::NoLabel]),
+        Some(AgentStep::quiet())
+    );
     Ok(())
 }
 
 #[test]
 fn failing_reread(rt: HostRuntime) -> Result<(), Fail> {
-    let bytes = ready(0);
-    let orb = Input::Main(Reply::Payload(&bytes));
-    let short = Input::Main(Reply::Payload(&[0; 4]));
     let dead = Some((false, None, Some(FailCause::Grammar)));
-    assert_eq!(rt; told(&rt, &[orb, DONE, Input::Bell, short]), dead);
+    let inputs = [
+        Input::Orb(ready(0)),
+        Input::Done,
+        Input::Bell,
+        Input::Zeros(4),
+    ];
+    assert_eq!(rt; told(&rt, &inputs), dead);
     Ok(())
 }
 
 /// src is 1 of an ORB that was not read, and else as its next pointer says.
 #[test]
 fn src_and_dead(rt: HostRuntime) -> Result<(), Fail> {
-    let bytes = write_segments(0x1000_0040);
-    let orb = Input::Main(Reply::Payload(&bytes));
-    let expired = Input::Main(Reply::Expired);
-    let bench = run(&rt, &[expired]).ok().ok_or("memory")?;
-    assert_eq!(rt; bench.agent.outgoing(), [0x59, 0xff, 0, 0, 0x10, 0, 0, 0].as_slice());
-    assert_eq!(rt; bench.agent.state(), AgentState::Dead);
-    let bench = run(&rt, &[orb, expired]).ok().ok_or("memory")?;
-    assert_eq!(rt; bench.agent.outgoing(), [0x19, 0xff, 0, 0, 0x10, 0, 0, 0].as_slice());
+    let ended = run(&rt, &[Input::Expired]).ok().ok_or("memory")?;
+    assert_eq!(rt;
+        ended.agent.outgoing(),
+        [0x59, 0xff, 0, 0, 0x10, 0, 0, 0].as_slice()
+    );
+    assert_eq!(rt; ended.agent.state(), AgentState::Dead);
+    let inputs = [Input::Orb(write_segments(0x1000_0040)), Input::Expired];
+    let ended = run(&rt, &inputs).ok().ok_or("memory")?;
+    assert_eq!(rt;
+        ended.agent.outgoing(),
+        [0x19, 0xff, 0, 0, 0x10, 0, 0, 0].as_slice()
+    );
     Ok(())
 }
 
@@ -370,30 +423,18 @@ fn src_and_dead(rt: HostRuntime) -> Result<(), Fail> {
 #[test]
 fn read_ahead(rt: HostRuntime) -> Result<(), Fail> {
     let ran = Some((true, Some(StatusKind::Good), None));
-    let bytes = ready(0x1000_0041);
-    let behind = ready(0);
-    let orb = Input::Main(Reply::Payload(&bytes));
-    let kept = Input::Ahead(Reply::Payload(&behind));
-    let late = Input::Main(Reply::Payload(&behind));
-    let lost = Input::Ahead(Reply::Expired);
-    assert_eq!(rt; told(&rt, &[orb, kept, DONE]), ran);
-    assert_eq!(rt; last(&rt, &[orb, DONE]), Some(AgentStep::quiet()));
-    assert_eq!(rt; told(&rt, &[orb, DONE, late]), ran);
-    assert_eq!(rt; last(&rt, &[orb, lost, DONE]), Some(AgentStep::asking(read(0x1000_0040, 32))));
+    let orb = Input::Orb(ready(0x1000_0041));
+    let again = Some(AgentStep::asking(read(0x1000_0040, 32)));
+    assert_eq!(rt; told(&rt, &[orb, Input::Ahead(ready(0)), Input::Done]), ran);
+    assert_eq!(rt; told(&rt, &[orb, Input::Done, Input::Orb(ready(0))]), ran);
+    assert_eq!(rt; last(&rt, &[orb, Input::AheadExpired, Input::Done]), again);
     Ok(())
 }
 
 #[test]
 fn read_ahead_is_asked_for(rt: HostRuntime) -> Result<(), Fail> {
-    let bytes = ready(0x1000_0041);
-    let inputs = [Input::Main(Reply::Payload(&bytes))];
-    let bench = run(&rt, &inputs).ok().ok_or("memory")?;
-    let step = AgentStep {
-        ahead: read(0x1000_0040, 32),
-        ran: Some(Outcome::Good { answer: 0 }),
-        ended: Some(StatusKind::Good),
-        ..AgentStep::asking(write(0, 8))
-    };
-    assert_eq!(rt; bench.steps.as_slice(), [step].as_slice());
+    let step = last(&rt, &[Input::Orb(ready(0x1000_0041))]).ok_or("step")?;
+    assert_eq!(rt; step.ahead, read(0x1000_0040, 32));
+    assert_eq!(rt; step.ask, write(0, 8));
     Ok(())
 }

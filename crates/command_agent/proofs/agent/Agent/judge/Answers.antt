@@ -1,6 +1,5 @@
 -- A command that needs data can be filled.
-use Rattle.std.proofs.Common.{◌≡◌, ◌∙◌, sym}
-use Rattle.rbc_disk.specs.Units.{plain_disk}
+use Rattle.std.proofs.Common.{◌∙◌, sym}
 use Rattle.command_agent.proofs.Fits.{filled_by}
 use Rattle.command_agent.proofs.agent.Agent.judge.Goals as goal
 
