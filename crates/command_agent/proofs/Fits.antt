@@ -1,6 +1,6 @@
 -- What the checks of a command leave known of its data and its answer (RBC).
-use Rattle.std.proofs.Common.{◌≡◌, ◌∙◌, ap, sym, ℕ, ◌<◌, ◌≤◌, nat_lt, Bool, true, false, List, length, Option, Some, None, Result, Ok, Err, refl, arith}
-use Rattle.std.specs.Prelude.{◌&&◌, not, is_none}
+use Rattle.std.proofs.Common.{◌≡◌, ◌∙◌, ap, sym, ℕ, ◌==◌, ◌<◌, ◌≤◌, nat_lt, Bool, true, false, List, length, Option, Some, None, Result, Ok, Err, refl, arith}
+use Rattle.std.specs.Prelude.{◌&&◌, ◌||◌, not, is_none}
 use Rattle.std.proofs.lemmas.Bool.Decides.{nat_tests}
 use Rattle.rbc_command.specs.declared.sense.Sense.{Sense}
 use Rattle.rbc_command.specs.declared.command.Command.{Command}
@@ -15,7 +15,7 @@ use Rattle.rbc_disk.specs.declared.command.Need.{Need}
 use Rattle.rbc_disk.specs.declared.command.Need.TheVariants as needs
 use Rattle.rbc_disk.specs.Units.{PlainDisk, has_place}
 use Rattle.rbc_disk.specs.Requests.{request_of, plain_request, is_inquiry, is_eject, needs_medium, is_outside, is_write, data_length, answer_length}
-use Rattle.rbc_disk.specs.Checks.{check_of, check_if, first_of, field_check, request_check, tray_check, is_unfit, told_marks, mark_check}
+use Rattle.rbc_disk.specs.Checks.{check_of, check_if, first_of, field_check, request_check, tray_check, told_marks, mark_check}
 use Rattle.rbc_disk.specs.Runs.{need_of, need_at, data_length_of, data_length_by, answer_length_of, answer_length_by, Feeds}
 use Rattle.page_table.specs.Buffer.{bytes_of}
 use Rattle.command_agent.specs.Machine.{Machine, plan_of, IsFilling}
@@ -39,7 +39,12 @@ pub record Fitting (request : Request) (buffer : BufferPlan) : Type 0 where
   pub data_fits : data_length request ≤ buffer.bytes
   pub answer_fits : answer_length request ≤ buffer.bytes
 
-unfit : (request : Request) (buffer : BufferPlan) → is_unfit request buffer ≡ false → Fitting request buffer
+abbrev is_short : Request → BufferPlan → Bool
+is_short request buffer =
+    (not (data_length request == 0) && (nat_lt buffer.bytes (data_length request) || buffer.to_initiator))
+    || (not (answer_length request == 0) && (nat_lt buffer.bytes (answer_length request) || not buffer.to_initiator))
+
+unfit : (request : Request) (buffer : BufferPlan) → is_short request buffer ≡ false → Fitting request buffer
 unfit request buffer e = record { data_fits = grind (arith, nat_tests); answer_fits = grind (arith, nat_tests) }
 
 last_check : (a b c d e f : Bool) (tray : Option Sense) (s t u v w x : Sense) → check_if a s (first_of tray (check_if b t (check_if c u (check_if d v (check_if e w (check_if f x None)))))) ≡ None → f ≡ false
@@ -55,7 +60,7 @@ last_check a b c d e f tray s t u v w x h =
 request_fits : (request : Request) (buffer : BufferPlan) (plain : PlainDisk) → request_check request buffer plain ≡ None → Fitting request buffer
 request_fits request buffer plain e =
     unfit request buffer
-    (last_check (is_eject request && plain.unit.is_prevented) (needs_medium request && not plain.medium.is_present) (needs_medium request && not plain.unit.is_started) (is_outside request plain.medium.blocks) (is_write request && plain.medium.is_protected) (is_unfit request buffer) (tray_check request plain.medium) (sense 5 0x53 2) (sense 2 0x3a 0) (sense 2 4 2) (sense 5 0x21 0) (sense 7 0x27 0) bad_field e)
+    (last_check (is_eject request && plain.unit.is_prevented) (needs_medium request && not plain.medium.is_present) (needs_medium request && not plain.unit.is_started) (is_outside request plain.medium.blocks) (is_write request && plain.medium.is_protected) (is_short request buffer) (tray_check request plain.medium) (sense 5 0x53 2) (sense 2 0x3a 0) (sense 2 4 2) (sense 5 0x21 0) (sense 7 0x27 0) bad_field e)
 
 fits_by : (request : Result Request Sense) (buffer : BufferPlan) (plain : PlainDisk) → field_check request buffer plain ≡ None → (data_length_by request ≤ buffer.bytes) × (answer_length_by request ≤ buffer.bytes)
 fits_by (Err refused) buffer plain e = cc e
