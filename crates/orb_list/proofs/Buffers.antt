@@ -1,5 +1,5 @@
 -- What leaves a slot's buffer as it is.
-use Rattle.std.proofs.Common.{arith, ◌≡◌, refl, sym, ◌∙◌, ap, ℕ, zero, suc, ◌==◌, ◌||◌, nat_eq, Bool, true, false, cond, List, [], ◌∷◌, ◌++◌, length, take, drop, map, get_or, Option, Some, None, Result, Ok, Err}
+use Rattle.std.proofs.Common.{arith, ◌≡◌, refl, ◌∙◌, ap, ℕ, zero, suc, ◌==◌, ◌||◌, nat_eq, Bool, true, false, cond, List, [], ◌∷◌, ◌++◌, length, take, drop, get_or, Option, Some, None, Result, Ok, Err}
 use Rattle.std.proofs.lemmas.Bool.Decides.{nat_tests}
 use Rattle.std.proofs.Math.ListN.{set}
 use Rattle.bus_memory.specs.declared.access.Access.TheVariants.{Write}
@@ -17,8 +17,6 @@ use Rattle.orb_layout.specs.CommandOrbs.{command_bytes}
 use Rattle.orb_layout.specs.declared.status.StatusBlock.{StatusBlock}
 use Rattle.orb_list.specs.declared.fault.ListFault.{ListFault}
 use Rattle.orb_list.specs.declared.list.Linking.{Linking}
-use Rattle.orb_list.specs.declared.list.PresentList.{PresentList}
-use Rattle.orb_list.specs.declared.slot.Slot.{Slot}
 use Rattle.orb_list.specs.Tickets.{TicketParts}
 use Rattle.orb_list.specs.Requests.{Asked}
 use Rattle.orb_list.specs.Layout.{behind, orb_of, table_bytes, data_in_segments, data_written, written}

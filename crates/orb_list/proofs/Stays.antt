@@ -1,5 +1,5 @@
 -- That changes of the image outside the calls of the slots keep what it holds of them.
-use Rattle.std.proofs.Common.{arith, ◌≡◌, refl, ◌∙◌, ap, subst, sym, ℕ, ◌+◌, ◌-◌, ◌<◌, ◌≤◌, ◌==◌, ◌||◌, Bool, true, false, cond, List, length, Option, Some, None, Result, Ok, Err}
+use Rattle.std.proofs.Common.{arith, ◌≡◌, refl, ◌∙◌, subst, sym, ℕ, ◌+◌, ◌-◌, ◌≤◌, ◌==◌, ◌||◌, Bool, true, false, cond, List, length, Option, Some, None, Ok, Err}
 use Rattle.byteorder.specs.Endian.{big_bytes}
 use Rattle.bus_memory.specs.declared.access.Access.TheVariants.{Write}
 use Rattle.bus_memory.specs.declared.access.Rcode.TheVariants.{TypeError}
@@ -7,7 +7,7 @@ use Rattle.bus_memory.specs.declared.access.Spot.{Spot}
 use Rattle.bus_memory.specs.declared.window.Window.{Window}
 use Rattle.bus_memory.specs.declared.window.Window.TheVariants as windows
 use Rattle.bus_memory.specs.Windows.{IsWindow, start, is_fifo}
-use Rattle.bus_memory.specs.Memory.{Memory, slot_at, with_bytes}
+use Rattle.bus_memory.specs.Memory.{Memory, with_bytes}
 use Rattle.bus_memory.specs.Access.{judged, judged_at, spot_of, takes_writes, write_at, write_step, set_at, set_step}
 use Rattle.bus_memory.specs.Laws.{IsFound, IsInside, size}
 use Rattle.bus_memory.proofs.Found.{window_law}
