@@ -92,14 +92,6 @@ impl Unit {
         ensures counts { map media_faults media.new.items ≡ slice_set (map media_faults media.old.items) index (slice_index (map media_faults media.new.items) index) }
         ensures unit { self.new ≡ unit_after cdb.now (check_in result) login (disk_at (map disk media.old.items) index).is_bay self.old }
     {
-        run_boxed(
-            self,
-            &mut media[index],
-            login,
-            cdb,
-            buffer,
-            payload,
-            answer,
-        )
+        run_boxed(self, &mut media[index], login, cdb, buffer, payload, answer)
     }
 }
