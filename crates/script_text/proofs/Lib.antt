@@ -1,0 +1,4 @@
+pub mod Tables
+pub mod Numerals
+pub mod Shapes
+pub mod Lists
