@@ -17,9 +17,13 @@ unfoldable pub turns : ℕ → ℕ → ℕ → List Event
 turns zero line x = []
 turns (suc left) line x = (turn x).event ∷ (settle (is_due line left) ++ turns left (line + 1) (turn x).state)
 
--- what is left of a drill: its first line, or else a settle that is due, and the lines behind it
+-- the first line, where it is still to come
+abbrev pub start : Bool → List Event
+start begun = if begun then [] else events.Begin 2 true ∷ []
+
+-- what is left of a drill
 abbrev pub events_left : Bool → Bool → ℕ → ℕ → ℕ → List Event
-events_left begun due left line x = if begun then settle due ++ turns left line x else events.Begin 2 true ∷ turns left line x
+events_left begun due left line x = start begun ++ (settle due ++ turns left line x)
 
 -- the generated script: `count` lines from a seed
 abbrev pub generated : ℕ → ℕ → List Event

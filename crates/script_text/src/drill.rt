@@ -1,7 +1,8 @@
 ghost use Rattle.std.specs.Prelude.{◌≡◌, IfOk, OnOk, OnErr, drop};
 ghost use Rattle.std.specs.List.{slice_get};
+ghost use Rattle.script_text.specs.Drill as spec;
 
-use crate::turn::turn;
+use crate::turn::draw_turn;
 use sbp_base::NoMemory;
 use sbp_journal::Event;
 use std::alloc::Global;
@@ -24,7 +25,7 @@ pub struct Drill {
 }
 
 impl Model for Drill {
-    ghost use Rattle.std.specs.Prelude.{◌<◌, ◌≤◌, ◌+◌, ◌^◌, ◌≡◌, ◌×◌, List};
+    ghost use Rattle.std.specs.Prelude.{◌<◌, ◌+◌, ◌^◌, List};
     ghost use Rattle.sbp_journal.specs.declared.event.Event.{Event};
     ghost use Rattle.script_text.specs.Drill.{events_left};
 
@@ -73,10 +74,17 @@ pub fn drill_line(alloc: Global, drill: &mut Drill) -> Result<Option<Event>, NoM
     if drill.left == 0 {
         return Ok(None);
     }
-    let turn = turn(alloc, drill.state)?;
+    let turn = draw_turn(alloc, drill.state)?;
     drill.left -= 1;
-    drill.due = drill.line % LINES == 0 || drill.left == 0;
+    drill.due = is_due(drill.line, drill.left);
     drill.line += 1;
     drill.state = turn.state;
     Ok(Some(turn.event))
+}
+
+/// Whether a settle stands behind a line: it does behind each sixteenth one and behind the last.
+fn is_due(line: u64, left: u32) -> bool
+    ensures { result ≡ spec.is_due line left }
+{
+    line % LINES == 0 || left == 0
 }

@@ -1,4 +1,5 @@
-ghost use Rattle.std.specs.Prelude.{◌≡◌, ◌≢◌, []};
+ghost use Rattle.std.specs.Prelude.{◌≡◌, ◌≢◌, ◌==◌, []};
+ghost use Rattle.std.specs.List.{list_any};
 ghost use Rattle.script_text.specs.Line as spec;
 ghost use Rattle.script_text.specs.Words.{shown, numbers};
 
@@ -223,8 +224,15 @@ fn all_differ(ids: &[u8]) -> bool
 {
     match ids {
         [] => true,
-        [id, rest @ ..] => !rest.iter().any(|other| *other == *id) && all_differ(rest),
+        [id, rest @ ..] => !is_among(*id, rest) && all_differ(rest),
     }
+}
+
+/// Whether a number is one of some others.
+fn is_among(id: u8, others: &[u8]) -> bool
+    ensures { result ≡ list_any (λ other. other == id) others.now }
+{
+    others.iter().any(|other| *other == id)
 }
 
 /// `see NODE`

@@ -49,7 +49,11 @@ pub fn read_line(alloc: Global, bytes: &[u8], initiators: u8) -> Result<Option<E
     if !has_shape(row, initiators, arguments) {
         return Err(LineFault::Shape);
     }
-    let event = event_of(alloc, row, arguments)?;
+    let event = match event_of(alloc, row, arguments) {
+        Ok(event) => event,
+        Err(LineFault::NoMemory) => return Err(LineFault::NoMemory),
+        Err(_) => return Err(LineFault::Range),
+    };
     if names_none(&event, initiators) {
         return Err(LineFault::NoInitiator);
     }

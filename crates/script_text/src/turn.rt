@@ -17,7 +17,7 @@ pub struct Turn {
 /// The line that is drawn from a state: an initiator, whether it writes or reads, the block, and for
 /// a write the byte.
 #[tactic(auto, unfolding(crate::specs::Draws::turn))]
-pub(crate) fn turn(alloc: Global, state: u64) -> Result<Turn, NoMemory>
+pub(crate) fn draw_turn(alloc: Global, state: u64) -> Result<Turn, NoMemory>
     ensures { IfOk result (λ drawn. drawn ≡ spec.turn state) }
 {
     let first = next(state);
