@@ -2,3 +2,8 @@ pub mod LineWords
 pub mod MaximalRuns
 pub mod Runs
 pub mod Orders
+pub mod WordsBack
+pub mod FieldsBack
+pub mod CanonicalBack
+pub mod NotesBack
+pub mod TextsBack

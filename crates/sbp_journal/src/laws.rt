@@ -2,6 +2,9 @@ ghost use Rattle.std.specs.Prelude.{◌≡◌, ℕ, List};
 ghost use Rattle.sbp_journal.specs.Canonical as canonical;
 ghost use Rattle.sbp_journal.specs.Canonical.{AreRunsOf, runs_of};
 ghost use Rattle.sbp_journal.specs.OrderLaw.{OrderLaw, EndsInOrder};
+ghost use Rattle.std.specs.List.{AllByRecursion};
+ghost use Rattle.sbp_journal.specs.Text.{text_of};
+ghost use Rattle.sbp_journal.specs.Written.{IsWritten};
 ghost use Rattle.sbp_journal.specs.declared.note.Note as notes;
 
 /// What the order law says in the order of time: of each list the ORBs that ended are, in order and
@@ -15,4 +18,10 @@ pub fn ends_in_order()
 pub fn maximal_runs()
     ensures are_runs { (bytes : List ℕ) → AreRunsOf bytes (runs_of bytes) }
     ensures no_others { (bytes : List ℕ) (runs : List canonical.Run) → AreRunsOf bytes runs → runs ≡ runs_of bytes }
+{}
+
+/// The text of a journal determines it: two lists of notes of the form of a run whose texts are equal
+/// are equal.
+pub fn text_determines_notes()
+    ensures { (ns ms : List notes.Note) → AllByRecursion IsWritten ns → AllByRecursion IsWritten ms → text_of ns ≡ text_of ms → ns ≡ ms }
 {}

@@ -18,7 +18,7 @@ mod words;
 pub use cause::{Cause, CutCause, Judged, TargetFault};
 pub use event::{Action, Cmd, Event};
 pub use journal::{Journal, Text};
-pub use laws::{ends_in_order, maximal_runs};
+pub use laws::{ends_in_order, maximal_runs, text_determines_notes};
 pub use note::{Note, NoteBuffer};
 pub use operation::{FunctionWord, OpWord, Operation};
 pub use outbox::{Outbox, Outgoing};

@@ -1,0 +1,25 @@
+-- The notes whose text can be read back: those of the form of a run, whose numbers have 64 bits at most and whose bytes are bytes.
+use Rattle.std.specs.Prelude.{◌^◌, ◌<◌, ℕ, List, length, Option}
+use Rattle.std.specs.List.{AllByRecursion}
+use Rattle.rbc_command.specs.declared.sense.Sense.{Sense}
+use Rattle.sbp_journal.specs.declared.note.Note.{Note}
+use Rattle.sbp_journal.specs.Form.{HasForm}
+use Rattle.sbp_journal.specs.Text.{Field, fields, number, maybe, node_name, unit_name, digits, bytes, sense_data, name}
+use Rattle.std.specs.Option.{IfSome}
+
+abbrev pub AreBytes : List ℕ → Type 0
+AreBytes bs = AllByRecursion (λ byte. byte < 256) bs
+
+-- what a word stands for is inside the types of a note
+abbrev pub Fits : Field → Type 0
+Fits (number n) = n < 2 ^ 64
+Fits (maybe n) = IfSome n (λ n. n < 2 ^ 64)
+Fits (node_name n) = n < 2 ^ 64
+Fits (unit_name n) = n < 2 ^ 64
+Fits (digits bs) = AreBytes bs
+Fits (bytes bs) = AreBytes bs × (length bs < 2 ^ 64)
+Fits (sense_data sense) = (sense.key < 16) × (sense.code < 256) × (sense.qualifier < 256)
+Fits (name w) = Unit {0}
+
+abbrev pub IsWritten : Note → Type 0
+IsWritten note = HasForm note × AllByRecursion Fits (fields note)

@@ -1,0 +1,8 @@
+pub mod Words
+pub mod Payload
+pub mod Rows
+pub mod Commands
+pub mod Line
+pub mod Script
+pub mod Draws
+pub mod Drill
