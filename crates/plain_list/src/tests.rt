@@ -1,4 +1,4 @@
-ghost use Rattle.std.specs.Prelude.{◌≡◌, ◌<◌, ◌≤◌, length, OnOk};
+ghost use Rattle.std.specs.Prelude.{◌≡◌, ◌+◌, ◌<◌, ◌≤◌, length, OnOk};
 
 use crate::PlainList;
 use media_bay::Bay;
@@ -35,6 +35,7 @@ const fn write(lba: u8) -> [u8; 12] {
 }
 
 /// A command and its buffer, of bytes A5h where it goes to the target.
+#[derive(Clone, Copy)]
 struct Asked {
     cdb: [u8; 12],
     to_initiator: bool,
@@ -64,7 +65,8 @@ fn append(alloc: Global, asked: &Asked) -> Result<Event, NoMemory> {
     let payload = if asked.to_initiator {
         Bytes::new(alloc)
     } else {
-        Bytes::from_vec(vec![in alloc; 0xa5; asked.length as usize]?)
+        let bytes = vec![in alloc; 0xa5u8; asked.length as usize]?;
+        Bytes::from_slice(alloc, bytes.as_slice())?
     };
     Ok(Event::Act {
         initiator: 0,
