@@ -100,11 +100,15 @@ byte_back byte h = ap (λ bs. get_or bs 0 0) (unhex_back (byte ∷ []) (h, tt))
 pub sense_back : (sense : Sense) → sense.key < 16 → sense.code < 256 → sense.qualifier < 256 → sense_of (sense_word sense) ≡ sense
 sense_back sense key code qualifier =
     let parts : split 47 (sense_word sense) ≡ (slice_index upper_digits sense.key ∷ []) ∷ encode_upper (sense.code ∷ []) ∷ encode_upper (sense.qualifier ∷ []) ∷ [] =
-        split-join 47 (slice_index upper_digits sense.key ∷ []) (encode_upper (sense.code ∷ []) ∷ encode_upper (sense.qualifier ∷ []) ∷ [])
-          ((not_a_digit 47 sense.key refl key, tt), (encode_lacks 47 (sense.code ∷ []) refl (code, tt), (encode_lacks 47 (sense.qualifier ∷ []) refl (qualifier, tt), tt))) in
+    split-join 47 (slice_index upper_digits sense.key ∷ []) (encode_upper (sense.code ∷ []) ∷ encode_upper (sense.qualifier ∷ []) ∷ [])
+    ((not_a_digit 47 sense.key refl key, tt), (encode_lacks 47 (sense.code ∷ []) refl (code, tt), (encode_lacks 47 (sense.qualifier ∷ []) refl (qualifier, tt), tt))) in
     ap sense_from parts ∙ rw (digit_back sense.key key, byte_back sense.code code, byte_back sense.qualifier qualifier) refl
 
 pub sense_lacks : (c : ℕ) (sense : Sense) → hex_digit_value c ≡ None → (47 == c) ≡ false → sense.key < 16 → sense.code < 256 → sense.qualifier < 256 → Lacks c (sense_word sense)
-sense_lacks c sense out slash key code qualifier =
-    (not_a_digit c sense.key out key, (slash,
-     lacks-append c (encode_upper (sense.code ∷ [])) (47 ∷ encode_upper (sense.qualifier ∷ [])) (encode_lacks c (sense.code ∷ []) out (code, tt)) (slash, encode_lacks c (sense.qualifier ∷ []) out (qualifier, tt))))
+sense_lacks c sense out slash key code qualifier = (
+  not_a_digit c sense.key out key,
+  (
+    slash,
+    lacks-append c (encode_upper (sense.code ∷ [])) (47 ∷ encode_upper (sense.qualifier ∷ [])) (encode_lacks c (sense.code ∷ []) out (code, tt)) (slash, encode_lacks c (sense.qualifier ∷ []) out (qualifier, tt)),
+  ),
+)

@@ -271,7 +271,7 @@ text_back [] h = refl
 text_back (note ∷ ns) h =
     let line = join_with_byte 32 (words_of note) in
     let lines : split 10 (text_of (note ∷ ns)) ≡ line ∷ split 10 (text_of ns) =
-        ap (split 10) (append_assoc line (10 ∷ []) (text_of ns)) ∙ split_at 10 line (text_of ns) (join_lacks 10 refl (words_of note) (note_lacks 10 feed note h.0)) in
+    ap (split 10) (append_assoc line (10 ∷ []) (text_of ns)) ∙ split_at 10 line (text_of ns) (join_lacks 10 refl (words_of note) (note_lacks 10 feed note h.0)) in
     ap (map note_in) lines ∙ rw (line_back note h.0, text_back ns h.1) refl
 
 front_same : (end : Note) (ns ms : List Note) → ns ++ end ∷ [] ≡ ms ++ end ∷ [] → ns ≡ ms

@@ -31,9 +31,11 @@ lacks c class (byte ∷ word) out h = (other (byte == c) refl, lacks c class wor
     first : (a b : Bool) → (a && b) ≡ true → a ≡ true
     first true b e = refl
     first false b e = cc e
+
     rest : (a b : Bool) → (a && b) ≡ true → b ≡ true
     rest true b e = e
     rest false b e = cc e
+
     other : (t : Bool) → (byte == c) ≡ t → t ≡ false
     other true e = let same : class byte ≡ false = ap class (eqb-true byte c e) ∙ out in cc (first (class byte) (list_all class word) h)
     other false e = refl
