@@ -16,7 +16,7 @@ impl Agent {
     ghost use Rattle.command_agent.specs.Steps.{advanced, fail_step, orb_read, table_read, data_read, data_step, chunk_written, answer_step, status_written, next_read, follow_step, wait_step, turn_step, sent, ahead_step, IsReady};
 
     /// What follows from the reply to the main transaction, by its phase.
-    pub fn advance(&mut self, reply: Reply<'_>) -> Move
+    pub(super) fn advance(&mut self, reply: Reply<'_>) -> Move
         requires { is_sent self.old.phase ≡ true }
         ensures step { (result, self.new) ≡ advanced self.old.phase self.old (answer_of reply.entry) }
         ensures ready { IsReady result self.new }
@@ -44,7 +44,7 @@ impl Agent {
 
     /// The reply to the read ahead: its bytes are kept unchecked, or it is forgotten. One that was not
     /// sent has cleared no doorbell mark.
-    pub fn keep_ahead(&mut self, reply: Reply<'_>) -> AgentStep
+    pub(super) fn keep_ahead(&mut self, reply: Reply<'_>) -> AgentStep
         ensures { (result, self.new) ≡ ahead_step self.old (answer_of reply.entry) }
     {
         if let (Reply::NoLabel, ReadAhead::UnderWay { rung: true }) = (reply, self.ahead) {
@@ -123,7 +123,7 @@ impl Agent {
     }
 
     /// Reads the next chunk of the data of the present ORB.
-    pub fn read_data(&mut self, wanted: u16) -> AgentStep
+    pub(super) fn read_data(&mut self, wanted: u16) -> AgentStep
         requires { IsFilling self.old wanted }
         ensures { (result, self.new) ≡ data_step self.old wanted }
     {
@@ -155,7 +155,7 @@ impl Agent {
     }
 
     /// Writes the next chunk of the answer of the present ORB.
-    pub fn write_answer(&mut self) -> AgentStep
+    pub(super) fn write_answer(&mut self) -> AgentStep
         requires { IsAnswering self.old }
         ensures { (result, self.new) ≡ answer_step self.old }
     {

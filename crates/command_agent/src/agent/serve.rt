@@ -18,7 +18,7 @@ impl Agent {
 
     /// Does what follows from a reply, over a unit and its medium.
     #[tactic(auto, using(crate::proofs::Fits::feeds_all))]
-    pub fn serve(
+    pub(super) fn serve(
         &mut self,
         unit: &mut Unit,
         medium: &mut dyn Medium,
