@@ -125,7 +125,14 @@ fn statuses(alloc: Global, medium: Box<dyn Medium>, asks: &[Asked]) -> Result<Te
     let mut line = 1;
     for asked in asks {
         line += 1;
-        step(alloc, &mut list, &mut media, line, append(alloc, asked)?, &mut text)?;
+        step(
+            alloc,
+            &mut list,
+            &mut media,
+            line,
+            append(alloc, asked)?,
+            &mut text,
+        )?;
         line += 1;
         step(alloc, &mut list, &mut media, line, Event::Settle, &mut text)?;
     }
@@ -151,7 +158,10 @@ fn an_empty_medium(rt: HostRuntime) -> Result<(), Fail> {
     let medium: Box<dyn Medium> = Box::new(rt.alloc(), EmptyMedium::new(64))?;
     let asks = [into(TEST_READY, 0), into(read(0), 512)];
     let expected = "taken 0 0 0 check 2/3A/00\ntaken 0 0 1 check 2/3A/00\n";
-    assert_eq!(rt; ends_so(rt.alloc(), medium, asks.as_slice(), expected), Ok(true));
+    assert_eq!(rt;
+        ends_so(rt.alloc(), medium, asks.as_slice(), expected),
+        Ok(true)
+    );
     Ok(())
 }
 
@@ -174,7 +184,10 @@ taken 0 0 2 check 5/24/00\n\
 taken 0 0 3 good\n\
 taken 0 0 4 good\n\
 taken 0 0 5 good 0000003F00000200\n";
-    assert_eq!(rt; ends_so(rt.alloc(), medium, asks.as_slice(), expected), Ok(true));
+    assert_eq!(rt;
+        ends_so(rt.alloc(), medium, asks.as_slice(), expected),
+        Ok(true)
+    );
     Ok(())
 }
 
@@ -200,7 +213,10 @@ taken 0 0 3 check 5/24/00\n\
 taken 0 0 4 check 5/24/00\n\
 taken 0 0 5 check 5/24/00\n\
 taken 0 0 6 check 5/24/00\n";
-    assert_eq!(rt; ends_so(rt.alloc(), medium, asks.as_slice(), expected), Ok(true));
+    assert_eq!(rt;
+        ends_so(rt.alloc(), medium, asks.as_slice(), expected),
+        Ok(true)
+    );
     Ok(())
 }
 
@@ -212,7 +228,10 @@ fn first_read_fails(rt: HostRuntime) -> Result<(), Fail> {
     let medium: Box<dyn Medium> = Box::new(rt.alloc(), faulty.ok().ok_or("memory")?)?;
     let asks = [into(read(0), 512), into(read(0), 512)];
     let expected = "taken 0 0 0 check 3/11/00\ntaken 0 0 1 good 11*512\n";
-    assert_eq!(rt; ends_so(rt.alloc(), medium, asks.as_slice(), expected), Ok(true));
+    assert_eq!(rt;
+        ends_so(rt.alloc(), medium, asks.as_slice(), expected),
+        Ok(true)
+    );
     Ok(())
 }
 
@@ -249,7 +268,10 @@ taken 0 0 5 good\n\
 taken 0 0 6 good 77*512\n\
 taken 0 0 7 good\n\
 taken 0 0 8 check 2/3A/00\n";
-    assert_eq!(rt; ends_so(rt.alloc(), medium, asks.as_slice(), expected), Ok(true));
+    assert_eq!(rt;
+        ends_so(rt.alloc(), medium, asks.as_slice(), expected),
+        Ok(true)
+    );
     Ok(())
 }
 
