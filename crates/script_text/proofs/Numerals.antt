@@ -15,4 +15,3 @@ pub past_range : (number : ℕ) (digits : List ℕ) (index last : ℕ) → index
 past_range number digits index last within e l =
     let first : fold step number (drop index digits) ≡ fold step (step number (get_or digits index 0)) (drop (suc index) digits) = ap (fold step number) (drop-cons digits index 0 within) in
     omega (arith, digits_grow (step number (get_or digits index 0)) (drop (suc index) digits))
-

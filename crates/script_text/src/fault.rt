@@ -1,5 +1,5 @@
-use std::alloc::AllocError;
 use sbp_base::NoMemory;
+use std::alloc::AllocError;
 use thiserror::Error;
 
 /// Why a line of a script gives no event.

@@ -25,7 +25,8 @@ const MOST_BYTES: u32 = 16384;
 pub(crate) fn is_data(word: &[u8]) -> bool
     ensures { result ≡ spec.is_data word.now }
 {
-    word.split(|byte| *byte == b'+').all(|piece| is_piece(piece))
+    word.split(|byte| *byte == b'+')
+        .all(|piece| is_piece(piece))
 }
 
 /// Whether some bytes are a piece of DATA: digits of bytes, or `HH*N` for N equal bytes.
@@ -138,7 +139,8 @@ fn push_hex(alloc: Global, bytes: &mut Bytes, digits: &[u8]) -> Result<(), LineF
 pub(crate) fn are_lengths(word: &[u8]) -> bool
     ensures { result ≡ spec.are_lengths word.now }
 {
-    word.split(|byte| *byte == b',').all(|part| is_numeral(part))
+    word.split(|byte| *byte == b',')
+        .all(|part| is_numeral(part))
 }
 
 /// The lengths of 1 to 64 segments of data of `total` bytes.
