@@ -1,6 +1,6 @@
 -- A text of notes, read back line by line and word by word.
-use Rattle.std.proofs.Common.{◌≡◌, ◌==◌, ◌&&◌, ◌⊎◌, inl, inr, ◌<◌, ℕ, zero, suc, not, Bool, true, false, List, [], ◌∷◌, ◌++◌, map, Option, Some, None, append_assoc, refl, sym, ap, ◌∙◌, lit<, arith}
-use Rattle.std.specs.List.{join_with_byte, flat_map, list_all, AllByRecursion}
+use Rattle.std.proofs.Common.{◌≡◌, ◌==◌, ◌&&◌, inl, ℕ, zero, suc, not, Bool, true, false, List, [], ◌∷◌, ◌++◌, map, Option, Some, None, append_assoc, refl, sym, ap, ◌∙◌, lit<, arith}
+use Rattle.std.specs.List.{join_with_byte, list_all, AllByRecursion}
 use Rattle.rbc_command.specs.declared.sense.Sense.{Sense}
 use Rattle.orb_layout.specs.declared.ask.FailCause.{FailCause}
 use Rattle.orb_layout.specs.declared.ask.FailCause.TheVariants as fail_causes
@@ -20,7 +20,7 @@ use Rattle.sbp_journal.specs.declared.operation.Operation.{Operation}
 use Rattle.sbp_journal.specs.declared.operation.Operation.TheVariants as operations
 use Rattle.sbp_journal.specs.declared.operation.OpWord.{OpWord}
 use Rattle.sbp_journal.specs.declared.operation.OpWord.TheVariants as op_words
-use Rattle.sbp_journal.specs.Text.{Field, number, maybe, node_name, unit_name, digits, bytes, sense_data, name, word, mode, cause_word, cut_word, fail_word, function_word, operation_word, status_fields, check_fields, end_fields, answer_fields, buffer_fields, login_fields, keyword, fields, words_of, note_text, text_of}
+use Rattle.sbp_journal.specs.Text.{Field, number, maybe, node_name, unit_name, digits, bytes, sense_data, name, word, mode, cause_word, cut_word, fail_word, function_word, operation_word, status_fields, check_fields, end_fields, answer_fields, buffer_fields, login_fields, keyword, fields, words_of, text_of}
 use Rattle.sbp_journal.specs.Written.{Fits, IsWritten}
 use Rattle.sbp_journal.proofs.WordsBack.{Lacks, split, split_at, split-join, lacks, lacks-append}
 use Rattle.sbp_journal.proofs.FieldsBack.{decimal_lacks, encode_lacks, sense_lacks}
@@ -271,7 +271,7 @@ text_back [] h = refl
 text_back (note ∷ ns) h =
     let line = join_with_byte 32 (words_of note) in
     let lines : split 10 (text_of (note ∷ ns)) ≡ line ∷ split 10 (text_of ns) =
-        ap (split 10) (append_assoc line (10 ∷ []) (text_of ns)) ∙ split_at 10 line (text_of ns) (join_lacks 10 refl (words_of note) (note_lacks 10 feed note h.0)) in
+    ap (split 10) (append_assoc line (10 ∷ []) (text_of ns)) ∙ split_at 10 line (text_of ns) (join_lacks 10 refl (words_of note) (note_lacks 10 feed note h.0)) in
     ap (map note_in) lines ∙ rw (line_back note h.0, text_back ns h.1) refl
 
 front_same : (end : Note) (ns ms : List Note) → ns ++ end ∷ [] ≡ ms ++ end ∷ [] → ns ≡ ms

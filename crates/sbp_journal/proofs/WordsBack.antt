@@ -1,8 +1,7 @@
 -- Words that are joined by a byte are split at it again.
-use Rattle.std.proofs.Common.{◌≡◌, ◌==◌, ◌&&◌, ◌||◌, not, ℕ, Bool, true, false, cond, List, [], ◌∷◌, ◌++◌, map, refl, sym, ap, ◌∙◌, subst, append_assoc, arith}
-use Rattle.std.specs.List.{slice_split, onto_first, join_with_byte, flat_map, list_all, AllByRecursion}
+use Rattle.std.proofs.Common.{◌≡◌, ◌==◌, ◌&&◌, ℕ, Bool, true, false, List, [], ◌∷◌, ◌++◌, refl, ap, ◌∙◌}
+use Rattle.std.specs.List.{slice_split, onto_first, join_with_byte, list_all, AllByRecursion}
 use Rattle.std.proofs.lemmas.Bool.{eqb-true, eq-eqb}
-use Rattle.std.proofs.lemmas.Bool.Decides.{nat_tests}
 
 -- no byte of a word is c
 abbrev pub Lacks : ℕ → List ℕ → Type 0
@@ -31,9 +30,11 @@ lacks c class (byte ∷ word) out h = (other (byte == c) refl, lacks c class wor
     first : (a b : Bool) → (a && b) ≡ true → a ≡ true
     first true b e = refl
     first false b e = cc e
+
     rest : (a b : Bool) → (a && b) ≡ true → b ≡ true
     rest true b e = e
     rest false b e = cc e
+
     other : (t : Bool) → (byte == c) ≡ t → t ≡ false
     other true e = let same : class byte ≡ false = ap class (eqb-true byte c e) ∙ out in cc (first (class byte) (list_all class word) h)
     other false e = refl

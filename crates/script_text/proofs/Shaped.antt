@@ -1,7 +1,7 @@
 -- Words of a row's shape are those that its event reads: what is left to find in them is a number out of its range, or a rule
 -- on sums or lengths that is broken.
 use Rattle.std.proofs.Common.{◌≡◌, ◌==◌, ◌&&◌, ◌||◌, ◌+◌, ℕ, suc, nat_le, Bool, true, false, cond, List, [], ◌∷◌, ◌++◌, map, sum, length, bytes_eq, codes, is_some, Option, Some, None, Result, Ok, Err, refl, sym, ap, ◌∙◌, arith}
-use Rattle.std.specs.List.{list_any, list_all, flat_map}
+use Rattle.std.specs.List.{list_all, flat_map}
 use Rattle.sbp_journal.specs.declared.event.Cmd.{Cmd}
 use Rattle.sbp_journal.specs.declared.event.Event.TheVariants as events
 use Rattle.script_text.specs.declared.fault.LineFault.{LineFault}
@@ -145,9 +145,9 @@ command_event placing initiators (i ∷ []) h = cc (shaped_more command_ends Num
 command_event placing initiators (i ∷ verb ∷ ws) h =
     let more = shaped_more command_ends Number (VerbWord ∷ verb_columns (verb_of verb)) i (verb ∷ ws) h in
     then_range (number 0 3 i) _ (a_number 0 3 i) (λ n.
-      then_range (cmd_of (verb_of verb) ws) _
-        (cmd_of-range (verb_of verb) ws (shaped_first command_ends VerbWord (verb_columns (verb_of verb)) verb ws more) (shaped_more command_ends VerbWord (verb_columns (verb_of verb)) verb ws more))
-        (λ cmd. tt))
+    then_range (cmd_of (verb_of verb) ws) _
+    (cmd_of-range (verb_of verb) ws (shaped_first command_ends VerbWord (verb_columns (verb_of verb)) verb ws more) (shaped_more command_ends VerbWord (verb_columns (verb_of verb)) verb ws more))
+    (λ cmd. tt))
 
 -- ---- the other rows
 

@@ -1,5 +1,5 @@
 -- A line says nothing exactly where it is silent and not too long.
-use Rattle.std.proofs.Common.{◌≡◌, ◌≤◌, ◌&&◌, ℕ, nat_lt, not, Bool, true, false, cond, List, length, Option, Some, None, Result, Ok, Err, refl, sym, ap, ◌∙◌, arith}
+use Rattle.std.proofs.Common.{◌≡◌, ◌≤◌, ℕ, nat_lt, not, Bool, true, false, cond, List, length, Option, Some, None, Result, Ok, Err, refl, sym, ◌∙◌, arith}
 use Rattle.std.specs.Prelude.{◌↔◌}
 use Rattle.std.specs.List.{list_all, find}
 use Rattle.std.proofs.lemmas.Bool.Decides.{nat_tests}
@@ -58,6 +58,7 @@ quiet : (line : List ℕ) (n : ℕ) → is_silent line ≡ true → nat_lt 8192 
 quiet line n silent short = told_answer (find (has_fault line n) order) line ∙ rw (short, silent) refl
 
 pub says_nothing : (line : List ℕ) (n : ℕ) → (reading line n ≡ Ok None) ↔ ((is_silent line ≡ true) × (length line ≤ 8192))
-says_nothing line n =
-    (λ h. (silent_if (is_silent line) line n refl h, (let short = short_if (nat_lt 8192 (length line)) line n refl h in grind (arith, nat_tests))),
-     λ h. quiet line n h.0 (let short = h.1 in grind (arith, nat_tests)))
+says_nothing line n = (
+  λ h. (silent_if (is_silent line) line n refl h, (let short = short_if (nat_lt 8192 (length line)) line n refl h in grind (arith, nat_tests))),
+  λ h. quiet line n h.0 (let short = h.1 in grind (arith, nat_tests)),
+)
