@@ -1,6 +1,5 @@
 -- The lines of a drill that are left, one by one.
-use Rattle.std.proofs.Common.{◌≡◌, ◌<◌, ◌+◌, ◌-◌, ◌++◌, ℕ, zero, suc, Bool, true, false, List, [], ◌∷◌, refl, ap, arith}
-use Rattle.sbp_journal.specs.declared.event.Event.{Event}
+use Rattle.std.proofs.Common.{◌≡◌, ◌<◌, ◌+◌, ◌-◌, ◌++◌, ℕ, zero, suc, Bool, true, false, [], ◌∷◌, refl, arith}
 use Rattle.script_text.specs.Draws.{turn}
 use Rattle.script_text.specs.Drill.{turns, settle, is_due, events_left}
 

@@ -4,3 +4,5 @@ pub mod Shapes
 pub mod Lists
 pub mod Drills
 pub mod Reading
+pub mod Shaped
+pub mod Silent

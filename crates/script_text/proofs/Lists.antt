@@ -1,5 +1,5 @@
 -- The words of a list that is read from its front.
-use Rattle.std.proofs.Common.{◌≡◌, ◌<◌, ◌≤◌, ◌+◌, ◌&&◌, ◌++◌, ◌==◌, ◌%◌, nat_le, length-append, ℕ, zero, suc, Bool, true, false, cond, List, [], ◌∷◌, map, take, drop, length, get_or, append-nil, append_assoc, Result, Ok, Err, refl, sym, ap, ◌∙◌, subst, arith}
+use Rattle.std.proofs.Common.{◌≡◌, ◌<◌, ◌+◌, ◌&&◌, ◌++◌, ◌==◌, ◌%◌, nat_le, length-append, ℕ, suc, Bool, true, false, cond, List, [], ◌∷◌, map, take, length, get_or, append-nil, append_assoc, Ok, Err, refl, sym, ap, ◌∙◌, subst, arith}
 use Rattle.std.specs.List.{list_all, flat_map}
 use Rattle.std.proofs.lemmas.List.{get_or-map, take_more}
 use Rattle.std.proofs.lemmas.Bool.Decides.{nat_tests}

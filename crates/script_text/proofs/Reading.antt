@@ -1,5 +1,5 @@
 -- A line that has a row, and whose words are not of the row's shape.
-use Rattle.std.proofs.Common.{◌≡◌, ◌≤◌, ◌-◌, ℕ, suc, nat_lt, Bool, true, false, List, [], ◌∷◌, take, drop, length, get_or, Option, Some, Result, Ok, Err, refl, sym, ap, ◌∙◌, subst, arith}
+use Rattle.std.proofs.Common.{◌≡◌, ◌≤◌, ◌-◌, ℕ, suc, nat_lt, true, false, List, [], ◌∷◌, take, drop, length, get_or, Some, Err, refl, sym, subst, arith}
 use Rattle.std.specs.List.{list_all}
 use Rattle.std.proofs.lemmas.List.{take_all}
 use Rattle.std.proofs.lemmas.Bool.Decides.{nat_tests}

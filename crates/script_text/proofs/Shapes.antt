@@ -1,5 +1,5 @@
 -- Words that are matched column by column, and then by one of several ends.
-use Rattle.std.proofs.Common.{◌≡◌, ◌&&◌, ◌||◌, ◌≤◌, ◌<◌, ◌+◌, length, ℕ, zero, suc, take, replicate, arith, Bool, true, false, List, [], ◌∷◌, ◌++◌, refl, ap, ◌∙◌, sym}
+use Rattle.std.proofs.Common.{◌≡◌, ◌&&◌, ◌≤◌, ◌<◌, ◌+◌, length, ℕ, zero, suc, take, replicate, arith, Bool, true, false, List, [], ◌∷◌, ◌++◌, refl}
 use Rattle.std.specs.List.{list_any}
 use Rattle.script_text.specs.declared.column.Column.{Column}
 use Rattle.script_text.specs.declared.column.Column.TheVariants.{Number}
@@ -8,7 +8,7 @@ use denote.Ref.{Bor}
 use Rattle.script_text.specs.Rows.{takes, take_all, are_shaped}
 
 -- a test that each end makes first is made once
-any_and : {A : Type 0} (first : Bool) (test : A → Bool) (xs : List A) → list_any (λ x. first && test x) xs ≡ (first && list_any test xs)
+pub any_and : {A : Type 0} (first : Bool) (test : A → Bool) (xs : List A) → list_any (λ x. first && test x) xs ≡ (first && list_any test xs)
 any_and true test xs = refl
 any_and false test [] = refl
 any_and false test (x ∷ xs) = any_and false test xs

@@ -1,5 +1,5 @@
 -- The commands that a script spells: their command blocks and buffers (RBC and SBC command descriptor blocks).
-use Rattle.std.specs.Prelude.{ℕ, ◌*◌, ◌/◌, ◌==◌, nat_lt, Bool, true, false, if◌then◌else◌, List, [], ◌∷◌, ◌++◌, map, length, bytes_eq, Option, Some, None, Result, Ok, Err}
+use Rattle.std.specs.Prelude.{ℕ, ◌*◌, ◌/◌, nat_lt, false, if◌then◌else◌, List, [], ◌∷◌, ◌++◌, length, bytes_eq, Option, Some, None, Result, Ok, Err}
 use Rattle.byteorder.specs.Endian.{big_bytes}
 use Rattle.sbp_journal.specs.declared.event.Cmd.{Cmd}
 use Rattle.script_text.specs.declared.fault.LineFault.{LineFault}

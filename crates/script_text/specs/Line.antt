@@ -1,5 +1,5 @@
 -- What a line of a script says: its event, or the first of its faults.
-use Rattle.std.specs.Prelude.{ℕ, suc, ◌+◌, ◌/◌, ◌==◌, ◌&&◌, ◌||◌, nat_lt, nat_le, Bool, true, false, not, if◌then◌else◌, List, [], ◌∷◌, drop, length, replicate, slice_index, codes, bytes_eq, Option, Some, None, Result, Ok, Err}
+use Rattle.std.specs.Prelude.{◌≡◌, ℕ, ◌+◌, ◌==◌, ◌&&◌, ◌||◌, nat_lt, nat_le, Bool, true, false, not, if◌then◌else◌, List, [], ◌∷◌, drop, length, replicate, slice_index, codes, bytes_eq, Option, Some, None, Result, Ok, Err}
 use Rattle.std.specs.List.{list_all, list_any, find}
 use Rattle.sbp_journal.specs.declared.event.Cmd.{Cmd}
 use Rattle.sbp_journal.specs.declared.event.Action.{Action}
@@ -104,6 +104,11 @@ event_of rows.Settle [] = Ok events.Settle
 event_of rows.Tick [] = Ok events.Tick
 event_of rows.Inject (initiator ∷ packet ∷ []) = number 0 3 initiator >>= λ i. injected i packet
 event_of _ _ = Err faults.Shape
+
+-- an event, or no fault but that of a number out of its range or a rule on sums or lengths that is broken
+abbrev pub OnlyRange : {A : Type 0} → Result A LineFault → Type 0
+OnlyRange (Ok a) = Unit {0}
+OnlyRange (Err fault) = fault ≡ faults.Range
 
 -- ---- the faults of a line
 

@@ -1,5 +1,5 @@
 -- The data and the segments of a command.
-use Rattle.std.specs.Prelude.{ℕ, ◌+◌, ◌/◌, ◌%◌, ◌==◌, ◌&&◌, nat_lt, nat_le, Bool, true, if◌then◌else◌, List, [], ◌∷◌, take, drop, sum, length, replicate, slice_index, Result, Ok, Err}
+use Rattle.std.specs.Prelude.{ℕ, ◌%◌, ◌==◌, ◌&&◌, nat_lt, nat_le, Bool, true, if◌then◌else◌, List, take, drop, sum, length, replicate, slice_index, Result, Ok, Err}
 use Rattle.std.specs.List.{slice_split, list_all, flat_map}
 use Rattle.script_text.specs.declared.fault.LineFault.{LineFault}
 use Rattle.script_text.specs.declared.fault.LineFault.TheVariants as faults

@@ -1,15 +1,11 @@
 -- The rows of the script: the first word of each, and what its further words look like.
-use Rattle.std.specs.Prelude.{ℕ, suc, ◌==◌, ◌&&◌, ◌||◌, Bool, true, false, if◌then◌else◌, List, [], ◌∷◌, ◌++◌, take, replicate, codes, bytes_eq, Option, Some, None, is_some}
+use Rattle.std.specs.Prelude.{ℕ, suc, ◌&&◌, ◌||◌, Bool, true, false, if◌then◌else◌, List, [], ◌∷◌, ◌++◌, replicate, codes, bytes_eq, Option, Some, None, is_some}
 use Rattle.std.specs.List.{list_any}
 use Rattle.script_text.specs.declared.row.Row.{Row}
 use Rattle.script_text.specs.declared.row.Row.TheVariants as rows
-use Rattle.script_text.specs.declared.row.Act.{Act}
 use Rattle.script_text.specs.declared.row.Act.TheVariants as acts
-use Rattle.script_text.specs.declared.row.OrbAct.{OrbAct}
 use Rattle.script_text.specs.declared.row.OrbAct.TheVariants as orb_acts
-use Rattle.script_text.specs.declared.row.Placing.{Placing}
 use Rattle.script_text.specs.declared.row.Placing.TheVariants as placings
-use Rattle.script_text.specs.declared.row.Fate.{Fate}
 use Rattle.script_text.specs.declared.row.Fate.TheVariants as fates
 use Rattle.script_text.specs.declared.verb.Verb.{Verb}
 use Rattle.script_text.specs.declared.verb.Verb.TheVariants as verbs

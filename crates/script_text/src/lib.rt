@@ -6,6 +6,7 @@ mod command;
 mod drill;
 mod event;
 mod fault;
+mod laws;
 mod line;
 mod payload;
 mod row;
@@ -16,4 +17,8 @@ mod words;
 
 pub use drill::{Drill, drill_line};
 pub use fault::LineFault;
+pub use laws::{only_silent_lines_say_nothing, shaped_words_are_read};
 pub use line::{read_line, read_write};
+
+#[cfg(test)]
+mod tests;

@@ -1,4 +1,4 @@
-use Rattle.std.proofs.Common.{◌≡◌, ◌<◌, List, [], refl, sym, ◌∙◌, arith}
+use Rattle.std.proofs.Common.{◌<◌, refl, sym, ◌∙◌, arith}
 use Rattle.script_text.proofs.Drills.{ended, going}
 use Rattle.script_text.proofs.drill.drill_line.Goals as goal
 

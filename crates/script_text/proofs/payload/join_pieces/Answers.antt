@@ -1,4 +1,4 @@
-use Rattle.std.proofs.Common.{◌≡◌, [], refl, ◌∙◌, sym}
+use Rattle.std.proofs.Common.{[], refl, ◌∙◌, sym}
 use Rattle.script_text.proofs.Lists.{uncounted, too_many, all_more, flat_map_more}
 use Rattle.script_text.specs.Payload.{has_count, piece_bytes}
 use Rattle.script_text.proofs.payload.join_pieces.Goals as goal

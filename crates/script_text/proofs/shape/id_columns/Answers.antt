@@ -1,4 +1,3 @@
-use Rattle.std.proofs.Common.{◌≡◌}
 use Rattle.script_text.proofs.Shapes.{id_numbers}
 use Rattle.script_text.proofs.shape.id_columns.Goals as goal
 

@@ -1,0 +1,415 @@
+ghost use Rattle.std.specs.Prelude.{◌≤◌};
+
+use crate::{Drill, LineFault, drill_line, read_line, read_write};
+use sbp_base::NoMemory;
+use sbp_journal::{Action, Cmd, Event};
+use std::alloc::Global;
+use std::test::Fail;
+
+/// What a line says, without the event's fields.
+#[derive(Clone, Copy, Debug, PartialEq, Eq)]
+enum Said {
+    Nothing,
+    Event,
+    Fault(LineFault),
+}
+
+const SHAPE: Said = Said::Fault(LineFault::Shape);
+
+const RANGE: Said = Said::Fault(LineFault::Range);
+
+fn said_by(alloc: Global, line: &[u8], initiators: u8) -> Said
+    requires { initiators ≤ 4 }
+{
+    match read_line(alloc, line, initiators) {
+        Ok(Some(_)) => Said::Event,
+        Ok(None) => Said::Nothing,
+        Err(fault) => Said::Fault(fault),
+    }
+}
+
+/// One line of every row, on a bus of two initiators.
+#[test]
+fn rows_are_read(rt: HostRuntime) {
+    for line in [
+        "rom 0",
+        "reconnect 1",
+        "logout 0",
+        "abortset 0",
+        "lureset 0",
+        "treset 0",
+        "agentreset 0",
+        "state 0",
+        "enable 0",
+        "login 1 3 15",
+        "query 0 3",
+        "abort 0 65535",
+        "dummy 1 0",
+        "put 0 tur",
+        "append 1 sync",
+        "low 0",
+        "link 0",
+        "ring 0",
+        "reset 62 0 1",
+        "see t",
+        "see 1",
+        "key 3 0011223344556677",
+        "deliver 1",
+        "repeat 4294967295",
+        "lose 9",
+        "timeout 10",
+        "step 10000",
+        "settle",
+        "tick",
+        "inject 0 ffC00000",
+    ] {
+        assert_eq!(rt;
+            said_by(rt.alloc(), line.as_bytes(), 2),
+            Said::Event,
+            "{line}"
+        );
+    }
+}
+
+/// Lines whose words do not have their row's shape.
+#[test]
+fn shapes_are_judged(rt: HostRuntime) {
+    for line in [
+        "rom",
+        "rom 0 ",
+        "rom  0",
+        "rom 00",
+        "rom +1",
+        "settle 1",
+        "login 0 0",
+        "login 0 0 0 pass 0011223344556677 excl",
+        "login 0 0 0 pass 001122334455667",
+        "login 0 0 0 excl excl",
+        "key 0 00112233445566778",
+        "key 0 001122334455667g",
+        "reset 0 1",
+        "reset 0 1 2 3",
+        "see i",
+        "inject 0 ",
+        "inject 0 abc",
+        "append 4 foo",
+        "append 0 write 4294967296 AA*512+",
+        "append 0 write 0 AA*01",
+        "append 0 write 0 AA*",
+        "append 0 write 0 A*512",
+        "append 0 write 0 +AA*512",
+        "append 0 read 0",
+        "append 0 read 0 1 pay 1 seg 512",
+        "append 0 read 0 1 seg ",
+        "append 0 read 0 1 seg 256,,256",
+        "append 0 tur 0",
+    ] {
+        assert_eq!(rt; said_by(rt.alloc(), line.as_bytes(), 2), SHAPE, "{line}");
+    }
+}
+
+/// Lines of their row's shape with a number out of its range, equal IDs, or a sum or length that is
+/// not as it has to be.
+#[test]
+fn ranges_are_judged(rt: HostRuntime) {
+    for line in [
+        "append 4 tur",
+        "append 18446744073709551616 tur",
+        "login 0 4 0",
+        "login 0 0 16",
+        "abort 0 65536",
+        "reset 0 63 1",
+        "reset 5 1 5",
+        "see 4",
+        "key 4 0011223344556677",
+        "deliver 0",
+        "deliver 4294967296",
+        "step 0",
+        "step 10001",
+        "inject 0 ffc0ff",
+        "append 0 read 4294967296 1",
+        "append 0 read 0 33",
+        "append 0 read 0 1 pay 10",
+        "append 0 read 0 1 seg 256,255",
+        "append 0 read 0 1 seg 0,512",
+        "append 0 read 0 32 seg 16385",
+        "append 0 tur seg 1",
+        "append 0 verify 0 1 seg 512",
+        "append 0 write 0 AA*0",
+        "append 0 write 0 AA*16385",
+        "append 0 write 0 AA*511",
+        "append 0 write 0 AA*16384+BB*512",
+    ] {
+        assert_eq!(rt; said_by(rt.alloc(), line.as_bytes(), 2), RANGE, "{line}");
+    }
+}
+
+/// The other faults, each before those behind it in the order, and lines that say nothing.
+#[test]
+fn order_of_faults(rt: HostRuntime) {
+    for (line, initiators, want) in [
+        ("settle", 0, Said::Fault(LineFault::Place)),
+        ("jump", 1, Said::Fault(LineFault::Unknown)),
+        ("append 4 tur", 1, RANGE),
+        ("append 1 tur", 1, Said::Fault(LineFault::NoInitiator)),
+        ("begin", 1, Said::Fault(LineFault::Place)),
+        ("begin 1 ready", 2, Said::Fault(LineFault::Place)),
+        ("begin 0 ready", 0, RANGE),
+        ("begin 5 cold", 0, RANGE),
+        ("begin 4 warm", 0, SHAPE),
+        ("begin 4 cold", 0, Said::Event),
+        ("jump", 0, Said::Fault(LineFault::Unknown)),
+        (" settle", 1, Said::Fault(LineFault::Unknown)),
+        (" #", 1, Said::Fault(LineFault::Unknown)),
+        ("submit 0 AA*512", 1, Said::Fault(LineFault::Unknown)),
+        ("settle\r", 1, Said::Fault(LineFault::Byte)),
+        ("jump\t1", 1, Said::Fault(LineFault::Byte)),
+        ("see 3", 2, Said::Fault(LineFault::NoInitiator)),
+        ("inject 2 ffc00000", 2, Said::Fault(LineFault::NoInitiator)),
+        ("", 0, Said::Nothing),
+        (" \t ", 0, Said::Nothing),
+        ("#\tany\r", 0, Said::Nothing),
+        ("\r", 0, Said::Fault(LineFault::Byte)),
+    ] {
+        assert_eq!(rt;
+            said_by(rt.alloc(), line.as_bytes(), initiators),
+            want,
+            "{line}"
+        );
+    }
+}
+
+/// A line of so many bytes, all of them `#`.
+fn comment_of(alloc: Global, length: usize) -> Result<Said, Fail> {
+    let mut line = Vec::new(alloc);
+    for _byte in 0..length {
+        line.push(b'#')?;
+    }
+    Ok(said_by(alloc, line.as_slice(), 1))
+}
+
+/// A comment has 8,192 bytes at most.
+#[test]
+fn lines_have_an_end(rt: HostRuntime) -> Result<(), Fail> {
+    assert_eq!(rt; comment_of(rt.alloc(), 8192)?, Said::Nothing);
+    assert_eq!(rt;
+        comment_of(rt.alloc(), 8193)?,
+        Said::Fault(LineFault::TooLong)
+    );
+    Ok(())
+}
+
+/// The fields of a login line.
+fn login_by(alloc: Global, line: &str) -> Option<(u8, u8, u8, bool, [u8; 8])> {
+    match read_line(alloc, line.as_bytes(), 4) {
+        Ok(
+            Some(
+                Event::Act {
+                    initiator,
+                    action: Action::Login {
+                        unit,
+                        reconnect,
+                        exclusive,
+                        password,
+                    },
+                },
+            ),
+        ) => Some((initiator, unit, reconnect, exclusive, password)),
+        _ => None,
+    }
+}
+
+/// A login with each choice of what may follow; digits of both cases are read.
+#[test]
+fn logins_are_read(rt: HostRuntime) {
+    const KEY: [u8; 8] = [0xab, 0xcd, 0xef, 0x01, 0x23, 0x45, 0x67, 0x89];
+    for (line, want) in [
+        ("login 1 2 3", (1, 2, 3, false, [0; 8])),
+        ("login 0 3 15 excl", (0, 3, 15, true, [0; 8])),
+        ("login 3 0 0 pass abCDef0123456789", (3, 0, 0, false, KEY)),
+        (
+            "login 2 0 0 excl pass ABcdEF0123456789",
+            (2, 0, 0, true, KEY),
+        ),
+    ] {
+        assert_eq!(rt; login_by(rt.alloc(), line), Some(want), "{line}");
+    }
+}
+
+/// What a command line says of its CMD: the command block, the direction, the length, how many bytes
+/// are sent and the last of them, how many segments there are, and max_payload.
+fn cmd_by(alloc: Global, line: &str) -> Option<([u8; 12], bool, u16, usize, u8, usize, u8)> {
+    match read_line(alloc, line.as_bytes(), 1) {
+        Ok(
+            Some(
+                Event::Act {
+                    action: Action::Put(cmd),
+                    ..
+                },
+            ),
+        ) => Some(parts_of(&cmd)),
+        _ => None,
+    }
+}
+
+fn parts_of(cmd: &Cmd) -> ([u8; 12], bool, u16, usize, u8, usize, u8) {
+    let bytes = cmd.payload.as_slice();
+    let last = bytes.last().copied().unwrap_or(0);
+    (
+        cmd.cdb,
+        cmd.to_initiator,
+        cmd.length,
+        bytes.len(),
+        last,
+        cmd.segments.as_slice().len(),
+        cmd.max_payload,
+    )
+}
+
+/// Commands without blocks: the opcode, byte 4, the direction and the length.
+#[test]
+fn plain_commands_are_read(rt: HostRuntime) {
+    for (line, opcode, fourth, to_initiator, length) in [
+        ("put 0 tur", 0x00, 0, false, 0),
+        ("put 0 inquiry", 0x12, 36, true, 36),
+        ("put 0 start", 0x1b, 1, false, 0),
+        ("put 0 stop", 0x1b, 0, false, 0),
+        ("put 0 eject", 0x1b, 2, false, 0),
+        ("put 0 load", 0x1b, 3, false, 0),
+        ("put 0 prevent", 0x1e, 1, false, 0),
+        ("put 0 allow", 0x1e, 0, false, 0),
+        ("put 0 capacity", 0x25, 0, true, 8),
+        ("put 0 sync", 0x35, 0, false, 0),
+    ] {
+        let cdb = [opcode, 0, 0, 0, fourth, 0, 0, 0, 0, 0, 0, 0];
+        let want = (cdb, to_initiator, length, 0, 0, 0, 9);
+        assert_eq!(rt; cmd_by(rt.alloc(), line), Some(want), "{line}");
+    }
+}
+
+/// Commands on blocks, with their segments and their max_payload.
+#[test]
+fn block_commands_are_read(rt: HostRuntime) {
+    for (line, cdb, rest) in [
+        (
+            "put 0 read 16909060 2",
+            [0x28, 0, 1, 2, 3, 4, 0, 0, 2, 0, 0, 0],
+            (true, 1024, 0, 0, 0, 9),
+        ),
+        (
+            "put 0 read12 4294967295 32 seg 16383,1 pay 0",
+            [0xa8, 0, 255, 255, 255, 255, 0, 0, 0, 32, 0, 0],
+            (true, 16384, 0, 0, 2, 0),
+        ),
+        (
+            "put 0 read 0 0 pay 3",
+            [0x28, 0, 0, 0, 0, 0, 0, 0, 0, 0, 0, 0],
+            (false, 0, 0, 0, 0, 3),
+        ),
+        (
+            "put 0 verify 5 4",
+            [0x2f, 0, 0, 0, 0, 5, 0, 0, 4, 0, 0, 0],
+            (false, 0, 0, 0, 0, 9),
+        ),
+        (
+            "put 0 write 5 AA*510+0bBc",
+            [0x2a, 0, 0, 0, 0, 5, 0, 0, 1, 0, 0, 0],
+            (false, 512, 512, 0xbc, 0, 9),
+        ),
+        (
+            "put 0 write12 5 11*1000+22*24 seg 512,512",
+            [0xaa, 0, 0, 0, 0, 5, 0, 0, 0, 2, 0, 0],
+            (false, 1024, 1024, 0x22, 2, 9),
+        ),
+    ] {
+        let want = (cdb, rest.0, rest.1, rest.2, rest.3, rest.4, rest.5);
+        assert_eq!(rt; cmd_by(rt.alloc(), line), Some(want), "{line}");
+    }
+}
+
+/// Whether the two words of a write are read, or with which fault.
+fn write_by(alloc: Global, words: &str) -> Said {
+    match read_write(alloc, words.as_bytes()) {
+        Ok(_) => Said::Event,
+        Err(fault) => Said::Fault(fault),
+    }
+}
+
+/// The two words of a write.
+#[test]
+fn writes_are_read(rt: HostRuntime) {
+    for (words, want) in [
+        ("5 AA*512", Said::Event),
+        ("5 AA*512 pay 1", SHAPE),
+        ("5", SHAPE),
+        ("", SHAPE),
+        ("5 AA\t", SHAPE),
+        ("5 AA*511", RANGE),
+        ("4294967296 AA*512", RANGE),
+    ] {
+        assert_eq!(rt; write_by(rt.alloc(), words), want, "{words}");
+    }
+}
+
+/// An event of a drill: whether it begins the run, a settle, or the initiator, the opcode, the block
+/// and the first byte that is written.
+#[derive(Clone, Copy, Debug, PartialEq, Eq)]
+enum Drilled {
+    Begin,
+    Settle,
+    Append(u8, u8, u8, u8),
+    Other,
+    End,
+}
+
+fn event_by(alloc: Global, drill: &mut Drill) -> Result<Drilled, NoMemory> {
+    let event = drill_line(alloc, drill)?;
+    Ok(match &event {
+        Some(event) => parts_of_event(event),
+        None => Drilled::End,
+    })
+}
+
+fn parts_of_event(event: &Event) -> Drilled {
+    match event {
+        Event::Begin { .. } => Drilled::Begin,
+        Event::Settle => Drilled::Settle,
+        Event::Act {
+            initiator,
+            action: Action::Append(cmd),
+        } => {
+            let byte = cmd.payload.as_slice().first().copied().unwrap_or(0);
+            Drilled::Append(*initiator, cmd.cdb[0], cmd.cdb[5], byte)
+        }
+        _ => Drilled::Other,
+    }
+}
+
+/// The script of `drill 1 2`, worked out by another program.
+#[test]
+fn a_drill_of_two_lines(rt: HostRuntime) -> Result<(), Fail> {
+    let mut drill = Drill::new(1, 2);
+    for want in [
+        Drilled::Begin,
+        Drilled::Append(0, 0x28, 12, 0),
+        Drilled::Append(0, 0x2a, 51, 0x9a),
+        Drilled::Settle,
+        Drilled::End,
+        Drilled::End,
+    ] {
+        assert_eq!(rt; event_by(rt.alloc(), &mut drill)?, want);
+    }
+    Ok(())
+}
+
+/// Seventeen lines settle twice.
+#[test]
+fn a_drill_settles(rt: HostRuntime) -> Result<(), Fail> {
+    let mut drill = Drill::new(1, 17);
+    for place in 0_u8..21 {
+        let want = place == 17 || place == 19;
+        let got = event_by(rt.alloc(), &mut drill)?;
+        assert_eq!(rt; got == Drilled::Settle, want, "{place}");
+    }
+    Ok(())
+}
