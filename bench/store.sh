@@ -1,6 +1,6 @@
 #!/usr/bin/env bash
 # The cost of a call of the store of packets must grow with the logarithm of the packets kept alone. Builds
-# bench/store/main.rt over the crates and prints the processor time of 200,000 turns beside 1,000 and 100,000
+# bench/store/main.txt over the crates and prints the processor time of 200,000 turns beside 1,000 and 100,000
 # packets in flight (the logarithm: below 2), and of 200,000 and 400,000 turns beside 1,000 (in proportion: about 2).
 set -e
 cd "$(dirname "$0")/.."
@@ -8,7 +8,7 @@ work=$(mktemp -d)
 trap 'rm -r "$work"' EXIT
 mkdir -p "$work/crates/store_bench/src"
 cp -r crates/sbp_base crates/async_packet crates/packet_store "$work/crates"
-cp bench/store/main.rt "$work/crates/store_bench/src"
+cp bench/store/main.txt "$work/crates/store_bench/src/main.rt"
 cp HANDLES "$work"
 grep -E '^(sbp_base|async_packet|packet_store):' crates.txt > "$work/crates.txt"
 echo 'store_bench: sbp_base packet_store' >> "$work/crates.txt"
