@@ -1,5 +1,5 @@
 -- The unsolicited status block: src 2, resp 0, dead 0, len 5, sbp_status 00, with the sense 6/28/00 (NCITS 325-1998, unsolicited status).
-use Rattle.std.specs.Prelude.{◌≡◌, ℕ, ◌==◌, ◌&&◌, Bool, if◌then◌else◌, List, [], ◌∷◌, ◌++◌, length, take, drop, Option, Some, None}
+use Rattle.std.specs.Prelude.{◌≡◌, ℕ, ◌==◌, ◌&&◌, Bool, if◌then◌else◌, List, [], ◌∷◌, ◌++◌, length, Option, Some, None}
 use Rattle.byteorder.specs.Endian.{big_bytes}
 use Rattle.sbp_base.specs.Quadlets.{quad}
 use Rattle.rbc_command.specs.SenseData.{sense}

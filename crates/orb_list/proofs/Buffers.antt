@@ -21,7 +21,7 @@ use Rattle.orb_list.specs.Tickets.{TicketParts}
 use Rattle.orb_list.specs.Requests.{Asked}
 use Rattle.orb_list.specs.Layout.{behind, orb_of, table_bytes, data_in_segments, data_written, written}
 use Rattle.orb_list.specs.Table as table
-use Rattle.orb_list.specs.Table.{SlotTable, waiting, slot_in, may_prepare, waits_low, waits_high, closed, low_for, high_for, with_orb_quad}
+use Rattle.orb_list.specs.Table.{SlotTable, waiting, slot_in, may_prepare, waits_low, waits_high, low_for, high_for}
 use Rattle.orb_list.specs.Runs.{Call, Prepare, LinkLow, LinkHigh, MakeDummy, TakeStatus, DropList, FreeAll, Pin, Unpin, TryWrite, Fill, left_by, run}
 use Rattle.orb_list.specs.Buffers.{is_given, is_into, touches, NoneTouches, BufferLaw}
 use Rattle.orb_list.proofs.Closed.{closed_keeps}

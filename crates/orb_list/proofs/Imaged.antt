@@ -27,7 +27,7 @@ use Rattle.orb_list.specs.declared.slot.Slot.{Slot}
 use Rattle.orb_list.specs.Tickets.{TicketParts}
 use Rattle.orb_list.specs.Requests.{Asked, IsRequest}
 use Rattle.orb_list.specs.Table as table
-use Rattle.orb_list.specs.Table.{SlotTable, slot_in, is_free, unused, waiting, may_prepare, next_ticket, extended, low_of, low_in, high_in, waits_low, waits_high, low_for, high_for, with_link, with_orb_quad, high_of, as_dummy, passed_for, link_set, released, freed, rested, state_after}
+use Rattle.orb_list.specs.Table.{SlotTable, slot_in, is_free, unused, waiting, may_prepare, next_ticket, extended, low_of, low_in, high_in, waits_low, waits_high, low_for, high_for, with_link, with_orb_quad, high_of, as_dummy, passed_for, link_set, released, freed, state_after}
 use Rattle.orb_list.specs.Runs.{Call, Prepare, LinkLow, LinkHigh, MakeDummy, TakeStatus, DropList, FreeAll, Pin, Unpin, TryWrite, Fill, Note, Prepared, LowWritten, Linked, Dummied, Taken, Dropped, Freed, if_ok, if_some, left_by, noted_by, run}
 use Rattle.orb_list.specs.Kept.{Kept, new_kept, in_slot, next_is, low_is, is_dummy, kept_in, AreProper, ServedLaw}
 use Rattle.orb_list.specs.Holds.{HoldsLink, HoldsList, HoldsPresent}

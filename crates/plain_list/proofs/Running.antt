@@ -5,9 +5,9 @@ use Rattle.std.proofs.lemmas.Bool.{false≢true}
 use Rattle.std.proofs.lemmas.List.{length-take-le, take_min}
 use Rattle.rbc_command.specs.declared.sense.Sense.{Sense}
 use Rattle.rbc_disk.specs.Disk.{Disk}
-use Rattle.rbc_disk.specs.Units.{PlainDisk, plain_disk}
+use Rattle.rbc_disk.specs.Units.{PlainDisk}
 use Rattle.rbc_disk.specs.Checks.{check_of}
-use Rattle.rbc_disk.specs.Runs.{need_of, NeedFits, IsSent, Feeds, MayEnd, failure_of, data_length_of, answer_of, answer_length_of}
+use Rattle.rbc_disk.specs.Runs.{need_of, IsSent, Feeds, MayEnd, failure_of, data_length_of, answer_of, answer_length_of}
 use Rattle.rbc_disk.specs.declared.command.Need.{Need}
 use Rattle.rbc_disk.specs.declared.command.Need.TheVariants.{Payload, RunNow}
 use Rattle.rbc_disk.specs.declared.command.BufferPlan.{BufferPlan}
@@ -21,7 +21,6 @@ use Rattle.sbp_journal.specs.ActionLaw.{buffer_of, in_buffer, out_buffer}
 use Rattle.sbp_journal.specs.declared.event.Cmd.{Cmd}
 use Rattle.sbp_journal.specs.declared.note.NoteBuffer.{NoteBuffer}
 use Rattle.sbp_journal.specs.declared.note.NoteBuffer.TheVariants.{Nothing, In, Out}
-use Rattle.plain_list.specs.Plain.{request_of}
 
 -- ---- the buffer of a command
 

@@ -1,5 +1,5 @@
 -- Where a command needs data.
-use Rattle.std.proofs.Common.{◌≡◌, ℕ, ◌<◌, ◌≤◌, Bool, true, false, refl, arith}
+use Rattle.std.proofs.Common.{◌≡◌, ℕ, ◌<◌, Bool, true, false, refl, arith}
 use Rattle.std.specs.Prelude.{◌==◌, if◌then◌else◌, Option, Some, None}
 use Rattle.rbc_command.specs.declared.sense.Sense.{Sense}
 use Rattle.rbc_disk.specs.Runs.{need_at}

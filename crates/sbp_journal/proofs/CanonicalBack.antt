@@ -1,11 +1,11 @@
 -- Bytes in the canonical form, read back.
-use Rattle.std.proofs.Common.{◌≡◌, ◌==◌, ◌<◌, ◌≤◌, ◌^◌, ◌+◌, ◌⊎◌, inl, inr, ℕ, zero, suc, nat_le, Bool, true, false, cond, List, [], ◌∷◌, ◌++◌, map, length, replicate, append_assoc, append-nil, length-append, refl, sym, ap, ◌∙◌, lit<, arith}
+use Rattle.std.proofs.Common.{◌≡◌, ◌==◌, ◌<◌, ◌^◌, ◌+◌, ◌⊎◌, inl, ℕ, zero, suc, nat_le, true, false, cond, List, [], ◌∷◌, ◌++◌, map, length, replicate, append_assoc, length-append, refl, sym, ap, ◌∙◌, lit<, arith}
 use Rattle.std.proofs.lemmas.List.{length-replicate}
 use Rattle.std.specs.List.{join_with_byte, flat_map, AllByRecursion}
-use Rattle.std.proofs.Common.{Option, None, subst}
+use Rattle.std.proofs.Common.{None, subst}
 use Rattle.std.specs.Fmt.{decimal}
-use Rattle.hex.specs.Hex.{encode_upper, encode_with, decode_pairs, hex_digit_value}
-use Rattle.sbp_journal.specs.Canonical.{Run, runs_of, run_bytes, AreMaximal, BeginsOtherwise, Piece, plain, repeated, onto_pieces, pieces_of, piece_text, canonical}
+use Rattle.hex.specs.Hex.{encode_upper, decode_pairs, hex_digit_value}
+use Rattle.sbp_journal.specs.Canonical.{Run, runs_of, run_bytes, AreMaximal, Piece, plain, repeated, onto_pieces, pieces_of, piece_text, canonical}
 use Rattle.sbp_journal.specs.Written.{AreBytes}
 use Rattle.sbp_journal.proofs.MaximalRuns.{are_runs}
 use Rattle.sbp_journal.proofs.WordsBack.{Lacks, split, split-join, lacks-append}

@@ -1,20 +1,20 @@
 -- The words of a line, read back as what they stand for.
-use Rattle.std.proofs.Common.{◌≡◌, ◌==◌, ◌&&◌, ◌<◌, ◌≤◌, ◌/◌, ◌%◌, ◌^◌, ◌+◌, ◌*◌, ℕ, zero, suc, Bool, true, false, cond, List, [], ◌∷◌, ◌++◌, map, length, get_or, slice_index, replicate, codes, Option, Some, None, Result, Ok, Err, ◌⊎◌, inl, inr, refl, sym, ap, ◌∙◌, subst, append_assoc, arith}
-use Rattle.std.specs.List.{join_with_byte, flat_map, list_all, AllByRecursion, slice_split}
+use Rattle.std.proofs.Common.{◌≡◌, ◌==◌, ◌<◌, ◌/◌, ◌%◌, ◌^◌, ℕ, zero, suc, Bool, true, false, List, [], ◌∷◌, get_or, slice_index, Option, Some, None, Result, Ok, Err, ◌⊎◌, inl, inr, refl, ap, ◌∙◌, arith}
+use Rattle.std.specs.List.{AllByRecursion}
 use Rattle.std.specs.Fmt.{decimal}
-use Rattle.std.specs.Str.Parse.{digits_value, AllDigits}
+use Rattle.std.specs.Str.Parse.{digits_value}
 use Rattle.std.specs.Int.{IsInRange}
 use Rattle.std.proofs.lemmas.Fmt.{digits_decimal, digits_value-decimal}
 use Rattle.std.proofs.lemmas.Str.Parse.{IsDigitsTest, numerals_by_value, tells_digits}
 use Rattle.std.proofs.lemmas.Bool.{eqb-true}
 use Rattle.std.proofs.lemmas.Bool.Decides.{nat_tests}
-use Rattle.hex.specs.Hex.{encode_upper, encode_with, upper_digits, decode_of, hex_digit_value, is_hex_digit, IsBytes}
+use Rattle.hex.specs.Hex.{encode_upper, encode_with, upper_digits, decode_of, hex_digit_value, IsBytes}
 use Rattle.hex.specs.declared.error.FromHexError.{FromHexError}
 use Rattle.hex.proofs.HexLemmas.{decode_of-encode_upper, IsDigits-upper_digits}
 use Rattle.rbc_command.specs.declared.sense.Sense.{Sense}
 use Rattle.sbp_journal.specs.Text.{sense_word}
 use Rattle.sbp_journal.specs.Written.{AreBytes}
-use Rattle.sbp_journal.proofs.WordsBack.{Lacks, split, split-join, lacks, lacks-append}
+use Rattle.sbp_journal.proofs.WordsBack.{Lacks, split, split-join, lacks-append}
 
 -- ---- numbers
 

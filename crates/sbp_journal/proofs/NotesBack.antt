@@ -1,5 +1,5 @@
 -- The words of a line, read back as its note: one reader for each keyword.
-use Rattle.std.proofs.Common.{◌≡◌, ◌==◌, ◌&&◌, ◌<◌, ◌^◌, ◌⊎◌, inl, inr, ℕ, zero, suc, Bool, true, false, cond, List, [], ◌∷◌, ◌++◌, map, length, drop, get_or, codes, bytes_eq, Option, Some, None, refl, sym, ap, ◌∙◌, lit<, subst, append-nil, arith}
+use Rattle.std.proofs.Common.{◌≡◌, ◌==◌, ◌<◌, ◌^◌, ◌⊎◌, inl, inr, ℕ, zero, suc, Bool, true, false, cond, List, [], ◌∷◌, ◌++◌, map, drop, get_or, codes, bytes_eq, Option, Some, None, refl, sym, ap, lit<, subst, append-nil, arith}
 use Rattle.std.specs.List.{AllByRecursion}
 use Rattle.std.specs.Int.{IsInRange}
 use Rattle.std.specs.Fmt.{decimal}
@@ -23,9 +23,9 @@ use Rattle.sbp_journal.specs.declared.operation.Operation.{Operation}
 use Rattle.sbp_journal.specs.declared.operation.Operation.TheVariants as operations
 use Rattle.sbp_journal.specs.declared.operation.OpWord.{OpWord}
 use Rattle.sbp_journal.specs.declared.operation.OpWord.TheVariants as op_words
-use Rattle.sbp_journal.specs.Form.{IsStatus, IsAnswer, IsCheck, HasForm}
-use Rattle.sbp_journal.specs.Text.{Field, number, maybe, node_name, unit_name, digits, bytes, sense_data, name, word, mode, cause_word, cut_word, fail_word, function_word, operation_word, status_fields, check_fields, end_fields, answer_fields, buffer_fields, login_fields, keyword, fields, words_of}
-use Rattle.sbp_journal.specs.Written.{Fits, IsWritten, AreBytes}
+use Rattle.sbp_journal.specs.Form.{IsStatus, IsAnswer}
+use Rattle.sbp_journal.specs.Text.{Field, maybe, node_name, word, mode, cause_word, cut_word, fail_word, function_word, operation_word, status_fields, check_fields, end_fields, answer_fields, buffer_fields, login_fields, keyword, words_of}
+use Rattle.sbp_journal.specs.Written.{Fits, IsWritten}
 use Rattle.sbp_journal.proofs.LineWords.{answer_status}
 use Rattle.sbp_journal.proofs.FieldsBack.{number_of, number_back, decimal_digits, unhex, unhex_back, byte_in, byte_back, sense_of, sense_back}
 use Rattle.sbp_journal.proofs.CanonicalBack.{canonical_from, canonical_back}

@@ -1,6 +1,6 @@
 -- A text of notes, read back line by line and word by word.
-use Rattle.std.proofs.Common.{◌≡◌, ◌==◌, ◌&&◌, ◌⊎◌, inl, inr, ◌<◌, ℕ, zero, suc, not, Bool, true, false, List, [], ◌∷◌, ◌++◌, map, Option, Some, None, append_assoc, refl, sym, ap, ◌∙◌, lit<, arith}
-use Rattle.std.specs.List.{join_with_byte, flat_map, list_all, AllByRecursion}
+use Rattle.std.proofs.Common.{◌≡◌, ◌==◌, ◌&&◌, inl, ◌<◌, ℕ, zero, suc, not, Bool, true, false, List, [], ◌∷◌, ◌++◌, map, Option, Some, None, append_assoc, refl, sym, ap, ◌∙◌, lit<, arith}
+use Rattle.std.specs.List.{join_with_byte, list_all, AllByRecursion}
 use Rattle.rbc_command.specs.declared.sense.Sense.{Sense}
 use Rattle.orb_layout.specs.declared.ask.FailCause.{FailCause}
 use Rattle.orb_layout.specs.declared.ask.FailCause.TheVariants as fail_causes
@@ -20,7 +20,7 @@ use Rattle.sbp_journal.specs.declared.operation.Operation.{Operation}
 use Rattle.sbp_journal.specs.declared.operation.Operation.TheVariants as operations
 use Rattle.sbp_journal.specs.declared.operation.OpWord.{OpWord}
 use Rattle.sbp_journal.specs.declared.operation.OpWord.TheVariants as op_words
-use Rattle.sbp_journal.specs.Text.{Field, number, maybe, node_name, unit_name, digits, bytes, sense_data, name, word, mode, cause_word, cut_word, fail_word, function_word, operation_word, status_fields, check_fields, end_fields, answer_fields, buffer_fields, login_fields, keyword, fields, words_of, note_text, text_of}
+use Rattle.sbp_journal.specs.Text.{Field, number, maybe, node_name, unit_name, digits, bytes, sense_data, name, word, mode, cause_word, cut_word, fail_word, function_word, operation_word, status_fields, check_fields, end_fields, answer_fields, buffer_fields, login_fields, keyword, fields, words_of, text_of}
 use Rattle.sbp_journal.specs.Written.{Fits, IsWritten}
 use Rattle.sbp_journal.proofs.WordsBack.{Lacks, split, split_at, split-join, lacks, lacks-append}
 use Rattle.sbp_journal.proofs.FieldsBack.{decimal_lacks, encode_lacks, sense_lacks}

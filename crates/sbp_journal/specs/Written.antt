@@ -1,7 +1,6 @@
 -- The notes whose text can be read back: those of the form of a run, whose numbers have 64 bits at most and whose bytes are bytes.
-use Rattle.std.specs.Prelude.{◌^◌, ◌<◌, ℕ, List, length, Option}
+use Rattle.std.specs.Prelude.{◌^◌, ◌<◌, ℕ, List, length}
 use Rattle.std.specs.List.{AllByRecursion}
-use Rattle.rbc_command.specs.declared.sense.Sense.{Sense}
 use Rattle.sbp_journal.specs.declared.note.Note.{Note}
 use Rattle.sbp_journal.specs.Form.{HasForm}
 use Rattle.sbp_journal.specs.Text.{Field, fields, number, maybe, node_name, unit_name, digits, bytes, sense_data, name}

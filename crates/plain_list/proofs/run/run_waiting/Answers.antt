@@ -1,5 +1,3 @@
-use Rattle.rbc_disk.specs.Disk.{disk_at}
-use Rattle.rbc_disk.specs.Units.{plain_disk}
 use Rattle.plain_list.proofs.Running.{run_form}
 use Rattle.plain_list.proofs.run.run_waiting.Goals as goal
 
