@@ -72,6 +72,10 @@ after_append old line cmd = if nat_lt (in_use old) slots then with_command old c
 abbrev pub is_whole : Cmd → Bool
 is_whole cmd = length cmd.segments == 0 && cmd.max_payload == 9
 
+-- how many initiators the run has
+abbrev pub initiators : Bool → ℕ
+initiators begun = if begun then 1 else 0
+
 -- The events that the list serves: `begin 1 ready` before all others, and then appends of initiator 0 without segments and with the
 -- default max_payload, and `settle`.
 abbrev pub is_served : Bool → Event → Bool

@@ -4,7 +4,7 @@ ghost use Rattle.sbp_journal.specs.Run.{with_entry};
 ghost use Rattle.sbp_journal.specs.Run as journal_runs;
 ghost use Rattle.sbp_journal.specs.Form.{HasForm};
 ghost use Rattle.sbp_journal.specs.declared.note.Note.TheVariants as notes;
-ghost use Rattle.plain_list.specs.Plain.{empty_list, Held, held, is_whole, is_served, in_use, RunsAndTells, Serves, StandsFor, Settling, HasSettled, after_append, with_command};
+ghost use Rattle.plain_list.specs.Plain.{empty_list, Held, held, is_whole, initiators, is_served, in_use, RunsAndTells, Serves, StandsFor, Settling, HasSettled, after_append, with_command};
 
 use crate::run::run_waiting;
 use crate::tell::{tell_append, tell_served};
@@ -85,6 +85,13 @@ impl PlainList {
         ensures { result.now ≡ self.now.fresh }
     {
         &self.fresh
+    }
+
+    /// How many initiators the run has: none before it begins.
+    pub fn initiators(&self) -> u8
+        ensures { result ≡ initiators self.now.begun }
+    {
+        if self.begun { 1 } else { 0 }
     }
 
     /// Whether an event can be served: `begin 1 ready` before all others, then appends of initiator 0

@@ -51,6 +51,7 @@ begins before some counted = record {
   lines_are = refl;
   clean = refl;
   events_are = refl;
+  begun = refl;
   so_far = record {
     stands = record { begins = refl; notes = empty_stands before.disks before.faults some counted; action = tt };
     written = Appends-nil before.written;

@@ -1,8 +1,6 @@
 pub mod Beginnings
 pub mod LineEnds
 pub mod Listings
-pub mod Numbers
-pub mod Places
 pub mod RomLines
 pub mod ScriptLines
 pub mod Sessions

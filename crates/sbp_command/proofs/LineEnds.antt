@@ -1,5 +1,5 @@
 -- How a line ends: its event is run and its notes written, or its fault is written.
-use Rattle.std.proofs.Common.{◌≡◌, sym, subst, ℕ, ◌+◌, ◌≤◌, List, ◌++◌, take, length, Option, Result, Ok, Err, arith, take_all}
+use Rattle.std.proofs.Common.{◌≡◌, refl, sym, subst, ℕ, ◌+◌, ◌≤◌, Bool, true, List, [], ◌++◌, take, length, Option, Some, None, Result, Ok, Err, arith, take_all}
 use Rattle.std.specs.Io.KnownBytes.{Appends}
 use Rattle.std.proofs.KnownBytes.{Appends-trans}
 use Rattle.std.proofs.Math.Seq.{take-append-add}
@@ -12,11 +12,10 @@ use Rattle.sbp_journal.specs.Text.{text_of, note_text}
 use Rattle.sbp_journal.specs.declared.event.Event.{Event}
 use Rattle.sbp_journal.specs.declared.note.Note.{Note}
 use Rattle.plain_list.specs.Plain.{PlainState, Held, held, StandsFor}
-use Rattle.sbp_command.specs.Script.{reading}
+use Rattle.sbp_command.specs.Script.{says}
 use Rattle.sbp_command.specs.Headline.{Outside, outside, fault_text}
 use Rattle.sbp_command.specs.Session.{WritesFront, RanSoFar, LineTorn, LineFails, LineEnds}
 use Rattle.sbp_command.specs.Session.Tells.{nothing, event, fault}
-use Rattle.sbp_command.specs.declared.script.LineFault.{LineFault}
 use Rattle.sbp_command.specs.declared.status.Status.{Status}
 use Rattle.sbp_command.specs.declared.status.Status.TheVariants as statuses
 
@@ -38,8 +37,8 @@ entry_text : (run : Run) (number : ℕ) (happened : Event) (notes : List Note) �
 entry_text run number happened notes = sym (flat_map-append note_text (journal run) notes)
 
 -- nothing of the line is written
-pub line_idle : (before now : Outside) (kept : Held) (run : Run) (number : ℕ) (line : List ℕ) (list : PlainState) → StandsFor (held before.disks before.faults) kept run list → Appends before.written now.written (text_of (journal run)) → LineTorn before now run number line
-line_idle before now kept run number line list stands written = record {
+pub line_idle : (before now : Outside) (kept : Held) (run : Run) (number : ℕ) (begun : Bool) (line : List ℕ) (list : PlainState) → StandsFor (held before.disks before.faults) kept run list → Appends before.written now.written (text_of (journal run)) → LineTorn before now run number begun line
+line_idle before now kept run number begun line list stands written = record {
   made = run;
   output = text_of (journal run);
   len = length (text_of (journal run));
@@ -50,10 +49,10 @@ line_idle before now kept run number line list stands written = record {
 }
 
 -- a front of the notes is written
-event_torn : (before now : Outside) (kept : Held) (run : Run) (number : ℕ) (line : List ℕ) (happened : Event) (notes : List Note) (list : PlainState) (mid : Option (List ℕ)) (len : ℕ)
-    → reading number line ≡ Ok happened → StandsFor (held before.disks before.faults) kept (with_entry run number happened notes) list
-    → Appends before.written mid (text_of (journal run)) → Appends mid now.written (take len (text_of notes)) → LineTorn before now run number line
-event_torn before now kept run number line happened notes list mid len read stands p q = record {
+event_torn : (before now : Outside) (kept : Held) (run : Run) (number : ℕ) (begun : Bool) (line : List ℕ) (happened : Event) (notes : List Note) (list : PlainState) (mid : Option (List ℕ)) (len : ℕ)
+    → says number begun line ≡ Ok (Some happened) → StandsFor (held before.disks before.faults) kept (with_entry run number happened notes) list
+    → Appends before.written mid (text_of (journal run)) → Appends mid now.written (take len (text_of notes)) → LineTorn before now run number begun line
+event_torn before now kept run number begun line happened notes list mid len read stands p q = record {
   made = with_entry run number happened notes;
   output = text_of (journal (with_entry run number happened notes));
   len = length (text_of (journal run)) + len;
@@ -64,10 +63,10 @@ event_torn before now kept run number line happened notes list mid len read stan
 }
 
 -- a front of the fault is written
-fault_torn : (before now : Outside) (kept : Held) (run : Run) (number : ℕ) (line : List ℕ) (why : LineFault) (list : PlainState) (mid : Option (List ℕ)) (len : ℕ)
-    → reading number line ≡ Err why → StandsFor (held before.disks before.faults) kept run list
-    → Appends before.written mid (text_of (journal run)) → Appends mid now.written (take len (fault_text number why)) → LineTorn before now run number line
-fault_torn before now kept run number line why list mid len read stands p q = record {
+fault_torn : (before now : Outside) (kept : Held) (run : Run) (number : ℕ) (begun : Bool) (line : List ℕ) (why : ℕ) (list : PlainState) (mid : Option (List ℕ)) (len : ℕ)
+    → says number begun line ≡ Err why → StandsFor (held before.disks before.faults) kept run list
+    → Appends before.written mid (text_of (journal run)) → Appends mid now.written (take len (fault_text number why)) → LineTorn before now run number begun line
+fault_torn before now kept run number begun line why list mid len read stands p q = record {
   made = run;
   output = text_of (journal run) ++ fault_text number why;
   len = length (text_of (journal run)) + len;
@@ -82,38 +81,43 @@ rose_later before mid now h r = omega arith
 
 -- the event of a line is run, and its notes are written
 pub event_ends : {A : Type 0} (result : Result A Status) (before : Outside) (left : Option (List ℕ)) (reads : ℕ) (mid new : Option (List ℕ)) (some more : ℕ) (disks : List Disk) (faults : List ℕ)
-    (run : Run) (number : ℕ) (line : List ℕ) (happened : Event) (notes : List Note) (list : PlainState)
-    → reading number line ≡ Ok happened → StandsFor (held before.disks before.faults) (held disks faults) (with_entry run number happened notes) list
+    (run : Run) (number : ℕ) (begun : Bool) (line : List ℕ) (happened : Event) (notes : List Note) (list : PlainState)
+    → says number begun line ≡ Ok (Some happened) → StandsFor (held before.disks before.faults) (held disks faults) (with_entry run number happened notes) list
     → Appends before.written mid (text_of (journal run)) → before.writes ≤ some → WritesFront mid new some more result (text_of notes)
-    → LineEnds result before (outside left reads new more disks faults) run number line list
-event_ends (Ok done) before left reads mid new some more disks faults run number line happened notes list read stands p l w = record {
-  event = happened;
+    → list.begun ≡ true → LineEnds result before (outside left reads new more disks faults) run number begun line list
+event_ends (Ok done) before left reads mid new some more disks faults run number begun line happened notes list read stands p l w has_begun = record {
+  said = Some happened;
   notes = notes;
   is_read = read;
+  begins = has_begun;
   so_far = record {
     stands = stands;
     written = subst (Appends before.written new) (entry_text run number happened notes) (behind_whole before.written mid new (text_of (journal run)) (text_of notes) _ w.whole p w.written);
     writes = omega (arith, w.later);
   };
 }
-event_ends (Err statuses.WriteFault) before left reads mid new some more disks faults run number line happened notes list read stands p l w =
-    (rose_later before.writes some more l w.ends, event_torn before (outside left reads new more disks faults) (held disks faults) run number line happened notes list mid w.len read stands p w.written)
-event_ends (Err statuses.NoMemory) before left reads mid new some more disks faults run number line happened notes list read stands p l w =
-    event_torn before (outside left reads new more disks faults) (held disks faults) run number line happened notes list mid w.len read stands p w.written
-event_ends (Err statuses.Done) before left reads mid new some more disks faults run number line happened notes list read stands p l w = absurd w.ends
-event_ends (Err statuses.Words) before left reads mid new some more disks faults run number line happened notes list read stands p l w = absurd w.ends
-event_ends (Err statuses.Script) before left reads mid new some more disks faults run number line happened notes list read stands p l w = absurd w.ends
-event_ends (Err statuses.ReadFault) before left reads mid new some more disks faults run number line happened notes list read stands p l w = absurd w.ends
+event_ends (Err statuses.WriteFault) before left reads mid new some more disks faults run number begun line happened notes list read stands p l w has_begun =
+    (rose_later before.writes some more l w.ends, event_torn before (outside left reads new more disks faults) (held disks faults) run number begun line happened notes list mid w.len read stands p w.written)
+event_ends (Err statuses.NoMemory) before left reads mid new some more disks faults run number begun line happened notes list read stands p l w has_begun =
+    event_torn before (outside left reads new more disks faults) (held disks faults) run number begun line happened notes list mid w.len read stands p w.written
+event_ends (Err statuses.Done) before left reads mid new some more disks faults run number begun line happened notes list read stands p l w has_begun = absurd w.ends
+event_ends (Err statuses.Words) before left reads mid new some more disks faults run number begun line happened notes list read stands p l w has_begun = absurd w.ends
+event_ends (Err statuses.Script) before left reads mid new some more disks faults run number begun line happened notes list read stands p l w has_begun = absurd w.ends
+event_ends (Err statuses.ReadFault) before left reads mid new some more disks faults run number begun line happened notes list read stands p l w has_begun = absurd w.ends
+
+-- a line that says nothing
+pub none_ends : (before now : Outside) (run : Run) (number : ℕ) (line : List ℕ) (list : PlainState) → says number list.begun line ≡ Ok None → RanSoFar before now run list → LineEnds {A = Unit {0}} (Ok tt) before now run number list.begun line list
+none_ends before now run number line list read h = record { said = None; notes = []; is_read = read; begins = refl; so_far = h }
 
 -- the fault of a line is written in part
-pub fault_fails : {A : Type 0} (status : Status) (before : Outside) (left : Option (List ℕ)) (reads : ℕ) (mid new : Option (List ℕ)) (some more : ℕ) (disks : List Disk) (faults : List ℕ) (run : Run) (number : ℕ) (line : List ℕ) (why : LineFault) (list : PlainState)
-    → reading number line ≡ Err why → RanSoFar before (outside left reads mid some disks faults) run list → WritesFront {A = A} mid new some more (Err status) (fault_text number why)
-    → LineFails status before (outside left reads new more disks faults) run number line list
-fault_fails statuses.WriteFault before left reads mid new some more disks faults run number line why list read h w =
-    (rose_later before.writes some more h.writes w.ends, fault_torn before (outside left reads new more disks faults) (held disks faults) run number line why list mid w.len read h.stands h.written w.written)
-fault_fails statuses.NoMemory before left reads mid new some more disks faults run number line why list read h w =
-    fault_torn before (outside left reads new more disks faults) (held disks faults) run number line why list mid w.len read h.stands h.written w.written
-fault_fails statuses.Done before left reads mid new some more disks faults run number line why list read h w = absurd w.ends
-fault_fails statuses.Words before left reads mid new some more disks faults run number line why list read h w = absurd w.ends
-fault_fails statuses.Script before left reads mid new some more disks faults run number line why list read h w = absurd w.ends
-fault_fails statuses.ReadFault before left reads mid new some more disks faults run number line why list read h w = absurd w.ends
+pub fault_fails : {A : Type 0} (status : Status) (before : Outside) (left : Option (List ℕ)) (reads : ℕ) (mid new : Option (List ℕ)) (some more : ℕ) (disks : List Disk) (faults : List ℕ) (run : Run) (number : ℕ) (begun : Bool) (line : List ℕ) (why : ℕ) (list : PlainState)
+    → says number begun line ≡ Err why → RanSoFar before (outside left reads mid some disks faults) run list → WritesFront {A = A} mid new some more (Err status) (fault_text number why)
+    → LineFails status before (outside left reads new more disks faults) run number begun line list
+fault_fails statuses.WriteFault before left reads mid new some more disks faults run number begun line why list read h w =
+    (rose_later before.writes some more h.writes w.ends, fault_torn before (outside left reads new more disks faults) (held disks faults) run number begun line why list mid w.len read h.stands h.written w.written)
+fault_fails statuses.NoMemory before left reads mid new some more disks faults run number begun line why list read h w =
+    fault_torn before (outside left reads new more disks faults) (held disks faults) run number begun line why list mid w.len read h.stands h.written w.written
+fault_fails statuses.Done before left reads mid new some more disks faults run number begun line why list read h w = absurd w.ends
+fault_fails statuses.Words before left reads mid new some more disks faults run number begun line why list read h w = absurd w.ends
+fault_fails statuses.Script before left reads mid new some more disks faults run number begun line why list read h w = absurd w.ends
+fault_fails statuses.ReadFault before left reads mid new some more disks faults run number begun line why list read h w = absurd w.ends

@@ -8,7 +8,7 @@ use Rattle.std.proofs.Math.Seq.{take-append_seam}
 use Rattle.std.proofs.lemmas.Bool.{lt-ltb}
 use Rattle.std.proofs.lemmas.List.{take-append-drop}
 use Rattle.sbp_base.specs.Faults.{Rose}
-use Rattle.sbp_command.specs.Script.{IsWhole, is_surely_long}
+use Rattle.sbp_command.specs.Script.{fault_number, IsWhole, is_surely_long}
 use Rattle.sbp_command.specs.Listing.{Listing, onto_listing, listing_from, listing, line_listing}
 use Rattle.sbp_command.specs.Headline.{Outside, fault_text, ending, KeepsMedia, whole_text, TornListing, ListingEnds}
 use Rattle.sbp_command.specs.Session.{WritesFront, line_text, WritesLine, ListedSoFar, InListing}
@@ -72,7 +72,7 @@ listing-long n line l = listing-long_cases (nat_lt 65536 n) (nat_lt 8192 (length
 record LineIn (input text : List ℕ) (number : ℕ) (read : Result (List ℕ) LineFault) : Type 0 where
   pub more : List ℕ
   pub whole : whole_text (listing input) ≡ (text ++ line_text number read) ++ more
-  pub with_fault : (why : LineFault) → read ≡ Err why → ((listing input).text ≡ text) × ((listing input).fault ≡ Some (number, why))
+  pub with_fault : (why : LineFault) → read ≡ Err why → ((listing input).text ≡ text) × ((listing input).fault ≡ Some (number, fault_number why))
 
 line_head : (input text : List ℕ) (number : ℕ) (read : Result (List ℕ) LineFault) (first after : Listing) → first.text ≡ text → listing input ≡ behind first (onto_listing number read after) → LineIn input text number read
 line_head input text number (Ok brought) first after t e = record {
@@ -85,10 +85,10 @@ line_head input text number (Ok brought) first after t e = record {
     regroup a b c d = simp append_assoc
 line_head input text number (Err found) first after t e = record {
   more = [];
-  whole = ap whole_text e ∙ ap (λ x. (x ++ []) ++ fault_text number found) t ∙ regroup text (fault_text number found);
+  whole = ap whole_text e ∙ ap (λ x. (x ++ []) ++ fault_text number (fault_number found)) t ∙ regroup text (fault_text number (fault_number found));
   with_fault = λ why read. (
     ap (λ l. l.text) e ∙ append-nil first.text ∙ t,
-    let same : found ≡ why = cc in ap (λ l. l.fault) e ∙ ap (λ x. Some (number, x)) same,
+    let same : found ≡ why = cc in ap (λ l. l.fault) e ∙ ap (λ x. Some (number, fault_number x)) same,
   );
 }
   where
@@ -124,12 +124,12 @@ torn_line before old new input text number read len all l h written media =
 line_fails : {A : Type 0} (status : Status) (before old new : Outside) (input text : List ℕ) (number : ℕ) (read : Result (List ℕ) LineFault) → IfSome before.left (λ all. all ≡ input) → LineIn input text number read
     → ListedSoFar before old text → WritesLine {A = A} old.written new.written old.writes new.writes (Err status) number read → KeepsMedia old new → ListingEnds status before new
 line_fails statuses.Script before old new input text number (Err why) all l h t media = (
-  (number, why),
+  (number, fault_number why),
   record {
     input = input;
     told = all;
     fault_is = (l.with_fault why refl).1;
-    written = subst (λ x. Appends before.written new.written (x ++ fault_text number why)) (sym (l.with_fault why refl).0) (behind_whole before.written old.written new.written text (fault_text number why) _ t.ends h.written t.written);
+    written = subst (λ x. Appends before.written new.written (x ++ fault_text number (fault_number why))) (sym (l.with_fault why refl).0) (behind_whole before.written old.written new.written text (fault_text number (fault_number why)) _ t.ends h.written t.written);
     media = kept before old new h.media media;
   },
 )
@@ -332,16 +332,16 @@ text_listed {A = A} old new before now result number text read e w = subst (Writ
     by_result (Err statuses.Script) w = absurd w.ends
     by_result (Err statuses.ReadFault) w = absurd w.ends
 
-pub fault_listed : {A B : Type 0} (old new : Option (List ℕ)) (before now : ℕ) (done : A) (number : ℕ) (why : LineFault) (read : Result (List ℕ) LineFault) → read ≡ Err why → WritesFront old new before now (Ok done) (fault_text number why)
+pub fault_listed : {A B : Type 0} (old new : Option (List ℕ)) (before now : ℕ) (done : A) (number : ℕ) (why : LineFault) (read : Result (List ℕ) LineFault) → read ≡ Err why → WritesFront old new before now (Ok done) (fault_text number (fault_number why))
     → WritesLine {A = B} old new before now (Err statuses.Script) number read
 fault_listed old new before now done number why read e w =
     subst (WritesLine old new before now (Err statuses.Script) number) (sym e) (record { len = w.len; written = w.written; later = w.later; ends = w.whole })
 
-pub fault_torn : {A B : Type 0} (status : Status) (old new : Option (List ℕ)) (before now : ℕ) (number : ℕ) (why : LineFault) (read : Result (List ℕ) LineFault) → read ≡ Err why → WritesFront {A = A} old new before now (Err status) (fault_text number why)
+pub fault_torn : {A B : Type 0} (status : Status) (old new : Option (List ℕ)) (before now : ℕ) (number : ℕ) (why : LineFault) (read : Result (List ℕ) LineFault) → read ≡ Err why → WritesFront {A = A} old new before now (Err status) (fault_text number (fault_number why))
     → WritesLine {A = B} old new before now (Err status) number read
 fault_torn {A = A} {B = B} status old new before now number why read e w = subst (WritesLine old new before now (Err status) number) (sym e) (by_status status w)
   where
-    by_status : (status : Status) → WritesFront {A = A} old new before now (Err status) (fault_text number why) → WritesLine {A = B} old new before now (Err status) number (Err why)
+    by_status : (status : Status) → WritesFront {A = A} old new before now (Err status) (fault_text number (fault_number why)) → WritesLine {A = B} old new before now (Err status) number (Err why)
     by_status statuses.WriteFault w = record { len = w.len; written = w.written; later = w.later; ends = w.ends }
     by_status statuses.NoMemory w = record { len = w.len; written = w.written; later = w.later; ends = tt }
     by_status statuses.Done w = absurd w.ends

@@ -6,7 +6,7 @@ use Rattle.std.proofs.KnownBytes.{Appends-nil, Consumes-nil, Consumes-trans}
 use Rattle.std.specs.Str.Lines.{lines, strip_carriage_return}
 use Rattle.std.proofs.lemmas.Bool.{lt-ltb}
 use Rattle.sbp_base.specs.Faults.{Rose}
-use Rattle.sbp_command.specs.Script.{IsWhole, is_surely_long}
+use Rattle.sbp_command.specs.Script.{fault_number, IsWhole, is_surely_long}
 use Rattle.sbp_command.specs.RomListing.{rom_listing, with_line, onto_rom, rom_from, rom_quads, quiet}
 use Rattle.sbp_command.specs.Headline.{Outside, fault_text, KeepsMedia, rom_output, TornRom, RomEnds}
 use Rattle.sbp_command.specs.Session.{WritesFront, line_text, WritesLine, ListedSoFar, InRom, TakesLine, RomGathered, outcome}
@@ -44,9 +44,9 @@ rom-next whole bytes line others quads w e l =
 
 -- a fault of that line is the first one
 rom-fault : (whole bytes line : List ℕ) (others : List (List ℕ)) (quads : List ℕ) (number : ℕ) → IsWhole whole → rom_quads whole ≡ Ok quads → lines bytes ≡ line ∷ others → 1 + length (lines whole) ≡ number
-    → (why : LineFault) → with_line number quads line ≡ Err why → rom_quads (whole ++ bytes) ≡ Err (number, why)
+    → (why : LineFault) → with_line number quads line ≡ Err why → rom_quads (whole ++ bytes) ≡ Err (number, fault_number why)
 rom-fault whole bytes line others quads number w e l n =
-    subst (λ k. (why : LineFault) → with_line k quads line ≡ Err why → rom_quads (whole ++ bytes) ≡ Err (k, why)) n
+    subst (λ k. (why : LineFault) → with_line k quads line ≡ Err why → rom_quads (whole ++ bytes) ≡ Err (k, fault_number why)) n
     (λ why f. rom-next whole bytes line others quads w e l ∙ ap (λ read. onto_rom (1 + length (lines whole)) read (rom_from (suc (1 + length (lines whole))) others)) f)
 
 -- one more line that has no fault
@@ -65,27 +65,27 @@ nothing_written : (before now : Outside) (input : List ℕ) → IfSome before.le
 nothing_written before now input all written media = record { input = input; len = 0; told = all; written = written; media = media }
 
 torn_line : (before old new : Outside) (input : List ℕ) (number : ℕ) (read : Result (List ℕ) LineFault) (len : ℕ) → IfSome before.left (λ all. all ≡ input)
-    → ((why : LineFault) → read ≡ Err why → rom_quads input ≡ Err (number, why)) → ListedSoFar before old [] → Appends old.written new.written (take len (line_text number (quiet read))) → KeepsMedia old new → TornRom before new
+    → ((why : LineFault) → read ≡ Err why → rom_quads input ≡ Err (number, fault_number why)) → ListedSoFar before old [] → Appends old.written new.written (take len (line_text number (quiet read))) → KeepsMedia old new → TornRom before new
 torn_line before old new input number (Ok quads) len all f h written media =
     nothing_written before new input all (behind_whole before.written old.written new.written [] [] (take len []) (take_all len [] (omega arith)) h.written written) (kept before old new h.media media)
 torn_line before old new input number (Err why) len all f h written media = record {
   input = input;
   len = len;
   told = all;
-  written = subst (λ read. Appends before.written new.written (take len (rom_output read))) (sym (f why refl)) (behind_whole before.written old.written new.written [] (take len (fault_text number why)) _ refl h.written written);
+  written = subst (λ read. Appends before.written new.written (take len (rom_output read))) (sym (f why refl)) (behind_whole before.written old.written new.written [] (take len (fault_text number (fault_number why))) _ refl h.written written);
   media = kept before old new h.media media;
 }
 
 -- a line that ends the reading ends it as its status says
 line_fails : {A : Type 0} (status : Status) (before old new : Outside) (input : List ℕ) (number : ℕ) (read : Result (List ℕ) LineFault) → IfSome before.left (λ all. all ≡ input)
-    → ((why : LineFault) → read ≡ Err why → rom_quads input ≡ Err (number, why)) → ListedSoFar before old [] → WritesLine {A = A} old.written new.written old.writes new.writes (Err status) number (quiet read) → KeepsMedia old new → RomEnds status before new
+    → ((why : LineFault) → read ≡ Err why → rom_quads input ≡ Err (number, fault_number why)) → ListedSoFar before old [] → WritesLine {A = A} old.written new.written old.writes new.writes (Err status) number (quiet read) → KeepsMedia old new → RomEnds status before new
 line_fails statuses.Script before old new input number (Err why) all f h t media = (
-  (number, why),
+  (number, fault_number why),
   record {
     input = input;
     told = all;
     is_read = f why refl;
-    written = behind_whole before.written old.written new.written [] (fault_text number why) _ t.ends h.written t.written;
+    written = behind_whole before.written old.written new.written [] (fault_text number (fault_number why)) _ t.ends h.written t.written;
     media = kept before old new h.media media;
   },
 )
@@ -103,7 +103,7 @@ module _ (before old : Outside) (pending : List ℕ) (number : ℕ) (rest quads 
       → TakesLine {A = A} old new (Err status) (number + 1) (strip_carriage_return rest) quads after → RomEnds status before new
   feed_fails status new after h t =
       line_fails status before old new (((h.whole ++ rest) ++ 10 ∷ pending) ++ told old.left) (number + 1) (with_line (number + 1) quads (strip_carriage_return rest)) (input_is before.left old.left _ h.consumed)
-      (subst (λ input. (why : LineFault) → with_line (number + 1) quads (strip_carriage_return rest) ≡ Err why → rom_quads input ≡ Err (number + 1, why)) (feed_input h.whole rest pending (told old.left))
+      (subst (λ input. (why : LineFault) → with_line (number + 1) quads (strip_carriage_return rest) ≡ Err why → rom_quads input ≡ Err (number + 1, fault_number why)) (feed_input h.whole rest pending (told old.left))
       (rom-fault h.whole (rest ++ 10 ∷ (pending ++ told old.left)) (strip_carriage_return rest) (lines (pending ++ told old.left)) quads (number + 1) h.is_whole h.is_read (lines-one_more rest (pending ++ told old.left) h.no_feed) (next_number _ _ h.lines_are)))
       h.so_far t.written t.media
 
@@ -117,8 +117,8 @@ module _ (before old : Outside) (pending : List ℕ) (number : ℕ) (rest quads 
   long_fails status new h long t media =
       let first = long_first rest (pending ++ told old.left) h.no_feed long in
       let read : with_line (number + 1) quads first.line ≡ Err (long_fault (number + 1)) = rom-long (number + 1) quads first.line first.long in
-      let fault : (why : LineFault) → with_line (number + 1) quads first.line ≡ Err why → rom_quads (((h.whole ++ rest) ++ pending) ++ told old.left) ≡ Err (number + 1, why)
-      = subst (λ input. (why : LineFault) → with_line (number + 1) quads first.line ≡ Err why → rom_quads input ≡ Err (number + 1, why)) (stop_input h.whole rest pending (told old.left))
+      let fault : (why : LineFault) → with_line (number + 1) quads first.line ≡ Err why → rom_quads (((h.whole ++ rest) ++ pending) ++ told old.left) ≡ Err (number + 1, fault_number why)
+      = subst (λ input. (why : LineFault) → with_line (number + 1) quads first.line ≡ Err why → rom_quads input ≡ Err (number + 1, fault_number why)) (stop_input h.whole rest pending (told old.left))
       (rom-fault h.whole (rest ++ (pending ++ told old.left)) first.line first.others quads (number + 1) h.is_whole h.is_read first.is (next_number _ _ h.lines_are)) in
       line_fails status before old new (((h.whole ++ rest) ++ pending) ++ told old.left) (number + 1) (Err (long_fault (number + 1))) (input_is before.left old.left _ h.consumed)
       (λ why e. fault why (read ∙ e)) h.so_far t media

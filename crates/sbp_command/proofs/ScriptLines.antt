@@ -1,14 +1,20 @@
 -- The lines of a text that grows by pieces, and the script in them.
-use Rattle.std.proofs.Common.{◌≡◌, ◌∙◌, refl, sym, ap, subst, ℕ, suc, ◌+◌, ◌-◌, ◌<◌, ◌==◌, ◌&&◌, ◌||◌, inl, inr, nat_lt, not, Bool, true, false, if◌then◌else◌, cond, List, [], ◌∷◌, ◌++◌, take, length, map, slice_index, Some, None, Result, Ok, Err, append_assoc, append-nil, length-append, length-take-le, add-zero, arith}
+use Rattle.std.proofs.Common.{◌≡◌, ◌∙◌, refl, sym, ap, subst, ℕ, suc, ◌+◌, ◌-◌, ◌<◌, ◌==◌, ◌&&◌, ◌||◌, inl, inr, nat_lt, not, Bool, true, false, if◌then◌else◌, cond, List, [], ◌∷◌, ◌++◌, take, length, map, slice_index, Option, Some, None, Result, Ok, Err, append_assoc, append-nil, length-append, length-take-le, add-zero, arith}
 use Rattle.std.specs.List.{slice_split, onto_first, All}
 use Rattle.std.specs.Str.Lines.{lines, lines_of_parts, strip_carriage_return}
 use Rattle.std.proofs.lemmas.Bool.{ltb-true, lt-ltb, eqb-true, or_cases, and_parts, not-true, false≢true}
 use Rattle.std.proofs.lemmas.List.Splits.{length-slice_split}
 use Rattle.std.proofs.lemmas.List.Elements.{All-head, All-tail}
 use Rattle.sbp_journal.specs.declared.event.Event.{Event}
+use Rattle.sbp_journal.specs.declared.event.Event.TheVariants as events
+use Rattle.plain_list.specs.Plain.{is_served, initiators}
+use Rattle.script_text.specs.Line.{reading}
+use Rattle.script_text.specs.Script.{Script, onto_script, script_from, initiators_after, line_says, numbered, too_many}
+use Rattle.script_text.specs.declared.fault.LineFault.TheVariants as script_faults
 use Rattle.sbp_command.specs.declared.script.LineFault.{LineFault}
 use Rattle.sbp_command.specs.declared.script.LineFault.TheVariants.{TooMany, TooLong}
-use Rattle.sbp_command.specs.Script.{NoFeed, IsWhole, is_surely_long, reading, Script, onto_script, script_from, script}
+use Rattle.sbp_command.specs.Script.{NoFeed, IsWhole, is_surely_long, not_served, served_from, if_served, says, begun_after, served_lines, script, fault_number}
+use Rattle.sbp_command.specs.Session.{has_some}
 
 -- the parts between line feeds
 abbrev parts_of : List ℕ → List (List ℕ)
@@ -96,45 +102,123 @@ pub no_feed-all : (xs : List ℕ) → All (λ byte. (byte == 10) ≡ false) xs �
 no_feed-all [] h = tt
 no_feed-all (x ∷ xs) h = (All-head (λ byte. (byte == 10) ≡ false) x xs h, no_feed-all xs (All-tail (λ byte. (byte == 10) ≡ false) x xs h))
 
+-- ---- the script that the list serves, line by line
+
+-- a list that serves an event has one initiator behind it
+with_event : (begun : Bool) (event : Event) → is_served begun event ≡ true → initiators_after (initiators begun) (Ok (Some event)) ≡ 1
+with_event true (events.Begin n ready) h = absurd (false≢true h)
+with_event true (events.Act i action) h = refl
+with_event true (events.Reset ids) h = refl
+with_event true (events.See node) h = refl
+with_event true (events.Key unit key) h = refl
+with_event true (events.Deliver serial) h = refl
+with_event true (events.Repeat serial) h = refl
+with_event true (events.Lose serial) h = refl
+with_event true (events.Timeout serial) h = refl
+with_event true (events.Step count) h = refl
+with_event true events.Settle h = refl
+with_event true events.Tick h = refl
+with_event true (events.Inject i bytes) h = refl
+with_event false (events.Begin n ready) h = eqb-true n 1 ((and_parts (n == 1) ready h).0)
+with_event false (events.Act i action) h = absurd (false≢true h)
+with_event false (events.Reset ids) h = absurd (false≢true h)
+with_event false (events.See node) h = absurd (false≢true h)
+with_event false (events.Key unit key) h = absurd (false≢true h)
+with_event false (events.Deliver serial) h = absurd (false≢true h)
+with_event false (events.Repeat serial) h = absurd (false≢true h)
+with_event false (events.Lose serial) h = absurd (false≢true h)
+with_event false (events.Timeout serial) h = absurd (false≢true h)
+with_event false (events.Step count) h = absurd (false≢true h)
+with_event false events.Settle h = absurd (false≢true h)
+with_event false events.Tick h = absurd (false≢true h)
+with_event false (events.Inject i bytes) h = absurd (false≢true h)
+
+abbrev served_of : Bool → Script → Script
+served_of begun whole = served_from begun whole.events whole.fault
+
+served-event : (n : ℕ) (begun b : Bool) (event : Event) (rest : List (List ℕ)) → is_served begun event ≡ b → served_of true (script_from (suc n) 1 rest) ≡ served_lines (suc n) true rest
+    → (if b then onto_script n (Ok (Some event)) (served_of true (script_from (suc n) (initiators_after (initiators begun) (Ok (Some event))) rest)) else record { events = []; fault = Some (n, not_served) })
+    ≡ onto_script n (if b then Ok (Some event) else Err not_served) (served_lines (suc n) (begun_after begun (if b then Ok (Some event) else Err not_served)) rest)
+served-event n begun true event rest h next = ap (λ i. onto_script n (Ok (Some event)) (served_of true (script_from (suc n) i rest))) (with_event begun event h) ∙ ap (onto_script n (Ok (Some event))) next
+served-event n begun false event rest h next = refl
+
+served-step : (n : ℕ) (begun : Bool) (read : Result (Option Event) ℕ) (rest : List (List ℕ)) → ((b : Bool) → served_of b (script_from (suc n) (initiators b) rest) ≡ served_lines (suc n) b rest)
+    → served_of begun (onto_script n read (script_from (suc n) (initiators_after (initiators begun) read) rest)) ≡ onto_script n (if_served begun read) (served_lines (suc n) (begun_after begun (if_served begun read)) rest)
+served-step n begun (Err fault) rest next = refl
+served-step n begun (Ok None) rest next = next begun
+served-step n begun (Ok (Some event)) rest next = served-event n begun (is_served begun event) event rest refl (next true)
+
+served-lines : (n : ℕ) (begun : Bool) (ls : List (List ℕ)) → served_of begun (script_from n (initiators begun) ls) ≡ served_lines n begun ls
+served-lines n begun [] = refl
+served-lines n begun (line ∷ ls) = served-step n begun (line_says n line (initiators begun)) ls (λ b. served-lines (suc n) b ls)
+
+-- the script of the lines of bytes
+script-lines : (bytes : List ℕ) → script bytes ≡ served_lines 1 false (lines bytes)
+script-lines bytes = served-lines 1 false (lines bytes)
+
 -- one script behind another
 abbrev behind : Script → Script → Script
 behind first second = record { events = first.events ++ second.events; fault = second.fault }
 
-onto_script-behind : (n : ℕ) (line : Result Event LineFault) (first second : Script) → (onto_script n line first).fault ≡ None → onto_script n line (behind first second) ≡ behind (onto_script n line first) second
-onto_script-behind n (Ok event) first second h = refl
+onto_script-behind : (n : ℕ) (said : Result (Option Event) ℕ) (first second : Script) → (onto_script n said first).fault ≡ None → onto_script n said (behind first second) ≡ behind (onto_script n said first) second
+onto_script-behind n (Ok None) first second h = refl
+onto_script-behind n (Ok (Some event)) first second h = refl
 onto_script-behind n (Err fault) first second h = cc h
 
-onto_script-none : (n : ℕ) (line : Result Event LineFault) (first : Script) → (onto_script n line first).fault ≡ None → first.fault ≡ None
-onto_script-none n (Ok event) first h = h
+onto_script-none : (n : ℕ) (said : Result (Option Event) ℕ) (first : Script) → (onto_script n said first).fault ≡ None → first.fault ≡ None
+onto_script-none n (Ok None) first h = h
+onto_script-none n (Ok (Some event)) first h = h
 onto_script-none n (Err fault) first h = cc h
 
+-- the list has begun behind lines exactly where it had before, or one of them has an event
+onto_script-begun : (n : ℕ) (begun : Bool) (said : Result (Option Event) ℕ) (first : Script) → (onto_script n said first).fault ≡ None → (begun_after begun said || has_some first.events) ≡ (begun || has_some (onto_script n said first).events)
+onto_script-begun n begun (Ok None) first h = refl
+onto_script-begun n true (Ok (Some event)) first h = refl
+onto_script-begun n false (Ok (Some event)) first h = refl
+onto_script-begun n begun (Err fault) first h = absurd (cc)
+
 -- behind lines without a fault the script goes on
-pub script_from-append : (n : ℕ) (ls ms : List (List ℕ)) → (script_from n ls).fault ≡ None → script_from n (ls ++ ms) ≡ record { events = (script_from n ls).events ++ (script_from (n + length ls) ms).events; fault = (script_from (n + length ls) ms).fault }
-script_from-append n [] ms h = ap (λ number. script_from number ms) (sym (add-zero n))
-script_from-append n (line ∷ ls) ms h =
+served_lines-append : (n : ℕ) (begun : Bool) (ls ms : List (List ℕ)) → (served_lines n begun ls).fault ≡ None → served_lines n begun (ls ++ ms) ≡ behind (served_lines n begun ls) (served_lines (n + length ls) (begun || has_some (served_lines n begun ls).events) ms)
+served_lines-append n true [] ms h = ap (λ number. served_lines number true ms) (sym (add-zero n))
+served_lines-append n false [] ms h = ap (λ number. served_lines number false ms) (sym (add-zero n))
+served_lines-append n begun (line ∷ ls) ms h =
     let moved : suc n + length ls ≡ n + suc (length ls) = omega arith in
-    ap (onto_script n (reading n line)) (script_from-append (suc n) ls ms (onto_script-none n (reading n line) (script_from (suc n) ls) h))
-    ∙ onto_script-behind n (reading n line) (script_from (suc n) ls) (script_from (suc n + length ls) ms) h
-    ∙ ap (λ number. behind (onto_script n (reading n line) (script_from (suc n) ls)) (script_from number ms)) moved
+    let said = says n begun line in
+    let first = served_lines (suc n) (begun_after begun said) ls in
+    ap (onto_script n said) (served_lines-append (suc n) (begun_after begun said) ls ms (onto_script-none n said first h))
+    ∙ onto_script-behind n said first (served_lines (suc n + length ls) (begun_after begun said || has_some first.events) ms) h
+    ∙ ap (λ number. behind (onto_script n said first) (served_lines number (begun_after begun said || has_some first.events) ms)) moved
+    ∙ ap (λ b. behind (onto_script n said first) (served_lines (n + suc (length ls)) b ms)) (onto_script-begun n begun said first h)
 
 -- a fault stops the script
-script_from-fault : (n : ℕ) (line : List ℕ) (ls : List (List ℕ)) (fault : LineFault) → reading n line ≡ Err fault → script_from n (line ∷ ls) ≡ record { events = []; fault = Some (n, fault) }
-script_from-fault n line ls fault e = ap (λ read. onto_script n read (script_from (suc n) ls)) e
+served_lines-fault : (n : ℕ) (begun : Bool) (line : List ℕ) (ls : List (List ℕ)) (fault : ℕ) → says n begun line ≡ Err fault → served_lines n begun (line ∷ ls) ≡ record { events = []; fault = Some (n, fault) }
+served_lines-fault n begun line ls fault e = ap (λ said. onto_script n said (served_lines (suc n) (begun_after begun said) ls)) e
 
-script_from-event : (n : ℕ) (line : List ℕ) (event : Event) → reading n line ≡ Ok event → script_from n (line ∷ []) ≡ record { events = (n, event) ∷ []; fault = None }
-script_from-event n line event e = ap (λ read. onto_script n read (script_from (suc n) [])) e
+-- the events of what a line says
+abbrev pub said_events : ℕ → Option Event → List (ℕ × Event)
+said_events number None = []
+said_events number (Some event) = (number, event) ∷ []
+
+said-one : (n : ℕ) (said : Option Event) → onto_script n (Ok said) (record { events = []; fault = None }) ≡ record { events = said_events n said; fault = None }
+said-one n None = refl
+said-one n (Some event) = refl
+
+served_lines-one : (n : ℕ) (begun : Bool) (line : List ℕ) (said : Option Event) → says n begun line ≡ Ok said → served_lines n begun (line ∷ []) ≡ record { events = said_events n said; fault = None }
+served_lines-one n begun line said e = ap (λ read. onto_script n read (record { events = []; fault = None })) e ∙ said-one n said
 
 -- the fault of a line that is too long
 abbrev pub long_fault : ℕ → LineFault
 long_fault n = if nat_lt 65536 n then TooMany else TooLong
 
-reading-long_cases : (many long : Bool) (other : Result Event LineFault) → long ≡ true → (if many then Err TooMany else if long then Err TooLong else other) ≡ Err (if many then TooMany else TooLong)
-reading-long_cases true long other e = refl
-reading-long_cases false true other e = refl
-reading-long_cases false false other e = cc e
+says-long_cases : (begun many : Bool) (read : Result (Option Event) ℕ) → read ≡ Err (fault_number TooLong) → if_served begun (if many then Err too_many else read) ≡ Err (fault_number (if many then TooMany else TooLong))
+says-long_cases begun true read e = refl
+says-long_cases begun false read e = ap (if_served begun) e
 
-pub reading-long : (n : ℕ) (line : List ℕ) → 8192 < length line → reading n line ≡ Err (long_fault n)
-reading-long n line l = reading-long_cases (nat_lt 65536 n) (nat_lt 8192 (length line)) _ (lt-ltb 8192 (length line) l)
+reading-long : (line : List ℕ) (initiators : ℕ) → nat_lt 8192 (length line) ≡ true → reading line initiators ≡ Err script_faults.TooLong
+reading-long line initiators e = rw e refl
+
+pub says-long : (n : ℕ) (begun : Bool) (line : List ℕ) → 8192 < length line → says n begun line ≡ Err (fault_number (long_fault n))
+says-long n begun line l = says-long_cases begun (nat_lt 65536 n) (numbered (reading line (initiators begun))) (ap numbered (reading-long line (initiators begun) (lt-ltb 8192 (length line) l)))
 
 pub surely_long-bytes : (rest : List ℕ) → is_surely_long rest ≡ true → 8192 < length rest
 surely_long-bytes rest h = elim (or_cases (nat_lt 8193 (length rest)) _ h) [
@@ -181,21 +265,19 @@ pub long_first : (rest more : List ℕ) → NoFeed rest → is_surely_long rest 
 long_first rest more f h = subst (λ ps. LongFirst (lines_of_parts ps)) (sym (parts-no_feed rest more f)) (long_parts rest (parts_of more) h)
 
 -- a line that is too long already is so whatever follows
-pub script_from-long : (n : ℕ) (rest more : List ℕ) → NoFeed rest → is_surely_long rest ≡ true → script_from n (lines (rest ++ more)) ≡ record { events = []; fault = Some (n, (if nat_lt 65536 n then TooMany else TooLong)) }
-script_from-long n rest more f h =
+served_lines-long : (n : ℕ) (begun : Bool) (rest more : List ℕ) → NoFeed rest → is_surely_long rest ≡ true → served_lines n begun (lines (rest ++ more)) ≡ record { events = []; fault = Some (n, fault_number (long_fault n)) }
+served_lines-long n begun rest more f h =
     let first = long_first rest more f h in
-    ap (script_from n) first.is ∙ script_from-fault n first.line first.others (long_fault n) (reading-long n first.line first.long)
+    ap (served_lines n begun) first.is ∙ served_lines-fault n begun first.line first.others (fault_number (long_fault n)) (says-long n begun first.line first.long)
 
 -- the script of whole lines and what follows them
-pub script-whole : (whole more : List ℕ) → IsWhole whole → (script whole).fault ≡ None → script (whole ++ more) ≡ behind (script whole) (script_from (1 + length (lines whole)) (lines more))
-script-whole whole more w h = ap (script_from 1) (lines-whole whole more w) ∙ script_from-append 1 (lines whole) (lines more) h
-
-script-whole_fault : (whole more : List ℕ) (fault : LineFault) → IsWhole whole → (script whole).fault ≡ None → script_from (1 + length (lines whole)) (lines more) ≡ record { events = []; fault = Some (1 + length (lines whole), fault) } → script (whole ++ more) ≡ record { events = (script whole).events; fault = Some (1 + length (lines whole), fault) }
-script-whole_fault whole more fault w h e = script-whole whole more w h ∙ ap (behind (script whole)) e ∙ ap (λ events. record { events = events; fault = Some (1 + length (lines whole), fault) }) (append-nil (script whole).events)
-
--- one more line, with its line feed
-pub script-line : (whole rest : List ℕ) (event : Event) → IsWhole whole → NoFeed rest → (script whole).fault ≡ None → reading (1 + length (lines whole)) (strip_carriage_return rest) ≡ Ok event → script (whole ++ (rest ++ 10 ∷ [])) ≡ record { events = (script whole).events ++ (1 + length (lines whole), event) ∷ []; fault = None }
-script-line whole rest event w f h e = script-whole whole (rest ++ 10 ∷ []) w h ∙ ap (behind (script whole)) (ap (script_from (1 + length (lines whole))) (lines-one rest f) ∙ script_from-event _ (strip_carriage_return rest) event e)
+pub script-whole : (whole more : List ℕ) → IsWhole whole → (script whole).fault ≡ None → script (whole ++ more) ≡ behind (script whole) (served_lines (1 + length (lines whole)) (has_some (script whole).events) (lines more))
+script-whole whole more w h =
+    let same = script-lines whole in
+    script-lines (whole ++ more)
+    ∙ ap (served_lines 1 false) (lines-whole whole more w)
+    ∙ served_lines-append 1 false (lines whole) (lines more) (ap (λ s. s.fault) (sym same) ∙ h)
+    ∙ ap (λ s. behind s (served_lines (1 + length (lines whole)) (has_some s.events) (lines more))) (sym same)
 
 pub lines-one_more : (rest more : List ℕ) → NoFeed rest → lines (rest ++ 10 ∷ more) ≡ strip_carriage_return rest ∷ lines more
 lines-one_more rest more h = lines-feed rest more ∙ ap (λ ps. map strip_carriage_return ps ++ lines more) (parts-one rest h)
@@ -207,10 +289,17 @@ lines-last_cases rest false e l = refl
 pub lines-last_some : (rest : List ℕ) → NoFeed rest → 0 < length rest → lines rest ≡ rest ∷ []
 lines-last_some rest f l = lines-last rest f ∙ lines-last_cases rest (length rest == 0) refl l
 
+-- one more line, with its line feed
+pub script-line : (whole rest : List ℕ) (said : Option Event) → IsWhole whole → NoFeed rest → (script whole).fault ≡ None → says (1 + length (lines whole)) (has_some (script whole).events) (strip_carriage_return rest) ≡ Ok said → script (whole ++ (rest ++ 10 ∷ [])) ≡ record { events = (script whole).events ++ said_events (1 + length (lines whole)) said; fault = None }
+script-line whole rest said w f h e = script-whole whole (rest ++ 10 ∷ []) w h ∙ ap (behind (script whole)) (ap (served_lines (1 + length (lines whole)) (has_some (script whole).events)) (lines-one rest f) ∙ served_lines-one _ _ (strip_carriage_return rest) said e)
+
 -- the last line, without a line feed
-pub script-end : (whole rest : List ℕ) (event : Event) → IsWhole whole → NoFeed rest → 0 < length rest → (script whole).fault ≡ None → reading (1 + length (lines whole)) rest ≡ Ok event → script (whole ++ rest) ≡ record { events = (script whole).events ++ (1 + length (lines whole), event) ∷ []; fault = None }
-script-end whole rest event w f l h e = script-whole whole rest w h ∙ ap (behind (script whole)) (ap (script_from (1 + length (lines whole))) (lines-last_some rest f l) ∙ script_from-event _ rest event e)
+pub script-end : (whole rest : List ℕ) (said : Option Event) → IsWhole whole → NoFeed rest → 0 < length rest → (script whole).fault ≡ None → says (1 + length (lines whole)) (has_some (script whole).events) rest ≡ Ok said → script (whole ++ rest) ≡ record { events = (script whole).events ++ said_events (1 + length (lines whole)) said; fault = None }
+script-end whole rest said w f l h e = script-whole whole rest w h ∙ ap (behind (script whole)) (ap (served_lines (1 + length (lines whole)) (has_some (script whole).events)) (lines-last_some rest f l) ∙ served_lines-one _ _ rest said e)
 
 -- a line that is too long already, whatever follows
-pub script-long : (whole rest more : List ℕ) → IsWhole whole → NoFeed rest → (script whole).fault ≡ None → is_surely_long rest ≡ true → script ((whole ++ rest) ++ more) ≡ record { events = (script whole).events; fault = Some (1 + length (lines whole), (if nat_lt 65536 (1 + length (lines whole)) then TooMany else TooLong)) }
-script-long whole rest more w f h l = ap script (append_assoc whole rest more) ∙ script-whole_fault whole (rest ++ more) (long_fault (1 + length (lines whole))) w h (script_from-long (1 + length (lines whole)) rest more f l)
+pub script-long : (whole rest more : List ℕ) → IsWhole whole → NoFeed rest → (script whole).fault ≡ None → is_surely_long rest ≡ true → script ((whole ++ rest) ++ more) ≡ record { events = (script whole).events; fault = Some (1 + length (lines whole), fault_number (long_fault (1 + length (lines whole)))) }
+script-long whole rest more w f h l =
+    ap script (append_assoc whole rest more) ∙ script-whole whole (rest ++ more) w h
+    ∙ ap (behind (script whole)) (served_lines-long (1 + length (lines whole)) (has_some (script whole).events) rest more f l)
+    ∙ ap (λ events. record { events = events; fault = Some (1 + length (lines whole), fault_number (long_fault (1 + length (lines whole)))) }) (append-nil (script whole).events)

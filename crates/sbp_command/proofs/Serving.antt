@@ -1,14 +1,14 @@
 -- The steps of a session, by the word that it serves.
-use Rattle.std.proofs.Common.{◌≡◌, ◌∙◌, refl, sym, subst, ℕ, ◌+◌, ◌<◌, ◌≤◌, ◌≢◌, nat_lt, true, List, [], ◌∷◌, ◌++◌, length, Ok, Err, arith}
+use Rattle.std.proofs.Common.{◌≡◌, ◌∙◌, refl, sym, subst, ℕ, ◌+◌, ◌<◌, ◌≤◌, ◌≢◌, Bool, true, List, [], ◌∷◌, ◌++◌, length, Ok, Err, arith}
 use Rattle.std.specs.Io.KnownBytes.{Consumes, Keeps, IsAtEnd}
 use Rattle.std.proofs.KnownBytes.{Consumes-nil, Consumes-kept}
 use Rattle.std.specs.Str.Lines.{strip_carriage_return}
 use Rattle.sbp_base.specs.Faults.{Rose}
 use Rattle.sbp_journal.specs.Run.{Run}
 use Rattle.plain_list.specs.Plain.{PlainState}
-use Rattle.sbp_command.specs.Script.{reading, is_surely_long}
+use Rattle.sbp_command.specs.Script.{says, fault_number, is_surely_long}
 use Rattle.sbp_command.specs.Headline.{Outside, KeepsMedia}
-use Rattle.sbp_command.specs.Session.{Service, serves_run, serves_decode, serves_rom, IsReady, Served, CanServe, HasSeen, Awaits, RanSoFar, LineFails, WritesLine, ServesLine, InRun, InRom, StandsAt, Serves, IsFresh, Ends, AllServed, Closes}
+use Rattle.sbp_command.specs.Session.{Service, serves_run, serves_decode, serves_rom, IsReady, Served, CanServe, RanSoFar, LineFails, WritesLine, ServesLine, InRun, InRom, StandsAt, Serves, IsFresh, Ends, AllServed, Closes}
 use Rattle.sbp_command.specs.declared.session.Server.{Server}
 use Rattle.sbp_command.specs.declared.session.Server.TheVariants.{Run as runs, Decode, Rom as roms}
 use Rattle.sbp_command.specs.declared.status.Status.{Status}
@@ -21,19 +21,13 @@ use Rattle.sbp_command.proofs.RomLines as gathering
 
 -- ---- what serves the lines
 
-seen_awaits : (list : PlainState) (number : ℕ) → HasSeen list number → Awaits list (number + 1)
-seen_awaits list number h = record { begun = h.begun ∙ next number; room = omega (arith, h.room) }
-  where
-    next : (n : ℕ) → nat_lt 0 n ≡ nat_lt 1 (n + 1)
-    next n = grind arith
-
 pub can_serve : (server : Server) (number : ℕ) → Served server number → CanServe server (number + 1)
-can_serve (runs list) number h = seen_awaits list number h
+can_serve (runs list) number h = omega arith
 can_serve Decode number h = tt
 can_serve (roms quads) number h = tt
 
 fresh_served : (server : Server) → IsFresh server → Served server 0
-fresh_served (runs list) e = subst (λ l. HasSeen l 0) (sym e) (record { begun = refl; room = omega arith })
+fresh_served (runs list) e = subst (λ l. l.appended ≤ 0) (sym e) (omega arith)
 fresh_served Decode e = tt
 fresh_served (roms quads) e = tt
 
@@ -213,9 +207,9 @@ closes serves_rom status before old new (roms quads) h e = gathering.closes stat
 -- a rest that is too long already
 pub long_fails : (service : Service) (status : Status) (before old new : Outside) (pending : List ℕ) (number : ℕ) (rest : List ℕ) (server : Server) → StandsAt service before old pending number rest server → is_surely_long rest ≡ true → KeepsMedia old new
     → WritesLine {A = Unit {0}} old.written new.written old.writes new.writes (Err status) (number + 1) (Err (long_fault (number + 1)))
-    → ((run : Run) (list : PlainState) → reading (number + 1) rest ≡ Err (long_fault (number + 1)) → RanSoFar before old run list → LineFails status before new run (number + 1) rest list) → Ends service status before new
+    → ((run : Run) (begun : Bool) (list : PlainState) → says (number + 1) begun rest ≡ Err (fault_number (long_fault (number + 1))) → RanSoFar before old run list → LineFails status before new run (number + 1) begun rest list) → Ends service status before new
 long_fails serves_run status before old new pending number rest (runs list) h long media t f =
-    scripts.long_fails status before old new pending (record { number = number; rest = rest; list = list }) list h long (f h.run list (scripts.long_is_read (number + 1) rest long) h.so_far)
+    scripts.long_fails status before old new pending (record { number = number; rest = rest; list = list }) list h long (f h.run list.begun list (scripts.long_is_read (number + 1) list.begun rest long) h.so_far)
 long_fails serves_run status before old new pending number rest Decode h long media t f = absurd h
 long_fails serves_run status before old new pending number rest (roms quads) h long media t f = absurd h
 long_fails serves_decode status before old new pending number rest (runs list) h long media t f = absurd h

@@ -9,10 +9,10 @@ use Rattle.sbp_journal.specs.DiskFold.{DisksAre, FailuresFit}
 use Rattle.sbp_journal.specs.Lawful.{Lawful}
 use Rattle.sbp_journal.specs.Text.{text_of}
 use Rattle.sbp_journal.specs.declared.event.Event.{Event}
-use Rattle.sbp_command.specs.Script.{Script, script, fault_number, IsWhole, NoFeed}
+use Rattle.script_text.specs.Script.{Script}
+use Rattle.sbp_command.specs.Script.{script, IsWhole, NoFeed}
 use Rattle.sbp_command.specs.Listing.{Listing, listing}
 use Rattle.sbp_command.specs.RomListing.{rom_listing, rom_quads}
-use Rattle.sbp_command.specs.declared.script.LineFault.{LineFault}
 use Rattle.sbp_command.specs.declared.status.Status.{Status}
 use Rattle.sbp_command.specs.declared.status.Status.TheVariants as statuses
 
@@ -29,12 +29,12 @@ pub record Outside : Type 0 where
 abbrev pub outside : Option (List ℕ) → ℕ → Option (List ℕ) → ℕ → List Disk → List ℕ → Outside
 outside left reads written writes disks faults = record { left = left; reads = reads; written = written; writes = writes; disks = disks; faults = faults }
 
--- the line that tells a fault
-abbrev pub fault_text : ℕ → LineFault → List ℕ
-fault_text number fault = codes "script " ++ (decimal number ++ 32 ∷ (decimal (fault_number fault) ++ 10 ∷ []))
+-- the line that tells the number of a line and that of its fault
+abbrev pub fault_text : ℕ → ℕ → List ℕ
+fault_text number fault = codes "script " ++ (decimal number ++ 32 ∷ (decimal fault ++ 10 ∷ []))
 
 -- what stands behind the journal: the first faulty line of a script
-abbrev pub ending : Option (ℕ × LineFault) → List ℕ
+abbrev pub ending : Option (ℕ × ℕ) → List ℕ
 ending None = []
 ending (Some (number, fault)) = fault_text number fault
 
@@ -51,7 +51,7 @@ pub record LeavesMedia (before now : Outside) (run : Run) : Type 0 where
 
 -- The whole input, where the source tells it, was run up to its first faulty line, and the sink gained the text of the run's
 -- journal, and that of the fault.
-pub record RanScript (before now : Outside) (fault : Option (ℕ × LineFault)) : Type 0 where
+pub record RanScript (before now : Outside) (fault : Option (ℕ × ℕ)) : Type 0 where
   pub input : List ℕ
   pub run : Run
   pub told : IfSome before.left (λ bytes. bytes ≡ input)
@@ -94,7 +94,7 @@ pub record Torn (before now : Outside) : Type 0 where
 abbrev pub RunEnds : Status → Outside → Outside → Type 0
 RunEnds statuses.Done before now = IsAtEnd now.left × RanScript before now None
 RunEnds statuses.Words before now = ⊥
-RunEnds statuses.Script before now = (fault : ℕ × LineFault) × RanScript before now (Some fault)
+RunEnds statuses.Script before now = (fault : ℕ × ℕ) × RanScript before now (Some fault)
 RunEnds statuses.ReadFault before now = Rose before.reads now.reads × RanLines before now
 RunEnds statuses.WriteFault before now = Rose before.writes now.writes × Torn before now
 RunEnds statuses.NoMemory before now = Torn before now
@@ -106,7 +106,7 @@ pub record KeepsMedia (before now : Outside) : Type 0 where
 
 -- The whole input, where the source tells it, was listed up to its first faulty line, and the sink gained that text, and that of
 -- the fault.
-pub record ListedInput (before now : Outside) (fault : Option (ℕ × LineFault)) : Type 0 where
+pub record ListedInput (before now : Outside) (fault : Option (ℕ × ℕ)) : Type 0 where
   pub input : List ℕ
   pub told : IfSome before.left (λ bytes. bytes ≡ input)
   pub fault_is : (listing input).fault ≡ fault
@@ -140,18 +140,18 @@ pub record TornListing (before now : Outside) : Type 0 where
 abbrev pub ListingEnds : Status → Outside → Outside → Type 0
 ListingEnds statuses.Done before now = IsAtEnd now.left × ListedInput before now None
 ListingEnds statuses.Words before now = ⊥
-ListingEnds statuses.Script before now = (fault : ℕ × LineFault) × ListedInput before now (Some fault)
+ListingEnds statuses.Script before now = (fault : ℕ × ℕ) × ListedInput before now (Some fault)
 ListingEnds statuses.ReadFault before now = Rose before.reads now.reads × ListedLines before now
 ListingEnds statuses.WriteFault before now = Rose before.writes now.writes × TornListing before now
 ListingEnds statuses.NoMemory before now = TornListing before now
 
 -- what the lines of `rom` bring: the listing of their quadlets, or the first faulty line alone
-abbrev pub rom_output : Result (List ℕ) (ℕ × LineFault) → List ℕ
+abbrev pub rom_output : Result (List ℕ) (ℕ × ℕ) → List ℕ
 rom_output (Ok quads) = rom_listing quads
 rom_output (Err (number, fault)) = fault_text number fault
 
 -- The whole input, where the source tells it, was read so, and the sink gained exactly what that brings.
-pub record RomWritten (before now : Outside) (read : Result (List ℕ) (ℕ × LineFault)) : Type 0 where
+pub record RomWritten (before now : Outside) (read : Result (List ℕ) (ℕ × ℕ)) : Type 0 where
   pub input : List ℕ
   pub told : IfSome before.left (λ bytes. bytes ≡ input)
   pub is_read : rom_quads input ≡ read
@@ -182,7 +182,7 @@ pub record TornRom (before now : Outside) : Type 0 where
 abbrev pub RomEnds : Status → Outside → Outside → Type 0
 RomEnds statuses.Done before now = IsAtEnd now.left × ((quads : List ℕ) × RomWritten before now (Ok quads))
 RomEnds statuses.Words before now = ⊥
-RomEnds statuses.Script before now = (fault : ℕ × LineFault) × RomWritten before now (Err fault)
+RomEnds statuses.Script before now = (fault : ℕ × ℕ) × RomWritten before now (Err fault)
 RomEnds statuses.ReadFault before now = Rose before.reads now.reads × RomUnwritten before now
 RomEnds statuses.WriteFault before now = Rose before.writes now.writes × TornRom before now
 RomEnds statuses.NoMemory before now = TornRom before now

@@ -12,6 +12,7 @@ use Rattle.async_packet.specs.declared.fault.PacketFault.{PacketFault}
 use Rattle.async_packet.specs.declared.fault.PacketFault.TheVariants.{Short, Code, TooBig, Long, Extended, LockLength}
 use Rattle.async_packet.specs.Packet.{Packet, write_quadlet, write_block, write_response, read_quadlet, read_block, read_quadlet_response, read_block_response, lock, lock_response}
 use Rattle.async_packet.specs.Reading.{reading}
+use Rattle.sbp_command.specs.Script.{fault_number}
 use Rattle.sbp_command.specs.declared.script.LineError.{LineError}
 use Rattle.sbp_command.specs.declared.script.LineError.TheVariants.{Fault, NoMemory}
 use Rattle.sbp_command.specs.declared.script.LineFault.{LineFault}
@@ -135,14 +136,14 @@ Lists (Ok text) read = read ≡ Ok (string_bytes text)
 Lists (Err (Fault fault)) read = read ≡ Err fault
 Lists (Err NoMemory) read = Unit {0}
 
--- the text of the lines before the first faulty one, and that line's number and fault
+-- the text of the lines before the first faulty one, and that line's number and that of its fault
 pub record Listing : Type 0 where
   pub text : List ℕ
-  pub fault : Option (ℕ × LineFault)
+  pub fault : Option (ℕ × ℕ)
 
 abbrev pub onto_listing : ℕ → Result (List ℕ) LineFault → Listing → Listing
 onto_listing number (Ok text) rest = record { text = text ++ rest.text; fault = rest.fault }
-onto_listing number (Err fault) rest = record { text = []; fault = Some (number, fault) }
+onto_listing number (Err fault) rest = record { text = []; fault = Some (number, fault_number fault) }
 
 -- the listing of lines that are counted from `number` on
 abbrev pub listing_from : ℕ → List (List ℕ) → Listing

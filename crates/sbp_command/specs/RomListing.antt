@@ -17,6 +17,7 @@ use Rattle.config_rom.specs.declared.block.EntryKind.TheVariants as kinds
 use Rattle.config_rom.specs.declared.fault.RomFault.{RomFault}
 use Rattle.config_rom.specs.declared.fault.RomFault.TheVariants as rom_faults
 use Rattle.config_rom.specs.declared.unit.SbpUnit.{SbpUnit}
+use Rattle.sbp_command.specs.Script.{fault_number}
 use Rattle.sbp_command.specs.Listing.{Field, numeral, quadlet, payload, name, rest_of_line, digits}
 use Rattle.sbp_command.specs.declared.script.LineError.{LineError}
 use Rattle.sbp_command.specs.declared.script.LineError.TheVariants.{Fault, NoMemory}
@@ -141,17 +142,17 @@ with_line number quads line =
     else if nat_lt 8192 (length line) then Err TooLong
     else with_bytes quads (decode_of (digits line))
 
-abbrev pub onto_rom : ℕ → Result (List ℕ) LineFault → (List ℕ → Result (List ℕ) (ℕ × LineFault)) → Result (List ℕ) (ℕ × LineFault)
+abbrev pub onto_rom : ℕ → Result (List ℕ) LineFault → (List ℕ → Result (List ℕ) (ℕ × ℕ)) → Result (List ℕ) (ℕ × ℕ)
 onto_rom number (Ok quads) rest = rest quads
-onto_rom number (Err fault) rest = Err (number, fault)
+onto_rom number (Err fault) rest = Err (number, fault_number fault)
 
--- quadlets with those of lines that are counted from `number` on, or the first faulty line's number and fault
-abbrev pub rom_from : ℕ → List (List ℕ) → List ℕ → Result (List ℕ) (ℕ × LineFault)
+-- quadlets with those of lines that are counted from `number` on, or the first faulty line's number and that of its fault
+abbrev pub rom_from : ℕ → List (List ℕ) → List ℕ → Result (List ℕ) (ℕ × ℕ)
 rom_from number [] quads = Ok quads
 rom_from number (line ∷ rest) quads = onto_rom number (with_line number quads line) (rom_from (suc number) rest)
 
 -- the quadlets of a list of bytes; lines are counted from 1
-abbrev pub rom_quads : List ℕ → Result (List ℕ) (ℕ × LineFault)
+abbrev pub rom_quads : List ℕ → Result (List ℕ) (ℕ × ℕ)
 rom_quads bytes = rom_from 1 (lines bytes) []
 
 -- what a line told: nothing yet, or its fault

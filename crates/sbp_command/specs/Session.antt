@@ -1,5 +1,5 @@
 -- What the reading of lines has come to, byte by byte and line by line.
-use Rattle.std.specs.Prelude.{◌≡◌, ℕ, ◌*◌, ◌-◌, ◌≤◌, ◌<◌, nat_lt, false, List, [], ◌++◌, length, take, Option, None, IfSome, Result, Ok, Err, OnOk}
+use Rattle.std.specs.Prelude.{◌≡◌, ℕ, ◌*◌, ◌-◌, ◌≤◌, ◌<◌, Bool, true, false, List, [], ◌∷◌, ◌++◌, length, take, Option, None, Some, IfSome, Result, Ok, Err, OnOk}
 use Rattle.std.specs.Io.KnownBytes.{Appends, Consumes, IsAtEnd}
 use Rattle.std.specs.Str.Lines.{lines}
 use Rattle.sbp_base.specs.Faults.{Rose}
@@ -9,7 +9,7 @@ use Rattle.sbp_journal.specs.Text.{text_of}
 use Rattle.sbp_journal.specs.declared.event.Event.{Event}
 use Rattle.sbp_journal.specs.declared.note.Note.{Note}
 use Rattle.plain_list.specs.Plain.{PlainState, empty_list, held, StandsFor}
-use Rattle.sbp_command.specs.Script.{script, reading, IsWhole, NoFeed, is_surely_long}
+use Rattle.sbp_command.specs.Script.{script, says, begun_after, fault_number, IsWhole, NoFeed, is_surely_long}
 use Rattle.sbp_command.specs.Listing.{listing, line_listing}
 use Rattle.sbp_command.specs.RomListing.{rom_quads, rom_listing, with_line, quiet}
 use Rattle.sbp_command.specs.Headline.{Outside, RunEnds, ListingEnds, RomEnds, KeepsMedia, fault_text}
@@ -37,24 +37,15 @@ pub record RunState : Type 0 where
   pub rest : List ℕ
   pub list : PlainState
 
--- The list has seen so many lines.
-pub record HasSeen (list : PlainState) (number : ℕ) : Type 0 where
-  pub begun : list.begun ≡ nat_lt 0 number
-  pub room : list.appended ≤ number
-
 -- what serves the lines has seen so many
 abbrev pub Served : Server → ℕ → Type 0
-Served (servers.Run list) number = HasSeen list number
+Served (servers.Run list) number = list.appended ≤ number
 Served servers.Decode number = Unit {0}
 Served (servers.Rom quads) number = Unit {0}
 
--- The list has room for the line of this number, which is to be run.
-pub record Awaits (list : PlainState) (number : ℕ) : Type 0 where
-  pub begun : list.begun ≡ nat_lt 1 number
-  pub room : list.appended < number
-
+-- what serves the lines has room for the line of this number
 abbrev pub CanServe : Server → ℕ → Type 0
-CanServe (servers.Run list) number = Awaits list number
+CanServe (servers.Run list) number = list.appended < number
 CanServe servers.Decode number = Unit {0}
 CanServe (servers.Rom quads) number = Unit {0}
 
@@ -93,52 +84,58 @@ pub record RanSoFar (before now : Outside) (run : Run) (list : PlainState) : Typ
   pub written : Appends before.written now.written (text_of (journal run))
   pub writes : before.writes ≤ now.writes
 
--- The line was run and its notes written.
-pub record RanLine (before now : Outside) (run : Run) (number : ℕ) (line : List ℕ) (list : PlainState) : Type 0 where
-  pub event : Event
+-- a run with what a line says: one more entry, or nothing
+abbrev pub with_said : Run → ℕ → Option Event → List Note → Run
+with_said run number None notes = run
+with_said run number (Some event) notes = with_entry run number event notes
+
+-- A line that the list read, begun or not, was run, and its notes written.
+pub record RanLine (before now : Outside) (run : Run) (number : ℕ) (begun : Bool) (line : List ℕ) (list : PlainState) : Type 0 where
+  pub said : Option Event
   pub notes : List Note
-  pub is_read : reading number line ≡ Ok event
-  pub so_far : RanSoFar before now (with_entry run number event notes) list
+  pub is_read : says number begun line ≡ Ok said
+  pub begins : list.begun ≡ begun_after begun (Ok said)
+  pub so_far : RanSoFar before now (with_said run number said notes) list
 
 -- The line's fault was written.
-pub record FaultTold (before now : Outside) (run : Run) (number : ℕ) (line : List ℕ) (list : PlainState) : Type 0 where
-  pub fault : LineFault
-  pub is_read : reading number line ≡ Err fault
+pub record FaultTold (before now : Outside) (run : Run) (number : ℕ) (begun : Bool) (line : List ℕ) (list : PlainState) : Type 0 where
+  pub fault : ℕ
+  pub is_read : says number begun line ≡ Err fault
   pub stands : StandsFor (held before.disks before.faults) (held now.disks now.faults) run list
   pub written : Appends before.written now.written (text_of (journal run) ++ fault_text number fault)
 
 -- what is written of a line: nothing yet, the notes of its event, or its fault
-pub data Tells (run : Run) (number : ℕ) (line : List ℕ) : Run → List ℕ → Type 0 where
-  nothing : Tells run number line run (text_of (journal run))
-  event : (event : Event) (notes : List Note) → reading number line ≡ Ok event → Tells run number line (with_entry run number event notes) (text_of (journal (with_entry run number event notes)))
-  fault : (fault : LineFault) → reading number line ≡ Err fault → Tells run number line run (text_of (journal run) ++ fault_text number fault)
+pub data Tells (run : Run) (number : ℕ) (begun : Bool) (line : List ℕ) : Run → List ℕ → Type 0 where
+  nothing : Tells run number begun line run (text_of (journal run))
+  event : (event : Event) (notes : List Note) → says number begun line ≡ Ok (Some event) → Tells run number begun line (with_entry run number event notes) (text_of (journal (with_entry run number event notes)))
+  fault : (fault : ℕ) → says number begun line ≡ Err fault → Tells run number begun line run (text_of (journal run) ++ fault_text number fault)
 
 -- A front of that was written.
-pub record LineTorn (before now : Outside) (run : Run) (number : ℕ) (line : List ℕ) : Type 0 where
+pub record LineTorn (before now : Outside) (run : Run) (number : ℕ) (begun : Bool) (line : List ℕ) : Type 0 where
   pub made : Run
   pub output : List ℕ
   pub len : ℕ
   pub start : made.start ≡ before.disks
   pub lawful : Lawful made
-  pub tells : Tells run number line made output
+  pub tells : Tells run number begun line made output
   pub written : Appends before.written now.written (take len output)
 
 -- how a line that ends the run ended
-abbrev pub LineFails : Status → Outside → Outside → Run → ℕ → List ℕ → PlainState → Type 0
-LineFails statuses.Script before now run number line list = FaultTold before now run number line list
-LineFails statuses.WriteFault before now run number line list = Rose before.writes now.writes × LineTorn before now run number line
-LineFails statuses.NoMemory before now run number line list = LineTorn before now run number line
-LineFails _ before now run number line list = ⊥
+abbrev pub LineFails : Status → Outside → Outside → Run → ℕ → Bool → List ℕ → PlainState → Type 0
+LineFails statuses.Script before now run number begun line list = FaultTold before now run number begun line list
+LineFails statuses.WriteFault before now run number begun line list = Rose before.writes now.writes × LineTorn before now run number begun line
+LineFails statuses.NoMemory before now run number begun line list = LineTorn before now run number begun line
+LineFails _ before now run number begun line list = ⊥
 
 -- how a line ended
-abbrev pub LineEnds : {A : Type 0} → Result A Status → Outside → Outside → Run → ℕ → List ℕ → PlainState → Type 0
-LineEnds (Ok done) before now run number line list = RanLine before now run number line list
-LineEnds (Err status) before now run number line list = LineFails status before now run number line list
+abbrev pub LineEnds : {A : Type 0} → Result A Status → Outside → Outside → Run → ℕ → Bool → List ℕ → PlainState → Type 0
+LineEnds (Ok done) before now run number begun line list = RanLine before now run number begun line list
+LineEnds (Err status) before now run number begun line list = LineFails status before now run number begun line list
 
 -- what a line brings to the sink: its text, or its fault
 abbrev pub line_text : ℕ → Result (List ℕ) LineFault → List ℕ
 line_text number (Ok text) = text
-line_text number (Err why) = fault_text number why
+line_text number (Err why) = fault_text number (fault_number why)
 
 -- how that write ended: `whole` says that all of it is written
 abbrev pub ListedBy : {A : Type 0} → Result A Status → Result (List ℕ) LineFault → Type 0 → ℕ → ℕ → Type 0
@@ -174,7 +171,7 @@ pub record TakesLine {A : Type 0} (old new : Outside) (result : Result A Status)
 -- A line was served: of `run` from each run that the list stands for, of `decode` by what was written, of `rom` by the
 -- quadlets.
 abbrev pub ServesLine : {A : Type 0} → Result A Status → Outside → Outside → Outside → ℕ → List ℕ → Server → Server → Type 0
-ServesLine result before old new number line (servers.Run list) (servers.Run after) = (run : Run) → RanSoFar before old run list → LineEnds result before new run number line after
+ServesLine result before old new number line (servers.Run list) (servers.Run after) = (run : Run) → RanSoFar before old run list → LineEnds result before new run number list.begun line after
 ServesLine result before old new number line servers.Decode servers.Decode = WritesLine old.written new.written old.writes new.writes result number (line_listing number line) × KeepsMedia old new
 ServesLine result before old new number line (servers.Rom quads) (servers.Rom after) = TakesLine old new result number line quads after
 ServesLine result before old new number line (servers.Run list) servers.Decode = ⊥
@@ -183,6 +180,11 @@ ServesLine result before old new number line servers.Decode (servers.Run list) =
 ServesLine result before old new number line servers.Decode (servers.Rom after) = ⊥
 ServesLine result before old new number line (servers.Rom quads) (servers.Run list) = ⊥
 ServesLine result before old new number line (servers.Rom quads) servers.Decode = ⊥
+
+-- whether a list has a member
+abbrev pub has_some : {A : Type 0} → List A → Bool
+has_some [] = false
+has_some (x ∷ xs) = true
 
 -- The whole lines that were read are run and written; behind them stand the rest of a line and the bytes that wait.
 pub record InRun (before now : Outside) (pending : List ℕ) (state : RunState) : Type 0 where
@@ -194,6 +196,7 @@ pub record InRun (before now : Outside) (pending : List ℕ) (state : RunState) 
   pub lines_are : length (lines whole) ≡ state.number
   pub clean : (script whole).fault ≡ None
   pub events_are : events_of run ≡ (script whole).events
+  pub begun : state.list.begun ≡ has_some (script whole).events
   pub so_far : RanSoFar before now run state.list
   pub reads : before.reads ≤ now.reads
 

@@ -10,7 +10,7 @@ mod top;
 mod write;
 
 pub use rom::rom_tree_is_listed;
-pub use script::{LineError, LineFault, read_line};
+pub use script::{LineError, LineFault};
 pub use status::Status;
 pub use top::sbp2;
 

@@ -1,4 +1,4 @@
-ghost use Rattle.std.specs.Prelude.{◌≡◌, ◌≢◌, ◌+◌, ◌<◌, ◌≤◌, ◌∷◌, ◌++◌, [], ℕ, List, map, length, nat_lt, true, Option, Result, Ok, Err, IfOk, IfErr, OnOk, if◌then◌else◌};
+ghost use Rattle.std.specs.Prelude.{◌≡◌, ◌≢◌, ◌+◌, ◌<◌, ◌≤◌, ◌∷◌, ◌++◌, [], ℕ, List, map, length, nat_lt, Bool, true, Option, Some, Result, Ok, Err, IfOk, IfErr, OnOk, if◌then◌else◌};
 ghost use Rattle.std.specs.Io.KnownBytes.{IsAtEnd};
 ghost use Rattle.std.specs.Str.Lines.{strip_carriage_return};
 ghost use Rattle.rbc_disk.specs.Disk.{Disk};
@@ -16,7 +16,7 @@ ghost use Rattle.sbp_command.specs.Session.{Service, CanServe, Served, IsReady, 
 
 use crate::listing::list_bytes;
 use crate::rom::Quadlets;
-use crate::script::{LINES, LineError, LineFault, read_line};
+use crate::script::{LINES, LineError, LineFault, read_served};
 use crate::status::Status;
 use crate::write::{write_all, write_fault, write_notes};
 use plain_list::PlainList;
@@ -81,9 +81,8 @@ fn run_event<K: Sink>(
     requires room { list.old.appended < 65536 }
     requires media { 0 < length media.old.items }
     ensures count { length media.new.items ≡ length media.old.items }
-    ensures begun { OnOk result (list.new.begun ≡ true) }
     ensures room { OnOk result (list.new.appended ≤ list.old.appended + 1) }
-    ensures ends { (before : Outside) (left : Option (List ℕ)) (reads : ℕ) (run : Run) (line : List ℕ) → script.reading number line ≡ Ok event → RanSoFar before (outside left reads (K.written sink.old) (K.faults sink.old) (map disk media.old.items) (map media_faults media.old.items)) run list.old → LineEnds result before (outside left reads (K.written sink.new) (K.faults sink.new) (map disk media.new.items) (map media_faults media.new.items)) run number line list.new }
+    ensures ends { (before : Outside) (left : Option (List ℕ)) (reads : ℕ) (run : Run) (line : List ℕ) → script.says number list.old.begun line ≡ Ok (Some event) → RanSoFar before (outside left reads (K.written sink.old) (K.faults sink.old) (map disk media.old.items) (map media_faults media.old.items)) run list.old → LineEnds result before (outside left reads (K.written sink.new) (K.faults sink.new) (map disk media.new.items) (map media_faults media.new.items)) run number list.old.begun line list.new }
 {
     match list.step(media, number, event) {
         Ok(()) => write_notes(alloc, list.fresh().as_slice(), text, sink),
@@ -94,7 +93,7 @@ fn run_event<K: Sink>(
 /// Writes the fault of a line, which ends the run.
 fn tell_fault<K: Sink>(alloc: Global, number: u32, fault: LineFault, sink: &mut K) -> Status
     ensures listed { (read : Result (List ℕ) LineFault) → read ≡ Err fault → WritesLine {A = Unit {0}} (K.written sink.old) (K.written sink.new) (K.faults sink.old) (K.faults sink.new) (Err result) number read }
-    ensures run { (before : Outside) (left : Option (List ℕ)) (reads : ℕ) (disks : List Disk) (faults : List ℕ) (run : Run) (line : List ℕ) (list : PlainState) → script.reading number line ≡ Err fault → RanSoFar before (outside left reads (K.written sink.old) (K.faults sink.old) disks faults) run list → LineFails result before (outside left reads (K.written sink.new) (K.faults sink.new) disks faults) run number line list }
+    ensures run { (before : Outside) (left : Option (List ℕ)) (reads : ℕ) (disks : List Disk) (faults : List ℕ) (run : Run) (begun : Bool) (line : List ℕ) (list : PlainState) → script.says number begun line ≡ Err (script.fault_number fault) → RanSoFar before (outside left reads (K.written sink.old) (K.faults sink.old) disks faults) run list → LineFails result before (outside left reads (K.written sink.new) (K.faults sink.new) disks faults) run number begun line list }
 {
     match write_fault(alloc, number, fault, sink) {
         Ok(()) => Status::Script,
@@ -103,7 +102,6 @@ fn tell_fault<K: Sink>(alloc: Global, number: u32, fault: LineFault, sink: &mut 
 }
 
 /// Runs a line that has ended, or tells its fault.
-#[tactic(auto, using(crate::proofs::Places::places))]
 fn run_line<K: Sink>(
     alloc: Global,
     number: u32,
@@ -113,17 +111,16 @@ fn run_line<K: Sink>(
     media: &mut Vec<Box<dyn Medium>>,
     sink: &mut K,
 ) -> Result<(), Status>
-    requires begun { list.old.begun ≡ nat_lt 1 number }
     requires room { list.old.appended < number }
     requires media { 0 < length media.old.items }
     ensures few { OnOk result (number ≤ 65536) }
     ensures count { length media.new.items ≡ length media.old.items }
-    ensures begun { OnOk result (list.new.begun ≡ true) }
     ensures room { OnOk result (list.new.appended ≤ list.old.appended + 1) }
-    ensures ends { (before : Outside) (left : Option (List ℕ)) (reads : ℕ) (run : Run) → RanSoFar before (outside left reads (K.written sink.old) (K.faults sink.old) (map disk media.old.items) (map media_faults media.old.items)) run list.old → LineEnds result before (outside left reads (K.written sink.new) (K.faults sink.new) (map disk media.new.items) (map media_faults media.new.items)) run number line.now list.new }
+    ensures ends { (before : Outside) (left : Option (List ℕ)) (reads : ℕ) (run : Run) → RanSoFar before (outside left reads (K.written sink.old) (K.faults sink.old) (map disk media.old.items) (map media_faults media.old.items)) run list.old → LineEnds result before (outside left reads (K.written sink.new) (K.faults sink.new) (map disk media.new.items) (map media_faults media.new.items)) run number list.old.begun line.now list.new }
 {
-    match read_line(alloc, number, line) {
-        Ok(event) => run_event(alloc, number, event, list, text, media, sink),
+    match read_served(alloc, number, line, list) {
+        Ok(Some(event)) => run_event(alloc, number, event, list, text, media, sink),
+        Ok(None) => Ok(()),
         Err(LineError::Fault(fault)) => Err(tell_fault(alloc, number, fault, sink)),
         Err(LineError::NoMemory) => Err(Status::NoMemory),
     }

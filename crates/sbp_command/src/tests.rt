@@ -1,7 +1,7 @@
 ghost use Rattle.std.specs.Prelude.{Some};
 
 use crate::{Status, sbp2};
-use rbc_disk::{Medium, RamMedium};
+use rbc_disk::{FaultyMedium, Medium, RamMedium};
 use sbp_base::{Bytes, MemorySink, MemorySource, NoMemory, Sink, SinkFault};
 use std::alloc::Global;
 use std::test::Fail;
@@ -23,17 +23,6 @@ rung 0 0 1\n\
 ran 0 0 1 u0 280000000005000001000000 - good\n\
 ended 0 0 1 good\n\
 taken 0 0 1 good AA*512\n\
-settled\n";
-
-/// A block past the end of the medium is read.
-const PAST_END: &str = "begin 1 ready\nappend 0 read 64 1\nsettle\n";
-
-const PAST_JOURNAL: &str = "begin 1 ready\n\
-append 0 0 0 280000000040000001000000 in 512\n\
-rung 0 0 0\n\
-ran 0 0 0 u0 280000000040000001000000 - check 5/21/00\n\
-ended 0 0 0 check 5/21/00\n\
-taken 0 0 0 check 5/21/00\n\
 settled\n";
 
 const USAGE: &str = "usage: sbp2 run | drill SEED N | decode | rom | tasks | queue\n";
@@ -69,8 +58,13 @@ fn strings(alloc: Global, words: &[&str]) -> Result<Vec<String>, NoMemory> {
     Ok(strings)
 }
 
-/// Serves the words over one medium of 64 blocks of 00h; `reads` names the calls of the source that
-/// fail.
+/// A medium of 64 blocks of 00h.
+fn blank_medium(alloc: Global) -> Result<Box<dyn Medium>, NoMemory> {
+    let medium: Box<dyn Medium> = Box::new(alloc, RamMedium::new(alloc, 64, 0)?)?;
+    Ok(medium)
+}
+
+/// Serves the words over a blank medium; `reads` names the calls of the source that fail.
 fn serve<K: Sink>(
     alloc: Global,
     words: &[&str],
@@ -78,8 +72,19 @@ fn serve<K: Sink>(
     reads: &[u32],
     sink: &mut K,
 ) -> Result<Status, NoMemory> {
+    serve_over(alloc, blank_medium(alloc)?, words, script, reads, sink)
+}
+
+/// Serves the words over one medium.
+fn serve_over<K: Sink>(
+    alloc: Global,
+    medium: Box<dyn Medium>,
+    words: &[&str],
+    script: &[u8],
+    reads: &[u32],
+    sink: &mut K,
+) -> Result<Status, NoMemory> {
     let words = strings(alloc, words)?;
-    let medium: Box<dyn Medium> = Box::new(alloc, RamMedium::new(alloc, 64, 0)?)?;
     let mut media = Vec::new(alloc);
     media.push(medium)?;
     let mut source = MemorySource::new(script.to_vec(alloc)?, reads.to_vec(alloc)?);
@@ -118,26 +123,203 @@ fn ends_with(
     Ok(ended.status == status && ended.written.as_slice() == written)
 }
 
-/// Scripts, their status and their output.
+/// Scripts, their status and their output. A line that says nothing counts, and writes nothing.
 #[test]
 fn scripts_run(rt: HostRuntime) {
     for (script, status, written) in [
         (SCRIPT, Status::Done, JOURNAL),
         ("", Status::Done, ""),
-        (PAST_END, Status::Done, PAST_JOURNAL),
-        ("settle", Status::Script, "script 1 10\n"),
         ("begin 1 ready\r\n", Status::Done, "begin 1 ready\n"),
         ("begin 1 ready", Status::Done, "begin 1 ready\n"),
-        ("begin 1 ready\r", Status::Script, "script 1 10\n"),
+        ("begin 1 ready\r", Status::Script, "script 1 8\n"),
         (
-            "begin 1 ready\n\nsettle\n",
-            Status::Script,
-            "begin 1 ready\nscript 2 10\n",
+            "# a comment\n \t\nbegin 1 ready\n\nsettle\n#",
+            Status::Done,
+            "begin 1 ready\nsettled\n",
         ),
+        ("\n#\nsettle\n", Status::Script, "script 3 6\n"),
     ] {
         let ends = ends_with(rt.alloc(), script.as_bytes(), status, written.as_bytes());
         assert_eq!(rt; ends, Ok(true), "at {script}");
     }
+}
+
+/// Lines that are refused: the journal of those before stands, and the fault behind it.
+#[test]
+fn faulty_lines_are_told(rt: HostRuntime) {
+    for (script, written) in [
+        ("settle", "script 1 6\n"),
+        ("begin 1 ready\njump", "begin 1 ready\nscript 2 3\n"),
+        ("begin 1 ready\nappend 4 tur", "begin 1 ready\nscript 2 5\n"),
+        ("begin 1 ready\nappend 1 tur", "begin 1 ready\nscript 2 7\n"),
+        (
+            "begin 1 ready\nappend 0 read 0 33",
+            "begin 1 ready\nscript 2 5\n",
+        ),
+        (
+            "begin 1 ready\nappend 0 read 0",
+            "begin 1 ready\nscript 2 4\n",
+        ),
+        (
+            "begin 1 ready\nsettle\nbegin 1 ready",
+            "begin 1 ready\nsettled\nscript 3 6\n",
+        ),
+        ("begin 2 ready", "script 1 10\n"),
+        ("begin 1 cold", "script 1 10\n"),
+        (
+            "begin 1 ready\nappend 0 read 0 1 pay 8",
+            "begin 1 ready\nscript 2 10\n",
+        ),
+        ("begin 1 ready\ntick", "begin 1 ready\nscript 2 10\n"),
+    ] {
+        let ends = ends_with(
+            rt.alloc(),
+            script.as_bytes(),
+            Status::Script,
+            written.as_bytes(),
+        );
+        assert_eq!(rt; ends, Ok(true), "at {script}");
+    }
+}
+
+/// The lines of a text that begin with a word.
+fn lines_of(alloc: Global, text: &[u8], word: &[u8]) -> Result<Vec<u8>, NoMemory> {
+    let mut found = Vec::new(alloc);
+    for line in text.split(|byte| *byte == b'\n') {
+        if line.starts_with(word) {
+            found.extend_from_slice(line)?;
+            found.push(b'\n')?;
+        }
+    }
+    Ok(found)
+}
+
+/// Whether a script runs to its end over a medium and writes these lines among those that begin with
+/// `word`.
+fn tells(
+    alloc: Global,
+    medium: Box<dyn Medium>,
+    script: &[u8],
+    word: &[u8],
+    lines: &[u8],
+) -> Result<bool, NoMemory> {
+    let mut sink = MemorySink::new(alloc, Vec::new(alloc));
+    let status = serve_over(alloc, medium, &["run"], script, &[], &mut sink)?;
+    let found = lines_of(alloc, sink.bytes(), word)?;
+    Ok(status == Status::Done && found.as_slice() == lines)
+}
+
+/// Scripts over 64 blocks of 00h, and the lines that tell how their commands were taken.
+#[test]
+fn commands_are_taken(rt: HostRuntime) {
+    let alloc = rt.alloc();
+    for (script, taken) in [
+        (
+            "begin 1 ready\nappend 0 read 64 1\nsettle\n",
+            "taken 0 0 0 check 5/21/00\n",
+        ),
+        (
+            "begin 1 ready\nappend 0 read 63 1\nappend 0 read 64 1\nappend 0 read 63 0\nsettle\n",
+            "taken 0 0 0 good 00*512\ntaken 0 0 1 check 5/21/00\ntaken 0 0 2 good\n",
+        ),
+        (
+            "begin 1 ready\nappend 0 stop\nappend 0 tur\nappend 0 start\nappend 0 tur\nsettle\n",
+            "taken 0 0 0 good\ntaken 0 0 1 check 2/04/02\ntaken 0 0 2 good\ntaken 0 0 3 good\n",
+        ),
+        (
+            "begin 1 ready\nappend 0 write12 0 33*16384\nappend 0 read12 31 1\nappend 0 read12 64 1\nsettle\n",
+            "taken 0 0 0 good\ntaken 0 0 1 good 33*512\ntaken 0 0 2 check 5/21/00\n",
+        ),
+        (
+            "begin 1 ready\nappend 0 write 7 aB*500+010203040506070809ff0b0c\nappend 0 read 7 1\nsettle\n",
+            "taken 0 0 0 good\ntaken 0 0 1 good AB*500+010203040506070809FF0B0C\n",
+        ),
+        (
+            "begin 1 ready\nappend 0 capacity\nappend 0 eject\nsettle\n",
+            "taken 0 0 0 good 0000003F00000200\ntaken 0 0 1 check 5/24/00\n",
+        ),
+    ] {
+        let told = match blank_medium(alloc) {
+            Ok(medium) => tells(
+                alloc,
+                medium,
+                script.as_bytes(),
+                b"taken".as_slice(),
+                taken.as_bytes(),
+            ),
+            Err(error) => Err(error),
+        };
+        assert_eq!(rt; told, Ok(true), "at {script}");
+    }
+}
+
+/// A medium whose first call fails: the command has a check, and the next one is served.
+#[test]
+fn first_read_fails(rt: HostRuntime) {
+    let alloc = rt.alloc();
+    let told = fails_first(alloc);
+    assert_eq!(rt; told, Ok(true));
+}
+
+fn fails_first(alloc: Global) -> Result<bool, NoMemory> {
+    let failing = [1u32].to_vec(alloc)?;
+    let medium: Box<dyn Medium> = Box::new(alloc, FaultyMedium::new(alloc, 64, 0x5a, failing)?)?;
+    tells(
+        alloc,
+        medium,
+        b"begin 1 ready\nappend 0 read 0 1\nappend 0 read 0 1\nsettle\n".as_slice(),
+        b"taken".as_slice(),
+        b"taken 0 0 0 check 3/11/00\ntaken 0 0 1 good 5A*512\n".as_slice(),
+    )
+}
+
+/// Of 33 appends with none settled the last one has no slot.
+#[test]
+fn slots_run_out(rt: HostRuntime) {
+    let alloc = rt.alloc();
+    assert_eq!(rt; refuses_the_last(alloc), Ok(true));
+}
+
+fn refuses_the_last(alloc: Global) -> Result<bool, NoMemory> {
+    let mut script = b"begin 1 ready\n".as_slice().to_vec(alloc)?;
+    for _ in 0..33u32 {
+        script.extend_from_slice(b"append 0 read 0 1\n".as_slice())?;
+    }
+    tells(
+        alloc,
+        blank_medium(alloc)?,
+        script.as_slice(),
+        b"refused".as_slice(),
+        b"refused 34 9\n".as_slice(),
+    )
+}
+
+/// A line past the last one that a script may have.
+#[test]
+fn too_many_lines(rt: HostRuntime) {
+    let alloc = rt.alloc();
+    for (end, status, written) in [
+        ("", Status::Done, "begin 1 ready\n"),
+        ("#", Status::Script, "begin 1 ready\nscript 65537 2\n"),
+        ("jump\n", Status::Script, "begin 1 ready\nscript 65537 2\n"),
+    ] {
+        let ends = after_all_lines(alloc, end.as_bytes(), status, written.as_bytes());
+        assert_eq!(rt; ends, Ok(true), "at {end}");
+    }
+}
+
+/// Whether 65,536 lines with these bytes behind them end so.
+fn after_all_lines(
+    alloc: Global,
+    end: &[u8],
+    status: Status,
+    written: &[u8],
+) -> Result<bool, NoMemory> {
+    let mut script = b"begin 1 ready\n".as_slice().to_vec(alloc)?;
+    let blank = vec![in alloc; b'\n'; 65535]?;
+    script.extend_from_slice(blank.as_slice())?;
+    script.extend_from_slice(end)?;
+    ends_with(alloc, script.as_slice(), status, written)
 }
 
 /// Whether words end so with this output.
@@ -246,8 +428,8 @@ fn long_line_ends(alloc: Global, len: usize, end: &[u8], written: &[u8]) -> Resu
 fn long_lines(rt: HostRuntime) {
     for (len, end, written) in [
         (8192usize, "\r", "script 1 1\n"),
-        (8192, "\r\n", "script 1 10\n"),
-        (8192, "\n", "script 1 10\n"),
+        (8192, "\r\n", "script 1 3\n"),
+        (8192, "\n", "script 1 3\n"),
         (8193, "\n", "script 1 1\n"),
         (8193, "\r\n", "script 1 1\n"),
         (20000, "", "script 1 1\n"),

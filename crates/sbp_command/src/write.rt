@@ -3,6 +3,7 @@ ghost use Rattle.std.specs.List.{AllByRecursion};
 ghost use Rattle.sbp_journal.specs.Form.{HasForm};
 ghost use Rattle.sbp_journal.specs.Text.{text_of};
 ghost use Rattle.sbp_command.specs.Headline.{fault_text};
+ghost use Rattle.sbp_command.specs.Script.{fault_number};
 ghost use Rattle.sbp_command.specs.Session.{WritesFront};
 
 use crate::script::LineFault;
@@ -54,14 +55,14 @@ pub fn write_notes<K: Sink>(
     }
 }
 
-/// Writes the line that tells the fault of a script's line.
+/// Writes the line that tells the fault of a line.
 pub fn write_fault<K: Sink>(
     alloc: Global,
     number: u32,
     fault: LineFault,
     sink: &mut K,
 ) -> Result<(), Status>
-    ensures { WritesFront (K.written sink.old) (K.written sink.new) (K.faults sink.old) (K.faults sink.new) result (fault_text number fault) }
+    ensures { WritesFront (K.written sink.old) (K.written sink.new) (K.faults sink.old) (K.faults sink.new) result (fault_text number (fault_number fault)) }
 {
     let code = fault.number();
     match format!(in alloc; "script {number} {code}\n") {

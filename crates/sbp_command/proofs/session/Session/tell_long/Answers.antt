@@ -9,4 +9,4 @@ returns g c = λ service before left reads disks faults pending h.
     let long = rw (← c.self.view_is) at c.requires.long in
     long_fails service c.tell_fault.result before _ _ pending c.self.inside.number c.self.inside.rest c.self.inside.server k long (record { disks = refl; faults = refl })
     (c.tell_fault.ensures.listed _ (rw c.long_fault.ensures refl))
-    (λ run list read so_far. c.tell_fault.ensures.run before left reads disks faults run c.self.inside.rest list (rw c.long_fault.ensures read) so_far)
+    (λ run begun list read so_far. c.tell_fault.ensures.run before left reads disks faults run begun c.self.inside.rest list (rw c.long_fault.ensures read) so_far)
