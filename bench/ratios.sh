@@ -1,8 +1,8 @@
 #!/usr/bin/env bash
 # The cost of a line must not grow with the length of the input. Runs the proved program twice for each
 # word and prints the processor time of both runs and their ratio: `run` over 10,000 and 20,000 append
-# lines, with a settle after each 31 (in proportion is about 2), `decode` over traces of 1 MB and 10 MB
-# (about 10).
+# lines, with a settle after each 31 (in proportion is about 2), and over lines of 4 kB, 1 MB and 10 MB of
+# them (about 10); `decode` over traces of 1 MB and 10 MB (about 10).
 # First build the program: cd crates/sbp2 && rt run -- run < stdin
 cd "$(dirname "$0")/.." || exit 1
 program=crates/sbp2/out/sbp2
@@ -15,6 +15,19 @@ appends() {
         print "begin 1 ready"
         for (i = 0; i < n; i++) {
             if (i % 2) print "append 0 read " i % 64 " 1"; else print "append 0 write " i % 64 " A5*512"
+            if (i % 31 == 30) print "settle"
+        }
+        print "settle"
+    }'
+}
+
+# writes of four blocks, spelled in 4,096 digits
+digits() {
+    awk -v n="$1" 'BEGIN {
+        for (i = 0; i < 256; i++) data = data "00112233445566Ff"
+        print "begin 1 ready"
+        for (i = 0; i < n; i++) {
+            print "append 0 write " i % 60 " " data
             if (i % 31 == 30) print "settle"
         }
         print "settle"
@@ -43,4 +56,5 @@ compare() {
 }
 
 compare run appends 10000 20000
+compare run digits 250 2500
 compare decode trace 950 9500
