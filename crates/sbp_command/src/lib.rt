@@ -10,7 +10,6 @@ mod top;
 mod write;
 
 pub use rom::rom_tree_is_listed;
-pub use script::{LineError, LineFault};
 pub use status::Status;
 pub use top::sbp2;
 

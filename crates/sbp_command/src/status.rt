@@ -8,9 +8,9 @@ pub enum Status {
     Done,
     /// The words are in no row of the table; the usage line was written, and nothing was read.
     Words,
-    /// A line has a fault; the lines before it were run, and the fault was written.
+    /// A line has a fault; the lines before it were served, and the fault was written.
     Script,
-    /// The source failed; the whole lines before were run.
+    /// The source failed; the whole lines before were served.
     ReadFault,
     /// The sink failed; a front of the output was written.
     WriteFault,
