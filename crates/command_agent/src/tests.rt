@@ -5,7 +5,7 @@ use sbp_base::{NoMemory, Offset};
 use std::test::Fail;
 
 /// What comes to an agent: the payload of the main transaction, or what else came of it; what came of
-/// the read ahead; a doorbell, or an abort.
+/// the read ahead; a pointer, a doorbell, a reset, or an abort.
 #[derive(Clone, Copy)]
 enum Input {
     Orb([u8; 32]),
@@ -19,7 +19,9 @@ enum Input {
     NoLabel,
     Ahead([u8; 32]),
     AheadExpired,
+    Point(u64),
     Bell,
+    Reset,
     Abort(u64),
 }
 
@@ -46,7 +48,12 @@ fn run(rt: &impl AllocGlobal, inputs: &[Input]) -> Result<Ended, NoMemory> {
 /// The step of an input.
 fn give(agent: &mut Agent, unit: &mut Unit, medium: &mut dyn Medium, input: Input) -> AgentStep {
     match input {
+        Input::Point(pointer) => point_to(agent, pointer),
         Input::Bell => AgentStep::asking(agent.doorbell()),
+        Input::Reset => {
+            agent.reset();
+            AgentStep::quiet()
+        }
         Input::Abort(orb) => {
             if let Some(orb) = Offset::new(orb) {
                 agent.abort(orb);
@@ -63,6 +70,14 @@ fn give(agent: &mut Agent, unit: &mut Unit, medium: &mut dyn Medium, input: Inpu
         Input::Expired => reply(agent, unit, medium, Which::Main, Reply::Expired),
         Input::Refused => reply(agent, unit, medium, Which::Main, Reply::Refused(4)),
         Input::NoLabel => reply(agent, unit, medium, Which::Main, Reply::NoLabel),
+    }
+}
+
+/// The read that a pointer brings about, or nothing where it is not taken.
+fn point_to(agent: &mut Agent, pointer: u64) -> AgentStep {
+    match agent.point(at(pointer)) {
+        Ok(ask) => AgentStep::asking(ask),
+        Err(_) => AgentStep::quiet(),
     }
 }
 
@@ -349,6 +364,35 @@ fn not_aborted(rt: HostRuntime) -> Result<(), Fail> {
     Ok(())
 }
 
+/// An abort during the status write changes nothing: the ORB has ended, as it has where it made the
+/// agent dead, and the mark does not come to the ORB behind it.
+#[test]
+fn not_aborted_at_the_status(rt: HostRuntime) -> Result<(), Fail> {
+    let ended = run(&rt, &[Input::Orb(ready(0)), ABORT, Input::Done]);
+    let ended = ended.ok().ok_or("memory")?;
+    assert_eq!(rt; ended.steps.last().copied(), Some(AgentStep::quiet()));
+    assert_eq!(rt; ended.agent.state(), AgentState::Suspended);
+    assert_eq!(rt;
+        ended.agent.outgoing(),
+        [0x41, 0, 0, 0, 0x10, 0, 0, 0].as_slice()
+    );
+    let orb = Input::Orb(ready(0x1000_0040));
+    let ran = Some((true, Some(StatusKind::Good), None));
+    assert_eq!(rt;
+        told(&rt, &[orb, Input::Ahead(ready(0)), ABORT, Input::Done]),
+        ran
+    );
+    assert_eq!(rt;
+        told(&rt, &[orb, ABORT, Input::Done, Input::Orb(ready(0))]),
+        ran
+    );
+    let ended = run(&rt, &[Input::Orb(past_the_end()), ABORT, Input::Done]);
+    let ended = ended.ok().ok_or("memory")?;
+    assert_eq!(rt; ended.steps.last().copied(), Some(AgentStep::quiet()));
+    assert_eq!(rt; ended.agent.state(), AgentState::Dead);
+    Ok(())
+}
+
 #[test]
 fn failing_reads(rt: HostRuntime) -> Result<(), Fail> {
     let failed = Some(StatusKind::Failed);
@@ -436,5 +480,48 @@ fn read_ahead_is_asked_for(rt: HostRuntime) -> Result<(), Fail> {
     let step = last(&rt, &[Input::Orb(ready(0x1000_0041))]).ok_or("step")?;
     assert_eq!(rt; step.ahead, read(0x1000_0040, 32));
     assert_eq!(rt; step.ask, write(0, 8));
+    Ok(())
+}
+
+/// A read ahead that was kept and is then dropped by a reset: the ORB is read anew, whether the new
+/// list begins with it or comes to it, and is served by the bytes of that read.
+#[test]
+fn read_ahead_dropped_by_a_reset(rt: HostRuntime) -> Result<(), Fail> {
+    let first = Input::Orb(ready(0x1000_0040));
+    let dropped = Input::Ahead(ready(0));
+    let dummy = Input::Orb(orb(0, 0xe3b0_0000, 0, 0, 0));
+    let as_dummy = Some((false, Some(StatusKind::Dummy), None));
+    let begins = [first, dropped, Input::Reset, Input::Point(0x1000_0040)];
+    assert_eq!(rt;
+        last(&rt, &begins),
+        Some(AgentStep::asking(read(0x1000_0040, 32)))
+    );
+    let begins = [
+        first,
+        dropped,
+        Input::Reset,
+        Input::Point(0x1000_0040),
+        dummy,
+    ];
+    assert_eq!(rt; told(&rt, &begins), as_dummy);
+    let comes = [
+        first,
+        dropped,
+        Input::Reset,
+        Input::Point(0x2000_0000),
+        first,
+    ];
+    let step = last(&rt, &comes).ok_or("step")?;
+    assert_eq!(rt; step.ahead, read(0x1000_0040, 32));
+    let comes = [
+        first,
+        dropped,
+        Input::Reset,
+        Input::Point(0x2000_0000),
+        first,
+        Input::Done,
+        dummy,
+    ];
+    assert_eq!(rt; told(&rt, &comes), as_dummy);
     Ok(())
 }
