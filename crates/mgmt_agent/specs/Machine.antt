@@ -33,11 +33,6 @@ pub record Machine : Type 0 where
 abbrev pub new_machine : Machine
 new_machine = record { operation = None; outgoing = [] }
 
--- an operation is under way
-abbrev pub IsUnderWay : Option Operation → Type 0
-IsUnderWay None = ⊥
-IsUnderWay (Some operation) = Unit {0}
-
 -- what came of a request
 pub data Answer : Type 0 where
   Payload : List ℕ → Answer
