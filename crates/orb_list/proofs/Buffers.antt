@@ -2,6 +2,7 @@
 use Rattle.std.proofs.Common.{arith, ◌≡◌, refl, ◌∙◌, ap, ℕ, zero, suc, ◌==◌, ◌||◌, nat_eq, Bool, true, false, cond, List, [], ◌∷◌, ◌++◌, length, take, drop, get_or, Option, Some, None, Result, Ok, Err}
 use Rattle.std.proofs.lemmas.Bool.Decides.{nat_tests}
 use Rattle.std.proofs.Math.ListN.{set}
+use Rattle.byteorder.specs.Endian.{big_bytes}
 use Rattle.bus_memory.specs.declared.access.Access.TheVariants.{Write}
 use Rattle.bus_memory.specs.declared.access.Rcode.{Rcode}
 use Rattle.bus_memory.specs.declared.access.Rcode.TheVariants.{TypeError}
@@ -11,7 +12,7 @@ use Rattle.bus_memory.specs.declared.window.Window.{Window}
 use Rattle.bus_memory.specs.declared.window.Window.TheVariants as windows
 use Rattle.bus_memory.specs.Windows.{is_fifo}
 use Rattle.bus_memory.specs.Memory.{Memory, empty_slot, slot_at, with_slot, with_armed, with_bytes, is_written}
-use Rattle.bus_memory.specs.Access.{judged, judged_at, spot_of, takes_writes, write_at}
+use Rattle.bus_memory.specs.Access.{judged, judged_at, spot_of, takes_writes, write_at, set_at}
 use Rattle.bus_memory.specs.Laws.{is_same}
 use Rattle.orb_layout.specs.CommandOrbs.{command_bytes}
 use Rattle.orb_layout.specs.declared.status.StatusBlock.{StatusBlock}
@@ -22,8 +23,8 @@ use Rattle.orb_list.specs.Requests.{Asked}
 use Rattle.orb_list.specs.Layout.{behind, orb_of, table_bytes, data_in_segments, data_written, written}
 use Rattle.orb_list.specs.Table as table
 use Rattle.orb_list.specs.Table.{SlotTable, waiting, slot_in, may_prepare, waits_low, waits_high, low_for, high_for}
-use Rattle.orb_list.specs.Runs.{Call, Prepare, LinkLow, LinkHigh, MakeDummy, TakeStatus, DropList, FreeAll, Pin, Unpin, TryWrite, Fill, left_by, run}
-use Rattle.orb_list.specs.Buffers.{is_given, is_into, touches, NoneTouches, BufferLaw}
+use Rattle.orb_list.specs.Runs.{Call, Prepare, LinkLow, LinkHigh, MakeDummy, TakeStatus, DropList, FreeAll, Pin, Unpin, TryWrite, Fill, SetQuad, left_by, run}
+use Rattle.orb_list.specs.Buffers.{is_given, is_into, is_spot_in, touches, NoneTouches, BufferLaw}
 use Rattle.orb_list.proofs.Closed.{closed_keeps}
 
 -- A slot's memory is set, and its buffer is the one that stood there.
@@ -81,6 +82,10 @@ buffer_spot : (m : Memory) (bytes : List ℕ) (found : Result Spot Rcode) (k : �
 buffer_spot m bytes (Err rcode) k e = refl
 buffer_spot m bytes (Ok spot) k e = buffer_window m spot.window spot.at bytes k e
 
+buffer_quad : (m : Memory) (value : ℕ) (found : Option Spot) (k : ℕ) → is_spot_in found k ≡ false → (slot_at (set_at m value found) k).buffer ≡ (slot_at m k).buffer
+buffer_quad m value None k e = refl
+buffer_quad m value (Some spot) k e = buffer_window m spot.window spot.at (big_bytes 4 value) k e
+
 -- Each call.
 buffer_prepare : (found : Result ℕ ListFault) (s : SlotTable) (m : Memory) (asked : Asked) (k : ℕ) → is_given (table.prepare_at found s m asked).0 k ≡ false → (slot_at (table.prepare_at found s m asked).1.1 k).buffer ≡ (slot_at m k).buffer
 buffer_prepare (Err fault) s m asked k e = refl
@@ -123,6 +128,7 @@ buffer_call (Pin t) s m k e = refl
 buffer_call Unpin s m k e = buffer_unpin s.pinned s m k
 buffer_call (TryWrite offset bytes) s m k e = buffer_spot m bytes (judged m Write offset (length bytes)) k e
 buffer_call (Fill slot at bytes) s m k e = ap (λ (memory : SlotMemory). memory.buffer) (other_slot m slot k _ e)
+buffer_call (SetQuad offset value) s m k e = buffer_quad m value (spot_of m offset 4) k e
 
 buffer_stays : (later earlier : List Call) (quads : List ℕ) (k : ℕ) → NoneTouches later earlier quads k → (slot_at (run (later ++ earlier) quads).memory k).buffer ≡ (slot_at (run earlier quads).memory k).buffer
 buffer_stays [] earlier quads k n = refl

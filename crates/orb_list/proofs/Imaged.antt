@@ -1,5 +1,5 @@
 -- The table, the image and the notes of a run, tied.
-use Rattle.std.proofs.Common.{arith, ◌≡◌, refl, sym, ◌∙◌, ap, subst, ℕ, ◌+◌, ◌<◌, ◌≤◌, ◌==◌, ◌||◌, not, nat_eq, Bool, true, false, cond, List, [], ◌∷◌, length, map, Option, Some, None, Result, Ok, Err}
+use Rattle.std.proofs.Common.{arith, ◌≡◌, refl, sym, ◌∙◌, ap, subst, ℕ, ◌+◌, ◌-◌, ◌<◌, ◌≤◌, ◌==◌, ◌||◌, not, nat_eq, Bool, true, false, cond, List, [], ◌∷◌, length, map, Option, Some, None, Result, Ok, Err}
 use Rattle.std.proofs.lemmas.Bool.Decides.{nat_tests}
 use Rattle.std.proofs.lemmas.List.Quantifiers.{position-Some}
 use Rattle.std.proofs.Math.ListN.{length-set}
@@ -10,8 +10,8 @@ use Rattle.bus_memory.specs.declared.window.Window.{Window}
 use Rattle.bus_memory.specs.declared.window.Window.TheVariants as windows
 use Rattle.bus_memory.specs.Windows.{IsWindow, start, is_fifo}
 use Rattle.bus_memory.specs.Memory.{Memory, new_memory, slot_at, with_bytes}
-use Rattle.bus_memory.specs.Access.{judged, judged_at, spot_of, takes_writes, write_at, write_step}
-use Rattle.bus_memory.specs.Laws.{IsWhole, IsFound, size}
+use Rattle.bus_memory.specs.Access.{judged, judged_at, spot_of, takes_writes, write_at, write_step, set_at, set_step}
+use Rattle.bus_memory.specs.Laws.{IsWhole, IsFound, IsInside, size}
 use Rattle.bus_memory.proofs.Found.{window_law}
 use Rattle.bus_memory.proofs.Written.{whole_set, last_set_law}
 use Rattle.sbp_base.specs.Quadlets.{quad, with_quad}
@@ -28,8 +28,8 @@ use Rattle.orb_list.specs.Tickets.{TicketParts}
 use Rattle.orb_list.specs.Requests.{Asked, IsRequest}
 use Rattle.orb_list.specs.Table as table
 use Rattle.orb_list.specs.Table.{SlotTable, slot_in, is_free, unused, waiting, may_prepare, next_ticket, extended, low_of, low_in, high_in, waits_low, waits_high, low_for, high_for, with_link, with_orb_quad, high_of, as_dummy, passed_for, link_set, released, freed, state_after}
-use Rattle.orb_list.specs.Runs.{Call, Prepare, LinkLow, LinkHigh, MakeDummy, TakeStatus, DropList, FreeAll, Pin, Unpin, TryWrite, Fill, Note, Prepared, LowWritten, Linked, Dummied, Taken, Dropped, Freed, if_ok, if_some, left_by, noted_by, run}
-use Rattle.orb_list.specs.Kept.{Kept, new_kept, in_slot, next_is, low_is, is_dummy, kept_in, AreProper, ServedLaw}
+use Rattle.orb_list.specs.Runs.{Call, Prepare, LinkLow, LinkHigh, MakeDummy, TakeStatus, DropList, FreeAll, Pin, Unpin, TryWrite, Fill, SetQuad, Note, Prepared, LowWritten, Linked, Dummied, Taken, Dropped, Freed, if_ok, if_some, left_by, noted_by, run}
+use Rattle.orb_list.specs.Kept.{Kept, new_kept, in_slot, next_is, low_is, is_dummy, kept_in, IsManaged, AreProper, ServedLaw}
 use Rattle.orb_list.specs.Holds.{HoldsLink, HoldsList, HoldsPresent}
 use Rattle.orb_list.proofs.Closed.{closed_whole}
 use Rattle.orb_list.proofs.Held.{keeps_written, high_before}
@@ -325,6 +325,15 @@ imaged_write : (s : SlotTable) (m : Memory) (ns : List Note) (offset : ℕ) (byt
 unfolding judged
 imaged_write s m ns offset bytes i = imaged_write_when s m ns offset bytes ((length bytes == 0) || is_fifo offset) i
 
+-- A quadlet is set in a place of management.
+imaged_quad : (s : SlotTable) (m : Memory) (ns : List Note) (offset value : ℕ) → IsManaged offset → Imaged s m ns → Imaged s (set_step m offset value) ns
+imaged_quad s m ns offset value p i =
+    let b = p.begins in
+    let e = p.ends in
+    let inside : IsInside m offset 4 (windows.Management p.place) = record { exists = p.exists; begins = b; ends = e } in
+    subst (λ (found : Option Spot). Imaged s (set_at m value found) ns) (sym (window_law.found m offset 4 (windows.Management p.place) i.whole (omega arith) inside refl))
+    (imaged_data s m ns (windows.Management p.place) (offset - start (windows.Management p.place)) (big_bytes 4 value) tt p.exists (omega arith) i)
+
 -- Every call.
 imaged_call : (call : Call) (s : SlotTable) (m : Memory) (ns : List Note) → AreProper (call ∷ []) → Tied s.slots ns → Imaged s m ns → Imaged (left_by call s m).0 (left_by call s m).1 (noted_by call s m ns)
 unfolding table.prepare_step table.low_step table.high_step table.dummy_step table.status_step table.drop_step table.free_all_step table.pin_step table.unpin_step
@@ -339,10 +348,12 @@ imaged_call (Pin u) s m ns p t i = imaged_pin_at s m u ns (table.judged s u) i
 imaged_call Unpin s m ns p t i = imaged_unpin_for s m ns s.pinned t.size i
 imaged_call (TryWrite offset bytes) s m ns p t i = imaged_write s m ns offset bytes i
 imaged_call (Fill slot at bytes) s m ns p t i = imaged_data s m ns (windows.Buffer slot) at bytes tt p.0 p.1 i
+imaged_call (SetQuad offset value) s m ns p t i = imaged_quad s m ns offset value p.0 i
 
 first_proper : (call : Call) (calls : List Call) → AreProper (call ∷ calls) → AreProper (call ∷ []) × AreProper calls
 first_proper (Prepare asked) calls p = ((p.0, tt), p.1)
 first_proper (Fill slot at bytes) calls p = ((p.0, p.1, tt), p.2)
+first_proper (SetQuad offset value) calls p = ((p.0, tt), p.1)
 first_proper LinkLow calls p = (tt, p)
 first_proper LinkHigh calls p = (tt, p)
 first_proper (MakeDummy t) calls p = (tt, p)

@@ -19,7 +19,7 @@ use Rattle.orb_list.specs.declared.slot.Slot.{Slot}
 use Rattle.orb_list.specs.Tickets.{TicketParts, is_ticket, ticket}
 use Rattle.orb_list.specs.Requests.{Asked}
 use Rattle.orb_list.specs.Table.{SlotTable, unused, slot_in, is_free, waiting, waits_in, released, is_over, over_in, freed, rested, state_after, passed_for, lowest, is_mid_link, free_slot, may_prepare, next_ticket, prepare_at, prepare_step, low_for, low_step, high_for, high_step, waits_low, waits_high, with_link, judged, dummy_at, dummy_step, slot_of, status_at, status_for, status_step, drop_for, drop_step, free_all_step, pin_at, pin_step, unpin_for, unpin_step}
-use Rattle.orb_list.specs.Runs.{Call, Prepare, LinkLow, LinkHigh, MakeDummy, TakeStatus, DropList, FreeAll, Pin, Unpin, TryWrite, Fill, Note, Prepared, LowWritten, Linked, Dummied, Taken, Dropped, Freed, if_ok, if_some, left_by, noted_by, run, waits}
+use Rattle.orb_list.specs.Runs.{Call, Prepare, LinkLow, LinkHigh, MakeDummy, TakeStatus, DropList, FreeAll, Pin, Unpin, TryWrite, Fill, SetQuad, Note, Prepared, LowWritten, Linked, Dummied, Taken, Dropped, Freed, if_ok, if_some, left_by, noted_by, run, waits}
 use Rattle.orb_list.specs.Laws.{SlotsLaw}
 use Rattle.orb_list.proofs.Sound.{slot_after}
 
@@ -340,6 +340,7 @@ tied_call (Pin t) s m ns i = tied_pin s t ns i
 tied_call Unpin s m ns i = tied_unpin s m ns i
 tied_call (TryWrite offset bytes) s m ns i = i
 tied_call (Fill slot at bytes) s m ns i = i
+tied_call (SetQuad offset value) s m ns i = i
 
 tied_new : Tied (replicate 32 unused) []
 tied_new = record {

@@ -2,7 +2,7 @@
 use Rattle.std.specs.Prelude.{◌≡◌, ℕ, ◌*◌, ◌+◌, ◌<◌, ◌≤◌, ◌==◌, if◌then◌else◌, List, [], ◌∷◌, length, take, drop, Option, Some, None}
 use Rattle.bus_memory.specs.declared.slot.SlotMemory.{SlotMemory}
 use Rattle.bus_memory.specs.declared.window.Window.TheVariants as windows
-use Rattle.bus_memory.specs.Windows.{start}
+use Rattle.bus_memory.specs.Windows.{IsWindow, start}
 use Rattle.bus_memory.specs.Memory.{slot_at}
 use Rattle.orb_layout.specs.declared.pointer.OrbPointer.{OrbPointer}
 use Rattle.orb_layout.specs.declared.pointer.OrbPointer.TheVariants.{Null, At}
@@ -15,7 +15,7 @@ use Rattle.orb_list.specs.Layout.{orb_of, table_bytes}
 use Rattle.orb_list.specs.declared.list.Linking.{Linking}
 use Rattle.orb_list.specs.Table.{low_of, waits_high}
 use Rattle.orb_list.specs.Holds.{IsBefore}
-use Rattle.orb_list.specs.Runs.{Call, Prepare, LinkLow, LinkHigh, MakeDummy, TakeStatus, DropList, FreeAll, Pin, Unpin, TryWrite, Fill, Note, Prepared, LowWritten, Linked, Dummied, Taken, Dropped, Freed, run}
+use Rattle.orb_list.specs.Runs.{Call, Prepare, LinkLow, LinkHigh, MakeDummy, TakeStatus, DropList, FreeAll, Pin, Unpin, TryWrite, Fill, SetQuad, Note, Prepared, LowWritten, Linked, Dummied, Taken, Dropped, Freed, run}
 
 -- an ORB by its ticket and its request, its next pointer and the low quadlet that was written for it, and its format
 pub record Kept : Type 0 where
@@ -68,7 +68,15 @@ abbrev pub IfServed : Option Kept → SlotMemory → Type 0
 IfServed None memory = Unit {0}
 IfServed (Some o) memory = IsServed o memory
 
--- Each call that prepares has a request of a command, and each that fills stays inside a buffer.
+-- A quadlet at this address stands in a place of management.
+pub record IsManaged (offset : ℕ) : Type 0 where
+  pub place : ℕ
+  pub exists : IsWindow (windows.Management place)
+  pub begins : start (windows.Management place) ≤ offset
+  pub ends : offset + 4 ≤ start (windows.Management place) + 32
+
+-- Each call that prepares has a request of a command, each that fills stays inside a buffer, and each that sets a quadlet does so
+-- in a place of management.
 abbrev pub AreProper : List Call → Type 0
 AreProper [] = Unit {0}
 AreProper (Prepare asked ∷ calls) = IsRequest asked × AreProper calls
@@ -82,6 +90,7 @@ AreProper (FreeAll ∷ calls) = AreProper calls
 AreProper (Pin t ∷ calls) = AreProper calls
 AreProper (Unpin ∷ calls) = AreProper calls
 AreProper (TryWrite offset bytes ∷ calls) = AreProper calls
+AreProper (SetQuad offset value ∷ calls) = IsManaged offset × AreProper calls
 
 -- Over every list of calls each slot has the ORB that was prepared last in it: its next pointer is null until the high
 -- quadlet of the ORB behind it was written, and then that ORB's address; the other bytes are as prepared, but for the format

@@ -2,14 +2,15 @@
 use Rattle.std.specs.Prelude.{ℕ, ◌&&◌, ◌||◌, not, Bool, false, List, [], ◌∷◌, Option, Some, None, Result, Ok, Err}
 use Rattle.bus_memory.specs.declared.window.Window.TheVariants as windows
 use Rattle.bus_memory.specs.Memory.{Memory, new_memory, with_bytes}
-use Rattle.bus_memory.specs.Access.{write_step}
+use Rattle.bus_memory.specs.Access.{write_step, set_step}
 use Rattle.orb_layout.specs.declared.status.StatusBlock.{StatusBlock}
 use Rattle.orb_list.specs.declared.fault.ListFault.{ListFault}
 use Rattle.orb_list.specs.Tickets.{TicketParts, is_ticket}
 use Rattle.orb_list.specs.Requests.{Asked}
 use Rattle.orb_list.specs.Table.{SlotTable, new_table, low_step, high_step, waits_low, waits_high, prepare_step, dummy_step, status_step, drop_step, free_all_step, pin_step, unpin_step}
 
--- the calls: those of the slots, and of the image a write of the target that is tried and bytes that are filled
+-- the calls: those of the slots, and of the image a write of the target that is tried, bytes that are filled and a quadlet
+-- that is set
 pub data Call : Type 0 where
   Prepare : Asked → Call
   LinkLow : Call
@@ -22,6 +23,7 @@ pub data Call : Type 0 where
   Unpin : Call
   TryWrite : ℕ → List ℕ → Call
   Fill : ℕ → ℕ → List ℕ → Call
+  SetQuad : ℕ → ℕ → Call
 
 -- what was done: an ORB was prepared for a request; a quadlet of a next pointer was written into the ORB in a slot, for the
 -- ORB that is linked there; an ORB became a dummy; its status was taken; a list was dropped; all slots were freed
@@ -55,6 +57,7 @@ left_by (Pin t) s m = ((pin_step s t).1, m)
 left_by Unpin s m = unpin_step s m
 left_by (TryWrite offset bytes) s m = (s, (write_step m offset bytes).1)
 left_by (Fill slot at bytes) s m = (s, with_bytes m (windows.Buffer slot) at bytes)
+left_by (SetQuad offset value) s m = (s, set_step m offset value)
 
 -- a note where a call was not refused
 abbrev pub if_ok : {A : Type 0} → (A → Note) → Result A ListFault → List Note → List Note
@@ -78,6 +81,7 @@ noted_by (Pin t) s m ns = ns
 noted_by Unpin s m ns = ns
 noted_by (TryWrite offset bytes) s m ns = ns
 noted_by (Fill slot at bytes) s m ns = ns
+noted_by (SetQuad offset value) s m ns = ns
 
 abbrev pub happens : Run → Call → Run
 happens r call = record {

@@ -34,7 +34,8 @@ pub fn slots_stay_held()
 {}
 
 /// Over every list of calls the bytes of a slot's buffer stay until the slot is given out again, its buffer is
-/// filled, or a write of the target is served there, which is only where the direction of its ORB is 1.
+/// filled or a quadlet is set there, or a write of the target is served there, which is only where the direction
+/// of its ORB is 1.
 #[tactic(auto, using(crate::proofs::Buffers::buffer_law))]
 pub fn buffers_stay()
     ensures { BufferLaw }
