@@ -1,6 +1,6 @@
 use crate::disc_tests::CountedDisc;
 use crate::{Bay, read_unsolicited, write_unsolicited};
-use rbc_disk::{BufferPlan, Medium, Need, Outcome, RamMedium, Sense, Unit};
+use rbc_disk::{BufferPlan, FaultyMedium, Medium, Need, Outcome, RamMedium, Sense, Unit};
 use sbp_base::NoMemory;
 use std::cell::Cell;
 use std::rc::Rc;
@@ -13,6 +13,8 @@ const ALLOW: [u8; 12] = [0x1e, 0, 0, 0, 0, 0, 0, 0, 0, 0, 0, 0];
 const EJECT: [u8; 12] = [0x1b, 0, 0, 0, 2, 0, 0, 0, 0, 0, 0, 0];
 
 const LOAD: [u8; 12] = [0x1b, 0, 0, 0, 3, 0, 0, 0, 0, 0, 0, 0];
+
+const VERIFY: [u8; 12] = [0x2f, 0, 0, 0, 0, 0, 0, 0, 1, 0, 0, 0];
 
 const NO_DATA: BufferPlan = BufferPlan {
     to_initiator: true,
@@ -72,7 +74,29 @@ fn a_prevented_eject(rt: HostRuntime) -> Result<(), Fail> {
     Ok(())
 }
 
-/// The same with discs that count their drops.
+/// A bay of one block with a disc whose first call fails.
+fn failing_disc(rt: &impl AllocGlobal) -> Result<Bay<FaultyMedium>, NoMemory> {
+    let failing = Vec::from_slice(rt.alloc(), &[1])?;
+    let mut shelf = Vec::new(rt.alloc());
+    shelf.push(FaultyMedium::new(rt.alloc(), 1, 0x77, failing)?)?;
+    Ok(Bay::new(1, shelf))
+}
+
+/// A VERIFY makes the call of the disc in the tray, which fails the first time.
+#[test]
+fn a_verify_of_the_disc(rt: HostRuntime) -> Result<(), Fail> {
+    let mut bay = failing_disc(&rt).ok().ok_or("memory")?;
+    let mut answer = vec![in rt.alloc(); 0; 16384]?;
+    let ended = run_all(&rt, &mut bay, &[VERIFY, VERIFY], answer.as_mut_slice());
+    let ended = ended.ok().ok_or("memory")?;
+    assert_eq!(rt;
+        ended.as_slice(),
+        [Outcome::Check(Sense::READ_FAILED), GOOD].as_slice()
+    );
+    Ok(())
+}
+
+/// A bay of one block with discs that count their drops.
 fn counted_discs(
     rt: &impl AllocGlobal,
     drops: &Rc<Cell<u32>>,
