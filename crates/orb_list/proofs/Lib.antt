@@ -5,6 +5,8 @@ pub mod Closed
 pub mod Sound
 pub mod Held
 pub mod Tied
+pub mod Numbered
+pub mod Finds
 pub mod Spelled
 pub mod Imaged
 pub mod Tables

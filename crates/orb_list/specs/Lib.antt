@@ -6,6 +6,7 @@ pub mod Holds
 pub mod Runs
 pub mod Kept
 pub mod Laws
+pub mod Finds
 pub mod Stays
 pub mod Buffers
 pub mod Tables

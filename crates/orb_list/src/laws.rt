@@ -1,4 +1,5 @@
 ghost use Rattle.orb_list.specs.Buffers.{BufferLaw};
+ghost use Rattle.orb_list.specs.Finds.{FindLaw};
 ghost use Rattle.orb_list.specs.Kept.{ServedLaw};
 ghost use Rattle.orb_list.specs.Laws.{SlotsLaw};
 ghost use Rattle.orb_list.specs.Stays.{StaysLaw};
@@ -9,6 +10,13 @@ ghost use Rattle.orb_list.specs.Tables.{TableLaw};
 #[tactic(auto, using(crate::proofs::Tied::slots_law))]
 pub fn slots_are_kept()
     ensures { SlotsLaw }
+{}
+
+/// Over every list of calls the ORB that is found by a number is the one that waits and has it, none is found
+/// exactly where there is no such ORB, and every ORB that waits is of the present list.
+#[tactic(auto, using(crate::proofs::Finds::find_law))]
+pub fn numbers_are_found()
+    ensures { FindLaw }
 {}
 
 /// Over every list of calls the next pointer of each ORB that was prepared last in its slot is null until

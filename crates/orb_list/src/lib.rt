@@ -13,7 +13,8 @@ mod ticket;
 
 pub use fault::ListFault;
 pub use laws::{
-    buffers_stay, orbs_are_served, page_table_reads_back, slots_are_kept, slots_stay_held,
+    buffers_stay, numbers_are_found, orbs_are_served, page_table_reads_back, slots_are_kept,
+    slots_stay_held,
 };
 pub use list::{Link, Linking, PresentList};
 pub use request::Request;
