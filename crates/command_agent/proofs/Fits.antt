@@ -3,12 +3,10 @@ use Rattle.std.proofs.Common.{◌≡◌, ◌∙◌, ap, sym, ℕ, ◌==◌, ◌<
 use Rattle.std.specs.Prelude.{◌&&◌, ◌||◌, not, is_none}
 use Rattle.std.proofs.lemmas.Bool.Decides.{nat_tests}
 use Rattle.rbc_command.specs.declared.sense.Sense.{Sense}
-use Rattle.rbc_command.specs.declared.command.Command.{Command}
-use Rattle.rbc_command.specs.declared.command.Command.TheVariants as commands
 use Rattle.rbc_command.specs.declared.operation.Operation.{Operation}
 use Rattle.rbc_command.specs.declared.operation.Operation.TheVariants as operations
 use Rattle.rbc_command.specs.SenseData.{sense, no_command, bad_field}
-use Rattle.rbc_command.specs.Commands.{operation_in, command_by, command_in, unless_bad}
+use Rattle.rbc_command.specs.Commands.{operation_in, command_by, command_in}
 use Rattle.rbc_disk.specs.declared.request.Request.{Request}
 use Rattle.rbc_disk.specs.declared.command.BufferPlan.{BufferPlan}
 use Rattle.rbc_disk.specs.declared.command.Need.{Need}
@@ -84,9 +82,6 @@ data_by : (is_bay : Bool) (cdb : List ℕ) → 0 < data_length_of is_bay cdb →
 unfolding request_of
 data_by true cdb h = grind arith
 data_by false cdb h = refl
-
-moved_small : (n : ℕ) (command : Command) → data_length_by (plain_request (unless_bad (nat_lt 32 n) (commands.Write 0 n))) ≤ 16384
-moved_small n command = grind (arith, nat_tests)
 
 data_small_in : (operation : Operation) (cdb : List ℕ) → data_length_by (plain_request (command_in operation cdb)) ≤ 16384
 data_small_in operations.TestReady cdb = omega arith

@@ -14,7 +14,7 @@ use Rattle.mgmt_agent.specs.declared.decision.Effect.{Effect}
 use Rattle.mgmt_agent.specs.declared.decision.Outcome.{Outcome}
 use Rattle.mgmt_agent.specs.declared.decision.Response.{Response}
 use Rattle.mgmt_agent.specs.declared.decision.Response.TheVariants as responses
-use Rattle.mgmt_agent.specs.Decisions.{refused, good, login_decided, back_decided, left_decided, on_login, decide_query, decide_login, decide_function, decide, effect_of, response_bytes}
+use Rattle.mgmt_agent.specs.Decisions.{refused, login_decided, back_decided, left_decided, on_login, decide_query, decide_login, decide_function, decide, effect_of, response_bytes}
 
 abbrev pub speaks : Response → Bool
 speaks responses.Nothing = false
@@ -26,9 +26,6 @@ pub record IsFit (outcome : Outcome) : Type 0 where
 
 refused_fit : (status : Meaning) → IsFit (refused status)
 refused_fit status = record { answered = λ e. absurd (let no : false ≡ true = e in cc) }
-
-good_fit : (effect : Effect) → IsFit (good effect)
-good_fit effect = record { answered = λ e. refl }
 
 login_fit : (orb : ManagementOrb) (result : Result Entered LoginRefusal) → IsFit (login_decided orb result)
 login_fit orb (Err refusal) = record { answered = λ e. absurd (let no : false ≡ true = e in cc) }

@@ -1,5 +1,5 @@
 -- Each call keeps what ties the manager to the notes, and its notes are lawful.
-use Rattle.std.specs.Prelude.{◌≡◌, ℕ, suc, ◌+◌, ◌*◌, ◌^◌, ◌==◌, ◌&&◌, not, Bool, true, false, cond, List, [], ◌∷◌, length, take, Option, Some, None, refl}
+use Rattle.std.specs.Prelude.{◌≡◌, ℕ, suc, ◌+◌, ◌*◌, ◌^◌, ◌==◌, ◌&&◌, not, Bool, true, false, cond, List, [], ◌∷◌, length, Option, Some, None, refl}
 use Rattle.std.proofs.Common.{arith, ap, sym, ◌∙◌, subst}
 use Rattle.std.proofs.lemmas.Bool.Decides.{nat_tests}
 use Rattle.std.proofs.lemmas.List.{take_all}
@@ -77,10 +77,6 @@ record Kept (operation : Option Operation) (notes : List Note) : Type 0 where
 -- An operation fails or ends.
 fail_kept : (cause : FailCause) (notes : List Note) → under_way notes ≡ true → Lawful notes → Kept None (failed cause ∷ notes)
 fail_kept cause notes u l = record { tied = refl; lawful = (u, l) }
-
--- The status block that is asked for is written whole.
-whole_status : (orb : ℕ) (outcome : Outcome) → take 8 (status_block orb outcome.status) ≡ status_block orb outcome.status
-whole_status orb outcome = refl
 
 -- what a decision stands on
 record Ready (notes : List Note) : Type 0 where

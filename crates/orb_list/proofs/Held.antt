@@ -22,7 +22,7 @@ use Rattle.orb_list.specs.declared.slot.Slot.{Slot}
 use Rattle.orb_list.specs.Tickets.{TicketParts}
 use Rattle.orb_list.specs.Requests.{Asked, IsRequest}
 use Rattle.orb_list.specs.Layout.{behind, table_bytes, orb_of, data_in_segments, data_written, written}
-use Rattle.orb_list.specs.Table.{unused, slot_in, is_free, free_state, is_over, released, freed, rested, closed, low_in, high_in, waits_low, waits_high, waits_in, waiting, state_after, with_orb_quad}
+use Rattle.orb_list.specs.Table.{unused, slot_in, is_free, free_state, is_over, released, freed, closed, low_in, high_in, waits_low, waits_high, waits_in, waiting, state_after, with_orb_quad}
 use Rattle.orb_list.specs.Holds.{IsBefore, HoldsLink, KeepsLink, HoldsPresent, HoldsSlots}
 use Rattle.orb_list.proofs.Closed.{closed_at, closed_whole}
 use Rattle.orb_layout.specs.declared.status.StatusBlock.{StatusBlock}
@@ -141,18 +141,6 @@ held_at slots k t x false e h f = ap (λ (s : Slot). is_free s) (slot_after slot
 
 pub held_set : (slots : List Slot) (m : Memory) (k : ℕ) (x : Slot) → k < length slots → is_free x ≡ is_free (slot_in slots k) → HoldsSlots slots m → HoldsSlots (slice_set slots k x) m
 held_set slots m k x l f h = record { whole = h.whole; armed = λ number b. h.armed number b ∙ ap not (sym (held_at slots k number x _ refl l f)) }
-
-rested_free : (slot : Slot) (b : Bool) → is_free slot ≡ b → is_free (cond b slot (record slot { state = states.Resting })) ≡ b
-rested_free slot true e = e
-rested_free slot false e = refl
-
-pub held_rested : (slots : List Slot) (m : Memory) → length slots ≡ 32 → HoldsSlots slots m → HoldsSlots (map rested slots) m
-held_rested slots m l h = record {
-  whole = h.whole;
-  armed = λ number b.
-      h.armed number b
-      ∙ ap not (sym (ap (λ (s : Slot). is_free s) (get_or-map rested slots number unused unused (omega arith)) ∙ rested_free (slot_in slots number) _ refl));
-}
 
 sum-cons : (count : ℕ) (rest : List ℕ) → sum (count ∷ rest) ≡ count + sum rest
 sum-cons count rest = sum_by-cons (λ x. x) count rest

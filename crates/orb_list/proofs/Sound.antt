@@ -13,8 +13,8 @@ use Rattle.orb_list.specs.declared.slot.Slot.{Slot}
 use Rattle.orb_layout.specs.declared.status.StatusBlock.{StatusBlock}
 use Rattle.orb_layout.specs.StatusBlocks.{row_of}
 use Rattle.orb_list.specs.Tickets.{TicketParts}
-use Rattle.orb_list.specs.Table.{SlotTable, unused, slot_in, free_state, is_free, is_done, next_is_linked, over_in, is_over, released, link_set, passed_for, state_after, extended, orb_number, lowest}
-use Rattle.orb_list.specs.Holds.{IsIn, HoldsLink, HoldsPresent, KeepsLink, IsSound}
+use Rattle.orb_list.specs.Table.{SlotTable, unused, slot_in, free_state, is_free, is_done, next_is_linked, over_in, is_over, released, passed_for, state_after, extended, orb_number, lowest}
+use Rattle.orb_list.specs.Holds.{IsIn, HoldsLink, HoldsPresent, IsSound}
 
 pub slot_after : (slots : List Slot) (k j : ℕ) (x : Slot) → k < length slots → slot_in (slice_set slots k x) j ≡ cond (nat_eq j k) x (slot_in slots j)
 slot_after slots k j x h = grind (arith, common_steps)
@@ -96,14 +96,6 @@ present_changed slots acts k (Some list) number x h l f i = record {
   tail = in_changed slots k list.tail.slot list.tail x _ refl h l f i.tail;
   link = link_changed slots k x list.tail list.link h l f i.link;
 }
-
-pub present_linked : (slots : List Slot) (acts : ℕ) (present : Option PresentList) (link : Link) → KeepsLink slots present link → HoldsPresent slots acts present → HoldsPresent slots acts (link_set present link)
-present_linked slots acts None link k i = tt
-present_linked slots acts (Some list) link k i = record { count = i.count; tail = i.tail; link = k }
-
-pub present_more : (slots : List Slot) (acts : ℕ) (present : Option PresentList) → HoldsPresent slots acts present → HoldsPresent slots (acts + 1) present
-present_more slots acts None i = tt
-present_more slots acts (Some list) i = record { count = let c = i.count in omega arith; tail = i.tail; link = i.link }
 
 pub present_added : (slots : List Slot) (acts : ℕ) (present : Option PresentList) (t : TicketParts) → length slots ≡ 32 → t.slot < 32 → t.number ≡ orb_number present → is_free (slot_in slots t.slot) ≡ true → HoldsPresent slots acts present
     → HoldsPresent (slice_set slots t.slot (record { state = states.Waiting; last = Some t })) (acts + 1) (Some (extended present t))

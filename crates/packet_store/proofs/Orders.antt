@@ -46,9 +46,6 @@ record Tied (a b : ℕ) (x y : Ordering) : Type 0 where
 tied : (a b : ℕ) (x y : Ordering) → is_gt (ordering_then (nat_cmp a b) x) ≡ false → is_gt (ordering_then (nat_cmp b a) y) ≡ false → Tied a b x y
 tied a b x y e f = record { equal = grind (arith, nat_tests); first = grind (arith, nat_tests); second = grind (arith, nat_tests) }
 
-in_place : (p q : Place) → is_eq (place_cmp p q) ≡ (is_same p.transaction q.transaction && (p.serial == q.serial))
-in_place p q = place_at p.transaction q.transaction p.serial q.serial
-
 pub or_by : (b x : Bool) → cond b true x ≡ (b || x)
 or_by true x = refl
 or_by false x = refl

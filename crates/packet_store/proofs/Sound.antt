@@ -168,8 +168,6 @@ fewer index after u s by h = record {
 }
 
 -- ---- withdrawing
-drop_both : (a b : Bool) → (a ≡ true → b ≡ false) → Bool → Bool
-drop_both a b h x = x
 
 withdrawn_step : (u : Transaction) (last s : ℕ) (k : Kept) (ks rest : List Kept) (b : Bool) → (s == k.serial) ≡ b → ((s == k.serial) ≡ true → is_earlier u last k ≡ true) → withdrawn u last rest ≡ withdrawn u last ks → withdrawn u last (cond (not b) (k ∷ rest) rest) ≡ cond (not (is_earlier u last k)) (k ∷ withdrawn u last ks) (withdrawn u last ks)
 withdrawn_step u last s k ks rest true d h e = rw (h d) e

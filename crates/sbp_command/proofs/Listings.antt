@@ -319,19 +319,6 @@ read_fails before old new number rest h c rose e1 e2 e3 = (
 
 -- ---- what is written of one line
 
-pub text_listed : {A : Type 0} (old new : Option (List ℕ)) (before now : ℕ) (result : Result A Status) (number : ℕ) (text : List ℕ) (read : Result (List ℕ) LineFault) → read ≡ Ok text → WritesFront old new before now result text
-    → WritesLine old new before now result number read
-text_listed {A = A} old new before now result number text read e w = subst (WritesLine old new before now result number) (sym e) (by_result result w)
-  where
-    by_result : (result : Result A Status) → WritesFront old new before now result text → WritesLine old new before now result number (Ok text)
-    by_result (Ok done) w = record { len = w.len; written = w.written; later = w.later; ends = w.whole }
-    by_result (Err statuses.WriteFault) w = record { len = w.len; written = w.written; later = w.later; ends = w.ends }
-    by_result (Err statuses.NoMemory) w = record { len = w.len; written = w.written; later = w.later; ends = tt }
-    by_result (Err statuses.Done) w = absurd w.ends
-    by_result (Err statuses.Words) w = absurd w.ends
-    by_result (Err statuses.Script) w = absurd w.ends
-    by_result (Err statuses.ReadFault) w = absurd w.ends
-
 pub fault_listed : {A B : Type 0} (old new : Option (List ℕ)) (before now : ℕ) (done : A) (number : ℕ) (why : LineFault) (read : Result (List ℕ) LineFault) → read ≡ Err why → WritesFront old new before now (Ok done) (fault_text number (fault_number why))
     → WritesLine {A = B} old new before now (Err statuses.Script) number read
 fault_listed old new before now done number why read e w =
@@ -348,6 +335,3 @@ fault_torn {A = A} {B = B} status old new before now number why read e w = subst
     by_status statuses.Words w = absurd w.ends
     by_status statuses.Script w = absurd w.ends
     by_status statuses.ReadFault w = absurd w.ends
-
-pub none_listed : {A : Type 0} (old : Option (List ℕ)) (before : ℕ) (number : ℕ) (read : Result (List ℕ) LineFault) → WritesLine {A = A} old old before before (Err statuses.NoMemory) number read
-none_listed old before number read = record { len = 0; written = Appends-nil old; later = omega arith; ends = tt }

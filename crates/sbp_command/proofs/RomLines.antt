@@ -273,6 +273,3 @@ read_fails before old new number rest quads h c rose e1 e2 e3 = (
 
 pub none_told : {A : Type 0} (old : Option (List ℕ)) (before number : ℕ) (done : A) (read : Result (List ℕ) LineFault) (after : List ℕ) → read ≡ Ok after → WritesLine old old before before (Ok done) number (quiet read)
 none_told {A = A} old before number done read after e = subst (λ r. WritesLine {A = A} old old before before (Ok done) number (quiet r)) (sym e) (record { len = 0; written = Appends-nil old; later = omega arith; ends = refl })
-
-pub fault_told : {A : Type 0} (result : Result A Status) (old new : Option (List ℕ)) (before now number : ℕ) (why : LineFault) (read : Result (List ℕ) LineFault) → read ≡ Err why → WritesLine old new before now result number (Err why) → WritesLine old new before now result number (quiet read)
-fault_told result old new before now number why read e w = subst (λ r. WritesLine old new before now result number (quiet r)) (sym e) w

@@ -13,7 +13,7 @@ use Rattle.script_text.specs.Script.{Script, onto_script, script_from, initiator
 use Rattle.script_text.specs.declared.fault.LineFault.TheVariants as script_faults
 use Rattle.sbp_command.specs.declared.script.LineFault.{LineFault}
 use Rattle.sbp_command.specs.declared.script.LineFault.TheVariants.{TooMany, TooLong}
-use Rattle.sbp_command.specs.Script.{NoFeed, IsWhole, is_surely_long, not_served, served_from, if_served, says, begun_after, served_lines, script, fault_number}
+use Rattle.sbp_command.specs.Script.{NoFeed, IsWhole, is_surely_long, not_served, served_from, if_served, says, begun_after, script, fault_number}
 use Rattle.sbp_command.specs.Session.{has_some}
 
 -- the parts between line feeds
@@ -103,6 +103,11 @@ no_feed-all [] h = tt
 no_feed-all (x ∷ xs) h = (All-head (λ byte. (byte == 10) ≡ false) x xs h, no_feed-all xs (All-tail (λ byte. (byte == 10) ≡ false) x xs h))
 
 -- ---- the script that the list serves, line by line
+
+-- the script of lines that are counted from `number` on
+abbrev pub served_lines : ℕ → Bool → List (List ℕ) → Script
+served_lines number begun [] = record { events = []; fault = None }
+served_lines number begun (line ∷ rest) = onto_script number (says number begun line) (served_lines (suc number) (begun_after begun (says number begun line)) rest)
 
 -- a list that serves an event has one initiator behind it
 with_event : (begun : Bool) (event : Event) → is_served begun event ≡ true → initiators_after (initiators begun) (Ok (Some event)) ≡ 1

@@ -8,7 +8,7 @@ use Rattle.sbp_journal.specs.Run.{Run}
 use Rattle.plain_list.specs.Plain.{PlainState}
 use Rattle.sbp_command.specs.Script.{says, fault_number, is_surely_long}
 use Rattle.sbp_command.specs.Headline.{Outside, KeepsMedia}
-use Rattle.sbp_command.specs.Session.{Service, serves_run, serves_decode, serves_rom, IsReady, Served, CanServe, RanSoFar, LineFails, WritesLine, ServesLine, InRun, InRom, StandsAt, Serves, IsFresh, Ends, AllServed, Closes}
+use Rattle.sbp_command.specs.Session.{Service, serves_run, serves_decode, serves_rom, IsReady, Served, RanSoFar, LineFails, WritesLine, ServesLine, InRun, InRom, StandsAt, Serves, IsFresh, Ends, AllServed, Closes}
 use Rattle.sbp_command.specs.declared.session.Server.{Server}
 use Rattle.sbp_command.specs.declared.session.Server.TheVariants.{Run as runs, Decode, Rom as roms}
 use Rattle.sbp_command.specs.declared.status.Status.{Status}
@@ -20,11 +20,6 @@ use Rattle.sbp_command.proofs.Listings as listings
 use Rattle.sbp_command.proofs.RomLines as gathering
 
 -- ---- what serves the lines
-
-pub can_serve : (server : Server) (number : ℕ) → Served server number → CanServe server (number + 1)
-can_serve (runs list) number h = omega arith
-can_serve Decode number h = tt
-can_serve (roms quads) number h = tt
 
 fresh_served : (server : Server) → IsFresh server → Served server 0
 fresh_served (runs list) e = subst (λ l. l.appended ≤ 0) (sym e) (omega arith)

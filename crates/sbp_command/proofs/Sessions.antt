@@ -16,14 +16,14 @@ use Rattle.sbp_journal.specs.declared.event.Event.{Event}
 use Rattle.sbp_journal.specs.declared.note.Note.{Note}
 use Rattle.plain_list.specs.Plain.{PlainState, Held, held, StandsFor}
 use Rattle.script_text.specs.Script.{Script, onto_script}
-use Rattle.sbp_command.specs.Script.{script, served_lines, says, begun_after, fault_number, IsWhole, is_surely_long}
+use Rattle.sbp_command.specs.Script.{script, says, begun_after, fault_number, IsWhole, is_surely_long}
 use Rattle.sbp_command.specs.Headline.{Outside, fault_text, ending, RunsOver, LeavesMedia, Torn, RunEnds}
 use Rattle.sbp_command.specs.Session.{RunState, RanLine, Tells, LineTorn, LineFails, InRun, with_said, has_some}
 use Rattle.sbp_command.specs.Session.Tells.{nothing, event, fault}
 use Rattle.sbp_command.specs.declared.status.Status.{Status}
 use Rattle.sbp_command.specs.declared.status.Status.TheVariants as statuses
 use Rattle.sbp_command.proofs.LineEnds.{lawful_run, rose_later}
-use Rattle.sbp_command.proofs.ScriptLines.{script-whole, lines-one_more, lines-last_some, lines-count, whole-line, said_events, script-line, script-end, script-long, says-long, long_fault, surely_long-bytes, no_feed-append}
+use Rattle.sbp_command.proofs.ScriptLines.{served_lines, script-whole, lines-one_more, lines-last_some, lines-count, whole-line, said_events, script-line, script-end, script-long, says-long, long_fault, surely_long-bytes, no_feed-append}
 
 -- the bytes that a source has left, as far as it tells them
 abbrev pub told : Option (List ℕ) → List ℕ
@@ -395,9 +395,6 @@ read_fails before old new state h c later rose e1 e2 e3 e4 =
     )
 
 -- ---- what a session can go on from
-
-pub short_rest : (rest : List ℕ) → is_surely_long rest ≡ false → length rest ≤ 8193
-short_rest rest h = grind arith
 
 pub some_rest : (rest : List ℕ) (empty : Bool) → empty ≡ (length rest == 0) → empty ≡ false → 0 < length rest
 some_rest rest empty e f = grind arith

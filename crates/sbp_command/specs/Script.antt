@@ -1,6 +1,6 @@
 -- The script of `run`, which the plain list serves: the numbered events in a list of bytes before the first faulty line, and that
 -- line's fault.
-use Rattle.std.specs.Prelude.{◌≡◌, ◌⊎◌, ◌++◌, ℕ, suc, ◌-◌, ◌==◌, ◌&&◌, ◌||◌, nat_lt, Bool, true, false, not, if◌then◌else◌, List, [], ◌∷◌, length, slice_index, Option, Some, None, Result, Ok, Err}
+use Rattle.std.specs.Prelude.{◌≡◌, ◌⊎◌, ◌++◌, ℕ, ◌-◌, ◌==◌, ◌&&◌, ◌||◌, nat_lt, Bool, true, false, not, if◌then◌else◌, List, [], ◌∷◌, length, slice_index, Option, Some, Result, Ok, Err}
 use Rattle.std.specs.List.{AllByRecursion}
 use Rattle.sbp_journal.specs.declared.event.Event.{Event}
 use Rattle.plain_list.specs.Plain.{is_served, initiators}
@@ -27,7 +27,7 @@ served_from begun ((number, event) ∷ rest) fault =
 abbrev pub script : List ℕ → Script
 script bytes = served_from false (whole.script bytes).events (whole.script bytes).fault
 
--- ---- its lines, one by one
+-- ---- one line of it
 
 abbrev pub if_served : Bool → Result (Option Event) ℕ → Result (Option Event) ℕ
 if_served begun (Ok (Some event)) = if is_served begun event then Ok (Some event) else Err not_served
@@ -41,11 +41,6 @@ says number begun line = if_served begun (line_says number line (initiators begu
 abbrev pub begun_after : Bool → Result (Option Event) ℕ → Bool
 begun_after begun (Ok (Some event)) = true
 begun_after begun _ = begun
-
--- the script of lines that are counted from `number` on
-abbrev pub served_lines : ℕ → Bool → List (List ℕ) → Script
-served_lines number begun [] = record { events = []; fault = None }
-served_lines number begun (line ∷ rest) = onto_script number (says number begun line) (served_lines (suc number) (begun_after begun (says number begun line)) rest)
 
 -- ---- the bytes of lines
 

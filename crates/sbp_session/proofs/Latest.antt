@@ -2,20 +2,9 @@
 use Rattle.std.specs.Prelude.{◌≡◌, [], ◌∷◌, Option, Some}
 use Rattle.std.proofs.Common.{arith}
 use Rattle.orb_layout.specs.declared.login.LoginResponse.{LoginResponse}
-use Rattle.sbp_session.specs.Moves.{Event, entered, goes, session_after, carried, kept_by, latest, latest_with, ResponseLaw}
-use Rattle.sbp_session.specs.Seats.{unstick}
+use Rattle.sbp_session.specs.Moves.{Event, entered, goes, session_after, carried, latest, latest_with, ResponseLaw}
 use Rattle.sbp_session.specs.declared.seat.Seat.{Seat}
 use Rattle.sbp_session.specs.declared.seat.Seat.TheVariants as seats
-use Rattle.sbp_session.specs.declared.seat.Origin.{Origin}
-use Rattle.sbp_session.specs.declared.seat.Origin.TheVariants as origins
-
-unstuck : (origin : Origin) (response : LoginResponse) → carried (unstick origin) ≡ Some response → kept_by origin ≡ Some response
-unstuck (origins.Out out) response e = e
-unstuck (origins.Entering entering) response e = e
-unstuck (origins.Live live) response e = e
-unstuck (origins.Held held) response e = e
-unstuck (origins.Returning held) response e = e
-unstuck (origins.Leaving held) response e = e
 
 -- What one event leaves is the login's response, or was carried before.
 step : (event : Event) (seat : Seat) (before : Option LoginResponse) (response : LoginResponse) → ((r : LoginResponse) → carried seat ≡ Some r → before ≡ Some r) → carried (goes event seat) ≡ Some response → latest_with event seat before ≡ Some response
