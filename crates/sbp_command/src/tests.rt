@@ -333,7 +333,7 @@ fn answers(
     Ok(ended.status == status && ended.written.as_slice() == written)
 }
 
-/// Only `run` alone and `decode` alone are served.
+/// Words that are in no row bring the usage line, those of a row with another word behind it too.
 #[test]
 fn other_words_are_refused(rt: HostRuntime) {
     let alloc = rt.alloc();
