@@ -4,9 +4,9 @@ use Rattle.std.specs.Prelude.{◌==◌, ◌&&◌, min, nat_lt, if◌then◌else�
 use Rattle.std.specs.List.{AllByRecursion}
 use Rattle.std.proofs.lemmas.List.{reverse-append}
 use Rattle.sbp_journal.specs.Run.{Run, with_entry, history, notes_of}
-use Rattle.sbp_journal.specs.Terms.{lists, appends, ends, statuses, slots_in_use, status_of}
+use Rattle.sbp_laws.specs.Terms.{lists, appends, ends, statuses, slots_in_use, status_of}
 use Rattle.sbp_journal.specs.Form.{HasForm}
-use Rattle.sbp_journal.specs.ActionLaw.{AreServed, none, more, NothingWaits, append_notes, append_or_refusal, served, buffer_of, slots}
+use Rattle.sbp_laws.specs.ActionLaw.{AreServed, none, more, NothingWaits, append_notes, append_or_refusal, served, buffer_of, slots}
 use Rattle.sbp_journal.specs.declared.event.Cmd.{Cmd}
 use Rattle.sbp_journal.specs.declared.event.Event.{Event}
 use Rattle.sbp_journal.specs.declared.event.Event.TheVariants as events

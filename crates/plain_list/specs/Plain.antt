@@ -12,13 +12,13 @@ use Rattle.sbp_journal.specs.declared.event.Event.{Event}
 use Rattle.sbp_journal.specs.declared.event.Event.TheVariants.{Begin, Act, Settle}
 use Rattle.sbp_journal.specs.declared.event.Action.TheVariants.{Append}
 use Rattle.sbp_journal.specs.Run.{Run, history}
-use Rattle.sbp_journal.specs.Terms.{Request, lists, appends, ends, runs, takes, statuses, request_at, unit_of}
-use Rattle.sbp_journal.specs.DiskFold.{plain_of, DisksAre, FailuresFit}
+use Rattle.sbp_laws.specs.Terms.{Request, lists, appends, ends, runs, takes, statuses, request_at, unit_of}
+use Rattle.sbp_laws.specs.DiskFold.{plain_of, DisksAre, FailuresFit}
 use Rattle.sbp_journal.specs.Form.{HasForm, IsCheck}
-use Rattle.sbp_journal.specs.ExecutionLaw.{RunsOn}
-use Rattle.sbp_journal.specs.AnswerLaw.{IsAnswerOf}
-use Rattle.sbp_journal.specs.ActionLaw.{ActionLaw, AreServed, append_notes, buffer_of, served, slots}
-use Rattle.sbp_journal.specs.Lawful.{AreLawful}
+use Rattle.sbp_laws.specs.ExecutionLaw.{RunsOn}
+use Rattle.sbp_laws.specs.AnswerLaw.{IsAnswerOf}
+use Rattle.sbp_laws.specs.ActionLaw.{ActionLaw, AreServed, append_notes, buffer_of, served, slots}
+use Rattle.sbp_laws.specs.Lawful.{AreLawful}
 
 -- the commands that wait, how many were appended and how many ended, the state of unit 0, and the notes of the latest line
 pub record PlainState : Type 0 where

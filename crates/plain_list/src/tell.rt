@@ -1,7 +1,7 @@
 ghost use Rattle.std.specs.Prelude.{◌≡◌, ◌++◌, IfOk, OnOk};
-ghost use Rattle.sbp_journal.specs.Terms.{status_of};
-ghost use Rattle.sbp_journal.specs.ExecutionLaw.{asked_data};
-ghost use Rattle.sbp_journal.specs.ActionLaw.{append_notes, served};
+ghost use Rattle.sbp_laws.specs.Terms.{status_of};
+ghost use Rattle.sbp_laws.specs.ExecutionLaw.{asked_data};
+ghost use Rattle.sbp_laws.specs.ActionLaw.{append_notes, served};
 ghost use Rattle.plain_list.specs.Plain.{request_of};
 
 use crate::buffer::{note_buffer, sent};

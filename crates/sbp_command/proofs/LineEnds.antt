@@ -7,7 +7,7 @@ use Rattle.std.proofs.lemmas.List.Concat.{flat_map-append}
 use Rattle.sbp_base.specs.Faults.{Rose}
 use Rattle.rbc_disk.specs.Disk.{Disk}
 use Rattle.sbp_journal.specs.Run.{Run, with_entry, journal, history}
-use Rattle.sbp_journal.specs.Lawful.{Lawful, AreLawful}
+use Rattle.sbp_laws.specs.Lawful.{Lawful, AreLawful}
 use Rattle.sbp_journal.specs.Text.{text_of, note_text}
 use Rattle.sbp_journal.specs.declared.event.Event.{Event}
 use Rattle.sbp_journal.specs.declared.note.Note.{Note}

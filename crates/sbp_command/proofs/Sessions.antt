@@ -9,8 +9,8 @@ use Rattle.std.proofs.lemmas.Bool.{eqb-true}
 use Rattle.std.proofs.lemmas.List.{drop_all}
 use Rattle.sbp_base.specs.Faults.{Rose}
 use Rattle.sbp_journal.specs.Run.{Run, with_entry, journal, history, events_of}
-use Rattle.sbp_journal.specs.DiskFold.{DisksAre}
-use Rattle.sbp_journal.specs.Lawful.{Lawful}
+use Rattle.sbp_laws.specs.DiskFold.{DisksAre}
+use Rattle.sbp_laws.specs.Lawful.{Lawful}
 use Rattle.sbp_journal.specs.Text.{text_of}
 use Rattle.sbp_journal.specs.declared.event.Event.{Event}
 use Rattle.sbp_journal.specs.declared.note.Note.{Note}

@@ -5,8 +5,8 @@ use Rattle.std.specs.Io.KnownBytes.{Appends, Consumes, IsAtEnd}
 use Rattle.sbp_base.specs.Faults.{Rose}
 use Rattle.rbc_disk.specs.Disk.{Disk}
 use Rattle.sbp_journal.specs.Run.{Run, journal, history, events_of}
-use Rattle.sbp_journal.specs.DiskFold.{DisksAre, FailuresFit}
-use Rattle.sbp_journal.specs.Lawful.{Lawful}
+use Rattle.sbp_laws.specs.DiskFold.{DisksAre, FailuresFit}
+use Rattle.sbp_laws.specs.Lawful.{Lawful}
 use Rattle.sbp_journal.specs.Text.{text_of}
 use Rattle.sbp_journal.specs.declared.event.Event.{Event}
 use Rattle.script_text.specs.Script.{Script}

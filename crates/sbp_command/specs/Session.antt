@@ -4,7 +4,7 @@ use Rattle.std.specs.Io.KnownBytes.{Appends, Consumes, IsAtEnd}
 use Rattle.std.specs.Str.Lines.{lines}
 use Rattle.sbp_base.specs.Faults.{Rose}
 use Rattle.sbp_journal.specs.Run.{Run, with_entry, journal, events_of}
-use Rattle.sbp_journal.specs.Lawful.{Lawful}
+use Rattle.sbp_laws.specs.Lawful.{Lawful}
 use Rattle.sbp_journal.specs.Text.{text_of}
 use Rattle.sbp_journal.specs.declared.event.Event.{Event}
 use Rattle.sbp_journal.specs.declared.note.Note.{Note}

@@ -1,7 +1,6 @@
 pub mod LineWords
 pub mod MaximalRuns
 pub mod Runs
-pub mod Orders
 pub mod WordsBack
 pub mod FieldsBack
 pub mod CanonicalBack

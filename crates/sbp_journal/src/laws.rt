@@ -1,17 +1,10 @@
 ghost use Rattle.std.specs.Prelude.{◌≡◌, ℕ, List};
 ghost use Rattle.sbp_journal.specs.Canonical as canonical;
 ghost use Rattle.sbp_journal.specs.Canonical.{AreRunsOf, runs_of};
-ghost use Rattle.sbp_journal.specs.OrderLaw.{OrderLaw, EndsInOrder};
 ghost use Rattle.std.specs.List.{AllByRecursion};
 ghost use Rattle.sbp_journal.specs.Text.{text_of};
 ghost use Rattle.sbp_journal.specs.Written.{IsWritten};
 ghost use Rattle.sbp_journal.specs.declared.note.Note as notes;
-
-/// What the order law says in the order of time: of each list the ORBs that ended are, in order and
-/// each once, a front of those that were appended.
-pub fn ends_in_order()
-    ensures { (ns : List notes.Note) → OrderLaw ns → EndsInOrder ns }
-{}
 
 /// The runs by which the canonical form of bytes goes are the maximal ones: they join to the bytes,
 /// each has a byte, and no two side by side have the same one; and no other list of runs does so.

@@ -1,5 +1,4 @@
-//! The journal: lines as events, notes, what nodes hand out, the text of a note, and the laws of a
-//! run.
+//! The journal: lines as events, notes, what nodes hand out, runs, and the text of a note.
 #![tactic(auto)]
 
 mod canonical;
@@ -18,7 +17,7 @@ mod words;
 pub use cause::{Cause, CutCause, Judged, TargetFault};
 pub use event::{Action, Cmd, Event};
 pub use journal::{Journal, Text};
-pub use laws::{ends_in_order, maximal_runs, text_determines_notes};
+pub use laws::{maximal_runs, text_determines_notes};
 pub use note::{Note, NoteBuffer};
 pub use operation::{FunctionWord, OpWord, Operation};
 pub use outbox::{Outbox, Outgoing};

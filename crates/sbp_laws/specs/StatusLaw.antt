@@ -1,6 +1,6 @@
 -- The status law: an ORB's status is taken at most once, after its end, and is its own.
 use Rattle.std.specs.Prelude.{◌≡◌, List, [], ◌∷◌, Some}
-use Rattle.sbp_journal.specs.Terms.{takes, ended_status}
+use Rattle.sbp_laws.specs.Terms.{takes, ended_status}
 use Rattle.sbp_journal.specs.declared.note.Note.{Note}
 use Rattle.sbp_journal.specs.declared.note.Note.TheVariants.{Taken}
 

@@ -7,8 +7,8 @@ use Rattle.rbc_disk.specs.Checks.{check_of}
 use Rattle.rbc_disk.specs.Runs.{need_of, data_length_of, failure_of, MayEnd}
 use Rattle.rbc_command.specs.declared.sense.Sense.{Sense}
 use Rattle.rbc_disk.specs.declared.command.Need.TheVariants.{Payload}
-use Rattle.sbp_journal.specs.Terms.{Request, runs, ends, request_at, ran_status, unit_of, place_of, plan_of, data_of}
-use Rattle.sbp_journal.specs.DiskFold.{plain_of}
+use Rattle.sbp_laws.specs.Terms.{Request, runs, ends, request_at, ran_status, unit_of, place_of, plan_of, data_of}
+use Rattle.sbp_laws.specs.DiskFold.{plain_of}
 use Rattle.sbp_journal.specs.declared.note.Note.{Note}
 use Rattle.sbp_journal.specs.declared.note.Note.TheVariants.{Ran, Ended}
 

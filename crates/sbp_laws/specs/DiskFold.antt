@@ -4,7 +4,7 @@ use Rattle.sbp_base.specs.Faults.{last_count}
 use Rattle.rbc_disk.specs.Disk.{Disk, disk_at, no_disk}
 use Rattle.rbc_disk.specs.Units.{PlainDisk, plain_disk, new_unit}
 use Rattle.rbc_disk.specs.Runs.{after_run, is_failure}
-use Rattle.sbp_journal.specs.Terms.{at_orb, at_initiator, place_of}
+use Rattle.sbp_laws.specs.Terms.{at_orb, at_initiator, place_of}
 use Rattle.sbp_journal.specs.declared.note.Note.{Note}
 use Rattle.sbp_journal.specs.declared.note.Note.TheVariants.{Ran}
 

@@ -1,8 +1,8 @@
 -- The order law, read in the order of time.
 use Rattle.std.proofs.Common.{◌≡◌, ℕ, suc, ◌<◌, ◌≤◌, Bool, true, false, List, [], ◌∷◌, ◌++◌, refl, ap, ◌∙◌, arith}
 use Rattle.std.specs.Prelude.{◌==◌, if◌then◌else◌, Some}
-use Rattle.sbp_journal.specs.Terms.{at_list, appends, ends}
-use Rattle.sbp_journal.specs.OrderLaw.{OrderLaw, EndsInOrder, ended_numbers, appended_numbers, numbers_below}
+use Rattle.sbp_laws.specs.Terms.{at_list, appends, ends}
+use Rattle.sbp_laws.specs.OrderLaw.{OrderLaw, EndsInOrder, ended_numbers, appended_numbers, numbers_below}
 use Rattle.sbp_journal.specs.declared.note.Note.{Note}
 use Rattle.sbp_journal.specs.declared.note.Note.TheVariants.{Append, Ran, Ended}
 

@@ -1,6 +1,6 @@
 -- The order law: within a list ORBs end in the order of their appends, each once, and lists and ORBs are numbered from 0.
 use Rattle.std.specs.Prelude.{◌≡◌, ℕ, zero, suc, ◌==◌, ◌<◌, ◌≤◌, if◌then◌else◌, List, [], ◌∷◌, ◌++◌, Some}
-use Rattle.sbp_journal.specs.Terms.{at_list, lists, appends, ends}
+use Rattle.sbp_laws.specs.Terms.{at_list, lists, appends, ends}
 use Rattle.sbp_journal.specs.declared.note.Note.{Note}
 use Rattle.sbp_journal.specs.declared.note.Note.TheVariants.{Append, Ran, Ended}
 

@@ -4,11 +4,11 @@ use Rattle.std.specs.List.{AllByRecursion}
 use Rattle.rbc_disk.specs.Disk.{Disk}
 use Rattle.sbp_journal.specs.Run.{Run, history}
 use Rattle.sbp_journal.specs.Form.{HasForm}
-use Rattle.sbp_journal.specs.OrderLaw.{OrderLaw}
-use Rattle.sbp_journal.specs.ExecutionLaw.{ExecutionLaw}
-use Rattle.sbp_journal.specs.StatusLaw.{StatusLaw}
-use Rattle.sbp_journal.specs.AnswerLaw.{AnswerLaw}
-use Rattle.sbp_journal.specs.ActionLaw.{ActionLaw}
+use Rattle.sbp_laws.specs.OrderLaw.{OrderLaw}
+use Rattle.sbp_laws.specs.ExecutionLaw.{ExecutionLaw}
+use Rattle.sbp_laws.specs.StatusLaw.{StatusLaw}
+use Rattle.sbp_laws.specs.AnswerLaw.{AnswerLaw}
+use Rattle.sbp_laws.specs.ActionLaw.{ActionLaw}
 use Rattle.sbp_journal.specs.declared.note.Note.{Note}
 
 -- the laws that speak of the notes alone, the latest one first

@@ -2,8 +2,8 @@
 use Rattle.std.specs.Prelude.{◌≡◌, ℕ, ◌==◌, nat_lt, if◌then◌else◌, List, [], ◌∷◌, ◌++◌, take, reverse, Option, Some}
 use Rattle.rbc_command.specs.declared.sense.Sense.{Sense}
 use Rattle.sbp_journal.specs.Run.{Entry, history}
-use Rattle.sbp_journal.specs.Terms.{appends, ends, present_list, slots_in_use, status_of}
-use Rattle.sbp_journal.specs.OrderLaw.{IsPresent}
+use Rattle.sbp_laws.specs.Terms.{appends, ends, present_list, slots_in_use, status_of}
+use Rattle.sbp_laws.specs.OrderLaw.{IsPresent}
 use Rattle.sbp_journal.specs.declared.event.Action.TheVariants as actions
 use Rattle.sbp_journal.specs.declared.event.Cmd.{Cmd}
 use Rattle.sbp_journal.specs.declared.event.Event.{Event}

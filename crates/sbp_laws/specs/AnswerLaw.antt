@@ -2,8 +2,8 @@
 use Rattle.std.specs.Prelude.{◌≡◌, ℕ, List, [], ◌∷◌, length, IfSome, IsSomeAnd}
 use Rattle.rbc_disk.specs.Disk.{Disk}
 use Rattle.rbc_disk.specs.Runs.{answer_of, answer_length_of}
-use Rattle.sbp_journal.specs.Terms.{Request, request_at}
-use Rattle.sbp_journal.specs.DiskFold.{before_run}
+use Rattle.sbp_laws.specs.Terms.{Request, request_at}
+use Rattle.sbp_laws.specs.DiskFold.{before_run}
 use Rattle.sbp_journal.specs.declared.note.Note.{Note}
 use Rattle.sbp_journal.specs.declared.note.Note.TheVariants.{Taken}
 use Rattle.orb_layout.specs.declared.status.StatusKind.TheVariants.{Good}
