@@ -14,7 +14,7 @@ use Rattle.hex.proofs.HexLemmas.{decode_of-encode_upper, IsDigits-upper_digits}
 use Rattle.rbc_command.specs.declared.sense.Sense.{Sense}
 use Rattle.sbp_journal.specs.Text.{sense_word}
 use Rattle.sbp_journal.specs.Written.{AreBytes}
-use Rattle.sbp_journal.proofs.WordsBack.{Lacks, split, split-join, lacks-append}
+use Rattle.journal_text.proofs.WordsBack.{Lacks, split, split-join, lacks-append}
 
 -- ---- numbers
 

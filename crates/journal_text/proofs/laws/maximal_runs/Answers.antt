@@ -1,5 +1,5 @@
-use Rattle.sbp_journal.proofs.MaximalRuns.{are_runs, no_other_runs}
-use Rattle.sbp_journal.proofs.laws.maximal_runs.Goals as goal
+use Rattle.journal_text.proofs.MaximalRuns.{are_runs, no_other_runs}
+use Rattle.journal_text.proofs.laws.maximal_runs.Goals as goal
 
 pub returns-clause-are_runs : goal.returns-clause-are_runs
 returns-clause-are_runs c = are_runs

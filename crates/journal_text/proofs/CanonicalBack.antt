@@ -7,9 +7,9 @@ use Rattle.std.specs.Fmt.{decimal}
 use Rattle.hex.specs.Hex.{encode_upper, decode_pairs, hex_digit_value}
 use Rattle.sbp_journal.specs.Canonical.{Run, runs_of, run_bytes, AreMaximal, Piece, plain, repeated, onto_pieces, pieces_of, piece_text, canonical}
 use Rattle.sbp_journal.specs.Written.{AreBytes}
-use Rattle.sbp_journal.proofs.MaximalRuns.{are_runs}
-use Rattle.sbp_journal.proofs.WordsBack.{Lacks, split, split-join, lacks-append}
-use Rattle.sbp_journal.proofs.FieldsBack.{number_of, number_back, unhex, unhex_back, byte_in, byte_back, encode_lacks, decimal_lacks}
+use Rattle.journal_text.proofs.MaximalRuns.{are_runs}
+use Rattle.journal_text.proofs.WordsBack.{Lacks, split, split-join, lacks-append}
+use Rattle.journal_text.proofs.FieldsBack.{number_of, number_back, unhex, unhex_back, byte_in, byte_back, encode_lacks, decimal_lacks}
 
 -- ---- one piece
 

@@ -22,10 +22,10 @@ use Rattle.sbp_journal.specs.declared.operation.OpWord.{OpWord}
 use Rattle.sbp_journal.specs.declared.operation.OpWord.TheVariants as op_words
 use Rattle.sbp_journal.specs.Text.{Field, number, maybe, node_name, unit_name, digits, bytes, sense_data, name, word, mode, cause_word, cut_word, fail_word, function_word, operation_word, status_fields, check_fields, end_fields, answer_fields, buffer_fields, login_fields, keyword, fields, words_of, text_of}
 use Rattle.sbp_journal.specs.Written.{Fits, IsWritten}
-use Rattle.sbp_journal.proofs.WordsBack.{Lacks, split, split_at, split-join, lacks, lacks-append}
-use Rattle.sbp_journal.proofs.FieldsBack.{decimal_lacks, encode_lacks, sense_lacks}
-use Rattle.sbp_journal.proofs.CanonicalBack.{IsApart, canonical_lacks}
-use Rattle.sbp_journal.proofs.NotesBack.{note_of, note_back}
+use Rattle.journal_text.proofs.WordsBack.{Lacks, split, split_at, split-join, lacks, lacks-append}
+use Rattle.journal_text.proofs.FieldsBack.{decimal_lacks, encode_lacks, sense_lacks}
+use Rattle.journal_text.proofs.CanonicalBack.{IsApart, canonical_lacks}
+use Rattle.journal_text.proofs.NotesBack.{note_of, note_back}
 
 -- ---- no word has a blank or a line feed
 

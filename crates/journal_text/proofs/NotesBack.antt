@@ -27,8 +27,8 @@ use Rattle.sbp_journal.specs.Form.{IsStatus, IsAnswer}
 use Rattle.sbp_journal.specs.Text.{Field, maybe, node_name, word, mode, cause_word, cut_word, fail_word, function_word, operation_word, status_fields, check_fields, end_fields, answer_fields, buffer_fields, login_fields, keyword, words_of}
 use Rattle.sbp_journal.specs.Written.{Fits, IsWritten}
 use Rattle.sbp_journal.proofs.LineWords.{answer_status}
-use Rattle.sbp_journal.proofs.FieldsBack.{number_of, number_back, decimal_digits, unhex, unhex_back, byte_in, byte_back, sense_of, sense_back}
-use Rattle.sbp_journal.proofs.CanonicalBack.{canonical_from, canonical_back}
+use Rattle.journal_text.proofs.FieldsBack.{number_of, number_back, decimal_digits, unhex, unhex_back, byte_in, byte_back, sense_of, sense_back}
+use Rattle.journal_text.proofs.CanonicalBack.{canonical_from, canonical_back}
 
 -- ---- fixed words
 

@@ -1,0 +1,6 @@
+mod MaximalRuns
+mod WordsBack
+mod FieldsBack
+mod CanonicalBack
+mod NotesBack
+mod TextsBack

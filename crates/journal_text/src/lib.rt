@@ -1,0 +1,7 @@
+//! The laws of a journal's text: it determines the notes, and the runs of equal bytes in it are the
+//! maximal ones. Their proofs read each line back.
+#![tactic(auto)]
+
+mod laws;
+
+pub use laws::{maximal_runs, text_determines_notes};
