@@ -10,7 +10,7 @@ use Rattle.sbp_journal.specs.declared.event.Event.TheVariants as events
 use Rattle.plain_list.specs.Plain.{is_served, initiators}
 use Rattle.script_text.specs.Line.{reading}
 use Rattle.script_text.specs.Script.{Script, onto_script, script_from, initiators_after, line_says, numbered, too_many}
-use Rattle.script_text.specs.declared.fault.LineFault.TheVariants as script_faults
+use Rattle.script_words.specs.declared.fault.LineFault.TheVariants as script_faults
 use Rattle.sbp_command.specs.declared.script.LineFault.{LineFault}
 use Rattle.sbp_command.specs.declared.script.LineFault.TheVariants.{TooMany, TooLong}
 use Rattle.sbp_command.specs.Script.{NoFeed, IsWhole, is_surely_long, not_served, served_from, if_served, says, begun_after, script, fault_number}

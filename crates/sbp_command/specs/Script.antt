@@ -6,8 +6,8 @@ use Rattle.sbp_journal.specs.declared.event.Event.{Event}
 use Rattle.plain_list.specs.Plain.{is_served, initiators}
 use Rattle.script_text.specs.Script.{Script, onto_script, line_says}
 use Rattle.script_text.specs.Script as whole
-use Rattle.script_text.specs.declared.fault.LineFault.{LineFault as ScriptFault}
-use Rattle.script_text.specs.declared.fault.LineFault.TheVariants as script_faults
+use Rattle.script_words.specs.declared.fault.LineFault.{LineFault as ScriptFault}
+use Rattle.script_words.specs.declared.fault.LineFault.TheVariants as script_faults
 use Rattle.sbp_command.specs.declared.script.LineFault.{LineFault}
 use Rattle.sbp_command.specs.declared.script.LineFault.TheVariants as faults
 use Rattle.sbp_command.specs.declared.script.LineError.{LineError}

@@ -1,7 +1,5 @@
 pub mod Tables
-pub mod Numerals
 pub mod Shapes
-pub mod Lists
 pub mod Drills
 pub mod Reading
 pub mod Shaped

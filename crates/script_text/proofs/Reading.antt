@@ -3,9 +3,9 @@ use Rattle.std.proofs.Common.{◌≡◌, ◌≤◌, ◌-◌, ℕ, suc, nat_lt, t
 use Rattle.std.specs.List.{list_all}
 use Rattle.std.proofs.lemmas.List.{take_all}
 use Rattle.std.proofs.lemmas.Bool.Decides.{nat_tests}
-use Rattle.script_text.specs.declared.fault.LineFault.TheVariants as faults
+use Rattle.script_words.specs.declared.fault.LineFault.TheVariants as faults
 use Rattle.script_text.specs.declared.row.Row.{Row}
-use Rattle.script_text.specs.Words.{shown, words}
+use Rattle.script_words.specs.Words.{shown, words}
 use Rattle.script_text.specs.Rows.{row_of, has_shape}
 use Rattle.script_text.specs.Line.{reading, is_silent, is_printable, is_out_of_place}
 use denote.Ref.{Bor}

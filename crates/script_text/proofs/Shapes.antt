@@ -3,7 +3,7 @@ use Rattle.std.proofs.Common.{◌≡◌, ◌&&◌, ◌≤◌, ◌<◌, ◌+◌, 
 use Rattle.std.specs.List.{list_any}
 use Rattle.script_text.specs.declared.column.Column.{Column}
 use Rattle.script_text.specs.declared.column.Column.TheVariants.{Number}
-use Rattle.script_text.specs.Words.{shown}
+use Rattle.script_words.specs.Words.{shown}
 use denote.Ref.{Bor}
 use Rattle.script_text.specs.Rows.{takes, take_all, are_shaped}
 

@@ -4,8 +4,8 @@ use Rattle.std.specs.Prelude.{◌↔◌}
 use Rattle.std.specs.List.{list_all, find}
 use Rattle.std.proofs.lemmas.Bool.Decides.{nat_tests}
 use Rattle.sbp_journal.specs.declared.event.Event.{Event}
-use Rattle.script_text.specs.declared.fault.LineFault.{LineFault}
-use Rattle.script_text.specs.declared.fault.LineFault.TheVariants as faults
+use Rattle.script_words.specs.declared.fault.LineFault.{LineFault}
+use Rattle.script_words.specs.declared.fault.LineFault.TheVariants as faults
 use Rattle.script_text.specs.declared.row.Row.{Row}
 use Rattle.script_text.specs.Rows.{has_shape}
 use Rattle.script_text.specs.Line.{reading, is_silent, is_printable, is_out_of_place, row, arguments, on_row, event_of, has_no_event, names_none, event_names_none, maybe_event, row_event, told, event_at, has_fault, order}

@@ -1,5 +1,3 @@
-pub mod Words
-pub mod Payload
 pub mod Rows
 pub mod Commands
 pub mod Line

@@ -6,8 +6,8 @@ use Rattle.sbp_journal.specs.declared.event.Action.{Action}
 use Rattle.sbp_journal.specs.declared.event.Action.TheVariants as actions
 use Rattle.sbp_journal.specs.declared.event.Event.{Event}
 use Rattle.sbp_journal.specs.declared.event.Event.TheVariants as events
-use Rattle.script_text.specs.declared.fault.LineFault.{LineFault}
-use Rattle.script_text.specs.declared.fault.LineFault.TheVariants as faults
+use Rattle.script_words.specs.declared.fault.LineFault.{LineFault}
+use Rattle.script_words.specs.declared.fault.LineFault.TheVariants as faults
 use Rattle.script_text.specs.declared.row.Row.{Row}
 use Rattle.script_text.specs.declared.row.Row.TheVariants as rows
 use Rattle.script_text.specs.declared.row.Act.{Act}
@@ -21,7 +21,7 @@ use Rattle.script_text.specs.declared.row.Fate.TheVariants as fates
 use Rattle.script_text.specs.declared.column.FixedWord.TheVariants.{Pass}
 use Rattle.script_text.specs.declared.column.Column.TheVariants.{Number, Data}
 use Rattle.script_text.specs.declared.verb.Form.TheVariants.{Ten}
-use Rattle.script_text.specs.Words.{◌>>=◌, words, word_at, number, numbers, hex_bytes, sized_bytes}
+use Rattle.script_words.specs.Words.{◌>>=◌, words, word_at, number, numbers, hex_bytes, sized_bytes}
 use Rattle.script_text.specs.Rows.{row_of, verb_of, has_shape, take_all}
 use Rattle.script_text.specs.Commands.{cmd_of, behind, writing_blocks}
 

@@ -13,8 +13,8 @@ use Rattle.script_text.specs.declared.column.Column.{Column}
 use Rattle.script_text.specs.declared.column.Column.TheVariants.{Number, Node, Mode, Fixed, Key, Packet, VerbWord, Data, Lengths}
 use Rattle.script_text.specs.declared.column.FixedWord.{FixedWord}
 use Rattle.script_text.specs.declared.column.FixedWord.TheVariants.{Excl, Pass, Seg, Pay}
-use Rattle.script_text.specs.Words.{word_at, is_numeral, is_hex, is_key}
-use Rattle.script_text.specs.Payload.{is_data, are_lengths}
+use Rattle.script_words.specs.Words.{word_at, is_numeral, is_hex, is_key}
+use Rattle.script_words.specs.Payload.{is_data, are_lengths}
 
 -- what a word stands for in a table
 abbrev pub look : {A : Type 0} → List (List ℕ × A) → List ℕ → Option A

@@ -1,5 +1,5 @@
 /// What may stand as one word of a line.
-#[derive(Clone, Copy, Debug, PartialEq, Eq)]
+#[derive(Clone, Copy)]
 pub enum Column {
     /// A decimal number.
     Number,
@@ -22,7 +22,7 @@ pub enum Column {
 }
 
 /// The words that announce a further word, or stand alone.
-#[derive(Clone, Copy, Debug, PartialEq, Eq)]
+#[derive(Clone, Copy)]
 pub enum FixedWord {
     Excl,
     Pass,

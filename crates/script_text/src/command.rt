@@ -1,17 +1,15 @@
 ghost use Rattle.std.specs.Prelude.{◌≡◌, ◌≢◌, ◌≤◌, length};
 ghost use Rattle.std.specs.Option.{option_map};
 ghost use Rattle.script_text.specs.Commands as spec;
-ghost use Rattle.script_text.specs.Words.{shown};
+ghost use Rattle.script_words.specs.Words.{shown};
 
 use crate::column::FixedWord;
-use crate::fault::LineFault;
-use crate::payload::{data_of, segments_of};
 use crate::shape::fixed_word;
 use crate::verb::{Form, Verb};
-use crate::words::number;
 use byteorder::{BigEndian, ByteOrder};
 use sbp_base::{Bytes, Lengths};
 use sbp_journal::Cmd;
+use script_words::{LineFault, data_of, number, segments_of};
 use std::alloc::Global;
 
 /// The field max_payload of the ORB of a command where nothing else is said: 2,048 bytes a packet.

@@ -1,16 +1,15 @@
 ghost use Rattle.std.specs.Prelude.{◌≡◌, ◌≢◌, ◌==◌, []};
 ghost use Rattle.std.specs.List.{list_any};
 ghost use Rattle.script_text.specs.Line as spec;
-ghost use Rattle.script_text.specs.Words.{shown, numbers};
+ghost use Rattle.script_words.specs.Words.{shown, numbers};
 
 use crate::column::FixedWord;
 use crate::command::{behind, cmd_of};
-use crate::fault::LineFault;
 use crate::row::{Act, Fate, OrbAct, Placing, Row};
 use crate::verb::verb_of;
-use crate::words::{bytes_of_hex, key_of, number};
 use sbp_base::Bytes;
 use sbp_journal::{Action, Cmd, Event};
+use script_words::{LineFault, bytes_of_hex, key_of, number};
 use std::alloc::Global;
 
 /// The highest number of an initiator, and of a unit.

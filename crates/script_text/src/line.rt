@@ -5,12 +5,11 @@ ghost use Rattle.script_text.specs.Line.{reading, write_words};
 
 use crate::command::writing_blocks;
 use crate::event::event_of;
-use crate::fault::LineFault;
 use crate::row::{Row, row_of};
 use crate::shape::{has_shape, is_write};
 use crate::verb::Form;
-use crate::words::parts_of;
 use sbp_journal::{Cmd, Event};
+use script_words::{LineFault, parts_of};
 use std::alloc::Global;
 
 /// The most bytes of a line.

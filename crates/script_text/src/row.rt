@@ -3,7 +3,7 @@ ghost use Rattle.script_text.specs.Rows as tables;
 ghost use Rattle.script_text.specs.Rows.{look, bus_rows, packet_rows, act_rows, list_rows};
 
 /// The rows of the script.
-#[derive(Clone, Copy, Debug, PartialEq, Eq)]
+#[derive(Clone, Copy)]
 pub enum Row {
     Begin,
     /// An initiator does something that needs no further word.
@@ -26,7 +26,7 @@ pub enum Row {
 }
 
 /// What an initiator does without further words.
-#[derive(Clone, Copy, Debug, PartialEq, Eq)]
+#[derive(Clone, Copy)]
 pub enum Act {
     Rom,
     Reconnect,
@@ -43,21 +43,21 @@ pub enum Act {
 }
 
 /// What an initiator does with an ORB of its present list.
-#[derive(Clone, Copy, Debug, PartialEq, Eq)]
+#[derive(Clone, Copy)]
 pub enum OrbAct {
     Abort,
     Dummy,
 }
 
 /// Whether an ORB is only prepared, or linked and rung as well.
-#[derive(Clone, Copy, Debug, PartialEq, Eq)]
+#[derive(Clone, Copy)]
 pub enum Placing {
     Put,
     Append,
 }
 
 /// What happens to a packet.
-#[derive(Clone, Copy, Debug, PartialEq, Eq)]
+#[derive(Clone, Copy)]
 pub enum Fate {
     Deliver,
     Repeat,

@@ -2,13 +2,12 @@ ghost use Rattle.std.specs.Prelude.{◌≡◌, ◌≤◌, [], ◌∷◌};
 ghost use Rattle.std.specs.List.{list_any};
 ghost use Rattle.script_text.specs.Rows as tables;
 ghost use Rattle.script_text.specs.Rows.{ends, login_ends, command_ends};
-ghost use Rattle.script_text.specs.Words.{shown, word_at};
+ghost use Rattle.script_words.specs.Words.{shown, word_at};
 
 use crate::column::{Column, FixedWord};
-use crate::payload::{are_lengths, is_data};
 use crate::row::Row;
 use crate::verb::{Verb, verb_of};
-use crate::words::{is_hex, is_key, is_numeral};
+use script_words::{are_lengths, is_data, is_hex, is_key, is_numeral};
 
 /// Whether words have the shape of a row, on a bus of so many initiators.
 pub(crate) fn has_shape(row: Row, initiators: u8, words: &[&[u8]]) -> bool

@@ -3,7 +3,7 @@ ghost use Rattle.script_text.specs.Rows as tables;
 ghost use Rattle.script_text.specs.Rows.{look, plain_verbs, block_verbs};
 
 /// The commands that a script names (RBC, and SBC where RBC takes a command from there).
-#[derive(Clone, Copy, Debug, PartialEq, Eq)]
+#[derive(Clone, Copy)]
 pub enum Verb {
     /// TEST UNIT READY
     Ready,
@@ -25,7 +25,7 @@ pub enum Verb {
 }
 
 /// The two layouts of a command block with an address, of ten and of twelve bytes.
-#[derive(Clone, Copy, Debug, PartialEq, Eq)]
+#[derive(Clone, Copy)]
 pub enum Form {
     Ten,
     Twelve,

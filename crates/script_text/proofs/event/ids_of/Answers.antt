@@ -1,6 +1,6 @@
 use Rattle.std.proofs.Common.{refl, ◌∙◌, sym, arith}
 use Rattle.std.proofs.lemmas.Grind.{common_steps}
-use Rattle.script_text.proofs.Lists.{numbers_failed, numbers_more, values_more}
+use Rattle.script_words.proofs.Lists.{numbers_failed, numbers_more, values_more}
 use Rattle.script_text.proofs.event.ids_of.Goals as goal
 
 pub returns-in_err-number : goal.returns-in_err-number

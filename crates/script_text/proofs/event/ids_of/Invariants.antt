@@ -1,7 +1,7 @@
 -- The IDs so far are numbers in their range, and these are all that was read.
 use Rattle.std.proofs.Common.{◌≡◌, true, map, take}
 use Rattle.std.specs.List.{list_all}
-use Rattle.script_text.specs.Words.{shown, value, is_between}
+use Rattle.script_words.specs.Words.{shown, value, is_between}
 use Rattle.script_text.proofs.event.ids_of.Given as goal
 
 abbrev pub invariant-loop-word : goal.invariant-loop-word

@@ -1,5 +1,5 @@
 use Rattle.std.proofs.Common.{sym, ap, ◌∙◌}
-use Rattle.script_text.specs.Words.{shown}
+use Rattle.script_words.specs.Words.{shown}
 use Rattle.script_text.proofs.Reading.{shape_fails}
 use Rattle.script_text.proofs.line.read_line.Goals as goal
 

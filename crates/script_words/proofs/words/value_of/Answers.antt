@@ -1,9 +1,9 @@
 -- The number so far is past 32 bits, and further digits do not lessen it.
 use Rattle.std.proofs.Common.{◌^◌, ◌≤◌, arith}
 use Rattle.std.proofs.lemmas.Grind.{common_steps}
-use Rattle.script_text.proofs.Numerals.{past_range}
-use Rattle.script_text.specs.Words.{value}
-use Rattle.script_text.proofs.words.value_of.Goals as goal
+use Rattle.script_words.proofs.Numerals.{past_range}
+use Rattle.script_words.specs.Words.{value}
+use Rattle.script_words.proofs.words.value_of.Goals as goal
 
 pub returns-then-number-from : goal.returns-then-number-from
 returns-then-number-from c =

@@ -1,8 +1,8 @@
 -- The lengths so far are numbers in their range, and these are all that was read.
 use Rattle.std.proofs.Common.{◌≡◌, true, map, take}
 use Rattle.std.specs.List.{list_all}
-use Rattle.script_text.specs.Words.{shown, value, is_between}
-use Rattle.script_text.proofs.payload.lengths_of.Given as goal
+use Rattle.script_words.specs.Words.{shown, value, is_between}
+use Rattle.script_words.proofs.payload.lengths_of.Given as goal
 
 abbrev pub invariant-loop-part : goal.invariant-loop-part
 invariant-loop-part l = record {

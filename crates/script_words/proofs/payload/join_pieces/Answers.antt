@@ -1,7 +1,7 @@
 use Rattle.std.proofs.Common.{[], refl, ◌∙◌, sym}
-use Rattle.script_text.proofs.Lists.{uncounted, too_many, all_more, flat_map_more}
-use Rattle.script_text.specs.Payload.{has_count, piece_bytes}
-use Rattle.script_text.proofs.payload.join_pieces.Goals as goal
+use Rattle.script_words.proofs.Lists.{uncounted, too_many, all_more, flat_map_more}
+use Rattle.script_words.specs.Payload.{has_count, piece_bytes}
+use Rattle.script_words.proofs.payload.join_pieces.Goals as goal
 
 pub returns-then-not-has_count : goal.returns-then-not-has_count
 returns-then-not-has_count c =

@@ -1,9 +1,9 @@
 -- The data and the segments of a command.
 use Rattle.std.specs.Prelude.{ℕ, ◌%◌, ◌==◌, ◌&&◌, nat_lt, nat_le, Bool, true, if◌then◌else◌, List, take, drop, sum, length, replicate, slice_index, Result, Ok, Err}
 use Rattle.std.specs.List.{slice_split, list_all, flat_map}
-use Rattle.script_text.specs.declared.fault.LineFault.{LineFault}
-use Rattle.script_text.specs.declared.fault.LineFault.TheVariants as faults
-use Rattle.script_text.specs.Words.{◌>>=◌, is_numeral, value, is_between, numbers, is_hex, hex_bytes, sized_bytes}
+use Rattle.script_words.specs.declared.fault.LineFault.{LineFault}
+use Rattle.script_words.specs.declared.fault.LineFault.TheVariants as faults
+use Rattle.script_words.specs.Words.{◌>>=◌, is_numeral, value, is_between, numbers, is_hex, hex_bytes, sized_bytes}
 
 -- DATA is one or more pieces, joined by `+`
 abbrev pub pieces : List ℕ → List (List ℕ)

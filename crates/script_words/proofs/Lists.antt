@@ -4,10 +4,10 @@ use Rattle.std.specs.List.{list_all, flat_map}
 use Rattle.std.proofs.lemmas.List.{get_or-map, take_more}
 use Rattle.std.proofs.lemmas.Bool.Decides.{nat_tests}
 use Rattle.std.proofs.lemmas.List.Folds.{list_all_more, list_all_at, length-flat_map-take}
-use Rattle.script_text.specs.declared.fault.LineFault.{LineFault}
-use Rattle.script_text.specs.declared.fault.LineFault.TheVariants as faults
-use Rattle.script_text.specs.Words.{shown, value, is_between, number, numbers}
-use Rattle.script_text.specs.Payload.{has_count, piece_bytes, is_whole, bytes_of}
+use Rattle.script_words.specs.declared.fault.LineFault.{LineFault}
+use Rattle.script_words.specs.declared.fault.LineFault.TheVariants as faults
+use Rattle.script_words.specs.Words.{shown, value, is_between, number, numbers}
+use Rattle.script_words.specs.Payload.{has_count, piece_bytes, is_whole, bytes_of}
 use denote.Ref.{Bor}
 
 -- the word at a place

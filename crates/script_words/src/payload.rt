@@ -1,9 +1,9 @@
 ghost use Rattle.std.specs.Prelude.{◌≡◌, ◌≢◌, ◌≤◌, ◌++◌, ◌==◌, ◌^◌, IsTrue, replicate, sum, length, IfOk, OnOk, IfErr};
 ghost use Rattle.std.specs.List.{list_all};
-ghost use Rattle.script_text.specs.Words as numerals;
-ghost use Rattle.script_text.specs.Words.{shown};
-ghost use Rattle.script_text.specs.Payload as spec;
-ghost use Rattle.script_text.specs.Payload.{pieces, piece_bytes, bytes_of, is_whole};
+ghost use Rattle.script_words.specs.Words as numerals;
+ghost use Rattle.script_words.specs.Words.{shown};
+ghost use Rattle.script_words.specs.Payload as spec;
+ghost use Rattle.script_words.specs.Payload.{pieces, piece_bytes, bytes_of, is_whole};
 
 use crate::fault::LineFault;
 use crate::words::{
@@ -22,7 +22,7 @@ const MOST_SEGMENTS: usize = 64;
 const MOST_BYTES: u32 = 16384;
 
 /// Whether a word is DATA: pieces with `+` between them.
-pub(crate) fn is_data(word: &[u8]) -> bool
+pub fn is_data(word: &[u8]) -> bool
     ensures { result ≡ spec.is_data word.now }
 {
     word.split(|byte| *byte == b'+')
@@ -61,7 +61,7 @@ fn has_count(piece: &[u8]) -> bool
 }
 
 /// The data that a word spells, whose length is a multiple of 512 from 512 to 16384.
-pub(crate) fn data_of(alloc: Global, word: &[u8]) -> Result<Bytes, LineFault>
+pub fn data_of(alloc: Global, word: &[u8]) -> Result<Bytes, LineFault>
     ensures { result ≢ Err LineFault.NoMemory → result ≡ bytes_of (pieces word.now) }
 {
     let parts = parts_of(alloc, word, b'+')?;
@@ -136,7 +136,7 @@ fn push_hex(alloc: Global, bytes: &mut Bytes, digits: &[u8]) -> Result<(), LineF
 }
 
 /// Whether a word is numbers with commas between them.
-pub(crate) fn are_lengths(word: &[u8]) -> bool
+pub fn are_lengths(word: &[u8]) -> bool
     ensures { result ≡ spec.are_lengths word.now }
 {
     word.split(|byte| *byte == b',')
@@ -144,7 +144,7 @@ pub(crate) fn are_lengths(word: &[u8]) -> bool
 }
 
 /// The lengths of 1 to 64 segments of data of `total` bytes.
-pub(crate) fn segments_of(alloc: Global, word: &[u8], total: u16) -> Result<Lengths, LineFault>
+pub fn segments_of(alloc: Global, word: &[u8], total: u16) -> Result<Lengths, LineFault>
     ensures { result ≢ Err LineFault.NoMemory → result ≡ spec.segments_of total word.now }
 {
     let parts = parts_of(alloc, word, b',')?;

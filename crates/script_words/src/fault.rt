@@ -33,7 +33,7 @@ pub enum LineFault {
 
 impl From<NoMemory> for LineFault {
     ghost use Rattle.std.specs.Prelude.{◌≡◌};
-    ghost use Rattle.script_text.specs.declared.fault.LineFault.{LineFault};
+    ghost use Rattle.script_words.specs.declared.fault.LineFault.{LineFault};
 
     ghost from_gives = { λ _ fault. fault ≡ LineFault.NoMemory };
 
@@ -44,7 +44,7 @@ impl From<NoMemory> for LineFault {
 
 impl From<AllocError> for LineFault {
     ghost use Rattle.std.specs.Prelude.{◌≡◌};
-    ghost use Rattle.script_text.specs.declared.fault.LineFault.{LineFault};
+    ghost use Rattle.script_words.specs.declared.fault.LineFault.{LineFault};
 
     ghost from_gives = { λ _ fault. fault ≡ LineFault.NoMemory };
 

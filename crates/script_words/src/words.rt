@@ -2,8 +2,8 @@ ghost use Rattle.std.specs.Prelude.{◌≡◌, ◌≢◌, ◌≤◌, ◌==◌, �
 ghost use Rattle.std.specs.List.{list_all, slice_split};
 ghost use Rattle.std.specs.Char.{is_ascii_digit};
 ghost use Rattle.hex.specs.Hex as digits;
-ghost use Rattle.script_text.specs.Words as spec;
-ghost use Rattle.script_text.specs.Words.{shown, value, hex_bytes, sized_bytes};
+ghost use Rattle.script_words.specs.Words as spec;
+ghost use Rattle.script_words.specs.Words.{shown, value, hex_bytes, sized_bytes};
 
 use crate::fault::LineFault;
 use hex::{FromHex, FromHexError};
@@ -12,7 +12,7 @@ use std::alloc::{AllocError, Global};
 
 /// The parts of some bytes between separators: two of these side by side have an empty part between
 /// them.
-pub(crate) fn parts_of(alloc: Global, bytes: &[u8], separator: u8) -> Result<Vec<&[u8]>, AllocError>
+pub fn parts_of(alloc: Global, bytes: &[u8], separator: u8) -> Result<Vec<&[u8]>, AllocError>
     ensures { IfOk result (λ parts. shown parts.items ≡ slice_split (λ byte. byte == separator) bytes.now) }
 {
     bytes.split(|byte| *byte == separator).collect(alloc)
@@ -20,7 +20,7 @@ pub(crate) fn parts_of(alloc: Global, bytes: &[u8], separator: u8) -> Result<Vec
 
 /// Whether a word is a decimal number without a leading zero.
 #[tactic(auto, unfolding(crate::specs::Words::is_numeral))]
-pub(crate) fn is_numeral(word: &[u8]) -> bool
+pub fn is_numeral(word: &[u8]) -> bool
     ensures { result ≡ spec.is_numeral word.now }
 {
     !word.is_empty() && are_digits(word) && (word[0] != b'0' || word.len() == 1)
@@ -59,7 +59,7 @@ pub(crate) fn is_between(word: &[u8], low: u32, high: u32) -> bool
 }
 
 /// The number that decimal digits spell, from `low` to `high`.
-pub(crate) fn number(word: &[u8], low: u32, high: u32) -> Result<u32, LineFault>
+pub fn number(word: &[u8], low: u32, high: u32) -> Result<u32, LineFault>
     ensures value { result ≡ spec.number low high word.now }
     ensures bound { IfOk result (λ number. number ≤ high) }
 {
@@ -77,7 +77,7 @@ pub(crate) fn number(word: &[u8], low: u32, high: u32) -> Result<u32, LineFault>
 
 /// Whether a word is an even number of hexadecimal digits, two or more.
 #[tactic(auto, unfolding(crate::specs::Words::is_hex))]
-pub(crate) fn is_hex(word: &[u8]) -> bool
+pub fn is_hex(word: &[u8]) -> bool
     ensures { result ≡ spec.is_hex word.now }
 {
     !word.is_empty() && word.len() % 2 == 0 && are_hex_digits(word)
@@ -85,7 +85,7 @@ pub(crate) fn is_hex(word: &[u8]) -> bool
 
 /// Whether a word is exactly 16 hexadecimal digits.
 #[tactic(auto, unfolding(crate::specs::Words::is_key))]
-pub(crate) fn is_key(word: &[u8]) -> bool
+pub fn is_key(word: &[u8]) -> bool
     ensures { result ≡ spec.is_key word.now }
 {
     word.len() == 16 && are_hex_digits(word)
@@ -107,7 +107,7 @@ fn is_hex_digit(byte: u8) -> bool
 
 /// The bytes that hexadecimal digits spell.
 #[tactic(auto, unfolding(crate::specs::Words::hex_bytes))]
-pub(crate) fn bytes_of_hex(alloc: Global, word: &[u8]) -> Result<Bytes, LineFault>
+pub fn bytes_of_hex(alloc: Global, word: &[u8]) -> Result<Bytes, LineFault>
     ensures { result ≢ Err LineFault.NoMemory → result ≡ Ok (hex_bytes word.now) }
 {
     match hex::decode(alloc, word) {
@@ -119,7 +119,7 @@ pub(crate) fn bytes_of_hex(alloc: Global, word: &[u8]) -> Result<Bytes, LineFaul
 
 /// The eight bytes that 16 hexadecimal digits spell.
 #[tactic(auto, unfolding(crate::specs::Words::sized_bytes))]
-pub(crate) fn key_of(word: &[u8]) -> [u8; 8]
+pub fn key_of(word: &[u8]) -> [u8; 8]
     ensures { result ≡ sized_bytes 8 word.now }
 {
     match <[u8; 8] as FromHex>::from_hex(word) {

@@ -1,7 +1,7 @@
 use Rattle.std.proofs.Common.{refl, ◌∙◌, sym, arith}
 use Rattle.std.proofs.lemmas.Grind.{common_steps}
-use Rattle.script_text.proofs.Lists.{numbers_failed, numbers_more, values_more}
-use Rattle.script_text.proofs.payload.lengths_of.Goals as goal
+use Rattle.script_words.proofs.Lists.{numbers_failed, numbers_more, values_more}
+use Rattle.script_words.proofs.payload.lengths_of.Goals as goal
 
 pub returns-in_err-number-clause-value : goal.returns-in_err-number-clause-value
 returns-in_err-number-clause-value c =

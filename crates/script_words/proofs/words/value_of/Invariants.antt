@@ -1,8 +1,8 @@
 -- What the rest of the digits makes of the number so far.
 use Rattle.std.proofs.Common.{◌≡◌, ◌<◌, ◌^◌, drop, fold}
-use Rattle.script_text.proofs.Numerals.{step}
-use Rattle.script_text.specs.Words.{value}
-use Rattle.script_text.proofs.words.value_of.Given as goal
+use Rattle.script_words.proofs.Numerals.{step}
+use Rattle.script_words.specs.Words.{value}
+use Rattle.script_words.proofs.words.value_of.Given as goal
 
 abbrev pub invariant-loop-digit : goal.invariant-loop-digit
 invariant-loop-digit l = record {
