@@ -213,10 +213,12 @@ async function tryHands(browser) {
   await browser.ask('unfilter()');
 }
 
-// The example in the page is that of examples/, and the page asks for nothing else.
+// The example in the page is that of examples/ and its picture that of docs/, and the page asks for nothing else.
 async function tryPage(browser) {
   check('embedded journal', await browser.ask("embedded('example-journal')"), read('examples', 'late-status.journal'));
   check('embedded script', await browser.ask("embedded('example-script')"), read('examples', 'late-status.sbp2'));
+  const picture = read('docs', 'journal.svg');
+  check('rows and arrows of docs/journal.svg', [picture.split('data-note=').length - 1, picture.split('data-serial=').length - 1], [29, 9]);
   check('requests', await browser.ask("performance.getEntriesByType('resource').length"), 0);
 }
 
@@ -273,7 +275,11 @@ async function tryLong(browser) {
   check('drawing does not', large.draw / small.draw < 5, true);
 }
 
+// A browser that doesn't answer fails the test.
+const MOST_SECONDS = 120;
+
 async function main() {
+  setTimeout(() => { console.log('viewer/test: the browser does not answer'); process.exit(1); }, 1000 * MOST_SECONDS).unref();
   const browser = new Browser(process.argv[2]);
   try {
     await browser.open(pathToFileURL(join(__dirname, 'journal.html')).href);
