@@ -2,3 +2,4 @@ pub mod Judged
 pub mod Unique
 pub mod RoundTrip
 pub mod Spelled
+pub mod Headers

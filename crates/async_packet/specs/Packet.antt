@@ -27,3 +27,15 @@ view (lent.ReadQuadletResponse header rcode value) = read_quadlet_response heade
 view (lent.ReadBlockResponse header rcode payload) = read_block_response header rcode payload.now
 view (lent.Lock header offset extended payload) = lock header offset extended payload.now
 view (lent.LockResponse header rcode extended payload) = lock_response header rcode extended payload.now
+
+-- the header of a packet
+abbrev pub header_in : Packet → Header
+header_in (write_quadlet header offset value) = header
+header_in (write_block header offset payload) = header
+header_in (write_response header rcode) = header
+header_in (read_quadlet header offset) = header
+header_in (read_block header offset asked) = header
+header_in (read_quadlet_response header rcode value) = header
+header_in (read_block_response header rcode payload) = header
+header_in (lock header offset extended payload) = header
+header_in (lock_response header rcode extended payload) = header

@@ -8,9 +8,9 @@ use sbp_base::{NodeId, Offset, quad_at};
 /// The most bytes of a payload.
 pub(crate) const LARGEST: u16 = 2048;
 
-/// The tcode, 4 bits.
+/// The tcode of bytes that have a quadlet 0: its bits 7 to 4.
 #[tactic(auto, unfolding(crate::specs::Fields::tcode_of))]
-pub(crate) fn tcode_at(bytes: &[u8]) -> u8
+pub fn tcode_at(bytes: &[u8]) -> u8
     requires { 4 ≤ length bytes.now }
     ensures value { result ≡ tcode_of bytes.now }
     ensures small { result < 2 ^ 4 }

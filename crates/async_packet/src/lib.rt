@@ -11,6 +11,7 @@ mod validity;
 mod writing;
 
 pub use fault::PacketFault;
+pub use fields::tcode_at;
 pub use label::Label;
 pub use packet::{Header, PacketRef};
 pub use reading::{decode, decodes_back, reads_spelling, spells_once};

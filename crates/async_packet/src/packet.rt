@@ -1,3 +1,6 @@
+ghost use Rattle.std.specs.Prelude.{◌≡◌};
+ghost use Rattle.async_packet.specs.Packet.{view, header_in};
+
 use sbp_base::{NodeId, Offset};
 
 /// What each packet begins with (IEEE 1394-1995, asynchronous packets).
@@ -73,4 +76,23 @@ pub enum PacketRef<'a> {
         extended: u8,
         payload: &'a [u8],
     },
+}
+
+impl PacketRef<'_> {
+    /// What the packet begins with.
+    pub fn header(&self) -> Header
+        ensures { result ≡ header_in (view self.now) }
+    {
+        match self {
+            PacketRef::WriteQuadlet { header, .. }
+            | PacketRef::WriteBlock { header, .. }
+            | PacketRef::WriteResponse { header, .. }
+            | PacketRef::ReadQuadlet { header, .. }
+            | PacketRef::ReadBlock { header, .. }
+            | PacketRef::ReadQuadletResponse { header, .. }
+            | PacketRef::ReadBlockResponse { header, .. }
+            | PacketRef::Lock { header, .. }
+            | PacketRef::LockResponse { header, .. } => *header,
+        }
+    }
 }

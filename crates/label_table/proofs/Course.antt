@@ -10,11 +10,11 @@ use Rattle.label_table.specs.declared.reply.ReplyKind.{ReplyKind}
 use Rattle.label_table.specs.declared.reply.Verdict.TheVariants as verdicts
 use Rattle.label_table.specs.Requests.{IsRequest, label_of, with_label, is_write, is_last, kind_of, is_kind}
 use Rattle.label_table.specs.Table.{new_table, unused, place_at, with_state, is_free, serves, lowest_from, begin_at, begin_step, close_in, close_step, has_serial, is_current, expire_in, expire_step}
-use Rattle.label_table.specs.Filter.{SourcePlace, place_for, source_at, judged, judge_at, judge_step, remember_step}
+use Rattle.label_table.specs.Filter.{SourcePlace, place_for, source_at, seen_in, seen_at, judged, judge_at, judge_step, remember_step}
 use Rattle.label_table.specs.Once.{Act, begin, close, expire, deliver, other, Course, upd, start, after_begin, after_close, after_delivery, count_fresh, happens, run, May, MayAll, MayDeliver, IsJudgedOnce, OnceLaw}
 use Rattle.label_table.proofs.Requests.{least_of_request}
 use Rattle.label_table.proofs.Steps.{lowest_below, lowest_serves, place_set, under_way_below, label_with, write_with}
-use Rattle.label_table.proofs.Sources.{default_in, IsFit, seen_in, seen_at, own_after, other_after, remembered_fit, new_fit, new_unseen}
+use Rattle.label_table.proofs.Sources.{default_in, IsFit, own_after, other_after, remembered_fit, new_fit, new_unseen}
 use Rattle.label_table.proofs.Tied.{Tied, begin_tied, state_tied, deliver_tied, seen_tied}
 
 record Kept (requester : ℕ) (c : Course) : Type 0 where

@@ -1,13 +1,11 @@
 -- The last request of a source and label decides.
-use Rattle.std.specs.Prelude.{◌≡◌, ◌≢◌, ℕ, ◌&&◌, nat_eq, Bool, true, false, cond, if◌then◌else◌, List, [], ◌∷◌, Option, Some, None, IsSome, refl}
+use Rattle.std.specs.Prelude.{◌≡◌, ◌≢◌, ℕ, ◌&&◌, nat_eq, Bool, true, false, cond, List, [], ◌∷◌, Option, Some, None, IsSome, refl}
 use Rattle.std.proofs.Common.{arith, ◌∙◌, ap, subst}
 use Rattle.label_table.specs.declared.source.Remembered.{Remembered}
-use Rattle.label_table.specs.declared.reply.Verdict.{Verdict}
-use Rattle.label_table.specs.declared.reply.Verdict.TheVariants as verdicts
-use Rattle.label_table.specs.Requests.{label_of, is_write, is_last}
-use Rattle.label_table.specs.Filter.{SourcePlace, no_request, place_for, source_at, judged, judge_at, remember_step}
+use Rattle.label_table.specs.Requests.{label_of}
+use Rattle.label_table.specs.Filter.{SourcePlace, no_request, place_for, source_at, seen_in, seen_at, verdict_by, judged, judge_at, remember_step}
 use Rattle.label_table.specs.Last.{Judgement, filter_after, HadRoom, last_of, verdict_on, LastLaw}
-use Rattle.label_table.proofs.Sources.{IsFit, seen_in, seen_at, own_after, other_after, request_with, remembered_fit, new_fit, new_unseen}
+use Rattle.label_table.proofs.Sources.{IsFit, own_after, other_after, request_with, remembered_fit, new_fit, new_unseen}
 use Rattle.label_table.proofs.Course.{place_of}
 
 abbrev kept_as : Option Judgement → Remembered
@@ -47,14 +45,11 @@ after_seen : (js : List Judgement) (s l : ℕ) → HadRoom js → seen_at s (fil
 after_seen [] s l room = new_unseen s l
 after_seen (j ∷ js) s l room = after_case _ j js s l refl room (after_seen js s l room.1)
 
-abbrev verdict_by : Remembered → List ℕ → Verdict
-verdict_by q bytes = if is_write bytes && is_last q.last bytes then verdicts.Again q.rcode else verdicts.Fresh
-
 judged_by : (f : List SourcePlace) (k : ℕ) (bytes : List ℕ) → judged (source_at f k) bytes ≡ verdict_by (seen_in (Some k) f (label_of bytes)) bytes
 unfolding judged
 judged_by f k bytes = refl
 
-judge_seen : (f : List SourcePlace) (s : ℕ) (bytes : List ℕ) (place : Option ℕ) → IsSome place → judge_at place f bytes ≡ verdict_by (seen_in place f (label_of bytes)) bytes
+pub judge_seen : (f : List SourcePlace) (s : ℕ) (bytes : List ℕ) (place : Option ℕ) → IsSome place → judge_at place f bytes ≡ verdict_by (seen_in place f (label_of bytes)) bytes
 judge_seen f s bytes None some = cc
 judge_seen f s bytes (Some k) some = judged_by f k bytes
 

@@ -10,10 +10,11 @@ use Rattle.label_table.specs.declared.place.Place.{Place}
 use Rattle.label_table.specs.declared.reply.Verdict.TheVariants as verdicts
 use Rattle.label_table.specs.Requests.{label_of, with_label}
 use Rattle.label_table.specs.Table.{serves, unused, lowest_from}
-use Rattle.label_table.specs.Filter.{SourcePlace, no_source, is_of, or_else, place_for, judged, judge_at, judge_step}
+use Rattle.label_table.specs.Owned.{or_else, owned_place}
+use Rattle.label_table.specs.Filter.{SourcePlace, no_source, is_of, judged, judge_at, judge_step}
 use Rattle.label_table.specs.Laws.{IsLowest, LowestLaw, HasOthers, CrowdedLaw, LabelLaw, HeaderLaw}
 use Rattle.label_table.proofs.Steps.{lowest_below, lowest_serves}
-use Rattle.label_table.proofs.Sources.{position_none}
+use Rattle.label_table.proofs.Owned.{position_none}
 
 lower_in : (b : Bool) (n m k : ℕ) (bytes : List ℕ) (place : Place) (places : List Place) → serves n bytes place ≡ b → ((j : ℕ) → lowest_from (n + 1) bytes places ≡ Some m → n + 1 + j < m → serves (n + 1 + j) bytes (slice_index_or places j unused) ≡ false) → cond b (Some n) (lowest_from (n + 1) bytes places) ≡ Some m → n + k < m → serves (n + k) bytes (slice_index_or (place ∷ places) k unused) ≡ false
 lower_in true n m k bytes place places s rest e h = let i : n ≡ m = cc in absurd (omega arith)
@@ -54,7 +55,7 @@ lowest_case bytes places (Some n) e =
 pub lowest_law : LowestLaw
 lowest_law bytes places = lowest_case bytes places _ refl
 
-judged_not : (place : SourcePlace) (bytes : List ℕ) → judged place bytes ≢ verdicts.Crowded
+pub judged_not : (place : SourcePlace) (bytes : List ℕ) → judged place bytes ≢ verdicts.Crowded
 unfolding judged
 judged_not place bytes e = grind arith
 
@@ -64,7 +65,7 @@ crowded_none None (Some k) places bytes e = absurd (judged_not _ bytes e)
 crowded_none None None places bytes e = (refl, refl)
 
 crowded_only : (places : List SourcePlace) (source : ℕ) (bytes : List ℕ) → judge_step places source bytes ≡ verdicts.Crowded → HasOthers places source
-unfolding place_for
+unfolding owned_place
 crowded_only places source bytes e k h =
     let n = crowded_none (position (is_of (Some source)) places) (position (is_of None) places) places bytes e in
     (position_none (is_of (Some source)) places k no_source n.0 h, position_none (is_of None) places k no_source n.1 h)
@@ -74,7 +75,7 @@ all_fail p xs d fails None e = refl
 all_fail p xs d fails (Some k) e = let s = position-Some p xs k d e in let f = fails k s.0 in cc
 
 crowded_where : (places : List SourcePlace) (source : ℕ) (bytes : List ℕ) → HasOthers places source → judge_step places source bytes ≡ verdicts.Crowded
-unfolding place_for
+unfolding owned_place
 crowded_where places source bytes others =
     rw (all_fail (is_of (Some source)) places no_source (λ k h. (others k h).0) _ refl, all_fail (is_of None) places no_source (λ k h. (others k h).1) _ refl)
 

@@ -3,8 +3,10 @@ pub mod Search
 pub mod Parts
 pub mod Tied
 pub mod Steps
+pub mod Owned
 pub mod Sources
 pub mod Course
 pub mod Laws
+pub mod Layers
 pub mod Relabelled
 pub mod Last

@@ -1,10 +1,11 @@
 -- The filter on repeated writes: the last request of each source and label that a node judged (IEEE
 -- 1394-1995, transaction layer).
-use Rattle.std.specs.Prelude.{ℕ, ◌==◌, ◌&&◌, Bool, true, false, if◌then◌else◌, List, position, replicate, slice_set, slice_index_or, Option, Some, None}
+use Rattle.std.specs.Prelude.{ℕ, ◌&&◌, Bool, if◌then◌else◌, List, replicate, slice_set, slice_index_or, Option, Some, None}
 use Rattle.label_table.specs.declared.reply.Verdict.{Verdict}
 use Rattle.label_table.specs.declared.reply.Verdict.TheVariants as verdicts
 use Rattle.label_table.specs.declared.source.Remembered.{Remembered}
 use Rattle.label_table.specs.Requests.{label_of, is_write, is_last}
+use Rattle.label_table.specs.Owned.{is_owned_by, owned_place, shown_in}
 
 -- a source's place: the source that has it, and the last request under each of its 64 labels
 pub record SourcePlace : Type 0 where
@@ -23,30 +24,36 @@ no_source = record { source = None; requests = replicate 64 no_request }
 abbrev pub new_filter : List SourcePlace
 new_filter = replicate 5 no_source
 
-abbrev pub is_same_source : Option ℕ → Option ℕ → Bool
-is_same_source None None = true
-is_same_source (Some source) (Some other) = source == other
-is_same_source source other = false
+abbrev pub source_of : SourcePlace → Option ℕ
+source_of place = place.source
 
 abbrev pub is_of : Option ℕ → SourcePlace → Bool
-is_of source place = is_same_source place.source source
-
-abbrev pub or_else : Option ℕ → Option ℕ → Option ℕ
-or_else (Some place) other = Some place
-or_else None other = other
+is_of source place = is_owned_by source_of source place
 
 -- the place that a source has, or else the first that none has
-unfoldable pub place_for : ℕ → List SourcePlace → Option ℕ
-place_for source places = or_else (position (is_of (Some source)) places) (position (is_of None) places)
+abbrev pub place_for : ℕ → List SourcePlace → Option ℕ
+place_for source places = owned_place source_of source places
 
 abbrev pub source_at : List SourcePlace → ℕ → SourcePlace
 source_at places number = slice_index_or places number no_source
 
+-- the last request of a source and label
+abbrev pub request_at : ℕ → SourcePlace → Remembered
+request_at label place = slice_index_or place.requests label no_request
+
+abbrev pub seen_in : Option ℕ → List SourcePlace → ℕ → Remembered
+seen_in place places label = shown_in (request_at label) no_source no_request place places
+
+abbrev pub seen_at : ℕ → List SourcePlace → ℕ → Remembered
+seen_at source places label = seen_in (place_for source places) places label
+
 -- A write that equals the last request of its label comes again; anything else is fresh.
-unfoldable pub judged : SourcePlace → List ℕ → Verdict
-judged place bytes =
-    let remembered = slice_index_or place.requests (label_of bytes) no_request in
+abbrev pub verdict_by : Remembered → List ℕ → Verdict
+verdict_by remembered bytes =
     if is_write bytes && is_last remembered.last bytes then verdicts.Again remembered.rcode else verdicts.Fresh
+
+unfoldable pub judged : SourcePlace → List ℕ → Verdict
+judged place bytes = verdict_by (request_at (label_of bytes) place) bytes
 
 abbrev pub judge_at : Option ℕ → List SourcePlace → List ℕ → Verdict
 judge_at None places bytes = verdicts.Crowded

@@ -1,6 +1,11 @@
 pub mod Requests
 pub mod Table
+pub mod Owned
 pub mod Filter
+pub mod Bodies
+pub mod Peers
+pub mod Judging
+pub mod Layer
 pub mod Once
 pub mod Laws
 pub mod Last

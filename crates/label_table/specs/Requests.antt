@@ -1,6 +1,6 @@
 -- What the labels and the filter read of a request (IEEE 1394-1995, transaction layer): its label,
 -- its kind, and its last occurrence.
-use Rattle.std.specs.Prelude.{ℕ, ◌+◌, ◌*◌, ◌/◌, ◌%◌, ◌^◌, ◌==◌, nat_le, Bool, true, false, if◌then◌else◌, List, slice_set, slice_index_or, Option, Some, None, IsTrue}
+use Rattle.std.specs.Prelude.{ℕ, ◌+◌, ◌*◌, ◌/◌, ◌%◌, ◌^◌, ◌==◌, nat_le, not, is_some, Bool, true, false, if◌then◌else◌, List, slice_set, slice_index_or, Option, Some, None, IsTrue}
 use Rattle.std.specs.Str.{bytes_eq}
 use Rattle.async_packet.specs.Fields.{tcode_of}
 use Rattle.async_packet.specs.Packet.{Packet, write_quadlet, write_block, write_response, read_quadlet, read_block, read_quadlet_response, read_block_response, lock, lock_response}
@@ -8,21 +8,30 @@ use Rattle.async_packet.specs.Spells.{Spells}
 use Rattle.label_table.specs.declared.reply.ReplyKind.{ReplyKind}
 use Rattle.label_table.specs.declared.reply.ReplyKind.TheVariants as kinds
 
+-- the kind of a response; a request has none
+abbrev pub reply_kind : Packet → Option ReplyKind
+reply_kind (write_quadlet header offset value) = None
+reply_kind (write_block header offset payload) = None
+reply_kind (write_response header rcode) = Some kinds.Write
+reply_kind (read_quadlet header offset) = None
+reply_kind (read_block header offset asked) = None
+reply_kind (read_quadlet_response header rcode value) = Some kinds.ReadQuadlet
+reply_kind (read_block_response header rcode payload) = Some kinds.ReadBlock
+reply_kind (lock header offset extended payload) = None
+reply_kind (lock_response header rcode extended payload) = Some kinds.Lock
+
 -- the packets that ask for a response
 abbrev pub is_request_packet : Packet → Bool
-is_request_packet (write_quadlet header offset value) = true
-is_request_packet (write_block header offset payload) = true
-is_request_packet (write_response header rcode) = false
-is_request_packet (read_quadlet header offset) = true
-is_request_packet (read_block header offset asked) = true
-is_request_packet (read_quadlet_response header rcode value) = false
-is_request_packet (read_block_response header rcode payload) = false
-is_request_packet (lock header offset extended payload) = true
-is_request_packet (lock_response header rcode extended payload) = false
+is_request_packet p = not (is_some (reply_kind p))
 
 -- the bytes spell a request
 pub record IsRequest (bytes : List ℕ) : Type 0 where
   pub packet : Packet
+  pub spelled : Spells bytes packet
+  pub asks : IsTrue (is_request_packet packet)
+
+-- the bytes spell this request
+pub record IsRequestOf (bytes : List ℕ) (packet : Packet) : Type 0 where
   pub spelled : Spells bytes packet
   pub asks : IsTrue (is_request_packet packet)
 

@@ -87,7 +87,7 @@ fn place_of(sources: &[SourceRequests], source: Option<NodeId>) -> Option<usize>
 }
 
 /// The place of a source, or else the lowest that none has.
-#[tactic(auto, unfolding(crate::specs::Filter::place_for))]
+#[tactic(auto, unfolding(crate::specs::Owned::owned_place))]
 fn place_for(sources: &[SourceRequests], source: NodeId) -> Option<usize>
     ensures place { result ≡ place_for source sources.now }
     ensures below { IfSome result (λ place. place < length sources.now) }

@@ -1,17 +1,9 @@
 ghost use Rattle.std.specs.Prelude.{◌≡◌, ◌^◌, ◌<◌, ◌≤◌, length};
-ghost use Rattle.async_packet.specs.Fields.{tcode_of};
-ghost use Rattle.label_table.specs.Requests.{label_of, with_label, is_write, kind_of};
+ghost use Rattle.label_table.specs.Requests.{label_of, with_label, is_write, kind_of, reply_kind};
+ghost use Rattle.async_packet.specs.Packet.{view};
 
 use crate::reply::ReplyKind;
-use sbp_base::quad_at;
-
-/// The tcode, 4 bits.
-fn tcode_at(bytes: &[u8]) -> u8
-    requires { 4 ≤ length bytes.now }
-    ensures { result ≡ tcode_of bytes.now }
-{
-    ((quad_at(bytes, 0) >> 4) & 0xf) as u8
-}
+use async_packet::{PacketRef, tcode_at};
 
 /// The label, 6 bits.
 #[tactic(auto, unfolding(crate::specs::Requests::label_of))]
@@ -53,5 +45,18 @@ pub(crate) fn kind_at(bytes: &[u8]) -> ReplyKind
         5 => ReplyKind::ReadBlock,
         9 => ReplyKind::Lock,
         _ => ReplyKind::Write,
+    }
+}
+
+/// The kind of a response; a request has none.
+pub(crate) fn kind_of_reply(packet: &PacketRef<'_>) -> Option<ReplyKind>
+    ensures { result ≡ reply_kind (view packet.now) }
+{
+    match packet {
+        PacketRef::WriteResponse { .. } => Some(ReplyKind::Write),
+        PacketRef::ReadQuadletResponse { .. } => Some(ReplyKind::ReadQuadlet),
+        PacketRef::ReadBlockResponse { .. } => Some(ReplyKind::ReadBlock),
+        PacketRef::LockResponse { .. } => Some(ReplyKind::Lock),
+        _ => None,
     }
 }

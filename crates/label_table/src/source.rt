@@ -1,5 +1,5 @@
 ghost use Rattle.std.specs.Prelude.{◌≡◌, ◌≤◌, ◌<◌, length, replicate, take, Some, None, IfOk};
-ghost use Rattle.label_table.specs.Filter.{is_of, is_same_source, judged, no_request, no_source, remembered};
+ghost use Rattle.label_table.specs.Filter.{is_of, judged, no_request, no_source, remembered};
 
 use crate::reply::Verdict;
 use crate::request::{asks_write, label_at};

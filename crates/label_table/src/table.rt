@@ -1,4 +1,4 @@
-ghost use Rattle.std.specs.Prelude.{◌≡◌, ◌+◌, ◌<◌, ◌≤◌, ◌^◌, length, replicate, take, drop, Some, None, IfOk, IfSome, OnErr};
+ghost use Rattle.std.specs.Prelude.{◌≡◌, ◌+◌, ◌<◌, ◌≤◌, ◌^◌, length, replicate, take, drop, Some, None, IfOk, IfSome, OnErr, IfNone};
 ghost use Rattle.label_table.specs.Table.{Table, begin_step, clear_step, close_step, count_free, expire_step, is_current, lowest_from, has_serial, new_table, place_at, unused, with_place, with_state};
 ghost use Rattle.label_table.specs.Requests.{IsRequest, with_label, kind_of};
 
@@ -57,6 +57,7 @@ impl Labels {
         requires request { IsRequest bytes.old }
         requires count { self.old.calls < 2 ^ 56 }
         ensures step { (result, (self.new, bytes.new)) ≡ begin_step self.old bytes.old }
+        ensures refused { OnErr result ((self.new ≡ self.old) × (bytes.new ≡ bytes.old)) }
         ensures count { self.new.calls ≤ self.old.calls + 1 }
     {
         let Some(number) = lowest(&self.places, bytes) else {
@@ -81,6 +82,7 @@ impl Labels {
     pub fn close(&mut self, number: u8, kind: ReplyKind) -> Option<Label>
         requires { self.old.calls < 2 ^ 56 }
         ensures step { (result, self.new) ≡ close_step self.old number kind }
+        ensures refused { IfNone result (self.new ≡ self.old) }
         ensures count { self.new.calls ≤ self.old.calls + 1 }
     {
         match self.state_at(number) {
@@ -102,6 +104,7 @@ impl Labels {
     pub fn expire(&mut self, label: Label) -> Result<(), Stale>
         requires { self.old.calls < 2 ^ 56 }
         ensures step { (result, self.new) ≡ expire_step self.old label }
+        ensures refused { OnErr result (self.new ≡ self.old) }
         ensures count { self.new.calls ≤ self.old.calls + 1 }
     {
         if !self.is_under_way(&label) {

@@ -35,6 +35,13 @@ impl Bytes {
         })
     }
 
+    /// These bytes.
+    pub fn from_vec(items: Vec<u8>) -> Self
+        ensures { result ≡ items.items }
+    {
+        Bytes { items }
+    }
+
     /// Adds a byte at the end.
     pub fn push(&mut self, byte: u8) -> Result<(), NoMemory>
         ensures ok { OnOk result (self.new ≡ self.old ++ byte ∷ []) }
