@@ -1,3 +1,4 @@
 pub mod Sessions
 pub mod Seats
 pub mod Moves
+pub mod Laws

@@ -1,6 +1,6 @@
 -- The table of the sessions: what makes a session go from a state to another (NCITS 325-1998, login,
 -- reconnect and logout).
-use Rattle.std.specs.Prelude.{◌≡◌, true, false, cond, List, [], ◌∷◌, Option, Some, None, Result, Ok, Err}
+use Rattle.std.specs.Prelude.{true, false, cond, List, [], ◌∷◌, Result, Ok, Err}
 use Rattle.orb_layout.specs.declared.login.LoginResponse.{LoginResponse}
 use Rattle.sbp_session.specs.Sessions.{LiveSession, live_with}
 use Rattle.sbp_session.specs.Seats.{unstick}
@@ -70,7 +70,7 @@ from_stuck reset origin = unstick origin
 from_stuck _ origin = seats.Stuck origin
 
 -- The row of the state: what it goes to, or that it stays.
-abbrev pub goes : Event → Seat → Seat
+unfoldable pub goes : Event → Seat → Seat
 goes event (seats.Out out) = from_out event
 goes event (seats.Entering entering) = from_entering event
 goes event (seats.Live live) = from_live event live
@@ -88,35 +88,3 @@ left_or_live (Err live) = seats.Live live
 abbrev pub session_after : List Event → Seat → Seat
 session_after [] seat = seat
 session_after (event ∷ events) seat = goes event (session_after events seat)
-
-abbrev pub kept_by : Origin → Option LoginResponse
-kept_by (origins.Out out) = None
-kept_by (origins.Entering entering) = None
-kept_by (origins.Live live) = Some live.response
-kept_by (origins.Held response) = Some response
-kept_by (origins.Returning response) = Some response
-kept_by (origins.Leaving response) = Some response
-
--- the response that a session carries
-abbrev pub carried : Seat → Option LoginResponse
-carried (seats.Out out) = None
-carried (seats.Entering entering) = None
-carried (seats.Live live) = Some live.response
-carried (seats.Held response) = Some response
-carried (seats.Returning response) = Some response
-carried (seats.Leaving response) = Some response
-carried (seats.Stuck origin) = kept_by origin
-
-abbrev pub latest_with : Event → Seat → Option LoginResponse → Option LoginResponse
-latest_with (entered response) (seats.Entering entering) latest = Some response
-latest_with _ seat latest = latest
-
--- the response of the latest login that ended with status 00, or that of the first session
-abbrev pub latest : List Event → Seat → Option LoginResponse
-latest [] seat = carried seat
-latest (event ∷ events) seat = latest_with event (session_after events seat) (latest events seat)
-
--- A session that carries a response carries that of the latest login.
-abbrev pub ResponseLaw : Type 0
-ResponseLaw =
-    (events : List Event) (seat : Seat) (response : LoginResponse) → carried (session_after events seat) ≡ Some response → latest events seat ≡ Some response

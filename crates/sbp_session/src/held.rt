@@ -1,3 +1,5 @@
+#![tactic(auto, unfolding(crate::specs::Moves::goes))]
+
 ghost use Rattle.std.specs.Prelude.{◌≡◌};
 ghost use Rattle.sbp_session.specs.Sessions.{live_with};
 ghost use Rattle.sbp_session.specs.Moves.{sent, good, bad, conflict, reset, goes};

@@ -10,7 +10,10 @@ mod out;
 mod seat;
 
 pub use held::{Held, Leaving, Returning};
-pub use law::response_of_latest_login;
+pub use law::{
+    held_by_a_reset, operations_end, response_by_moves, response_of_latest_login,
+    stuck_until_a_reset,
+};
 pub use live::Live;
 pub use out::{Entering, Out};
 pub use seat::{Origin, Seat, Stuck};

@@ -1,3 +1,5 @@
+#![tactic(auto, unfolding(crate::specs::Moves::goes))]
+
 ghost use Rattle.std.specs.Prelude.{◌≡◌, true, false, Ok, Err, if◌then◌else◌};
 ghost use Rattle.sbp_session.specs.Sessions.{live_with};
 ghost use Rattle.sbp_session.specs.Moves.{pointing, pointed, reset, sent, goes, left_or_live};
@@ -38,6 +40,13 @@ impl Live {
         ensures { result ≡ self.now.response }
     {
         self.response
+    }
+
+    /// Whether an ORB_POINTER write is under way.
+    pub fn is_pointing(&self) -> bool
+        ensures { result ≡ self.now.pointing }
+    {
+        self.pointing
     }
 
     /// An ORB_POINTER write was sent.

@@ -1,10 +1,13 @@
-ghost use Rattle.std.specs.Prelude.{◌≡◌};
+#![tactic(auto, unfolding(crate::specs::Moves::goes))]
+
+ghost use Rattle.std.specs.Prelude.{◌≡◌, ◌==◌, if◌then◌else◌};
 ghost use Rattle.sbp_session.specs.Seats.{stick, unstick};
-ghost use Rattle.sbp_session.specs.Moves.{failed, reset, goes};
+ghost use Rattle.sbp_session.specs.Moves.{bad, conflict, entered, failed, good, goes, reset, sent};
 
 use crate::held::{Held, Leaving, Returning};
 use crate::live::Live;
 use crate::out::{Entering, Out};
+use orb_layout::LoginResponse;
 use std::marker::Model;
 
 /// The session of an initiator, in one of its states.
@@ -45,6 +48,70 @@ impl Model for Stuck {
 }
 
 impl Seat {
+    /// The login, reconnect or logout was sent that the state allows; a session that allows none stays.
+    pub fn sent(self) -> Seat
+        ensures { result ≡ goes sent self }
+    {
+        match self {
+            Seat::Out(out) => Seat::Entering(out.entering()),
+            Seat::Live(live) => match live.leaving() {
+                Ok(leaving) => Seat::Leaving(leaving),
+                Err(live) => Seat::Live(live),
+            },
+            Seat::Held(held) => Seat::Returning(held.returning()),
+            other => other,
+        }
+    }
+
+    /// The login ended with status 00 and this response.
+    pub fn entered(self, response: LoginResponse) -> Seat
+        ensures { result ≡ goes (entered response) self }
+    {
+        match self {
+            Seat::Entering(entering) => Seat::Live(entering.live(response)),
+            other => other,
+        }
+    }
+
+    /// The reconnect or the logout ended with this status, or the login with another one than 00.
+    pub fn ended(self, status: u8) -> Seat
+        ensures { result ≡ goes (if status == 0 then good else bad) self }
+    {
+        match self {
+            Seat::Entering(entering) if status != 0 => Seat::Out(entering.out()),
+            Seat::Returning(returning) if status == 0 => Seat::Live(returning.live()),
+            Seat::Returning(returning) => Seat::Out(returning.out()),
+            Seat::Leaving(leaving) => Seat::Out(leaving.out()),
+            other => other,
+        }
+    }
+
+    /// The login, reconnect or logout was answered conflict_error.
+    pub fn conflict(self) -> Seat
+        ensures { result ≡ goes conflict self }
+    {
+        match self {
+            Seat::Entering(entering) => Seat::Out(entering.out()),
+            Seat::Returning(returning) => Seat::Held(returning.held()),
+            Seat::Leaving(leaving) => Seat::Live(leaving.live()),
+            other => other,
+        }
+    }
+
+    /// A reset was seen: a session that was logged in is held, and any other is out.
+    pub fn reset(self) -> Seat
+        ensures { result ≡ goes reset self }
+    {
+        match self {
+            Seat::Entering(entering) => Seat::Out(entering.out()),
+            Seat::Live(live) => Seat::Held(live.held()),
+            Seat::Returning(returning) => Seat::Held(returning.held()),
+            Seat::Leaving(leaving) => Seat::Held(leaving.held()),
+            Seat::Stuck(stuck) => stuck.unstick(),
+            other => other,
+        }
+    }
+
     /// A write of the initiator's own failed. A stuck session stays as it is.
     pub fn stick(self) -> Stuck
         ensures state { result ≡ stick self }

@@ -42,3 +42,36 @@ fn no_logout_while_pointing(rt: HostRuntime) -> Result<(), Fail> {
     }
     Ok(())
 }
+
+/// A login that is refused, a reconnect that is refused and one that a reset cuts off, and a logout that
+/// is answered conflict_error and one that a reset cuts off.
+#[test]
+fn operations_that_fail(rt: HostRuntime) -> Result<(), Fail> {
+    let out = Out::new().entering().out();
+    let held = out.entering().live(response()?).held();
+    let live = held.returning().held().returning().live();
+    let leaving = live.leaving().map_err(|_| "leaving")?;
+    let leaving = leaving.live().leaving().map_err(|_| "leaving")?;
+    let held = leaving.held();
+    assert_eq!(rt; held.response(), response()?);
+    let out = held.returning().out();
+    assert!(rt; matches!(Seat::Out(out).reset(), Seat::Out(_)));
+    Ok(())
+}
+
+/// The same by the moves of a seat.
+#[test]
+fn moves_of_a_seat(rt: HostRuntime) -> Result<(), Fail> {
+    let seat = Seat::Out(Out::new())
+        .sent()
+        .ended(0x04)
+        .sent()
+        .entered(response()?);
+    let seat = seat.reset().sent().conflict().sent().ended(0x00);
+    match &seat {
+        Seat::Live(live) => assert!(rt; !live.is_pointing()),
+        _ => return Err("not live".into()),
+    }
+    assert!(rt; matches!(seat.sent().conflict().sent().ended(0x00), Seat::Out(_)));
+    Ok(())
+}
