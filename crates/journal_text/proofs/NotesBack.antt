@@ -23,7 +23,7 @@ use Rattle.sbp_journal.specs.declared.operation.Operation.{Operation}
 use Rattle.sbp_journal.specs.declared.operation.Operation.TheVariants as operations
 use Rattle.sbp_journal.specs.declared.operation.OpWord.{OpWord}
 use Rattle.sbp_journal.specs.declared.operation.OpWord.TheVariants as op_words
-use Rattle.sbp_journal.specs.Form.{IsStatus, IsAnswer}
+use Rattle.sbp_journal.specs.Form.{IsStatus, IsAnswer, IsCheck}
 use Rattle.sbp_journal.specs.Text.{Field, maybe, node_name, word, mode, cause_word, cut_word, fail_word, function_word, operation_word, status_fields, check_fields, end_fields, answer_fields, buffer_fields, login_fields, keyword, words_of}
 use Rattle.sbp_journal.specs.Written.{Fits, IsWritten}
 use Rattle.sbp_journal.proofs.LineWords.{answer_status}
@@ -145,7 +145,7 @@ status_of ws = look Failed ((codes "good", Good) ∷ (codes "check", Check (sens
 -- words behind those of a status do not change it
 status_back : (status : StatusKind) (rest : List Field) → IsStatus status → AllByRecursion Fits (status_fields status) → status_of (map word (status_fields status ++ rest)) ≡ status
 status_back Good rest h k = refl
-status_back (Check sense) rest h k = ap Check (sense_back sense k.1.0.0 k.1.0.1 k.1.0.2)
+status_back (Check sense) rest h k = ap Check (sense_back sense h k.1.0.0 k.1.0.1)
 status_back Dummy rest h k = refl
 status_back Aborted rest h k = refl
 status_back (Illegal meaning) rest h k = ap Illegal (byte_back meaning k.1.0.0)
@@ -155,9 +155,9 @@ status_back (Management meaning) rest h k = absurd h
 abbrev check_of : List (List ℕ) → Option Sense
 check_of ws = cond (bytes_eq (at ws 0) (codes "good")) None (Some (sense_of (at ws 1)))
 
-check_back : (check : Option Sense) → AllByRecursion Fits (check_fields check) → check_of (map word (check_fields check)) ≡ check
-check_back None h = refl
-check_back (Some sense) h = ap Some (sense_back sense h.1.0.0 h.1.0.1 h.1.0.2)
+check_back : (check : Option Sense) → IsCheck check → AllByRecursion Fits (check_fields check) → check_of (map word (check_fields check)) ≡ check
+check_back None h k = refl
+check_back (Some sense) h k = ap Some (sense_back sense h k.1.0.0 k.1.0.1)
 
 abbrev answer_of : List (List ℕ) → List ℕ
 answer_of [] = []
@@ -304,7 +304,7 @@ note_back (notes.Got n) h = rw (number_back n h.1.0) refl
 note_back (notes.Ignored s cause) h = rw (number_back s h.1.0, cause_back cause) refl
 note_back (notes.Lost n) h = rw (number_back n h.1.0) refl
 note_back (notes.TimedOut n) h = rw (number_back n h.1.0) refl
-note_back (notes.Ran i l k u cdb bs check) h = rw (number_back i h.1.0, maybe_back l h.1.1.0, maybe_back k h.1.1.1.0, number_back u h.1.1.1.1.0, unhex_back cdb h.1.1.1.1.1.0, canonical_back bs h.1.1.1.1.1.1.0.0 h.1.1.1.1.1.1.0.1, check_back check h.1.1.1.1.1.1.1) refl
+note_back (notes.Ran i l k u cdb bs check) h = rw (number_back i h.1.0, maybe_back l h.1.1.0, maybe_back k h.1.1.1.0, number_back u h.1.1.1.1.0, unhex_back cdb h.1.1.1.1.1.0, canonical_back bs h.1.1.1.1.1.1.0.0 h.1.1.1.1.1.1.0.1, check_back check h.0 h.1.1.1.1.1.1.1) refl
 note_back (notes.Ended i l k status) h = rw (number_back i h.1.0, maybe_back l h.1.1.0, maybe_back k h.1.1.1.0, plain_status status h.0 h.1.1.1.1) refl
 note_back (notes.Taken i l k status answer) h = rw (number_back i h.1.0, number_back l h.1.1.0, number_back k h.1.1.1.0, status_back status (answer_fields answer) (status_of_answer status answer h.0) (front_fits status (answer_fields answer) h.1.1.1.1), answer_back status answer h.0 h.1.1.1.1) refl
 note_back (notes.Cut i l cause) h = rw (number_back i h.1.0, maybe_back l h.1.1.0, cut_back cause) refl

@@ -21,7 +21,9 @@ use Rattle.sbp_journal.specs.declared.operation.Operation.TheVariants as operati
 use Rattle.sbp_journal.specs.declared.operation.OpWord.{OpWord}
 use Rattle.sbp_journal.specs.declared.operation.OpWord.TheVariants as op_words
 use Rattle.sbp_journal.specs.Text.{Field, number, maybe, node_name, unit_name, digits, bytes, sense_data, name, word, mode, cause_word, cut_word, fail_word, function_word, operation_word, status_fields, check_fields, end_fields, answer_fields, buffer_fields, login_fields, keyword, fields, words_of, text_of}
+use Rattle.sbp_journal.specs.Form.{HasForm, IsStatus, IsCheck}
 use Rattle.sbp_journal.specs.Written.{Fits, IsWritten}
+use Rattle.sbp_journal.proofs.LineWords.{answer_status}
 use Rattle.journal_text.proofs.WordsBack.{Lacks, split, split_at, split-join, lacks, lacks-append}
 use Rattle.journal_text.proofs.FieldsBack.{decimal_lacks, encode_lacks, sense_lacks}
 use Rattle.journal_text.proofs.CanonicalBack.{IsApart, canonical_lacks}
@@ -32,9 +34,10 @@ use Rattle.journal_text.proofs.NotesBack.{note_of, note_back}
 abbrev is_plain : ℕ → Bool
 is_plain byte = not (byte == 32) && not (byte == 10)
 
--- each fixed word is plain, by a test of its bytes
+-- each fixed word is plain, by a test of its bytes, and a sense key is one digit
 abbrev IsPlain : Field → Type 0
 IsPlain (name text) = list_all is_plain text ≡ true
+IsPlain (sense_data sense) = sense.key < 16
 IsPlain _ = Unit {0}
 
 -- a byte that stands in no word
@@ -62,7 +65,7 @@ word_lacks c out (node_name (suc n)) h p = decimal_lacks c n (omega arith) out.a
 word_lacks c out (unit_name n) h p = (out.unit, decimal_lacks c n h out.apart.decimal)
 word_lacks c out (digits bs) h p = encode_lacks c bs out.apart.hex h
 word_lacks c out (bytes bs) h p = canonical_lacks c out.apart out.plus out.dash bs h.0 h.1
-word_lacks c out (sense_data sense) h p = sense_lacks c sense out.apart.hex out.slash h.0 h.1 h.2
+word_lacks c out (sense_data sense) h p = sense_lacks c sense out.apart.hex out.slash p h.0 h.1
 word_lacks c out (name text) h p = lacks c is_plain text out.plain p
 
 words_lack : (c : ℕ) → IsBetween c → (fs : List Field) → AllByRecursion Fits fs → AllByRecursion IsPlain fs → AllByRecursion (Lacks c) (map word fs)
@@ -121,27 +124,27 @@ plain_operation operations.AgentReset = refl
 plain_operation operations.State = refl
 plain_operation operations.Enable = refl
 
-plain_status : (status : StatusKind) (rest : List Field) → AllByRecursion IsPlain rest → AllByRecursion IsPlain (status_fields status ++ rest)
-plain_status Good rest h = (refl, h)
-plain_status (Check sense) rest h = (refl, (tt, h))
-plain_status Dummy rest h = (refl, h)
-plain_status Aborted rest h = (refl, h)
-plain_status (Illegal meaning) rest h = (refl, (tt, h))
-plain_status Failed rest h = (refl, h)
-plain_status (Management meaning) rest h = h
+plain_status : (status : StatusKind) (rest : List Field) → IsStatus status → AllByRecursion IsPlain rest → AllByRecursion IsPlain (status_fields status ++ rest)
+plain_status Good rest k h = (refl, h)
+plain_status (Check sense) rest k h = (refl, (k, h))
+plain_status Dummy rest k h = (refl, h)
+plain_status Aborted rest k h = (refl, h)
+plain_status (Illegal meaning) rest k h = (refl, (tt, h))
+plain_status Failed rest k h = (refl, h)
+plain_status (Management meaning) rest k h = h
 
-plain_last : (status : StatusKind) → AllByRecursion IsPlain (status_fields status)
-plain_last Good = (refl, tt)
-plain_last (Check sense) = (refl, (tt, tt))
-plain_last Dummy = (refl, tt)
-plain_last Aborted = (refl, tt)
-plain_last (Illegal meaning) = (refl, (tt, tt))
-plain_last Failed = (refl, tt)
-plain_last (Management meaning) = tt
+plain_last : (status : StatusKind) → IsStatus status → AllByRecursion IsPlain (status_fields status)
+plain_last Good k = (refl, tt)
+plain_last (Check sense) k = (refl, (k, tt))
+plain_last Dummy k = (refl, tt)
+plain_last Aborted k = (refl, tt)
+plain_last (Illegal meaning) k = (refl, (tt, tt))
+plain_last Failed k = (refl, tt)
+plain_last (Management meaning) k = tt
 
-plain_check : (check : Option Sense) → AllByRecursion IsPlain (check_fields check)
-plain_check None = (refl, tt)
-plain_check (Some sense) = (refl, (tt, tt))
+plain_check : (check : Option Sense) → IsCheck check → AllByRecursion IsPlain (check_fields check)
+plain_check None k = (refl, tt)
+plain_check (Some sense) k = (refl, (k, tt))
 
 plain_answer : (answer : List ℕ) → AllByRecursion IsPlain (answer_fields answer)
 plain_answer [] = tt
@@ -167,44 +170,44 @@ plain_buffer Nothing = (refl, tt)
 plain_buffer (In len) = (refl, (tt, tt))
 plain_buffer (Out bs) = (refl, (tt, tt))
 
-plain_fields : (note : Note) → AllByRecursion IsPlain (fields note)
-plain_fields (notes.Begin n ready) = (tt, (plain_mode ready, tt))
-plain_fields (notes.Append i l k cdb buffer) = (tt, (tt, (tt, (tt, plain_buffer buffer))))
-plain_fields (notes.Low i l k) = (tt, (tt, (tt, tt)))
-plain_fields (notes.Linked i l k) = (tt, (tt, (tt, tt)))
-plain_fields (notes.Rung i l k) = (tt, (tt, (tt, tt)))
-plain_fields (notes.Dummied i l k) = (tt, (tt, (tt, tt)))
-plain_fields (notes.Sent s g from to bs) = (tt, (tt, (tt, (tt, (tt, tt)))))
-plain_fields (notes.Injected n) = (tt, tt)
-plain_fields (notes.Got n) = (tt, tt)
-plain_fields (notes.Ignored s cause) = (tt, (plain_cause cause, tt))
-plain_fields (notes.Lost n) = (tt, tt)
-plain_fields (notes.TimedOut n) = (tt, tt)
-plain_fields (notes.Ran i l k u cdb bs check) = (tt, (tt, (tt, (tt, (tt, (tt, plain_check check))))))
-plain_fields (notes.Ended i l k status) = (tt, (tt, (tt, plain_last status)))
-plain_fields (notes.Taken i l k status answer) = (tt, (tt, (tt, plain_status status (answer_fields answer) (plain_answer answer))))
-plain_fields (notes.Cut i l cause) = (tt, (tt, (plain_cut cause, tt)))
-plain_fields (notes.Dead i l cause) = (tt, (tt, (plain_fail cause, tt)))
-plain_fields (notes.Drop i l) = (tt, (tt, tt))
-plain_fields (notes.Managed i function subject status login) = (tt, (plain_function function, (tt, (tt, plain_login login))))
-plain_fields (notes.ManageFailed i cause) = (tt, (plain_fail cause, tt))
-plain_fields (notes.Held n) = (tt, tt)
-plain_fields (notes.Expired n) = (tt, tt)
-plain_fields (notes.Back n) = (tt, tt)
-plain_fields (notes.Left n) = (tt, tt)
-plain_fields (notes.Cleared n) = (tt, tt)
-plain_fields (notes.Op i operation end) = (tt, (plain_operation operation, plain_end end))
-plain_fields (notes.Stuck n) = (tt, tt)
-plain_fields (notes.Reset n) = (tt, tt)
-plain_fields (notes.Seen node g) = (tt, (tt, tt))
-plain_fields notes.Tick = tt
-plain_fields (notes.Refused line reason) = (tt, (tt, tt))
-plain_fields notes.Settled = tt
-plain_fields notes.Stopped = tt
-plain_fields (notes.Key n) = (tt, tt)
-plain_fields (notes.Unsolicited n) = (tt, tt)
-plain_fields (notes.Unsent n) = (tt, tt)
-plain_fields (notes.Told n) = (tt, (refl, tt))
+plain_fields : (note : Note) → HasForm note → AllByRecursion IsPlain (fields note)
+plain_fields (notes.Begin n ready) h = (tt, (plain_mode ready, tt))
+plain_fields (notes.Append i l k cdb buffer) h = (tt, (tt, (tt, (tt, plain_buffer buffer))))
+plain_fields (notes.Low i l k) h = (tt, (tt, (tt, tt)))
+plain_fields (notes.Linked i l k) h = (tt, (tt, (tt, tt)))
+plain_fields (notes.Rung i l k) h = (tt, (tt, (tt, tt)))
+plain_fields (notes.Dummied i l k) h = (tt, (tt, (tt, tt)))
+plain_fields (notes.Sent s g from to bs) h = (tt, (tt, (tt, (tt, (tt, tt)))))
+plain_fields (notes.Injected n) h = (tt, tt)
+plain_fields (notes.Got n) h = (tt, tt)
+plain_fields (notes.Ignored s cause) h = (tt, (plain_cause cause, tt))
+plain_fields (notes.Lost n) h = (tt, tt)
+plain_fields (notes.TimedOut n) h = (tt, tt)
+plain_fields (notes.Ran i l k u cdb bs check) h = (tt, (tt, (tt, (tt, (tt, (tt, plain_check check h))))))
+plain_fields (notes.Ended i l k status) h = (tt, (tt, (tt, plain_last status h)))
+plain_fields (notes.Taken i l k status answer) h = (tt, (tt, (tt, plain_status status (answer_fields answer) (answer_status status answer h) (plain_answer answer))))
+plain_fields (notes.Cut i l cause) h = (tt, (tt, (plain_cut cause, tt)))
+plain_fields (notes.Dead i l cause) h = (tt, (tt, (plain_fail cause, tt)))
+plain_fields (notes.Drop i l) h = (tt, (tt, tt))
+plain_fields (notes.Managed i function subject status login) h = (tt, (plain_function function, (tt, (tt, plain_login login))))
+plain_fields (notes.ManageFailed i cause) h = (tt, (plain_fail cause, tt))
+plain_fields (notes.Held n) h = (tt, tt)
+plain_fields (notes.Expired n) h = (tt, tt)
+plain_fields (notes.Back n) h = (tt, tt)
+plain_fields (notes.Left n) h = (tt, tt)
+plain_fields (notes.Cleared n) h = (tt, tt)
+plain_fields (notes.Op i operation end) h = (tt, (plain_operation operation, plain_end end))
+plain_fields (notes.Stuck n) h = (tt, tt)
+plain_fields (notes.Reset n) h = (tt, tt)
+plain_fields (notes.Seen node g) h = (tt, (tt, tt))
+plain_fields notes.Tick h = tt
+plain_fields (notes.Refused line reason) h = (tt, (tt, tt))
+plain_fields notes.Settled h = tt
+plain_fields notes.Stopped h = tt
+plain_fields (notes.Key n) h = (tt, tt)
+plain_fields (notes.Unsolicited n) h = (tt, tt)
+plain_fields (notes.Unsent n) h = (tt, tt)
+plain_fields (notes.Told n) h = (tt, (refl, tt))
 
 plain_keyword : (note : Note) → list_all is_plain (keyword note) ≡ true
 plain_keyword (notes.Begin n ready) = refl
@@ -246,7 +249,7 @@ plain_keyword (notes.Unsent n) = refl
 plain_keyword (notes.Told n) = refl
 
 note_lacks : (c : ℕ) → IsBetween c → (note : Note) → IsWritten note → AllByRecursion (Lacks c) (words_of note)
-note_lacks c out note h = (lacks c is_plain (keyword note) out.plain (plain_keyword note), words_lack c out (fields note) h.1 (plain_fields note))
+note_lacks c out note h = (lacks c is_plain (keyword note) out.plain (plain_keyword note), words_lack c out (fields note) h.1 (plain_fields note h.0))
 
 -- ---- lines and words
 

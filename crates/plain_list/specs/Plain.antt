@@ -1,5 +1,5 @@
 -- The plain list: commands of initiator 0 that wait, in their order.
-use Rattle.std.specs.Prelude.{◌≡◌, ◌≢◌, ℕ, ◌+◌, ◌==◌, ◌&&◌, ◌<◌, ◌≤◌, min, nat_lt, Bool, true, false, if◌then◌else◌, List, [], ◌∷◌, ◌++◌, length, reverse, slice_set, slice_index, slice_index_or, Option, Some, None}
+use Rattle.std.specs.Prelude.{◌≡◌, ◌≢◌, ℕ, ◌+◌, ◌==◌, ◌&&◌, ◌<◌, ◌≤◌, min, nat_lt, Bool, true, false, if◌then◌else◌, List, [], ◌∷◌, ◌++◌, length, map, slice_set, slice_index, slice_index_or, Option, Some, None}
 use Rattle.std.specs.List.{AllByRecursion}
 use Rattle.rbc_disk.specs.Disk.{Disk, disk_at}
 use Rattle.rbc_disk.specs.Units.{UnitState, plain_disk, new_unit}
@@ -11,16 +11,18 @@ use Rattle.sbp_journal.specs.declared.event.Cmd.{Cmd}
 use Rattle.sbp_journal.specs.declared.event.Event.{Event}
 use Rattle.sbp_journal.specs.declared.event.Event.TheVariants.{Begin, Act, Settle}
 use Rattle.sbp_journal.specs.declared.event.Action.TheVariants.{Append}
-use Rattle.sbp_journal.specs.Run.{Run, history}
+use Rattle.sbp_journal.specs.Run.{Run, Moment, said, history}
 use Rattle.sbp_laws.specs.Terms.{Request, lists, appends, ends, runs, takes, statuses, request_at, unit_of}
 use Rattle.sbp_laws.specs.DiskFold.{plain_of, DisksAre, FailuresFit}
 use Rattle.sbp_journal.specs.Form.{HasForm, IsCheck}
+use Rattle.sbp_journal.specs.Written.{IsTyped}
 use Rattle.sbp_laws.specs.ExecutionLaw.{RunsOn}
 use Rattle.sbp_laws.specs.AnswerLaw.{IsAnswerOf}
 use Rattle.sbp_laws.specs.ActionLaw.{ActionLaw, AreServed, append_notes, buffer_of, served, slots}
 use Rattle.sbp_laws.specs.Lawful.{AreLawful}
 
--- the commands that wait, how many were appended and how many ended, the state of unit 0, and the notes of the latest line
+-- The commands that wait, how many were appended and how many ended, the state of unit 0, and the notes of the latest line, the
+-- latest one first.
 pub record PlainState : Type 0 where
   pub begun : Bool
   pub waiting : List Cmd
@@ -89,8 +91,9 @@ pub record RunsAndTells (cmd : Cmd) (orb : ℕ) (old new : List Note) (unit late
   pub bytes : List ℕ
   pub check : Option Sense
   pub answer : List ℕ
-  pub fresh : new ≡ old ++ served 0 0 orb 0 cmd.cdb bytes check answer
+  pub fresh : new ≡ served 0 0 orb 0 cmd.cdb bytes check answer ++ old
   pub form : IsCheck check
+  pub typed : AllByRecursion IsTyped new
   pub runs_on : RunsOn (request_of cmd) (plain_disk unit (disk_at before.disks 0)) 0 cmd.cdb bytes check
   pub answers : check ≡ None → IsAnswerOf (request_of cmd) (disk_at before.disks 0) answer
   pub silent : check ≢ None → answer ≡ []
@@ -108,29 +111,29 @@ pub record Serves (old new : PlainState) (before now : Held) : Type 0 where
   pub begun : new.begun ≡ old.begun
   pub told : RunsAndTells cmd old.ended old.fresh new.fresh old.unit new.unit before now
 
--- The list and the media are what the notes ns, the latest one first, say; and the notes are lawful.
-pub record Stands (start now : Held) (ns : List Note) (state : PlainState) : Type 0 where
-  pub lawful : AreLawful start.disks ns
-  pub login : state.begun ≡ true → unit_of ns 0 ≡ Some 0
-  pub of_appends : appends ns 0 0 ≡ state.appended
-  pub of_lists : lists ns 0 ≡ (if state.appended == 0 then 0 else 1)
-  pub alone : (i : ℕ) → i ≢ 0 → lists ns i ≡ 0
-  pub of_ends : ends ns 0 0 ≡ state.ended
-  pub of_statuses : statuses ns 0 0 ≡ state.ended
+-- The list and the media are what the history says, and it is lawful.
+pub record Stands (start now : Held) (past : List Moment) (state : PlainState) : Type 0 where
+  pub lawful : AreLawful start.disks past
+  pub login : state.begun ≡ true → unit_of past 0 ≡ Some 0
+  pub of_appends : appends past 0 0 ≡ state.appended
+  pub of_lists : lists past 0 ≡ (if state.appended == 0 then 0 else 1)
+  pub alone : (i : ℕ) → i ≢ 0 → lists past i ≡ 0
+  pub of_ends : ends past 0 0 ≡ state.ended
+  pub of_statuses : statuses past 0 0 ≡ state.ended
   pub count : state.ended + length state.waiting ≡ state.appended
-  pub queued : (j : ℕ) (d : Cmd) → j < length state.waiting → request_at ns 0 0 (state.ended + j) ≡ Some (request_of (slice_index_or state.waiting j d))
-  pub not_run : (k : ℕ) → state.ended ≤ k → runs ns 0 0 k ≡ 0
-  pub not_taken : (k : ℕ) → state.ended ≤ k → takes ns 0 0 k ≡ 0
-  pub unit_is : (plain_of start.disks ns 0).unit ≡ state.unit
-  pub disks : DisksAre start.disks ns now.disks
-  pub failures : FailuresFit start.faults ns now.faults
+  pub queued : (j : ℕ) (d : Cmd) → j < length state.waiting → request_at past 0 0 (state.ended + j) ≡ Some (request_of (slice_index_or state.waiting j d))
+  pub not_run : (k : ℕ) → state.ended ≤ k → runs past 0 0 k ≡ 0
+  pub not_taken : (k : ℕ) → state.ended ≤ k → takes past 0 0 k ≡ 0
+  pub unit_is : (plain_of start.disks past 0).unit ≡ state.unit
+  pub disks : DisksAre start.disks past now.disks
+  pub failures : FailuresFit start.faults past now.faults
   pub some : 0 < length now.disks
   pub counted : 0 < length now.faults
 
 -- The list and the media stand for a lawful run.
 pub record StandsFor (start now : Held) (run : Run) (state : PlainState) : Type 0 where
   pub begins : run.start ≡ start.disks
-  pub notes : Stands start now (history run.entries) state
+  pub moments : Stands start now (history run.entries) state
   pub action : ActionLaw run.entries
 
 -- Commands were served since the list was `old`: their notes, and what the list and the media then stand for.
@@ -139,11 +142,11 @@ pub record Settling (old new : PlainState) (before now : Held) : Type 0 where
   pub appended : new.appended ≡ old.appended
   pub served_all : AreServed new.fresh
   pub form : AllByRecursion HasForm new.fresh
-  pub stands : (start : Held) (notes : List Note) → Stands start before (reverse notes) old → Stands start now (reverse (notes ++ new.fresh)) new
+  pub stands : (start : Held) (past : List Moment) → Stands start before past old → Stands start now (map said new.fresh ++ past) new
 
 -- All that waited was served, and the line told that nothing waits.
 pub record HasSettled (old new : PlainState) (before now : Held) : Type 0 where
   pub state : PlainState
   pub settling : Settling old state before now
   pub none : state.waiting ≡ []
-  pub settled : new ≡ record state { fresh = state.fresh ++ Settled ∷ [] }
+  pub settled : new ≡ record state { fresh = Settled ∷ state.fresh }

@@ -1,8 +1,9 @@
-ghost use Rattle.std.specs.Prelude.{◌≡◌, ◌+◌, ◌<◌, ◌≤◌, ◌∷◌, ◌++◌, [], List, map, length, true, IfOk, OnOk};
+ghost use Rattle.std.specs.Prelude.{◌≡◌, ◌+◌, ◌<◌, ◌≤◌, ◌∷◌, ◌++◌, [], List, map, length, reverse, true, IfOk, OnOk};
 ghost use Rattle.std.specs.List.{AllByRecursion};
 ghost use Rattle.sbp_journal.specs.Run.{with_entry};
 ghost use Rattle.sbp_journal.specs.Run as journal_runs;
 ghost use Rattle.sbp_journal.specs.Form.{HasForm};
+ghost use Rattle.sbp_journal.specs.Written.{IsTyped};
 ghost use Rattle.sbp_journal.specs.declared.note.Note.TheVariants as notes;
 ghost use Rattle.plain_list.specs.Plain.{empty_list, Held, held, is_whole, initiators, is_served, in_use, RunsAndTells, Serves, StandsFor, Settling, HasSettled, after_append, with_command};
 
@@ -80,7 +81,7 @@ impl PlainList {
         })
     }
 
-    /// The notes of the latest line.
+    /// The notes of the latest line, seen with the latest one first.
     pub fn fresh(&self) -> &Journal
         ensures { result.now ≡ self.now.fresh }
     {
@@ -125,7 +126,8 @@ impl PlainList {
     /// The run begins with one initiator that is logged in.
     fn begin(&mut self) -> Result<(), NoMemory>
         requires fresh { self.old.fresh ≡ [] }
-        ensures { OnOk result (self.new ≡ record self.old { begun = true; fresh = notes.Begin 1 true ∷ [] }) }
+        ensures list { OnOk result (self.new ≡ record self.old { begun = true; fresh = notes.Begin 1 true ∷ [] }) }
+        ensures typed { OnOk result (AllByRecursion IsTyped self.new.fresh) }
     {
         self.fresh.push(Note::Begin {
             initiators: 1,
@@ -139,7 +141,8 @@ impl PlainList {
     fn enqueue(&mut self, cmd: Cmd) -> Result<(), NoMemory>
         requires fresh { self.old.fresh ≡ [] }
         requires room { self.old.appended < 65536 }
-        ensures { OnOk result (self.new ≡ with_command self.old cmd) }
+        ensures list { OnOk result (self.new ≡ with_command self.old cmd) }
+        ensures typed { OnOk result (AllByRecursion IsTyped self.new.fresh) }
     {
         let orb = self.appended;
         tell_append(self.alloc, &mut self.fresh, orb, &cmd)?;
@@ -157,6 +160,7 @@ impl PlainList {
         ensures begun { OnOk result (self.new.begun ≡ self.old.begun) }
         ensures room { OnOk result (self.new.appended ≤ self.old.appended + 1) }
         ensures form { OnOk result (AllByRecursion HasForm self.new.fresh) }
+        ensures typed { OnOk result (AllByRecursion IsTyped self.new.fresh) }
     {
         if self.slots_in_use() < SLOTS {
             self.enqueue(cmd)
@@ -259,7 +263,7 @@ impl PlainList {
         ensures count { length media.new.items ≡ length media.old.items }
         ensures begun { OnOk result (self.new.begun ≡ true) }
         ensures room { OnOk result (self.new.appended ≤ self.old.appended + 1) }
-        ensures form { OnOk result (AllByRecursion HasForm self.new.fresh) }
+        ensures form { OnOk result (AllByRecursion HasForm (reverse self.new.fresh)) }
         ensures stands { OnOk result ((start : Held) (run : journal_runs.Run) → StandsFor start (held (map disk media.old.items) (map media_faults media.old.items)) run self.old → StandsFor start (held (map disk media.new.items) (map media_faults media.new.items)) (with_entry run line event self.new.fresh) self.new) }
     {
         self.fresh.clear();

@@ -1,4 +1,6 @@
 ghost use Rattle.std.specs.Prelude.{◌≡◌, ◌++◌, IfOk, OnOk};
+ghost use Rattle.std.specs.List.{AllByRecursion};
+ghost use Rattle.sbp_journal.specs.Written.{IsTyped};
 ghost use Rattle.sbp_laws.specs.Terms.{status_of};
 ghost use Rattle.sbp_laws.specs.ExecutionLaw.{asked_data};
 ghost use Rattle.sbp_laws.specs.ActionLaw.{append_notes, served};
@@ -19,7 +21,8 @@ pub(crate) fn tell_append(
     orb: u32,
     cmd: &Cmd,
 ) -> Result<(), NoMemory>
-    ensures { OnOk result (fresh.new ≡ fresh.old ++ append_notes 0 0 orb cmd.now) }
+    ensures told { OnOk result (fresh.new ≡ append_notes 0 0 orb cmd.now ++ fresh.old) }
+    ensures typed { OnOk result (AllByRecursion IsTyped fresh.new) }
 {
     let buffer = note_buffer(alloc, cmd)?;
     fresh.push(Note::Append {
@@ -76,7 +79,8 @@ pub(crate) fn tell_served(
     run: &Run,
     answer: &[u8],
 ) -> Result<(), NoMemory>
-    ensures { OnOk result (fresh.new ≡ fresh.old ++ served 0 0 orb 0 cmd.now.cdb (asked_data (request_of cmd.now) run.now.carried) run.now.check answer.now) }
+    ensures told { OnOk result (fresh.new ≡ served 0 0 orb 0 cmd.now.cdb (asked_data (request_of cmd.now) run.now.carried) run.now.check answer.now ++ fresh.old) }
+    ensures typed { OnOk result (AllByRecursion IsTyped fresh.new) }
 {
     let status = status_kind(run.check);
     let bytes = carried_bytes(alloc, cmd, run.carried)?;

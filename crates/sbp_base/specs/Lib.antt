@@ -3,3 +3,4 @@ pub mod Failing
 pub mod Memory
 pub mod Speeds
 pub mod Quadlets
+pub mod Update

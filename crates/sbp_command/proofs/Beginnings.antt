@@ -53,7 +53,7 @@ begins before some counted = record {
   events_are = refl;
   begun = refl;
   so_far = record {
-    stands = record { begins = refl; notes = empty_stands before.disks before.faults some counted; action = tt };
+    stands = record { begins = refl; moments = empty_stands before.disks before.faults some counted; action = tt };
     written = Appends-nil before.written;
     writes = omega arith;
   };

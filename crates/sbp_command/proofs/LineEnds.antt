@@ -1,5 +1,5 @@
 -- How a line ends: its event is run and its notes written, or its fault is written.
-use Rattle.std.proofs.Common.{◌≡◌, refl, sym, subst, ℕ, ◌+◌, ◌≤◌, Bool, true, List, [], ◌++◌, take, length, Option, Some, None, Result, Ok, Err, arith, take_all}
+use Rattle.std.proofs.Common.{◌≡◌, refl, sym, subst, ℕ, ◌+◌, ◌≤◌, Bool, true, List, [], ◌++◌, take, length, reverse, Option, Some, None, Result, Ok, Err, arith, take_all}
 use Rattle.std.specs.Io.KnownBytes.{Appends}
 use Rattle.std.proofs.KnownBytes.{Appends-trans}
 use Rattle.std.proofs.Math.Seq.{take-append-add}
@@ -21,7 +21,7 @@ use Rattle.sbp_command.specs.declared.status.Status.TheVariants as statuses
 
 pub lawful_run : (before : Outside) (now : Held) (run : Run) (list : PlainState) → StandsFor (held before.disks before.faults) now run list → Lawful run
 lawful_run before now run list h = record {
-  notes = subst (λ start. AreLawful start (history run.entries)) (sym h.begins) h.notes.lawful;
+  moments = subst (λ start. AreLawful start (history run.entries)) (sym h.begins) h.moments.lawful;
   action = h.action;
 }
 
@@ -33,8 +33,8 @@ pub behind_whole : (old mid new : Option (List ℕ)) (first more front : List �
 behind_whole old mid new first more front e p q = subst (λ bs. Appends old new (first ++ bs)) e (Appends-trans old mid new first front p q)
 
 -- the text with one more entry
-entry_text : (run : Run) (number : ℕ) (happened : Event) (notes : List Note) → text_of (journal run) ++ text_of notes ≡ text_of (journal (with_entry run number happened notes))
-entry_text run number happened notes = sym (flat_map-append note_text (journal run) notes)
+entry_text : (run : Run) (number : ℕ) (happened : Event) (notes : List Note) → text_of (journal run) ++ text_of (reverse notes) ≡ text_of (journal (with_entry run number happened notes))
+entry_text run number happened notes = sym (flat_map-append note_text (journal run) (reverse notes))
 
 -- nothing of the line is written
 pub line_idle : (before now : Outside) (kept : Held) (run : Run) (number : ℕ) (begun : Bool) (line : List ℕ) (list : PlainState) → StandsFor (held before.disks before.faults) kept run list → Appends before.written now.written (text_of (journal run)) → LineTorn before now run number begun line
@@ -51,7 +51,7 @@ line_idle before now kept run number begun line list stands written = record {
 -- a front of the notes is written
 event_torn : (before now : Outside) (kept : Held) (run : Run) (number : ℕ) (begun : Bool) (line : List ℕ) (happened : Event) (notes : List Note) (list : PlainState) (mid : Option (List ℕ)) (len : ℕ)
     → says number begun line ≡ Ok (Some happened) → StandsFor (held before.disks before.faults) kept (with_entry run number happened notes) list
-    → Appends before.written mid (text_of (journal run)) → Appends mid now.written (take len (text_of notes)) → LineTorn before now run number begun line
+    → Appends before.written mid (text_of (journal run)) → Appends mid now.written (take len (text_of (reverse notes))) → LineTorn before now run number begun line
 event_torn before now kept run number begun line happened notes list mid len read stands p q = record {
   made = with_entry run number happened notes;
   output = text_of (journal (with_entry run number happened notes));
@@ -59,7 +59,7 @@ event_torn before now kept run number begun line happened notes list mid len rea
   start = stands.begins;
   lawful = lawful_run before kept (with_entry run number happened notes) list stands;
   tells = event happened notes read;
-  written = subst (λ bs. Appends before.written now.written (take (length (text_of (journal run)) + len) bs)) (entry_text run number happened notes) (behind_front before.written mid now.written (text_of (journal run)) (text_of notes) len p q);
+  written = subst (λ bs. Appends before.written now.written (take (length (text_of (journal run)) + len) bs)) (entry_text run number happened notes) (behind_front before.written mid now.written (text_of (journal run)) (text_of (reverse notes)) len p q);
 }
 
 -- a front of the fault is written
@@ -83,7 +83,7 @@ rose_later before mid now h r = omega arith
 pub event_ends : {A : Type 0} (result : Result A Status) (before : Outside) (left : Option (List ℕ)) (reads : ℕ) (mid new : Option (List ℕ)) (some more : ℕ) (disks : List Disk) (faults : List ℕ)
     (run : Run) (number : ℕ) (begun : Bool) (line : List ℕ) (happened : Event) (notes : List Note) (list : PlainState)
     → says number begun line ≡ Ok (Some happened) → StandsFor (held before.disks before.faults) (held disks faults) (with_entry run number happened notes) list
-    → Appends before.written mid (text_of (journal run)) → before.writes ≤ some → WritesFront mid new some more result (text_of notes)
+    → Appends before.written mid (text_of (journal run)) → before.writes ≤ some → WritesFront mid new some more result (text_of (reverse notes))
     → list.begun ≡ true → LineEnds result before (outside left reads new more disks faults) run number begun line list
 event_ends (Ok done) before left reads mid new some more disks faults run number begun line happened notes list read stands p l w has_begun = record {
   said = Some happened;
@@ -92,7 +92,7 @@ event_ends (Ok done) before left reads mid new some more disks faults run number
   begins = has_begun;
   so_far = record {
     stands = stands;
-    written = subst (Appends before.written new) (entry_text run number happened notes) (behind_whole before.written mid new (text_of (journal run)) (text_of notes) _ w.whole p w.written);
+    written = subst (Appends before.written new) (entry_text run number happened notes) (behind_whole before.written mid new (text_of (journal run)) (text_of (reverse notes)) _ w.whole p w.written);
     writes = omega (arith, w.later);
   };
 }

@@ -104,8 +104,8 @@ over before now run list events h e = record { start = h.begins; events_are = e;
 
 leaves : (before now : Outside) (run : Run) (list : PlainState) → StandsFor (held before.disks before.faults) (held now.disks now.faults) run list → LeavesMedia before now run
 leaves before now run list h = record {
-  disks = subst (λ start. DisksAre start (history run.entries) now.disks) (sym h.begins) h.notes.disks;
-  failures = h.notes.failures;
+  disks = subst (λ start. DisksAre start (history run.entries) now.disks) (sym h.begins) h.moments.disks;
+  failures = h.moments.failures;
 }
 
 -- a line that ends the run ends it as its status says

@@ -1,10 +1,10 @@
 -- A run: what the media hold at the start, and an entry for each line that was run.
-use Rattle.std.specs.Prelude.{ℕ, List, [], ◌∷◌, ◌++◌, reverse}
+use Rattle.std.specs.Prelude.{ℕ, List, [], ◌∷◌, ◌++◌, map, reverse}
 use Rattle.rbc_disk.specs.Disk.{Disk}
 use Rattle.sbp_journal.specs.declared.event.Event.{Event}
 use Rattle.sbp_journal.specs.declared.note.Note.{Note}
 
--- a line's number, its event, and its notes in their order
+-- a line's number, its event, and its notes, the latest one first
 pub record Entry : Type 0 where
   pub line : ℕ
   pub event : Event
@@ -26,14 +26,20 @@ with_entry run line event notes = record run { entries = record { line = line; e
 -- the notes of all entries, in their order
 abbrev pub notes_of : List Entry → List Note
 notes_of [] = []
-notes_of (entry ∷ before) = notes_of before ++ entry.notes
+notes_of (entry ∷ before) = notes_of before ++ reverse entry.notes
 
 abbrev pub journal : Run → List Note
 journal run = notes_of run.entries
 
--- the notes, the latest one first: what stood before a note is the rest of the list
-abbrev pub history : List Entry → List Note
-history entries = reverse (notes_of entries)
+-- a moment of a run: a line, with its number, asked for an event, or a note was said
+pub data Moment : Type 0 where
+  asked : ℕ → Event → Moment
+  said : Note → Moment
+
+-- what was asked and what was said, the latest moment first: what stood before a moment is the rest of the list
+abbrev pub history : List Entry → List Moment
+history [] = []
+history (entry ∷ before) = map said entry.notes ++ asked entry.line entry.event ∷ history before
 
 -- the numbered events, in their order
 abbrev pub events_in : List Entry → List (ℕ × Event)

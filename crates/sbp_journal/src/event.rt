@@ -83,7 +83,7 @@ pub enum Event {
     See { node: u8 },
     /// A packet in flight arrives.
     Deliver { serial: u64 },
-    /// A packet that was delivered arrives again.
+    /// A packet arrives once more, in flight or delivered, and stays as it is.
     Repeat { serial: u64 },
     /// A packet in flight is lost.
     Lose { serial: u64 },

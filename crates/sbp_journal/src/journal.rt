@@ -1,23 +1,31 @@
-ghost use Rattle.std.specs.Prelude.{◌≡◌, ℕ, List, [], ◌∷◌, ◌++◌, OnOk, OnErr};
+ghost use Rattle.std.specs.Prelude.{◌≡◌, ℕ, List, [], ◌∷◌, ◌++◌, reverse, OnOk, OnErr};
+ghost use Rattle.std.specs.List.{AllByRecursion};
+ghost use Rattle.sbp_journal.specs.Written.{IsTyped};
 
 use crate::note::Note;
+use crate::typed::note_fits;
 use sbp_base::{Bytes, NoMemory};
 use std::alloc::Global;
 use std::marker::Model;
 
-/// Notes in their order.
+/// Notes. They are seen with the latest one first, as the laws read them, and each is inside the types
+/// of its fields.
 #[derive(Drop)]
 pub struct Journal {
     notes: Vec<Note>,
 }
 
 impl Model for Journal {
-    ghost use Rattle.std.specs.Prelude.{List};
+    ghost use Rattle.std.specs.Prelude.{List, reverse};
+    ghost use Rattle.std.specs.List.{AllByRecursion};
+    ghost use Rattle.sbp_journal.specs.Written.{IsTyped};
     ghost use Rattle.sbp_journal.specs.declared.note.Note.{Note};
 
     ghost Value = { List Note };
 
-    ghost view = { λ journal. journal.notes.items };
+    ghost view = { λ journal. reverse journal.notes.items };
+
+    ghost invariant = { λ journal. AllByRecursion IsTyped (reverse journal.notes.items) };
 }
 
 impl Journal {
@@ -30,11 +38,13 @@ impl Journal {
         }
     }
 
-    /// Adds a note at the end.
+    /// Adds a note, which is then the latest one.
     pub fn push(&mut self, note: Note) -> Result<(), NoMemory>
-        ensures ok { OnOk result (self.new ≡ self.old ++ note ∷ []) }
+        ensures ok { OnOk result (self.new ≡ note ∷ self.old) }
         ensures err { OnErr result (self.new ≡ self.old) }
+        ensures typed { AllByRecursion IsTyped self.new }
     {
+        note_fits(&note);
         self.notes.push(note)?;
         Ok(())
     }
@@ -46,9 +56,9 @@ impl Journal {
         self.notes.clear();
     }
 
-    /// The notes, lent.
+    /// The notes, lent in the order in which they were added.
     pub fn as_slice(&self) -> &[Note]
-        ensures { result.now ≡ self.now }
+        ensures { result.now ≡ reverse self.now }
     {
         self.notes.as_slice()
     }

@@ -11,6 +11,7 @@ mod operation;
 mod outbox;
 mod side;
 mod text;
+mod typed;
 mod words;
 
 pub use cause::{Cause, CutCause, Judged, TargetFault};

@@ -4,7 +4,7 @@ use Rattle.rbc_disk.specs.Disk.{Disk}
 use Rattle.rbc_disk.specs.Runs.{answer_of, answer_length_of}
 use Rattle.sbp_laws.specs.Terms.{Request, request_at}
 use Rattle.sbp_laws.specs.DiskFold.{before_run}
-use Rattle.sbp_journal.specs.declared.note.Note.{Note}
+use Rattle.sbp_journal.specs.Run.{Moment, said}
 use Rattle.sbp_journal.specs.declared.note.Note.TheVariants.{Taken}
 use Rattle.orb_layout.specs.declared.status.StatusKind.TheVariants.{Good}
 
@@ -13,8 +13,8 @@ pub record IsAnswerOf (request : Request) (disk : Disk) (answer : List ℕ) : Ty
   pub len : length answer ≡ answer_length_of disk.is_bay request.cdb
   pub told : IfSome (answer_of request.cdb disk) (λ bytes. answer ≡ bytes)
 
-abbrev pub AnswerLaw : List Disk → List Note → Type 0
+abbrev pub AnswerLaw : List Disk → List Moment → Type 0
 AnswerLaw start [] = Unit {0}
-AnswerLaw start (Taken i n k Good answer ∷ ns) =
-    IsSomeAnd (request_at ns i n k) (λ request. IsAnswerOf request (before_run start ns i n k) answer) × AnswerLaw start ns
-AnswerLaw start (_ ∷ ns) = AnswerLaw start ns
+AnswerLaw start (said (Taken i n k Good answer) ∷ past) =
+    IsSomeAnd (request_at past i n k) (λ request. IsAnswerOf request (before_run start past i n k) answer) × AnswerLaw start past
+AnswerLaw start (_ ∷ past) = AnswerLaw start past

@@ -7,9 +7,9 @@ use Rattle.rbc_disk.specs.Checks.{check_of}
 use Rattle.rbc_disk.specs.Runs.{need_of, data_length_of, failure_of, MayEnd}
 use Rattle.rbc_command.specs.declared.sense.Sense.{Sense}
 use Rattle.rbc_disk.specs.declared.command.Need.TheVariants.{Payload}
+use Rattle.sbp_journal.specs.Run.{Moment, said}
 use Rattle.sbp_laws.specs.Terms.{Request, runs, ends, request_at, ran_status, unit_of, place_of, plan_of, data_of}
 use Rattle.sbp_laws.specs.DiskFold.{plain_of}
-use Rattle.sbp_journal.specs.declared.note.Note.{Note}
 use Rattle.sbp_journal.specs.declared.note.Note.TheVariants.{Ran, Ended}
 
 -- as many bytes of its buffer as a WRITE asks for
@@ -28,14 +28,17 @@ pub record RunsOn (request : Request) (plain : PlainDisk) (place : ℕ) (cdb byt
   pub ended : MayEnd (check_of cdb (plan_of request.buffer) plain place) (failure_of plain.medium.is_bay cdb) check
 
 -- the ORB runs for the first time, after the end of the one before it and before its own, on the unit of the login
-pub record IsNextRun (ns : List Note) (i n k unit : ℕ) : Type 0 where
-  pub once : runs ns i n k ≡ 0
-  pub order : k ≡ ends ns i n
-  pub login : unit_of ns i ≡ Some unit
+pub record IsNextRun (past : List Moment) (i n k unit : ℕ) : Type 0 where
+  pub once : runs past i n k ≡ 0
+  pub order : k ≡ ends past i n
+  pub login : unit_of past i ≡ Some unit
 
-abbrev pub ExecutionLaw : List Disk → List Note → Type 0
+-- without a list and a number, as in the order law
+abbrev pub ExecutionLaw : List Disk → List Moment → Type 0
 ExecutionLaw start [] = Unit {0}
-ExecutionLaw start (Ran i (Some n) (Some k) unit cdb bytes check ∷ ns) =
-    IsNextRun ns i n k unit × IsSomeAnd (request_at ns i n k) (λ request. RunsOn request (plain_of start ns unit) (place_of i) cdb bytes check) × ExecutionLaw start ns
-ExecutionLaw start (Ended i (Some n) (Some k) status ∷ ns) = (ran_status ns i n k ≡ Some status) × ExecutionLaw start ns
-ExecutionLaw start (_ ∷ ns) = ExecutionLaw start ns
+ExecutionLaw start (said (Ran i (Some n) (Some k) unit cdb bytes check) ∷ past) =
+    IsNextRun past i n k unit × IsSomeAnd (request_at past i n k) (λ request. RunsOn request (plain_of start past unit) (place_of i) cdb bytes check) × ExecutionLaw start past
+ExecutionLaw start (said (Ran i n k unit cdb bytes check) ∷ past) = ⊥
+ExecutionLaw start (said (Ended i (Some n) (Some k) status) ∷ past) = (ran_status past i n k ≡ Some status) × ExecutionLaw start past
+ExecutionLaw start (said (Ended i n k status) ∷ past) = ⊥
+ExecutionLaw start (_ ∷ past) = ExecutionLaw start past

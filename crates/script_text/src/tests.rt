@@ -2,7 +2,7 @@ ghost use Rattle.std.specs.Prelude.{◌≤◌};
 
 use crate::{Drill, LineFault, drill_line, read_line, read_write};
 use sbp_base::NoMemory;
-use sbp_journal::{Action, Cmd, Event};
+use sbp_journal::{Action, Event};
 use std::alloc::Global;
 use std::test::Fail;
 
@@ -28,119 +28,114 @@ fn said_by(alloc: Global, line: &[u8], initiators: u8) -> Said
     }
 }
 
-/// One line of every row, on a bus of two initiators.
-#[test]
-fn rows_are_read(rt: HostRuntime) {
-    for line in [
-        "rom 0",
-        "reconnect 1",
-        "logout 0",
-        "abortset 0",
-        "lureset 0",
-        "treset 0",
-        "agentreset 0",
-        "state 0",
-        "enable 0",
-        "login 1 3 15",
-        "query 0 3",
-        "abort 0 65535",
-        "dummy 1 0",
-        "put 0 tur",
-        "append 1 sync",
-        "low 0",
-        "link 0",
-        "ring 0",
-        "reset 62 0 1",
-        "see t",
-        "see 1",
-        "key 3 0011223344556677",
-        "deliver 1",
-        "repeat 4294967295",
-        "lose 9",
-        "timeout 10",
-        "step 10000",
-        "settle",
-        "tick",
-        "inject 0 ffC00000",
-    ] {
-        assert_eq!(rt;
-            said_by(rt.alloc(), line.as_bytes(), 2),
-            Said::Event,
-            "{line}"
-        );
-    }
-}
+/// One line of every row.
+const ROWS: [&str; 30] = [
+    "rom 0",
+    "reconnect 1",
+    "logout 0",
+    "abortset 0",
+    "lureset 0",
+    "treset 0",
+    "agentreset 0",
+    "state 0",
+    "enable 0",
+    "login 1 3 15",
+    "query 0 3",
+    "abort 0 65535",
+    "dummy 1 0",
+    "put 0 tur",
+    "append 1 sync",
+    "low 0",
+    "link 0",
+    "ring 0",
+    "reset 62 0 1",
+    "see t",
+    "see 1",
+    "key 3 0011223344556677",
+    "deliver 1",
+    "repeat 4294967295",
+    "lose 9",
+    "timeout 10",
+    "step 10000",
+    "settle",
+    "tick",
+    "inject 0 ffC00000",
+];
 
 /// Lines whose words do not have their row's shape.
-#[test]
-fn shapes_are_judged(rt: HostRuntime) {
-    for line in [
-        "rom",
-        "rom 0 ",
-        "rom  0",
-        "rom 00",
-        "rom +1",
-        "settle 1",
-        "login 0 0",
-        "login 0 0 0 pass 0011223344556677 excl",
-        "login 0 0 0 pass 001122334455667",
-        "login 0 0 0 excl excl",
-        "key 0 00112233445566778",
-        "key 0 001122334455667g",
-        "reset 0 1",
-        "reset 0 1 2 3",
-        "see i",
-        "inject 0 ",
-        "inject 0 abc",
-        "append 4 foo",
-        "append 0 write 4294967296 AA*512+",
-        "append 0 write 0 AA*01",
-        "append 0 write 0 AA*",
-        "append 0 write 0 A*512",
-        "append 0 write 0 +AA*512",
-        "append 0 read 0",
-        "append 0 read 0 1 pay 1 seg 512",
-        "append 0 read 0 1 seg ",
-        "append 0 read 0 1 seg 256,,256",
-        "append 0 tur 0",
-    ] {
-        assert_eq!(rt; said_by(rt.alloc(), line.as_bytes(), 2), SHAPE, "{line}");
-    }
-}
+const SHAPES: [&str; 28] = [
+    "rom",
+    "rom 0 ",
+    "rom  0",
+    "rom 00",
+    "rom +1",
+    "settle 1",
+    "login 0 0",
+    "login 0 0 0 pass 0011223344556677 excl",
+    "login 0 0 0 pass 001122334455667",
+    "login 0 0 0 excl excl",
+    "key 0 00112233445566778",
+    "key 0 001122334455667g",
+    "reset 0 1",
+    "reset 0 1 2 3",
+    "see i",
+    "inject 0 ",
+    "inject 0 abc",
+    "append 4 foo",
+    "append 0 write 4294967296 AA*512+",
+    "append 0 write 0 AA*01",
+    "append 0 write 0 AA*",
+    "append 0 write 0 A*512",
+    "append 0 write 0 +AA*512",
+    "append 0 read 0",
+    "append 0 read 0 1 pay 1 seg 512",
+    "append 0 read 0 1 seg ",
+    "append 0 read 0 1 seg 256,,256",
+    "append 0 tur 0",
+];
 
 /// Lines of their row's shape with a number out of its range, equal IDs, or a sum or length that is
 /// not as it has to be.
+const RANGES: [&str; 26] = [
+    "append 4 tur",
+    "append 18446744073709551616 tur",
+    "login 0 4 0",
+    "login 0 0 16",
+    "abort 0 65536",
+    "reset 0 63 1",
+    "reset 5 1 5",
+    "see 4",
+    "key 4 0011223344556677",
+    "deliver 0",
+    "deliver 4294967296",
+    "step 0",
+    "step 10001",
+    "inject 0 ffc0ff",
+    "append 0 read 4294967296 1",
+    "append 0 read 0 33",
+    "append 0 read 0 1 pay 10",
+    "append 0 read 0 1 seg 256,255",
+    "append 0 read 0 1 seg 0,512",
+    "append 0 read 0 32 seg 16385",
+    "append 0 tur seg 1",
+    "append 0 verify 0 1 seg 512",
+    "append 0 write 0 AA*0",
+    "append 0 write 0 AA*16385",
+    "append 0 write 0 AA*511",
+    "append 0 write 0 AA*16384+BB*512",
+];
+
+/// Lines on a bus of two initiators.
 #[test]
-fn ranges_are_judged(rt: HostRuntime) {
-    for line in [
-        "append 4 tur",
-        "append 18446744073709551616 tur",
-        "login 0 4 0",
-        "login 0 0 16",
-        "abort 0 65536",
-        "reset 0 63 1",
-        "reset 5 1 5",
-        "see 4",
-        "key 4 0011223344556677",
-        "deliver 0",
-        "deliver 4294967296",
-        "step 0",
-        "step 10001",
-        "inject 0 ffc0ff",
-        "append 0 read 4294967296 1",
-        "append 0 read 0 33",
-        "append 0 read 0 1 pay 10",
-        "append 0 read 0 1 seg 256,255",
-        "append 0 read 0 1 seg 0,512",
-        "append 0 read 0 32 seg 16385",
-        "append 0 tur seg 1",
-        "append 0 verify 0 1 seg 512",
-        "append 0 write 0 AA*0",
-        "append 0 write 0 AA*16385",
-        "append 0 write 0 AA*511",
-        "append 0 write 0 AA*16384+BB*512",
+fn lines_are_judged(rt: HostRuntime) {
+    for (lines, want) in [
+        (ROWS.as_slice(), Said::Event),
+        (SHAPES.as_slice(), SHAPE),
+        (RANGES.as_slice(), RANGE),
     ] {
-        assert_eq!(rt; said_by(rt.alloc(), line.as_bytes(), 2), RANGE, "{line}");
+        for line in lines {
+            assert_eq!(rt; said_by(rt.alloc(), line.as_bytes(), 2), want, "{line}");
+        }
     }
 }
 
@@ -179,21 +174,17 @@ fn order_of_faults(rt: HostRuntime) {
     }
 }
 
-/// A line of so many bytes, all of them `#`.
-fn comment_of(alloc: Global, length: usize) -> Result<Said, Fail> {
-    let mut line = Vec::new(alloc);
-    for _byte in 0..length {
-        line.push(b'#')?;
-    }
-    Ok(said_by(alloc, line.as_slice(), 1))
-}
-
 /// A comment has 8,192 bytes at most.
 #[test]
 fn lines_have_an_end(rt: HostRuntime) -> Result<(), Fail> {
-    assert_eq!(rt; comment_of(rt.alloc(), 8192)?, Said::Nothing);
+    let mut line = Vec::new(rt.alloc());
+    for _byte in 0..8192 {
+        line.push(b'#')?;
+    }
+    assert_eq!(rt; said_by(rt.alloc(), line.as_slice(), 1), Said::Nothing);
+    line.push(b'#')?;
     assert_eq!(rt;
-        comment_of(rt.alloc(), 8193)?,
+        said_by(rt.alloc(), line.as_slice(), 1),
         Said::Fault(LineFault::TooLong)
     );
     Ok(())
@@ -247,23 +238,22 @@ fn cmd_by(alloc: Global, line: &str) -> Option<([u8; 12], bool, u16, usize, u8, 
                     ..
                 },
             ),
-        ) => Some(parts_of(&cmd)),
+        ) => {
+            let bytes = cmd.payload.as_slice();
+            let last = bytes.last().copied().unwrap_or(0);
+            let segments = cmd.segments.as_slice().len();
+            Some((
+                cmd.cdb,
+                cmd.to_initiator,
+                cmd.length,
+                bytes.len(),
+                last,
+                segments,
+                cmd.max_payload,
+            ))
+        }
         _ => None,
     }
-}
-
-fn parts_of(cmd: &Cmd) -> ([u8; 12], bool, u16, usize, u8, usize, u8) {
-    let bytes = cmd.payload.as_slice();
-    let last = bytes.last().copied().unwrap_or(0);
-    (
-        cmd.cdb,
-        cmd.to_initiator,
-        cmd.length,
-        bytes.len(),
-        last,
-        cmd.segments.as_slice().len(),
-        cmd.max_payload,
-    )
 }
 
 /// Commands without blocks: the opcode, byte 4, the direction and the length.
@@ -327,14 +317,6 @@ fn block_commands_are_read(rt: HostRuntime) {
     }
 }
 
-/// Whether the two words of a write are read, or with which fault.
-fn write_by(alloc: Global, words: &str) -> Said {
-    match read_write(alloc, words.as_bytes()) {
-        Ok(_) => Said::Event,
-        Err(fault) => Said::Fault(fault),
-    }
-}
-
 /// The two words of a write.
 #[test]
 fn writes_are_read(rt: HostRuntime) {
@@ -347,7 +329,11 @@ fn writes_are_read(rt: HostRuntime) {
         ("5 AA*511", RANGE),
         ("4294967296 AA*512", RANGE),
     ] {
-        assert_eq!(rt; write_by(rt.alloc(), words), want, "{words}");
+        let said = match read_write(rt.alloc(), words.as_bytes()) {
+            Ok(_) => Said::Event,
+            Err(fault) => Said::Fault(fault),
+        };
+        assert_eq!(rt; said, want, "{words}");
     }
 }
 
@@ -363,26 +349,21 @@ enum Drilled {
 }
 
 fn event_by(alloc: Global, drill: &mut Drill) -> Result<Drilled, NoMemory> {
-    let event = drill_line(alloc, drill)?;
-    Ok(match &event {
-        Some(event) => parts_of_event(event),
+    Ok(match drill_line(alloc, drill)? {
+        Some(Event::Begin { .. }) => Drilled::Begin,
+        Some(Event::Settle) => Drilled::Settle,
+        Some(
+            Event::Act {
+                initiator,
+                action: Action::Append(cmd),
+            },
+        ) => {
+            let byte = cmd.payload.as_slice().first().copied().unwrap_or(0);
+            Drilled::Append(initiator, cmd.cdb[0], cmd.cdb[5], byte)
+        }
+        Some(_) => Drilled::Other,
         None => Drilled::End,
     })
-}
-
-fn parts_of_event(event: &Event) -> Drilled {
-    match event {
-        Event::Begin { .. } => Drilled::Begin,
-        Event::Settle => Drilled::Settle,
-        Event::Act {
-            initiator,
-            action: Action::Append(cmd),
-        } => {
-            let byte = cmd.payload.as_slice().first().copied().unwrap_or(0);
-            Drilled::Append(*initiator, cmd.cdb[0], cmd.cdb[5], byte)
-        }
-        _ => Drilled::Other,
-    }
 }
 
 /// The script of `drill 1 2`, worked out by another program.
