@@ -7,6 +7,7 @@ use Rattle.std.specs.Fmt.{decimal}
 use Rattle.hex.specs.Hex.{encode_upper, decode_pairs, hex_digit_value}
 use Rattle.sbp_journal.specs.Canonical.{Run, runs_of, run_bytes, AreMaximal, Piece, plain, repeated, onto_pieces, pieces_of, piece_text, canonical}
 use Rattle.sbp_journal.specs.Written.{AreBytes}
+use Rattle.sbp_journal.proofs.Each.{all_append, all_front, all_back}
 use Rattle.journal_text.proofs.MaximalRuns.{are_runs}
 use Rattle.journal_text.proofs.WordsBack.{Lacks, split, split-join, lacks-append}
 use Rattle.journal_text.proofs.FieldsBack.{number_of, number_back, unhex, unhex_back, byte_in, byte_back, encode_lacks, decimal_lacks}
@@ -82,18 +83,6 @@ pieces_of-bytes (run ∷ runs) between =
       | false ↦ pieces_of-bytes runs (between ++ run_bytes run) ∙ append_assoc between (run_bytes run) (flat_map run_bytes runs)
     ]
 
-all-append : (xs ys : List ℕ) → AreBytes xs → AreBytes ys → AreBytes (xs ++ ys)
-all-append [] ys h k = k
-all-append (x ∷ xs) ys h k = (h.0, all-append xs ys h.1 k)
-
-all-front : (xs ys : List ℕ) → AreBytes (xs ++ ys) → AreBytes xs
-all-front [] ys h = tt
-all-front (x ∷ xs) ys h = (h.0, all-front xs ys h.1)
-
-all-back : (xs ys : List ℕ) → AreBytes (xs ++ ys) → AreBytes ys
-all-back [] ys h = h
-all-back (x ∷ xs) ys h = all-back xs ys h.1
-
 abbrev FitsRun : Run → Type 0
 FitsRun run = (run.byte < 256) × (run.count < 2 ^ 64) × AreBytes (run_bytes run)
 
@@ -106,7 +95,7 @@ pieces_of-fit [] between h k = onto_pieces-fit between [] k tt
 pieces_of-fit (run ∷ runs) between h k =
     elim (nat_le 4 run.count) as (λ t. AllByRecursion FitsPiece (cond t (onto_pieces between (repeated run.byte run.count ∷ pieces_of [] runs)) (pieces_of (between ++ run_bytes run) runs))) [
       | true ↦ onto_pieces-fit between (repeated run.byte run.count ∷ pieces_of [] runs) k ((h.0.0, h.0.1), pieces_of-fit runs [] h.1 tt)
-      | false ↦ pieces_of-fit runs (between ++ run_bytes run) h.1 (all-append between (run_bytes run) k h.0.2)
+      | false ↦ pieces_of-fit runs (between ++ run_bytes run) h.1 (all_append (λ byte. byte < 256) between (run_bytes run) k h.0.2)
     ]
 
 first_fits : (byte count : ℕ) → 0 < count → AreBytes (replicate count byte) → byte < 256
@@ -116,10 +105,10 @@ first_fits byte (suc count) h k = k.0
 runs_fit : (runs : List Run) → AreMaximal runs → AreBytes (flat_map run_bytes runs) → length (flat_map run_bytes runs) < 2 ^ 64 → AllByRecursion FitsRun runs
 runs_fit [] m h k = tt
 runs_fit (run ∷ runs) m h k =
-    let own = all-front (run_bytes run) (flat_map run_bytes runs) h in
+    let own = all_front (λ byte. byte < 256) (run_bytes run) (flat_map run_bytes runs) h in
     let len = length-append (run_bytes run) (flat_map run_bytes runs) in
     let count = length-replicate run.count run.byte in
-    ((first_fits run.byte run.count m.0 own, omega arith, own), runs_fit runs m.2 (all-back (run_bytes run) (flat_map run_bytes runs) h) (omega arith))
+    ((first_fits run.byte run.count m.0 own, omega arith, own), runs_fit runs m.2 (all_back (λ byte. byte < 256) (run_bytes run) (flat_map run_bytes runs) h) (omega arith))
 
 bytes_fit : (bs : List ℕ) → AreBytes bs → length bs < 2 ^ 64 → AllByRecursion FitsPiece (pieces_of [] (runs_of bs))
 bytes_fit bs h k =

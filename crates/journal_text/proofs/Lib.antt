@@ -4,3 +4,4 @@ mod FieldsBack
 mod CanonicalBack
 mod NotesBack
 mod TextsBack
+mod Journals

@@ -5,6 +5,9 @@ ghost use Rattle.std.specs.List.{AllByRecursion};
 ghost use Rattle.sbp_journal.specs.Text.{text_of};
 ghost use Rattle.sbp_journal.specs.Written.{IsWritten};
 ghost use Rattle.sbp_journal.specs.declared.note.Note as notes;
+ghost use Rattle.sbp_journal.specs.Run as journals;
+ghost use Rattle.sbp_journal.specs.Run.{journal};
+ghost use Rattle.sbp_laws.specs.Lawful.{Lawful};
 
 /// The runs by which the canonical form of bytes goes are the maximal ones: they join to the bytes,
 /// each has a byte, and no two side by side have the same one; and no other list of runs does so.
@@ -17,4 +20,9 @@ pub fn maximal_runs()
 /// are equal.
 pub fn text_determines_notes()
     ensures { (ns ms : List notes.Note) → AllByRecursion IsWritten ns → AllByRecursion IsWritten ms → text_of ns ≡ text_of ms → ns ≡ ms }
+{}
+
+/// So the text of a lawful run determines its journal.
+pub fn text_determines_journal()
+    ensures { (run other : journals.Run) → Lawful run → Lawful other → text_of (journal run) ≡ text_of (journal other) → journal run ≡ journal other }
 {}

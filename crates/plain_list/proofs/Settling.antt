@@ -2,9 +2,9 @@
 use Rattle.std.proofs.Common.{◌≡◌, ℕ, zero, suc, ◌+◌, ◌-◌, Bool, true, false, List, [], ◌∷◌, ◌++◌, length, map, reverse, refl, sym, ap, ◌∙◌, subst, arith}
 use Rattle.std.specs.Prelude.{◌==◌, ◌&&◌, min, nat_lt, if◌then◌else◌, Some, Result, Ok, Err, OnOk}
 use Rattle.std.specs.List.{AllByRecursion}
-use Rattle.std.proofs.lemmas.List.{reverse-append}
 use Rattle.sbp_journal.specs.Run.{Run, Moment, asked, said, with_entry, history}
 use Rattle.sbp_journal.specs.Written.{IsTyped}
+use Rattle.sbp_journal.proofs.Each.{all_reverse}
 use Rattle.sbp_laws.specs.Terms.{lists, appends, ends, statuses, slots_in_use, status_of}
 use Rattle.sbp_journal.specs.Form.{HasForm}
 use Rattle.sbp_laws.specs.ActionLaw.{AreServed, none, more, NothingWaits, append_notes, append_or_refusal, served, buffer_of, slots}
@@ -256,16 +256,10 @@ module _ (start now : Held) (run : Run) (line : ℕ) (old clear new : PlainState
       subst (λ event. StandsFor start later (with_entry run line event new.fresh) new) (sym e)
       (extends_settle start now later run line old new (subst (λ state. HasSettled state new now later) is_clear h) s)
 
--- what holds of each note holds of each in their order
-all_append : (P : Note → Type 0) (xs ys : List Note) → AllByRecursion P xs → AllByRecursion P ys → AllByRecursion P (xs ++ ys)
-all_append P [] ys h k = k
-all_append P (x ∷ xs) ys h k = (h.0, all_append P xs ys h.1 k)
+-- the notes have their form in their order too
+pub form_in_order : (notes : List Note) → AllByRecursion HasForm notes → AllByRecursion HasForm (reverse notes)
+form_in_order notes h = all_reverse HasForm notes h
 
-pub all_reverse : (notes : List Note) → AllByRecursion HasForm notes → AllByRecursion HasForm (reverse notes)
-all_reverse [] h = tt
-all_reverse (note ∷ notes) h =
-    subst (AllByRecursion HasForm) (sym (reverse-append (note ∷ []) notes)) (all_append HasForm (reverse notes) (note ∷ []) (all_reverse notes h.1) (h.0, tt))
-
-pub ruleset step_steps = (append_begun, settle_begun, all_reverse)
+pub ruleset step_steps = (append_begun, settle_begun, form_in_order)
 
 pub ruleset append_steps = (append_form)

@@ -1,2 +1,3 @@
 pub mod LineWords
+pub mod Each
 mod Runs

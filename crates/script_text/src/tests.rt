@@ -349,7 +349,8 @@ enum Drilled {
 }
 
 fn event_by(alloc: Global, drill: &mut Drill) -> Result<Drilled, NoMemory> {
-    Ok(match drill_line(alloc, drill)? {
+    let event = drill_line(alloc, drill)?;
+    Ok(match &event {
         Some(Event::Begin { .. }) => Drilled::Begin,
         Some(Event::Settle) => Drilled::Settle,
         Some(
@@ -359,7 +360,7 @@ fn event_by(alloc: Global, drill: &mut Drill) -> Result<Drilled, NoMemory> {
             },
         ) => {
             let byte = cmd.payload.as_slice().first().copied().unwrap_or(0);
-            Drilled::Append(initiator, cmd.cdb[0], cmd.cdb[5], byte)
+            Drilled::Append(*initiator, cmd.cdb[0], cmd.cdb[5], byte)
         }
         Some(_) => Drilled::Other,
         None => Drilled::End,
