@@ -93,7 +93,7 @@ impl Agent {
         Ok(Agent {
             phase: Phase::Reset,
             doorbell: false,
-            present: start(),
+            present: Offset::zero(),
             orb: orb_in(&UNREAD),
             aborted: false,
             ahead: ReadAhead::Idle,
@@ -299,7 +299,7 @@ impl Agent {
             ended: Some(kind),
             dead,
             ..AgentStep::asking(Ask::Write {
-                offset: start(),
+                offset: Offset::zero(),
                 length,
             })
         }
@@ -373,7 +373,7 @@ impl Agent {
                 length: length.min(total - done),
             },
             None => Chunk {
-                offset: start(),
+                offset: Offset::zero(),
                 length: 0,
             },
         }
@@ -381,16 +381,6 @@ impl Agent {
 }
 
 ghost use Rattle.command_agent.specs.Machine.{aligned};
-
-/// The first address, which stands for that of a login's FIFO.
-fn start() -> Offset
-    ensures { result ≡ 0 }
-{
-    match Offset::new(0) {
-        Some(offset) => offset,
-        None => unreachable!(),
-    }
-}
 
 /// The address of an ORB: the two low bits of a pointer count as zero.
 fn aligned(pointer: Offset) -> Offset

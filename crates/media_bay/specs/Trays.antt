@@ -1,7 +1,6 @@
 -- A bay: a tray that holds one disc or none, and a shelf of discs in order.
-use Rattle.std.specs.Prelude.{ℕ, ◌+◌, ◌==◌, ◌&&◌, min, Bool, true, false, List, [], ◌∷◌, map, Option, Some, None, Result, Ok, Err}
+use Rattle.std.specs.Prelude.{ℕ, ◌==◌, ◌&&◌, Bool, true, false, List, [], ◌∷◌, map, Option, Some, None}
 use Rattle.std.specs.List.{list_all}
-use Rattle.sbp_base.specs.Faults.{last_count}
 use Rattle.rbc_disk.specs.Disk.{Disk, Disc, blank_bytes}
 
 -- what a disc is on a shelf
@@ -47,8 +46,3 @@ new_bay blocks (disc ∷ shelf) = bay_disk blocks (Some disc) shelf
 abbrev pub tray_faults : Option ℕ → ℕ
 tray_faults None = 0
 tray_faults (Some faults) = faults
-
--- the bay's own count: it rises by one at a call that fails, up to its last value
-abbrev pub counted : {A E : Type 0} → ℕ → Result A E → ℕ
-counted before (Ok done) = before
-counted before (Err error) = min (before + 1) last_count

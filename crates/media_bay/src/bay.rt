@@ -1,9 +1,9 @@
-ghost use Rattle.std.specs.Prelude.{◌≡◌, ◌+◌, ◌*◌, ◌≤◌, length, map, Option, OnOk, OnErr, IsTrue, true, min};
+ghost use Rattle.std.specs.Prelude.{◌≡◌, ◌*◌, ◌≤◌, length, map, Option, OnOk, OnErr, IsTrue, true};
 ghost use Rattle.std.specs.Option.{option_map};
 ghost use Rattle.std.specs.Bool.{IsFalse};
-ghost use Rattle.sbp_base.specs.Faults.{HasCause, Rose, last_count};
+ghost use Rattle.sbp_base.specs.Faults.{HasCause, count_after};
 ghost use Rattle.rbc_disk.specs.Disk.{Disk, IsInside, Gives, written};
-ghost use Rattle.media_bay.specs.Trays.{bay_disk, new_bay, counted, fits_tray, are_discs, tray_faults};
+ghost use Rattle.media_bay.specs.Trays.{bay_disk, new_bay, fits_tray, are_discs, tray_faults};
 
 use rbc_disk::Medium;
 use sbp_base::Failed;
@@ -73,10 +73,9 @@ impl<M: Medium> Medium for Bay<M> {
         ensures bytes { OnOk result (Gives (⟦<Bay<M> as Medium>⟧.disk self.old) lba into.new) }
         ensures kept { ⟦<Bay<M> as Medium>⟧.disk self.new ≡ ⟦<Bay<M> as Medium>⟧.disk self.old }
         ensures cause { HasCause (⟦<Bay<M> as Medium>⟧.media_faults self.old) (⟦<Bay<M> as Medium>⟧.media_faults self.new) result }
-        ensures count { ⟦<Bay<M> as Medium>⟧.media_faults self.new ≡ counted (⟦<Bay<M> as Medium>⟧.media_faults self.old) result }
 
-        // It fails only where the disc in the tray failed.
-        ensures disc { OnErr result (Rose (tray_faults (option_map M.media_faults self.old.tray)) (tray_faults (option_map M.media_faults self.new.tray))) }
+        // It fails exactly where the disc in the tray failed.
+        ensures disc { tray_faults (option_map M.media_faults self.new.tray) ≡ count_after (tray_faults (option_map M.media_faults self.old.tray)) result }
     {
         let Some(disc) = &mut self.tray else {
             unreachable!("an empty tray is not read")
@@ -92,10 +91,9 @@ impl<M: Medium> Medium for Bay<M> {
         ensures written { OnOk result (⟦<Bay<M> as Medium>⟧.disk self.new ≡ written (⟦<Bay<M> as Medium>⟧.disk self.old) lba from.now) }
         ensures failed { OnErr result (⟦<Bay<M> as Medium>⟧.disk self.new ≡ ⟦<Bay<M> as Medium>⟧.disk self.old) }
         ensures cause { HasCause (⟦<Bay<M> as Medium>⟧.media_faults self.old) (⟦<Bay<M> as Medium>⟧.media_faults self.new) result }
-        ensures count { ⟦<Bay<M> as Medium>⟧.media_faults self.new ≡ counted (⟦<Bay<M> as Medium>⟧.media_faults self.old) result }
 
-        // It fails only where the disc in the tray failed.
-        ensures disc { OnErr result (Rose (tray_faults (option_map M.media_faults self.old.tray)) (tray_faults (option_map M.media_faults self.new.tray))) }
+        // It fails exactly where the disc in the tray failed.
+        ensures disc { tray_faults (option_map M.media_faults self.new.tray) ≡ count_after (tray_faults (option_map M.media_faults self.old.tray)) result }
     {
         let Some(disc) = &mut self.tray else {
             unreachable!("an empty tray is not written")
@@ -109,10 +107,9 @@ impl<M: Medium> Medium for Bay<M> {
         requires inside { IsInside (⟦<Bay<M> as Medium>⟧.disk self.old) lba (512 * count) }
         ensures kept { ⟦<Bay<M> as Medium>⟧.disk self.new ≡ ⟦<Bay<M> as Medium>⟧.disk self.old }
         ensures cause { HasCause (⟦<Bay<M> as Medium>⟧.media_faults self.old) (⟦<Bay<M> as Medium>⟧.media_faults self.new) result }
-        ensures count { ⟦<Bay<M> as Medium>⟧.media_faults self.new ≡ counted (⟦<Bay<M> as Medium>⟧.media_faults self.old) result }
 
-        // It fails only where the disc in the tray failed.
-        ensures disc { OnErr result (Rose (tray_faults (option_map M.media_faults self.old.tray)) (tray_faults (option_map M.media_faults self.new.tray))) }
+        // It fails exactly where the disc in the tray failed.
+        ensures disc { tray_faults (option_map M.media_faults self.new.tray) ≡ count_after (tray_faults (option_map M.media_faults self.old.tray)) result }
     {
         let Some(disc) = &mut self.tray else {
             unreachable!("an empty tray is not verified")
@@ -143,11 +140,11 @@ impl<M: Medium> Medium for Bay<M> {
 /// Counts a call that failed; the count stays at its last value.
 fn count_fault(faults: &mut u64, outcome: Result<(), Failed>) -> Result<(), Failed>
     ensures same { result ≡ outcome }
-    ensures count { faults.new ≡ counted faults.old result }
     ensures cause { HasCause faults.old faults.new result }
 {
+    let counted = *faults;
     if outcome.is_err() {
-        *faults = faults.saturating_add(1);
+        *faults = counted.saturating_add(1);
     }
     outcome
 }

@@ -46,7 +46,7 @@ fn orb_of(request: &Request<'_>, slot: u8) -> CommandOrb
     let (descriptor, descriptor_node) = if data_size > 0 {
         (window.start(), request.node)
     } else {
-        (no_offset(), NodeId::from_raw(0))
+        (Offset::zero(), NodeId::from_raw(0))
     };
     CommandOrb {
         next: OrbPointer::Null,
@@ -62,16 +62,6 @@ fn orb_of(request: &Request<'_>, slot: u8) -> CommandOrb
         data_size,
         cdb: request.cdb,
     }
-}
-
-/// The offset 0.
-fn no_offset() -> Offset
-    ensures { result ≡ 0 }
-{
-    let Some(offset) = Offset::new(0) else {
-        unreachable!()
-    };
-    offset
 }
 
 /// Sets a quadlet in the ORB or the page table of an armed slot, `at` bytes into it.

@@ -76,16 +76,20 @@ ejected disk =
     then record disk { bytes = Some (blank_bytes disk.blocks 0); is_protected = false; is_present = false }
     else disk
 
--- a present, open medium of equal bytes that is no bay
-abbrev pub blank_disk : ℕ → ℕ → Disk
-blank_disk blocks fill = record {
-  bytes = Some (blank_bytes blocks fill);
+-- a present, open medium of these bytes that is no bay
+abbrev pub open_disk : List ℕ → ℕ → Disk
+open_disk bytes blocks = record {
+  bytes = Some bytes;
   blocks = blocks;
   is_protected = false;
   is_present = true;
   is_bay = false;
   shelf = [];
 }
+
+-- such a medium of equal bytes
+abbrev pub blank_disk : ℕ → ℕ → Disk
+blank_disk blocks fill = open_disk (blank_bytes blocks fill) blocks
 
 -- the same, but protected
 abbrev pub protected : Disk → Disk
@@ -94,6 +98,17 @@ protected disk = record disk { is_protected = true }
 -- the same, but not present
 abbrev pub absent : Disk → Disk
 absent disk = record disk { is_present = false }
+
+-- a medium in memory that counts its faults: its bytes and blocks, and how many of its calls failed
+pub record CountedBlocks : Type 0 where
+  pub bytes : List ℕ
+  pub blocks : ℕ
+  pub faults : ℕ
+
+-- an absent medium: its blocks, and how many of its calls failed
+pub record EmptyBlocks : Type 0 where
+  pub blocks : ℕ
+  pub faults : ℕ
 
 -- a medium some of whose calls fail: what it holds, and which of its calls fail
 pub record FaultyDisk : Type 0 where

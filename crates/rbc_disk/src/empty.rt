@@ -1,9 +1,10 @@
-ghost use Rattle.std.specs.Prelude.{◌≡◌, ◌≤◌, Some, false, [], OnOk, OnErr, IsErr};
+ghost use Rattle.std.specs.Prelude.{◌≡◌, ◌≤◌, Err, IsErr};
 ghost use Rattle.sbp_base.specs.Faults.{HasCause};
-ghost use Rattle.rbc_disk.specs.Disk.{Disk, Gives, written, blank_bytes, absent, blank_disk};
+ghost use Rattle.rbc_disk.specs.Disk.{Disk, absent, blank_disk};
 
 use crate::medium::Medium;
 use sbp_base::Failed;
+use std::marker::Model;
 
 /// A medium that is not present, of zeros. Each read, write and verify fails.
 #[derive(Drop)]
@@ -14,27 +15,36 @@ pub struct EmptyMedium {
     ghost few: { blocks ≤ 65536 },
 }
 
+impl Model for EmptyMedium {
+    ghost use Rattle.rbc_disk.specs.Disk.{EmptyBlocks};
+
+    ghost Value = { EmptyBlocks };
+
+    ghost view = { λ medium. record { blocks = medium.blocks; faults = medium.faults } };
+}
+
 impl EmptyMedium {
     /// A medium of `blocks` blocks that is not present.
     pub fn new(blocks: u32) -> EmptyMedium
         requires some { 1 ≤ blocks }
         requires few { blocks ≤ 65536 }
-        ensures disk { ⟦<EmptyMedium as Medium>⟧.disk result ≡ absent (blank_disk blocks 0) }
-        ensures faults { ⟦<EmptyMedium as Medium>⟧.media_faults result ≡ 0 }
+        ensures { result ≡ record { blocks = blocks; faults = 0 } }
     {
         EmptyMedium { blocks, faults: 0 }
+    }
+
+    /// Counts a call, which fails.
+    fn fail(&mut self) -> Failed
+        ensures kept { self.new.blocks ≡ self.old.blocks }
+        ensures cause { HasCause {A = Unit {0}} self.old.faults self.new.faults (Err result) }
+    {
+        self.faults = self.faults.saturating_add(1);
+        Failed
     }
 }
 
 impl Medium for EmptyMedium {
-    ghost disk = { λ medium. record {
-      bytes = Some (blank_bytes medium.blocks 0);
-      blocks = medium.blocks;
-      is_protected = false;
-      is_present = false;
-      is_bay = false;
-      shelf = [];
-    } };
+    ghost disk = { λ medium. absent (blank_disk medium.blocks 0) };
 
     ghost media_faults = { λ medium. medium.faults };
 
@@ -52,32 +62,27 @@ impl Medium for EmptyMedium {
     }
 
     fn read(&mut self, _lba: u32, _into: &mut [u8]) -> Result<(), Failed>
-        ensures bytes { OnOk result (Gives (⟦<EmptyMedium as Medium>⟧.disk self.old) _lba _into.new) }
-        ensures kept { ⟦<EmptyMedium as Medium>⟧.disk self.new ≡ ⟦<EmptyMedium as Medium>⟧.disk self.old }
-        ensures cause { HasCause (⟦<EmptyMedium as Medium>⟧.media_faults self.old) (⟦<EmptyMedium as Medium>⟧.media_faults self.new) result }
+        ensures kept { self.new.blocks ≡ self.old.blocks }
+        ensures cause { HasCause self.old.faults self.new.faults result }
         ensures refused { IsErr result }
     {
-        self.faults = self.faults.saturating_add(1);
-        Err(Failed)
+        Err(self.fail())
     }
 
     fn write(&mut self, _lba: u32, _from: &[u8]) -> Result<(), Failed>
-        ensures written { OnOk result (⟦<EmptyMedium as Medium>⟧.disk self.new ≡ written (⟦<EmptyMedium as Medium>⟧.disk self.old) _lba _from.now) }
-        ensures failed { OnErr result (⟦<EmptyMedium as Medium>⟧.disk self.new ≡ ⟦<EmptyMedium as Medium>⟧.disk self.old) }
-        ensures cause { HasCause (⟦<EmptyMedium as Medium>⟧.media_faults self.old) (⟦<EmptyMedium as Medium>⟧.media_faults self.new) result }
+        ensures kept { self.new.blocks ≡ self.old.blocks }
+        ensures cause { HasCause self.old.faults self.new.faults result }
         ensures refused { IsErr result }
     {
-        self.faults = self.faults.saturating_add(1);
-        Err(Failed)
+        Err(self.fail())
     }
 
     fn verify(&mut self, _lba: u32, _count: u32) -> Result<(), Failed>
-        ensures kept { ⟦<EmptyMedium as Medium>⟧.disk self.new ≡ ⟦<EmptyMedium as Medium>⟧.disk self.old }
-        ensures cause { HasCause (⟦<EmptyMedium as Medium>⟧.media_faults self.old) (⟦<EmptyMedium as Medium>⟧.media_faults self.new) result }
+        ensures kept { self.new.blocks ≡ self.old.blocks }
+        ensures cause { HasCause self.old.faults self.new.faults result }
         ensures refused { IsErr result }
     {
-        self.faults = self.faults.saturating_add(1);
-        Err(Failed)
+        Err(self.fail())
     }
 
     fn is_bay(&self) -> bool {

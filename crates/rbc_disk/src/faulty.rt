@@ -19,20 +19,12 @@ pub struct FaultyMedium {
 }
 
 impl Model for FaultyMedium {
-    ghost use Rattle.std.specs.Prelude.{Some, false, true, []};
-    ghost use Rattle.rbc_disk.specs.Disk.{FaultyDisk};
+    ghost use Rattle.rbc_disk.specs.Disk.{FaultyDisk, open_disk};
 
     ghost Value = { FaultyDisk };
 
     ghost view = { λ medium. record {
-      held = record {
-        bytes = Some medium.ram.bytes.items;
-        blocks = medium.ram.blocks;
-        is_protected = false;
-        is_present = true;
-        is_bay = false;
-        shelf = [];
-      };
+      held = open_disk medium.ram.bytes.items medium.ram.blocks;
       plan = medium.plan;
     } };
 }

@@ -1,6 +1,7 @@
-ghost use Rattle.std.specs.Prelude.{◌≡◌, ℕ, ◌*◌, ◌≤◌, length, Some, false, true, [], IfOk};
-ghost use Rattle.rbc_disk.specs.Disk.{Disk, blank_disk};
+ghost use Rattle.std.specs.Prelude.{◌≡◌, ◌*◌, ◌≤◌, length, IfOk};
+ghost use Rattle.rbc_disk.specs.Disk.{Disk, IsInside, Gives, written, open_disk, blank_disk};
 
+use crate::command::BLOCK;
 use crate::medium::Medium;
 use sbp_base::{Failed, NoMemory};
 use std::alloc::Global;
@@ -24,20 +25,31 @@ impl RamMedium {
         ensures disk { IfOk result (λ medium. ⟦<RamMedium as Medium>⟧.disk medium ≡ blank_disk blocks fill) }
         ensures faults { IfOk result (λ medium. ⟦<RamMedium as Medium>⟧.media_faults medium ≡ 0) }
     {
-        let bytes = vec![in alloc; fill; 512 * blocks as usize]?;
+        let bytes = vec![in alloc; fill; BLOCK as usize * blocks as usize]?;
         Ok(RamMedium { bytes, blocks })
+    }
+
+    /// Copies the bytes from block `lba` on.
+    pub(crate) fn copy_to(&self, lba: u32, into: &mut [u8])
+        requires { IsInside (⟦<RamMedium as Medium>⟧.disk self.now) lba (length into.old) }
+        ensures { Gives (⟦<RamMedium as Medium>⟧.disk self.now) lba into.new }
+    {
+        let at = BLOCK as usize * lba as usize;
+        into.copy_from_slice(&self.bytes[at..at + into.len()]);
+    }
+
+    /// Replaces the bytes from block `lba` on.
+    pub(crate) fn copy_from(&mut self, lba: u32, from: &[u8])
+        requires { IsInside (⟦<RamMedium as Medium>⟧.disk self.old) lba (length from.now) }
+        ensures { ⟦<RamMedium as Medium>⟧.disk self.new ≡ written (⟦<RamMedium as Medium>⟧.disk self.old) lba from.now }
+    {
+        let at = BLOCK as usize * lba as usize;
+        self.bytes[at..at + from.len()].copy_from_slice(from);
     }
 }
 
 impl Medium for RamMedium {
-    ghost disk = { λ medium. record {
-      bytes = Some medium.bytes.items;
-      blocks = medium.blocks;
-      is_protected = false;
-      is_present = true;
-      is_bay = false;
-      shelf = [];
-    } };
+    ghost disk = { λ medium. open_disk medium.bytes.items medium.blocks };
 
     ghost media_faults = { λ _. 0 };
 
@@ -54,14 +66,12 @@ impl Medium for RamMedium {
     }
 
     fn read(&mut self, lba: u32, into: &mut [u8]) -> Result<(), Failed> {
-        let at = 512 * lba as usize;
-        into.copy_from_slice(&self.bytes[at..at + into.len()]);
+        self.copy_to(lba, into);
         Ok(())
     }
 
     fn write(&mut self, lba: u32, from: &[u8]) -> Result<(), Failed> {
-        let at = 512 * lba as usize;
-        self.bytes[at..at + from.len()].copy_from_slice(from);
+        self.copy_from(lba, from);
         Ok(())
     }
 

@@ -25,10 +25,11 @@ impl<R: Read + Drop> Source for Input<R> {
     ghost faults = { λ input. input.errors };
 
     fn read(&mut self, into: &mut [u8]) -> Result<usize, Failed> {
+        let errors = self.errors;
         match self.reader.read(into) {
             Ok(count) => Ok(count),
             Err(_) => {
-                self.errors = self.errors.saturating_add(1);
+                self.errors = errors.saturating_add(1);
                 Err(Failed)
             }
         }
@@ -57,10 +58,11 @@ impl<W: Write + Drop> Sink for Output<W> {
     ghost faults = { λ output. output.errors };
 
     fn write(&mut self, bytes: &[u8]) -> Result<usize, SinkFault> {
+        let errors = self.errors;
         match self.writer.write(bytes) {
             Ok(taken) if taken != 0 || bytes.is_empty() => Ok(taken),
             _ => {
-                self.errors = self.errors.saturating_add(1);
+                self.errors = errors.saturating_add(1);
                 Err(SinkFault::Failed)
             }
         }

@@ -39,6 +39,7 @@ impl FailingCalls {
     pub fn next_fails(&mut self) -> bool
         ensures fails { result ≡ fails_next self.old }
         ensures counted { self.new ≡ after_call self.old }
+        ensures below_last { self.old.faults < 2 ^ 32 }
     {
         if self.calls == u32::MAX {
             return false;

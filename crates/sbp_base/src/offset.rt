@@ -21,6 +21,13 @@ impl Model for Offset {
 }
 
 impl Offset {
+    /// The first offset, 0, which stands where an address is wanted and none is meant.
+    pub fn zero() -> Offset
+        ensures { result ≡ 0 }
+    {
+        Offset { bytes: 0 }
+    }
+
     /// The offset of this value; there is none exactly from 2^48 on.
     pub fn new(value: u64) -> Option<Offset>
         ensures some { IsSome result ↔ (value < 2 ^ 48) }

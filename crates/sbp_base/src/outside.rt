@@ -5,7 +5,7 @@ ghost use Rattle.sbp_base.specs.Faults.{HasCause, HasSinkCause};
 
 use std::alloc::{AllocError, AllocFailed};
 
-/// A call to the outside failed. Its object counted the fault.
+/// A call to the outside failed, and its object counted the fault.
 #[derive(Clone, Copy, Debug, PartialEq, Eq)]
 pub struct Failed;
 
@@ -39,7 +39,7 @@ pub trait Source {
     /// The bytes left, where the source tells them.
     ghost left: { Self → Option (List ℕ) };
 
-    /// How many of its calls failed; it stays at its last value, 2^64 - 1.
+    /// How many of its calls answered Failed; it stays at its last value, 2^64 - 1.
     ghost faults: { Self → ℕ };
 
     /// Takes bytes from the front into `into`, and answers how many. No bytes into a piece that is
@@ -55,7 +55,7 @@ pub trait Sink {
     /// The bytes written, where the sink tells them.
     ghost written: { Self → Option (List ℕ) };
 
-    /// How many of its calls failed; it stays at its last value, 2^64 - 1.
+    /// How many of its calls answered Failed; it stays at its last value, 2^64 - 1.
     ghost faults: { Self → ℕ };
 
     /// Adds the front of `bytes`, and answers how many it took: one at least, if there is one.
