@@ -6,5 +6,6 @@ pub mod Unique
 pub mod Sound
 pub mod Outcomes
 pub mod Heads
+pub mod Readings
 pub mod Made
 pub mod Units

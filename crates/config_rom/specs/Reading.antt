@@ -1,11 +1,11 @@
 -- Reading as a function of the quadlets, turn by turn.
-use Rattle.std.specs.Prelude.{◌≡◌, ℕ, zero, suc, ◌+◌, ◌-◌, ◌==◌, ◌&&◌, ◌||◌, ◌⊎◌, nat_lt, nat_le, min, not, Bool, true, false, if◌then◌else◌, List, [], ◌∷◌, ◌++◌, length, Option, Some, None, Result, Ok, Err}
+use Rattle.std.specs.Prelude.{◌≡◌, ℕ, zero, suc, ◌+◌, ◌-◌, ◌==◌, ◌&&◌, ◌||◌, ◌⊎◌, ◌↔◌, nat_lt, nat_le, min, not, Bool, true, false, if◌then◌else◌, List, [], ◌∷◌, ◌++◌, length, Option, Some, None, Result, Ok, Err}
 use Rattle.std.specs.List.{list_any}
 use Rattle.config_rom.specs.declared.fault.RomFault.{RomFault}
 use Rattle.config_rom.specs.declared.fault.RomFault.TheVariants as faults
 use Rattle.config_rom.specs.declared.block.Block.{Block}
 use Rattle.config_rom.specs.declared.block.Entry.{Entry}
-use Rattle.config_rom.specs.Tree.{has_name, eui_of, bus_sum_is_right, root_of, block_at, entries_of, is_link, names, outside, block_fault}
+use Rattle.config_rom.specs.Tree.{has_name, eui_of, bus_sum_is_right, root_of, block_at, entries_of, is_link, names, outside, block_fault, RomTree, FirstFault}
 
 -- a configuration ROM that was read
 pub record Tree : Type 0 where
@@ -90,3 +90,15 @@ reading quads =
     checked_root quads >>= λ root.
     blocks_from quads root (fresh quads) >>= λ tree.
     inside (lowest_beyond (length quads) tree.entries) tree
+
+-- What was read is the configuration ROM of the quadlets: its blocks and entries, and its bus information block.
+pub record IsRomOf (quads : List ℕ) (tree : Tree) : Type 0 where
+  pub is_tree : RomTree quads tree.blocks tree.entries
+  pub eui : tree.eui ≡ eui_of quads
+  pub bus_sum : tree.bus_sum_is_right ≡ bus_sum_is_right quads
+
+-- Quadlets have a configuration ROM or a first fault, whatever they are: reading gives a tree exactly where it is their configuration
+-- ROM, and a fault exactly where it is their first one.
+pub record ReadsRom : Type 0 where
+  pub trees : (quads : List ℕ) (tree : Tree) → reading quads ≡ Ok tree ↔ IsRomOf quads tree
+  pub faults : (quads : List ℕ) (fault : RomFault) → reading quads ≡ Err fault ↔ FirstFault quads fault

@@ -12,7 +12,7 @@ mod unit;
 
 pub use block::{Block, Entry, EntryKind};
 pub use fault::RomFault;
-pub use law::{first_unit_found, one_outcome, plan_read_again};
+pub use law::{first_unit_found, one_outcome, plan_read_again, reads_rom};
 pub use plan::{RomPlan, RomWords, make};
 pub use read::parse;
 pub use rom::Rom;

@@ -6,12 +6,12 @@ use Rattle.packet_store.specs.declared.sent.Kept.{Kept}
 use Rattle.packet_store.specs.declared.sent.Sent.{Sent}
 use Rattle.packet_store.specs.declared.transaction.Transaction.{Transaction}
 use Rattle.packet_store.specs.Transactions.{begun_by, belongs}
-use Rattle.packet_store.specs.Kept.{without, with_delivered, delivered, found, is_flying}
+use Rattle.packet_store.specs.Kept.{without, with_delivered, delivered, found, sent_of, is_flying, Rise}
 use Rattle.packet_store.specs.Sound.{is_earlier}
 use Rattle.packet_store.specs.Stored.{stays, with_sent}
 use Rattle.packet_store.specs.Calls.{Call, send, deliver, lose, after, MayAll, sends, sent_at, Flight, Unsent, InFlight, Delivered, Lost, Withdrawn, by_request, is_of, state_at}
-use Rattle.packet_store.specs.Laws.{SerialLaw, KeepsLaw, GoneLaw, ClosedLaw, shown}
-use Rattle.packet_store.proofs.Flights.{Rise, keep_if, in_air, marked, ruled, beyond, rise_filtered, rise_marked, rise_sent, found_filtered, found_marked, found_before, found_new, in_air_is}
+use Rattle.packet_store.specs.Laws.{SerialLaw, WholeLaw, KeepsLaw, GoneLaw, ClosedLaw, shown}
+use Rattle.packet_store.proofs.Flights.{keep_if, in_air, marked, ruled, beyond, rise_filtered, rise_marked, rise_sent, found_filtered, found_marked, found_before, found_new, in_air_is}
 
 pub serial_law : SerialLaw
 serial_law [] = refl
@@ -26,7 +26,7 @@ rise_arrival : (b : Bool) (d last : ℕ) (ks : List Kept) → Rise 0 last ks →
 rise_arrival true d last ks h = rise_marked d 0 last ks h
 rise_arrival false d last ks h = rise_filtered (λ k. not (d == k.serial)) 0 last ks h
 
-risen : (cs : List Call) → Rise 0 (after cs).last (after cs).kept
+pub risen : (cs : List Call) → Rise 0 (after cs).last (after cs).kept
 risen [] = tt
 risen (send sent ∷ cs) = rise_sent sent (after cs).last (after cs).kept (risen cs)
 risen (deliver d ∷ cs) = rise_arrival (nat_lt ((after cs).last - 1024) d) d (after cs).last (after cs).kept (risen cs)
@@ -95,8 +95,34 @@ loses_all cs (deliver d ∷ later) s l =
 loses_all cs (lose d ∷ later) s l =
     after_that _ _ _ (loses_all cs later s l) (loses_without d (after (later ++ cs)).last s (after (later ++ cs)).kept (risen (later ++ cs)))
 
-flight_is : (cs : List Call) (s : ℕ) → is_flying s (after cs).kept ≡ in_air (found s (after cs).kept)
+pub flight_is : (cs : List Call) (s : ℕ) → is_flying s (after cs).kept ≡ in_air (found s (after cs).kept)
 flight_is cs s = in_air_is s 0 (after cs).last (after cs).kept (risen cs)
+
+-- a packet that was found has the serial
+abbrev Named : ℕ → Option Kept → Type 0
+Named s None = Unit {0}
+Named s (Some k) = k.serial ≡ s
+
+named_step : (s : ℕ) (k : Kept) (o : Option Kept) (b : Bool) → (s == k.serial) ≡ b → Named s o → Named s (cond b (Some k) o)
+named_step s k o true e n = grind (arith, nat_tests)
+named_step s k o false e n = n
+
+found_named : (s : ℕ) (ks : List Kept) → Named s (found s ks)
+found_named s [] = tt
+found_named s (k ∷ ks) = named_step s k (found s ks) (s == k.serial) refl (found_named s ks)
+
+whole_kept : (s : ℕ) (k : Kept) (sent : Sent) → k.serial ≡ s → k.sent ≡ sent → k ≡ record { serial = s; in_flight = k.in_flight; sent = sent }
+whole_kept s k sent n q =
+    ap (λ x. record k { serial = x }) n ∙ ap (λ x. record { serial = s; in_flight = k.in_flight; sent = x }) q
+
+named_sent : (s : ℕ) (o : Option Kept) (sent : Sent) → Named s o → sent_of o ≡ Some sent → o ≡ Some (record { serial = s; in_flight = in_air o; sent = sent })
+named_sent s None sent n e = cc e
+named_sent s (Some k) sent n e = let q : k.sent ≡ sent = cc e in ap Some (whole_kept s k sent n q)
+
+pub whole_law : WholeLaw
+whole_law cs s sent e =
+    named_sent s (found s (after cs).kept) sent (found_named s (after cs).kept) e
+    ∙ ap (λ b. Some (record { serial = s; in_flight = b; sent = sent })) (sym (flight_is cs s))
 
 pub gone_law : GoneLaw
 gone_law cs later s l e = flight_is (later ++ cs) s ∙ (loses_all cs later s l).air (sym (flight_is cs s) ∙ e)
@@ -197,10 +223,6 @@ ruled_by (Some t) n a s state (Some q) l = ruled_shown t n a s state q (belongs 
 abbrev found_after : Bool → ℕ → Option Kept → Option Kept
 found_after true d o = marked d o
 found_after false d o = keep_if (λ k. not (d == k.serial)) o
-
-abbrev Named : ℕ → Option Kept → Type 0
-Named s None = Unit {0}
-Named s (Some k) = k.serial ≡ s
 
 named_cond : (s : ℕ) (q : Sent) (x : Bool) → Named s (cond x (Some (arrived_as s q)) None)
 named_cond s q true = refl

@@ -1,20 +1,16 @@
 -- What a list of kept packets has under a serial, after each change.
 use Rattle.std.proofs.Common.{◌≡◌, ◌∙◌, refl, ap, ℕ, ◌+◌, ◌<◌, ◌≤◌, Bool, true, false, List, [], ◌∷◌, ◌++◌, Some, None, cond, arith}
-use Rattle.std.specs.Prelude.{◌≢◌, ◌-◌, ◌==◌, ◌&&◌, nat_lt, not, Option}
+use Rattle.std.specs.Prelude.{◌≢◌, ◌-◌, ◌==◌, ◌&&◌, nat_lt, not, Option, IfSome, IfNone}
 use Rattle.std.specs.List.{filter, list_any}
 use Rattle.std.proofs.lemmas.Bool.Decides.{nat_tests}
 use Rattle.packet_store.specs.declared.sent.Kept.{Kept}
 use Rattle.packet_store.specs.declared.sent.Sent.{Sent}
 use Rattle.packet_store.specs.declared.transaction.Transaction.{Transaction}
+use Rattle.packet_store.specs.declared.index.Index.{Index}
 use Rattle.packet_store.specs.Transactions.{begun_by}
-use Rattle.packet_store.specs.Kept.{with_delivered, delivered, found, flying, is_flying}
-use Rattle.packet_store.specs.Sound.{is_earlier}
+use Rattle.packet_store.specs.Kept.{with_delivered, delivered, found, flying, is_flying, first, Rise, IsLowest, NoneFlies}
+use Rattle.packet_store.specs.Sound.{is_earlier, AreKept}
 use Rattle.packet_store.specs.Stored.{stays, newest, by_bus_rule, with_sent}
-
--- the serials rise, from above one to a last one
-abbrev pub Rise : (low last : ℕ) → List Kept → Type 0
-Rise low last [] = Unit {0}
-Rise low last (k ∷ ks) = (low < k.serial) × ((k.serial ≤ last) × Rise k.serial last ks)
 
 -- one that passes a test
 abbrev pub keep_if : (Kept → Bool) → Option Kept → Option Kept
@@ -139,6 +135,42 @@ pub in_air_is : (s low last : ℕ) (ks : List Kept) → Rise low last ks → is_
 in_air_is s low last [] h = refl
 in_air_is s low last (k ∷ ks) h =
     air_step s last k ks k.in_flight (s == k.serial) refl refl h.1.1 (in_air_is s k.serial last ks h.1.1)
+
+-- a serial that is at most the one before the list is not in flight
+grounded : (s low last : ℕ) (ks : List Kept) → s ≤ low → Rise low last ks → is_flying s ks ≡ false
+grounded s low last ks l h = in_air_is s low last ks h ∙ ap in_air (apart s low last ks l h)
+
+first_any : (s : ℕ) (serials : List ℕ) → list_any (λ x. s == x) (s ∷ serials) ≡ true
+first_any s serials = let e : (s == s) ≡ true = grind (arith, nat_tests) in rw e refl
+
+other_any : (s q : ℕ) (serials : List ℕ) → s < q → list_any (λ x. s == x) serials ≡ false → list_any (λ x. s == x) (q ∷ serials) ≡ false
+other_any s q serials l e = let d : (s == q) ≡ false = grind (arith, nat_tests) in rw d e
+
+passed_over : (o : Option ℕ) (k : Kept) (ks : List Kept) → k.in_flight ≡ false → IfSome o (IsLowest ks) → IfSome o (IsLowest (k ∷ ks))
+passed_over None k ks e ind = tt
+passed_over (Some s) k ks e ind = record { flies = rw e ind.flies; least = λ other l. rw e (ind.least other l) }
+
+none_in : (serials : List ℕ) → IfNone (first serials) ((s : ℕ) → list_any (λ x. s == x) serials ≡ false)
+none_in [] = λ s. refl
+none_in (q ∷ serials) = tt
+
+flies_step : (last : ℕ) (k : Kept) (ks : List Kept) (b : Bool) → k.in_flight ≡ b → Rise k.serial last ks → IfSome (first (flying ks)) (IsLowest ks) → IfSome (first (cond b (k.serial ∷ flying ks) (flying ks))) (IsLowest (k ∷ ks))
+flies_step last k ks true e h ind = record {
+  flies = rw e (first_any k.serial (flying ks));
+  least = λ other l. rw e (other_any other k.serial (flying ks) l (grounded other k.serial last ks (omega (arith, l)) h));
+}
+flies_step last k ks false e h ind = passed_over (first (flying ks)) k ks e ind
+
+pub first_flies : (low last : ℕ) (ks : List Kept) → Rise low last ks → IfSome (first (flying ks)) (IsLowest ks)
+first_flies low last [] h = tt
+first_flies low last (k ∷ ks) h = flies_step last k ks k.in_flight refl h.1.1 (first_flies k.serial last ks h.1.1)
+
+pub rise_of : (index : Index) (last since low : ℕ) (ks : List Kept) → AreKept index last since low ks → Rise low last ks
+rise_of index last since low [] h = tt
+rise_of index last since low (k ∷ ks) h = (h.0.above, (h.0.below, rise_of index last since k.serial ks h.1))
+
+pub none_flies : (ks : List Kept) → IfNone (first (flying ks)) (NoneFlies ks)
+none_flies ks = none_in (flying ks)
 
 -- ---- a call
 pub rise_sent : (sent : Sent) (last : ℕ) (ks : List Kept) → Rise 0 last ks → Rise 0 (last + 1) (with_sent sent (last + 1) ks)

@@ -1,5 +1,5 @@
 -- The list of the kept packets, by rising serial.
-use Rattle.std.specs.Prelude.{ℕ, ◌<◌, ◌==◌, ◌&&◌, nat_lt, Bool, false, not, if◌then◌else◌, List, [], ◌∷◌, Option, Some, None}
+use Rattle.std.specs.Prelude.{◌≡◌, ℕ, ◌<◌, ◌≤◌, ◌==◌, ◌&&◌, nat_lt, Bool, true, false, not, if◌then◌else◌, List, [], ◌∷◌, Option, Some, None}
 use Rattle.std.specs.List.{filter, list_any}
 use Rattle.packet_store.specs.declared.sent.Sent.{Sent}
 use Rattle.packet_store.specs.declared.sent.Kept.{Kept}
@@ -43,10 +43,24 @@ found_sent serial kept = sent_of (found serial kept)
 abbrev pub is_flying : ℕ → List Kept → Bool
 is_flying serial kept = list_any (λ s. serial == s) (flying kept)
 
+-- a serial is in flight, and none below it is
+pub record IsLowest (kept : List Kept) (serial : ℕ) : Type 0 where
+  pub flies : is_flying serial kept ≡ true
+  pub least : (other : ℕ) → other < serial → is_flying other kept ≡ false
+
+-- no serial is in flight
+abbrev pub NoneFlies : List Kept → Type 0
+NoneFlies kept = (serial : ℕ) → is_flying serial kept ≡ false
+
 -- the first of a list
 abbrev pub first : List ℕ → Option ℕ
 first [] = None
 first (x ∷ xs) = Some x
+
+-- the serials rise strictly, from above one to a last one
+abbrev pub Rise : (low last : ℕ) → List Kept → Type 0
+Rise low last [] = Unit {0}
+Rise low last (k ∷ kept) = (low < k.serial) × ((k.serial ≤ last) × Rise k.serial last kept)
 
 -- all serials are below this one
 abbrev pub AreBelow : ℕ → List Kept → Type 0

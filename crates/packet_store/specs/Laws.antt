@@ -4,12 +4,21 @@ use Rattle.packet_store.specs.declared.sent.Sent.{Sent}
 use Rattle.packet_store.specs.declared.sent.Kept.{Kept}
 use Rattle.packet_store.specs.declared.transaction.Transaction.{Transaction}
 use Rattle.packet_store.specs.Transactions.{begun_by, belongs}
-use Rattle.packet_store.specs.Kept.{found, is_flying}
+use Rattle.packet_store.specs.Kept.{found, found_sent, is_flying, Rise}
 use Rattle.packet_store.specs.Calls.{Call, send, after, MayAll, sends, sent_at, Flight, InFlight, Delivered, state_at}
 
 -- The last serial is the number of packets sent: the serials count from 1 without a gap.
 abbrev pub SerialLaw : Type 0
 SerialLaw = (cs : List Call) → (after cs).last ≡ sends cs
+
+-- The serials of the kept packets rise strictly, from 1 to at most the last one: no packet is kept twice.
+abbrev pub RisingLaw : Type 0
+RisingLaw = (cs : List Call) → Rise 0 (after cs).last (after cs).kept
+
+-- What is kept under a serial is what was sent under it, with whether it is in flight.
+abbrev pub WholeLaw : Type 0
+WholeLaw =
+    (cs : List Call) (serial : ℕ) (sent : Sent) → found_sent serial (after cs).kept ≡ Some sent → found serial (after cs).kept ≡ Some (record { serial = serial; in_flight = is_flying serial (after cs).kept; sent = sent })
 
 -- what a store has of a packet in this state
 abbrev pub shown : (aged serial : ℕ) → Flight → Option Sent → Option Kept

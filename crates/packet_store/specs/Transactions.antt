@@ -21,13 +21,13 @@ transaction_by NoPacket sent = None
 unfoldable pub transaction_of : Sent → Option Transaction
 transaction_of sent = transaction_by (role_of sent.bytes) sent
 
--- the transaction that a packet with this role begins
-abbrev pub begun_as : Role → Sent → Option Transaction
-begun_as (Request label) sent = transaction_of sent
-begun_as role sent = None
+-- the transaction that a packet with this role begins, by the one that it belongs to
+abbrev pub begun_as : Role → Option Transaction → Option Transaction
+begun_as (Request label) transaction = transaction
+begun_as role transaction = None
 
 unfoldable pub begun_by : Sent → Option Transaction
-begun_by sent = begun_as (role_of sent.bytes) sent
+begun_by sent = begun_as (role_of sent.bytes) (transaction_by (role_of sent.bytes) sent)
 
 -- two transactions are the same
 abbrev pub is_same : Transaction → Transaction → Bool

@@ -79,7 +79,7 @@ impl Index {
         }
     }
 
-    /// The lowest serial under a transaction, if one is below the end.
+    /// A serial under a transaction that is below the end, if there is one.
     pub(crate) fn first_below(&self, transaction: Transaction, end: u64) -> Option<u64>
         ensures found { IfSome result (λ s. (has self.now transaction s ≡ true) × (s < end)) }
         ensures none { IfNone result ((q : ℕ) → q < end → has self.now transaction q ≡ false) }

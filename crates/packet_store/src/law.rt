@@ -1,8 +1,20 @@
-ghost use Rattle.packet_store.specs.Laws.{SerialLaw, KeepsLaw, GoneLaw, ClosedLaw};
+ghost use Rattle.packet_store.specs.Laws.{SerialLaw, RisingLaw, WholeLaw, KeepsLaw, GoneLaw, ClosedLaw};
 
 /// The law that the serials count from 1 without a gap, over every list of calls.
 pub fn serials_in_turn()
     ensures { SerialLaw }
+{}
+
+/// The law that the serials of the kept packets rise strictly, over every list of calls: no packet is
+/// kept twice.
+pub fn kept_in_turn()
+    ensures { RisingLaw }
+{}
+
+/// The law that what is kept under a serial is what `get` and `is_in_flight` tell of it, over every
+/// list of calls.
+pub fn kept_whole()
+    ensures { WholeLaw }
 {}
 
 /// The law that a store keeps exactly the packets in flight and the delivered ones among the last

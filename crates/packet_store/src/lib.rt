@@ -11,7 +11,10 @@ mod store;
 mod tables;
 mod transaction;
 
-pub use law::{closed_by_request, keeps_flights, never_again, serials_in_turn};
+pub use law::{
+    closed_by_request, keeps_flights, kept_in_turn, kept_whole, never_again, serials_in_turn,
+};
+pub use role::Role;
 pub use sent::{Kept, Sent};
 pub use store::Store;
 pub use transaction::Transaction;

@@ -6,7 +6,7 @@ use async_packet::{PacketRef, decode};
 
 /// What bytes are in a transaction: its request, a response to it, each with its label, or no packet.
 #[derive(Clone, Copy)]
-pub(crate) enum Role {
+pub enum Role {
     Request(u8),
     Response(u8),
     NoPacket,

@@ -1,14 +1,18 @@
-ghost use Rattle.std.specs.Prelude.{◌≡◌, ◌+◌, ◌-◌, ◌^◌, ◌<◌, ◌≤◌, length, IsTrue, IfOk, OnOk, OnErr};
+ghost use Rattle.std.specs.Prelude.{◌≡◌, ◌+◌, ◌-◌, ◌^◌, ◌<◌, ◌≤◌, length, IsTrue, IfOk, IfSome, IfNone, OnOk, OnErr};
 ghost use Rattle.std.specs.Option.{option_copied};
-ghost use Rattle.packet_store.specs.Kept.{flying, found_sent, is_flying, first, recent};
+ghost use Rattle.packet_store.specs.Kept.{flying, found_sent, is_flying, first, recent, IsLowest, NoneFlies};
 ghost use Rattle.packet_store.specs.Stored.{empty, send_step, deliver_step, lose_step};
 
+use crate::role::role_of;
 use crate::sent::Sent;
 use crate::tables::Tables;
-use crate::transaction::begun_by;
+use crate::transaction::{begun_by, transaction_of};
 use sbp_base::NoMemory;
 use std::alloc::Global;
 use std::marker::Model;
+
+/// For how many serials a delivered packet is kept.
+pub(crate) const KEPT_SERIALS: u64 = 1024;
 
 /// The packets in flight, and the delivered ones among the last 1,024 serials.
 #[derive(Drop)]
@@ -41,14 +45,17 @@ impl Store {
     /// Sends a packet: it is in flight under the next serial, counted from 1. A request that was
     /// not injected withdraws each earlier packet of its transaction. Where there is no memory the
     /// store stays.
+    #[tactic(auto, unfolding(crate::specs::Transactions::transaction_of, crate::specs::Transactions::begun_by))]
     pub fn send(&mut self, packet: Sent) -> Result<u64, NoMemory>
         requires { self.old.calls < 2 ^ 56 }
         ensures serial { IfOk result (λ serial. serial ≡ self.old.last + 1) }
         ensures sent { OnOk result (self.new ≡ send_step self.old packet) }
         ensures failed { OnErr result (self.new ≡ self.old) }
     {
-        let begun = begun_by(&packet);
-        self.tables.add(packet)?;
+        let role = role_of(packet.bytes.as_slice());
+        let transaction = transaction_of(role, &packet);
+        let begun = begun_by(role, transaction);
+        self.tables.add(packet, transaction)?;
         if let Some(transaction) = begun {
             self.tables.withdraw(transaction);
         }
@@ -59,7 +66,9 @@ impl Store {
 
     /// The lowest serial in flight.
     pub fn lowest(&self) -> Option<u64>
-        ensures { result ≡ first (flying self.now.kept) }
+        ensures first { result ≡ first (flying self.now.kept) }
+        ensures lowest { IfSome result (IsLowest self.now.kept) }
+        ensures none { IfNone result (NoneFlies self.now.kept) }
     {
         self.tables.flying.first().copied()
     }
@@ -85,7 +94,7 @@ impl Store {
         requires count { self.old.calls < 2 ^ 56 }
         ensures { self.new ≡ deliver_step self.old serial }
     {
-        if self.tables.last - self.tables.last.min(1024) < serial {
+        if self.tables.last.saturating_sub(KEPT_SERIALS) < serial {
             self.tables.deliver(serial);
         } else {
             self.tables.drop_packet(serial);

@@ -1,15 +1,17 @@
 ghost use Rattle.std.specs.Prelude.{◌≡◌, ℕ, ◌+◌, ◌-◌, ◌^◌, ◌<◌, ◌==◌, ◌&&◌, ◌||◌, ◌++◌, [], ◌∷◌, OnOk, OnErr};
 ghost use Rattle.std.specs.List.{filter};
 ghost use Rattle.packet_store.specs.declared.transaction.Transaction.{Transaction};
-ghost use Rattle.packet_store.specs.Transactions.{is_that};
+ghost use Rattle.packet_store.specs.Transactions.{is_that, transaction_of};
 ghost use Rattle.packet_store.specs.Indexes.{has};
 ghost use Rattle.packet_store.specs.Stored.{newest, stays};
 ghost use Rattle.packet_store.specs.Kept.{without, with_delivered, found, is_delivered};
 ghost use Rattle.packet_store.specs.Sound.{Tied, withdrawn};
 
 use crate::index::Index;
+use crate::role::role_of;
 use crate::sent::{Kept, Sent};
 use crate::shelf::Shelf;
+use crate::store::KEPT_SERIALS;
 use crate::transaction::{Transaction, transaction_of};
 use sbp_base::NoMemory;
 use std::alloc::Global;
@@ -75,7 +77,8 @@ impl Tables {
 
     /// The transaction of the packet of a serial.
     fn transaction_at(&self, serial: u64) -> Option<Transaction> {
-        transaction_of(&self.shelf.get(serial)?.sent)
+        let sent = &self.shelf.get(serial)?.sent;
+        transaction_of(role_of(sent.bytes.as_slice()), sent)
     }
 
     /// Withdraws each packet of a transaction that was sent before the last one.
@@ -92,8 +95,13 @@ impl Tables {
     }
 
     /// Puts a packet in flight under the next serial.
-    pub(crate) fn add(&mut self, sent: Sent) -> Result<(), NoMemory>
+    pub(crate) fn add(
+        &mut self,
+        sent: Sent,
+        transaction: Option<Transaction>,
+    ) -> Result<(), NoMemory>
         requires room { self.old.last < 2 ^ 63 }
+        requires named { transaction ≡ transaction_of sent }
         requires tied { Tied self.old.shelf self.old.flying.keys self.old.index self.old.last (self.old.last - 1024) }
         ensures added { OnOk result (self.new.shelf ≡ self.old.shelf ++ newest (self.old.last + 1) sent ∷ []) }
         ensures failed { OnErr result (self.new.shelf ≡ self.old.shelf) }
@@ -102,7 +110,6 @@ impl Tables {
         ensures tied { Tied self.new.shelf self.new.flying.keys self.new.index self.new.last (self.old.last - 1024) }
     {
         let serial = self.last + 1;
-        let transaction = transaction_of(&sent);
         self.flying.insert(serial)?;
         if let Err(error) = self.index.insert_for(transaction, serial) {
             self.flying.remove(&serial);
@@ -129,10 +136,10 @@ impl Tables {
         ensures last { self.new.last ≡ self.old.last }
         ensures tied { Tied self.new.shelf self.new.flying.keys self.new.index self.new.last (self.new.last - 1024) }
     {
-        if self.last <= 1024 {
+        if self.last <= KEPT_SERIALS {
             return;
         }
-        let aged = self.last - 1024;
+        let aged = self.last - KEPT_SERIALS;
         if self.is_delivered(aged) {
             self.drop_packet(aged);
         }

@@ -51,6 +51,15 @@ fn deliver(store: &mut Store, serial: u64) -> Result<(), &'static str> {
     Ok(())
 }
 
+/// Loses a packet that is in flight.
+fn lose(store: &mut Store, serial: u64) -> Result<(), &'static str> {
+    if store.calls() > 10_000 || !store.is_in_flight(serial) {
+        return Err("flight");
+    }
+    store.lost(serial);
+    Ok(())
+}
+
 /// After 2,000 packets the delivered ones among the last 1,024 serials are kept.
 #[test]
 fn old_packet_gone(rt: HostRuntime) -> Result<(), Fail> {
@@ -95,5 +104,25 @@ fn injected_request(rt: HostRuntime) -> Result<(), Fail> {
     assert!(rt; !store.is_in_flight(request));
     assert!(rt; store.is_in_flight(injected));
     assert!(rt; store.is_in_flight(again));
+    Ok(())
+}
+
+/// A packet stays in flight however old it is, and one that is older than 1,023 serials is dropped as
+/// it arrives. A lost packet is gone.
+#[test]
+fn late_and_lost(rt: HostRuntime) -> Result<(), Fail> {
+    let mut store = Store::new(rt.alloc());
+    let late = send(&mut store, rt.alloc(), 1, &READ, false)?;
+    for _ in 0..1024 {
+        let serial = send(&mut store, rt.alloc(), 0, &ANSWER, false)?;
+        deliver(&mut store, serial)?;
+    }
+    assert_eq!(rt; store.lowest(), Some(late));
+    deliver(&mut store, late)?;
+    assert!(rt; store.get(late).is_none());
+    let lost = send(&mut store, rt.alloc(), 0, &ANSWER, false)?;
+    lose(&mut store, lost)?;
+    assert!(rt; store.get(lost).is_none());
+    assert_eq!(rt; store.in_flight(), 0);
     Ok(())
 }

@@ -1,7 +1,7 @@
 ghost use Rattle.std.specs.Prelude.{◌≡◌};
-ghost use Rattle.packet_store.specs.Transactions.{transaction_of, begun_by};
+ghost use Rattle.packet_store.specs.Transactions.{transaction_by, begun_as};
 
-use crate::role::{Role, role_of};
+use crate::role::Role;
 use crate::sent::Sent;
 
 /// A transaction, by the generation in which it was sent, its requester, its responder and its
@@ -14,13 +14,13 @@ pub struct Transaction {
     pub label: u8,
 }
 
-/// The transaction that a packet belongs to. A request belongs to one of its sender, unless it was
-/// injected; a response to one of the node that it goes to. Bytes that are no packet belong to none.
-#[tactic(auto, unfolding(crate::specs::Transactions::transaction_of))]
-pub(crate) fn transaction_of(sent: &Sent) -> Option<Transaction>
-    ensures { result ≡ transaction_of sent.now }
+/// The transaction that a packet of this role belongs to. A request belongs to one of its sender,
+/// unless it was injected; a response to one of the node that it goes to. Bytes that are no packet
+/// belong to none.
+pub(crate) fn transaction_of(role: Role, sent: &Sent) -> Option<Transaction>
+    ensures { result ≡ transaction_by role sent.now }
 {
-    match role_of(sent.bytes.as_slice()) {
+    match role {
         Role::Request(label) => {
             if sent.injected {
                 return None;
@@ -32,13 +32,12 @@ pub(crate) fn transaction_of(sent: &Sent) -> Option<Transaction>
     }
 }
 
-/// The transaction that a packet begins: that of a request which was not injected.
-#[tactic(auto, unfolding(crate::specs::Transactions::begun_by))]
-pub(crate) fn begun_by(sent: &Sent) -> Option<Transaction>
-    ensures { result ≡ begun_by sent.now }
+/// The transaction that a packet of this role begins: that of a request which was not injected.
+pub(crate) fn begun_by(role: Role, transaction: Option<Transaction>) -> Option<Transaction>
+    ensures { result ≡ begun_as role transaction }
 {
-    match role_of(sent.bytes.as_slice()) {
-        Role::Request(_) => transaction_of(sent),
+    match role {
+        Role::Request(_) => transaction,
         _ => None,
     }
 }

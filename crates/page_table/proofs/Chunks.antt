@@ -7,7 +7,7 @@ use Rattle.page_table.specs.declared.segment.Segment.{Segment}
 use Rattle.page_table.specs.declared.segment.Chunk.{Chunk}
 use Rattle.page_table.specs.Buffer.{AreSegments, chunk, chunk_from, pieces, segment_chunks, chunks, addresses, chunk_addresses, bytes_of, before, taken_from, ChunksJoin, ChunksInTurn}
 
-addresses-plus : (base a b : ℕ) → addresses base (a + b) ≡ addresses base a ++ addresses (base + a) b
+pub addresses-plus : (base a b : ℕ) → addresses base (a + b) ≡ addresses base a ++ addresses (base + a) b
 addresses-plus base zero b =
     let e : zero + b ≡ b = omega arith in
     let f : base ≡ base + zero = omega arith in

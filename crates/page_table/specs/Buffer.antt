@@ -1,5 +1,5 @@
 -- A buffer: segments joined in order, and the chunks in which its bytes are moved (NCITS 325-1998, page tables).
-use Rattle.std.specs.Prelude.{◌≡◌, ℕ, zero, suc, length, ◌+◌, ◌-◌, ◌/◌, ◌<◌, ◌≤◌, ◌^◌, ◌==◌, min, nat_lt, if◌then◌else◌, List, [], ◌∷◌, Option, Some, None}
+use Rattle.std.specs.Prelude.{◌≡◌, ℕ, zero, suc, length, ◌+◌, ◌-◌, ◌/◌, ◌<◌, ◌≤◌, ◌^◌, ◌==◌, min, nat_lt, if◌then◌else◌, List, [], ◌∷◌, take, drop, Option, Some, None, IfSome}
 use Rattle.std.specs.List.{AllByRecursion, flat_map}
 use Rattle.page_table.specs.declared.segment.Segment.{Segment}
 use Rattle.page_table.specs.declared.segment.Chunk.{Chunk}
@@ -77,3 +77,7 @@ taken_from (suc calls) segments done limit =
 -- Calls in turn give the chunks of the buffer, as many as there are.
 abbrev pub ChunksInTurn : Type 0
 ChunksInTurn = (limit calls : ℕ) (segments : List Segment) → AreSegments segments → 0 < limit → length (chunks limit segments) ≤ calls → taken_from calls segments 0 limit ≡ chunks limit segments
+
+-- A chunk that begins anywhere has the addresses of that many bytes of the buffer from there on.
+abbrev pub ChunkInPlace : Type 0
+ChunkInPlace = (segments : List Segment) (done limit : ℕ) → IfSome (chunk_from segments done limit) (λ piece. addresses piece.offset piece.length ≡ take piece.length (drop done (buffer_addresses segments)))

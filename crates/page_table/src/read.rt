@@ -7,7 +7,7 @@ use crate::segment::Segment;
 use sbp_base::quad_at;
 
 /// Element `at` of a page table, counted from 0 (NCITS 325-1998, page tables).
-pub fn element_at(bytes: &[u8], at: u8) -> Segment
+pub(crate) fn element_at(bytes: &[u8], at: u8) -> Segment
     requires { 8 * at + 8 ≤ length bytes.now }
     ensures element { result ≡ element bytes.now at }
     ensures small { result.base < 2 ^ 48 }
@@ -23,7 +23,7 @@ pub fn element_at(bytes: &[u8], at: u8) -> Segment
 
 /// The first fault by place of the elements from element `at` on.
 #[tactic(auto, using(crate::proofs::ElementSteps::elements_none, crate::proofs::ElementSteps::elements_step))]
-pub fn fault_from(bytes: &[u8], at: u8) -> Option<PageFault>
+pub(crate) fn fault_from(bytes: &[u8], at: u8) -> Option<PageFault>
     requires whole { length bytes.now % 8 ≡ 0 }
     requires room { length bytes.now ≤ 512 }
     requires inside { 8 * at ≤ length bytes.now }

@@ -18,7 +18,7 @@ pub struct Chunk {
 }
 
 /// The bytes of the segments.
-pub fn total_of(segments: &[Segment]) -> u32
+pub(crate) fn total_of(segments: &[Segment]) -> u32
     requires room { length segments.now ≤ 64 }
     requires sound { AreSegments segments.now }
     ensures total { result ≡ bytes_of segments.now }
@@ -31,7 +31,7 @@ pub fn total_of(segments: &[Segment]) -> u32
 }
 
 /// The chunk that begins `done` bytes into the segments, with at most `limit` bytes.
-pub fn chunk_at(segments: &[Segment], done: u32, limit: u16) -> Option<Chunk>
+pub(crate) fn chunk_at(segments: &[Segment], done: u32, limit: u16) -> Option<Chunk>
     requires { AreSegments segments.now }
     ensures chunk { result ≡ chunk_from segments.now done limit }
     ensures few { IfSome result (λ chunk. chunk.length ≤ limit) }

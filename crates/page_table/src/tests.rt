@@ -1,4 +1,5 @@
 use crate::{Chunk, PageFault, SegmentTable, elements};
+use sbp_base::Offset;
 use std::test::Fail;
 
 /// Segments of 512, 500 and 12 bytes.
@@ -68,5 +69,20 @@ fn first_fault_decides(rt: HostRuntime) -> Result<(), Fail> {
         Err(PageFault::PastEnd { at: 1 })
     );
     assert_eq!(rt; table.total(), 0);
+    Ok(())
+}
+
+/// A buffer without a page table is one segment, and one without bytes has none.
+#[test]
+fn single_buffer(rt: HostRuntime) -> Result<(), Fail> {
+    let mut table = SegmentTable::new();
+    assert_eq!(rt; elements(&TABLE, &mut table), Ok(()));
+    let base = Offset::new(0x1100_0000).ok_or("an address")?;
+    table.set_single(base, 513);
+    assert_eq!(rt; table.total(), 513);
+    assert_eq!(rt; chunk_at(&table, 512, 512), Some((0x1100_0200, 1)));
+    table.set_single(base, 0);
+    assert_eq!(rt; table.total(), 0);
+    assert_eq!(rt; chunk_at(&table, 0, 512), None);
     Ok(())
 }

@@ -5,15 +5,15 @@ use Rattle.packet_store.specs.Sound.{Tied}
 use Rattle.packet_store.proofs.Sound.{tied_raised, aged_list, without_aged, all_stay}
 use Rattle.packet_store.proofs.tables.Tables.drop_aged.Goals as goal
 
-pub returns-then-self-le1024-clause-shelf : goal.returns-then-self-le1024-clause-shelf
-returns-then-self-le1024-clause-shelf c =
-    let l = c.if-self-le1024.true in
+pub returns-then-self-le-KEPT_SERIALS-clause-shelf : goal.returns-then-self-le-KEPT_SERIALS-clause-shelf
+returns-then-self-le-KEPT_SERIALS-clause-shelf c =
+    let l = c.if-self-le-KEPT_SERIALS.true in
     let s = c.args.self.now in
     sym (all_stay s.index s.last (s.last - 1025) 0 (s.last - 1024) s.shelf c.requires.sound (omega arith))
 
 shelf_less : (c : goal.After-drop_packet) → c.drop_packet.new.self.shelf ≡ filter (stays (c.args.self.now.last - 1024)) c.args.self.now.shelf
 shelf_less c =
-    let l = c.if-self-le1024.false in
+    let l = c.if-self-le-KEPT_SERIALS.false in
     let s = c.args.self.now in
     let aged : ℕ = s.last - 1024 in
     let e = sym c.is_delivered.ensures ∙ c.if-is_delivered.true in
@@ -21,7 +21,7 @@ shelf_less c =
 
 shelf_same : (c : goal.Else-is_delivered) → c.args.self.now.shelf ≡ filter (stays (c.args.self.now.last - 1024)) c.args.self.now.shelf
 shelf_same c =
-    let l = c.if-self-le1024.false in
+    let l = c.if-self-le-KEPT_SERIALS.false in
     let s = c.args.self.now in
     let aged : ℕ = s.last - 1024 in
     let e = sym c.is_delivered.ensures ∙ c.if-is_delivered.false in
