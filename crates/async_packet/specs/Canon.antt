@@ -1,12 +1,10 @@
 -- The spelling of a packet in which reserved bits and pad bytes are zero, and which packets have one.
-use Rattle.std.specs.Prelude.{◌≡◌, ℕ, ◌+◌, ◌-◌, ◌*◌, ◌/◌, ◌%◌, ◌^◌, ◌<◌, ◌≤◌, List, ◌++◌, length, replicate, IsTrue, Result, Some, IfOk, IfErr, IsOkAnd}
+use Rattle.std.specs.Prelude.{◌≡◌, ℕ, ◌+◌, ◌-◌, ◌*◌, ◌/◌, ◌%◌, ◌^◌, ◌<◌, ◌≤◌, List, ◌++◌, length, replicate, IsTrue, Ok}
 use Rattle.byteorder.specs.Endian.{big_bytes}
 use Rattle.async_packet.specs.declared.packet.Header.{Header}
-use Rattle.async_packet.specs.declared.fault.PacketFault.{PacketFault}
-use Rattle.async_packet.specs.declared.packet.PacketRef.{PacketRef}
-use Rattle.async_packet.specs.Faults.{fault_of}
-use Rattle.async_packet.specs.Packet.{view, Packet, write_quadlet, write_block, write_response, read_quadlet, read_block, read_quadlet_response, read_block_response, lock, lock_response}
+use Rattle.async_packet.specs.Packet.{Packet, write_quadlet, write_block, write_response, read_quadlet, read_block, read_quadlet_response, read_block_response, lock, lock_response}
 use Rattle.async_packet.specs.Fields.{padded, largest, is_extended, is_request_length, is_response_length}
+use Rattle.async_packet.specs.Reading.{reading}
 use Rattle.async_packet.specs.Spells.{Spells}
 
 -- three quadlets
@@ -101,7 +99,6 @@ CanonSpells = (p : Packet) → IsValid p → Spells (canon p) p
 abbrev pub CanonLength : Type 0
 CanonLength = (p : Packet) → length (canon p) ≡ encoded_length p
 
--- Reading it gives the packet: so does each answer that spells what it reads or else names its fault.
+-- Reading it gives the packet.
 abbrev pub DecodesBack : Type 0
-DecodesBack =
-    (p : Packet) → IsValid p → (result : Result PacketRef PacketFault) → IfOk result (λ q. Spells (canon p) (view q)) → IfErr result (λ f. fault_of (canon p) ≡ Some f) → IsOkAnd result (λ q. view q ≡ p)
+DecodesBack = (p : Packet) → IsValid p → reading (canon p) ≡ Ok p

@@ -94,3 +94,11 @@ pub(crate) fn payload_at(bytes: &[u8]) -> &[u8]
     let declared = usize::from(length_at(bytes));
     &bytes[16..16 + declared]
 }
+
+/// A length padded to whole quadlets.
+pub(crate) fn padded(count: usize) -> usize
+    requires { count < 2 ^ 63 }
+    ensures { result ≡ padded count }
+{
+    (count + 3) / 4 * 4
+}

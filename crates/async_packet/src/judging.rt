@@ -3,7 +3,7 @@ ghost use Rattle.async_packet.specs.Fields.{tcode_of, length_of, extended_of, is
 ghost use Rattle.async_packet.specs.Faults.{first, length_rows, end_rows, fault_of};
 
 use crate::fault::PacketFault;
-use crate::fields::{LARGEST, extended_at, length_at, tcode_at};
+use crate::fields::{LARGEST, extended_at, length_at, padded, tcode_at};
 
 /// The fault of bytes, if they are no packet: the first of the table that holds.
 #[tactic(auto, unfolding(crate::specs::Faults::fault_of))]
@@ -109,16 +109,8 @@ fn whole_bytes(tcode: u8, declared: u16) -> u16
     if tcode == 5 {
         16
     } else {
-        16 + padded_bytes(declared)
+        (16 + padded(usize::from(declared))) as u16
     }
-}
-
-/// A length padded to whole quadlets.
-fn padded_bytes(count: u16) -> u16
-    requires { count ≤ largest }
-    ensures { result ≡ padded count }
-{
-    (count + 3) / 4 * 4
 }
 
 /// Whether a lock of this tcode and extended_tcode has payloads of so many bytes.

@@ -3,11 +3,12 @@ ghost use Rattle.async_packet.specs.Packet.{view};
 ghost use Rattle.async_packet.specs.Fields.{padded, largest, is_extended, is_request_length, is_response_length};
 ghost use Rattle.async_packet.specs.Canon.{IsValid, FitsHeader, encoded_length};
 
-use crate::fields::LARGEST;
+use crate::fields::{LARGEST, padded};
 use crate::judging::{fits_request, fits_response, names_extended};
 use crate::packet::{Header, PacketRef};
 
-/// Whether each field fits its bits and each length keeps its rule.
+/// Whether each field fits its bits and each length keeps its rule. An offset or a value that is read
+/// is known to fit its type, and nothing more is asked of it.
 pub fn is_valid(packet: &PacketRef<'_>) -> bool
     ensures { IsTrue result ↔ IsValid (view packet.now) }
 {
@@ -93,14 +94,7 @@ pub fn encoded_len(packet: &PacketRef<'_>) -> usize
 fn block_len(payload: &[u8]) -> usize
     ensures { result ≡ 16 + padded (length payload.now) }
 {
-    16 + padded_len(payload)
-}
-
-/// The length of a payload, padded to whole quadlets.
-pub(crate) fn padded_len(payload: &[u8]) -> usize
-    ensures { result ≡ padded (length payload.now) }
-{
-    (payload.len() + 3) / 4 * 4
+    16 + padded(payload.len())
 }
 
 /// Whether each field of a header fits its bits.

@@ -3,8 +3,8 @@ ghost use Rattle.async_packet.specs.Packet.{view};
 ghost use Rattle.async_packet.specs.Fields.{padded, largest};
 ghost use Rattle.async_packet.specs.Canon.{three, four, first_quad, request_quad, response_quad, length_quad, with_pad, canon, encoded_length, FitsHeader, IsValid, CanonSpells, CanonLength};
 
+use crate::fields::padded;
 use crate::packet::{Header, PacketRef};
-use crate::validity::padded_len;
 use sbp_base::{Offset, put_quad};
 
 /// Writes a valid packet at the front of `out`, and answers how many bytes it has. Reserved bits and
@@ -198,7 +198,7 @@ fn put_payload(out: &mut [u8], payload: &[u8]) -> usize
     ensures count { result ≡ padded (length payload.now) }
 {
     let count = payload.len();
-    let whole = padded_len(payload);
+    let whole = padded(count);
     out[..count].copy_from_slice(payload);
     out[count..whole].fill(0);
     whole

@@ -1,4 +1,3 @@
-pub mod Roles
 pub mod Orders
 pub mod Shelves
 pub mod Sound

@@ -13,6 +13,7 @@ pub enum Role {
 }
 
 /// The role of bytes.
+#[tactic(auto, unfolding(crate::specs::Roles::role_of))]
 pub(crate) fn role_of(bytes: &[u8]) -> Role
     ensures { result ≡ role_of bytes.now }
 {
