@@ -18,7 +18,7 @@ use Rattle.rbc_disk.specs.declared.command.Need.TheVariants as needs
 use Rattle.rbc_disk.specs.declared.command.Outcome.{Outcome}
 use Rattle.rbc_disk.specs.declared.command.Outcome.TheVariants as outcomes
 use Rattle.rbc_disk.specs.Units.{PlainDisk}
-use Rattle.rbc_disk.specs.Runs.{need_of, Feeds, data_length_of}
+use Rattle.rbc_disk.specs.Runs.{need_of, Feeds, data_length_of, Told}
 use Rattle.command_agent.specs.declared.phase.Phase.{Phase}
 use Rattle.command_agent.specs.declared.phase.Phase.TheVariants as phases
 use Rattle.command_agent.specs.declared.phase.ReadAhead.{ReadAhead}
@@ -31,7 +31,7 @@ use Rattle.command_agent.specs.declared.step.Which.TheVariants.{Main, Ahead}
 use Rattle.command_agent.specs.Replies.{Answer, payload_of, write_failure}
 use Rattle.command_agent.specs.Machine.{Machine, aligned, named, rung_in, is_ahead, plan_of, chunk_of}
 use Rattle.command_agent.specs.Checks.{verdict, death_by, reads_table}
-use Rattle.command_agent.specs.Steps.{Told, quiet, sent, is_unsent, ahead_step, dead_step, reread_step, kept_from, end_step, answer_step, with_outcome, ran_as, run_step, judged, judge_step, checked, check_step, ahead_of, served, advanced, orb_read, table_read, elements_read, data_read, data_grown, chunk_written, status_written, next_read, follow_step, turn_step, pointed, point_step, doorbell_step, reset_step, abort_step, reply_step, unread_buffer, answer_chunk, turned}
+use Rattle.command_agent.specs.Steps.{quiet, sent, is_unsent, ahead_step, dead_step, reread_step, kept_from, end_step, answer_step, with_outcome, ran_as, run_step, judged, judge_step, checked, check_step, ahead_of, served, advanced, orb_read, table_read, elements_read, data_read, data_grown, chunk_written, status_written, next_read, follow_step, turn_step, pointed, point_step, doorbell_step, reset_step, abort_step, reply_step, unread_buffer, answer_chunk, turned}
 use Rattle.command_agent.specs.Calls.{Call, Point, Doorbell, Reset, Abort, Reply, after_call, after_calls, Note, Pointed, Cut, Turn, Fetched, Reread, AheadRead, AheadUsed, Ran, Answered, Ended, turn_notes, fetch_notes, reread_notes, status_notes, ahead_notes, main_notes, heard, point_notes, step_notes, noted, notes, is_open, before_present, present_in, fetched_in, next_in, runs_in, ahead_in, Lawful, ended, InOrder, CallsAreLawful, CallsKeepOrder, RereadsEndNothing}
 use Rattle.command_agent.proofs.Fits.{data_needed, feeds_all, feeds_none}
 

@@ -12,7 +12,7 @@ use Rattle.orb_layout.specs.Pointers.{pointer_at}
 use Rattle.rbc_disk.specs.declared.command.BufferPlan.{BufferPlan}
 use Rattle.rbc_disk.specs.declared.command.Outcome.{Outcome}
 use Rattle.rbc_disk.specs.Units.{PlainDisk}
-use Rattle.rbc_disk.specs.Runs.{need_of, Feeds}
+use Rattle.rbc_disk.specs.Runs.{need_of, Feeds, Told}
 use Rattle.command_agent.specs.declared.phase.Phase.{Phase}
 use Rattle.command_agent.specs.declared.phase.Phase.TheVariants as phases
 use Rattle.command_agent.specs.declared.phase.ReadAhead.{ReadAhead}
@@ -23,7 +23,7 @@ use Rattle.command_agent.specs.declared.step.Which.{Which}
 use Rattle.command_agent.specs.declared.step.Which.TheVariants.{Main, Ahead}
 use Rattle.command_agent.specs.Replies.{Answer, payload_of, write_failure}
 use Rattle.command_agent.specs.Machine.{Machine, new_machine, aligned, named, is_ahead, plan_of}
-use Rattle.command_agent.specs.Steps.{Told, quiet, point_step, doorbell_step, reset_step, abort_step, reply_step}
+use Rattle.command_agent.specs.Steps.{quiet, point_step, doorbell_step, reset_step, abort_step, reply_step}
 
 -- a call; a reply with what the unit and its medium hold, and what a run tells where there is one
 pub data Call : Type 0 where

@@ -4,16 +4,15 @@ use Rattle.rbc_disk.specs.declared.command.Outcome.{Outcome}
 use Rattle.rbc_disk.specs.declared.command.Outcome.TheVariants as outcomes
 use Rattle.rbc_disk.specs.Units.{PlainDisk}
 use Rattle.rbc_disk.specs.Checks.{check_of}
-use Rattle.rbc_disk.specs.Runs.{need_of, Feeds, MayEnd, failure_of, check_in, HasFailed, answered_length, answer_length_of, answer_of, medium_after, unit_after}
+use Rattle.rbc_disk.specs.Runs.{need_of, Feeds, MayEnd, failure_of, check_in, count_after_run, answered_length, answer_length_of, answer_of, medium_after, unit_after, Told}
 use Rattle.command_agent.specs.declared.step.AgentStep.{AgentStep}
 use Rattle.command_agent.specs.Machine.{Machine, plan_of}
-use Rattle.command_agent.specs.Steps.{Told}
 
--- The command of the present ORB ran: with all of its data, on the unit and the medium as they stood.
-pub record HasRun (m : Machine) (place : ℕ) (outcome : Outcome) (old new : PlainDisk) (before now : ℕ) : Type 0 where
+-- The command of the present ORB ran, as `HasRun` of rbc_disk says: with all of its data, on the unit and the medium as they stood, and the agent has its answer.
+pub record RunsCommand (m : Machine) (place : ℕ) (outcome : Outcome) (old new : PlainDisk) (before now : ℕ) : Type 0 where
   pub fed : Feeds (need_of m.orb.cdb (plan_of m) old place) m.payload
   pub ended : MayEnd (check_of m.orb.cdb (plan_of m) old place) (failure_of old.medium.is_bay m.orb.cdb) (check_in outcome)
-  pub cause : HasFailed (check_in outcome) before now
+  pub counted : now ≡ count_after_run (check_in outcome) before
   pub room : length m.answer ≡ answered_length outcome
   pub len : check_in outcome ≡ None → answered_length outcome ≡ answer_length_of old.medium.is_bay m.orb.cdb
   pub answered : check_in outcome ≡ None → IfSome (answer_of m.orb.cdb old.medium) (λ told. m.answer ≡ told)
@@ -28,7 +27,7 @@ pub record IsUntouched (old new : PlainDisk) (before now : ℕ) : Type 0 where
 -- what a step leaves, by the outcome that it tells
 abbrev pub Leaves : Option Outcome → Machine → ℕ → PlainDisk → PlainDisk → ℕ → ℕ → Type 0
 Leaves None m place old new before now = IsUntouched old new before now
-Leaves (Some outcome) m place old new before now = HasRun m place outcome old new before now
+Leaves (Some outcome) m place old new before now = RunsCommand m place outcome old new before now
 
 -- the outcome that a step tells
 abbrev pub outcome_in : Option Outcome → Outcome

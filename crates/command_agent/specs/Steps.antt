@@ -22,7 +22,7 @@ use Rattle.rbc_disk.specs.declared.command.Need.TheVariants as needs
 use Rattle.rbc_disk.specs.declared.command.Outcome.{Outcome}
 use Rattle.rbc_disk.specs.declared.command.Outcome.TheVariants as outcomes
 use Rattle.rbc_disk.specs.Units.{PlainDisk}
-use Rattle.rbc_disk.specs.Runs.{need_of, data_length_of}
+use Rattle.rbc_disk.specs.Runs.{need_of, data_length_of, Told}
 use Rattle.command_agent.specs.declared.phase.Phase.{Phase}
 use Rattle.command_agent.specs.declared.phase.Phase.TheVariants as phases
 use Rattle.command_agent.specs.declared.phase.ReadAhead.{ReadAhead}
@@ -214,11 +214,6 @@ advanced phases.WritingStatus m answer = status_written m (write_failure answer)
 advanced phases.ReadingNext m answer = next_read m (payload_of answer 8)
 advanced phases.WritingLastStatus m answer = (moves.Send quiet, record m { phase = phases.Dead })
 advanced _ m answer = (moves.Send quiet, m)
-
--- what a run told: its outcome, and the bytes of its answer
-pub record Told : Type 0 where
-  pub outcome : Outcome
-  pub answer : List ℕ
 
 abbrev pub with_outcome : Outcome → AgentStep × Machine → AgentStep × Machine
 with_outcome outcome s = (record s.0 { ran = Some outcome }, s.1)

@@ -1,7 +1,6 @@
-ghost use Rattle.std.specs.Prelude.{◌≡◌, ◌+◌, ◌≤◌, ◌<◌, [], ◌++◌, length, None, IfOk, IfSome};
+ghost use Rattle.std.specs.Prelude.{◌≡◌, ◌+◌, ◌≤◌, ◌<◌, [], ◌++◌, length, IfOk};
 ghost use Rattle.rbc_disk.specs.Units.{plain_disk};
-ghost use Rattle.rbc_disk.specs.Checks.{check_of};
-ghost use Rattle.rbc_disk.specs.Runs.{need_of, Feeds, MayEnd, failure_of, check_in, HasFailed, answered_length, answer_length_of, answer_of, medium_after, unit_after};
+ghost use Rattle.rbc_disk.specs.Runs.{need_of, Feeds, HasRun};
 
 use rbc_disk::{BufferPlan, Medium, Outcome, Unit};
 use sbp_base::NoMemory;
@@ -84,13 +83,7 @@ impl Room {
     ) -> Outcome
         requires place { login < 8 }
         requires fed { Feeds (need_of cdb.now buffer (plain_disk unit.old (disk medium.old)) login) payload.now }
-        ensures ended { MayEnd (check_of cdb.now buffer (plain_disk unit.old (disk medium.old)) login) (failure_of (disk medium.old).is_bay cdb.now) (check_in result) }
-        ensures cause { HasFailed (check_in result) (media_faults medium.old) (media_faults medium.new) }
-        ensures len { check_in result ≡ None → answered_length result ≡ answer_length_of (disk medium.old).is_bay cdb.now }
-        ensures room { length self.new ≡ answered_length result }
-        ensures answered { check_in result ≡ None → IfSome (answer_of cdb.now (disk medium.old)) (λ told. self.new ≡ told) }
-        ensures medium { disk medium.new ≡ medium_after cdb.now payload.now (check_in result) (disk medium.old) }
-        ensures unit { unit.new ≡ unit_after cdb.now (check_in result) login (disk medium.old).is_bay unit.old }
+        ensures { HasRun cdb.now buffer login payload.now (plain_disk unit.old (disk medium.old)) (plain_disk unit.new (disk medium.new)) (media_faults medium.old) (media_faults medium.new) result self.new }
     {
         let outcome = unit.run(
             medium,

@@ -37,6 +37,17 @@ bay_disk blocks (Some disc) shelf = record {
   shelf = map disc_of shelf;
 }
 
+-- a bay: its blocks, what the disc in its tray holds, what those on its shelf hold, the count of faults of the disc in the tray (0 where there is none), and its own
+pub record BayState : Type 0 where
+  pub blocks : ℕ
+  pub tray : Option Disk
+  pub shelf : List Disk
+  pub disc_faults : ℕ
+  pub faults : ℕ
+
+abbrev pub held : BayState → Disk
+held bay = bay_disk bay.blocks bay.tray bay.shelf
+
 -- a new bay has the first disc in its tray
 abbrev pub new_bay : ℕ → List Disk → Disk
 new_bay blocks [] = bay_disk blocks None []

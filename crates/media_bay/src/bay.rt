@@ -3,10 +3,11 @@ ghost use Rattle.std.specs.Option.{option_map};
 ghost use Rattle.std.specs.Bool.{IsFalse};
 ghost use Rattle.sbp_base.specs.Faults.{HasCause, count_after};
 ghost use Rattle.rbc_disk.specs.Disk.{Disk, IsInside, Gives, written};
-ghost use Rattle.media_bay.specs.Trays.{bay_disk, new_bay, fits_tray, are_discs, tray_faults};
+ghost use Rattle.media_bay.specs.Trays.{held, new_bay, fits_tray, are_discs};
 
 use rbc_disk::Medium;
 use sbp_base::Failed;
+use std::marker::Model;
 
 /// A bay: a tray that holds a disc or none, and a shelf of discs in order. Its discs are media of one
 /// kind, each present and of as many blocks as the bay.
@@ -22,6 +23,22 @@ pub struct Bay<M: Medium> {
     ghost shelf_fits: { IsTrue (are_discs blocks (map M.disk shelf.items)) },
 }
 
+impl<M: Medium> Model for Bay<M> {
+    ghost use Rattle.std.specs.Prelude.{map};
+    ghost use Rattle.std.specs.Option.{option_map};
+    ghost use Rattle.media_bay.specs.Trays.{BayState, tray_faults};
+
+    ghost Value = { BayState };
+
+    ghost view = { λ bay. record {
+      blocks = bay.blocks;
+      tray = option_map M.disk bay.tray;
+      shelf = map M.disk bay.shelf.items;
+      disc_faults = tray_faults (option_map M.media_faults bay.tray);
+      faults = bay.faults;
+    } };
+}
+
 impl<M: Medium> Bay<M> {
     /// A bay with these discs, of which the first, where there is one, is put into the tray at once.
     #[tactic(auto, using(crate::proofs::TrayLemmas::bay_steps))]
@@ -29,8 +46,8 @@ impl<M: Medium> Bay<M> {
         requires some { 1 ≤ blocks }
         requires few { blocks ≤ 65536 }
         requires discs { IsTrue (are_discs blocks (map M.disk shelf.items)) }
-        ensures held { ⟦<Bay<M> as Medium>⟧.disk result ≡ new_bay blocks (map M.disk shelf.items) }
-        ensures faults { ⟦<Bay<M> as Medium>⟧.media_faults result ≡ 0 }
+        ensures held { held result ≡ new_bay blocks (map M.disk shelf.items) }
+        ensures faults { result.faults ≡ 0 }
     {
         let mut bay = Bay {
             blocks,
@@ -44,7 +61,7 @@ impl<M: Medium> Bay<M> {
 }
 
 impl<M: Medium> Medium for Bay<M> {
-    ghost disk = { λ bay. bay_disk bay.blocks (option_map M.disk bay.tray) (map M.disk bay.shelf.items) };
+    ghost disk = { held };
 
     ghost media_faults = { λ bay. bay.faults };
 
@@ -68,14 +85,14 @@ impl<M: Medium> Medium for Bay<M> {
     }
 
     fn read(&mut self, lba: u32, into: &mut [u8]) -> Result<(), Failed>
-        requires present { IsTrue (⟦<Bay<M> as Medium>⟧.disk self.old).is_present }
-        requires inside { IsInside (⟦<Bay<M> as Medium>⟧.disk self.old) lba (length into.old) }
-        ensures bytes { OnOk result (Gives (⟦<Bay<M> as Medium>⟧.disk self.old) lba into.new) }
-        ensures kept { ⟦<Bay<M> as Medium>⟧.disk self.new ≡ ⟦<Bay<M> as Medium>⟧.disk self.old }
-        ensures cause { HasCause (⟦<Bay<M> as Medium>⟧.media_faults self.old) (⟦<Bay<M> as Medium>⟧.media_faults self.new) result }
+        requires present { IsTrue (held self.old).is_present }
+        requires inside { IsInside (held self.old) lba (length into.old) }
+        ensures bytes { OnOk result (Gives (held self.old) lba into.new) }
+        ensures kept { held self.new ≡ held self.old }
+        ensures cause { HasCause self.old.faults self.new.faults result }
 
         // It fails exactly where the disc in the tray failed.
-        ensures disc { tray_faults (option_map M.media_faults self.new.tray) ≡ count_after (tray_faults (option_map M.media_faults self.old.tray)) result }
+        ensures disc { self.new.disc_faults ≡ count_after self.old.disc_faults result }
     {
         let Some(disc) = &mut self.tray else {
             unreachable!("an empty tray is not read")
@@ -85,15 +102,15 @@ impl<M: Medium> Medium for Bay<M> {
     }
 
     fn write(&mut self, lba: u32, from: &[u8]) -> Result<(), Failed>
-        requires present { IsTrue (⟦<Bay<M> as Medium>⟧.disk self.old).is_present }
-        requires open { IsFalse (⟦<Bay<M> as Medium>⟧.disk self.old).is_protected }
-        requires inside { IsInside (⟦<Bay<M> as Medium>⟧.disk self.old) lba (length from.now) }
-        ensures written { OnOk result (⟦<Bay<M> as Medium>⟧.disk self.new ≡ written (⟦<Bay<M> as Medium>⟧.disk self.old) lba from.now) }
-        ensures failed { OnErr result (⟦<Bay<M> as Medium>⟧.disk self.new ≡ ⟦<Bay<M> as Medium>⟧.disk self.old) }
-        ensures cause { HasCause (⟦<Bay<M> as Medium>⟧.media_faults self.old) (⟦<Bay<M> as Medium>⟧.media_faults self.new) result }
+        requires present { IsTrue (held self.old).is_present }
+        requires open { IsFalse (held self.old).is_protected }
+        requires inside { IsInside (held self.old) lba (length from.now) }
+        ensures written { OnOk result (held self.new ≡ written (held self.old) lba from.now) }
+        ensures failed { OnErr result (held self.new ≡ held self.old) }
+        ensures cause { HasCause self.old.faults self.new.faults result }
 
         // It fails exactly where the disc in the tray failed.
-        ensures disc { tray_faults (option_map M.media_faults self.new.tray) ≡ count_after (tray_faults (option_map M.media_faults self.old.tray)) result }
+        ensures disc { self.new.disc_faults ≡ count_after self.old.disc_faults result }
     {
         let Some(disc) = &mut self.tray else {
             unreachable!("an empty tray is not written")
@@ -103,13 +120,13 @@ impl<M: Medium> Medium for Bay<M> {
     }
 
     fn verify(&mut self, lba: u32, count: u32) -> Result<(), Failed>
-        requires present { IsTrue (⟦<Bay<M> as Medium>⟧.disk self.old).is_present }
-        requires inside { IsInside (⟦<Bay<M> as Medium>⟧.disk self.old) lba (512 * count) }
-        ensures kept { ⟦<Bay<M> as Medium>⟧.disk self.new ≡ ⟦<Bay<M> as Medium>⟧.disk self.old }
-        ensures cause { HasCause (⟦<Bay<M> as Medium>⟧.media_faults self.old) (⟦<Bay<M> as Medium>⟧.media_faults self.new) result }
+        requires present { IsTrue (held self.old).is_present }
+        requires inside { IsInside (held self.old) lba (512 * count) }
+        ensures kept { held self.new ≡ held self.old }
+        ensures cause { HasCause self.old.faults self.new.faults result }
 
         // It fails exactly where the disc in the tray failed.
-        ensures disc { tray_faults (option_map M.media_faults self.new.tray) ≡ count_after (tray_faults (option_map M.media_faults self.old.tray)) result }
+        ensures disc { self.new.disc_faults ≡ count_after self.old.disc_faults result }
     {
         let Some(disc) = &mut self.tray else {
             unreachable!("an empty tray is not verified")

@@ -8,6 +8,6 @@ pub use bay::Bay;
 pub use unsolicited::{read_unsolicited, unsolicited_reads_back, write_unsolicited};
 
 #[cfg(test)]
-mod disc_tests;
+mod counted_disc;
 #[cfg(test)]
 mod tests;

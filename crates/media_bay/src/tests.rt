@@ -1,4 +1,4 @@
-use crate::disc_tests::CountedDisc;
+use crate::counted_disc::CountedDisc;
 use crate::{Bay, read_unsolicited, write_unsolicited};
 use rbc_disk::{BufferPlan, FaultyMedium, Medium, Need, Outcome, RamMedium, Sense, Unit};
 use sbp_base::NoMemory;
@@ -15,6 +15,8 @@ const EJECT: [u8; 12] = [0x1b, 0, 0, 0, 2, 0, 0, 0, 0, 0, 0, 0];
 const LOAD: [u8; 12] = [0x1b, 0, 0, 0, 3, 0, 0, 0, 0, 0, 0, 0];
 
 const VERIFY: [u8; 12] = [0x2f, 0, 0, 0, 0, 0, 0, 0, 1, 0, 0, 0];
+
+const VERIFY_SEVEN: [u8; 12] = [0x2f, 0, 0, 0, 0, 1, 0, 0, 7, 0, 0, 0];
 
 const NO_DATA: BufferPlan = BufferPlan {
     to_initiator: true,
@@ -74,24 +76,30 @@ fn a_prevented_eject(rt: HostRuntime) -> Result<(), Fail> {
     Ok(())
 }
 
-/// A bay of one block with a disc whose first call fails.
+/// A bay of eight blocks with a disc whose first and third call fail.
 fn failing_disc(rt: &impl AllocGlobal) -> Result<Bay<FaultyMedium>, NoMemory> {
-    let failing = Vec::from_slice(rt.alloc(), &[1])?;
+    let failing = Vec::from_slice(rt.alloc(), &[1, 3])?;
     let mut shelf = Vec::new(rt.alloc());
-    shelf.push(FaultyMedium::new(rt.alloc(), 1, 0x77, failing)?)?;
-    Ok(Bay::new(1, shelf))
+    shelf.push(FaultyMedium::new(rt.alloc(), 8, 0x77, failing)?)?;
+    Ok(Bay::new(8, shelf))
 }
 
-/// A VERIFY makes the call of the disc in the tray, which fails the first time.
+/// A VERIFY makes one call of the disc in the tray.
 #[test]
 fn a_verify_of_the_disc(rt: HostRuntime) -> Result<(), Fail> {
     let mut bay = failing_disc(&rt).ok().ok_or("memory")?;
     let mut answer = vec![in rt.alloc(); 0; 16384]?;
-    let ended = run_all(&rt, &mut bay, &[VERIFY, VERIFY], answer.as_mut_slice());
+    let cdbs = [VERIFY_SEVEN, VERIFY, VERIFY_SEVEN];
+    let ended = run_all(&rt, &mut bay, &cdbs, answer.as_mut_slice());
     let ended = ended.ok().ok_or("memory")?;
     assert_eq!(rt;
         ended.as_slice(),
-        [Outcome::Check(Sense::READ_FAILED), GOOD].as_slice()
+        [
+            Outcome::Check(Sense::READ_FAILED),
+            GOOD,
+            Outcome::Check(Sense::READ_FAILED)
+        ]
+        .as_slice()
     );
     Ok(())
 }

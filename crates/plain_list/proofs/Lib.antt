@@ -1,3 +1,4 @@
 pub mod Running
 pub mod Settling
 pub mod Standing
+pub mod Beginning

@@ -3,11 +3,11 @@ use Rattle.std.proofs.Common.{◌≡◌, ◌≢◌, ℕ, zero, suc, ◌+◌, ◌
 use Rattle.std.specs.Prelude.{◌==◌, nat_lt, if◌then◌else◌, Option, Some, None, IsSomeAnd, slice_index, min}
 use Rattle.std.specs.List.{AllByRecursion}
 use Rattle.std.proofs.lemmas.List.{get_or-set_same, get_or-set_other, length-set, length-append, get_or_push, get_or_append_left}
-use Rattle.sbp_base.specs.Faults.{Rose, last_count}
+use Rattle.sbp_base.specs.Faults.{count_up}
 use Rattle.sbp_base.specs.Update.{upd, upd3}
 use Rattle.rbc_disk.specs.Disk.{Disk, disk_at, no_disk}
 use Rattle.rbc_disk.specs.Units.{UnitState, PlainDisk, plain_disk}
-use Rattle.rbc_disk.specs.Runs.{medium_after, unit_after, after_run, is_failure, HasFailed}
+use Rattle.rbc_disk.specs.Runs.{medium_after, unit_after, after_run, is_failure, count_after_run}
 use Rattle.rbc_command.specs.declared.sense.Sense.{Sense}
 use Rattle.sbp_laws.specs.Terms.{Request, lists, appends, runs, takes, request_at, ran_status, ended_status, status_of}
 use Rattle.sbp_laws.specs.DiskFold.{plain_of, disk_of, before_run, failures, DisksAre, FailuresFit}
@@ -72,26 +72,21 @@ disks_after start past disks orb cdb bytes check some h = record {
 
 -- the counts of faults after a run on unit 0
 failures_after : (start now later : List ℕ) (past : List Moment) (orb : Option ℕ) (cdb bytes : List ℕ) (check : Option Sense) →
-    later ≡ set now 0 (slice_index later 0) → HasFailed check (slice_index now 0) (slice_index later 0) →
+    later ≡ set now 0 (slice_index later 0) → slice_index later 0 ≡ count_after_run check (slice_index now 0) →
     FailuresFit start past now → FailuresFit start (said (Ran 0 (Some 0) orb 0 cdb bytes check) ∷ past) later
-failures_after start now later past orb cdb bytes check kept cause h = record { each = each_count }
+failures_after start now later past orb cdb bytes check kept counts h = record { each = each_count }
   where
-    rising : slice_index now 0 ≤ slice_index later 0
-    rising = cause.later
+    counts_by : (b : Bool) (before first after k : ℕ) → first ≡ count_up before k → after ≡ (if b then count_up first 1 else first) → after ≡ count_up before (if b then suc k else k)
+    counts_by true before first after k e c = omega arith
+    counts_by false before first after k e c = c ∙ e
 
-    fits_first : (b : Bool) → is_failure check ≡ b → min (slice_index start 0 + (if b then suc (failures past 0) else failures past 0)) last_count ≤ slice_index later 0
-    fits_first true e = let was = h.each 0 in let rose : Rose (slice_index now 0) (slice_index later 0) = cause.failed e in omega arith
-    fits_first false e = let was = h.each 0 in omega (arith, rising)
-
-    each_count : (u : ℕ) → min (slice_index start u + failures (said (Ran 0 (Some 0) orb 0 cdb bytes check) ∷ past) u) last_count ≤ slice_index later u
-    each_count zero = fits_first (is_failure check) refl
+    each_count : (u : ℕ) → slice_index later u ≡ count_up (slice_index start u) (failures (said (Ran 0 (Some 0) orb 0 cdb bytes check) ∷ past) u)
+    each_count zero = counts_by (is_failure check) (slice_index start 0) (slice_index now 0) (slice_index later 0) (failures past 0) (h.each 0) counts
     each_count (suc u) =
         let other : failures (said (Ran 0 (Some 0) orb 0 cdb bytes check) ∷ past) (suc u) ≡ failures past (suc u) =
         upd-other (failures past) (suc u) (if is_failure check then suc (failures past 0) else failures past 0) (λ e. cc e) in
-        let same : slice_index later (suc u) ≡ slice_index now (suc u) =
-        ap (λ xs. slice_index xs (suc u)) kept ∙ get_or-set_other now 0 (suc u) (slice_index later 0) 0 (λ e. cc e) in
-        let was = h.each (suc u) in
-        omega (arith, other, same)
+        ap (λ xs. slice_index xs (suc u)) kept ∙ get_or-set_other now 0 (suc u) (slice_index later 0) 0 (λ e. cc e) ∙ h.each (suc u)
+        ∙ ap (count_up (slice_index start (suc u))) (sym other)
 
 -- something was appended: one list was begun
 one_list : (appended : ℕ) → 0 < appended → ◌≡◌ {A = ℕ} (if appended == 0 then 0 else 1) 1
@@ -167,7 +162,7 @@ module _ (start now later : Held) (past : List Moment) (old new : PlainState) (s
     not_taken = λ l low. let n = v.ended in let other : l ≢ old.ended = omega arith in upd3-other (takes past) old.ended l (suc (takes past 0 0 old.ended)) other ∙ s.not_taken l (omega arith);
     unit_is = unit_there;
     disks = let d = subst (DisksAre start.disks ran) (sym v.told.disks) (disks_after start.disks past now.disks (Some old.ended) v.cmd.cdb v.told.bytes v.told.check s.some s.disks) in record { count = d.count; each = d.each };
-    failures = let f = failures_after start.faults now.faults later.faults past (Some old.ended) v.cmd.cdb v.told.bytes v.told.check v.told.faults v.told.cause s.failures in record { each = f.each };
+    failures = let f = failures_after start.faults now.faults later.faults past (Some old.ended) v.cmd.cdb v.told.bytes v.told.check v.told.faults v.told.counts s.failures in record { each = f.each };
     some = let h : length later.disks ≡ length now.disks = ap length v.told.disks ∙ length-set now.disks 0 _ in let some = s.some in omega (arith, h);
     counted = let h : length later.faults ≡ length now.faults = ap length v.told.faults ∙ length-set now.faults 0 _ in let some = s.counted in omega (arith, h);
   }

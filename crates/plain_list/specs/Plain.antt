@@ -3,7 +3,7 @@ use Rattle.std.specs.Prelude.{◌≡◌, ◌≢◌, ℕ, ◌+◌, ◌==◌, ◌&
 use Rattle.std.specs.List.{AllByRecursion}
 use Rattle.rbc_disk.specs.Disk.{Disk, disk_at}
 use Rattle.rbc_disk.specs.Units.{UnitState, plain_disk, new_unit}
-use Rattle.rbc_disk.specs.Runs.{medium_after, unit_after, HasFailed}
+use Rattle.rbc_disk.specs.Runs.{medium_after, unit_after, count_after_run}
 use Rattle.rbc_command.specs.declared.sense.Sense.{Sense}
 use Rattle.sbp_journal.specs.declared.note.Note.{Note}
 use Rattle.sbp_journal.specs.declared.note.Note.TheVariants.{Settled, Refused}
@@ -11,7 +11,7 @@ use Rattle.sbp_journal.specs.declared.event.Cmd.{Cmd}
 use Rattle.sbp_journal.specs.declared.event.Event.{Event}
 use Rattle.sbp_journal.specs.declared.event.Event.TheVariants.{Begin, Act, Settle}
 use Rattle.sbp_journal.specs.declared.event.Action.TheVariants.{Append}
-use Rattle.sbp_journal.specs.Run.{Run, Moment, said, history}
+use Rattle.sbp_journal.specs.Run.{Run, Moment, said, history, empty_run}
 use Rattle.sbp_laws.specs.Terms.{Request, lists, appends, ends, runs, takes, statuses, request_at, unit_of}
 use Rattle.sbp_laws.specs.DiskFold.{plain_of, DisksAre, FailuresFit}
 use Rattle.sbp_journal.specs.Form.{HasForm, IsCheck}
@@ -100,7 +100,7 @@ pub record RunsAndTells (cmd : Cmd) (orb : ℕ) (old new : List Note) (unit late
   pub unit_is : later ≡ unit_after cmd.cdb check 0 (disk_at before.disks 0).is_bay unit
   pub disks : now.disks ≡ slice_set before.disks 0 (medium_after cmd.cdb bytes check (disk_at before.disks 0))
   pub faults : now.faults ≡ slice_set before.faults 0 (slice_index now.faults 0)
-  pub cause : HasFailed check (slice_index before.faults 0) (slice_index now.faults 0)
+  pub counts : slice_index now.faults 0 ≡ count_after_run check (slice_index before.faults 0)
 
 -- The first waiting command was served.
 pub record Serves (old new : PlainState) (before now : Held) : Type 0 where
@@ -135,6 +135,10 @@ pub record StandsFor (start now : Held) (run : Run) (state : PlainState) : Type 
   pub begins : run.start ≡ start.disks
   pub moments : Stands start now (history run.entries) state
   pub action : ActionLaw run.entries
+
+-- A new list stands for the empty run, over any media.
+abbrev pub StandsAtFirst : Type 0
+StandsAtFirst = (start : Held) → 0 < length start.disks → 0 < length start.faults → StandsFor start start (empty_run start.disks) empty_list
 
 -- Commands were served since the list was `old`: their notes, and what the list and the media then stand for.
 pub record Settling (old new : PlainState) (before now : Held) : Type 0 where

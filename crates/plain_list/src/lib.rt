@@ -3,10 +3,12 @@
 #![tactic(auto)]
 
 mod buffer;
+mod laws;
 mod list;
 mod run;
 mod tell;
 
+pub use laws::stands_at_first;
 pub use list::PlainList;
 
 #[cfg(test)]

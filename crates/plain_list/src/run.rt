@@ -1,7 +1,7 @@
 ghost use Rattle.std.specs.Prelude.{◌≡◌, ◌≢◌, ◌<◌, ◌≤◌, length, take, map, slice_set, slice_index, None};
 ghost use Rattle.rbc_disk.specs.Disk.{disk_at};
 ghost use Rattle.rbc_disk.specs.Units.{plain_disk};
-ghost use Rattle.rbc_disk.specs.Runs.{check_in, answered_length, HasFailed, medium_after, unit_after};
+ghost use Rattle.rbc_disk.specs.Runs.{check_in, answered_length, count_after_run, medium_after, unit_after};
 ghost use Rattle.sbp_journal.specs.Form.{IsCheck};
 ghost use Rattle.sbp_laws.specs.ExecutionLaw.{RunsOn, asked_data};
 ghost use Rattle.sbp_laws.specs.AnswerLaw.{IsAnswerOf};
@@ -41,7 +41,7 @@ pub(crate) fn run_waiting(
     ensures unit { unit.new ≡ unit_after cmd.now.cdb result.check 0 (disk_at (map disk media.old.items) 0).is_bay unit.old }
     ensures disks { map disk media.new.items ≡ slice_set (map disk media.old.items) 0 (medium_after cmd.now.cdb (asked_data (request_of cmd.now) result.carried) result.check (disk_at (map disk media.old.items) 0)) }
     ensures faults { map media_faults media.new.items ≡ slice_set (map media_faults media.old.items) 0 (slice_index (map media_faults media.new.items) 0) }
-    ensures cause { HasFailed result.check (slice_index (map media_faults media.old.items) 0) (slice_index (map media_faults media.new.items) 0) }
+    ensures counts { slice_index (map media_faults media.new.items) 0 ≡ count_after_run result.check (slice_index (map media_faults media.old.items) 0) }
 {
     let buffer = plan(cmd);
     match unit.needs_at(media, 0, 0, &cmd.cdb, buffer) {

@@ -1,4 +1,4 @@
-ghost use Rattle.std.specs.Prelude.{◌≡◌, ◌<◌, ◌≤◌, nat_lt, IfOk, IfErr};
+ghost use Rattle.std.specs.Prelude.{◌≡◌, ◌<◌, ◌≤◌, nat_lt, false, IfOk, IfErr};
 ghost use Rattle.rbc_command.specs.Commands.{command_of, command_in, flag, unless_bad, moved_blocks};
 
 use crate::command::Command;
@@ -55,8 +55,20 @@ fn fields(operation: Operation, bytes: &[u8; 12]) -> Result<Command, Sense>
             on: is_set(bytes, 4, 0),
         }),
         Operation::Capacity => Ok(Command::Capacity),
-        Operation::Read10 => read_of(lba, count_of_ten),
-        Operation::Write10 => write_of(lba, count_of_ten),
+        Operation::Read10 => unless_many(
+            count_of_ten,
+            Command::Read {
+                lba,
+                count: count_of_ten,
+            },
+        ),
+        Operation::Write10 => unless_many(
+            count_of_ten,
+            Command::Write {
+                lba,
+                count: count_of_ten,
+            },
+        ),
         Operation::Verify => unless(
             is_set(bytes, 1, 1),
             Command::Verify {
@@ -65,8 +77,20 @@ fn fields(operation: Operation, bytes: &[u8; 12]) -> Result<Command, Sense>
             },
         ),
         Operation::Sync => Ok(Command::Sync),
-        Operation::Read12 => read_of(lba, count_of_twelve),
-        Operation::Write12 => write_of(lba, count_of_twelve),
+        Operation::Read12 => unless_many(
+            count_of_twelve,
+            Command::Read {
+                lba,
+                count: count_of_twelve,
+            },
+        ),
+        Operation::Write12 => unless_many(
+            count_of_twelve,
+            Command::Write {
+                lba,
+                count: count_of_twelve,
+            },
+        ),
     }
 }
 
@@ -84,6 +108,7 @@ fn unless(bad: bool, command: Command) -> Result<Command, Sense>
     ensures told { result ≡ unless_bad bad command }
     ensures illegal { IfErr result (λ check. check.key ≡ 5) }
     ensures same { IfOk result (λ kept. kept ≡ command) }
+    ensures fits { IfOk result (λ kept. bad ≡ false) }
 {
     if bad {
         return Err(Sense::BAD_FIELD);
@@ -91,26 +116,12 @@ fn unless(bad: bool, command: Command) -> Result<Command, Sense>
     Ok(command)
 }
 
-/// A READ of few enough blocks.
-fn read_of(lba: u32, count: u32) -> Result<Command, Sense>
-    ensures read { result ≡ unless_bad (nat_lt 32 count) (Command.Read lba count) }
+/// A READ or a WRITE of so many blocks, where they are few enough.
+fn unless_many(count: u32, command: Command) -> Result<Command, Sense>
+    requires { moved_blocks command ≡ count }
+    ensures told { result ≡ unless_bad (nat_lt 32 count) command }
     ensures illegal { IfErr result (λ check. check.key ≡ 5) }
-    ensures few { IfOk result (λ command. moved_blocks command ≤ 32) }
+    ensures few { IfOk result (λ kept. moved_blocks kept ≤ 32) }
 {
-    if count > MOST_BLOCKS {
-        return Err(Sense::BAD_FIELD);
-    }
-    Ok(Command::Read { lba, count })
-}
-
-/// A WRITE of few enough blocks.
-fn write_of(lba: u32, count: u32) -> Result<Command, Sense>
-    ensures read { result ≡ unless_bad (nat_lt 32 count) (Command.Write lba count) }
-    ensures illegal { IfErr result (λ check. check.key ≡ 5) }
-    ensures few { IfOk result (λ command. moved_blocks command ≤ 32) }
-{
-    if count > MOST_BLOCKS {
-        return Err(Sense::BAD_FIELD);
-    }
-    Ok(Command::Write { lba, count })
+    unless(count > MOST_BLOCKS, command)
 }

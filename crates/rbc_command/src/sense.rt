@@ -1,3 +1,6 @@
+ghost use Rattle.std.specs.Prelude.{◌≡◌};
+ghost use Rattle.rbc_command.specs.SenseData.{all_senses};
+
 /// Sense key, sense code and qualifier of a check condition (SPC, sense data).
 #[derive(Clone, Copy, Debug, PartialEq, Eq)]
 pub struct Sense {
@@ -83,4 +86,23 @@ impl Sense {
         code: 0x0c,
         qualifier: 0x00,
     };
+
+    /// All checks of a unit, in the order of the constants.
+    pub fn all() -> [Sense; 11]
+        ensures { result ≡ all_senses }
+    {
+        [
+            Sense::NO_COMMAND,
+            Sense::OUTSIDE,
+            Sense::BAD_FIELD,
+            Sense::NO_MEDIUM,
+            Sense::NOT_STARTED,
+            Sense::WAS_RESET,
+            Sense::MEDIUM_CHANGED,
+            Sense::REMOVAL_PREVENTED,
+            Sense::PROTECTED,
+            Sense::READ_FAILED,
+            Sense::WRITE_FAILED,
+        ]
+    }
 }

@@ -13,12 +13,13 @@ use Rattle.rbc_command.specs.declared.command.Command.{Command}
 use Rattle.rbc_command.specs.declared.command.Command.TheVariants as commands
 use Rattle.rbc_command.specs.declared.operation.Operation.{Operation}
 use Rattle.rbc_command.specs.declared.operation.Operation.TheVariants as operations
-use Rattle.rbc_disk.specs.Units.{UnitState, PlainDisk, plain_disk, new_unit, has_place, with_places, without_place}
+use Rattle.rbc_disk.specs.Units.{UnitState, PlainDisk, plain_disk, has_place, with_places, without_place}
 use Rattle.rbc_disk.specs.Requests.{request_of, plain_request, is_inquiry, is_start_stop, is_load, is_eject, needs_medium, is_outside, is_write, is_unfit}
 use Rattle.rbc_disk.specs.Checks.{check_if, is_empty, check_of, first_of, mark_check, told_marks, request_check, field_check}
 use Rattle.rbc_disk.specs.Runs.{MayEnd, failure_by, failure_of, is_attention, has_attention, unit_ended}
 use Rattle.rbc_disk.specs.Calls.Call.{Ran, Cleared, Changed}
 use Rattle.rbc_disk.specs.Calls.{after_calls, tells, owes_change, minds_marks, MarkLaw, AttentionLaw}
+use Rattle.rbc_disk.proofs.PlainChecks.{is_plain, field_check_is_plain, failure_is_plain}
 use Rattle.rbc_disk.specs.declared.request.Request.{Request}
 use Rattle.rbc_disk.specs.declared.request.Request.TheVariants as requests
 use Rattle.rbc_disk.specs.declared.command.BufferPlan.{BufferPlan}
@@ -54,83 +55,10 @@ has_place-without_other places place asked h k other =
     in
     ap (λ n. n == 1) e
 
--- the checks that are no unit attention
-seven_calm : (a b c d e f g : Bool) →
-    is_attention (check_if a (sense 5 0x53 2) (first_of (check_if b (sense 2 0x3a 0) None) (check_if c (sense 2 0x3a 0) (check_if d (sense 2 4 2) (check_if e (sense 5 0x21 0) (check_if f (sense 7 0x27 0) (check_if g bad_field None))))))) ≡ false
-seven_calm true b c d e f g = refl
-seven_calm false true c d e f g = refl
-seven_calm false false true d e f g = refl
-seven_calm false false false true e f g = refl
-seven_calm false false false false true f g = refl
-seven_calm false false false false false true g = refl
-seven_calm false false false false false false true = refl
-seven_calm false false false false false false false = refl
-
-request_check-calm : (request : Request) (buffer : BufferPlan) (plain : PlainDisk) → is_attention (request_check request buffer plain) ≡ false
-request_check-calm request buffer plain =
-    seven_calm (is_eject request && plain.unit.is_prevented) (is_load request && not plain.medium.is_present && is_empty plain.medium.shelf)
-    (needs_medium request && not plain.medium.is_present) (needs_medium request && not plain.unit.is_started)
-    (is_outside request plain.medium.blocks) (is_write request && plain.medium.is_protected) (is_unfit request buffer)
-
--- a refusal of a command block is no unit attention
-abbrev refuses_by_attention : Result Command Sense → Bool
-refuses_by_attention (Ok command) = false
-refuses_by_attention (Err check) = check.key == 6
-
-unless_bad-calm : (bad : Bool) (command : Command) → refuses_by_attention (unless_bad bad command) ≡ false
-unless_bad-calm true command = refl
-unless_bad-calm false command = refl
-
-command_in-calm : (operation : Operation) (cdb : List ℕ) → refuses_by_attention (command_in operation cdb) ≡ false
-command_in-calm operations.TestReady cdb = refl
-command_in-calm operations.Inquiry cdb = refl
-command_in-calm operations.StartStop cdb = unless_bad-calm _ _
-command_in-calm operations.Prevent cdb = refl
-command_in-calm operations.Capacity cdb = refl
-command_in-calm operations.Read10 cdb = unless_bad-calm _ _
-command_in-calm operations.Write10 cdb = unless_bad-calm _ _
-command_in-calm operations.Verify cdb = unless_bad-calm _ _
-command_in-calm operations.Sync cdb = refl
-command_in-calm operations.Read12 cdb = unless_bad-calm _ _
-command_in-calm operations.Write12 cdb = unless_bad-calm _ _
-
-command_by-calm : (operation : Option Operation) (cdb : List ℕ) → refuses_by_attention (command_by operation cdb) ≡ false
-command_by-calm None cdb = refl
-command_by-calm (Some operation) cdb = command_in-calm operation cdb
-
-field_check-plain : (command : Result Command Sense) (buffer : BufferPlan) (plain : PlainDisk) → refuses_by_attention command ≡ false → is_attention (field_check (plain_request command) buffer plain) ≡ false
-field_check-plain (Ok command) buffer plain h = request_check-calm (requests.Plain command) buffer plain
-field_check-plain (Err check) buffer plain h = h
-
-field_check-if : (tray start : Bool) (command : Result Command Sense) (buffer : BufferPlan) (plain : PlainDisk) → refuses_by_attention command ≡ false →
-    is_attention (field_check (if tray then (if start then Ok requests.Load else Ok requests.Eject) else plain_request command) buffer plain) ≡ false
-field_check-if true true command buffer plain h = request_check-calm requests.Load buffer plain
-field_check-if true false command buffer plain h = request_check-calm requests.Eject buffer plain
-field_check-if false start command buffer plain h = field_check-plain command buffer plain h
-
-field_check-calm : (is_bay : Bool) (cdb : List ℕ) (buffer : BufferPlan) (plain : PlainDisk) → is_attention (field_check (request_of is_bay cdb) buffer plain) ≡ false
-unfolding request_of
-field_check-calm is_bay cdb buffer plain =
-    field_check-if (is_bay && is_start_stop (operation_in cdb) && moves_disc cdb) (starts cdb) (command_of cdb) buffer plain (command_by-calm (operation_in cdb) cdb)
-
--- nor is a failed call of the medium
-failing_calm : (b : Bool) (check : Sense) → (check.key == 6) ≡ false → is_attention (if b then None else Some check) ≡ false
-failing_calm true check h = refl
-failing_calm false check h = h
-
-failure_by-calm : (request : Result Request Sense) → is_attention (failure_by request) ≡ false
-failure_by-calm (Err refused) = refl
-failure_by-calm (Ok requests.Load) = refl
-failure_by-calm (Ok requests.Eject) = refl
-failure_by-calm (Ok (requests.Plain commands.TestReady)) = refl
-failure_by-calm (Ok (requests.Plain (commands.Inquiry allocation))) = refl
-failure_by-calm (Ok (requests.Plain (commands.StartStop start))) = refl
-failure_by-calm (Ok (requests.Plain (commands.Prevent on))) = refl
-failure_by-calm (Ok (requests.Plain commands.Capacity)) = refl
-failure_by-calm (Ok (requests.Plain (commands.Read lba count))) = failing_calm (count == 0) (sense 3 0x11 0) refl
-failure_by-calm (Ok (requests.Plain (commands.Write lba count))) = failing_calm (count == 0) (sense 3 0x0c 0) refl
-failure_by-calm (Ok (requests.Plain (commands.Verify lba count))) = failing_calm (count == 0) (sense 3 0x11 0) refl
-failure_by-calm (Ok (requests.Plain commands.Sync)) = refl
+-- the checks of a request and those of a failed call are no unit attention
+calm : (check : Option Sense) → is_plain check ≡ true → is_attention check ≡ false
+calm None h = refl
+calm (Some check) h = grind arith
 
 -- a check that is no unit attention is none of a code
 calm_code : (code : ℕ) (ended : Option Sense) → is_attention ended ≡ false → tells code ended ≡ false
@@ -175,7 +103,7 @@ unfolding check_of
 told_of_marks cdb buffer plain place ended e =
     told_by (is_none (operation_in cdb)) (is_inquiry (operation_in cdb)) (has_place plain.unit.reset place) (has_place plain.unit.changed place)
     (field_check (request_of plain.medium.is_bay cdb) buffer plain) (failure_of plain.medium.is_bay cdb) ended
-    (field_check-calm plain.medium.is_bay cdb buffer plain) (failure_by-calm (request_of plain.medium.is_bay cdb)) e
+    (calm (field_check (request_of plain.medium.is_bay cdb) buffer plain) (field_check_is_plain plain.medium.is_bay cdb buffer plain)) (calm (failure_of plain.medium.is_bay cdb) (failure_is_plain (request_of plain.medium.is_bay cdb))) e
 
 -- the marks that a run leaves
 record Left (ended : Option Sense) (asked : ℕ) (unit left : UnitState) : Type 0 where
@@ -247,35 +175,34 @@ no_place place = ap (λ n. n == 1) (bit_at-zero place)
 
 -- a place is marked exactly where it is owed
 pub marks_owed : MarkLaw
-marks_owed medium [] place h happened = record { reset = no_place place; changed = no_place place }
-marks_owed medium (Cleared logins ∷ calls) place h happened =
-    let before = marks_owed medium calls place h happened.0 in
+marks_owed [] place h happened = record { reset = no_place place; changed = no_place place }
+marks_owed (Cleared logins ∷ calls) place h happened =
+    let before = marks_owed calls place h happened.0 in
     record {
-      reset = has_place-with_places (after_calls calls (plain_disk new_unit medium)).unit.reset logins place ∙ ap (λ b. b || has_place logins place) before.reset;
+      reset = has_place-with_places (after_calls calls).reset logins place ∙ ap (λ b. b || has_place logins place) before.reset;
       changed = before.changed;
     }
-marks_owed medium (Changed logins ∷ calls) place h happened =
-    let before = marks_owed medium calls place h happened.0 in
+marks_owed (Changed logins ∷ calls) place h happened =
+    let before = marks_owed calls place h happened.0 in
     record {
       reset = before.reset;
-      changed = has_place-with_places (after_calls calls (plain_disk new_unit medium)).unit.changed logins place ∙ ap (λ b. b || has_place logins place) before.changed;
+      changed = has_place-with_places (after_calls calls).changed logins place ∙ ap (λ b. b || has_place logins place) before.changed;
     }
-marks_owed medium (Ran cdb buffer asked payload ended ∷ calls) place h happened =
-    let before = marks_owed medium calls place h happened.0 in
-    let plain = after_calls calls (plain_disk new_unit medium) in
-    let left = left_ended (request_of plain.medium.is_bay cdb) ended asked plain.unit in
+marks_owed (Ran cdb buffer asked payload medium ended ∷ calls) place h happened =
+    let before = marks_owed calls place h happened.0 in
+    let left = left_ended (request_of medium.is_bay cdb) ended asked (after_calls calls) in
     record {
-      reset = mark_ended (tells 0x29 ended) _ plain.unit.reset place asked h happened.1.0 left.of_reset ∙ ap (λ b. b && not (asked == place && tells 0x29 ended)) before.reset;
-      changed = mark_ended (tells 0x28 ended) _ plain.unit.changed place asked h happened.1.0 left.of_change ∙ ap (λ b. b && not (asked == place && tells 0x28 ended)) before.changed;
+      reset = mark_ended (tells 0x29 ended) _ (after_calls calls).reset place asked h happened.1.0 left.of_reset ∙ ap (λ b. b && not (asked == place && tells 0x29 ended)) before.reset;
+      changed = mark_ended (tells 0x28 ended) _ (after_calls calls).changed place asked h happened.1.0 left.of_change ∙ ap (λ b. b && not (asked == place && tells 0x28 ended)) before.changed;
     }
 
 -- a command is told exactly what its place is owed
 pub attention_owed : AttentionLaw
-attention_owed medium calls cdb buffer place payload ended happened =
-    let before = marks_owed medium calls place happened.1.0 happened.0 in
-    let told = told_of_marks cdb buffer (after_calls calls (plain_disk new_unit medium)) place ended happened.1.1 in
+attention_owed calls cdb buffer place payload medium ended happened =
+    let before = marks_owed calls place happened.1.0 happened.0 in
+    let told = told_of_marks cdb buffer (plain_disk (after_calls calls) medium) place ended happened.1.1 in
     record {
       reset = told.of_reset ∙ ap (λ b. b && minds_marks cdb) before.reset;
-      changed = told.of_change ∙ ap (λ b. b && (not (has_place (after_calls calls (plain_disk new_unit medium)).unit.reset place) && minds_marks cdb)) before.changed
+      changed = told.of_change ∙ ap (λ b. b && (not (has_place (after_calls calls).reset place) && minds_marks cdb)) before.changed
           ∙ ap (λ b. owes_change place calls && (not b && minds_marks cdb)) before.reset;
     }

@@ -4,3 +4,6 @@ pub mod AnswerLemmas
 pub mod AttentionLemmas
 pub mod NeedLemmas
 pub mod KeyLemmas
+mod BlockLemmas
+mod ReadLemmas
+mod PlainChecks

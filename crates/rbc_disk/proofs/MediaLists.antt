@@ -19,4 +19,11 @@ count_at-put f xs i y h =
 pub counts-put : {A : Type 0} (f : A → ℕ) (xs : List A) (i : ℕ) (y : A) → i < length xs → map f (set xs i y) ≡ set (map f xs) i (get_or (map f (set xs i y)) i 0)
 counts-put f xs i y h = map-put f xs i y (get_or (map f (set xs i y)) i 0) (sym (count_at-put f xs i y h))
 
-pub ruleset media_steps = (disk_at-map, map-put, count_at-map, count_at-put, counts-put)
+pub disk_at-put : {A : Type 0} (f : A → Disk) (xs : List A) (i : ℕ) (y : A) → i < length xs → disk_at (map f (set xs i y)) i ≡ f y
+disk_at-put f xs i y h =
+    ap (λ z. get_or z i no_disk) (map-set f xs i y) ∙ get_or-set_same (map f xs) i (f y) no_disk (subst (λ n. i < n) (sym (length-map xs f)) h)
+
+pub disks-put : {A : Type 0} (f : A → Disk) (xs : List A) (i : ℕ) (y : A) → i < length xs → map f (set xs i y) ≡ set (map f xs) i (disk_at (map f (set xs i y)) i)
+disks-put f xs i y h = map-put f xs i y (disk_at (map f (set xs i y)) i) (sym (disk_at-put f xs i y h))
+
+pub ruleset media_steps = (disk_at-map, disk_at-put, disks-put, count_at-map, count_at-put, counts-put)

@@ -1,7 +1,7 @@
 -- Which check ends a command on a unit (RBC; SPC for unit attention): the first that holds.
 use Rattle.std.specs.Prelude.{ℕ, ◌&&◌, not, Bool, true, false, List, [], ◌∷◌, Option, Some, None, is_none, Result, Ok, Err}
 use Rattle.rbc_command.specs.Commands.{operation_in}
-use Rattle.rbc_command.specs.SenseData.{sense, no_command, bad_field}
+use Rattle.rbc_command.specs.SenseData.{no_command, outside, bad_field, no_medium, not_started, was_reset, medium_changed, removal_prevented, is_protected}
 use Rattle.rbc_command.specs.declared.sense.Sense.{Sense}
 use Rattle.rbc_disk.specs.Disk.{Disk, Disc}
 use Rattle.rbc_disk.specs.Units.{PlainDisk, has_place}
@@ -20,7 +20,7 @@ is_empty (disc ∷ shelf) = false
 
 -- a load into an empty tray from an empty shelf
 abbrev pub tray_check : Request → Disk → Option Sense
-tray_check request medium = check_if (is_load request && not medium.is_present && is_empty medium.shelf) (sense 2 0x3a 0) None
+tray_check request medium = check_if (is_load request && not medium.is_present && is_empty medium.shelf) no_medium None
 
 abbrev pub first_of : Option Sense → Option Sense → Option Sense
 first_of (Some check) others = Some check
@@ -29,12 +29,12 @@ first_of None others = others
 -- the checks of a request, in their order
 abbrev pub request_check : Request → BufferPlan → PlainDisk → Option Sense
 request_check request buffer plain =
-    check_if (is_eject request && plain.unit.is_prevented) (sense 5 0x53 2)
+    check_if (is_eject request && plain.unit.is_prevented) removal_prevented
     (first_of (tray_check request plain.medium)
-    (check_if (needs_medium request && not plain.medium.is_present) (sense 2 0x3a 0)
-    (check_if (needs_medium request && not plain.unit.is_started) (sense 2 4 2)
-    (check_if (is_outside request plain.medium.blocks) (sense 5 0x21 0)
-    (check_if (is_write request && plain.medium.is_protected) (sense 7 0x27 0)
+    (check_if (needs_medium request && not plain.medium.is_present) no_medium
+    (check_if (needs_medium request && not plain.unit.is_started) not_started
+    (check_if (is_outside request plain.medium.blocks) outside
+    (check_if (is_write request && plain.medium.is_protected) is_protected
     (check_if (is_unfit request buffer) bad_field None))))))
 
 abbrev pub field_check : Result Request Sense → BufferPlan → PlainDisk → Option Sense
@@ -43,7 +43,7 @@ field_check (Ok request) buffer plain = request_check request buffer plain
 
 -- the marks of the login's place: that of a reset comes first
 abbrev pub mark_check : Bool → Bool → Option Sense
-mark_check reset changed = check_if reset (sense 6 0x29 0) (check_if changed (sense 6 0x28 0) None)
+mark_check reset changed = check_if reset was_reset (check_if changed medium_changed None)
 
 -- INQUIRY is told of no mark
 abbrev pub told_marks : Bool → Option Sense → Option Sense

@@ -4,3 +4,4 @@ pub mod Requests
 pub mod Checks
 pub mod Runs
 pub mod Calls
+pub mod Blocks

@@ -1,15 +1,15 @@
 -- A command runs on a unit: what it needs, how it may end, its answer, and what it leaves.
-use Rattle.std.specs.Prelude.{◌≡◌, ℕ, ◌<◌, ◌≤◌, ◌-◌, ◌==◌, ◌&&◌, Bool, true, false, if◌then◌else◌, List, [], ◌∷◌, ◌++◌, length, take, codes, Option, Some, None, Result, Ok, Err}
+use Rattle.std.specs.Prelude.{◌≡◌, ℕ, ◌<◌, ◌≤◌, ◌-◌, ◌==◌, ◌&&◌, Bool, true, false, if◌then◌else◌, List, [], ◌∷◌, ◌++◌, length, take, codes, IfSome, Option, Some, None, Result, Ok, Err}
 use Rattle.std.specs.Option.{option_map}
-use Rattle.sbp_base.specs.Faults.{Rose}
+use Rattle.sbp_base.specs.Faults.{count_up}
 use Rattle.byteorder.specs.Endian.{big_bytes}
-use Rattle.rbc_command.specs.SenseData.{sense}
+use Rattle.rbc_command.specs.SenseData.{was_reset, medium_changed, read_failed, write_failed}
 use Rattle.rbc_command.specs.declared.command.Command.TheVariants as commands
 use Rattle.rbc_command.specs.declared.sense.Sense.{Sense}
 use Rattle.rbc_disk.specs.Disk.{Disk, blocks_at, written, loaded, ejected}
 use Rattle.rbc_disk.specs.Units.{UnitState, PlainDisk, plain_disk, without_place}
 use Rattle.rbc_disk.specs.Requests.{request_of, data_length, answer_length}
-use Rattle.rbc_disk.specs.Checks.{check_of}
+use Rattle.rbc_disk.specs.Checks.{check_of, tray_check}
 use Rattle.rbc_disk.specs.declared.request.Request.{Request}
 use Rattle.rbc_disk.specs.declared.request.Request.TheVariants as requests
 use Rattle.rbc_disk.specs.declared.command.BufferPlan.{BufferPlan}
@@ -62,9 +62,9 @@ Feeds (Payload len) payload = length payload ≡ len
 
 -- the check of a medium call that fails; without a block there is no call
 abbrev pub failure_in : Request → Option Sense
-failure_in (requests.Plain (commands.Read lba count)) = if count == 0 then None else Some (sense 3 0x11 0)
-failure_in (requests.Plain (commands.Verify lba count)) = if count == 0 then None else Some (sense 3 0x11 0)
-failure_in (requests.Plain (commands.Write lba count)) = if count == 0 then None else Some (sense 3 0x0c 0)
+failure_in (requests.Plain (commands.Read lba count)) = if count == 0 then None else Some read_failed
+failure_in (requests.Plain (commands.Verify lba count)) = if count == 0 then None else Some read_failed
+failure_in (requests.Plain (commands.Write lba count)) = if count == 0 then None else Some write_failed
 failure_in _ = None
 
 abbrev pub failure_by : Result Request Sense → Option Sense
@@ -95,10 +95,9 @@ abbrev pub is_failure : Option Sense → Bool
 is_failure None = false
 is_failure (Some check) = check.key == 3
 
--- A medium call failed only where the medium's count of faults rose.
-pub record HasFailed (ended : Option Sense) (before now : ℕ) : Type 0 where
-  pub later : before ≤ now
-  pub failed : is_failure ended ≡ true → Rose before now
+-- the medium's count of faults after a run: one more where a medium call failed
+abbrev pub count_after_run : Option Sense → ℕ → ℕ
+count_after_run ended before = if is_failure ended then count_up before 1 else before
 
 -- a unit attention
 abbrev pub is_attention : Option Sense → Bool
@@ -174,3 +173,39 @@ unit_after cdb ended place is_bay unit = unit_ended (request_of is_bay cdb) ende
 abbrev pub after_run : List ℕ → List ℕ → Option Sense → ℕ → PlainDisk → PlainDisk
 after_run cdb payload ended place plain =
     plain_disk (unit_after cdb ended place plain.medium.is_bay plain.unit) (medium_after cdb payload ended plain.medium)
+
+-- A request that passed its checks was performed on its medium: how it ended, the length and the bytes of its answer at the front of a room, what it left, and the count of faults. It is told of no unit attention.
+pub record Performs (request : Request) (payload : List ℕ) (old new : Disk) (before now : ℕ) (outcome : Outcome) (room : List ℕ) : Type 0 where
+  pub ended : MayEnd (tray_check request old) (failure_in request) (check_in outcome)
+  pub no_mark : is_attention (check_in outcome) ≡ false
+  pub counted : now ≡ count_after_run (check_in outcome) before
+  pub len : check_in outcome ≡ None → answered_length outcome ≡ answer_length request
+  pub few : answered_length outcome ≤ 16384
+  pub answered : check_in outcome ≡ None → IfSome (answer_in request old) (λ told. take (answered_length outcome) room ≡ told)
+  pub medium : new ≡ medium_ended (Ok request) payload (check_in outcome) old
+
+-- A command of the login at a place ran on a unit and its medium as they stood (old): how it ended, its answer, what it left (new), and the count of the medium's faults before and after it. A run makes at most one medium call that fails, and ends with that call's check.
+pub record HasRun (cdb : List ℕ) (buffer : BufferPlan) (place : ℕ) (payload : List ℕ) (old new : PlainDisk) (before now : ℕ) (outcome : Outcome) (answer : List ℕ) : Type 0 where
+  pub ended : MayEnd (check_of cdb buffer old place) (failure_of old.medium.is_bay cdb) (check_in outcome)
+  pub counted : now ≡ count_after_run (check_in outcome) before
+  pub size : length answer ≡ answered_length outcome
+  pub len : check_in outcome ≡ None → answered_length outcome ≡ answer_length_of old.medium.is_bay cdb
+  pub fits : AnswerFits (answered_length outcome) buffer
+  pub answered : check_in outcome ≡ None → IfSome (answer_of cdb old.medium) (λ told. answer ≡ told)
+  pub medium : new.medium ≡ medium_after cdb payload (check_in outcome) old.medium
+  pub unit : new.unit ≡ unit_after cdb (check_in outcome) place old.medium.is_bay old.unit
+
+-- what a run told: its outcome and its answer
+pub record Told : Type 0 where
+  pub outcome : Outcome
+  pub answer : List ℕ
+
+-- what was told: that of a run, where a command ran
+abbrev pub told_in : Option Outcome → List ℕ → Option Told
+told_in None answer = None
+told_in (Some outcome) answer = Some (record { outcome = outcome; answer = answer })
+
+-- what is left: that of a run, where a command ran
+abbrev pub left_by : Option Outcome → List ℕ → List ℕ → ℕ → PlainDisk → PlainDisk
+left_by None cdb payload place plain = plain
+left_by (Some outcome) cdb payload place plain = after_run cdb payload (check_in outcome) place plain

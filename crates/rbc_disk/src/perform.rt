@@ -1,12 +1,12 @@
-ghost use Rattle.std.specs.Prelude.{◌≡◌, ◌-◌, ◌*◌, ◌≤◌, [], ◌++◌, length, take, min, None, IfSome, true, false, Ok};
+ghost use Rattle.std.specs.Prelude.{◌≡◌, ℕ, List, ◌-◌, ◌*◌, ◌≤◌, [], ◌++◌, length, take, min, None, true};
 ghost use Rattle.byteorder.specs.Endian.{big_bytes};
-ghost use Rattle.rbc_disk.specs.Requests.{Passes, data_length, answer_length};
+ghost use Rattle.rbc_disk.specs.Requests.{Passes, data_length};
 ghost use Rattle.rbc_disk.specs.Checks.{tray_check};
-ghost use Rattle.rbc_disk.specs.Runs.{inquiry_bytes, need_at, Feeds, MayEnd, failure_in, check_in, HasFailed, is_failure, is_attention, answered_length, answer_in, medium_ended};
+ghost use Rattle.rbc_disk.specs.Runs.{inquiry_bytes, need_at, Feeds, Performs};
 
 use crate::command::{BLOCK, Outcome};
 use crate::medium::Medium;
-use crate::request::Request;
+use crate::request::{CAPACITY, INQUIRY, Request};
 use rbc_command::{Command, Sense};
 use sbp_base::{Failed, put_quad};
 
@@ -20,13 +20,7 @@ pub(crate) fn perform(
     requires passes { Passes request (disk medium.old) }
     requires fed { Feeds (need_at (tray_check request (disk medium.old)) (data_length request)) payload.now }
     requires room { length answer.old ≡ 16384 }
-    ensures ended { MayEnd (tray_check request (disk medium.old)) (failure_in request) (check_in result) }
-    ensures no_mark { is_attention (check_in result) ≡ false }
-    ensures cause { HasFailed (check_in result) (media_faults medium.old) (media_faults medium.new) }
-    ensures len { check_in result ≡ None → answered_length result ≡ answer_length request }
-    ensures room { answered_length result ≤ 16384 }
-    ensures answered { check_in result ≡ None → IfSome (answer_in request (disk medium.old)) (λ told. take (answered_length result) answer.new ≡ told) }
-    ensures medium { disk medium.new ≡ medium_ended (Ok request) payload.now (check_in result) (disk medium.old) }
+    ensures { Performs request payload.now (disk medium.old) (disk medium.new) (media_faults medium.old) (media_faults medium.new) result answer.new }
 {
     match request {
         Request::Load => load(medium),
@@ -41,12 +35,7 @@ pub(crate) fn perform(
 /// Loads the tray of a bay; a full tray stays as it is.
 fn load(medium: &mut dyn Medium) -> Outcome
     requires { (disk medium.old).is_bay ≡ true }
-    ensures ended { MayEnd (tray_check Request.Load (disk medium.old)) None (check_in result) }
-    ensures no_mark { is_attention (check_in result) ≡ false }
-    ensures no_failure { is_failure (check_in result) ≡ false }
-    ensures count { media_faults medium.new ≡ media_faults medium.old }
-    ensures len { answered_length result ≡ 0 }
-    ensures medium { disk medium.new ≡ medium_ended (Ok Request.Load) [] (check_in result) (disk medium.old) }
+    ensures { (payload room : List ℕ) → Performs Request.Load payload (disk medium.old) (disk medium.new) (media_faults medium.old) (media_faults medium.new) result room }
 {
     let is_full = medium.is_present();
     let is_moved = medium.load();
@@ -62,13 +51,7 @@ fn transfer(medium: &mut dyn Medium, command: Command, payload: &[u8], answer: &
     requires passes { Passes (Request.Plain command) (disk medium.old) }
     requires fed { Feeds (need_at None (data_length (Request.Plain command))) payload.now }
     requires room { length answer.old ≡ 16384 }
-    ensures ended { MayEnd None (failure_in (Request.Plain command)) (check_in result) }
-    ensures no_mark { is_attention (check_in result) ≡ false }
-    ensures cause { HasFailed (check_in result) (media_faults medium.old) (media_faults medium.new) }
-    ensures len { check_in result ≡ None → answered_length result ≡ answer_length (Request.Plain command) }
-    ensures room { answered_length result ≤ 16384 }
-    ensures answered { check_in result ≡ None → IfSome (answer_in (Request.Plain command) (disk medium.old)) (λ told. take (answered_length result) answer.new ≡ told) }
-    ensures medium { disk medium.new ≡ medium_ended (Ok (Request.Plain command)) payload.now (check_in result) (disk medium.old) }
+    ensures { Performs (Request.Plain command) payload.now (disk medium.old) (disk medium.new) (media_faults medium.old) (media_faults medium.new) result answer.new }
 {
     match command {
         Command::Inquiry { allocation } => inquiry(allocation, answer),
@@ -91,7 +74,7 @@ fn inquiry(allocation: u8, answer: &mut [u8]) -> Outcome
     ensures good { result ≡ Outcome.Good (min allocation 36) }
     ensures answered { take (min allocation 36) answer.new ≡ take allocation inquiry_bytes }
 {
-    let len = allocation.min(36);
+    let len = allocation.min(INQUIRY);
     let size = usize::from(len);
     copy_front(INQUIRY_DATA, size, answer);
     Outcome::Good {
@@ -116,20 +99,16 @@ fn capacity(medium: &dyn Medium, answer: &mut [u8]) -> Outcome
 {
     put_quad(answer, 0, medium.blocks() - 1);
     put_quad(answer, 4, BLOCK);
-    Outcome::Good { answer: 8 }
+    Outcome::Good {
+        answer: u16::from(CAPACITY),
+    }
 }
 
 /// READ: the blocks are the answer. Without a block there is no medium call.
 fn read_blocks(medium: &mut dyn Medium, lba: u32, count: u32, answer: &mut [u8]) -> Outcome
     requires passes { Passes (Request.Plain (Command.Read lba count)) (disk medium.old) }
     requires room { length answer.old ≡ 16384 }
-    ensures ended { MayEnd None (failure_in (Request.Plain (Command.Read lba count))) (check_in result) }
-    ensures no_mark { is_attention (check_in result) ≡ false }
-    ensures cause { HasFailed (check_in result) (media_faults medium.old) (media_faults medium.new) }
-    ensures len { check_in result ≡ None → answered_length result ≡ 512 * count }
-    ensures room { answered_length result ≤ 16384 }
-    ensures answered { check_in result ≡ None → IfSome (answer_in (Request.Plain (Command.Read lba count)) (disk medium.old)) (λ told. take (answered_length result) answer.new ≡ told) }
-    ensures kept { disk medium.new ≡ disk medium.old }
+    ensures { (payload : List ℕ) → Performs (Request.Plain (Command.Read lba count)) payload (disk medium.old) (disk medium.new) (media_faults medium.old) (media_faults medium.new) result answer.new }
 {
     if count == 0 {
         return Outcome::Good { answer: 0 };
@@ -145,11 +124,7 @@ fn read_blocks(medium: &mut dyn Medium, lba: u32, count: u32, answer: &mut [u8])
 fn write_blocks(medium: &mut dyn Medium, lba: u32, count: u32, payload: &[u8]) -> Outcome
     requires passes { Passes (Request.Plain (Command.Write lba count)) (disk medium.old) }
     requires fed { Feeds (need_at None (512 * count)) payload.now }
-    ensures ended { MayEnd None (failure_in (Request.Plain (Command.Write lba count))) (check_in result) }
-    ensures no_mark { is_attention (check_in result) ≡ false }
-    ensures cause { HasFailed (check_in result) (media_faults medium.old) (media_faults medium.new) }
-    ensures len { answered_length result ≡ 0 }
-    ensures medium { disk medium.new ≡ medium_ended (Ok (Request.Plain (Command.Write lba count))) payload.now (check_in result) (disk medium.old) }
+    ensures { (room : List ℕ) → Performs (Request.Plain (Command.Write lba count)) payload.now (disk medium.old) (disk medium.new) (media_faults medium.old) (media_faults medium.new) result room }
 {
     if count == 0 {
         return Outcome::Good { answer: 0 };
@@ -163,11 +138,7 @@ fn write_blocks(medium: &mut dyn Medium, lba: u32, count: u32, payload: &[u8]) -
 /// VERIFY: the medium reads its blocks. Without a block there is no medium call.
 fn verify_blocks(medium: &mut dyn Medium, lba: u32, count: u16) -> Outcome
     requires { Passes (Request.Plain (Command.Verify lba count)) (disk medium.old) }
-    ensures ended { MayEnd None (failure_in (Request.Plain (Command.Verify lba count))) (check_in result) }
-    ensures no_mark { is_attention (check_in result) ≡ false }
-    ensures cause { HasFailed (check_in result) (media_faults medium.old) (media_faults medium.new) }
-    ensures len { answered_length result ≡ 0 }
-    ensures kept { disk medium.new ≡ disk medium.old }
+    ensures { (payload room : List ℕ) → Performs (Request.Plain (Command.Verify lba count)) payload (disk medium.old) (disk medium.new) (media_faults medium.old) (media_faults medium.new) result room }
 {
     if count == 0 {
         return Outcome::Good { answer: 0 };

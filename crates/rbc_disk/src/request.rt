@@ -7,10 +7,10 @@ use crate::command::{BLOCK, BufferPlan};
 use rbc_command::{Cdb, Command, Operation, Sense};
 
 /// Bytes of the inquiry data.
-pub const INQUIRY: u32 = 36;
+pub(crate) const INQUIRY: u8 = 36;
 
 /// Bytes of the answer to READ CAPACITY(10).
-pub const CAPACITY: u32 = 8;
+pub(crate) const CAPACITY: u8 = 8;
 
 /// What a command block asks of a unit.
 #[derive(Clone, Copy, Debug, PartialEq, Eq)]
@@ -119,8 +119,8 @@ impl Request {
         ensures { result ≡ answer_length self }
     {
         match self {
-            Request::Plain(Command::Inquiry { allocation }) => u32::from(allocation).min(INQUIRY),
-            Request::Plain(Command::Capacity) => CAPACITY,
+            Request::Plain(Command::Inquiry { allocation }) => u32::from(allocation.min(INQUIRY)),
+            Request::Plain(Command::Capacity) => u32::from(CAPACITY),
             Request::Plain(Command::Read { count, .. }) => BLOCK * count,
             _ => 0,
         }

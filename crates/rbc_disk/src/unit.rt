@@ -3,6 +3,8 @@ ghost use Rattle.rbc_disk.specs.Units.{new_unit, cleared, changed_for, plain_dis
 ghost use Rattle.rbc_disk.specs.Requests.{is_inquiry, data_length, is_unfit};
 ghost use Rattle.rbc_disk.specs.Runs.{need_at, NeedFits};
 
+mod listed;
+
 use crate::command::{BufferPlan, Need, Outcome};
 use crate::medium::Medium;
 use crate::perform::perform;
@@ -36,7 +38,7 @@ impl Model for Unit {
 impl Unit {
     ghost use Rattle.rbc_disk.specs.Requests.{request_of, is_inquiry, is_load, Passes, data_length, answer_length};
     ghost use Rattle.rbc_disk.specs.Checks.{check_of, tray_check, mark_check, told_marks, request_check};
-    ghost use Rattle.rbc_disk.specs.Runs.{need_of, NeedFits, AnswerFits, Feeds, MayEnd, failure_of, check_in, HasFailed, is_failure, answered_length, answer_length_of, answer_of, medium_after, unit_after, unit_ended, unit_after_check, is_attention};
+    ghost use Rattle.rbc_disk.specs.Runs.{need_of, NeedFits, Feeds, HasRun, check_in, is_failure, answered_length, unit_ended, unit_after_check, is_attention};
 
     /// A unit that is started, not prevented and has no mark.
     pub fn new() -> Unit
@@ -79,13 +81,7 @@ impl Unit {
         requires place { login < 8 }
         requires fed { Feeds (need_of cdb.now buffer (plain_disk self.old (disk medium.old)) login) payload.now }
         requires room { length answer.old ≡ 16384 }
-        ensures ended { MayEnd (check_of cdb.now buffer (plain_disk self.old (disk medium.old)) login) (failure_of (disk medium.old).is_bay cdb.now) (check_in result) }
-        ensures cause { HasFailed (check_in result) (media_faults medium.old) (media_faults medium.new) }
-        ensures len { check_in result ≡ None → answered_length result ≡ answer_length_of (disk medium.old).is_bay cdb.now }
-        ensures fits { AnswerFits (answered_length result) buffer }
-        ensures answered { check_in result ≡ None → IfSome (answer_of cdb.now (disk medium.old)) (λ told. take (answered_length result) answer.new ≡ told) }
-        ensures medium { disk medium.new ≡ medium_after cdb.now payload.now (check_in result) (disk medium.old) }
-        ensures unit { self.new ≡ unit_after cdb.now (check_in result) login (disk medium.old).is_bay self.old }
+        ensures { HasRun cdb.now buffer login payload.now (plain_disk self.old (disk medium.old)) (plain_disk self.new (disk medium.new)) (media_faults medium.old) (media_faults medium.new) result (take (answered_length result) answer.new) }
     {
         match self.admit(medium, login, cdb, buffer) {
             Ok(request) => {

@@ -6,37 +6,14 @@ use Rattle.std.proofs.lemmas.Bool.{false≢true}
 use Rattle.std.proofs.lemmas.List.{length-map}
 use Rattle.std.proofs.lemmas.Slice.Eq.{bytes_eq-Decides}
 use Rattle.std.specs.Str.{bytes_eq}
-use Rattle.sbp_base.specs.Faults.{last_count}
 use Rattle.rbc_disk.specs.Disk.{Disk}
 use Rattle.sbp_journal.specs.Run.{empty_run}
 use Rattle.plain_list.specs.Plain.{held, empty_list, Stands}
+use Rattle.plain_list.proofs.Beginning.{stands_at_first}
 use Rattle.sbp_command.specs.Headline.{Outside, outside, UsageEnds, usage}
 use Rattle.sbp_command.specs.Session.{WritesFront, RunState, InRun}
 use Rattle.sbp_command.specs.declared.status.Status.{Status}
 use Rattle.sbp_command.specs.declared.status.Status.TheVariants as statuses
-
-no_failures : (faults : List ℕ) (u : ℕ) → min (slice_index faults u + 0) last_count ≤ slice_index faults u
-no_failures faults u = omega arith
-
-empty_stands : (disks : List Disk) (faults : List ℕ) → 0 < length disks → 0 < length faults → Stands (held disks faults) (held disks faults) [] empty_list
-empty_stands disks faults some counted = record {
-  lawful = record { form = tt; order = tt; execution = tt; status = tt; answer = tt };
-  login = λ e. absurd (false≢true e);
-  of_appends = refl;
-  of_lists = refl;
-  alone = λ i h. refl;
-  of_ends = refl;
-  of_statuses = refl;
-  count = refl;
-  queued = λ j d h. absurd (omega arith);
-  not_run = λ k h. refl;
-  not_taken = λ k h. refl;
-  unit_is = refl;
-  disks = record { count = refl; each = λ u h. refl };
-  failures = record { each = no_failures faults };
-  some = some;
-  counted = counted;
-}
 
 abbrev pub empty_run_state : RunState
 empty_run_state = record { number = 0; rest = []; list = empty_list }
@@ -53,7 +30,7 @@ begins before some counted = record {
   events_are = refl;
   begun = refl;
   so_far = record {
-    stands = record { begins = refl; moments = empty_stands before.disks before.faults some counted; action = tt };
+    stands = stands_at_first (held before.disks before.faults) some counted;
     written = Appends-nil before.written;
     writes = omega arith;
   };

@@ -1,6 +1,6 @@
 -- The disk fold: what a unit is and what its medium holds, as a fold over the history (RBC). The latest moment stands first.
-use Rattle.std.specs.Prelude.{ℕ, suc, ◌≡◌, ◌<◌, ◌+◌, ◌≤◌, min, if◌then◌else◌, List, [], ◌∷◌, length, slice_index, Some}
-use Rattle.sbp_base.specs.Faults.{last_count}
+use Rattle.std.specs.Prelude.{ℕ, suc, ◌≡◌, ◌<◌, if◌then◌else◌, List, [], ◌∷◌, length, slice_index, Some}
+use Rattle.sbp_base.specs.Faults.{count_up}
 use Rattle.rbc_disk.specs.Disk.{Disk, disk_at, no_disk}
 use Rattle.rbc_disk.specs.Units.{PlainDisk, plain_disk, new_unit}
 use Rattle.rbc_disk.specs.Runs.{after_run, is_failure}
@@ -37,6 +37,6 @@ pub record DisksAre (start : List Disk) (past : List Moment) (disks : List Disk)
   pub count : length disks ≡ length start
   pub each : (u : ℕ) → u < length start → disk_at disks u ≡ disk_of start past u
 
--- the failing runs of each unit are at most as many as its medium's count of faults rose, unless that stands at its last value
+-- the count of each unit's medium rose by the failing runs on the unit, up to its last value
 pub record FailuresFit (before : List ℕ) (past : List Moment) (now : List ℕ) : Type 0 where
-  pub each : (u : ℕ) → min (slice_index before u + failures past u) last_count ≤ slice_index now u
+  pub each : (u : ℕ) → slice_index now u ≡ count_up (slice_index before u) (failures past u)

@@ -1,4 +1,7 @@
-use crate::{BufferPlan, EmptyMedium, FaultyMedium, Medium, Need, Outcome, RamMedium, Sense, Unit};
+use crate::{
+    BufferPlan, EmptyMedium, FaultyMedium, Medium, Need, Outcome, ProtectedMedium, RamMedium,
+    Sense, Unit,
+};
 use sbp_base::NoMemory;
 use std::test::Fail;
 
@@ -14,8 +17,6 @@ const EJECT: [u8; 12] = [0x1b, 0, 0, 0, 2, 0, 0, 0, 0, 0, 0, 0];
 
 const CAPACITY: [u8; 12] = [0x25, 0, 0, 0, 0, 0, 0, 0, 0, 0, 0, 0];
 
-const VERIFY: [u8; 12] = [0x2f, 0, 0, 0, 0, 0, 0, 0, 2, 0, 0, 0];
-
 const WRITE_ALL: [u8; 12] = [0xaa, 0, 0, 0, 0, 0, 0, 0, 0, 32, 0, 0];
 
 const READ_33: [u8; 12] = [0xa8, 0, 0, 0, 0, 0, 0, 0, 0, 0x21, 0, 0];
@@ -23,6 +24,11 @@ const READ_33: [u8; 12] = [0xa8, 0, 0, 0, 0, 0, 0, 0, 0, 0x21, 0, 0];
 /// READ(12) of `count` blocks from block `lba` on.
 const fn read(lba: u8, count: u8) -> [u8; 12] {
     [0xa8, 0, 0, 0, 0, lba, 0, 0, 0, count, 0, 0]
+}
+
+/// VERIFY of `count` blocks from block `lba` on.
+const fn verify(lba: u8, count: u8) -> [u8; 12] {
+    [0x2f, 0, 0, 0, 0, lba, 0, 0, count, 0, 0, 0]
 }
 
 const IN: BufferPlan = BufferPlan {
@@ -218,12 +224,64 @@ fn sixteen_kilobytes(rt: HostRuntime) -> Result<(), Fail> {
     Ok(())
 }
 
-/// The first call of the medium fails: that of a READ, or that of a VERIFY, which so makes it.
+/// A protected medium is read and not written.
+#[test]
+fn a_protected_medium(rt: HostRuntime) -> Result<(), Fail> {
+    let medium = ProtectedMedium::new(rt.alloc(), 64, 0x5a);
+    let mut medium = medium.ok().ok_or("memory")?;
+    let mut answer = vec![in rt.alloc(); 0; 16384]?;
+    let held = vec![in rt.alloc(); 0x5a; 512]?;
+    let cdbs = [WRITE_ALL, read(7, 1)];
+    let ended = run_all(&rt, &mut medium, &cdbs, answer.as_mut_slice());
+    let ended = ended.ok().ok_or("memory")?;
+    assert_eq!(rt;
+        ended.as_slice(),
+        [
+            Outcome::Check(Sense::PROTECTED),
+            Outcome::Good { answer: 512 }
+        ]
+        .as_slice()
+    );
+    assert_eq!(rt; answer.as_slice().get(..512), Some(held.as_slice()));
+    Ok(())
+}
+
+/// Both marks are told, that of the reset first, each once.
+#[test]
+fn both_marks(rt: HostRuntime) -> Result<(), Fail> {
+    let mut unit = Unit::new();
+    let mut medium = RamMedium::new(rt.alloc(), 1, 0).ok().ok_or("memory")?;
+    let mut answer = vec![in rt.alloc(); 0; 16384]?;
+    unit.changed(1);
+    unit.clear(1);
+    let cdbs = [TEST_READY, TEST_READY, TEST_READY];
+    let room = answer.as_mut_slice();
+    let ended = outcomes(&rt, &mut unit, &mut medium, 0, &cdbs, room);
+    let ended = ended.ok().ok_or("memory")?;
+    assert_eq!(rt;
+        ended.as_slice(),
+        [
+            Outcome::Check(Sense::WAS_RESET),
+            Outcome::Check(Sense::MEDIUM_CHANGED),
+            GOOD
+        ]
+        .as_slice()
+    );
+    Ok(())
+}
+
+/// A medium of 64 blocks of 5Ah, of which the call with this number fails.
+fn fails_at(rt: &impl AllocGlobal, call: u32) -> Result<FaultyMedium, NoMemory> {
+    let failing = Vec::from_slice(rt.alloc(), &[call])?;
+    FaultyMedium::new(rt.alloc(), 64, 0x5a, failing)
+}
+
+/// The first call of the medium fails: that of a READ, or of a VERIFY of any place, which so makes it.
 #[test]
 fn first_call_fails(rt: HostRuntime) -> Result<(), Fail> {
     let mut answer = vec![in rt.alloc(); 0; 16384]?;
-    for cdb in [read(0, 1), VERIFY] {
-        let mut medium = first_fails(&rt).ok().ok_or("memory")?;
+    for cdb in [read(0, 1), verify(0, 2), verify(9, 7), verify(63, 1)] {
+        let mut medium = fails_at(&rt, 1).ok().ok_or("memory")?;
         let ended = run_all(&rt, &mut medium, &[cdb, read(0, 1)], answer.as_mut_slice());
         let ended = ended.ok().ok_or("memory")?;
         assert_eq!(rt;
@@ -239,8 +297,39 @@ fn first_call_fails(rt: HostRuntime) -> Result<(), Fail> {
     Ok(())
 }
 
-/// A medium of 64 blocks of 5Ah whose first call fails.
-fn first_fails(rt: &impl AllocGlobal) -> Result<FaultyMedium, NoMemory> {
-    let failing = Vec::from_slice(rt.alloc(), &[1])?;
-    FaultyMedium::new(rt.alloc(), 64, 0x5a, failing)
+/// Commands of no blocks make no call, so that the call that fails is the one behind them.
+#[test]
+fn no_blocks_no_call(rt: HostRuntime) -> Result<(), Fail> {
+    let mut medium = fails_at(&rt, 1).ok().ok_or("memory")?;
+    let mut answer = vec![in rt.alloc(); 0; 16384]?;
+    let cdbs = [TEST_READY, read(5, 0), verify(5, 0), read(0, 1)];
+    let ended = run_all(&rt, &mut medium, &cdbs, answer.as_mut_slice());
+    let ended = ended.ok().ok_or("memory")?;
+    assert_eq!(rt;
+        ended.as_slice(),
+        [GOOD, GOOD, GOOD, Outcome::Check(Sense::READ_FAILED)].as_slice()
+    );
+    Ok(())
+}
+
+/// A WRITE makes one call: the second call that fails is that of the second WRITE, and leaves the
+/// blocks of the first.
+#[test]
+fn second_call_fails(rt: HostRuntime) -> Result<(), Fail> {
+    let mut medium = fails_at(&rt, 2).ok().ok_or("memory")?;
+    let mut answer = vec![in rt.alloc(); 0; 16384]?;
+    let first = vec![in rt.alloc(); 0x33; 16384]?;
+    let second = vec![in rt.alloc(); 0x44; 16384]?;
+    let good = write_all(&mut medium, first.as_slice(), answer.as_mut_slice());
+    assert_eq!(rt; good, Some(GOOD));
+    let failed = write_all(&mut medium, second.as_slice(), answer.as_mut_slice());
+    assert_eq!(rt; failed, Some(Outcome::Check(Sense::WRITE_FAILED)));
+    let ended = run_all(&rt, &mut medium, &[read(31, 1)], answer.as_mut_slice());
+    let ended = ended.ok().ok_or("memory")?;
+    assert_eq!(rt;
+        ended.as_slice(),
+        [Outcome::Good { answer: 512 }].as_slice()
+    );
+    assert_eq!(rt; answer.as_slice().get(..512), first.as_slice().get(..512));
+    Ok(())
 }

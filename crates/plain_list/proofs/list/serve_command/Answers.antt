@@ -19,5 +19,5 @@ returns-clause-served g c =
       unit_is = run.ensures.unit;
       disks = run.ensures.disks;
       faults = run.ensures.faults;
-      cause = run.ensures.cause;
+      counts = run.ensures.counts;
     }

@@ -1,8 +1,7 @@
-ghost use Rattle.std.specs.Prelude.{◌≡◌, ℕ, ◌<◌, ◌≤◌, length, take, map, slice_set, slice_index, IfSome, None};
+ghost use Rattle.std.specs.Prelude.{◌≡◌, ◌<◌, length, take, map, slice_set, slice_index};
 ghost use Rattle.rbc_disk.specs.Disk.{disk_at};
 ghost use Rattle.rbc_disk.specs.Units.{plain_disk};
-ghost use Rattle.rbc_disk.specs.Checks.{check_of};
-ghost use Rattle.rbc_disk.specs.Runs.{need_of, NeedFits, AnswerFits, Feeds, MayEnd, failure_of, check_in, HasFailed, answered_length, answer_length_of, answer_of, medium_after, unit_after};
+ghost use Rattle.rbc_disk.specs.Runs.{need_of, NeedFits, Feeds, HasRun, answered_length};
 
 use crate::command::{BufferPlan, Need, Outcome};
 use crate::medium::Medium;
@@ -36,13 +35,7 @@ fn run_boxed(
     requires place { login < 8 }
     requires fed { Feeds (need_of cdb.now buffer (plain_disk unit.old (disk medium.old)) login) payload.now }
     requires room { length answer.old ≡ 16384 }
-    ensures ended { MayEnd (check_of cdb.now buffer (plain_disk unit.old (disk medium.old)) login) (failure_of (disk medium.old).is_bay cdb.now) (check_in result) }
-    ensures cause { HasFailed (check_in result) (media_faults medium.old) (media_faults medium.new) }
-    ensures len { check_in result ≡ None → answered_length result ≡ answer_length_of (disk medium.old).is_bay cdb.now }
-    ensures fits { AnswerFits (answered_length result) buffer }
-    ensures answered { check_in result ≡ None → IfSome (answer_of cdb.now (disk medium.old)) (λ told. take (answered_length result) answer.new ≡ told) }
-    ensures medium { disk medium.new ≡ medium_after cdb.now payload.now (check_in result) (disk medium.old) }
-    ensures unit { unit.new ≡ unit_after cdb.now (check_in result) login (disk medium.old).is_bay unit.old }
+    ensures { HasRun cdb.now buffer login payload.now (plain_disk unit.old (disk medium.old)) (plain_disk unit.new (disk medium.new)) (media_faults medium.old) (media_faults medium.new) result (take (answered_length result) answer.new) }
 {
     unit.run(&mut **medium, login, cdb, buffer, payload, answer)
 }
@@ -83,14 +76,9 @@ impl Unit {
         requires fed { Feeds (need_of cdb.now buffer (plain_disk self.old (disk_at (map disk media.old.items) index)) login) payload.now }
         requires room { length answer.old ≡ 16384 }
         ensures count { length media.new.items ≡ length media.old.items }
-        ensures ended { MayEnd (check_of cdb.now buffer (plain_disk self.old (disk_at (map disk media.old.items) index)) login) (failure_of (disk_at (map disk media.old.items) index).is_bay cdb.now) (check_in result) }
-        ensures cause { HasFailed (check_in result) (slice_index (map media_faults media.old.items) index) (slice_index (map media_faults media.new.items) index) }
-        ensures len { check_in result ≡ None → answered_length result ≡ answer_length_of (disk_at (map disk media.old.items) index).is_bay cdb.now }
-        ensures fits { AnswerFits (answered_length result) buffer }
-        ensures answered { check_in result ≡ None → IfSome (answer_of cdb.now (disk_at (map disk media.old.items) index)) (λ told. take (answered_length result) answer.new ≡ told) }
-        ensures media { map disk media.new.items ≡ slice_set (map disk media.old.items) index (medium_after cdb.now payload.now (check_in result) (disk_at (map disk media.old.items) index)) }
+        ensures ran { HasRun cdb.now buffer login payload.now (plain_disk self.old (disk_at (map disk media.old.items) index)) (plain_disk self.new (disk_at (map disk media.new.items) index)) (slice_index (map media_faults media.old.items) index) (slice_index (map media_faults media.new.items) index) result (take (answered_length result) answer.new) }
+        ensures media { map disk media.new.items ≡ slice_set (map disk media.old.items) index (disk_at (map disk media.new.items) index) }
         ensures counts { map media_faults media.new.items ≡ slice_set (map media_faults media.old.items) index (slice_index (map media_faults media.new.items) index) }
-        ensures unit { self.new ≡ unit_after cdb.now (check_in result) login (disk_at (map disk media.old.items) index).is_bay self.old }
     {
         run_boxed(self, &mut media[index], login, cdb, buffer, payload, answer)
     }
