@@ -65,6 +65,8 @@ fn numbers_of_the_bus(rt: HostRuntime) -> Result<(), Fail> {
     assert_eq!(rt; last.plus(1), None);
     assert_eq!(rt; Offset::new(0x1_0000_0000_0000), None);
     assert_eq!(rt; Generation::first().next().number(), 1);
+    assert_eq!(rt; Speed::S100.largest(), 512);
+    assert_eq!(rt; Speed::S200.largest(), 1024);
     assert_eq!(rt; Speed::S400.largest(), 2048);
     Ok(())
 }
