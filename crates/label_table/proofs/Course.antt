@@ -49,7 +49,7 @@ start_kept requester = record {
   };
 }
 
-serves_free : (number : ℕ) (bytes : List ℕ) (place : Place) → serves number bytes place ≡ true → is_free place.state ≡ true
+pub serves_free : (number : ℕ) (bytes : List ℕ) (place : Place) → serves number bytes place ≡ true → is_free place.state ≡ true
 serves_free number bytes place s = grind arith
 
 serves_differs : (number : ℕ) (bytes : List ℕ) (place : Place) → serves number bytes place ≡ true → is_write bytes ≡ true → is_last place.last (with_label number bytes) ≡ false

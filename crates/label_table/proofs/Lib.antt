@@ -8,5 +8,11 @@ pub mod Sources
 pub mod Course
 pub mod Laws
 pub mod Layers
+pub mod Lives
+pub mod Told
+pub mod Calls
+pub mod Handles
+pub mod Answered
 pub mod Relabelled
+pub mod Rewritten
 pub mod Last

@@ -1,14 +1,14 @@
 -- Places that are given to nodes: a change in the place of one node is seen by that node alone.
 use Rattle.std.specs.Prelude.{◌≡◌, ◌≢◌, ℕ, ◌<◌, not, nat_eq, Bool, true, false, cond, List, length, position, slice_set, slice_index_or, Option, Some, None, refl}
 use Rattle.std.specs.List.{position_or_len}
-use Rattle.std.proofs.Common.{arith, sym, ◌∙◌, ap}
+use Rattle.std.proofs.Common.{arith, sym, ◌∙◌, ap, subst}
 use Rattle.std.proofs.lemmas.Grind.{common_steps}
 use Rattle.std.proofs.lemmas.List.Sums.{prefix_len_passes}
 use Rattle.std.proofs.lemmas.List.Quantifiers.{position-Some}
 use Rattle.std.proofs.lemmas.List.Folds.{position_or_len-set}
 use Rattle.std.proofs.Math.ListN.{length-set}
 use Rattle.std.proofs.lemmas.List.{get_or-set_same, get_or-set_other}
-use Rattle.label_table.specs.Owned.{is_same_node, or_else, is_owned_by, owned_place, shown_in}
+use Rattle.label_table.specs.Owned.{is_same_node, or_else, is_owned_by, owned_place, shown_in, shown}
 
 position_set : {A : Type 0} (p : A → Bool) (xs : List A) (i : ℕ) (y d : A) → p y ≡ p (slice_index_or xs i d) → position p (slice_set xs i y) ≡ position p xs
 position_set p xs i y d e = let f = position_or_len-set p xs i y d e in let g = length-set xs i y in rw (f, g)
@@ -77,10 +77,6 @@ holds owner d t xs k e = holds_in owner d t xs k _ refl e
 abbrev pub IsBlank : {A B : Type 0} → (A → Option ℕ) → (A → B) → A → B → List A → Type 0
 IsBlank owner look d blank xs = (k : ℕ) → owner (slice_index_or xs k d) ≡ None → look (slice_index_or xs k d) ≡ blank
 
--- what the place of a node shows
-abbrev pub shown : {A B : Type 0} → (A → Option ℕ) → (A → B) → A → B → ℕ → List A → B
-shown owner look d blank s xs = shown_in look d blank (owned_place owner s xs) xs
-
 blank_in : {A B : Type 0} (owner : A → Option ℕ) (look : A → B) (d : A) (blank : B) (xs : List A) → IsBlank owner look d blank xs → (free : Option ℕ) → position (is_owned_by owner None) xs ≡ free → shown_in look d blank free xs ≡ blank
 blank_in owner look d blank xs b None e = refl
 blank_in owner look d blank xs b (Some k) e = let p = position-Some (is_owned_by owner None) xs k d e in b k (is_none _ p.1)
@@ -131,3 +127,27 @@ other_shown owner look d blank s t xs k y b e o n =
     let new : is_owned_by owner (Some s) y ≡ false = grind arith in
     let same = position_set (is_owned_by owner (Some s)) xs k y d (new ∙ sym (h.others s n)) in
     other_by owner look d blank s t xs k y _ b h.below o (h.others s n) refl same
+
+set_shown_by : {A B : Type 0} (owner : A → Option ℕ) (look : A → B) (d : A) (blank : B) (t s : ℕ) (xs : List A) (k : ℕ) (y : A) (same : Bool) → IsBlank owner look d blank xs → owned_place owner s xs ≡ Some k → owner y ≡ Some s → nat_eq t s ≡ same → shown owner look d blank t (slice_set xs k y) ≡ cond same (look y) (shown owner look d blank t xs)
+set_shown_by owner look d blank t s xs k y true b e o same =
+    let i : s ≡ t = grind arith in
+    subst (λ u. shown owner look d blank u (slice_set xs k y) ≡ look y) i (own_shown owner look d blank s xs k y e o)
+set_shown_by owner look d blank t s xs k y false b e o same =
+    let i : t ≢ s = λ m. grind arith in other_shown owner look d blank t s xs k y b e o i
+
+-- what each node sees once the place of one is changed
+pub set_shown : {A B : Type 0} (owner : A → Option ℕ) (look : A → B) (d : A) (blank : B) (t s : ℕ) (xs : List A) (k : ℕ) (y : A) → IsBlank owner look d blank xs → owned_place owner s xs ≡ Some k → owner y ≡ Some s → shown owner look d blank t (slice_set xs k y) ≡ cond (nat_eq t s) (look y) (shown owner look d blank t xs)
+set_shown owner look d blank t s xs k y b e o = set_shown_by owner look d blank t s xs k y _ b e o refl
+
+owner_by : (o : Option ℕ) (s : ℕ) → is_same_node o (Some s) ≡ true → o ≡ Some s
+owner_by None s e = cc
+owner_by (Some t) s e = let i : t ≡ s = grind arith in ap Some i
+
+owner_in : {A : Type 0} (owner : A → Option ℕ) (d : A) (s : ℕ) (xs : List A) (k : ℕ) (known : Option ℕ) → position (is_owned_by owner (Some s)) xs ≡ known → or_else known (position (is_owned_by owner None) xs) ≡ Some k → owner (slice_index_or xs k d) ≢ None → owner (slice_index_or xs k d) ≡ Some s
+owner_in owner d s xs k None e h n = absurd (n (is_none _ (position-Some (is_owned_by owner None) xs k d h).1))
+owner_in owner d s xs k (Some j) e h n = owner_by _ s (position-Some (is_owned_by owner (Some s)) xs k d (e ∙ h)).1
+
+-- a place that is not vacant is the node's own
+pub owner_found : {A : Type 0} (owner : A → Option ℕ) (d : A) (s : ℕ) (xs : List A) (k : ℕ) → owned_place owner s xs ≡ Some k → owner (slice_index_or xs k d) ≢ None → owner (slice_index_or xs k d) ≡ Some s
+unfolding owned_place
+owner_found owner d s xs k e n = owner_in owner d s xs k _ refl e n

@@ -1,13 +1,15 @@
 -- What a call does to the place of each label.
-use Rattle.std.specs.Prelude.{◌≡◌, ◌≢◌, ℕ, suc, ◌+◌, ◌*◌, ◌%◌, ◌^◌, ◌<◌, ◌≤◌, Bool, true, false, cond, List, [], ◌∷◌, length, slice_set, slice_index_or, Some, refl}
-use Rattle.std.proofs.Common.{arith, subst}
+use Rattle.std.specs.Prelude.{◌≡◌, ◌≢◌, ℕ, suc, ◌+◌, ◌*◌, ◌%◌, ◌^◌, ◌<◌, ◌≤◌, Bool, true, false, cond, List, [], ◌∷◌, length, slice_set, slice_index_or, nat_eq, Some, refl}
+use Rattle.std.proofs.Common.{arith, sym, ap, subst}
 use Rattle.std.proofs.lemmas.Grind.{common_steps}
 use Rattle.std.proofs.lemmas.List.{get_or_past}
 use Rattle.label_table.specs.declared.place.Place.{Place}
+use Rattle.async_packet.specs.Labels.{LabelParts}
+use Rattle.label_table.specs.declared.place.LabelState.{LabelState}
 use Rattle.label_table.specs.declared.place.LabelState.TheVariants as states
 use Rattle.label_table.specs.declared.reply.ReplyKind.{ReplyKind}
 use Rattle.label_table.specs.Requests.{label_of, with_label, is_write}
-use Rattle.label_table.specs.Table.{Table, serves, lowest_from, unused, place_at, with_place}
+use Rattle.label_table.specs.Table.{Table, serves, lowest_from, unused, place_at, with_place, has_serial, is_current, handle}
 use Rattle.label_table.specs.Once.{upd}
 use Rattle.async_packet.specs.Fields.{tcode_of}
 
@@ -59,3 +61,33 @@ tcode_with number bytes h =
 pub write_with : (number : ℕ) (bytes : List ℕ) → 12 ≤ length bytes → is_write (with_label number bytes) ≡ is_write bytes
 unfolding is_write
 write_with number bytes h = rw (tcode_with number bytes h)
+
+-- a place's state changes
+pub state_placed : (table : Table) (n m : ℕ) (place : Place) → n < length table.places → (place_at (with_place table n place) m).state ≡ cond (nat_eq m n) place.state (place_at table m).state
+state_placed table n m place h = let p = place_set table n m place h in grind arith
+
+-- the transaction of a handle that is current
+pub record Current (table : Table) (label : LabelParts) : Type 0 where
+  pub kind : ReplyKind
+  pub waits : (place_at table label.number).state ≡ states.UnderWay kind label.serial
+  pub same : label ≡ handle table label.number label.serial
+
+has_serial_is : (state : LabelState) (serial : ℕ) → has_serial state serial ≡ true → (kind : ReplyKind) × (state ≡ states.UnderWay kind serial)
+has_serial_is states.Free serial e = cc
+has_serial_is states.Resting serial e = cc
+has_serial_is (states.UnderWay kind r) serial e = let i : r ≡ serial = grind arith in (kind, ap (states.UnderWay kind) i)
+
+pub current_is : (table : Table) (label : LabelParts) → is_current table label ≡ true → Current table label
+unfolding is_current
+current_is table label e =
+    let h = has_serial_is (place_at table label.number).state label.serial (grind arith) in
+    let g : table.generation ≡ label.generation = grind arith in
+    record { kind = h.0; waits = h.1; same = ap (λ n. record { number = label.number; generation = n; serial = label.serial }) (sym g) }
+
+serial_self : (kind : ReplyKind) (r : ℕ) → has_serial (states.UnderWay kind r) r ≡ true
+serial_self kind r = grind arith
+
+pub current_not : (table : Table) (label : LabelParts) (kind : ReplyKind) → is_current table label ≡ false → table.generation ≡ label.generation → (place_at table label.number).state ≢ states.UnderWay kind label.serial
+unfolding is_current
+current_not table label kind e g w =
+    let h : has_serial (place_at table label.number).state label.serial ≡ true = rw w (serial_self kind label.serial) in grind arith

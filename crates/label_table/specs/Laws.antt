@@ -3,6 +3,7 @@ use Rattle.std.specs.Prelude.{◌≡◌, ℕ, ◌<◌, ◌≤◌, ◌↔◌, tru
 use Rattle.std.specs.List.{All}
 use Rattle.async_packet.specs.declared.packet.Header.{Header}
 use Rattle.async_packet.specs.Packet.{Packet, write_quadlet, write_block, write_response, read_quadlet, read_block, read_quadlet_response, read_block_response, lock, lock_response}
+use Rattle.async_packet.specs.Canon.{IsValid, canon}
 use Rattle.async_packet.specs.Spells.{Spells}
 use Rattle.async_packet.specs.Fields.{header_of}
 use Rattle.label_table.specs.declared.place.Place.{Place}
@@ -58,3 +59,12 @@ relabelled number (lock_response header rcode extended payload) = lock_response 
 abbrev pub RelabelledLaw : Type 0
 RelabelledLaw =
     (bytes : List ℕ) (p : Packet) (number : ℕ) → All (λ byte. byte < 256) bytes → number < 64 → Spells bytes p → Spells (with_label number bytes) (relabelled number p)
+
+-- Writing a label into the canonical bytes of a packet gives those of the same packet with this label,
+-- which is valid. The label that was written last counts; a label has 6 bits, and bytes stay bytes.
+pub record WritesLabels : Type 0 where
+  pub canonical : (p : Packet) (number : ℕ) → IsValid p → number < 64 → with_label number (canon p) ≡ canon (relabelled number p)
+  pub valid : (p : Packet) (number : ℕ) → IsValid p → number < 64 → IsValid (relabelled number p)
+  pub last : (bytes : List ℕ) (number before : ℕ) → with_label number (with_label before bytes) ≡ with_label number bytes
+  pub small : (bytes : List ℕ) → label_of bytes < 64
+  pub bytes : (bytes : List ℕ) (number : ℕ) → All (λ byte. byte < 256) bytes → number < 64 → All (λ byte. byte < 256) (with_label number bytes)

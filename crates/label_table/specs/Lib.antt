@@ -1,5 +1,6 @@
 pub mod Requests
 pub mod Table
+pub mod Handles
 pub mod Owned
 pub mod Filter
 pub mod Bodies
@@ -9,3 +10,4 @@ pub mod Layer
 pub mod Once
 pub mod Laws
 pub mod Last
+pub mod History

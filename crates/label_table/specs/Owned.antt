@@ -23,3 +23,7 @@ module _ {A : Type 0} (owner : A → Option ℕ) where
 abbrev pub shown_in : {A B : Type 0} → (A → B) → A → B → Option ℕ → List A → B
 shown_in look vacant blank None places = blank
 shown_in look vacant blank (Some place) places = look (slice_index_or places place vacant)
+
+-- what the place of a node shows
+abbrev pub shown : {A B : Type 0} → (A → Option ℕ) → (A → B) → A → B → ℕ → List A → B
+shown owner look vacant blank node places = shown_in look vacant blank (owned_place owner node places) places

@@ -4,7 +4,10 @@ use Rattle.async_packet.specs.Labels.{LabelParts}
 use Rattle.label_table.specs.declared.reply.ReplyKind.{ReplyKind}
 use Rattle.label_table.specs.declared.reply.NoLabel.{NoLabel}
 use Rattle.label_table.specs.declared.reply.Stale.{Stale}
-use Rattle.label_table.specs.Table.{Table, new_table, begin_step, close_step, expire_step, is_current, clear_step}
+use Rattle.label_table.specs.declared.place.LabelState.{LabelState}
+use Rattle.label_table.specs.declared.place.LabelState.TheVariants as states
+use Rattle.label_table.specs.Owned.{shown}
+use Rattle.label_table.specs.Table.{Table, new_table, place_at, begin_step, close_step, expire_step, is_current, clear_step}
 
 -- The peer that has the place; its table; and, by label, what the transaction under way is for, or
 -- nothing where it is for nobody.
@@ -68,3 +71,13 @@ module _ {P : Type 0} where
     table = clear_step place.table generation;
     purposes = replicate 64 None;
   }
+
+  -- by peer and label: its state, its last request, and what its transaction under way is for
+  abbrev pub state_for : List (PeerPlace P) → ℕ → ℕ → LabelState
+  state_for places peer number = shown peer_of (λ place. (place_at place.table number).state) no_peer states.Free peer places
+
+  abbrev pub last_for : List (PeerPlace P) → ℕ → ℕ → Option (List ℕ)
+  last_for places peer number = shown peer_of (λ place. (place_at place.table number).last) no_peer None peer places
+
+  abbrev pub purpose_for : List (PeerPlace P) → ℕ → ℕ → Option P
+  purpose_for places peer number = shown peer_of (λ place. purpose_at place number) no_peer None peer places

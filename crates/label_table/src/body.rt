@@ -21,7 +21,7 @@ pub enum RequestBody<'a> {
 }
 
 impl<'a> RequestBody<'a> {
-    /// The request with this header.
+    /// The request with this header. Reading an offset shows the prover that it has 48 bits.
     pub(crate) fn packet(&self, header: Header) -> PacketRef<'a>
         requires header { FitsHeader header }
         requires body { FitsBody (body_of self.now) }

@@ -34,7 +34,7 @@ impl Seen {
         ensures { IfOk result (λ seen. seen ≡ new_filter) }
     {
         let mut sources = Vec::new(alloc);
-        for place in 0..SOURCES {
+        for _ in 0..SOURCES {
             sources.push(SourceRequests::new(alloc)?)?;
         }
         Ok(Seen { sources })

@@ -1,4 +1,6 @@
-ghost use Rattle.label_table.specs.Laws.{CrowdedLaw, HeaderLaw, LabelLaw, LowestLaw, RelabelledLaw};
+ghost use Rattle.label_table.specs.Laws.{CrowdedLaw, HeaderLaw, LabelLaw, LowestLaw, RelabelledLaw, WritesLabels};
+ghost use Rattle.label_table.specs.Handles.{HandleLaw};
+ghost use Rattle.label_table.specs.History.{AskedLaw, RememberedLaw, ToldLaw};
 ghost use Rattle.label_table.specs.Last.{LastLaw};
 ghost use Rattle.label_table.specs.Once.{OnceLaw};
 
@@ -42,4 +44,35 @@ pub fn label_respelled()
 /// the bytes of that last request, and has then its rcode.
 pub fn last_request_decides()
     ensures { LastLaw }
+{}
+
+/// The law of a node's transactions, over every list of calls of its transaction layer. What is
+/// closed or expires is what was asked for, once, or is for nobody once it was disowned; two that are
+/// under way with one peer have different labels; and after a later generation is seen, none from
+/// before is.
+pub fn transactions_are_told<P>()
+    ensures { ToldLaw P }
+{}
+
+/// The law that a label written into a packet's canonical bytes gives those of the packet with it.
+pub fn labels_are_written()
+    ensures { WritesLabels }
+{}
+
+/// The law of handles, over every list of calls of a table of labels: their serials differ, and one
+/// that is stale stays so, also where the table is cleared in between.
+pub fn handles_are_apart()
+    ensures { HandleLaw }
+{}
+
+/// The law that a request is remembered with the rcode of its answer, over every list of calls of a
+/// transaction layer, until the next request of its source and label is answered, or a later
+/// generation is seen.
+pub fn answers_are_remembered<P>()
+    ensures { RememberedLaw P }
+{}
+
+/// The law that what is asked of a peer is the canonical request to it, with the handle's label.
+pub fn requests_are_canonical<P>()
+    ensures { AskedLaw P }
 {}

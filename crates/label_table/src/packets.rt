@@ -15,7 +15,7 @@ fn header_to(source: NodeId, destination: NodeId, label: u8) -> Header
     ensures value { result ≡ header_to source destination label }
     ensures fits { FitsHeader result }
 {
-    // IDs have 16 bits.
+    // Reading the IDs shows the prover that they have 16 bits.
     let _source = source.raw();
     let _destination = destination.raw();
     Header {

@@ -60,7 +60,7 @@ impl SourceRequests {
         ensures { IfOk result (λ place. place ≡ no_source) }
     {
         let mut requests = Vec::new(alloc);
-        for number in 0..LABELS {
+        for _ in 0..LABELS {
             requests.push(Remembered::new(alloc)?)?;
         }
         Ok(SourceRequests {

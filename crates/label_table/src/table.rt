@@ -38,7 +38,7 @@ impl Labels {
         ensures { IfOk result (λ labels. labels ≡ new_table) }
     {
         let mut places = Vec::new(alloc);
-        for number in 0..LABELS {
+        for _ in 0..LABELS {
             places.push(Place::new(alloc)?)?;
         }
         Ok(Labels {
@@ -129,8 +129,8 @@ impl Labels {
         ensures most { result ≤ 64 }
     {
         let mut count = 0;
-        for number in 0..LABELS {
-            if self.places[number].is_free() {
+        for place in self.places.iter() {
+            if place.is_free() {
                 count += 1;
             }
         }
