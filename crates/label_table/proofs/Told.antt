@@ -91,10 +91,12 @@ under_way_is over u = absurd u
 
 -- it did not begin before, and no other with that peer has its label
 begun_told : {P : Type 0} {g : ℕ} {state : ℕ → ℕ → LabelState} {purpose : ℕ → ℕ → Option P} {count : ℕ → ℕ} {life : ℕ → LabelParts → Life P} → Agree g state purpose count life → (s : ℕ) (l : LabelParts) → l.generation ≡ g → count s ≤ l.serial → ((k : ReplyKind) (r : ℕ) → state s l.number ≢ states.UnderWay k r) → (life s l ≡ not_begun) × ((other : LabelParts) → IsUnderWay (life s other) → other.number ≢ l.number)
-begun_told {state = state} {life = life} a s l gen low free =
-    (a.fresh s l gen low, λ other u e.
-        let w = under_way_is (life s other) u in
-        free w.0 other.serial (ap (state s) (sym e) ∙ a.stands s other w.0 w.1 w.2))
+begun_told {state = state} {life = life} a s l gen low free = (
+  a.fresh s l gen low,
+  λ other u e.
+      let w = under_way_is (life s other) u in
+      free w.0 other.serial (ap (state s) (sym e) ∙ a.stands s other w.0 w.1 w.2),
+)
 
 -- a transaction with a peer begins
 pub begun_kept : {P : Type 0} (layer : Layer P) (notes : List (Told P)) (s k n : ℕ) (bytes : List ℕ) (for : P) → Kept layer notes → owned_place peer_of s layer.peers ≡ Some k → lowest_from 0 bytes (peer_at layer k).table.places ≡ Some n → Kept (asked_at k layer (begun_for (peer_at layer k) s for (begin_at (Some n) (peer_at layer k).table bytes))).1 (began s (handle (peer_at layer k).table n (peer_at layer k).table.calls) (kind_of bytes) for ∷ notes)

@@ -81,14 +81,17 @@ fn clear(labels: &mut Labels) -> Result<(), &'static str> {
     Ok(())
 }
 
-/// A handle made before `clear` is stale, also for the same number.
+/// A handle made before `clear`, which frees its resting label, is stale, also for the same number.
 #[test]
 fn stale_label(rt: HostRuntime) -> Result<(), Fail> {
     let mut labels = Labels::new(rt.alloc()).map_err(|_| "memory")?;
     let mut bytes = DOORBELL;
     let early = begin(&mut labels, &mut bytes)?.map_err(|_| "label")?;
     assert_eq!(rt; early.number(), 0);
+    assert_eq!(rt; expire(&mut labels, early)?, Ok(()));
+    assert_eq!(rt; labels.free(), 63);
     clear(&mut labels)?;
+    assert_eq!(rt; labels.free(), 64);
     let late = begin(&mut labels, &mut bytes)?.map_err(|_| "label")?;
     assert_eq!(rt; late.number(), 0);
     assert_eq!(rt; expire(&mut labels, early)?, Err(Stale));

@@ -84,6 +84,7 @@ impl<P: Copy> Transactions<P> {
         requires { self.old.calls < 2 ^ 56 }
         ensures step { (finding_of result, self.new) ≡ judging_step self.old generation bytes.now }
         ensures lent { IsLent bytes.now (finding_of result) }
+        ensures count { self.new.calls ≤ self.old.calls + 1 }
     {
         if generation != self.generation {
             return Judgement::Generation;
@@ -163,6 +164,7 @@ impl<P: Copy> Transactions<P> {
         requires body { FitsBody (body_of body.now) }
         ensures step { IfOk result (λ asked. (asked, self.new) ≡ asking_step self.old peer (body_of body.now) purpose) }
         ensures failed { OnErr result (self.new ≡ self.old) }
+        ensures risen { self.new.calls ≤ self.old.calls + 1 }
     {
         let Some(place) = place_for(&self.peers, peer) else {
             return Ok(None);
@@ -185,6 +187,7 @@ impl<P: Copy> Transactions<P> {
         requires { self.old.calls < 2 ^ 56 }
         ensures step { (result, self.new) ≡ expiring_step self.old peer label }
         ensures refused { OnErr result (self.new ≡ self.old) }
+        ensures count { self.new.calls ≤ self.old.calls + 1 }
     {
         let Some(place) = place_for(&self.peers, peer) else {
             return Err(Stale);
@@ -223,7 +226,8 @@ impl<P: Copy> Transactions<P> {
     #[tactic(auto, unfolding(crate::specs::Layer::seeing_step), using(crate::proofs::Layers::sound_seen))]
     pub fn see(&mut self, generation: Generation, node: NodeId) -> bool
         requires { self.old.calls < 2 ^ 56 }
-        ensures { (result, self.new) ≡ seeing_step self.old generation node }
+        ensures step { (result, self.new) ≡ seeing_step self.old generation node }
+        ensures count { self.new.calls ≤ self.old.calls + 1 }
     {
         if generation.number() <= self.generation.number() {
             return false;
@@ -242,6 +246,7 @@ impl<P: Copy> Transactions<P> {
         requires { self.old.calls < 2 ^ 56 }
         ensures step { (result, self.new) ≡ closing_step self.old peer number kind }
         ensures refused { IfNone result (self.new ≡ self.old) }
+        ensures count { self.new.calls ≤ self.old.calls + 1 }
     {
         let place = place_for(&self.peers, peer)?;
         let closed = self.peers[place].close(number, kind)?;
