@@ -1,7 +1,10 @@
 //! The laws of a journal's text: it determines the notes, so that of a lawful run its journal, and the
-//! runs of equal bytes in it are the maximal ones. Their proofs read each line back.
+//! runs of equal bytes in it are the maximal ones. Their proofs read each line back. Beside them stand worked examples of every line.
 #![tactic(auto)]
 
 mod laws;
 
 pub use laws::{maximal_runs, text_determines_journal, text_determines_notes};
+
+#[cfg(test)]
+mod tests;

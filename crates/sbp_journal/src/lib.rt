@@ -22,6 +22,3 @@ pub use operation::{FunctionWord, OpWord, Operation};
 pub use outbox::{Outbox, Outgoing};
 pub use side::Side;
 pub use text::write_note;
-
-#[cfg(test)]
-mod tests;

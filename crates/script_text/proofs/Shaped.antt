@@ -9,17 +9,18 @@ use Rattle.script_words.specs.declared.fault.LineFault.TheVariants as faults
 use Rattle.script_text.specs.declared.row.Row.{Row}
 use Rattle.script_text.specs.declared.row.Row.TheVariants as rows
 use Rattle.script_text.specs.declared.row.Placing.{Placing}
-use Rattle.script_text.specs.declared.verb.Verb.{Verb}
-use Rattle.script_text.specs.declared.verb.Verb.TheVariants as verbs
-use Rattle.script_text.specs.declared.verb.Form.{Form}
-use Rattle.script_text.specs.declared.verb.Form.TheVariants.{Ten, Twelve}
+use Rattle.script_words.specs.declared.verb.Verb.{Verb}
+use Rattle.script_words.specs.declared.verb.Verb.TheVariants as verbs
+use Rattle.script_words.specs.declared.verb.Form.{Form}
+use Rattle.script_words.specs.declared.verb.Form.TheVariants.{Ten, Twelve}
 use Rattle.script_text.specs.declared.column.Column.{Column}
 use Rattle.script_text.specs.declared.column.Column.TheVariants.{Number, Node, Mode, Key, Packet, VerbWord, Data}
-use Rattle.script_text.specs.declared.column.FixedWord.TheVariants.{Seg, Pay}
+use Rattle.script_words.specs.declared.fixed.FixedWord.TheVariants.{Seg, Pay}
 use Rattle.script_words.specs.Words.{◌>>=◌, number, is_between, value, numbers, hex_bytes}
 use Rattle.script_words.specs.Payload.{bytes_of, pieces, segments_of, summing, lengths, has_count, is_whole, piece_bytes}
-use Rattle.script_text.specs.Rows.{take_all, takes, are_shaped, has_shape, verb_of, verb_columns, command_ends, login_ends}
-use Rattle.script_text.specs.Commands.{command, reading_blocks, verifying_blocks, writing_blocks, with_end, segments, max_payload, behind, cmd_of}
+use Rattle.script_words.specs.Verbs.{verb_of}
+use Rattle.script_text.specs.Rows.{take_all, takes, are_shaped, has_shape, verb_columns, command_ends, login_ends}
+use Rattle.script_words.specs.Commands.{command, reading_blocks, verifying_blocks, writing_blocks, with_end, segments, max_payload, behind, cmd_of}
 use Rattle.script_text.specs.Line.{OnlyRange, event_of, reset, seen, injected, all_differ}
 use Rattle.script_text.proofs.Shapes.{any_and}
 

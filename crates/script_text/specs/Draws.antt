@@ -4,8 +4,8 @@ use Rattle.sbp_journal.specs.declared.event.Cmd.{Cmd}
 use Rattle.sbp_journal.specs.declared.event.Action.TheVariants as actions
 use Rattle.sbp_journal.specs.declared.event.Event.TheVariants as events
 use Rattle.script_text.specs.declared.turn.Turn.{Turn}
-use Rattle.script_text.specs.declared.verb.Form.TheVariants.{Ten}
-use Rattle.script_text.specs.Commands.{addressed_block, bringing, sending}
+use Rattle.script_words.specs.declared.verb.Form.TheVariants.{Ten}
+use Rattle.script_words.specs.Commands.{addressed_block, bringing, sending}
 
 -- A draw first steps the state, and then gives a number below m of the new state.
 unfoldable pub next : ℕ → ℕ

@@ -1,5 +1,4 @@
 pub mod Rows
-pub mod Commands
 pub mod Line
 pub mod Script
 pub mod Draws

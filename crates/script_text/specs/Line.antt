@@ -18,12 +18,13 @@ use Rattle.script_text.specs.declared.row.Placing.{Placing}
 use Rattle.script_text.specs.declared.row.Placing.TheVariants as placings
 use Rattle.script_text.specs.declared.row.Fate.{Fate}
 use Rattle.script_text.specs.declared.row.Fate.TheVariants as fates
-use Rattle.script_text.specs.declared.column.FixedWord.TheVariants.{Pass}
+use Rattle.script_words.specs.declared.fixed.FixedWord.TheVariants.{Pass}
 use Rattle.script_text.specs.declared.column.Column.TheVariants.{Number, Data}
-use Rattle.script_text.specs.declared.verb.Form.TheVariants.{Ten}
+use Rattle.script_words.specs.declared.verb.Form.TheVariants.{Ten}
 use Rattle.script_words.specs.Words.{◌>>=◌, words, word_at, number, numbers, hex_bytes, sized_bytes}
-use Rattle.script_text.specs.Rows.{row_of, verb_of, has_shape, take_all}
-use Rattle.script_text.specs.Commands.{cmd_of, behind, writing_blocks}
+use Rattle.script_text.specs.Rows.{row_of, has_shape, take_all}
+use Rattle.script_words.specs.Verbs.{verb_of}
+use Rattle.script_words.specs.Commands.{cmd_of, behind, writing_blocks}
 
 -- ---- the event of a row
 

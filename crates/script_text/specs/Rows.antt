@@ -7,19 +7,14 @@ use Rattle.script_text.specs.declared.row.Act.TheVariants as acts
 use Rattle.script_text.specs.declared.row.OrbAct.TheVariants as orb_acts
 use Rattle.script_text.specs.declared.row.Placing.TheVariants as placings
 use Rattle.script_text.specs.declared.row.Fate.TheVariants as fates
-use Rattle.script_text.specs.declared.verb.Verb.{Verb}
-use Rattle.script_text.specs.declared.verb.Verb.TheVariants as verbs
+use Rattle.script_words.specs.declared.verb.Verb.{Verb}
+use Rattle.script_words.specs.declared.verb.Verb.TheVariants as verbs
 use Rattle.script_text.specs.declared.column.Column.{Column}
 use Rattle.script_text.specs.declared.column.Column.TheVariants.{Number, Node, Mode, Fixed, Key, Packet, VerbWord, Data, Lengths}
-use Rattle.script_text.specs.declared.column.FixedWord.{FixedWord}
-use Rattle.script_text.specs.declared.column.FixedWord.TheVariants.{Excl, Pass, Seg, Pay}
+use Rattle.script_words.specs.declared.fixed.FixedWord.TheVariants.{Excl, Pass, Seg, Pay}
+use Rattle.script_words.specs.Verbs.{look, verb_of, fixed_word}
 use Rattle.script_words.specs.Words.{word_at, is_numeral, is_hex, is_key}
 use Rattle.script_words.specs.Payload.{is_data, are_lengths}
-
--- what a word stands for in a table
-abbrev pub look : {A : Type 0} → List (List ℕ × A) → List ℕ → Option A
-look [] word = None
-look (entry ∷ entries) word = if bytes_eq word entry.0 then Some entry.1 else look entries word
 
 -- the first words of lines on the run and the bus
 unfoldable pub bus_rows : List (List ℕ × Row)
@@ -74,34 +69,6 @@ list_rows =
 abbrev pub row_of : List ℕ → Option Row
 row_of word = look (bus_rows ++ packet_rows ++ act_rows ++ list_rows) word
 
--- the commands without blocks
-unfoldable pub plain_verbs : List (List ℕ × Verb)
-plain_verbs =
-    (codes "tur", verbs.Ready)
-    ∷ (codes "inquiry", verbs.Inquiry)
-    ∷ (codes "start", verbs.Start)
-    ∷ (codes "stop", verbs.Stop)
-    ∷ (codes "eject", verbs.Eject)
-    ∷ (codes "load", verbs.Load)
-    ∷ (codes "prevent", verbs.Prevent)
-    ∷ (codes "allow", verbs.Allow)
-    ∷ (codes "capacity", verbs.Capacity)
-    ∷ (codes "sync", verbs.Sync)
-    ∷ []
-
--- the commands on blocks
-unfoldable pub block_verbs : List (List ℕ × Verb)
-block_verbs =
-    (codes "read", verbs.Read)
-    ∷ (codes "read12", verbs.Read12)
-    ∷ (codes "verify", verbs.Verify)
-    ∷ (codes "write", verbs.Write)
-    ∷ (codes "write12", verbs.Write12)
-    ∷ []
-
-abbrev pub verb_of : List ℕ → Option Verb
-verb_of word = look (plain_verbs ++ block_verbs) word
-
 -- LBA is 0 to 4294967295, COUNT is 0 to 32
 abbrev pub verb_columns : Option Verb → List Column
 verb_columns (Some verbs.Read) = Number ∷ Number ∷ []
@@ -139,12 +106,6 @@ abbrev pub ends : Row → List (List Column)
 ends rows.Login = login_ends
 ends (rows.Command placing) = command_ends
 ends _ = [] ∷ []
-
-abbrev pub fixed_word : FixedWord → List ℕ
-fixed_word Excl = codes "excl"
-fixed_word Pass = codes "pass"
-fixed_word Seg = codes "seg"
-fixed_word Pay = codes "pay"
 
 -- what each column takes
 abbrev pub takes : Column → List ℕ → Bool

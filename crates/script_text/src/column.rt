@@ -1,3 +1,5 @@
+use script_words::FixedWord;
+
 /// What may stand as one word of a line.
 #[derive(Clone, Copy)]
 pub enum Column {
@@ -19,13 +21,4 @@ pub enum Column {
     Data,
     /// The lengths of segments, with commas between them.
     Lengths,
-}
-
-/// The words that announce a further word, or stand alone.
-#[derive(Clone, Copy)]
-pub enum FixedWord {
-    Excl,
-    Pass,
-    Seg,
-    Pay,
 }

@@ -3,13 +3,10 @@ ghost use Rattle.std.specs.List.{list_any};
 ghost use Rattle.script_text.specs.Line as spec;
 ghost use Rattle.script_words.specs.Words.{shown, numbers};
 
-use crate::column::FixedWord;
-use crate::command::{behind, cmd_of};
 use crate::row::{Act, Fate, OrbAct, Placing, Row};
-use crate::verb::verb_of;
 use sbp_base::Bytes;
 use sbp_journal::{Action, Cmd, Event};
-use script_words::{LineFault, bytes_of_hex, key_of, number};
+use script_words::{FixedWord, LineFault, behind, bytes_of_hex, cmd_of, key_of, number, verb_of};
 use std::alloc::Global;
 
 /// The highest number of an initiator, and of a unit.

@@ -2,7 +2,6 @@
 #![tactic(auto)]
 
 mod column;
-mod command;
 mod drill;
 mod event;
 mod laws;
@@ -10,7 +9,6 @@ mod line;
 mod row;
 mod shape;
 mod turn;
-mod verb;
 
 pub use drill::{Drill, drill_line};
 pub use laws::{only_silent_lines_say_nothing, shaped_words_are_read};

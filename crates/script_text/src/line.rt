@@ -3,13 +3,11 @@ ghost use Rattle.std.specs.List.{list_all};
 ghost use Rattle.script_text.specs.Line as spec;
 ghost use Rattle.script_text.specs.Line.{reading, write_words};
 
-use crate::command::writing_blocks;
 use crate::event::event_of;
 use crate::row::{Row, row_of};
 use crate::shape::{has_shape, is_write};
-use crate::verb::Form;
 use sbp_journal::{Cmd, Event};
-use script_words::{LineFault, parts_of};
+use script_words::{Form, LineFault, parts_of, writing_blocks};
 use std::alloc::Global;
 
 /// The most bytes of a line.

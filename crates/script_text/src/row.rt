@@ -1,6 +1,7 @@
 ghost use Rattle.std.specs.Prelude.{◌≡◌};
 ghost use Rattle.script_text.specs.Rows as tables;
-ghost use Rattle.script_text.specs.Rows.{look, bus_rows, packet_rows, act_rows, list_rows};
+ghost use Rattle.script_words.specs.Verbs.{look};
+ghost use Rattle.script_text.specs.Rows.{bus_rows, packet_rows, act_rows, list_rows};
 
 /// The rows of the script.
 #[derive(Clone, Copy)]

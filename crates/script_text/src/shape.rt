@@ -1,13 +1,15 @@
 ghost use Rattle.std.specs.Prelude.{◌≡◌, ◌≤◌, [], ◌∷◌};
 ghost use Rattle.std.specs.List.{list_any};
+ghost use Rattle.script_words.specs.Verbs as named;
 ghost use Rattle.script_text.specs.Rows as tables;
 ghost use Rattle.script_text.specs.Rows.{ends, login_ends, command_ends};
 ghost use Rattle.script_words.specs.Words.{shown, word_at};
 
-use crate::column::{Column, FixedWord};
+use crate::column::Column;
 use crate::row::Row;
-use crate::verb::{Verb, verb_of};
-use script_words::{are_lengths, is_data, is_hex, is_key, is_numeral};
+use script_words::{
+    FixedWord, Verb, are_lengths, fixed_word, is_data, is_hex, is_key, is_numeral, verb_of,
+};
 
 /// Whether words have the shape of a row, on a bus of so many initiators.
 pub(crate) fn has_shape(row: Row, initiators: u8, words: &[&[u8]]) -> bool
@@ -46,7 +48,7 @@ fn id_columns(initiators: u8) -> &'static [Column]
 
 /// The columns of a command: an initiator, a verb, and the columns of that verb.
 fn command_columns(words: &[&[u8]]) -> &'static [Column]
-    ensures { result.now ≡ Column.Number ∷ Column.VerbWord ∷ tables.verb_columns (tables.verb_of (word_at (shown words.now) 1)) }
+    ensures { result.now ≡ Column.Number ∷ Column.VerbWord ∷ tables.verb_columns (named.verb_of (word_at (shown words.now) 1)) }
 {
     let verb = match words {
         [_, verb, ..] => *verb,
@@ -170,18 +172,6 @@ fn takes(column: Column, word: &[u8]) -> bool
         Column::VerbWord => verb_of(word).is_some(),
         Column::Data => is_data(word),
         Column::Lengths => are_lengths(word),
-    }
-}
-
-/// The bytes of a fixed word.
-pub(crate) fn fixed_word(fixed: FixedWord) -> &'static [u8]
-    ensures { result.now ≡ tables.fixed_word fixed }
-{
-    match fixed {
-        FixedWord::Excl => b"excl",
-        FixedWord::Pass => b"pass",
-        FixedWord::Seg => b"seg",
-        FixedWord::Pay => b"pay",
     }
 }
 

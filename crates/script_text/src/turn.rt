@@ -1,10 +1,9 @@
 ghost use Rattle.std.specs.Prelude.{◌≡◌, ◌<◌, IfOk};
 ghost use Rattle.script_text.specs.Draws as spec;
 
-use crate::command::{addressed_block, bringing, sending};
-use crate::verb::Form;
 use sbp_base::{Bytes, NoMemory};
 use sbp_journal::{Action, Cmd, Event};
+use script_words::{Form, addressed_block, bringing, sending};
 use std::alloc::Global;
 
 /// One line of a drill, and the state behind it.

@@ -1,2 +1,4 @@
 pub mod Words
 pub mod Payload
+pub mod Verbs
+pub mod Commands

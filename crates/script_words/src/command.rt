@@ -1,15 +1,16 @@
 ghost use Rattle.std.specs.Prelude.{◌≡◌, ◌≢◌, ◌≤◌, length};
 ghost use Rattle.std.specs.Option.{option_map};
-ghost use Rattle.script_text.specs.Commands as spec;
+ghost use Rattle.script_words.specs.Commands as spec;
 ghost use Rattle.script_words.specs.Words.{shown};
 
-use crate::column::FixedWord;
-use crate::shape::fixed_word;
+use crate::fault::LineFault;
+use crate::fixed::{FixedWord, fixed_word};
+use crate::payload::{data_of, segments_of};
 use crate::verb::{Form, Verb};
+use crate::words::number;
 use byteorder::{BigEndian, ByteOrder};
 use sbp_base::{Bytes, Lengths};
 use sbp_journal::Cmd;
-use script_words::{LineFault, data_of, number, segments_of};
 use std::alloc::Global;
 
 /// The field max_payload of the ORB of a command where nothing else is said: 2,048 bytes a packet.
@@ -22,7 +23,7 @@ const MOST_BLOCKS: u32 = 32;
 const BLOCK: usize = 512;
 
 /// A CMD: its verb, and the words behind it.
-pub(crate) fn cmd_of(alloc: Global, verb: Verb, words: &[&[u8]]) -> Result<Cmd, LineFault>
+pub fn cmd_of(alloc: Global, verb: Verb, words: &[&[u8]]) -> Result<Cmd, LineFault>
     ensures { result ≢ Err LineFault.NoMemory → result ≡ spec.cmd_of (Some verb) (shown words.now) }
 {
     let cmd = command(alloc, verb, words)?;
@@ -78,7 +79,7 @@ fn verifying_blocks(alloc: Global, words: &[&[u8]]) -> Result<Cmd, LineFault>
 }
 
 /// A write of the blocks that `LBA DATA` spell.
-pub(crate) fn writing_blocks(
+pub fn writing_blocks(
     alloc: Global,
     form: Form,
     opcode: u8,
@@ -103,7 +104,7 @@ fn plain_block(opcode: u8, fourth: u8) -> [u8; 12]
 }
 
 /// A command block with an address in bytes 2 to 5, and a count of blocks behind it.
-pub(crate) fn addressed_block(form: Form, opcode: u8, lba: u32, count: u32) -> [u8; 12]
+pub fn addressed_block(form: Form, opcode: u8, lba: u32, count: u32) -> [u8; 12]
     requires { count ≤ 32 }
     ensures { result ≡ spec.addressed_block form opcode lba count }
 {
@@ -134,7 +135,7 @@ fn twelve_block(opcode: u8, lba: u32, count: u32) -> [u8; 12]
 }
 
 /// A command that brings so many bytes to the initiator.
-pub(crate) fn bringing(alloc: Global, cdb: [u8; 12], length: u16) -> Cmd
+pub fn bringing(alloc: Global, cdb: [u8; 12], length: u16) -> Cmd
     ensures { result ≡ spec.bringing cdb length }
 {
     Cmd {
@@ -148,7 +149,7 @@ pub(crate) fn bringing(alloc: Global, cdb: [u8; 12], length: u16) -> Cmd
 }
 
 /// A command that sends bytes.
-pub(crate) fn sending(alloc: Global, cdb: [u8; 12], bytes: Bytes) -> Cmd
+pub fn sending(alloc: Global, cdb: [u8; 12], bytes: Bytes) -> Cmd
     requires { length bytes ≤ 16384 }
     ensures { result ≡ spec.sending cdb bytes }
 {
@@ -197,7 +198,7 @@ fn max_payload(word: Option<&[u8]>) -> Result<u8, LineFault>
 }
 
 /// The word behind the first one that is `fixed`.
-pub(crate) fn behind<'a>(fixed: FixedWord, words: &[&'a [u8]]) -> Option<&'a [u8]>
+pub fn behind<'a>(fixed: FixedWord, words: &[&'a [u8]]) -> Option<&'a [u8]>
     ensures { option_map (λ word. word.now) result ≡ spec.behind fixed (shown words.now) }
 {
     match words {

@@ -1,5 +1,5 @@
 use Rattle.std.proofs.Common.{length}
-use Rattle.script_text.proofs.command.+behind.Given as goal
+use Rattle.script_words.proofs.command.+behind.Given as goal
 
 abbrev pub decreases-behind : goal.decreases-behind
 decreases-behind l = length l.words.now

@@ -4,15 +4,15 @@ use Rattle.byteorder.specs.Endian.{big_bytes}
 use Rattle.sbp_journal.specs.declared.event.Cmd.{Cmd}
 use Rattle.script_words.specs.declared.fault.LineFault.{LineFault}
 use Rattle.script_words.specs.declared.fault.LineFault.TheVariants as faults
-use Rattle.script_text.specs.declared.column.FixedWord.{FixedWord}
-use Rattle.script_text.specs.declared.column.FixedWord.TheVariants.{Seg, Pay}
-use Rattle.script_text.specs.declared.verb.Verb.{Verb}
-use Rattle.script_text.specs.declared.verb.Verb.TheVariants as verbs
-use Rattle.script_text.specs.declared.verb.Form.{Form}
-use Rattle.script_text.specs.declared.verb.Form.TheVariants.{Ten, Twelve}
+use Rattle.script_words.specs.declared.fixed.FixedWord.{FixedWord}
+use Rattle.script_words.specs.declared.fixed.FixedWord.TheVariants.{Seg, Pay}
+use Rattle.script_words.specs.declared.verb.Verb.{Verb}
+use Rattle.script_words.specs.declared.verb.Verb.TheVariants as verbs
+use Rattle.script_words.specs.declared.verb.Form.{Form}
+use Rattle.script_words.specs.declared.verb.Form.TheVariants.{Ten, Twelve}
 use Rattle.script_words.specs.Words.{◌>>=◌, number}
 use Rattle.script_words.specs.Payload.{pieces, bytes_of, segments_of}
-use Rattle.script_text.specs.Rows.{fixed_word}
+use Rattle.script_words.specs.Verbs.{fixed_word}
 
 -- a command block without an address: the opcode, and byte 4
 abbrev pub plain_block : ℕ → ℕ → List ℕ

@@ -1,6 +1,6 @@
 ghost use Rattle.std.specs.Prelude.{◌≡◌};
-ghost use Rattle.script_text.specs.Rows as tables;
-ghost use Rattle.script_text.specs.Rows.{look, plain_verbs, block_verbs};
+ghost use Rattle.script_words.specs.Verbs as tables;
+ghost use Rattle.script_words.specs.Verbs.{look, plain_verbs, block_verbs};
 
 /// The commands that a script names (RBC, and SBC where RBC takes a command from there).
 #[derive(Clone, Copy)]
@@ -33,7 +33,7 @@ pub enum Form {
 
 /// The command that a word names.
 #[tactic(auto, using(crate::proofs::Tables::look_in_turn))]
-pub(crate) fn verb_of(word: &[u8]) -> Option<Verb>
+pub fn verb_of(word: &[u8]) -> Option<Verb>
     ensures { result ≡ tables.verb_of word.now }
 {
     if let Some(verb) = plain_verb(word) {
@@ -42,7 +42,7 @@ pub(crate) fn verb_of(word: &[u8]) -> Option<Verb>
     block_verb(word)
 }
 
-#[tactic(auto, unfolding(crate::specs::Rows::plain_verbs))]
+#[tactic(auto, unfolding(crate::specs::Verbs::plain_verbs))]
 fn plain_verb(word: &[u8]) -> Option<Verb>
     ensures { result ≡ look plain_verbs word.now }
 {
@@ -71,7 +71,7 @@ fn plain_verb(word: &[u8]) -> Option<Verb>
     }
 }
 
-#[tactic(auto, unfolding(crate::specs::Rows::block_verbs))]
+#[tactic(auto, unfolding(crate::specs::Verbs::block_verbs))]
 fn block_verb(word: &[u8]) -> Option<Verb>
     ensures { result ≡ look block_verbs word.now }
 {

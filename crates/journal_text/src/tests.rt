@@ -1,13 +1,13 @@
 ghost use Rattle.std.specs.Prelude.{◌<◌, length};
 ghost use Rattle.sbp_journal.specs.Form.{IsBuffer, IsStatus, HasForm, IsDecision};
 
-use crate::{
-    Cause, CutCause, FunctionWord, Note, NoteBuffer, OpWord, Operation, Outbox, Outgoing, Side,
-    Text, write_note,
-};
 use orb_layout::{FailCause, StatusKind};
 use rbc_command::Sense;
 use sbp_base::{Bytes, NoMemory, NodeId};
+use sbp_journal::{
+    Cause, CutCause, FunctionWord, Note, NoteBuffer, OpWord, Operation, Outbox, Outgoing, Side,
+    Text, write_note,
+};
 use std::alloc::Global;
 use std::process::Abort;
 use std::test::Fail;
