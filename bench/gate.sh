@@ -1,70 +1,59 @@
 #!/usr/bin/env bash
 # What the gate costs, crate by crate, as a Markdown table for docs/gate.md: the processor minutes, user and
-# system, of a crate's own proof from nothing, of its proof once more with its tests, and of its edits, which
-# are tried over the first proof. That is what `rt ci --anew` spends on it, but for running programs and tests.
+# system, that `rt ci --anew` spends on each crate's own proof, on its proof with its tests, and on its edits.
 #
-#   bench/gate.sh            every crate of crates.txt
-#   bench/gate.sh NAME..     these crates
+#   bench/gate.sh            the whole repository
+#   bench/gate.sh NAME..     these crates and those below them
 #
-# It works on a copy of what is committed. The libraries below a crate are built first, and not counted; they
-# may come from what other checks on this machine kept. The timed checks take nothing from anywhere: their
-# kept work is a link to an empty folder, which no check replaces.
+# It runs the gate on a copy of what is committed, proves everything from nothing, and reads four times a
+# second how much processor time each of its provers has used. So what a prover does in its last quarter of a
+# second is missed, and what is built and run is in the row of other work. Other work on the machine makes it
+# longer by the clock, and hardly by processor time. The whole repository takes as long as its gate.
 top=$(cd "$(dirname "$0")/.." && pwd) || exit 1
 work=$(mktemp -d)
 trap 'rm -rf "$work"' EXIT
 git clone -q "$top" "$work/copy" && cd "$work/copy" || exit 1
+ticks=$(getconf CLK_TCK)
 
-# the crates that a crate of the repository names, and those below them, lowest first
-below() {
-    local line name
-    line=$(grep -E "^$1( [a-z].*)?:" crates.txt) || return
-    for name in ${line#*:}; do
-        if [ -d "crates/$name" ]; then
-            below "$name"
-            echo "$name"
+setsid rt ci --anew "$@" > "$work/log" 2>&1 &
+session=$!
+declare -A used row
+while kill -0 "$session" 2> /dev/null; do
+    for process in $(ps -o pid= -s "$session"); do
+        read -r stat 2> /dev/null < "/proc/$process/stat" || continue
+        fields=(${stat##*) })
+        used[$process]=$((fields[11] + fields[12]))
+        if [ -z "${row[$process]}" ]; then
+            words=$(tr '\0' ' ' 2> /dev/null < "/proc/$process/cmdline")
+            place=$(readlink "/proc/$process/cwd")
+            case "$words" in
+                *rattle\ check*--crate-name*) name=${words#*--crate-name }; name=${name%% *} ;;
+                *) row[$process]="other 0"; continue ;;
+            esac
+            kind=1
+            case " $words " in *" --test "*) kind=2 ;; esac
+            case "$place" in */rt-edit*) kind=3 ;; esac
+            row[$process]="$name $kind"
         fi
     done
-}
+    sleep 0.25
+done
+wait "$session"
+status=$?
 
-# takes a crate's kept work away, for good
-from_nothing() {
-    rm -rf "crates/$1/out/incremental" "$work/kept"
-    mkdir -p "$work/kept" "crates/$1/out"
-    ln -s "$work/kept" "crates/$1/out/incremental"
-}
-
-# the processor seconds of a command in a crate's folder; nothing where it fails
-seconds() {
-    (
-        cd "crates/$1" || exit 1
-        shift
-        TIMEFORMAT='%U %S'
-        { time "$@" > "$work/log" 2>&1; } 2> "$work/time" && awk '{ print $1 + $2 }' "$work/time"
-    ) || { tail -n 5 "$work/log" >&2; echo "failed: $*" >&2; }
-}
-
-if [ $# -eq 0 ]; then
-    set -- $(sed -n 's/^\([a-z][a-z0-9_]*\).*:.*/\1/p' crates.txt)
-fi
 echo "| Crate | Proof | With tests | Edits | All |"
 echo "|---|---|---|---|---|"
-for name; do
-    for lower in $(below "$name" | awk '!seen[$0]++'); do
-        [ -e "crates/$lower/out/gate" ] || (cd "crates/$lower" && rt lib > "$work/log" 2>&1 && touch out/gate)
-    done
-    from_nothing "$name"
-    proof=$(seconds "$name" rt check --jobs 1)
-    edits=0
-    if [ -d "crates/$name/must-fail" ]; then
-        edits=$(seconds "$name" rt must-fail --anew "$name")
-    fi
-    tests=0
-    if grep -rq '#\[test\]' "crates/$name/src"; then
-        from_nothing "$name"
-        tests=$(seconds "$name" rt check --test --jobs 1)
-    fi
-    echo "$name ${proof:-?} ${tests:-?} ${edits:-?}" >> "$work/rows"
-    awk -v name="$name" -v p="$proof" -v t="$tests" -v e="$edits" \
-        'BEGIN { printf "| %s | %.1f | %.1f | %.1f | %.1f |\n", name, p / 60, t / 60, e / 60, (p + t + e) / 60 }'
-done
-awk '{ p += $2; t += $3; e += $4 } END { printf "| all | %.1f | %.1f | %.1f | %.1f |\n", p / 60, t / 60, e / 60, (p + t + e) / 60 }' "$work/rows"
+for process in "${!used[@]}"; do
+    echo "${row[$process]} ${used[$process]}"
+done | awk -v ticks="$ticks" '
+    { all[$1] += $3; spent[$1, $2] += $3; sum[$2] += $3; total += $3 }
+    function minutes(n) { return sprintf("%.1f", n / ticks / 60) }
+    END {
+        for (name in all) if (name != "other")
+            print "| " name " | " minutes(spent[name, 1]) " | " minutes(spent[name, 2]) " | " minutes(spent[name, 3]) " | " minutes(all[name]) " |" | "sort"
+        close("sort")
+        print "| other work | | | | " minutes(sum[0]) " |"
+        print "| all | " minutes(sum[1]) " | " minutes(sum[2]) " | " minutes(sum[3]) " | " minutes(total) " |"
+    }'
+tail -n 1 "$work/log"
+exit $status
