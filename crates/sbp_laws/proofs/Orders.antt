@@ -1,6 +1,6 @@
 -- The order law, read in the order of time.
 use Rattle.std.proofs.Common.{◌≡◌, ℕ, suc, ◌<◌, ◌≤◌, Bool, true, false, List, [], ◌∷◌, ◌++◌, refl, ap, ◌∙◌, arith}
-use Rattle.std.specs.Prelude.{◌==◌, if◌then◌else◌, Option, Some, None}
+use Rattle.std.specs.Prelude.{◌==◌, if◌then◌else◌, Some}
 use Rattle.sbp_base.specs.Update.{upd2}
 use Rattle.sbp_journal.specs.Run.{Moment, said}
 use Rattle.sbp_laws.specs.Terms.{appends, ends}
