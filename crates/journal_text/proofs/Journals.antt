@@ -1,5 +1,5 @@
 -- The notes of a lawful run are determined by their text.
-use Rattle.std.proofs.Common.{◌≡◌, List, [], ◌∷◌, ◌++◌, map, reverse}
+use Rattle.std.proofs.Common.{◌≡◌, List, [], ◌∷◌, map, reverse}
 use Rattle.std.specs.List.{AllByRecursion}
 use Rattle.sbp_journal.specs.Run.{Run, Entry, asked, said, history, journal, notes_of}
 use Rattle.sbp_journal.specs.Text.{text_of}

@@ -1,19 +1,19 @@
 -- A line's notes extend a run.
 use Rattle.std.proofs.Common.{◌≡◌, ℕ, zero, suc, ◌+◌, ◌-◌, Bool, true, false, List, [], ◌∷◌, ◌++◌, length, map, reverse, refl, sym, ap, ◌∙◌, subst, arith}
-use Rattle.std.specs.Prelude.{◌==◌, ◌&&◌, min, nat_lt, if◌then◌else◌, Some, Result, Ok, Err, OnOk}
+use Rattle.std.specs.Prelude.{◌==◌, ◌&&◌, min, nat_lt, if◌then◌else◌, Result, Ok, Err, OnOk}
 use Rattle.std.specs.List.{AllByRecursion}
 use Rattle.sbp_journal.specs.Run.{Run, Moment, asked, said, with_entry, history}
 use Rattle.sbp_journal.specs.Written.{IsTyped}
 use Rattle.sbp_journal.proofs.Each.{all_reverse}
-use Rattle.sbp_laws.specs.Terms.{lists, appends, ends, statuses, slots_in_use, status_of}
+use Rattle.sbp_laws.specs.Terms.{lists, appends, ends, statuses, slots_in_use}
 use Rattle.sbp_journal.specs.Form.{HasForm}
-use Rattle.sbp_laws.specs.ActionLaw.{AreServed, none, more, NothingWaits, append_notes, append_or_refusal, served, buffer_of, slots}
+use Rattle.sbp_laws.specs.ActionLaw.{AreServed, none, more, NothingWaits, append_notes, append_or_refusal, buffer_of, slots}
 use Rattle.sbp_journal.specs.declared.event.Cmd.{Cmd}
 use Rattle.sbp_journal.specs.declared.event.Event.{Event}
 use Rattle.sbp_journal.specs.declared.event.Event.TheVariants as events
 use Rattle.sbp_journal.specs.declared.event.Action.TheVariants as actions
 use Rattle.sbp_journal.specs.declared.note.Note.{Note}
-use Rattle.sbp_journal.specs.declared.note.Note.TheVariants.{Begin, Append, Low, Linked, Rung, Ran, Ended, Taken, Settled, Refused}
+use Rattle.sbp_journal.specs.declared.note.Note.TheVariants.{Begin, Append, Low, Linked, Rung, Settled, Refused}
 use Rattle.plain_list.specs.Plain.{PlainState, Held, is_served, is_whole, in_use, with_command, refused_at, after_append, RunsAndTells, Serves, Stands, StandsFor, Settling, HasSettled}
 use Rattle.plain_list.proofs.Standing.{form_status, form_answer, is_buffer, stands_begun, stands_rung, stands_linked, stands_settled, stands_refused, stands_asked, stands_told, stands_appended, stands_served}
 
