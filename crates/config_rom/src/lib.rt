@@ -3,7 +3,7 @@
 
 mod block;
 mod fault;
-mod law;
+mod laws;
 mod plan;
 mod read;
 mod rom;
@@ -12,7 +12,7 @@ mod unit;
 
 pub use block::{Block, Entry, EntryKind};
 pub use fault::RomFault;
-pub use law::{first_unit_found, one_outcome, plan_read_again, reads_rom};
+pub use laws::{first_unit_found, one_outcome, plan_read_again, reads_rom};
 pub use plan::{RomPlan, RomWords, make};
 pub use read::parse;
 pub use rom::Rom;

@@ -168,7 +168,6 @@ fn block_of(quads: &[u32], at: u16, is_directory: bool) -> Block
 }
 
 /// Adds the entries of the directory whose header stands at a position.
-
 fn push_entries(
     entries: &mut Vec<Entry>,
     quads: &[u32],

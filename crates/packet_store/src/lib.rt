@@ -3,7 +3,7 @@
 #![tactic(auto)]
 
 mod index;
-mod law;
+mod laws;
 mod role;
 mod sent;
 mod shelf;
@@ -11,7 +11,7 @@ mod store;
 mod tables;
 mod transaction;
 
-pub use law::{
+pub use laws::{
     closed_by_request, keeps_flights, kept_in_turn, kept_whole, never_again, serials_in_turn,
 };
 pub use role::Role;

@@ -1,5 +1,5 @@
 use Rattle.packet_store.proofs.Calls.{gone_law}
-use Rattle.packet_store.proofs.law.never_again.Goals as goal
+use Rattle.packet_store.proofs.laws.never_again.Goals as goal
 
 pub returns : goal.returns
 returns c = gone_law

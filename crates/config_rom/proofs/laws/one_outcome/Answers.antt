@@ -1,5 +1,5 @@
 use Rattle.config_rom.proofs.Unique.{one-tree, one-fault, tree-or-fault}
-use Rattle.config_rom.proofs.law.one_outcome.Goals as goal
+use Rattle.config_rom.proofs.laws.one_outcome.Goals as goal
 
 pub returns : goal.returns
 returns c = record { tree = one-tree; fault = one-fault; either = tree-or-fault }

@@ -1,5 +1,5 @@
 use Rattle.packet_store.proofs.Calls.{keeps_law}
-use Rattle.packet_store.proofs.law.keeps_flights.Goals as goal
+use Rattle.packet_store.proofs.laws.keeps_flights.Goals as goal
 
 pub returns : goal.returns
 returns c = keeps_law
