@@ -1,4 +1,5 @@
 pub mod Pointers
+pub mod Replies
 pub mod CommandOrbs
 pub mod ManagementOrbs
 pub mod LoginResponses

@@ -1,4 +1,4 @@
--- What ties reading to writing: reading what was written gives the value, whatever stands behind it.
+-- What ties reading to writing: reading what was written gives the value, whatever stands behind it; and of bytes the front alone is read.
 use Rattle.std.specs.Prelude.{◌≡◌, ℕ, ◌<◌, ◌≤◌, List, ◌++◌, length, take, slice_index_or, Some, Ok}
 use Rattle.std.specs.List.{AllByRecursion}
 use Rattle.orb_layout.specs.declared.command.CommandOrb.{CommandOrb}
@@ -6,7 +6,8 @@ use Rattle.orb_layout.specs.declared.management.ManagementOrb.{ManagementOrb}
 use Rattle.orb_layout.specs.declared.login.LoginResponse.{LoginResponse}
 use Rattle.orb_layout.specs.declared.query.QueryEntry.{QueryEntry}
 use Rattle.orb_layout.specs.declared.status.StatusBlock.{StatusBlock}
-use Rattle.orb_layout.specs.CommandOrbs.{IsCommandOrb, read_command, command_bytes}
+use Rattle.orb_layout.specs.CommandOrbs.{IsCommandOrb, read_command, command_orb, command_bytes}
+use Rattle.orb_layout.specs.Pointers.{pointer_at}
 use Rattle.orb_layout.specs.ManagementOrbs.{IsManagementOrb, read_management, management_bytes}
 use Rattle.orb_layout.specs.LoginResponses.{IsLoginResponse, read_login, login_bytes}
 use Rattle.orb_layout.specs.QueryResponses.{IsQueryEntry, query_bytes, query_count, query_entry}
@@ -32,3 +33,10 @@ QueryCountsBack = (logins : List QueryEntry) (kept : ℕ) (rest : List ℕ) → 
 -- Each login stands at its place.
 abbrev pub QueryEntriesReadBack : Type 0
 QueryEntriesReadBack = (logins : List QueryEntry) (at : ℕ) (other : QueryEntry) (rest : List ℕ) → AllByRecursion IsQueryEntry logins → at < length logins → query_entry (query_bytes logins ++ rest) at ≡ slice_index_or logins at other
+
+-- A command ORB is read of its 32 bytes alone, and a pointer at the front of its 8.
+abbrev pub CommandStandsInFront : Type 0
+CommandStandsInFront = (bytes : List ℕ) (kept : ℕ) → 32 ≤ kept → command_orb (take kept bytes) ≡ command_orb bytes
+
+abbrev pub PointerStandsInFront : Type 0
+PointerStandsInFront = (bytes : List ℕ) (kept : ℕ) → 8 ≤ kept → pointer_at (take kept bytes) 0 ≡ pointer_at bytes 0

@@ -1,4 +1,4 @@
-ghost use Rattle.orb_layout.specs.ReadBack.{CommandReadsBack, ManagementReadsBack, LoginReadsBack, StatusReadsBack, QueryCountsBack, QueryEntriesReadBack};
+ghost use Rattle.orb_layout.specs.ReadBack.{CommandReadsBack, CommandStandsInFront, PointerStandsInFront, ManagementReadsBack, LoginReadsBack, StatusReadsBack, QueryCountsBack, QueryEntriesReadBack};
 
 /// Reading the command ORB that was written gives it back.
 #[tactic(auto, using(crate::proofs::Back::command_back))]
@@ -30,4 +30,11 @@ pub fn status_block_reads_back()
 pub fn query_response_reads_back()
     ensures count { QueryCountsBack }
     ensures entries { QueryEntriesReadBack }
+{}
+
+/// A command ORB is read of its 32 bytes alone, and the pointer to the next one of the first 8.
+#[tactic(auto, using(crate::proofs::Front::command_front, crate::proofs::Front::pointer_front))]
+pub fn command_orb_stands_in_front()
+    ensures orb { CommandStandsInFront }
+    ensures next { PointerStandsInFront }
 {}

@@ -17,8 +17,8 @@ pub use ask::{Ask, FailCause, Reply};
 pub use command::CommandOrb;
 pub use fault::OrbFault;
 pub use laws::{
-    command_orb_reads_back, login_response_reads_back, management_orb_reads_back,
-    query_response_reads_back, status_block_reads_back,
+    command_orb_reads_back, command_orb_stands_in_front, login_response_reads_back,
+    management_orb_reads_back, query_response_reads_back, status_block_reads_back,
 };
 pub use login::LoginResponse;
 pub use management::ManagementOrb;
