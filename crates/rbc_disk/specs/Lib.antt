@@ -5,3 +5,4 @@ pub mod Checks
 pub mod Runs
 pub mod Calls
 pub mod Blocks
+pub mod Held

@@ -1,0 +1,3 @@
+mod Writes
+mod Lines
+mod Sessions

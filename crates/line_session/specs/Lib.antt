@@ -1,0 +1,5 @@
+pub mod Lines
+pub mod Outside
+pub mod Meaning
+pub mod Ends
+pub mod Session
