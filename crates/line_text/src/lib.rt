@@ -1,0 +1,11 @@
+//! Lines of text: words that are added to bytes, and digits that are read.
+#![tactic(auto)]
+
+mod digits;
+mod words;
+
+pub use digits::{Digits, DigitsError, NO_DIGITS};
+pub use words::{end_line, push_decimal, push_digits, push_name, push_number, push_payload};
+
+//#[cfg(test)]
+//mod tests;
