@@ -1,0 +1,2 @@
+pub mod RomListing
+pub mod Meaning
