@@ -1,3 +1,3 @@
 mod Writes
 mod Lines
-mod Sessions
+pub mod Sessions

@@ -143,4 +143,3 @@ long_parts rest (p ∷ q ∷ ps) h =
 
 pub long_first : (rest more : List ℕ) → NoFeed rest → is_surely_long rest ≡ true → LongFirst (lines (rest ++ more))
 long_first rest more f h = subst (λ ps. LongFirst (lines_of_parts ps)) (sym (parts-no_feed rest more f)) (long_parts rest (parts_of more) h)
-

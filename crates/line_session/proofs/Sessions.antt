@@ -40,8 +40,8 @@ input_same before bytes bytes' e h = subst (λ x. IfSome before (λ all. all ≡
 end_input : (before now : Option (List ℕ)) (bytes : List ℕ) → Consumes before now (bytes ++ []) → IsAtEnd now → IfSome before (λ all. all ≡ bytes)
 end_input before now bytes h end = input_same before _ bytes (ap (λ left. (bytes ++ []) ++ left) (known_end now end) ∙ append-nil _ ∙ append-nil _) (input_is before now _ h)
 
-rose_later : (before mid now : ℕ) → before ≤ mid → Rose mid now → Rose before now
-rose_later before mid now h r = omega arith
+rose_since : (before mid now : ℕ) → mid ≡ before → Rose mid now → Rose before now
+rose_since before mid now e r = subst (λ n. Rose n now) e r
 
 pub next_number : (n m : ℕ) → n ≡ m → m + 1 ≡ 1 + n
 next_number n m e = omega arith
@@ -64,7 +64,6 @@ drop_whole : (n : ℕ) (xs : List ℕ) → take n xs ≡ xs → drop n xs ≡ []
 drop_whole n xs e = nil_from_length (drop n xs) (omega (arith, sym (ap length e) ∙ length-take n xs, length-drop n xs))
 
 module _ {S : Type 0} (meaning : Meaning S) where
-
   -- ---- where a session stops
 
   -- behind the lines that were served
@@ -89,7 +88,6 @@ module _ {S : Type 0} (meaning : Meaning S) where
   -- ---- a line with its line feed
 
   module _ (before old : Outside) (part pending : List ℕ) (state : SessionState) (server : S) (h : InSession meaning before old (part ++ 10 ∷ pending) state server) (n : NoFeed part) where
-
     taken : (h.whole ++ state.rest) ++ (part ++ 10 ∷ pending) ≡ ((h.whole ++ ((state.rest ++ part) ++ 10 ∷ [])) ++ []) ++ pending
     taken = simp (append_assoc, append-nil)
 
@@ -127,6 +125,7 @@ module _ {S : Type 0} (meaning : Meaning S) where
       refused = refused;
       ran = ran;
       written = h.written;
+      reads = h.reads;
       writes = h.writes;
     }
 
@@ -177,6 +176,7 @@ module _ {S : Type 0} (meaning : Meaning S) where
         refused = subst (λ limit. RefusedFor limit (meaning.refuses (lines h.whole) first.line (long_fault (state.number + 1))) (long_fault (state.number + 1))) (sym (limit-long (1 + length (lines h.whole)) first.line first.long)) (ap long_fault number);
         ran = (server, h.ran);
         written = h.written;
+        reads = h.reads;
         writes = h.writes;
       }
 
@@ -195,7 +195,7 @@ module _ {S : Type 0} (meaning : Meaning S) where
     ran = subst (λ text. meaning.ran before.media (lines h.whole) text server old.media) (ap (λ x. h.front ++ x) (f.parts ∙ ap (λ x. f.front ++ x) f.kept) ∙ sym (append_assoc h.front f.front next.out)) h.ran;
     written = Appends-trans before.written old.written written h.front f.front h.written f.written;
     reads = h.reads;
-    writes = omega (arith, h.writes, f.later);
+    writes = f.ends ∙ h.writes;
   }
 
   flush_torn : {A : Type 0} (status : Status) (before old : Outside) (pending : List ℕ) (state : SessionState) (waits : List ℕ) (server : S) (written : Option (List ℕ)) (writes : ℕ)
@@ -220,7 +220,7 @@ module _ {S : Type 0} (meaning : Meaning S) where
   -- the text that waited could not be written
   pub flush_fails : {A : Type 0} (status : Status) (before old : Outside) (pending : List ℕ) (state : SessionState) (waits : List ℕ) (server : S) (written : Option (List ℕ)) (writes : ℕ)
       → InSession meaning before old pending state server → Flushes {A = A} old.written written old.writes writes (Err status) state.out waits → Ends meaning status before (record old { written = written; writes = writes })
-  flush_fails statuses.WriteFault before old pending state waits server written writes h f = (rose_later before.writes old.writes writes h.writes f.ends, flush_torn statuses.WriteFault before old pending state waits server written writes h f)
+  flush_fails statuses.WriteFault before old pending state waits server written writes h f = (rose_since before.writes old.writes writes h.writes f.ends, flush_torn statuses.WriteFault before old pending state waits server written writes h f)
   flush_fails statuses.NoMemory before old pending state waits server written writes h f = flush_torn statuses.NoMemory before old pending state waits server written writes h f
   flush_fails statuses.Done before old pending state waits server written writes h f = absurd f.ends
   flush_fails statuses.Script before old pending state waits server written writes h f = absurd f.ends
@@ -270,8 +270,9 @@ module _ {S : Type 0} (meaning : Meaning S) where
     ran = h.ran;
     written = subst (Appends before.written written) (ap (λ x. h.front ++ x) w.whole ∙ sym (append_assoc h.front out _) ∙ ap (λ n. (h.front ++ out) ++ fault_text n fault) h.number_is)
         (Appends-trans before.written old.written written h.front _ h.written w.written);
+    no_fault = record { reads = h.reads; writes = w.ends ∙ h.writes };
   }
-  faces_ends statuses.WriteFault before old out number fault written writes h w = (rose_later before.writes old.writes writes h.writes w.ends, faces_torn _ before old out number fault written writes h w)
+  faces_ends statuses.WriteFault before old out number fault written writes h w = (rose_since before.writes old.writes writes h.writes w.ends, faces_torn _ before old out number fault written writes h w)
   faces_ends statuses.NoMemory before old out number fault written writes h w = faces_torn _ before old out number fault written writes h w
   faces_ends statuses.Done before old out number fault written writes h w = absurd w.ends
   faces_ends statuses.ReadFault before old out number fault written writes h w = absurd w.ends
@@ -286,11 +287,11 @@ module _ {S : Type 0} (meaning : Meaning S) where
     at_end = end;
     ran = h.ran;
     written = h.written;
+    reads = h.reads;
     writes = h.writes;
   }
 
   module _ (before old : Outside) (state : SessionState) (server : S) (h : InSession meaning before old [] state server) (end : IsAtEnd old.left) (some : 0 < length state.rest) where
-
     last_line : lines (h.whole ++ state.rest) ≡ lines h.whole ++ state.rest ∷ []
     last_line = lines-whole h.whole state.rest h.is_whole ∙ ap (λ ls. lines h.whole ++ ls) (lines-last_some state.rest h.no_feed some)
 
@@ -302,6 +303,7 @@ module _ {S : Type 0} (meaning : Meaning S) where
       at_end = end;
       ran = subst (λ ls. meaning.ran before.media ls (h.front ++ out) after media) (sym last_line) ran;
       written = h.written;
+      reads = h.reads;
       writes = h.writes;
     }
 
@@ -319,6 +321,7 @@ module _ {S : Type 0} (meaning : Meaning S) where
       refused = refused;
       ran = ran;
       written = h.written;
+      reads = h.reads;
       writes = h.writes;
     }
 
@@ -358,7 +361,7 @@ module _ {S : Type 0} (meaning : Meaning S) where
   -- all lines are served, and their text could not be written whole
   pub close_fails : {A : Type 0} (status : Status) (before old : Outside) (out said : List ℕ) (server : S) (written : Option (List ℕ)) (writes : ℕ) (h : AtEnd meaning before old out server) → meaning.closed (lines h.input) (h.front ++ said) before.media old.media
       → WritesFront {A = A} old.written written old.writes writes (Err status) said → Ends meaning status before (record old { written = written; writes = writes })
-  close_fails statuses.WriteFault before old out said server written writes h closed w = (rose_later before.writes old.writes writes h.writes w.ends, end_torn _ before old out said server written writes h closed w)
+  close_fails statuses.WriteFault before old out said server written writes h closed w = (rose_since before.writes old.writes writes h.writes w.ends, end_torn _ before old out said server written writes h closed w)
   close_fails statuses.NoMemory before old out said server written writes h closed w = end_torn _ before old out said server written writes h closed w
   close_fails statuses.Done before old out said server written writes h closed w = absurd w.ends
   close_fails statuses.Script before old out said server written writes h closed w = absurd w.ends
@@ -371,7 +374,7 @@ module _ {S : Type 0} (meaning : Meaning S) where
   -- ---- reads
 
   -- a piece of the input was read
-  pub piece_read : (before old : Outside) (piece : List ℕ) (state : SessionState) (server : S) (left : Option (List ℕ)) (reads : ℕ) → InSession meaning before old [] state server → Consumes old.left left piece → old.reads ≤ reads
+  pub piece_read : (before old : Outside) (piece : List ℕ) (state : SessionState) (server : S) (left : Option (List ℕ)) (reads : ℕ) → InSession meaning before old [] state server → Consumes old.left left piece → reads ≡ old.reads
       → InSession meaning before (record old { left = left; reads = reads }) piece state server
   piece_read before old piece state server left reads h c later = record {
     whole = h.whole;
@@ -382,7 +385,7 @@ module _ {S : Type 0} (meaning : Meaning S) where
     lines_are = h.lines_are;
     ran = h.ran;
     written = h.written;
-    reads = omega (arith, h.reads);
+    reads = later ∙ h.reads;
     writes = h.writes;
   }
 
@@ -390,7 +393,7 @@ module _ {S : Type 0} (meaning : Meaning S) where
   pub read_fails : (before old : Outside) (state : SessionState) (server : S) (left : Option (List ℕ)) (reads : ℕ) → InSession meaning before old [] state server → state.out ≡ [] → is_surely_long state.rest ≡ false → Consumes old.left left [] → Rose old.reads reads
       → Ends meaning statuses.ReadFault before (record old { left = left; reads = reads })
   read_fails before old state server left reads h none short c rose = (
-    rose_later before.reads old.reads reads h.reads rose,
+    rose_since before.reads old.reads reads h.reads rose,
     record {
       whole = h.whole;
       rest = state.rest;
@@ -415,8 +418,8 @@ module _ {S : Type 0} (meaning : Meaning S) where
     lines_are = refl;
     ran = ran;
     written = Appends-nil before.written;
-    reads = omega arith;
-    writes = omega arith;
+    reads = refl;
+    writes = refl;
   }
 
 -- ---- writes of all that waits
@@ -429,7 +432,6 @@ flushes_all old new before now result waited waits w none = record {
   parts = sym (take-append-drop w.len waited);
   written = w.written;
   kept = kept result w.whole none;
-  later = w.later;
   ends = w.ends;
 }
   where
@@ -439,7 +441,7 @@ flushes_all old new before now result waited waits w none = record {
 
 -- nothing yet
 pub flushes_none : {A : Type 0} (old : Option (List ℕ)) (before : ℕ) (done : A) (waited : List ℕ) → Flushes old old before before (Ok done) waited waited
-flushes_none old before done waited = record { front = []; behind = waited; parts = refl; written = Appends-nil old; kept = refl; later = omega arith; ends = tt }
+flushes_none old before done waited = record { front = []; behind = waited; parts = refl; written = Appends-nil old; kept = refl; ends = refl }
 
 -- ---- what a session can go on from
 

@@ -10,6 +10,11 @@ use Rattle.line_session.specs.Meaning.{Meaning, Refused, Ran, fault_text}
 use Rattle.line_session.specs.declared.status.Status.{Status}
 use Rattle.line_session.specs.declared.status.Status.TheVariants as statuses
 
+-- No call of the source or of the sink failed.
+pub record NoFault (before now : Outside) : Type 0 where
+  pub reads : now.reads ≡ before.reads
+  pub writes : now.writes ≡ before.writes
+
 -- The whole input, where the source tells it, was served, and the sink gained its text with what is said at the end.
 pub record AllServed {S : Type 0} (meaning : Meaning S) (before now : Outside) : Type 0 where
   pub input : List ℕ
@@ -17,6 +22,7 @@ pub record AllServed {S : Type 0} (meaning : Meaning S) (before now : Outside) :
   pub told : IfSome before.left (λ bytes. bytes ≡ input)
   pub closed : meaning.closed (lines input) text before.media now.media
   pub written : Appends before.written now.written text
+  pub no_fault : NoFault before now
 
 -- The input, where the source tells it, was served up to its first faulty line, and the sink gained the text of the lines before it,
 -- and that of the fault.
@@ -32,6 +38,7 @@ pub record Stopped {S : Type 0} (meaning : Meaning S) (before now : Outside) : T
   pub refused : Refused meaning served line fault
   pub ran : Ran meaning before.media served text now.media
   pub written : Appends before.written now.written (text ++ fault_text (1 + length served) fault)
+  pub no_fault : NoFault before now
 
 -- The whole lines that were read were served, and the sink gained their text; a line without its line feed, which may yet be short
 -- enough, was not served.

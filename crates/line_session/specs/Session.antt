@@ -25,9 +25,9 @@ pub record IsReady (state : SessionState) : Type 0 where
 abbrev pub budget : SessionState → ℕ
 budget state = (65537 - state.number) * 8195 - length state.rest
 
--- how a write ended: all is written, or the sink counted a fault, or memory was wanting
+-- how a write ended, by the sink's count of faults: all is written and no fault came, or one came, or memory was wanting
 abbrev pub WriteEnds : {A : Type 0} → Result A Status → ℕ → ℕ → Type 0
-WriteEnds (Ok done) before now = Unit {0}
+WriteEnds (Ok done) before now = now ≡ before
 WriteEnds (Err statuses.WriteFault) before now = Rose before now
 WriteEnds (Err statuses.NoMemory) before now = Unit {0}
 WriteEnds (Err _) before now = ⊥
@@ -37,7 +37,6 @@ pub record WritesFront {A : Type 0} (old new : Option (List ℕ)) (before now : 
   pub len : ℕ
   pub written : Appends old new (take len bytes)
   pub whole : OnOk result (take len bytes ≡ bytes)
-  pub later : before ≤ now
   pub ends : WriteEnds result before now
 
 -- A front of the text that waited was written; where no error came, the rest of it waits.
@@ -47,7 +46,6 @@ pub record Flushes {A : Type 0} (old new : Option (List ℕ)) (before now : ℕ)
   pub parts : waited ≡ front ++ behind
   pub written : Appends old new front
   pub kept : OnOk result (behind ≡ waits)
-  pub later : before ≤ now
   pub ends : WriteEnds result before now
 
 -- what the status of a faulty line says of the write
@@ -66,8 +64,8 @@ pub record InSession {S : Type 0} (meaning : Meaning S) (before now : Outside) (
   pub lines_are : length (lines whole) ≡ state.number
   pub ran : meaning.ran before.media (lines whole) (front ++ state.out) server now.media
   pub written : Appends before.written now.written front
-  pub reads : before.reads ≤ now.reads
-  pub writes : before.writes ≤ now.writes
+  pub reads : now.reads ≡ before.reads
+  pub writes : now.writes ≡ before.writes
 
 -- The next line of the input is the first faulty one.
 pub record Faces {S : Type 0} (meaning : Meaning S) (before now : Outside) (out : List ℕ) (number fault : ℕ) : Type 0 where
@@ -82,7 +80,8 @@ pub record Faces {S : Type 0} (meaning : Meaning S) (before now : Outside) (out 
   pub refused : Refused meaning served line fault
   pub ran : Ran meaning before.media served (front ++ out) now.media
   pub written : Appends before.written now.written front
-  pub writes : before.writes ≤ now.writes
+  pub reads : now.reads ≡ before.reads
+  pub writes : now.writes ≡ before.writes
 
 -- All lines of the input are served.
 pub record AtEnd {S : Type 0} (meaning : Meaning S) (before now : Outside) (out : List ℕ) (server : S) : Type 0 where
@@ -92,7 +91,8 @@ pub record AtEnd {S : Type 0} (meaning : Meaning S) (before now : Outside) (out 
   pub at_end : IsAtEnd now.left
   pub ran : meaning.ran before.media (lines input) (front ++ out) server now.media
   pub written : Appends before.written now.written front
-  pub writes : before.writes ≤ now.writes
+  pub reads : now.reads ≡ before.reads
+  pub writes : now.writes ≡ before.writes
 
 -- the session goes on, or it ended
 abbrev pub GoesOn : {A S : Type 0} → Meaning S → Result A Status → Outside → Outside → List ℕ → SessionState → S → Type 0

@@ -149,7 +149,12 @@ impl Session {
     }
 
     /// Keeps the bytes of a line that has not ended.
-    fn keep<V: Serve, K: Sink>(&mut self, part: &[u8], server: &V, sink: &mut K) -> Result<(), Status>
+    fn keep<V: Serve, K: Sink>(
+        &mut self,
+        part: &[u8],
+        server: &V,
+        sink: &mut K,
+    ) -> Result<(), Status>
         requires ready { IsReady self.old }
         requires feedless { NoFeed part.now }
         ensures ready { OnOk result (IsReady self.new) }

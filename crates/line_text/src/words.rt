@@ -44,7 +44,7 @@ pub fn push_digits(out: &mut Bytes, bytes: &[u8]) -> Result<(), NoMemory>
 }
 
 /// Adds bytes as digits, two for each.
-fn push_hexadecimal(out: &mut Bytes, bytes: &[u8]) -> Result<(), NoMemory>
+pub fn push_hexadecimal(out: &mut Bytes, bytes: &[u8]) -> Result<(), NoMemory>
     ensures { OnOk result (out.new ≡ out.old ++ encode_upper bytes.now) }
 {
     for byte in bytes {

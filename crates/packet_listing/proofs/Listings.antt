@@ -1,5 +1,5 @@
 -- A listing grows by a line.
-use Rattle.std.proofs.Common.{◌≡◌, ◌∙◌, refl, sym, ap, subst, ℕ, suc, ◌+◌, ◌<◌, ◌≤◌, nat_lt, Bool, true, false, if◌then◌else◌, List, [], ◌∷◌, ◌++◌, length, Option, Some, None, Result, Ok, Err, append_assoc, append-nil, add-zero, arith}
+use Rattle.std.proofs.Common.{◌≡◌, ◌∙◌, refl, sym, ap, ℕ, suc, ◌+◌, ◌≤◌, nat_lt, Bool, true, false, if◌then◌else◌, List, [], ◌∷◌, ◌++◌, length, None, Result, Ok, Err, append_assoc, append-nil, add-zero, arith}
 use Rattle.std.proofs.lemmas.Bool.{le-ltb}
 use Rattle.rbc_disk.specs.Held.{Held}
 use Rattle.line_session.specs.Lines.{too_many, too_long}

@@ -7,6 +7,5 @@ mod start;
 
 pub use lister::PacketLister;
 
-
 //#[cfg(test)]
 //mod tests;

@@ -73,7 +73,9 @@ fn push_own(out: &mut Bytes, packet: &PacketRef<'_>) -> Result<(), NoMemory>
     match packet {
         PacketRef::WriteQuadlet { offset, value, .. } => push_written(out, *offset, *value),
         PacketRef::WriteBlock {
-            offset, payload, ..
+            offset,
+            payload,
+            ..
         } => push_block_at(out, *offset, payload),
         PacketRef::WriteResponse { rcode, .. } => push_code(out, *rcode),
         PacketRef::ReadQuadlet { offset, .. } => push_place(out, *offset),
@@ -209,12 +211,7 @@ fn push_block(out: &mut Bytes, rcode: u8, payload: &[u8]) -> Result<(), NoMemory
 }
 
 /// Adds the fields of a lock.
-fn push_lock(
-    out: &mut Bytes,
-    offset: Offset,
-    extended: u8,
-    payload: &[u8],
-) -> Result<(), NoMemory>
+fn push_lock(out: &mut Bytes, offset: Offset, extended: u8, payload: &[u8]) -> Result<(), NoMemory>
     ensures { OnOk result (out.new ≡ out.old ++ rest_of_line (listing.offset offset ∷ Field.number extended ∷ block_fields payload.now (start_word offset))) }
 {
     push_offset(out, offset)?;

@@ -13,8 +13,9 @@ use Rattle.sbp_journal.specs.declared.event.Event.{Event}
 use Rattle.sbp_journal.specs.declared.event.Event.TheVariants as events
 use Rattle.sbp_journal.specs.declared.event.Action.TheVariants as actions
 use Rattle.sbp_journal.specs.declared.note.Note.{Note}
+use Rattle.rbc_disk.specs.Held.{Held}
 use Rattle.sbp_journal.specs.declared.note.Note.TheVariants.{Begin, Append, Low, Linked, Rung, Settled, Refused}
-use Rattle.plain_list.specs.Plain.{PlainState, Held, is_served, is_whole, in_use, with_command, refused_at, after_append, RunsAndTells, Serves, Stands, StandsFor, Settling, HasSettled}
+use Rattle.plain_list.specs.Plain.{PlainState, is_served, is_whole, in_use, with_command, refused_at, after_append, RunsAndTells, Serves, Stands, StandsFor, Settling, HasSettled}
 use Rattle.plain_list.proofs.Standing.{form_status, form_answer, is_buffer, stands_begun, stands_rung, stands_linked, stands_settled, stands_refused, stands_asked, stands_told, stands_appended, stands_served}
 
 -- nothing is served yet

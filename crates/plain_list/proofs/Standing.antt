@@ -24,7 +24,8 @@ use Rattle.sbp_journal.specs.Written.{IsTyped}
 use Rattle.sbp_journal.specs.declared.note.Note.TheVariants.{Begin, Append, Low, Linked, Rung, Ran, Ended, Taken, Settled, Refused}
 use Rattle.sbp_laws.specs.ActionLaw.{buffer_of, in_buffer, out_buffer, served}
 use Rattle.sbp_journal.specs.declared.note.NoteBuffer.TheVariants.{Nothing, In}
-use Rattle.plain_list.specs.Plain.{PlainState, Held, request_of, RunsAndTells, Serves, Stands}
+use Rattle.rbc_disk.specs.Held.{Held}
+use Rattle.plain_list.specs.Plain.{PlainState, request_of, RunsAndTells, Serves, Stands}
 
 -- a term at the ORB where it changed, and elsewhere
 upd3-same : {A : Type 0} (f : ℕ → ℕ → ℕ → A) (k : ℕ) (value : A) → upd3 f 0 0 k value 0 0 k ≡ value

@@ -2,6 +2,7 @@
 use Rattle.std.specs.Prelude.{◌≡◌, ◌≢◌, ℕ, ◌+◌, ◌==◌, ◌&&◌, ◌<◌, ◌≤◌, min, nat_lt, Bool, true, false, if◌then◌else◌, List, [], ◌∷◌, ◌++◌, length, map, slice_set, slice_index, slice_index_or, Option, Some, None}
 use Rattle.std.specs.List.{AllByRecursion}
 use Rattle.rbc_disk.specs.Disk.{Disk, disk_at}
+use Rattle.rbc_disk.specs.Held.{Held}
 use Rattle.rbc_disk.specs.Units.{UnitState, plain_disk, new_unit}
 use Rattle.rbc_disk.specs.Runs.{medium_after, unit_after, count_after_run}
 use Rattle.rbc_command.specs.declared.sense.Sense.{Sense}
@@ -33,14 +34,6 @@ pub record PlainState : Type 0 where
 
 abbrev pub empty_list : PlainState
 empty_list = record { begun = false; waiting = []; appended = 0; ended = 0; unit = new_unit; fresh = [] }
-
--- what the media hold, and their counts of faults
-pub record Held : Type 0 where
-  pub disks : List Disk
-  pub faults : List ℕ
-
-abbrev pub held : List Disk → List ℕ → Held
-held disks faults = record { disks = disks; faults = faults }
 
 -- each ORB has ended or waits, and the largest answer has room
 pub record IsSound (waiting : List Cmd) (ended appended room : ℕ) : Type 0 where

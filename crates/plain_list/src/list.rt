@@ -5,7 +5,8 @@ ghost use Rattle.sbp_journal.specs.Run as journal_runs;
 ghost use Rattle.sbp_journal.specs.Form.{HasForm};
 ghost use Rattle.sbp_journal.specs.Written.{IsTyped};
 ghost use Rattle.sbp_journal.specs.declared.note.Note.TheVariants as notes;
-ghost use Rattle.plain_list.specs.Plain.{empty_list, Held, held, is_whole, initiators, is_served, in_use, RunsAndTells, Serves, StandsFor, Settling, HasSettled, after_append, with_command};
+ghost use Rattle.rbc_disk.specs.Held.{Held, held};
+ghost use Rattle.plain_list.specs.Plain.{empty_list, is_whole, initiators, is_served, in_use, RunsAndTells, Serves, StandsFor, Settling, HasSettled, after_append, with_command};
 
 use crate::run::run_waiting;
 use crate::tell::{tell_append, tell_served};

@@ -1,10 +1,10 @@
 -- The quadlets of lines grow by a line.
-use Rattle.std.proofs.Common.{◌≡◌, ◌∙◌, refl, sym, ap, subst, ℕ, suc, ◌+◌, ◌≤◌, nat_lt, Bool, true, false, if◌then◌else◌, List, [], ◌∷◌, ◌++◌, length, Result, Ok, Err, append-nil, add-zero, arith}
+use Rattle.std.proofs.Common.{◌≡◌, ◌∙◌, refl, sym, ap, ℕ, suc, ◌+◌, ◌≤◌, nat_lt, Bool, true, false, if◌then◌else◌, List, [], ◌∷◌, ◌++◌, length, Result, Ok, Err, add-zero, arith}
 use Rattle.std.specs.Prelude.{OnErr}
 use Rattle.std.proofs.lemmas.Bool.{le-ltb}
 use Rattle.rbc_disk.specs.Held.{Held}
 use Rattle.line_session.specs.Lines.{too_many, too_long}
-use Rattle.line_session.specs.Meaning.{Serves, Closes}
+use Rattle.line_session.specs.Meaning.{Serves}
 use Rattle.line_session.specs.declared.serve.LineError.{LineError}
 use Rattle.line_session.specs.declared.serve.LineError.TheVariants.{Fault, NoMemory}
 use Rattle.line_text.specs.Digits.{spelled}

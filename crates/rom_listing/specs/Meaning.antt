@@ -1,5 +1,5 @@
 -- What `rom` does with lines: it gathers their quadlets, and lists them at the end.
-use Rattle.std.specs.Prelude.{◌≡◌, refl, ℕ, ◌+◌, List, [], ◌++◌, length, Result, Ok, Err}
+use Rattle.std.specs.Prelude.{◌≡◌, refl, ℕ, ◌+◌, List, [], length, Result, Ok, Err}
 use Rattle.rbc_disk.specs.Held.{Held}
 use Rattle.line_session.specs.Meaning.{Meaning}
 use Rattle.line_session.specs.declared.serve.LineError.{LineError}

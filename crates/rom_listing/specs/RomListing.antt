@@ -17,7 +17,7 @@ use Rattle.config_rom.specs.declared.fault.RomFault.{RomFault}
 use Rattle.config_rom.specs.declared.fault.RomFault.TheVariants as rom_faults
 use Rattle.config_rom.specs.declared.unit.SbpUnit.{SbpUnit}
 use Rattle.line_session.specs.Lines.{too_many, too_long}
-use Rattle.line_text.specs.Fields.{Field, number, digits, payload, name, rest_of_line}
+use Rattle.line_text.specs.Fields.{Field, number, digits, name, rest_of_line}
 use Rattle.line_text.specs.Digits.{spelled, no_digits}
 
 -- ---- the lines of a listing

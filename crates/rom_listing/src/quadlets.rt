@@ -16,11 +16,7 @@ const NO_QUADLETS: u8 = 4;
 const MANY_QUADLETS: u8 = 5;
 
 /// Adds the quadlets of bytes, the most significant byte first.
-pub(crate) fn take_bytes(
-    alloc: Global,
-    bytes: &[u8],
-    quads: &mut Vec<u32>,
-) -> Result<(), LineError>
+pub(crate) fn take_bytes(alloc: Global, bytes: &[u8], quads: &mut Vec<u32>) -> Result<(), LineError>
     requires { length quads.old.items ≤ 256 }
     ensures taken { Gathers result (with_bytes quads.old.items bytes.now) quads.new.items }
     ensures few { length quads.new.items ≤ 256 }

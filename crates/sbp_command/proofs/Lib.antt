@@ -1,8 +1,5 @@
-pub mod Beginnings
-pub mod LineEnds
-pub mod Listings
-pub mod RomLines
-pub mod ScriptLines
-pub mod Sessions
-pub mod Serving
-pub mod Writes
+mod ScriptLines
+mod Running
+mod Listings
+mod Roms
+mod Words

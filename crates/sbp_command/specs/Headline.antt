@@ -1,37 +1,24 @@
 -- What the top call promises, by its status.
-use Rattle.std.specs.Prelude.{◌≡◌, ℕ, ◌⊎◌, List, [], ◌∷◌, ◌++◌, take, codes, Option, Some, None, IfSome, Result, Ok, Err}
-use Rattle.std.specs.Fmt.{decimal}
+use Rattle.std.specs.Prelude.{◌≡◌, ℕ, ◌⊎◌, false, List, [], ◌∷◌, ◌++◌, take, codes, Option, Some, None, IfSome, Result, Ok, Err}
 use Rattle.std.specs.Io.KnownBytes.{Appends, Consumes, IsAtEnd}
 use Rattle.sbp_base.specs.Faults.{Rose}
-use Rattle.rbc_disk.specs.Disk.{Disk}
+use Rattle.line_session.specs.Lines.{NoFeed, IsWhole, is_surely_long}
+use Rattle.line_session.specs.Outside.{Outside}
+use Rattle.line_session.specs.Meaning.{fault_text}
+use Rattle.line_session.specs.Ends.{NoFault}
+use Rattle.line_session.specs.declared.status.Status.{Status as StreamStatus}
+use Rattle.line_session.specs.declared.status.Status.TheVariants as stream_statuses
 use Rattle.sbp_journal.specs.Run.{Run, journal, history, events_of}
 use Rattle.sbp_laws.specs.DiskFold.{DisksAre, FailuresFit}
 use Rattle.sbp_laws.specs.Lawful.{Lawful}
 use Rattle.sbp_journal.specs.Text.{text_of}
 use Rattle.sbp_journal.specs.declared.event.Event.{Event}
 use Rattle.script_text.specs.Script.{Script}
-use Rattle.sbp_command.specs.Script.{script, IsWhole, NoFeed}
-use Rattle.sbp_command.specs.Listing.{Listing, listing}
-use Rattle.sbp_command.specs.RomListing.{rom_listing, rom_quads}
+use Rattle.packet_listing.specs.Listing.{Listing, listing}
+use Rattle.rom_listing.specs.RomListing.{rom_listing, rom_quads}
+use Rattle.sbp_command.specs.Script.{script}
 use Rattle.sbp_command.specs.declared.status.Status.{Status}
 use Rattle.sbp_command.specs.declared.status.Status.TheVariants as statuses
-
--- what the outside holds at one moment: the bytes left of the source and those written to the sink, where they tell them, with
--- their counts of faults; and the media with theirs
-pub record Outside : Type 0 where
-  pub left : Option (List ℕ)
-  pub reads : ℕ
-  pub written : Option (List ℕ)
-  pub writes : ℕ
-  pub disks : List Disk
-  pub faults : List ℕ
-
-abbrev pub outside : Option (List ℕ) → ℕ → Option (List ℕ) → ℕ → List Disk → List ℕ → Outside
-outside left reads written writes disks faults = record { left = left; reads = reads; written = written; writes = writes; disks = disks; faults = faults }
-
--- the line that tells the number of a line and that of its fault
-abbrev pub fault_text : ℕ → ℕ → List ℕ
-fault_text number fault = codes "script " ++ (decimal number ++ 32 ∷ (decimal fault ++ 10 ∷ []))
 
 -- what stands behind the journal: the first faulty line of a script
 abbrev pub ending : Option (ℕ × ℕ) → List ℕ
@@ -40,14 +27,14 @@ ending (Some (number, fault)) = fault_text number fault
 
 -- A lawful run over these events, from what the media held before.
 pub record RunsOver (before : Outside) (run : Run) (events : List (ℕ × Event)) : Type 0 where
-  pub start : run.start ≡ before.disks
+  pub start : run.start ≡ before.media.disks
   pub events_are : events_of run ≡ events
   pub lawful : Lawful run
 
 -- The media hold what the disk fold gives, and each failing run has its cause.
 pub record LeavesMedia (before now : Outside) (run : Run) : Type 0 where
-  pub disks : DisksAre run.start (history run.entries) now.disks
-  pub failures : FailuresFit before.faults (history run.entries) now.faults
+  pub disks : DisksAre run.start (history run.entries) now.media.disks
+  pub failures : FailuresFit before.media.faults (history run.entries) now.media.faults
 
 -- The whole input, where the source tells it, was run up to its first faulty line, and the sink gained the text of the run's
 -- journal, and that of the fault.
@@ -59,9 +46,10 @@ pub record RanScript (before now : Outside) (fault : Option (ℕ × ℕ)) : Type
   pub over : RunsOver before run (script input).events
   pub written : Appends before.written now.written (text_of (journal run) ++ ending fault)
   pub media : LeavesMedia before now run
+  pub no_fault : NoFault before now
 
--- The whole lines that were read were run, and the sink gained the text of the run's journal; a line without its line feed was
--- not run.
+-- The whole lines that were read were run, and the sink gained the text of the run's journal; a line without its line feed, which may
+-- yet be short enough, was not run.
 pub record RanLines (before now : Outside) : Type 0 where
   pub whole : List ℕ
   pub rest : List ℕ
@@ -69,6 +57,7 @@ pub record RanLines (before now : Outside) : Type 0 where
   pub consumed : Consumes before.left now.left (whole ++ rest)
   pub is_whole : IsWhole whole
   pub no_feed : NoFeed rest
+  pub short : is_surely_long rest ≡ false
   pub fault_is : (script whole).fault ≡ None
   pub over : RunsOver before run (script whole).events
   pub written : Appends before.written now.written (text_of (journal run))
@@ -100,9 +89,8 @@ RunEnds statuses.WriteFault before now = Rose before.writes now.writes × Torn b
 RunEnds statuses.NoMemory before now = Torn before now
 
 -- The media and their counts are as they were.
-pub record KeepsMedia (before now : Outside) : Type 0 where
-  pub disks : now.disks ≡ before.disks
-  pub faults : now.faults ≡ before.faults
+abbrev pub KeepsMedia : Outside → Outside → Type 0
+KeepsMedia before now = now.media ≡ before.media
 
 -- The whole input, where the source tells it, was listed up to its first faulty line, and the sink gained that text, and that of
 -- the fault.
@@ -112,14 +100,17 @@ pub record ListedInput (before now : Outside) (fault : Option (ℕ × ℕ)) : Ty
   pub fault_is : (listing input).fault ≡ fault
   pub written : Appends before.written now.written ((listing input).text ++ ending fault)
   pub media : KeepsMedia before now
+  pub no_fault : NoFault before now
 
--- The whole lines that were read were listed, and the sink gained that text; a line without its line feed was not listed.
+-- The whole lines that were read were listed, and the sink gained that text; a line without its line feed, which may yet be
+-- short enough, was not listed.
 pub record ListedLines (before now : Outside) : Type 0 where
   pub whole : List ℕ
   pub rest : List ℕ
   pub consumed : Consumes before.left now.left (whole ++ rest)
   pub is_whole : IsWhole whole
   pub no_feed : NoFeed rest
+  pub short : is_surely_long rest ≡ false
   pub fault_is : (listing whole).fault ≡ None
   pub written : Appends before.written now.written (listing whole).text
   pub media : KeepsMedia before now
@@ -157,6 +148,7 @@ pub record RomWritten (before now : Outside) (read : Result (List ℕ) (ℕ × �
   pub is_read : rom_quads input ≡ read
   pub written : Appends before.written now.written (rom_output read)
   pub media : KeepsMedia before now
+  pub no_fault : NoFault before now
 
 -- The whole lines that were read have no fault, and nothing was written.
 pub record RomUnwritten (before now : Outside) : Type 0 where
@@ -166,6 +158,7 @@ pub record RomUnwritten (before now : Outside) : Type 0 where
   pub consumed : Consumes before.left now.left (whole ++ rest)
   pub is_whole : IsWhole whole
   pub no_feed : NoFeed rest
+  pub short : is_surely_long rest ≡ false
   pub is_read : rom_quads whole ≡ Ok quads
   pub written : Appends before.written now.written []
   pub media : KeepsMedia before now
@@ -204,8 +197,7 @@ usage = codes "usage: sbp2 run | drill SEED N | decode | rom | tasks | queue" ++
 pub record Untouched (before now : Outside) : Type 0 where
   pub left : now.left ≡ before.left
   pub reads : now.reads ≡ before.reads
-  pub disks : now.disks ≡ before.disks
-  pub faults : now.faults ≡ before.faults
+  pub media : now.media ≡ before.media
 
 -- the clause of all other words by status: the sink gained the usage line, or a front of it
 abbrev pub FrontWritten : Outside → Outside → Type 0
@@ -225,3 +217,11 @@ exit_number statuses.Script = 2
 exit_number statuses.ReadFault = 3
 exit_number statuses.WriteFault = 4
 exit_number statuses.NoMemory = 5
+
+-- the status of the call whose lines ended so
+abbrev pub status_of : StreamStatus → Status
+status_of stream_statuses.Done = statuses.Done
+status_of stream_statuses.Script = statuses.Script
+status_of stream_statuses.ReadFault = statuses.ReadFault
+status_of stream_statuses.WriteFault = statuses.WriteFault
+status_of stream_statuses.NoMemory = statuses.NoMemory

@@ -1,15 +1,12 @@
-//! The top call of the program, and the lines that it reads.
+//! The top call of the program.
 #![tactic(auto)]
 
-mod listing;
-mod rom;
+mod runner;
 mod script;
-mod session;
 mod status;
 mod top;
-mod write;
 
-pub use rom::rom_tree_is_listed;
+pub use rom_listing::rom_tree_is_listed;
 pub use status::Status;
 pub use top::sbp2;
 

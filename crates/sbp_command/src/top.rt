@@ -1,19 +1,17 @@
 ghost use Rattle.std.specs.Prelude.{◌≡◌, ◌≤◌, ◌<◌, ℕ, List, map, length, IfOk, Option, ◌↔◌, ◌++◌, ◌∷◌, [], true};
 ghost use Rattle.std.specs.String.{string_bytes};
 ghost use Rattle.rbc_disk.specs.Disk.{Disk};
-ghost use Rattle.sbp_command.specs.Headline.{outside, RunEnds, ListingEnds, RomEnds, UsageEnds, IsRun, IsDecode, IsRom};
-ghost use Rattle.sbp_command.specs.Session.{Service, IsFresh, Serves, Ends};
+ghost use Rattle.line_session.specs.Outside.{outside};
+ghost use Rattle.sbp_command.specs.Headline.{status_of, RunEnds, ListingEnds, RomEnds, UsageEnds, IsRun, IsDecode, IsRom};
 
-use crate::rom::Quadlets;
-use crate::session::{Server, Session};
+use crate::runner::ScriptRunner;
 use crate::status::Status;
-use crate::write::write_all;
+use line_session::{Status as LineStatus, serve_lines, write_all};
+use packet_listing::PacketLister;
 use rbc_disk::Medium;
+use rom_listing::RomLister;
 use sbp_base::{NoMemory, Sink, Source};
 use std::alloc::Global;
-
-/// How many bytes are read by one call.
-const PIECE: usize = 4096;
 
 /// What is written where the words are in no row.
 const USAGE: &str = "usage: sbp2 run | drill SEED N | decode | rom | tasks | queue\n";
@@ -34,7 +32,7 @@ fn tell_usage<K: Sink>(sink: &mut K) -> Status
 {
     match write_all(sink, USAGE.as_bytes()) {
         Ok(()) => Status::Words,
-        Err(status) => status,
+        Err(status) => status_of(status),
     }
 }
 
@@ -58,23 +56,17 @@ fn is_rom(words: &[String]) -> bool
     }
 }
 
-/// Reads the input and serves its lines.
-fn serve<S: Source, K: Sink>(
-    alloc: Global,
-    server: Server,
-    media: &mut Vec<Box<dyn Medium>>,
-    source: &mut S,
-    sink: &mut K,
-) -> Status
-    requires some { 1 ≤ length media.old.items }
-    requires fresh { IsFresh server }
-    ensures { (service : Service) → Serves service server → Ends service result (outside (S.left source.old) (S.faults source.old) (K.written sink.old) (K.faults sink.old) (map disk media.old.items) (map media_faults media.old.items)) (outside (S.left source.new) (S.faults source.new) (K.written sink.new) (K.faults sink.new) (map disk media.new.items) (map media_faults media.new.items)) }
+/// The status of a call whose lines were served.
+fn status_of(ended: LineStatus) -> Status
+    ensures { result ≡ status_of ended }
 {
-    let mut session = Session::new(alloc, server);
-    let Ok(mut room) = vec![in alloc; 0u8; PIECE] else {
-        return Status::NoMemory;
-    };
-    session.run(room.as_mut_slice(), media, source, sink)
+    match ended {
+        LineStatus::Done => Status::Done,
+        LineStatus::Script => Status::Script,
+        LineStatus::ReadFault => Status::ReadFault,
+        LineStatus::WriteFault => Status::WriteFault,
+        LineStatus::NoMemory => Status::NoMemory,
+    }
 }
 
 /// Reads a script and runs its lines.
@@ -87,8 +79,8 @@ fn run_script<S: Source, K: Sink>(
     requires some { 1 ≤ length media.old.items }
     ensures { RunEnds result (outside (S.left source.old) (S.faults source.old) (K.written sink.old) (K.faults sink.old) (map disk media.old.items) (map media_faults media.old.items)) (outside (S.left source.new) (S.faults source.new) (K.written sink.new) (K.faults sink.new) (map disk media.new.items) (map media_faults media.new.items)) }
 {
-    match Server::run(alloc) {
-        Ok(server) => serve(alloc, server, media, source, sink),
+    match ScriptRunner::new(alloc) {
+        Ok(mut server) => status_of(serve_lines(alloc, &mut server, media, source, sink)),
         Err(NoMemory) => Status::NoMemory,
     }
 }
@@ -100,10 +92,12 @@ fn list_packets<S: Source, K: Sink>(
     source: &mut S,
     sink: &mut K,
 ) -> Status
-    requires some { 1 ≤ length media.old.items }
     ensures { ListingEnds result (outside (S.left source.old) (S.faults source.old) (K.written sink.old) (K.faults sink.old) (map disk media.old.items) (map media_faults media.old.items)) (outside (S.left source.new) (S.faults source.new) (K.written sink.new) (K.faults sink.new) (map disk media.new.items) (map media_faults media.new.items)) }
 {
-    serve(alloc, Server::Decode, media, source, sink)
+    match PacketLister::new(alloc) {
+        Ok(mut server) => status_of(serve_lines(alloc, &mut server, media, source, sink)),
+        Err(NoMemory) => Status::NoMemory,
+    }
 }
 
 /// Reads the quadlets of a configuration ROM and lists it.
@@ -113,11 +107,12 @@ fn list_rom<S: Source, K: Sink>(
     source: &mut S,
     sink: &mut K,
 ) -> Status
-    requires some { 1 ≤ length media.old.items }
     ensures { RomEnds result (outside (S.left source.old) (S.faults source.old) (K.written sink.old) (K.faults sink.old) (map disk media.old.items) (map media_faults media.old.items)) (outside (S.left source.new) (S.faults source.new) (K.written sink.new) (K.faults sink.new) (map disk media.new.items) (map media_faults media.new.items)) }
 {
-    let server = Server::Rom(Quadlets::new(alloc));
-    serve(alloc, server, media, source, sink)
+    match RomLister::new(alloc) {
+        Ok(mut server) => status_of(serve_lines(alloc, &mut server, media, source, sink)),
+        Err(NoMemory) => Status::NoMemory,
+    }
 }
 
 /// Does what the words say over one to four media: `run` reads a script from `source`, runs it, and

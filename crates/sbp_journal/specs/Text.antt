@@ -245,6 +245,11 @@ fields (notes.Told initiator) = number initiator ∷ name told_word ∷ []
 abbrev pub words_of : Note → List (List ℕ)
 words_of note = keyword note ∷ map word (fields note)
 
+-- further words of a line, each behind a blank
+abbrev pub further : List (List ℕ) → List ℕ
+further [] = []
+further (w ∷ ws) = 32 ∷ (w ++ further ws)
+
 abbrev pub note_text : Note → List ℕ
 note_text note = join_with_byte 32 (words_of note) ++ 10 ∷ []
 

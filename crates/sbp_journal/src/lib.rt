@@ -4,6 +4,7 @@
 mod canonical;
 mod cause;
 mod event;
+mod fields;
 mod journal;
 mod lines;
 mod note;
@@ -21,4 +22,4 @@ pub use note::{Note, NoteBuffer};
 pub use operation::{FunctionWord, OpWord, Operation};
 pub use outbox::{Outbox, Outgoing};
 pub use side::Side;
-pub use text::write_note;
+pub use text::{append_note, write_note};

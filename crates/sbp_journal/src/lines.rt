@@ -1,251 +1,338 @@
-ghost use Rattle.std.specs.Prelude.{◌≡◌, [], ◌∷◌, ◌++◌, map, IfOk, string_bytes};
-ghost use Rattle.std.specs.Fmt.{decimal};
-ghost use Rattle.std.specs.List.{join_with_byte};
-ghost use Rattle.sbp_journal.specs.Form.{IsStatus, IsAnswer, IsCheck};
-ghost use Rattle.sbp_journal.specs.Text.{note_text, orb_fields, word, maybe};
+ghost use Rattle.std.specs.Prelude.{◌≡◌, ◌∷◌, ◌++◌, [], map, OnOk};
+ghost use Rattle.sbp_journal.specs.Form.{HasForm, IsStatus, IsAnswer, IsCheck};
+ghost use Rattle.sbp_journal.specs.Text.{Field, word, further, fields, orb_fields, named_fields, work_fields, buffer_fields, status_fields, check_fields, answer_fields, login_fields, end_fields, function_word, operation_word};
+ghost use Rattle.sbp_journal.specs.Text as texts;
 
-use crate::canonical::canonical_text;
-use crate::cause::Cause;
+use crate::fields::{
+    push_answer, push_buffer, push_check, push_end, push_list, push_login, push_named, push_node,
+    push_orb, push_status, push_work,
+};
 use crate::note::{Note, NoteBuffer};
 use crate::operation::{FunctionWord, OpWord, Operation};
-use crate::words::{
-    cause_text, check_text, end_text, function_text, mode_text, named_text, node_text,
-    number_or_dash, operation_text, status_text, work_text,
-};
+use crate::words::{cause_text, cut_text, fail_text, function_text, mode_text, operation_text};
+use line_text::{push_digits, push_name, push_number};
 use orb_layout::StatusKind;
 use rbc_command::Sense;
 use sbp_base::{Bytes, NoMemory};
 use std::alloc::Global;
 
-/// `KEYWORD`
-pub(crate) fn word_line(alloc: Global, keyword: &str) -> Result<String, NoMemory>
-    ensures { IfOk result (λ line. string_bytes line ≡ keyword.now ++ 10 ∷ []) }
+/// The word that the line of a note begins with.
+pub(crate) fn keyword(note: &Note) -> &'static str
+    ensures { result.now ≡ texts.keyword note.now }
 {
-    Ok(format!(in alloc; "{keyword}\n")?)
+    match note {
+        Note::Begin { .. } => "begin",
+        Note::Append { .. } => "append",
+        Note::Low { .. } => "low",
+        Note::Linked { .. } => "linked",
+        Note::Rung { .. } => "rung",
+        Note::Dummied { .. } => "dummied",
+        Note::Sent { .. } => "sent",
+        Note::Injected { .. } => "injected",
+        Note::Got { .. } => "got",
+        Note::Ignored { .. } => "ignored",
+        Note::Lost { .. } => "lost",
+        Note::TimedOut { .. } => "timedout",
+        Note::Ran { .. } => "ran",
+        Note::Ended { .. } => "ended",
+        Note::Taken { .. } => "taken",
+        Note::Cut { .. } => "cut",
+        Note::Dead { .. } => "dead",
+        Note::Drop { .. } => "drop",
+        Note::Managed { .. } => "mgmt",
+        Note::ManageFailed { .. } => "mgmtfail",
+        Note::Held { .. } => "held",
+        Note::Expired { .. } => "expired",
+        Note::Back { .. } => "back",
+        Note::Left { .. } => "left",
+        Note::Cleared { .. } => "cleared",
+        Note::Op { .. } => "op",
+        Note::Stuck { .. } => "stuck",
+        Note::Reset { .. } => "reset",
+        Note::Seen { .. } => "seen",
+        Note::Tick => "tick",
+        Note::Refused { .. } => "refused",
+        Note::Settled => "settled",
+        Note::Stopped => "stopped",
+        Note::Key { .. } => "key",
+        Note::Unsolicited { .. } => "unsolicited",
+        Note::Unsent { .. } => "unsent",
+        Note::Told { .. } => "told",
+    }
 }
 
-/// `KEYWORD NUMBER`
-pub(crate) fn number_line(alloc: Global, keyword: &str, number: u64) -> Result<String, NoMemory>
-    ensures { IfOk result (λ line. string_bytes line ≡ join_with_byte 32 (keyword.now ∷ decimal number ∷ []) ++ 10 ∷ []) }
+/// Adds the fields of a note.
+pub(crate) fn push_fields(alloc: Global, note: &Note, out: &mut Bytes) -> Result<(), NoMemory>
+    requires { HasForm note.now }
+    ensures { OnOk result (out.new ≡ out.old ++ further (map word (fields note.now))) }
 {
-    Ok(format!(in alloc; "{keyword} {number}\n")?)
+    match note {
+        Note::Begin { initiators, ready } => push_word(
+            out,
+            u64::from(*initiators),
+            mode_text(*ready),
+        ),
+        Note::Append {
+            initiator,
+            list,
+            orb,
+            cdb,
+            buffer,
+        } => push_append(alloc, out, *initiator, *list, *orb, cdb, buffer),
+        Note::Low {
+            initiator,
+            list,
+            orb,
+        }
+        | Note::Linked {
+            initiator,
+            list,
+            orb,
+        }
+        | Note::Rung {
+            initiator,
+            list,
+            orb,
+        }
+        | Note::Dummied {
+            initiator,
+            list,
+            orb,
+        } => push_orb(out, *initiator, *list, *orb),
+        Note::Sent {
+            serial,
+            generation,
+            from,
+            to,
+            bytes,
+        } => push_sent(out, *serial, *generation, *from, *to, bytes.as_slice()),
+        Note::Injected { serial }
+        | Note::Got { serial }
+        | Note::Lost { serial }
+        | Note::TimedOut { serial } => push_number(out, *serial),
+        Note::Ignored { serial, cause } => push_word(out, *serial, cause_text(*cause)),
+        Note::Ran {
+            initiator,
+            list,
+            orb,
+            unit,
+            cdb,
+            bytes,
+            check,
+        } => push_ran(
+            alloc,
+            out,
+            *initiator,
+            *list,
+            *orb,
+            *unit,
+            cdb,
+            bytes.as_slice(),
+            *check,
+        ),
+        Note::Ended {
+            initiator,
+            list,
+            orb,
+            status,
+        } => push_ended(out, *initiator, *list, *orb, *status),
+        Note::Taken {
+            initiator,
+            list,
+            orb,
+            status,
+            answer,
+        } => push_taken(
+            alloc,
+            out,
+            *initiator,
+            *list,
+            *orb,
+            *status,
+            answer.as_slice(),
+        ),
+        Note::Cut {
+            initiator,
+            list,
+            cause,
+        } => push_list(out, *initiator, *list, cut_text(*cause)),
+        Note::Dead {
+            initiator,
+            list,
+            cause,
+        } => push_list(out, *initiator, *list, fail_text(*cause)),
+        Note::Drop { initiator, list } => push_pair(out, u32::from(*initiator), *list),
+        Note::Managed {
+            initiator,
+            function,
+            subject,
+            status,
+            login,
+        } => push_managed(out, *initiator, *function, *subject, *status, *login),
+        Note::ManageFailed { initiator, cause } => {
+            push_word(out, u64::from(*initiator), fail_text(*cause))
+        }
+        Note::Held { login }
+        | Note::Expired { login }
+        | Note::Back { login }
+        | Note::Left { login } => push_number(out, u64::from(*login)),
+        Note::Cleared { unit } | Note::Key { unit } => push_number(out, u64::from(*unit)),
+        Note::Op {
+            initiator,
+            operation,
+            word,
+        } => push_op(out, *initiator, *operation, *word),
+        Note::Stuck { initiator } | Note::Unsolicited { initiator } | Note::Unsent { initiator } =>
+            push_number(out, u64::from(*initiator)),
+        Note::Reset { generation } => push_number(out, u64::from(*generation)),
+        Note::Seen { node, generation } => push_seen(out, *node, *generation),
+        Note::Refused { line, number } => push_pair(out, *line, u32::from(*number)),
+        Note::Told { initiator } => push_word(out, u64::from(*initiator), "6/28/00"),
+        Note::Tick | Note::Settled | Note::Stopped => Ok(()),
+    }
 }
 
-/// `KEYWORD FIRST SECOND`
-pub(crate) fn pair_line(
+/// Adds a number and a word.
+fn push_word(out: &mut Bytes, number: u64, name: &str) -> Result<(), NoMemory>
+    ensures { OnOk result (out.new ≡ out.old ++ further (map word (Field.number number ∷ Field.name name.now ∷ []))) }
+{
+    push_number(out, number)?;
+    push_name(out, name)
+}
+
+/// Adds two numbers.
+fn push_pair(out: &mut Bytes, first: u32, second: u32) -> Result<(), NoMemory>
+    ensures { OnOk result (out.new ≡ out.old ++ further (map word (Field.number first ∷ Field.number second ∷ []))) }
+{
+    push_number(out, u64::from(first))?;
+    push_number(out, u64::from(second))
+}
+
+/// Adds the fields of an ORB that was appended.
+fn push_append(
     alloc: Global,
-    keyword: &str,
-    first: u32,
-    second: u32,
-) -> Result<String, NoMemory>
-    ensures { IfOk result (λ line. string_bytes line ≡ join_with_byte 32 (keyword.now ∷ decimal first ∷ decimal second ∷ []) ++ 10 ∷ []) }
-{
-    Ok(format!(in alloc; "{keyword} {first} {second}\n")?)
-}
-
-/// `KEYWORD NUMBER WORD`
-pub(crate) fn named_line(
-    alloc: Global,
-    keyword: &str,
-    number: u64,
-    word: &str,
-) -> Result<String, NoMemory>
-    ensures { IfOk result (λ line. string_bytes line ≡ join_with_byte 32 (keyword.now ∷ decimal number ∷ word.now ∷ []) ++ 10 ∷ []) }
-{
-    Ok(format!(in alloc; "{keyword} {number} {word}\n")?)
-}
-
-/// `KEYWORD INITIATOR LIST CAUSE`, where a list that is not known is `-`.
-pub(crate) fn list_line(
-    alloc: Global,
-    keyword: &str,
-    initiator: u8,
-    list: Option<u32>,
-    cause: &str,
-) -> Result<String, NoMemory>
-    ensures { IfOk result (λ line. string_bytes line ≡ join_with_byte 32 (keyword.now ∷ decimal initiator ∷ word (maybe list) ∷ cause.now ∷ []) ++ 10 ∷ []) }
-{
-    let list = number_or_dash(alloc, list)?;
-    Ok(format!(in alloc; "{keyword} {initiator} {list} {cause}\n")?)
-}
-
-/// `KEYWORD INITIATOR LIST ORB`
-pub(crate) fn orb_line(
-    alloc: Global,
-    keyword: &str,
-    initiator: u8,
-    list: u32,
-    orb: u32,
-) -> Result<String, NoMemory>
-    ensures { IfOk result (λ line. string_bytes line ≡ join_with_byte 32 (keyword.now ∷ map word (orb_fields initiator list orb)) ++ 10 ∷ []) }
-{
-    Ok(format!(in alloc; "{keyword} {initiator} {list} {orb}\n")?)
-}
-
-/// `begin INITIATORS MODE`
-pub(crate) fn begin_line(alloc: Global, initiators: u8, ready: bool) -> Result<String, NoMemory>
-    ensures { IfOk result (λ line. string_bytes line ≡ note_text (Note.Begin initiators ready)) }
-{
-    let mode = mode_text(ready);
-    Ok(format!(in alloc; "begin {initiators} {mode}\n")?)
-}
-
-/// `append INITIATOR LIST ORB CDB`, and `none`, `in LENGTH` or `out BYTES`
-pub(crate) fn append_line(
-    alloc: Global,
+    out: &mut Bytes,
     initiator: u8,
     list: u32,
     orb: u32,
     cdb: &[u8; 12],
     buffer: &NoteBuffer,
-) -> Result<String, NoMemory>
-    ensures { IfOk result (λ line. string_bytes line ≡ note_text (Note.Append initiator list orb cdb.now buffer.now)) }
+) -> Result<(), NoMemory>
+    ensures { OnOk result (out.new ≡ out.old ++ further (map word (orb_fields initiator list orb ++ Field.digits cdb.now ∷ buffer_fields buffer.now))) }
 {
-    let cdb = hex::encode_upper(alloc, cdb.as_slice())?;
-    match buffer {
-        NoteBuffer::Nothing => Ok(format!(in alloc;
-            "append {initiator} {list} {orb} {cdb} none\n"
-        )?),
-        NoteBuffer::In(len) => Ok(format!(in alloc;
-            "append {initiator} {list} {orb} {cdb} in {len}\n"
-        )?),
-        NoteBuffer::Out(bytes) => {
-            let bytes = canonical_text(alloc, bytes.as_slice())?;
-            Ok(format!(in alloc; "append {initiator} {list} {orb} {cdb} out {bytes}\n")?)
-        }
-    }
+    push_orb(out, initiator, list, orb)?;
+    push_digits(out, cdb.as_slice())?;
+    push_buffer(alloc, out, buffer)
 }
 
-/// `sent SERIAL GENERATION FROM TO HEX`
-pub(crate) fn sent_line(
-    alloc: Global,
+/// Adds the fields of a packet that was sent.
+fn push_sent(
+    out: &mut Bytes,
     serial: u64,
     generation: u32,
     from: u8,
     to: u8,
-    bytes: &Bytes,
-) -> Result<String, NoMemory>
-    ensures { IfOk result (λ line. string_bytes line ≡ note_text (Note.Sent serial generation from to bytes.now)) }
+    bytes: &[u8],
+) -> Result<(), NoMemory>
+    ensures { OnOk result (out.new ≡ out.old ++ further (map word (Field.number serial ∷ Field.number generation ∷ Field.node_name from ∷ Field.node_name to ∷ Field.digits bytes.now ∷ []))) }
 {
-    let from = node_text(alloc, from)?;
-    let to = node_text(alloc, to)?;
-    let bytes = hex::encode_upper(alloc, bytes.as_slice())?;
-    Ok(format!(in alloc; "sent {serial} {generation} {from} {to} {bytes}\n")?)
+    push_number(out, serial)?;
+    push_number(out, u64::from(generation))?;
+    push_node(out, from)?;
+    push_node(out, to)?;
+    push_digits(out, bytes)
 }
 
-/// `ignored SERIAL CAUSE`
-pub(crate) fn ignored_line(alloc: Global, serial: u64, cause: Cause) -> Result<String, NoMemory>
-    ensures { IfOk result (λ line. string_bytes line ≡ note_text (Note.Ignored serial cause)) }
-{
-    named_line(alloc, "ignored", serial, cause_text(cause))
-}
-
-/// `ran INITIATOR LIST ORB uUNIT CDB BYTES` and the words of the check.
-pub(crate) fn ran_line(
+/// Adds the fields of a command that ran.
+fn push_ran(
     alloc: Global,
+    out: &mut Bytes,
     initiator: u8,
     list: Option<u32>,
     orb: Option<u32>,
     unit: u8,
     cdb: &[u8; 12],
-    bytes: &Bytes,
+    bytes: &[u8],
     check: Option<Sense>,
-) -> Result<String, NoMemory>
+) -> Result<(), NoMemory>
     requires { IsCheck check }
-    ensures { IfOk result (λ line. string_bytes line ≡ note_text (Note.Ran initiator list orb unit cdb.now bytes.now check)) }
+    ensures { OnOk result (out.new ≡ out.old ++ further (map word (named_fields initiator list orb ++ work_fields unit cdb.now bytes.now ++ check_fields check))) }
 {
-    let named = named_text(alloc, initiator, list, orb)?;
-    let work = work_text(alloc, unit, cdb, bytes.as_slice())?;
-    let check = check_text(alloc, check)?;
-    Ok(format!(in alloc; "ran {named} {work} {check}\n")?)
+    push_named(out, initiator, list, orb)?;
+    push_work(alloc, out, unit, cdb, bytes)?;
+    push_check(out, check)
 }
 
-/// `ended INITIATOR LIST ORB` and the words of the status.
-#[tactic(auto, using(crate::proofs::LineWords::line_steps))]
-pub(crate) fn ended_line(
-    alloc: Global,
+/// Adds the fields of an ORB that ended.
+fn push_ended(
+    out: &mut Bytes,
     initiator: u8,
     list: Option<u32>,
     orb: Option<u32>,
     status: StatusKind,
-) -> Result<String, NoMemory>
+) -> Result<(), NoMemory>
     requires { IsStatus status }
-    ensures { IfOk result (λ line. string_bytes line ≡ note_text (Note.Ended initiator list orb status)) }
+    ensures { OnOk result (out.new ≡ out.old ++ further (map word (named_fields initiator list orb ++ status_fields status))) }
 {
-    let named = named_text(alloc, initiator, list, orb)?;
-    let status = status_text(alloc, status)?;
-    Ok(format!(in alloc; "ended {named} {status}\n")?)
+    push_named(out, initiator, list, orb)?;
+    push_status(out, status)
 }
 
-/// `taken INITIATOR LIST ORB`, the words of the status, and the bytes of the answer, if there are any.
-#[tactic(auto, using(crate::proofs::LineWords::line_steps))]
-pub(crate) fn taken_line(
+/// Adds the fields of a status that was taken.
+#[tactic(auto, using(crate::proofs::LineWords::answer_status))]
+fn push_taken(
     alloc: Global,
+    out: &mut Bytes,
     initiator: u8,
     list: u32,
     orb: u32,
     status: StatusKind,
-    answer: &Bytes,
-) -> Result<String, NoMemory>
+    answer: &[u8],
+) -> Result<(), NoMemory>
     requires { IsAnswer status answer.now }
-    ensures { IfOk result (λ line. string_bytes line ≡ note_text (Note.Taken initiator list orb status answer.now)) }
+    ensures { OnOk result (out.new ≡ out.old ++ further (map word (orb_fields initiator list orb ++ status_fields status ++ answer_fields answer.now))) }
 {
-    let status = status_text(alloc, status)?;
-    let answer = answer.as_slice();
-    if answer.is_empty() {
-        return Ok(format!(in alloc; "taken {initiator} {list} {orb} {status}\n")?);
-    }
-    let answer = canonical_text(alloc, answer)?;
-    Ok(format!(in alloc; "taken {initiator} {list} {orb} {status} {answer}\n")?)
+    push_orb(out, initiator, list, orb)?;
+    push_status(out, status)?;
+    push_answer(alloc, out, answer)
 }
 
-/// `mgmt INITIATOR FUNCTION SUBJECT STATUS`, and the login ID that the decision gives.
-pub(crate) fn managed_line(
-    alloc: Global,
+/// Adds the fields of a management operation.
+fn push_managed(
+    out: &mut Bytes,
     initiator: u8,
     function: FunctionWord,
     subject: u16,
     status: u8,
     login: Option<u16>,
-) -> Result<String, NoMemory>
-    ensures { IfOk result (λ line. string_bytes line ≡ note_text (Note.Managed initiator function subject status login)) }
+) -> Result<(), NoMemory>
+    ensures { OnOk result (out.new ≡ out.old ++ further (map word (Field.number initiator ∷ Field.name (function_word function) ∷ Field.number subject ∷ Field.digits (status ∷ []) ∷ login_fields login))) }
 {
-    let function = function_text(function);
-    let status = hex::encode_upper(alloc, [status])?;
-    match login {
-        None => Ok(format!(in alloc; "mgmt {initiator} {function} {subject} {status}\n")?),
-        Some(login) => Ok(format!(in alloc;
-            "mgmt {initiator} {function} {subject} {status} {login}\n"
-        )?),
-    }
+    push_number(out, u64::from(initiator))?;
+    push_name(out, function_text(function))?;
+    push_number(out, u64::from(subject))?;
+    push_digits(out, &[status])?;
+    push_login(out, login)
 }
 
-/// `op INITIATOR OPERATION` and the words for its end.
-#[tactic(auto, using(crate::proofs::LineWords::line_steps))]
-pub(crate) fn op_line(
-    alloc: Global,
+/// Adds the fields of an operation that ended.
+fn push_op(
+    out: &mut Bytes,
     initiator: u8,
     operation: Operation,
     end: OpWord,
-) -> Result<String, NoMemory>
-    ensures { IfOk result (λ line. string_bytes line ≡ note_text (Note.Op initiator operation end)) }
+) -> Result<(), NoMemory>
+    ensures { OnOk result (out.new ≡ out.old ++ further (map word (Field.number initiator ∷ Field.name (operation_word operation) ∷ end_fields end))) }
 {
-    let operation = operation_text(operation);
-    let end = end_text(alloc, end)?;
-    Ok(format!(in alloc; "op {initiator} {operation} {end}\n")?)
+    push_number(out, u64::from(initiator))?;
+    push_name(out, operation_text(operation))?;
+    push_end(out, end)
 }
 
-/// `seen NODE GENERATION`
-pub(crate) fn seen_line(alloc: Global, node: u8, generation: u32) -> Result<String, NoMemory>
-    ensures { IfOk result (λ line. string_bytes line ≡ note_text (Note.Seen node generation)) }
+/// Adds a node and a generation.
+fn push_seen(out: &mut Bytes, node: u8, generation: u32) -> Result<(), NoMemory>
+    ensures { OnOk result (out.new ≡ out.old ++ further (map word (Field.node_name node ∷ Field.number generation ∷ []))) }
 {
-    let node = node_text(alloc, node)?;
-    Ok(format!(in alloc; "seen {node} {generation}\n")?)
-}
-
-/// `told INITIATOR 6/28/00`
-pub(crate) fn told_line(alloc: Global, initiator: u8) -> Result<String, NoMemory>
-    ensures { IfOk result (λ line. string_bytes line ≡ note_text (Note.Told initiator)) }
-{
-    Ok(format!(in alloc; "told {initiator} 6/28/00\n")?)
+    push_node(out, node)?;
+    push_number(out, u64::from(generation))
 }

@@ -1,5 +1,5 @@
 -- What was written so far is the front of the bytes up to `at`.
-use Rattle.std.proofs.Common.{length, ◌-◌, ◌≤◌, take}
+use Rattle.std.proofs.Common.{◌≡◌, length, ◌-◌, ◌≤◌, take}
 use Rattle.std.specs.Io.KnownBytes.{Appends}
 use Rattle.line_session.proofs.write.write_all.Given as goal
 
@@ -7,7 +7,7 @@ abbrev pub invariant-loop-at : goal.invariant-loop-at
 invariant-loop-at g l = record {
   in_range : l.at ≤ length l.bytes;
   written : Appends (g.K.Sink.written l.initial.sink) (g.K.Sink.written l.sink) (take l.at l.bytes);
-  later : g.K.Sink.faults l.initial.sink ≤ g.K.Sink.faults l.sink;
+  same : g.K.Sink.faults l.sink ≡ g.K.Sink.faults l.initial.sink;
 }
 
 abbrev pub decreases-loop-at : goal.decreases-loop-at

@@ -1,6 +1,6 @@
 -- The words are one word, and it is `decode`.
 use Rattle.std.specs.Prelude.{codes}
-use Rattle.sbp_command.proofs.Beginnings.{is_word}
+use Rattle.sbp_command.proofs.Words.{is_word}
 use Rattle.sbp_command.proofs.top.is_decode.Goals as goal
 
 pub returns-in-len1 : goal.returns-in-len1

@@ -1,15 +1,12 @@
--- The run begins with nothing waiting.
-use Rattle.std.proofs.Common.{refl, sym, subst}
-use Rattle.sbp_command.specs.Session.{serves_run, Serves, IsFresh}
-use Rattle.sbp_command.proofs.Beginnings.{begins, some_mapped}
-use Rattle.sbp_command.proofs.Sessions.{stops}
+-- The script is run as its lines were served.
+use Rattle.sbp_command.proofs.Running.{fresh, some_mapped, run_ends, not_begun}
 use Rattle.sbp_command.proofs.top.run_script.Goals as goal
 
-pub serve-requires-clause-fresh : goal.serve-requires-clause-fresh
-serve-requires-clause-fresh g c = subst IsFresh (sym c.in-Ok.ensures) refl
+pub serve_lines-requires-clause-fresh : goal.serve_lines-requires-clause-fresh
+serve_lines-requires-clause-fresh g c = rw c.in-Ok.ensures (fresh _ _ (some_mapped _ c.args.media.now.items c.requires.some) (some_mapped _ c.args.media.now.items c.requires.some))
 
 pub returns-in-Ok : goal.returns-in-Ok
-returns-in-Ok g c = c.serve.ensures serves_run (subst (Serves serves_run) (sym c.in-Ok.ensures) refl)
+returns-in-Ok g c = rw c.status_of.ensures (run_ends c.serve_lines.result _ _ c.serve_lines.ensures.ends)
 
 pub returns-in-Err : goal.returns-in-Err
-returns-in-Err g c = stops _ _ _ _ (begins _ (some_mapped _ _ c.requires.some) (some_mapped _ _ c.requires.some))
+returns-in-Err g c = not_begun _ (fresh _ _ (some_mapped _ c.args.media.now.items c.requires.some) (some_mapped _ c.args.media.now.items c.requires.some))

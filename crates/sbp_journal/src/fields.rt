@@ -1,0 +1,243 @@
+ghost use Rattle.std.specs.Prelude.{◌≡◌, ◌<◌, ◌∷◌, ◌++◌, [], map, OnOk, slice_index};
+ghost use Rattle.hex.specs.Hex.{upper_digits};
+ghost use Rattle.sbp_journal.specs.Form.{IsSense, IsStatus, IsAnswer, IsCheck};
+ghost use Rattle.sbp_journal.specs.Text.{Field, word, further, orb_fields, named_fields, work_fields, buffer_fields, status_fields, check_fields, answer_fields, end_fields, login_fields, sense_word};
+
+use crate::canonical::canonical_text;
+use crate::note::NoteBuffer;
+use crate::operation::OpWord;
+use line_text::{push_decimal, push_digits, push_hexadecimal, push_name, push_number};
+use orb_layout::StatusKind;
+use rbc_command::Sense;
+use sbp_base::{Bytes, NoMemory};
+use std::alloc::Global;
+
+/// Adds `INITIATOR LIST ORB`.
+pub(crate) fn push_orb(out: &mut Bytes, initiator: u8, list: u32, orb: u32) -> Result<(), NoMemory>
+    ensures { OnOk result (out.new ≡ out.old ++ further (map word (orb_fields initiator list orb))) }
+{
+    push_number(out, u64::from(initiator))?;
+    push_number(out, u64::from(list))?;
+    push_number(out, u64::from(orb))
+}
+
+/// Adds a number in decimal, or `-`.
+pub(crate) fn push_maybe(out: &mut Bytes, number: Option<u32>) -> Result<(), NoMemory>
+    ensures { OnOk result (out.new ≡ out.old ++ 32 ∷ word (Field.maybe number)) }
+{
+    match number {
+        None => push_name(out, "-"),
+        Some(number) => push_number(out, u64::from(number)),
+    }
+}
+
+/// Adds `INITIATOR LIST ORB`, where a list and an ORB that are not known are `-`.
+pub(crate) fn push_named(
+    out: &mut Bytes,
+    initiator: u8,
+    list: Option<u32>,
+    orb: Option<u32>,
+) -> Result<(), NoMemory>
+    ensures { OnOk result (out.new ≡ out.old ++ further (map word (named_fields initiator list orb))) }
+{
+    push_number(out, u64::from(initiator))?;
+    push_maybe(out, list)?;
+    push_maybe(out, orb)
+}
+
+/// Adds `INITIATOR LIST`, where a list that is not known is `-`, and a word.
+pub(crate) fn push_list(
+    out: &mut Bytes,
+    initiator: u8,
+    list: Option<u32>,
+    cause: &str,
+) -> Result<(), NoMemory>
+    ensures { OnOk result (out.new ≡ out.old ++ further (map word (Field.number initiator ∷ Field.maybe list ∷ Field.name cause.now ∷ []))) }
+{
+    push_number(out, u64::from(initiator))?;
+    push_maybe(out, list)?;
+    push_name(out, cause)
+}
+
+/// Adds `t` for the target, node 0, or the number of the initiator.
+pub(crate) fn push_node(out: &mut Bytes, node: u8) -> Result<(), NoMemory>
+    ensures { OnOk result (out.new ≡ out.old ++ 32 ∷ word (Field.node_name node)) }
+{
+    if node == 0 {
+        return push_name(out, "t");
+    }
+    let initiator = node - 1;
+    push_number(out, u64::from(initiator))
+}
+
+/// Adds bytes in the canonical form.
+fn push_canonical(alloc: Global, out: &mut Bytes, bytes: &[u8]) -> Result<(), NoMemory>
+    ensures { OnOk result (out.new ≡ out.old ++ 32 ∷ word (Field.bytes bytes.now)) }
+{
+    if bytes.is_empty() {
+        return push_name(out, "-");
+    }
+    let text = canonical_text(alloc, bytes)?;
+    push_name(out, &text)
+}
+
+/// Adds `uUNIT CDB BYTES`.
+pub(crate) fn push_work(
+    alloc: Global,
+    out: &mut Bytes,
+    unit: u8,
+    cdb: &[u8; 12],
+    bytes: &[u8],
+) -> Result<(), NoMemory>
+    ensures { OnOk result (out.new ≡ out.old ++ further (map word (work_fields unit cdb.now bytes.now))) }
+{
+    push_unit(out, unit)?;
+    push_digits(out, cdb.as_slice())?;
+    push_canonical(alloc, out, bytes)
+}
+
+/// Adds `uUNIT`.
+fn push_unit(out: &mut Bytes, unit: u8) -> Result<(), NoMemory>
+    ensures { OnOk result (out.new ≡ out.old ++ 32 ∷ word (Field.unit_name unit)) }
+{
+    out.push(b' ')?;
+    out.push(b'u')?;
+    push_decimal(out, u64::from(unit))
+}
+
+/// Adds `none`, `in LENGTH` or `out BYTES`.
+pub(crate) fn push_buffer(
+    alloc: Global,
+    out: &mut Bytes,
+    buffer: &NoteBuffer,
+) -> Result<(), NoMemory>
+    ensures { OnOk result (out.new ≡ out.old ++ further (map word (buffer_fields buffer.now))) }
+{
+    match buffer {
+        NoteBuffer::Nothing => push_name(out, "none"),
+        NoteBuffer::In(len) => {
+            push_name(out, "in")?;
+            push_number(out, u64::from(*len))
+        }
+        NoteBuffer::Out(bytes) => {
+            push_name(out, "out")?;
+            push_canonical(alloc, out, bytes.as_slice())
+        }
+    }
+}
+
+/// Adds the words of a check condition, or of none.
+pub(crate) fn push_check(out: &mut Bytes, check: Option<Sense>) -> Result<(), NoMemory>
+    requires { IsCheck check }
+    ensures { OnOk result (out.new ≡ out.old ++ further (map word (check_fields check))) }
+{
+    match check {
+        None => push_status(out, StatusKind::Good),
+        Some(sense) => push_status(out, StatusKind::Check(sense)),
+    }
+}
+
+/// Adds the words of a status: `good`, `check K/CC/QQ`, `dummy`, `aborted`, `illegal XX` or `failed`.
+pub(crate) fn push_status(out: &mut Bytes, status: StatusKind) -> Result<(), NoMemory>
+    requires { IsStatus status }
+    ensures { OnOk result (out.new ≡ out.old ++ further (map word (status_fields status))) }
+{
+    match status {
+        StatusKind::Good => push_name(out, "good"),
+        StatusKind::Check(sense) => {
+            push_name(out, "check")?;
+            push_sense(out, sense)
+        }
+        StatusKind::Dummy => push_name(out, "dummy"),
+        StatusKind::Aborted => push_name(out, "aborted"),
+        StatusKind::Illegal(meaning) => {
+            push_name(out, "illegal")?;
+            push_digits(out, &[meaning])
+        }
+        StatusKind::Failed => push_name(out, "failed"),
+        StatusKind::Management(_) => unreachable!(),
+    }
+}
+
+/// Adds `K/CC/QQ`: sense key, code and qualifier.
+fn push_sense(out: &mut Bytes, sense: Sense) -> Result<(), NoMemory>
+    requires { IsSense sense }
+    ensures { OnOk result (out.new ≡ out.old ++ 32 ∷ sense_word sense) }
+{
+    push_name(out, key_text(sense.key))?;
+    out.push(b'/')?;
+    push_hexadecimal(out, &[sense.code])?;
+    out.push(b'/')?;
+    push_hexadecimal(out, &[sense.qualifier])
+}
+
+/// Adds the bytes of an answer, if there are any.
+pub(crate) fn push_answer(alloc: Global, out: &mut Bytes, answer: &[u8]) -> Result<(), NoMemory>
+    ensures { OnOk result (out.new ≡ out.old ++ further (map word (answer_fields answer.now))) }
+{
+    if answer.is_empty() {
+        return Ok(());
+    }
+    push_canonical(alloc, out, answer)
+}
+
+/// Adds the login ID that a decision gives, if there is one.
+pub(crate) fn push_login(out: &mut Bytes, login: Option<u16>) -> Result<(), NoMemory>
+    ensures { OnOk result (out.new ≡ out.old ++ further (map word (login_fields login))) }
+{
+    match login {
+        None => Ok(()),
+        Some(login) => push_number(out, u64::from(login)),
+    }
+}
+
+/// Adds the words for how an operation ended.
+pub(crate) fn push_end(out: &mut Bytes, end: OpWord) -> Result<(), NoMemory>
+    ensures { OnOk result (out.new ≡ out.old ++ further (map word (end_fields end))) }
+{
+    match end {
+        OpWord::Done => push_name(out, "done"),
+        OpWord::Refused(status) => {
+            push_name(out, "refused")?;
+            push_digits(out, &[status])
+        }
+        OpWord::Conflict => push_name(out, "conflict"),
+        OpWord::Error => push_name(out, "error"),
+        OpWord::Reset => push_name(out, "reset"),
+        OpWord::Count(count) => {
+            push_name(out, "done")?;
+            push_maybe(out, count.map(u32::from))
+        }
+        OpWord::Bad(fault) => {
+            push_name(out, "bad")?;
+            push_number(out, u64::from(fault))
+        }
+        OpWord::NoUnit => push_name(out, "none"),
+        OpWord::State(value) => push_number(out, u64::from(value)),
+    }
+}
+
+/// A sense key as one digit.
+fn key_text(key: u8) -> &'static str
+    requires { key < 16 }
+    ensures { result.now ≡ slice_index upper_digits key ∷ [] }
+{
+    match key {
+        0 => "0",
+        1 => "1",
+        2 => "2",
+        3 => "3",
+        4 => "4",
+        5 => "5",
+        6 => "6",
+        7 => "7",
+        8 => "8",
+        9 => "9",
+        10 => "A",
+        11 => "B",
+        12 => "C",
+        13 => "D",
+        14 => "E",
+        _ => "F",
+    }
+}
