@@ -12,6 +12,3 @@ pub use serve::{LineError, Serve};
 pub use session::serve_lines;
 pub use status::Status;
 pub use write::write_all;
-
-#[cfg(test)]
-mod tests;

@@ -5,7 +5,6 @@ mod digits;
 mod words;
 
 pub use digits::{Digits, DigitsError, NO_DIGITS};
-pub use words::{end_line, push_decimal, push_digits, push_hexadecimal, push_name, push_number, push_payload};
-
-//#[cfg(test)]
-//mod tests;
+pub use words::{
+    end_line, push_decimal, push_digits, push_hexadecimal, push_name, push_number, push_payload,
+};

@@ -7,5 +7,7 @@ mod start;
 
 pub use lister::PacketLister;
 
-//#[cfg(test)]
-//mod tests;
+#[cfg(test)]
+mod boundaries;
+#[cfg(test)]
+mod tests;

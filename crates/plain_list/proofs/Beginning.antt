@@ -4,7 +4,8 @@ use Rattle.std.specs.Prelude.{slice_index}
 use Rattle.std.proofs.lemmas.Bool.{false≢true}
 use Rattle.sbp_base.specs.Faults.{count_up}
 use Rattle.rbc_disk.specs.Disk.{Disk}
-use Rattle.plain_list.specs.Plain.{held, empty_list, Stands, StandsAtFirst}
+use Rattle.rbc_disk.specs.Held.{held}
+use Rattle.plain_list.specs.Plain.{empty_list, Stands, StandsAtFirst}
 
 no_failures : (faults : List ℕ) (u : ℕ) → slice_index faults u ≡ count_up (slice_index faults u) 0
 no_failures faults u = omega arith

@@ -8,5 +8,5 @@ mod quadlets;
 pub use gatherer::RomLister;
 pub use listing::rom_tree_is_listed;
 
-//#[cfg(test)]
-//mod tests;
+#[cfg(test)]
+mod tests;

@@ -1,5 +1,5 @@
 -- A listing of packets ends as its status says.
-use Rattle.std.proofs.Common.{◌≡◌, ◌∙◌, refl, sym, ap, subst, ℕ, suc, ◌+◌, List, [], ◌∷◌, ◌++◌, take, drop, length, Option, Some, None, Result, Ok, Err, append_assoc, append-nil}
+use Rattle.std.proofs.Common.{◌≡◌, ◌∙◌, refl, sym, ap, subst, ℕ, suc, ◌+◌, List, [], ◌∷◌, ◌++◌, take, drop, length, Some, None, Result, Err, append_assoc, append-nil}
 use Rattle.std.specs.Prelude.{IfSome, nat_lt, if◌then◌else◌, Bool, true, false}
 use Rattle.std.specs.Io.KnownBytes.{Appends}
 use Rattle.std.specs.Str.Lines.{lines}
@@ -16,8 +16,8 @@ use Rattle.line_session.specs.declared.status.Status.{Status}
 use Rattle.line_session.specs.declared.status.Status.TheVariants as stream_statuses
 use Rattle.line_session.proofs.Sessions.{begins, stops}
 use Rattle.line_text.specs.Digits.{spelled}
-use Rattle.packet_listing.specs.Listing.{Listing, onto_listing, listing_from, line_listing, of_digits, listing}
-use Rattle.packet_listing.specs.Meaning.{ListedSo, list_meaning}
+use Rattle.packet_listing.specs.Listing.{onto_listing, listing_from, line_listing, of_digits, listing}
+use Rattle.packet_listing.specs.Meaning.{list_meaning}
 use Rattle.packet_listing.proofs.Listings.{behind, listing-next}
 use Rattle.sbp_command.specs.Headline.{ending, status_of, whole_text, KeepsMedia, TornListing, ListingEnds}
 
@@ -88,8 +88,7 @@ listing_ends S stream_statuses.Done before now (end, t) = (
 listing_ends S stream_statuses.Script before now t =
     let h = t.ran.1 in
     let found : listing t.input ≡ record { text = t.text; fault = Some (1 + length t.served, t.fault) }
-    = ap (listing_from 1) t.input_is ∙ faulty t.served t.line t.others t.text t.fault h.listed (refused-listing (1 + length t.served) t.line t.fault t.refused) in
-    (
+    = ap (listing_from 1) t.input_is ∙ faulty t.served t.line t.others t.text t.fault h.listed (refused-listing (1 + length t.served) t.line t.fault t.refused) in (
       (1 + length t.served, t.fault),
       record {
         input = t.input;
@@ -103,17 +102,17 @@ listing_ends S stream_statuses.Script before now t =
 listing_ends S stream_statuses.ReadFault before now (rose, t) = (
   rose,
   let h = t.ran.1 in
-  record {
-    whole = t.whole;
-    rest = t.rest;
-    consumed = t.consumed;
-    is_whole = t.is_whole;
-    no_feed = t.no_feed;
-    short = t.short;
-    fault_is = ap (λ l. l.fault) h.listed;
-    written = subst (Appends before.written now.written) (ap (λ l. l.text) (sym h.listed)) t.written;
-    media = h.kept;
-  },
+      record {
+        whole = t.whole;
+        rest = t.rest;
+        consumed = t.consumed;
+        is_whole = t.is_whole;
+        no_feed = t.no_feed;
+        short = t.short;
+        fault_is = ap (λ l. l.fault) h.listed;
+        written = subst (Appends before.written now.written) (ap (λ l. l.text) (sym h.listed)) t.written;
+        media = h.kept;
+      },
 )
 listing_ends S stream_statuses.WriteFault before now (rose, t) = (rose, torn S before now t)
 listing_ends S stream_statuses.NoMemory before now t = torn S before now t

@@ -1,5 +1,5 @@
 -- The listing of a configuration ROM ends as its status says.
-use Rattle.std.proofs.Common.{◌≡◌, ◌∙◌, refl, sym, ap, subst, ℕ, suc, ◌+◌, List, [], ◌∷◌, ◌++◌, take, length, Option, Some, None, Result, Ok, Err, append-nil}
+use Rattle.std.proofs.Common.{◌≡◌, ◌∙◌, refl, sym, ap, subst, ℕ, suc, ◌+◌, List, [], ◌∷◌, ◌++◌, take, length, Some, None, Result, Ok, Err, append-nil}
 use Rattle.std.specs.Prelude.{IfSome, nat_lt, if◌then◌else◌, Bool, true, false}
 use Rattle.std.specs.Io.KnownBytes.{Appends}
 use Rattle.std.specs.Str.Lines.{lines}
@@ -18,7 +18,7 @@ use Rattle.line_text.specs.Digits.{spelled}
 use Rattle.rom_listing.specs.RomListing.{onto_rom, rom_from, with_line, with_spelled, rom_quads}
 use Rattle.rom_listing.specs.Meaning.{RefusedSo, rom_meaning}
 use Rattle.rom_listing.proofs.Roms.{rom_from-append}
-use Rattle.sbp_command.specs.Headline.{status_of, rom_output, KeepsMedia, TornRom, RomEnds}
+use Rattle.sbp_command.specs.Headline.{status_of, rom_output, TornRom, RomEnds}
 
 refused_cases : (many long : Bool) (read : Result (List ℕ) ℕ) (fault : ℕ) (own : Type 0) → (own → (if many then Err too_many else if long then Err too_long else read) ≡ Err fault)
     → RefusedFor (if many then Some too_many else if long then Some too_long else None) own fault
@@ -82,8 +82,7 @@ rom_ends stream_statuses.Done before now (end, t) = (
   ),
 )
 rom_ends stream_statuses.Script before now t =
-    let quads = t.ran.0 in let h = t.ran.1 in
-    (
+    let quads = t.ran.0 in let h = t.ran.1 in (
       (1 + length t.served, t.fault),
       record {
         input = t.input;
@@ -97,18 +96,18 @@ rom_ends stream_statuses.Script before now t =
 rom_ends stream_statuses.ReadFault before now (rose, t) = (
   rose,
   let quads = t.ran.0 in let h = t.ran.1 in
-  record {
-    whole = t.whole;
-    rest = t.rest;
-    quads = quads;
-    consumed = t.consumed;
-    is_whole = t.is_whole;
-    no_feed = t.no_feed;
-    short = t.short;
-    is_read = h.read;
-    written = subst (Appends before.written now.written) h.silent t.written;
-    media = h.kept;
-  },
+      record {
+        whole = t.whole;
+        rest = t.rest;
+        quads = quads;
+        consumed = t.consumed;
+        is_whole = t.is_whole;
+        no_feed = t.no_feed;
+        short = t.short;
+        is_read = h.read;
+        written = subst (Appends before.written now.written) h.silent t.written;
+        media = h.kept;
+      },
 )
 rom_ends stream_statuses.WriteFault before now (rose, t) = (rose, torn before now t)
 rom_ends stream_statuses.NoMemory before now t = torn before now t

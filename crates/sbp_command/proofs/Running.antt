@@ -1,13 +1,11 @@
 -- A script is run line by line, and ends as its status says.
-use Rattle.std.proofs.Common.{◌≡◌, ◌∙◌, refl, sym, ap, subst, ℕ, suc, ◌+◌, ◌<◌, ◌≤◌, inl, inr, Bool, true, false, List, [], ◌∷◌, ◌++◌, take, length, map, reverse, Option, Some, None, Result, Ok, Err, append_assoc, append-nil, arith}
-use Rattle.std.specs.Prelude.{IfSome, min, slice_index}
-use Rattle.std.specs.Io.KnownBytes.{Appends, IsAtEnd}
+use Rattle.std.proofs.Common.{◌≡◌, ◌∙◌, refl, sym, ap, subst, ℕ, ◌+◌, ◌<◌, ◌≤◌, inl, inr, true, List, [], ◌∷◌, ◌++◌, take, length, map, reverse, Some, None, Ok, Err, append_assoc, append-nil, arith}
+use Rattle.std.specs.Prelude.{IfSome}
+use Rattle.std.specs.Io.KnownBytes.{Appends}
 use Rattle.std.specs.Str.Lines.{lines}
 use Rattle.std.proofs.Math.Seq.{take-append_seam}
-use Rattle.std.proofs.lemmas.Bool.{false≢true}
 use Rattle.std.proofs.lemmas.List.{length-map}
 use Rattle.std.proofs.lemmas.List.Concat.{flat_map-append}
-use Rattle.sbp_base.specs.Faults.{last_count}
 use Rattle.rbc_disk.specs.Disk.{Disk}
 use Rattle.rbc_disk.specs.Held.{Held, held}
 use Rattle.sbp_journal.specs.Run.{Run, with_entry, empty_run, journal, history, events_of}
@@ -16,10 +14,9 @@ use Rattle.sbp_journal.specs.declared.event.Event.{Event}
 use Rattle.sbp_journal.specs.declared.note.Note.{Note}
 use Rattle.sbp_laws.specs.DiskFold.{DisksAre}
 use Rattle.sbp_laws.specs.Lawful.{Lawful, AreLawful}
-use Rattle.plain_list.specs.Plain.{PlainState, empty_list, Stands, StandsFor}
-use Rattle.script_text.specs.Script.{Script}
+use Rattle.plain_list.specs.Plain.{PlainState, empty_list, StandsFor}
 use Rattle.line_session.specs.Outside.{Outside}
-use Rattle.line_session.specs.Meaning.{Refused, Ran, Serves, fault_text}
+use Rattle.line_session.specs.Meaning.{Serves, fault_text}
 use Rattle.line_session.specs.Ends.{Ends, Brings}
 use Rattle.line_session.specs.Ends as stream
 use Rattle.line_session.specs.Ends.Brings.{lines_alone, with_fault, with_end}
@@ -27,36 +24,14 @@ use Rattle.line_session.specs.declared.serve.LineError.{LineError}
 use Rattle.line_session.specs.declared.serve.LineError.TheVariants.{Fault, NoMemory}
 use Rattle.line_session.specs.declared.status.Status.{Status}
 use Rattle.line_session.specs.declared.status.Status.TheVariants as stream_statuses
+use Rattle.plain_list.proofs.Beginning.{stands_at_first}
 use Rattle.line_session.proofs.Sessions.{begins, stops}
 use Rattle.sbp_command.specs.Script.{script, says, heard, Hears}
 use Rattle.sbp_command.specs.Runner.{has_some, of_lines, RanSo, run_meaning}
-use Rattle.sbp_command.specs.Headline.{ending, status_of, RunsOver, LeavesMedia, RanScript, Torn, RunEnds}
+use Rattle.sbp_command.specs.Headline.{ending, status_of, RunsOver, LeavesMedia, Torn, RunEnds}
 use Rattle.sbp_command.proofs.ScriptLines.{served-next, served-more, served-fault, says-within, refused-says}
 
 -- ---- how a run begins
-
-no_failures : (faults : List ℕ) (u : ℕ) → min (slice_index faults u + 0) last_count ≤ slice_index faults u
-no_failures faults u = omega arith
-
-empty_stands : (disks : List Disk) (faults : List ℕ) → 0 < length disks → 0 < length faults → Stands (held disks faults) (held disks faults) [] empty_list
-empty_stands disks faults some counted = record {
-  lawful = record { form = tt; order = tt; execution = tt; status = tt; answer = tt };
-  login = λ e. absurd (false≢true e);
-  of_appends = refl;
-  of_lists = refl;
-  alone = λ i h. refl;
-  of_ends = refl;
-  of_statuses = refl;
-  count = refl;
-  queued = λ j d h. absurd (omega arith);
-  not_run = λ k h. refl;
-  not_taken = λ k h. refl;
-  unit_is = refl;
-  disks = record { count = refl; each = λ u h. refl };
-  failures = record { each = no_failures faults };
-  some = some;
-  counted = counted;
-}
 
 -- no line was run
 pub fresh : (disks : List Disk) (faults : List ℕ) → 0 < length disks → 0 < length faults → RanSo (held disks faults) [] [] empty_list (held disks faults)
@@ -66,7 +41,7 @@ fresh disks faults some counted = record {
   events_are = refl;
   begun = refl;
   text_is = refl;
-  stands = record { begins = refl; moments = empty_stands disks faults some counted; action = tt };
+  stands = stands_at_first (held disks faults) some counted;
 }
 
 -- ---- one more line
@@ -190,22 +165,21 @@ pub run_ends : (status : Status) (before now : Outside) → Ends run_meaning sta
 run_ends stream_statuses.Done before now (end, t) = (
   end,
   let list = t.closed.0 in let h = t.closed.1 in
-  record {
-    input = t.input;
-    run = h.run;
-    told = t.told;
-    fault_is = h.clean;
-    over = over before now.media h.run list (script t.input).events h.stands h.events_are;
-    written = subst (Appends before.written now.written) (h.text_is ∙ sym (append-nil (text_of (journal h.run)))) t.written;
-    media = leaves before now h.run list h.stands;
-    no_fault = t.no_fault;
-  },
+      record {
+        input = t.input;
+        run = h.run;
+        told = t.told;
+        fault_is = h.clean;
+        over = over before now.media h.run list (script t.input).events h.stands h.events_are;
+        written = subst (Appends before.written now.written) (h.text_is ∙ sym (append-nil (text_of (journal h.run)))) t.written;
+        media = leaves before now h.run list h.stands;
+        no_fault = t.no_fault;
+      },
 )
 run_ends stream_statuses.Script before now t =
     let list = t.ran.0 in let h = t.ran.1 in
     let read = refused-says (1 + length t.served) (has_some (of_lines t.served).events) t.line t.fault t.refused in
-    let found : script t.input ≡ record { events = (of_lines t.served).events; fault = Some (1 + length t.served, t.fault) } = ap of_lines t.input_is ∙ served-fault t.served t.line t.others t.fault h.clean read in
-    (
+    let found : script t.input ≡ record { events = (of_lines t.served).events; fault = Some (1 + length t.served, t.fault) } = ap of_lines t.input_is ∙ served-fault t.served t.line t.others t.fault h.clean read in (
       (1 + length t.served, t.fault),
       record {
         input = t.input;
@@ -221,19 +195,19 @@ run_ends stream_statuses.Script before now t =
 run_ends stream_statuses.ReadFault before now (rose, t) = (
   rose,
   let list = t.ran.0 in let h = t.ran.1 in
-  record {
-    whole = t.whole;
-    rest = t.rest;
-    run = h.run;
-    consumed = t.consumed;
-    is_whole = t.is_whole;
-    no_feed = t.no_feed;
-    short = t.short;
-    fault_is = h.clean;
-    over = over before now.media h.run list (script t.whole).events h.stands h.events_are;
-    written = subst (Appends before.written now.written) h.text_is t.written;
-    media = leaves before now h.run list h.stands;
-  },
+      record {
+        whole = t.whole;
+        rest = t.rest;
+        run = h.run;
+        consumed = t.consumed;
+        is_whole = t.is_whole;
+        no_feed = t.no_feed;
+        short = t.short;
+        fault_is = h.clean;
+        over = over before now.media h.run list (script t.whole).events h.stands h.events_are;
+        written = subst (Appends before.written now.written) h.text_is t.written;
+        media = leaves before now h.run list h.stands;
+      },
 )
 run_ends stream_statuses.WriteFault before now (rose, t) = (rose, torn before now t)
 run_ends stream_statuses.NoMemory before now t = torn before now t

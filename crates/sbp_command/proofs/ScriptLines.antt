@@ -1,10 +1,10 @@
 -- The script that the list serves, line by line.
-use Rattle.std.proofs.Common.{◌≡◌, ◌≢◌, ◌∙◌, refl, sym, ap, ℕ, suc, ◌+◌, ◌≤◌, ◌<◌, ◌||◌, nat_lt, Bool, true, false, if◌then◌else◌, List, [], ◌∷◌, ◌++◌, length, Option, Some, None, Result, Ok, Err, append-nil, add-zero, arith}
-use Rattle.std.proofs.lemmas.Bool.{lt-ltb, le-ltb, ltb-true}
+use Rattle.std.proofs.Common.{◌≡◌, ◌≢◌, ◌∙◌, refl, sym, ap, ℕ, suc, ◌+◌, ◌≤◌, ◌||◌, nat_lt, Bool, true, false, if◌then◌else◌, List, [], ◌∷◌, ◌++◌, length, Option, Some, None, Result, Ok, Err, append-nil, add-zero, arith}
+use Rattle.std.proofs.lemmas.Bool.{le-ltb}
 use Rattle.sbp_journal.specs.declared.event.Event.{Event}
 use Rattle.plain_list.specs.Plain.{initiators}
 use Rattle.script_text.specs.Line.{reading}
-use Rattle.script_text.specs.Script.{Script, onto_script, line_says, numbered}
+use Rattle.script_text.specs.Script.{Script, onto_script, numbered}
 use Rattle.script_words.specs.declared.fault.LineFault.{LineFault as ScriptFault}
 use Rattle.script_words.specs.declared.fault.LineFault.TheVariants as script_faults
 use Rattle.line_session.specs.Lines.{limit_fault, too_many, too_long}

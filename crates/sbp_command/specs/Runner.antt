@@ -1,5 +1,5 @@
 -- What `run` does with lines.
-use Rattle.std.specs.Prelude.{◌≡◌, ℕ, ◌+◌, ◌<◌, Bool, true, false, List, [], ◌∷◌, ◌++◌, length, None, Err}
+use Rattle.std.specs.Prelude.{◌≡◌, ℕ, ◌+◌, ◌<◌, Bool, true, false, List, [], ◌∷◌, length, None, Err}
 use Rattle.rbc_disk.specs.Held.{Held}
 use Rattle.sbp_journal.specs.Run.{Run, journal, events_of}
 use Rattle.sbp_journal.specs.Text.{text_of}

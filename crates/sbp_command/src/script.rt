@@ -29,11 +29,7 @@ fn line_error(fault: LineFault) -> LineError
 
 /// Reads a line of a script, without its line feed: its event, which the list serves, or nothing for
 /// a blank line or a comment.
-pub fn read_served(
-    alloc: Global,
-    line: &[u8],
-    list: &PlainList,
-) -> Result<Option<Event>, LineError>
+pub fn read_served(alloc: Global, line: &[u8], list: &PlainList) -> Result<Option<Event>, LineError>
     ensures reads { Hears result (heard list.now.begun line.now) }
     ensures served { IfOk result (λ said. IfSome said (λ event. is_served list.now.begun event ≡ true)) }
 {
