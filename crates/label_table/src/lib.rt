@@ -31,4 +31,6 @@ pub use table::Labels;
 pub use transactions::Transactions;
 
 #[cfg(test)]
+mod layer_tests;
+#[cfg(test)]
 mod tests;
