@@ -7,8 +7,10 @@ use Rattle.std.specs.Result.{IsErr}
 use Rattle.login_table.specs.declared.login.Login.{Login}
 use Rattle.login_table.specs.Requests.{LoginRequest}
 use Rattle.login_table.specs.Table.{expired_id, Table, place_at, find, is_live, is_denied, is_old, left_for, without, enter_at, enter_step, is_held, revived, is_barred, back_to, back_at, back_step, is_live_of, leave_at, leave_step, held, hold_step, ticked}
-use Rattle.login_table.specs.Laws.{ExpiryLaw, IsOver, Call, enter, back, leave, hold, tick, after, all_after, Stands, HeldLaw, ticks_of, ticks, Leaves}
+use Rattle.login_table.specs.Laws.{ExpiryLaw, IsOver, Call, enter, back, leave, hold, tick, after, all_after, Stands, HeldLaw, ticks_of, ticks, Leaves, LiveLaw, Spares}
 use Rattle.login_table.proofs.Searching.{found, found_empty}
+use Rattle.login_table.proofs.Listed.{given_to}
+use Rattle.std.proofs.lemmas.Bool.Decides.{nat_tests}
 
 -- the login with so many seconds left
 abbrev waiting : Login → ℕ → Login
@@ -130,10 +132,30 @@ held_for_its_seconds table i login (call ∷ calls) e l c h =
     (after_stands call (all_after calls (hold_step table)) i login (login.hold + 1 - ticks calls) before c.0 (omega arith))
 
 last_second : (table : Table) (i : ℕ) (login : Login) → Stands table i (waiting login 1) → IsOver table i login
-last_second table i login e = record { told = ap expired_id e; gone = get_or-map ticked table.places i None ∙ ap ticked e }
+last_second table i login e = record { told = given_to expired_id table.places i login.login refl (ap expired_id e); gone = get_or-map ticked table.places i None ∙ ap ticked e }
 
 pub expires_after_its_seconds : ExpiryLaw
 expires_after_its_seconds table i login calls e l c h =
     let before = held_for_its_seconds table i login calls e l c (omega arith) in
     last_second (all_after calls (hold_step table)) i login
     (subst (λ (n : ℕ). Stands (all_after calls (hold_step table)) i (waiting login n)) (omega arith) before)
+
+not_of : (id node : ℕ) (x : Login) → (id ≡ x.login → node ≢ x.node) → is_live_of id node x ≡ false
+not_of id node x s = grind (arith, nat_tests)
+
+ticked_live : (remaining : Option ℕ) (x : Login) → x.remaining ≡ remaining → is_live x ≡ true → ticked (Some x) ≡ Some x
+ticked_live None x e l = rw e refl
+ticked_live (Some n) x e l = absurd (let no : false ≡ true = rw e at l in cc)
+
+-- A live login stands as it is after a call that spares it.
+live_after : (call : Call) (table : Table) (i : ℕ) (x : Login) → Stands table i x → is_live x ≡ true → Spares x call → Stands (after call table) i x
+unfolding back_step leave_step
+live_after (enter asked) table i x e l s = enter_by_stands _ table asked i x refl e (grind arith)
+live_after (back id node eui) table i x e l s = back_at_stands _ table id node eui i x refl e (grind arith)
+live_after (leave id node) table i x e l s = leave_at_stands _ table id node i x refl e (not_of id node x s)
+live_after hold table i x e l s = absurd s
+live_after tick table i x e l s = get_or-map ticked table.places i None ∙ ap ticked e ∙ ticked_live _ x refl l
+
+pub live_until_it_leaves : LiveLaw
+live_until_it_leaves table i x [] e l s = e
+live_until_it_leaves table i x (call ∷ calls) e l s = live_after call (all_after calls table) i x (live_until_it_leaves table i x calls e l s.1) l s.0

@@ -1,15 +1,17 @@
 -- The laws over every list of calls.
-use Rattle.std.specs.Prelude.{◌≡◌, ◌≢◌, ℕ, Bool, true, false, List, [], ◌∷◌, position, is_none, Option, Some, None, Ok, Err, refl}
+use Rattle.std.specs.Prelude.{◌≡◌, ◌≢◌, ℕ, ◌+◌, ◌≤◌, ◌++◌, reverse, Bool, true, false, List, [], ◌∷◌, position, is_none, Option, Some, None, Ok, Err, refl}
 use Rattle.std.proofs.Common.{arith, ap, sym, ◌∙◌, subst}
+use Rattle.std.proofs.lemmas.List.{reverse-append}
 use Rattle.login_table.specs.declared.login.Login.{Login}
 use Rattle.login_table.specs.Requests.{LoginRequest}
 use Rattle.login_table.specs.declared.login.Entered.{Entered}
 use Rattle.login_table.specs.Table.{Table, place_at, find, is_denied, is_old, left_for, id_at, enter_at, enter_step, is_barred, back_to, back_at, back_step, leave_at, leave_step, fresh_id, next_id}
-use Rattle.login_table.specs.Laws.{Call, enter, back, leave, hold, tick, after, made_by, Stands, OneByEuiLaw, OneByNodeLaw, ExclusiveLaw, OneByIdLaw, NumberedLaw, NextIdLaw, IsNextFree, last_by, last_with, last_entered}
+use Rattle.login_table.specs.Laws.{Call, enter, back, leave, hold, tick, after, made_by, Stands, OneByEuiLaw, OneByNodeLaw, ExclusiveLaw, OneByIdLaw, NumberedLaw, NextIdLaw, IsNextFree, last_by, last_with, last_entered, SecondsLaw, TurnLaw, all_after}
 use Rattle.login_table.proofs.Searching.{found_empty}
 use Rattle.login_table.proofs.Counting.{next_counted}
 use Rattle.login_table.proofs.Sound.{Same, is_same, same, other}
-use Rattle.login_table.proofs.Kept.{IsTable, always, new_free, left_sound}
+use Rattle.login_table.specs.Sound.{IsTable, SecondsWithin}
+use Rattle.login_table.proofs.Kept.{always, new_free, left_sound}
 
 -- two places that would break what is apart are one
 one_place : (i j : ℕ) → Same i j → (i ≢ j → i ≡ j) → i ≡ j
@@ -99,3 +101,21 @@ pub next_id_free : NextIdLaw
 next_id_free calls asked entered e =
     subst (λ (last : ℕ). IsNextFree last entered.login (left_for asked (made_by calls).places)) (last_kept calls)
     (next_by _ (made_by calls) asked entered refl (always calls) e)
+
+seconds_of : (remaining : Option ℕ) (seconds most : ℕ) → SecondsWithin remaining most → remaining ≡ Some seconds → (1 ≤ seconds) × (seconds ≤ most + 1)
+seconds_of None seconds most w e = absurd (let no : None ≡ Some seconds = e in cc)
+seconds_of (Some n) seconds most w e = let is : n ≡ seconds = cc in subst (λ (m : ℕ). (1 ≤ m) × (m ≤ most + 1)) is w
+
+pub seconds_left : SecondsLaw
+seconds_left calls i seconds a e r = seconds_of a.remaining seconds a.hold ((always calls).sound.seconds i a e) r
+
+after_both : (later calls : List Call) (table : Table) → all_after (later ++ calls) table ≡ all_after later (all_after calls table)
+after_both [] calls table = refl
+after_both (call ∷ later) calls table = ap (after call) (after_both later calls table)
+
+pub calls_in_turn : TurnLaw
+calls_in_turn [] table = refl
+calls_in_turn (call ∷ calls) table =
+    ap (λ (cs : List Call). all_after cs table) (reverse-append (call ∷ []) calls)
+    ∙ after_both (reverse calls) (call ∷ []) table
+    ∙ calls_in_turn calls (after call table)

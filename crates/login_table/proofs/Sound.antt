@@ -6,21 +6,8 @@ use Rattle.std.proofs.lemmas.Grind.{common_steps}
 use Rattle.std.proofs.lemmas.List.{get_or-set_same, get_or-set_other}
 use Rattle.login_table.specs.declared.login.Login.{Login}
 use Rattle.login_table.specs.Table.{place_at, is_live}
-use Rattle.login_table.specs.Laws.{IsNumbered}
+use Rattle.login_table.specs.Sound.{Apart, IsNumbered, IsSound, SecondsWithin}
 use Rattle.login_table.proofs.Searching.{within}
-
--- two logins of one table
-pub record Apart (a b : Login) : Type 0 where
-  pub euis : a.unit ≡ b.unit → a.eui ≢ b.eui
-  pub nodes : a.unit ≡ b.unit → is_live a ≡ true → is_live b ≡ true → a.node ≢ b.node
-  pub first : a.unit ≡ b.unit → a.exclusive ≡ false
-  pub second : a.unit ≡ b.unit → b.exclusive ≡ false
-  pub ids : a.login ≢ b.login
-
-pub record IsSound (places : List (Option Login)) : Type 0 where
-  pub size : length places ≡ 8
-  pub apart : (i j : ℕ) (a b : Login) → i ≢ j → place_at places i ≡ Some a → place_at places j ≡ Some b → Apart a b
-  pub numbered : (i : ℕ) (a : Login) → place_at places i ≡ Some a → IsNumbered i a
 
 pub apart_sym : (a b : Login) → Apart a b → Apart b a
 apart_sym a b p = record {
@@ -39,6 +26,7 @@ new_sound = record {
   size = refl;
   apart = λ i j a b d e f. absurd (let n = none_at i in let no : None ≡ Some a = sym n ∙ e in cc);
   numbered = λ i a e. absurd (let n = none_at i in let no : None ≡ Some a = sym n ∙ e in cc);
+  seconds = λ i a e. absurd (let n = none_at i in let no : None ≡ Some a = sym n ∙ e in cc);
 }
 
 -- the login of a place is that of before, or the one put in
@@ -85,12 +73,14 @@ taken_out places k s = record {
   size = length-set places k None ∙ s.size;
   apart = λ i j a b d e f. s.apart i j a b d (stood places k i a e) (stood places k j b f);
   numbered = λ i a e. s.numbered i a (stood places k i a e);
+  seconds = λ i a e. s.seconds i a (stood places k i a e);
 }
 
 -- the login that is put in is apart from each other one
 pub record Fits (places : List (Option Login)) (k : ℕ) (x : Login) : Type 0 where
   pub below : k < length places
   pub numbered : IsNumbered k x
+  pub seconds : SecondsWithin x.remaining x.hold
   pub apart : (j : ℕ) (b : Login) → j ≢ k → place_at places j ≡ Some b → Apart x b
 
 put_numbered : (places : List (Option Login)) (k : ℕ) (x : Login) → IsSound places → Fits places k x → (i : ℕ) (a : Login) → Same i k → place_at (set places k (Some x)) i ≡ Some a → IsNumbered i a
@@ -100,6 +90,13 @@ put_numbered places k x s f i a (same m) e =
     let is : x ≡ a = cc in
     let n = f.numbered in
     record { own = ap (λ (l : Login). l.place) (sym is) ∙ n.own ∙ sym m; below = grind arith; least = grind arith; most = grind arith }
+
+put_seconds : (places : List (Option Login)) (k : ℕ) (x : Login) → IsSound places → Fits places k x → (i : ℕ) (a : Login) → Same i k → place_at (set places k (Some x)) i ≡ Some a → SecondsWithin a.remaining a.hold
+put_seconds places k x s f i a (other d) e = s.seconds i a (set_cases places k i (Some x) a e d)
+put_seconds places k x s f i a (same m) e =
+    let own : Some x ≡ Some a = set_here places k i (Some x) a f.below e m in
+    let is : x ≡ a = cc in
+    subst (λ (l : Login). SecondsWithin l.remaining l.hold) is f.seconds
 
 put_apart : (places : List (Option Login)) (k : ℕ) (x : Login) → IsSound places → Fits places k x → (i j : ℕ) (a b : Login) → i ≢ j → Same i k → Same j k → place_at (set places k (Some x)) i ≡ Some a → place_at (set places k (Some x)) j ≡ Some b → Apart a b
 put_apart places k x s f i j a b d (other p) (other q) e g = s.apart i j a b d (set_cases places k i (Some x) a e p) (set_cases places k j (Some x) b g q)
@@ -118,6 +115,7 @@ put_in places k x s f = record {
   size = length-set places k (Some x) ∙ s.size;
   apart = λ i j a b d e g. put_apart places k x s f i j a b d (is_same i k) (is_same j k) e g;
   numbered = λ i a e. put_numbered places k x s f i a (is_same i k) e;
+  seconds = λ i a e. put_seconds places k x s f i a (is_same i k) e;
 }
 
 -- the login of before, of which only the seconds changed
@@ -129,6 +127,7 @@ pub record Came (before now : Login) : Type 0 where
   pub eui : now.eui ≡ before.eui
   pub exclusive : now.exclusive ≡ before.exclusive
   pub live : is_live now ≡ true → is_live before ≡ true
+  pub seconds : SecondsWithin before.remaining before.hold → SecondsWithin now.remaining now.hold
 
 pub record CameFrom (place : Option Login) (now : Login) : Type 0 where
   pub before : Login
@@ -153,4 +152,5 @@ all_came places now z f s = record {
   size = z ∙ s.size;
   apart = λ i j a b d e g. came_apart a b (f i a e).before (f j b g).before (f i a e).came (f j b g).came (s.apart i j (f i a e).before (f j b g).before d (f i a e).stood (f j b g).stood);
   numbered = λ i a e. came_numbered i a (f i a e).before (f i a e).came (s.numbered i (f i a e).before (f i a e).stood);
+  seconds = λ i a e. (f i a e).came.seconds (s.seconds i (f i a e).before (f i a e).stood);
 }

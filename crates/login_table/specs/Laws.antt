@@ -1,11 +1,12 @@
 -- What holds of the logins after every list of calls (NCITS 325-1998, access).
-use Rattle.std.specs.Prelude.{◌≡◌, ℕ, zero, suc, ◌+◌, ◌-◌, ◌<◌, ◌≤◌, true, false, List, [], ◌∷◌, Option, Some, None, Result, Ok, Err}
+use Rattle.std.specs.Prelude.{◌≡◌, ◌≢◌, ◌↔◌, ℕ, zero, suc, ◌+◌, ◌-◌, ◌<◌, ◌≤◌, true, false, List, [], ◌∷◌, reverse, AllPairs, Contains, Option, Some, None, Result, Ok, Err}
 use Rattle.std.specs.Result.{IsErr}
 use Rattle.login_table.specs.declared.login.Login.{Login}
 use Rattle.login_table.specs.Requests.{LoginRequest}
 use Rattle.login_table.specs.declared.login.Entered.{Entered}
 use Rattle.login_table.specs.declared.login.LoginRefusal.{LoginRefusal}
-use Rattle.login_table.specs.Table.{Table, new_table, place_at, is_live, is_used, next_id, left_for, enter_step, back_step, leave_step, hold_step, tick_step, expired_id}
+use Rattle.login_table.specs.Table.{Table, new_table, place_at, is_live, is_used, next_id, left_for, live_ids, units_places, enter_step, back_step, leave_step, hold_step, tick_step}
+use Rattle.login_table.specs.Sound.{IsNumbered}
 
 -- a call that may change the table
 pub data Call : Type 0 where
@@ -31,6 +32,15 @@ all_after (call ∷ calls) table = after call (all_after calls table)
 abbrev pub made_by : List Call → Table
 made_by calls = all_after calls new_table
 
+-- the table after these calls, the earliest of them first
+abbrev pub in_turn : List Call → Table → Table
+in_turn [] table = table
+in_turn (call ∷ calls) table = in_turn calls (after call table)
+
+-- Calls in their order, each after those before it, make the table that they make with the latest first.
+abbrev pub TurnLaw : Type 0
+TurnLaw = (calls : List Call) (table : Table) → all_after (reverse calls) table ≡ in_turn calls table
+
 -- the login stands in the place, live or held
 abbrev pub Stands : Table → ℕ → Login → Type 0
 Stands table place login = place_at table.places place ≡ Some login
@@ -55,15 +65,13 @@ abbrev pub OneByIdLaw : Type 0
 OneByIdLaw =
     (calls : List Call) (i j : ℕ) (a b : Login) → Stands (made_by calls) i a → Stands (made_by calls) j b → a.login ≡ b.login → i ≡ j
 
--- A login carries the number of its place, one of eight, and an ID from 1 to 65535.
-pub record IsNumbered (place : ℕ) (login : Login) : Type 0 where
-  pub own : login.place ≡ place
-  pub below : place < 8
-  pub least : 1 ≤ login.login
-  pub most : login.login ≤ 65535
-
 abbrev pub NumberedLaw : Type 0
 NumberedLaw = (calls : List Call) (i : ℕ) (a : Login) → Stands (made_by calls) i a → IsNumbered i a
+
+-- A held login has from 1 to hold + 1 seconds left.
+abbrev pub SecondsLaw : Type 0
+SecondsLaw =
+    (calls : List Call) (i seconds : ℕ) (a : Login) → Stands (made_by calls) i a → a.remaining ≡ Some seconds → (1 ≤ seconds) × (seconds ≤ a.hold + 1)
 
 abbrev pub last_by : Result Entered LoginRefusal → ℕ → ℕ
 last_by (Ok entered) last = entered.login
@@ -132,9 +140,63 @@ HeldLaw =
 
 -- The second behind those takes its last one: the login is told as expired, and its place is empty.
 pub record IsOver (table : Table) (place : ℕ) (login : Login) : Type 0 where
-  pub told : expired_id (place_at table.places place) ≡ Some login.login
+  pub told : Contains (tick_step table).0 login.login
   pub gone : place_at (tick_step table).1.places place ≡ None
 
 abbrev pub ExpiryLaw : Type 0
 ExpiryLaw =
     (table : Table) (place : ℕ) (login : Login) (calls : List Call) → Stands table place login → is_live login ≡ true → LeaveAll login calls (hold_step table) → ticks calls ≡ login.hold → IsOver (all_after calls (hold_step table)) place login
+
+-- a held login with the ID has one second left
+pub record EndsNext (table : Table) (id : ℕ) : Type 0 where
+  pub place : ℕ
+  pub login : Login
+  pub stands : Stands table place login
+  pub own : login.login ≡ id
+  pub last : login.remaining ≡ Some 1
+
+-- A second tells the IDs of the logins that have one second left and no others, each once.
+pub record TellsEnds (table : Table) : Type 0 where
+  pub all : (id : ℕ) → EndsNext table id → Contains (tick_step table).0 id
+  pub alone : (id : ℕ) → Contains (tick_step table).0 id → EndsNext table id
+  pub once : AllPairs (λ a b. a ≢ b) (tick_step table).0
+
+abbrev pub TickLaw : Type 0
+TickLaw = (calls : List Call) → TellsEnds (made_by calls)
+
+-- The call is no logout of the login by its node, and no hold.
+abbrev pub Spares : Login → Call → Type 0
+Spares login (leave id node) = id ≡ login.login → node ≢ login.node
+Spares login hold = ⊥
+Spares login _ = Unit {0}
+
+abbrev pub SpareAll : Login → List Call → Type 0
+SpareAll login [] = Unit {0}
+SpareAll login (call ∷ calls) = Spares login call × SpareAll login calls
+
+-- A live login stands as it is until it leaves or is held.
+abbrev pub LiveLaw : Type 0
+LiveLaw =
+    (table : Table) (place : ℕ) (login : Login) (calls : List Call) → Stands table place login → is_live login ≡ true → SpareAll login calls → Stands (all_after calls table) place login
+
+-- a live login with the ID stands
+pub record LivesWith (table : Table) (id : ℕ) : Type 0 where
+  pub place : ℕ
+  pub login : Login
+  pub stands : Stands table place login
+  pub own : login.login ≡ id
+  pub live : is_live login ≡ true
+
+-- a login of the unit, live or held, stands in the place
+pub record UnitsLogin (table : Table) (unit place : ℕ) : Type 0 where
+  pub login : Login
+  pub stands : Stands table place login
+  pub own : login.unit ≡ unit
+
+-- The IDs that a hold holds are those of the live logins, and the places of a unit those of its logins.
+pub record ListsLogins (table : Table) : Type 0 where
+  pub live : (id : ℕ) → Contains (live_ids table.places) id ↔ LivesWith table id
+  pub units : (unit place : ℕ) → Contains (units_places unit table.places) place ↔ UnitsLogin table unit place
+
+abbrev pub ListLaw : Type 0
+ListLaw = (calls : List Call) → ListsLogins (made_by calls)

@@ -1,3 +1,4 @@
 pub mod Requests
 pub mod Table
+pub mod Sound
 pub mod Laws

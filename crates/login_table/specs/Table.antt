@@ -157,6 +157,14 @@ abbrev pub held : Option Login → Option Login
 held None = None
 held (Some login) = Some (record login { remaining = Some (held_for login.remaining login.hold) })
 
+abbrev pub live_id : Option Login → Option ℕ
+live_id None = None
+live_id (Some login) = if is_live login then Some login.login else None
+
+-- the IDs that a hold holds, by rising place
+abbrev pub live_ids : List (Option Login) → List ℕ
+live_ids places = filter_map live_id places
+
 abbrev pub hold_step : Table → Table
 hold_step table = record table { places = map held table.places }
 
@@ -184,6 +192,14 @@ expired_ids places = filter_map expired_id places
 
 abbrev pub tick_step : Table → List ℕ × Table
 tick_step table = (expired_ids table.places, record table { places = map ticked table.places })
+
+abbrev pub units_place : ℕ → Option Login → Option ℕ
+units_place unit None = None
+units_place unit (Some login) = if login.unit == unit then Some login.place else None
+
+-- the places of the logins of a unit, live and held, by rising place
+abbrev pub units_places : ℕ → List (Option Login) → List ℕ
+units_places unit places = filter_map (units_place unit) places
 
 abbrev pub if_of_node : ℕ → Option Login → Option Login
 if_of_node node None = None

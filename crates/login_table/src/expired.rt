@@ -70,7 +70,7 @@ fn expired_id(place: Place) -> Option<u16>
     ensures { result ≡ expired_id place }
 {
     match place {
-        Some(login) if is_last(login.remaining) => Some(login.login),
+        Some(login) if login.is_last() => Some(login.login),
         _ => None,
     }
 }
@@ -80,28 +80,7 @@ fn ticked(place: Place) -> Place
     ensures { result ≡ ticked place }
 {
     match place {
-        Some(login) if !is_last(login.remaining) => Some(one_less(login)),
+        Some(login) if !login.is_last() => Some(login.one_less()),
         _ => None,
     }
-}
-
-/// Whether the next second is the last one of a held login.
-fn is_last(remaining: Option<u32>) -> bool
-    ensures { result ≡ is_last remaining }
-{
-    match remaining {
-        Some(seconds) => seconds <= 1,
-        None => false,
-    }
-}
-
-/// A login after one more second, which is not its last.
-fn one_less(login: Login) -> Login
-    ensures { result ≡ record login { remaining = one_less login.remaining } }
-{
-    let remaining = match login.remaining {
-        Some(seconds) => Some(seconds.saturating_sub(1)),
-        None => None,
-    };
-    Login { remaining, ..login }
 }

@@ -1,4 +1,4 @@
-ghost use Rattle.login_table.specs.Laws.{ExclusiveLaw, ExpiryLaw, HeldLaw, NextIdLaw, NumberedLaw, OneByEuiLaw, OneByIdLaw, OneByNodeLaw};
+ghost use Rattle.login_table.specs.Laws.{ExclusiveLaw, ExpiryLaw, HeldLaw, ListLaw, LiveLaw, NextIdLaw, NumberedLaw, OneByEuiLaw, OneByIdLaw, OneByNodeLaw, SecondsLaw, TickLaw, TurnLaw};
 
 /// The law that after every list of calls an EUI-64 has at most one login on a unit, live or held.
 pub fn one_by_eui()
@@ -39,8 +39,34 @@ pub fn held_for_its_seconds()
     ensures { HeldLaw }
 {}
 
-/// The law that the second behind a held login's hold seconds, and no earlier one, removes it and tells
-/// its ID.
+/// The law that the second behind a held login's hold seconds removes it and tells its ID.
 pub fn expires_after_its_seconds()
     ensures { ExpiryLaw }
+{}
+
+/// The law that after every list of calls a held login has from 1 to hold + 1 seconds left.
+pub fn seconds_left()
+    ensures { SecondsLaw }
+{}
+
+/// The law that after every list of calls a second tells the IDs of the logins that have one second left
+/// and no others, each once.
+pub fn ticks_tell_the_ends()
+    ensures { TickLaw }
+{}
+
+/// The law that a live login stands as it is, whatever calls come, until its node logs it out or it is
+/// held.
+pub fn live_until_it_leaves()
+    ensures { LiveLaw }
+{}
+
+/// The law of the IDs that a hold holds and of the places of a unit, after every list of calls.
+pub fn lists_of_logins()
+    ensures { ListLaw }
+{}
+
+/// The law that calls in their order make the table that they make with the latest first.
+pub fn calls_in_turn()
+    ensures { TurnLaw }
 {}

@@ -11,8 +11,9 @@ mod table;
 
 pub use expired::Expired;
 pub use law::{
-    exclusive_alone, expires_after_its_seconds, held_for_its_seconds, next_id_free, numbered,
-    one_by_eui, one_by_id, one_by_node,
+    calls_in_turn, exclusive_alone, expires_after_its_seconds, held_for_its_seconds,
+    lists_of_logins, live_until_it_leaves, next_id_free, numbered, one_by_eui, one_by_id,
+    one_by_node, seconds_left, ticks_tell_the_ends,
 };
 pub use login::{Entered, Login, LoginRefusal};
 pub use table::Logins;

@@ -1,5 +1,5 @@
 ghost use Rattle.std.specs.Prelude.{◌≡◌, ◌==◌};
-ghost use Rattle.login_table.specs.Table.{entered, excludes, held_for, is_double, is_held, is_live, is_live_of, is_of_node, is_old, revived};
+ghost use Rattle.login_table.specs.Table.{entered, excludes, held_for, is_double, is_held, is_last, is_live, is_live_of, is_of_node, is_old, one_less, revived};
 
 use sbp_base::{NodeId, Offset};
 use std::marker::Model;
@@ -61,7 +61,7 @@ pub enum LoginRefusal {
     NoRoom,
     /// There is no such login.
     Unknown,
-    /// The login is another node's, or the node has another login on its unit.
+    /// The login is another EUI-64's, or the node has a live login on its unit.
     OtherNode,
 }
 
@@ -162,5 +162,26 @@ impl Login {
             remaining: Some(seconds),
             ..self
         }
+    }
+
+    /// Whether the next second is its last one; a live login has none.
+    pub(crate) fn is_last(&self) -> bool
+        ensures { result ≡ is_last self.now.remaining }
+    {
+        match self.remaining {
+            Some(seconds) => seconds <= 1,
+            None => false,
+        }
+    }
+
+    /// The login after one more second, which is not its last.
+    pub(crate) fn one_less(self) -> Login
+        ensures { result ≡ record self { remaining = one_less self.remaining } }
+    {
+        let remaining = match self.remaining {
+            Some(seconds) => Some(seconds.saturating_sub(1)),
+            None => None,
+        };
+        Login { remaining, ..self }
     }
 }

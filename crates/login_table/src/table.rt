@@ -1,4 +1,5 @@
 ghost use Rattle.std.specs.Prelude.{◌≡◌, ◌<◌, ◌≤◌, length, OnErr, IfOk, IfSome};
+ghost use Rattle.login_table.specs.Sound.{IsNumbered};
 ghost use Rattle.login_table.specs.Table.{new_table, enter_step, back_step, leave_step, hold_step, tick_step, by_agent, place_at};
 
 use crate::expired::{Expired, tick_all};
@@ -19,14 +20,14 @@ pub struct Logins {
 }
 
 impl Model for Logins {
-    ghost use Rattle.std.specs.Prelude.{◌≡◌, length};
     ghost use Rattle.login_table.specs.Table.{Table};
+    ghost use Rattle.login_table.specs.Sound.{IsTable};
 
     ghost Value = { Table };
 
     ghost view = { λ a. record { last = a.last; places = a.places } };
 
-    ghost invariant = { λ a. length a.places ≡ 8 };
+    ghost invariant = { λ a. IsTable (record { last = a.last; places = a.places }) };
 }
 
 impl Logins {
@@ -98,7 +99,7 @@ impl Logins {
             return Err(LoginRefusal::Unknown);
         };
         let Some(held) = self.places[place] else {
-            return Err(LoginRefusal::Unknown);
+            unreachable!();
         };
         if held.eui != eui || any_of_node(&self.places, held.unit, node) {
             return Err(LoginRefusal::OtherNode);
@@ -145,6 +146,7 @@ impl Logins {
     /// has the place.
     pub fn by_agent(&self, place: u8, node: NodeId) -> Option<Login>
         ensures login { result ≡ by_agent self.now.places place node }
+        ensures numbered { IfSome result (IsNumbered place) }
         ensures size { length self.now.places ≡ 8 }
     {
         if_of_node(place_at(&self.places, place), node)
@@ -154,6 +156,7 @@ impl Logins {
     pub fn at(&self, place: u8) -> Option<Login>
         requires { place < 8 }
         ensures login { result ≡ place_at self.now.places place }
+        ensures numbered { IfSome result (IsNumbered place) }
         ensures size { length self.now.places ≡ 8 }
     {
         self.places[usize::from(place)]

@@ -10,9 +10,9 @@ use Rattle.mgmt_agent.specs.declared.function.Function.{Function}
 use Rattle.mgmt_agent.specs.declared.function.Function.TheVariants as functions
 use Rattle.mgmt_agent.specs.declared.decision.Effect.{Effect}
 use Rattle.mgmt_agent.specs.declared.decision.Outcome.{Outcome}
-use Rattle.mgmt_agent.specs.Meanings.{number_of, function_of}
-use Rattle.mgmt_agent.specs.Decisions.{back_decided, decide, decide_function, decide_login, decide_logout, decide_reconnect, effect_of, left_decided, live_login, login_decided, login_in, on_login, key_at, lacks_key, unit_exists}
-use Rattle.mgmt_agent.specs.Rows.{asked_by, first_row, is_full, is_others, rows_of, DecisionLaw}
+use Rattle.mgmt_agent.specs.Statuses.{number_of, function_of}
+use Rattle.mgmt_agent.specs.Decisions.{asked_by, back_decided, decide, decide_function, decide_login, decide_logout, decide_reconnect, effect_of, left_decided, live_login, login_decided, login_in, on_login, key_at, lacks_key, unit_exists}
+use Rattle.mgmt_agent.specs.Rows.{first_row, is_full, is_others, rows_of, DecisionLaw}
 
 status_of_pair : (b : Bool) (x y : Outcome × Table) (m n : ℕ) → number_of x.0.status ≡ m → number_of y.0.status ≡ n → number_of (cond b x y).0.status ≡ cond b m n
 status_of_pair true x y m n p q = p

@@ -9,12 +9,13 @@ use Rattle.orb_layout.specs.QueryResponses.{query_bytes}
 use Rattle.login_table.specs.declared.login.Login.{Login}
 use Rattle.login_table.specs.declared.login.Entered.{Entered}
 use Rattle.login_table.specs.declared.login.LoginRefusal.{LoginRefusal}
+use Rattle.login_table.specs.Requests.{LoginRequest}
 use Rattle.login_table.specs.Table.{Table, place_at, find, is_live_of, enter_step, back_step, leave_step}
-use Rattle.mgmt_agent.specs.declared.meaning.Meaning.{Meaning}
-use Rattle.mgmt_agent.specs.declared.meaning.Meaning.TheVariants as meanings
+use Rattle.mgmt_agent.specs.declared.status.Status.{Status}
+use Rattle.mgmt_agent.specs.declared.status.Status.TheVariants as statuses
 use Rattle.mgmt_agent.specs.declared.function.Function.{Function}
 use Rattle.mgmt_agent.specs.declared.function.Function.TheVariants as functions
-use Rattle.mgmt_agent.specs.Meanings.{number_of, meaning_of, function_of}
+use Rattle.mgmt_agent.specs.Statuses.{number_of, status_of, function_of}
 use Rattle.mgmt_agent.specs.declared.decision.Decision.{Decision}
 use Rattle.mgmt_agent.specs.declared.decision.Effect.{Effect}
 use Rattle.mgmt_agent.specs.declared.decision.Effect.TheVariants as effects
@@ -23,12 +24,12 @@ use Rattle.mgmt_agent.specs.declared.decision.Response.{Response}
 use Rattle.mgmt_agent.specs.declared.decision.Response.TheVariants as responses
 
 -- a status with no effect and no response
-abbrev pub refused : Meaning → Outcome
-refused status = record { status = status; login = 0; effect = effects.Nothing; response = responses.Nothing }
+abbrev pub with_status : Status → Outcome
+with_status status = record { status = status; login = 0; effect = effects.Nothing; response = responses.Nothing }
 
 -- status 00 with an effect
 abbrev pub good : Effect → Outcome
-good effect = record { status = meanings.NoFault; login = 0; effect = effect; response = responses.Nothing }
+good effect = record { status = statuses.NoFault; login = 0; effect = effect; response = responses.Nothing }
 
 -- a unit exists where it has a key; unit numbers have 8 bits
 abbrev pub unit_exists : ℕ → List (List ℕ) → Bool
@@ -54,40 +55,40 @@ abbrev pub agent_base : ℕ → ℕ
 agent_base place = 0xfffff0040000 + 0x20 * place
 
 abbrev pub login_decided : ManagementOrb → Result Entered LoginRefusal → Outcome
-login_decided orb (Err refusal) = refused (meaning_of refusal)
+login_decided orb (Err refusal) = with_status (status_of refusal)
 login_decided orb (Ok entered) = record {
-  status = meanings.NoFault;
+  status = statuses.NoFault;
   login = entered.login;
   effect = effects.Entered entered.place entered.replaced;
   response = responses.Login (record { login = entered.login; agent = agent_base entered.place; hold = granted_hold orb.reconnect });
 }
 
-abbrev pub enter_by : ManagementOrb → ℕ → ℕ → Table → Result Entered LoginRefusal × Table
-enter_by orb source eui table =
-    enter_step table (record { unit = orb.subject; node = source; eui = eui; fifo = orb.fifo; hold = granted_hold orb.reconnect; exclusive = orb.exclusive })
+-- the login that an ORB asks for
+abbrev pub asked_by : ManagementOrb → ℕ → ℕ → LoginRequest
+asked_by orb source eui = record { unit = orb.subject; node = source; eui = eui; fifo = orb.fifo; hold = granted_hold orb.reconnect; exclusive = orb.exclusive }
 
 abbrev pub decide_login : ManagementOrb → ℕ → ℕ → Table → List (List ℕ) → Outcome × Table
 decide_login orb source eui table keys =
-    if not (unit_exists orb.subject keys) then (refused meanings.LogicalUnit, table)
-    else if lacks_key (key_at orb.subject keys) orb then (refused meanings.AccessDenied, table)
-    else let s = enter_by orb source eui table in (login_decided orb s.0, s.1)
+    if not (unit_exists orb.subject keys) then (with_status statuses.LogicalUnit, table)
+    else if lacks_key (key_at orb.subject keys) orb then (with_status statuses.AccessDenied, table)
+    else let s = enter_step table (asked_by orb source eui) in (login_decided orb s.0, s.1)
 
 abbrev pub decide_query : ManagementOrb → List (List ℕ) → Outcome
 decide_query orb keys =
     if unit_exists orb.subject keys
-    then record { status = meanings.NoFault; login = 0; effect = effects.Nothing; response = responses.Query orb.subject }
-    else refused meanings.LogicalUnit
+    then record { status = statuses.NoFault; login = 0; effect = effects.Nothing; response = responses.Query orb.subject }
+    else with_status statuses.LogicalUnit
 
 abbrev pub back_decided : Result ℕ LoginRefusal → Outcome
 back_decided (Ok place) = good (effects.Back place)
-back_decided (Err refusal) = refused (meaning_of refusal)
+back_decided (Err refusal) = with_status (status_of refusal)
 
 abbrev pub decide_reconnect : ManagementOrb → ℕ → ℕ → Table → Outcome × Table
 decide_reconnect orb source eui table = let s = back_step table orb.subject source eui in (back_decided s.0, s.1)
 
 abbrev pub left_decided : Result ℕ LoginRefusal → Outcome
 left_decided (Ok place) = good (effects.Left place)
-left_decided (Err refusal) = refused (meaning_of refusal)
+left_decided (Err refusal) = with_status (status_of refusal)
 
 abbrev pub decide_logout : ManagementOrb → ℕ → Table → Outcome × Table
 decide_logout orb source table = let s = leave_step table orb.subject source in (left_decided s.0, s.1)
@@ -102,7 +103,7 @@ live_login places id node = login_in (find (is_live_of id node) places) places
 
 -- A login with this ID that is live for the source's node has the effect; there is none with 0A.
 abbrev pub on_login : (Login → Effect) → Option Login → Outcome
-on_login effect None = refused meanings.LoginId
+on_login effect None = with_status statuses.LoginId
 on_login effect (Some login) = good (effect login)
 
 -- what a function does to a login: an abort has the ORB that the pointer in quadlets 0 and 1 names
@@ -115,7 +116,7 @@ effect_of _ orb login = effects.Nothing
 
 -- the row of the function; one that is not known is rejected
 abbrev pub decide_function : Option Function → ManagementOrb → ℕ → ℕ → Table → List (List ℕ) → Outcome × Table
-decide_function None orb source eui table keys = (refused meanings.FunctionRejected, table)
+decide_function None orb source eui table keys = (with_status statuses.FunctionRejected, table)
 decide_function (Some functions.Login) orb source eui table keys = decide_login orb source eui table keys
 decide_function (Some functions.Query) orb source eui table keys = (decide_query orb keys, table)
 decide_function (Some functions.Reconnect) orb source eui table keys = decide_reconnect orb source eui table
@@ -125,16 +126,20 @@ decide_function (Some function) orb source eui table keys = (on_login (effect_of
 -- The decision on an ORB that a source with this EUI-64 sent, and the logins that it leaves.
 unfoldable pub decide : ManagementOrb → ℕ → ℕ → Table → List (List ℕ) → Outcome × Table
 decide orb source eui table keys =
-    if orb.format == 0 then decide_function (function_of orb.function) orb source eui table keys else (refused meanings.RequestType, table)
+    if orb.format == 0 then decide_function (function_of orb.function) orb source eui table keys else (with_status statuses.RequestType, table)
 
 -- the functions that read the EUI-64 of the source: login and reconnect, with request format 0
-abbrev pub wants_eui : Option Function → Bool
-wants_eui (Some functions.Login) = true
-wants_eui (Some functions.Reconnect) = true
+abbrev pub wants_eui : Function → Bool
+wants_eui functions.Login = true
+wants_eui functions.Reconnect = true
 wants_eui _ = false
 
+abbrev pub known_wants_eui : Option Function → Bool
+known_wants_eui None = false
+known_wants_eui (Some function) = wants_eui function
+
 unfoldable pub reads_eui : ManagementOrb → Bool
-reads_eui orb = orb.format == 0 && wants_eui (function_of orb.function)
+reads_eui orb = orb.format == 0 && known_wants_eui (function_of orb.function)
 
 -- what the target tells of a decision
 abbrev pub told : ManagementOrb → Outcome → Decision

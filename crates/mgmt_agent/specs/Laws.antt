@@ -1,6 +1,6 @@
 -- Whole operations of the management agent, over every list of its calls (NCITS 325-1998, management
 -- agent). What happens is a list of notes, the latest of them first.
-use Rattle.std.specs.Prelude.{◌≡◌, ℕ, suc, ◌+◌, ◌*◌, ◌^◌, ◌==◌, ◌&&◌, not, Bool, true, false, if◌then◌else◌, List, [], ◌∷◌, length, take, Option, Some, None, Result, Ok}
+use Rattle.std.specs.Prelude.{◌≡◌, ℕ, suc, ◌+◌, ◌*◌, ◌^◌, ◌<◌, ◌==◌, ◌&&◌, not, Bool, true, false, if◌then◌else◌, List, [], ◌∷◌, length, take, Option, Some, None, Result, Ok}
 use Rattle.sbp_base.specs.Quadlets.{quad}
 use Rattle.orb_layout.specs.declared.management.ManagementOrb.{ManagementOrb}
 use Rattle.orb_layout.specs.declared.ask.Ask.{Ask}
@@ -15,7 +15,7 @@ use Rattle.mgmt_agent.specs.declared.decision.ManagerStep.{ManagerStep}
 use Rattle.mgmt_agent.specs.declared.operation.Busy.{Busy}
 use Rattle.mgmt_agent.specs.declared.operation.Operation.{Operation}
 use Rattle.mgmt_agent.specs.Decisions.{decide, reads_eui, told}
-use Rattle.mgmt_agent.specs.Machine.{Machine, Answer, Payload, new_machine, start_step, reply_step, clear_step, cut_response, status_block, high_eui_at, low_eui_at}
+use Rattle.mgmt_agent.specs.Machine.{Machine, Answer, Payload, Done, new_machine, start_step, reply_step, clear_step, cut_response, status_block, high_eui_at, low_eui_at}
 
 -- a call, with the logins and the keys that a reply is taken beside
 pub data Call : Type 0 where
@@ -24,14 +24,15 @@ pub data Call : Type 0 where
   clear : Call
 
 -- What is seen of the calls: an operation was started; a read or a write was asked for, the write with
--- its bytes; a payload of the length asked for came; a decision was told, beside these logins and keys,
--- with its effect and the logins that it left; the operation ended with its status block written,
--- failed, or was cleared.
+-- its bytes; the payload of a read came, or a write was done; a decision was told, beside these logins
+-- and keys, with its effect and the logins that it left; the operation ended with its status block
+-- written, failed, or was cleared.
 pub data Note : Type 0 where
   started : (source orb : ℕ) → Note
   reads : (offset size : ℕ) → Note
   writes : (offset : ℕ) → (bytes : List ℕ) → Note
   got : (bytes : List ℕ) → Note
+  done : Note
   decided : (before : Table) → (keys : List (List ℕ)) → Decision → Effect → (left : Table) → Note
   ended : Note
   failed : FailCause → Note
@@ -41,9 +42,10 @@ abbrev pub note_start : Result Ask Busy → ℕ → ℕ → List Note → List N
 note_start (Ok (asks.Read offset size)) source orb notes = reads offset size ∷ started source orb ∷ notes
 note_start _ source orb notes = notes
 
-abbrev pub note_got : Answer → Option FailCause → List Note → List Note
-note_got (Payload bytes) None notes = got bytes ∷ notes
-note_got _ failure notes = notes
+abbrev pub note_answer : Answer → Option FailCause → List Note → List Note
+note_answer (Payload bytes) None notes = got bytes ∷ notes
+note_answer Done None notes = done ∷ notes
+note_answer _ failure notes = notes
 
 abbrev pub note_decided : Option Decision → Effect → Table → List (List ℕ) → Table → List Note → List Note
 note_decided None effect before keys left notes = notes
@@ -60,7 +62,7 @@ note_ask asks.Nothing failure outgoing notes = note_end failure notes
 
 abbrev pub note_step : ManagerStep × (Machine × Table) → Table → List (List ℕ) → Answer → List Note → List Note
 note_step (step, (m, left)) before keys answer notes =
-    note_ask step.ask step.failed m.outgoing (note_decided step.decided step.effect before keys left (note_got answer step.failed notes))
+    note_ask step.ask step.failed m.outgoing (note_decided step.decided step.effect before keys left (note_answer answer step.failed notes))
 
 -- a reply is taken while an operation is under way
 abbrev pub note_reply : Option Operation → Machine → Table → List (List ℕ) → Answer → List Note → List Note
@@ -94,6 +96,22 @@ under_way (ended ∷ notes) = false
 under_way (failed cause ∷ notes) = false
 under_way (cleared ∷ notes) = false
 under_way (_ ∷ notes) = under_way notes
+
+-- the request under way: none, a read of so many bytes, or a write
+pub data Request : Type 0 where
+  no_request : Request
+  a_read : (size : ℕ) → Request
+  a_write : Request
+
+abbrev pub request : List Note → Request
+request [] = no_request
+request (reads offset size ∷ notes) = a_read size
+request (writes offset bytes ∷ notes) = a_write
+request (_ ∷ notes) = no_request
+
+abbrev pub is_asked : Request → Bool
+is_asked no_request = false
+is_asked _ = true
 
 -- of the latest operation: its source, the address of its ORB, what was read, the latest first, the
 -- number of its decisions and of its writes, and the logins and keys of its decision
@@ -160,16 +178,25 @@ read_at _ orb = (low_eui_at, 4)
 abbrev pub reads_for : ManagementOrb → ℕ
 reads_for orb = if reads_eui orb then 3 else 1
 
--- A read is one of an operation that is not decided, the next in order.
+-- how much is to be read, as far as what was read tells: the ORB at first
+abbrev pub reads_known : List (List ℕ) → ℕ
+reads_known [] = 1
+reads_known (bytes ∷ before) = reads_for (orb_in (bytes ∷ before))
+
+-- A read is one of an operation that is not decided and has more to read, the next in order, and no
+-- other request is under way.
 pub record IsRead (offset size : ℕ) (notes : List Note) : Type 0 where
   pub under : under_way notes ≡ true
+  pub alone : request notes ≡ no_request
   pub open_still : decisions notes ≡ 0
+  pub more : length (gots notes) < reads_known (gots notes)
   pub next : (offset, size) ≡ read_at (gots notes) (address_of notes)
 
 -- A decision is the first of its operation, comes when all was read and before anything is written, and
 -- is the one on the ORB and the EUI-64 that were read, with its effect.
 pub record IsDecision (before : Table) (keys : List (List ℕ)) (decision : Decision) (effect : Effect) (left : Table) (notes : List Note) : Type 0 where
   pub under : under_way notes ≡ true
+  pub alone : request notes ≡ no_request
   pub first : decisions notes ≡ 0
   pub unwritten : written notes ≡ 0
   pub read : length (gots notes) ≡ reads_for (orb_in (gots notes))
@@ -189,17 +216,31 @@ write_at notes none =
 abbrev pub writes_for : List Note → Outcome × Table → ℕ
 writes_for notes none = if length (response_after notes none) == 0 then 1 else 2
 
--- A write is one of an operation that is decided once, the next in order.
+-- A write is one of an operation that is decided once and has more to write, the next in order, and no
+-- other request is under way.
 pub record IsWrite (offset : ℕ) (bytes : List ℕ) (notes : List Note) : Type 0 where
   pub under : under_way notes ≡ true
+  pub alone : request notes ≡ no_request
   pub decided_once : decisions notes ≡ 1
+  pub more : (none : Outcome × Table) → written notes < writes_for notes none
   pub next : (none : Outcome × Table) → (offset, bytes) ≡ write_at notes none
 
--- An operation ends that is decided once and has written all.
+-- An operation ends that is decided once and has written all, and no request is under way.
 pub record IsEnd (notes : List Note) : Type 0 where
   pub under : under_way notes ≡ true
+  pub alone : request notes ≡ no_request
   pub decided_once : decisions notes ≡ 1
   pub written_all : (none : Outcome × Table) → written notes ≡ writes_for notes none
+
+-- An answer is one to the request under way: a payload is as long as the read asked for.
+pub record IsAnswer (asked : Request) (notes : List Note) : Type 0 where
+  pub under : under_way notes ≡ true
+  pub own : request notes ≡ asked
+
+-- An operation fails while a request of it is under way.
+pub record IsFailure (notes : List Note) : Type 0 where
+  pub under : under_way notes ≡ true
+  pub asked : is_asked (request notes) ≡ true
 
 -- Each note is lawful after those before it.
 abbrev pub Lawful : List Note → Type 0
@@ -207,10 +248,11 @@ Lawful [] = Unit {0}
 Lawful (started source orb ∷ notes) = (under_way notes ≡ false) × Lawful notes
 Lawful (reads offset size ∷ notes) = IsRead offset size notes × Lawful notes
 Lawful (writes offset bytes ∷ notes) = IsWrite offset bytes notes × Lawful notes
-Lawful (got bytes ∷ notes) = (under_way notes ≡ true) × Lawful notes
+Lawful (got bytes ∷ notes) = IsAnswer (a_read (length bytes)) notes × Lawful notes
+Lawful (done ∷ notes) = IsAnswer a_write notes × Lawful notes
 Lawful (decided before keys decision effect left ∷ notes) = IsDecision before keys decision effect left notes × Lawful notes
 Lawful (ended ∷ notes) = IsEnd notes × Lawful notes
-Lawful (failed cause ∷ notes) = (under_way notes ≡ true) × Lawful notes
+Lawful (failed cause ∷ notes) = IsFailure notes × Lawful notes
 Lawful (cleared ∷ notes) = Lawful notes
 
 abbrev pub OperationLaw : Type 0

@@ -1,6 +1,7 @@
 pub mod Room
-pub mod Meanings
+pub mod Statuses
 pub mod Decisions
 pub mod Machine
 pub mod Laws
 pub mod Rows
+pub mod Effects

@@ -13,9 +13,9 @@ use Rattle.orb_layout.specs.declared.ask.FailCause.TheVariants as causes
 use Rattle.orb_layout.specs.ManagementOrbs.{management_orb}
 use Rattle.orb_layout.specs.StatusBlocks.{status_bytes}
 use Rattle.login_table.specs.Table.{Table}
-use Rattle.mgmt_agent.specs.declared.meaning.Meaning.{Meaning}
-use Rattle.mgmt_agent.specs.declared.meaning.Meaning.TheVariants as meanings
-use Rattle.mgmt_agent.specs.Meanings.{number_of}
+use Rattle.mgmt_agent.specs.declared.status.Status.{Status}
+use Rattle.mgmt_agent.specs.declared.status.Status.TheVariants as statuses
+use Rattle.mgmt_agent.specs.Statuses.{number_of}
 use Rattle.mgmt_agent.specs.declared.decision.Effect.TheVariants as effects
 use Rattle.mgmt_agent.specs.declared.decision.Outcome.{Outcome}
 use Rattle.mgmt_agent.specs.declared.decision.ManagerStep.{ManagerStep}
@@ -48,25 +48,26 @@ answer_of (replies.Refused rcode) = Refused rcode
 answer_of replies.Expired = Expired
 answer_of replies.NoLabel = NoLabel
 
--- the phases that wait for a payload, and those that wait for a write
-abbrev pub is_reading : Phase → Bool
-is_reading phases.Orb = true
-is_reading (phases.HighEui orb) = true
-is_reading (phases.LowEui orb high) = true
-is_reading (phases.Response fifo) = false
-is_reading phases.Status = false
+-- the node whose operation is under way
+abbrev pub source_in : Option Operation → Option ℕ
+source_in None = None
+source_in (Some operation) = Some operation.source
 
--- A payload comes for a read alone, Done for a write alone, and a refusal has another rcode than 0.
-abbrev pub MayCome : Answer → Bool → Type 0
-MayCome (Payload bytes) reading = reading ≡ true
-MayCome Done reading = reading ≡ false
-MayCome (Refused rcode) reading = rcode ≢ 0
-MayCome Expired reading = Unit {0}
-MayCome NoLabel reading = Unit {0}
+-- the payload that a phase waits for; two phases wait for a write
+abbrev pub read_size : Phase → Option ℕ
+read_size phases.Orb = Some 32
+read_size (phases.HighEui orb) = Some 4
+read_size (phases.LowEui orb high) = Some 4
+read_size (phases.Response fifo) = None
+read_size phases.Status = None
 
-abbrev pub Comes : Answer → Option Operation → Type 0
-Comes answer None = ⊥
-Comes answer (Some operation) = MayCome answer (is_reading operation.phase)
+-- A request is asked for exactly while an operation is under way, and it is what its phase waits for.
+abbrev pub Asks : Ask → Option Operation → ℕ → Type 0
+Asks asks.Nothing operation outgoing = operation ≡ None
+Asks (asks.Read offset size) None outgoing = ⊥
+Asks (asks.Read offset size) (Some operation) outgoing = read_size operation.phase ≡ Some size
+Asks (asks.Write offset size) None outgoing = ⊥
+Asks (asks.Write offset size) (Some operation) outgoing = (read_size operation.phase ≡ None) × (size ≡ outgoing)
 
 -- the high and the low quadlet of the EUI-64 in a ROM
 abbrev pub high_eui_at : ℕ
@@ -122,16 +123,16 @@ lent_bytes (Ok lent) = Ok lent.now
 lent_bytes (Err cause) = Err cause
 
 -- the status block of a management ORB
-abbrev pub status_block : ℕ → Meaning → List ℕ
+abbrev pub status_block : ℕ → Status → List ℕ
 status_block orb status = status_bytes (record { src = 0; kind = kinds.Management (number_of status); orb = orb })
 
 -- The status block is written to the ORB's FIFO.
-abbrev pub status_step : Machine → Operation → ℕ → Meaning → ManagerStep × Machine
+abbrev pub status_step : Machine → Operation → ℕ → Status → ManagerStep × Machine
 status_step m operation fifo status =
     (quiet (asks.Write fifo 8), record m { operation = Some (record operation { phase = phases.Status }); outgoing = status_block operation.orb status })
 
 -- The response that goes out is written; where that is empty, the status block is.
-abbrev pub respond_step : Machine → Operation → ManagementOrb → Meaning → ManagerStep × Machine
+abbrev pub respond_step : Machine → Operation → ManagementOrb → Status → ManagerStep × Machine
 respond_step m operation orb status =
     if length m.outgoing == 0
     then status_step m operation orb.fifo status
@@ -183,7 +184,7 @@ low_got (Ok bytes) m operation orb high table keys = decide_step m operation orb
 
 -- The response was written: the status block is next, with status 00.
 abbrev pub response_written : Option FailCause → Machine → Operation → ℕ → ManagerStep × Machine
-response_written None m operation fifo = status_step m operation fifo meanings.NoFault
+response_written None m operation fifo = status_step m operation fifo statuses.NoFault
 response_written (Some cause) m operation fifo = fail_step m cause
 
 -- The status block was written, and the operation ends.

@@ -7,17 +7,13 @@ use Rattle.login_table.specs.Requests.{LoginRequest}
 use Rattle.login_table.specs.Table.{Table, any_login, excludes, find, is_barred, is_double, is_held, left_for}
 use Rattle.mgmt_agent.specs.declared.function.Function.{Function}
 use Rattle.mgmt_agent.specs.declared.function.Function.TheVariants as functions
-use Rattle.mgmt_agent.specs.Meanings.{number_of, function_of}
-use Rattle.mgmt_agent.specs.Decisions.{decide, granted_hold, key_at, lacks_key, live_login, login_in, unit_exists}
+use Rattle.mgmt_agent.specs.Statuses.{number_of, function_of}
+use Rattle.mgmt_agent.specs.Decisions.{asked_by, decide, key_at, lacks_key, live_login, login_in, unit_exists}
 
 -- the status of the first row that holds, and 00 where none does
 abbrev pub first_row : List (Bool × ℕ) → ℕ
 first_row [] = 0x00
 first_row ((holds, status) ∷ rows) = if holds then status else first_row rows
-
--- the login that an ORB asks for
-abbrev pub asked_by : ManagementOrb → ℕ → ℕ → LoginRequest
-asked_by orb source eui = record { unit = orb.subject; node = source; eui = eui; fifo = orb.fifo; hold = granted_hold orb.reconnect; exclusive = orb.exclusive }
 
 -- the table has no room, once the held login of the EUI-64 on the unit is removed
 abbrev pub is_full : LoginRequest → List (Option Login) → Bool

@@ -4,7 +4,7 @@ ghost use Rattle.mgmt_agent.specs.Decisions.{agent_base, decide, decide_function
 
 use crate::decision::{Effect, Outcome, Response};
 use crate::function::Function;
-use crate::meaning::Meaning;
+use crate::status::Status;
 use login_table::{Login, Logins};
 use orb_layout::{LoginResponse, ManagementOrb};
 use sbp_base::{NodeId, Offset, quad_at};
@@ -53,7 +53,8 @@ fn lacks_key(key: u64, orb: &ManagementOrb) -> bool
 pub(crate) fn reads_eui(orb: &ManagementOrb) -> bool
     ensures { result ≡ reads_eui orb.now }
 {
-    orb.format == 0 && Function::wants_eui(Function::read(orb.function))
+    orb.format == 0
+        && matches!(Function::read(orb.function), Some(function) if function.wants_eui())
 }
 
 /// The number of a unit that exists; there is none where it has no key, or no 8 bits.
@@ -77,16 +78,16 @@ fn decide_login(
     ensures { (result, logins.new) ≡ decide_login orb.now source eui logins.old keys.now }
 {
     let Some(unit) = existing_unit(orb.subject, keys) else {
-        return Outcome::refused(Meaning::LogicalUnit);
+        return Outcome::with_status(Status::LogicalUnit);
     };
     if lacks_key(password_of(&keys[usize::from(unit)]), orb) {
-        return Outcome::refused(Meaning::AccessDenied);
+        return Outcome::with_status(Status::AccessDenied);
     }
     let hold = granted_hold(orb.reconnect);
     match logins.enter(unit, source, eui, orb.fifo, hold, orb.exclusive) {
-        Err(refusal) => Outcome::refused(Meaning::of(refusal)),
+        Err(refusal) => Outcome::with_status(Status::of(refusal)),
         Ok(entered) => Outcome {
-            status: Meaning::NoFault,
+            status: Status::NoFault,
             login: entered.login,
             effect: Effect::Entered {
                 place: entered.place,
@@ -108,9 +109,9 @@ fn decide_query(orb: &ManagementOrb, keys: &[[u8; 8]]) -> Outcome
     match existing_unit(orb.subject, keys) {
         Some(unit) => Outcome {
             response: Response::Query(unit),
-            ..Outcome::refused(Meaning::NoFault)
+            ..Outcome::with_status(Status::NoFault)
         },
-        None => Outcome::refused(Meaning::LogicalUnit),
+        None => Outcome::with_status(Status::LogicalUnit),
     }
 }
 
@@ -120,7 +121,7 @@ fn decide_reconnect(orb: &ManagementOrb, source: NodeId, eui: u64, logins: &mut 
 {
     match logins.back(orb.subject, source, eui) {
         Ok(place) => Outcome::good(Effect::Back { place }),
-        Err(refusal) => Outcome::refused(Meaning::of(refusal)),
+        Err(refusal) => Outcome::with_status(Status::of(refusal)),
     }
 }
 
@@ -130,7 +131,7 @@ fn decide_logout(orb: &ManagementOrb, source: NodeId, logins: &mut Logins) -> Ou
 {
     match logins.leave(orb.subject, source) {
         Ok(place) => Outcome::good(Effect::Left { place }),
-        Err(refusal) => Outcome::refused(Meaning::of(refusal)),
+        Err(refusal) => Outcome::with_status(Status::of(refusal)),
     }
 }
 
@@ -174,7 +175,7 @@ fn decide_on(function: Function, orb: &ManagementOrb, source: NodeId, logins: &L
     ensures { result ≡ on_login (effect_of function orb.now) (live_login logins.now.places orb.now.subject source) }
 {
     let Some(login) = live_login(logins, orb.subject, source) else {
-        return Outcome::refused(Meaning::LoginId);
+        return Outcome::with_status(Status::LoginId);
     };
     Outcome::good(effect_of(function, orb, &login))
 }
@@ -208,10 +209,10 @@ pub(crate) fn decide(
     ensures { (result, logins.new) ≡ decide orb.now source eui logins.old keys.now }
 {
     if orb.format != 0 {
-        return Outcome::refused(Meaning::RequestType);
+        return Outcome::with_status(Status::RequestType);
     }
     match Function::read(orb.function) {
-        None => Outcome::refused(Meaning::FunctionRejected),
+        None => Outcome::with_status(Status::FunctionRejected),
         Some(Function::Login) => decide_login(orb, source, eui, logins, keys),
         Some(Function::Query) => decide_query(orb, keys),
         Some(Function::Reconnect) => decide_reconnect(orb, source, eui, logins),

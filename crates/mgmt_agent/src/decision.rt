@@ -1,8 +1,8 @@
 ghost use Rattle.std.specs.Prelude.{◌≡◌};
-ghost use Rattle.mgmt_agent.specs.Decisions.{good, refused, told};
+ghost use Rattle.mgmt_agent.specs.Decisions.{good, told, with_status};
 ghost use Rattle.mgmt_agent.specs.Machine.{failing, quiet, telling};
 
-use crate::meaning::Meaning;
+use crate::status::Status;
 use orb_layout::{Ask, FailCause, LoginResponse, ManagementOrb};
 use sbp_base::Offset;
 
@@ -59,7 +59,7 @@ pub enum Response {
 /// A decision with all that follows from it.
 #[derive(Clone, Copy)]
 pub struct Outcome {
-    pub status: Meaning,
+    pub status: Status,
     pub login: u16,
     pub effect: Effect,
     pub response: Response,
@@ -67,8 +67,8 @@ pub struct Outcome {
 
 impl Outcome {
     /// A status with no effect and no response.
-    pub(crate) fn refused(status: Meaning) -> Outcome
-        ensures { result ≡ refused status }
+    pub(crate) fn with_status(status: Status) -> Outcome
+        ensures { result ≡ with_status status }
     {
         Outcome {
             status,
@@ -84,7 +84,7 @@ impl Outcome {
     {
         Outcome {
             effect,
-            ..Outcome::refused(Meaning::NoFault)
+            ..Outcome::with_status(Status::NoFault)
         }
     }
 

@@ -17,13 +17,13 @@ pub(crate) struct Entries {
 impl Model for Entries {
     ghost use Rattle.std.specs.Prelude.{List, take};
     ghost use Rattle.orb_layout.specs.declared.query.QueryEntry.{QueryEntry};
-    ghost use Rattle.mgmt_agent.specs.Room.{IsEntries};
+    ghost use Rattle.mgmt_agent.specs.Room.{IsRoom};
 
     ghost Value = { List QueryEntry };
 
     ghost view = { λ a. take a.count a.room };
 
-    ghost invariant = { λ a. IsEntries a.room a.count };
+    ghost invariant = { λ a. IsRoom 8 a.room a.count };
 }
 
 impl Entries {

@@ -1,5 +1,5 @@
 ghost use Rattle.std.specs.Prelude.{◌≡◌};
-ghost use Rattle.mgmt_agent.specs.Meanings.{function_of};
+ghost use Rattle.mgmt_agent.specs.Statuses.{function_of};
 ghost use Rattle.mgmt_agent.specs.Decisions.{wants_eui};
 
 /// The functions of a management ORB that this target knows.
@@ -33,10 +33,10 @@ impl Function {
         }
     }
 
-    /// Whether a known function reads the EUI-64 of the source: login and reconnect do.
-    pub(crate) fn wants_eui(function: Option<Function>) -> bool
-        ensures { result ≡ wants_eui function }
+    /// Whether the function reads the EUI-64 of the source: login and reconnect do.
+    pub(crate) fn wants_eui(self) -> bool
+        ensures { result ≡ wants_eui self }
     {
-        matches!(function, Some(Function::Login | Function::Reconnect))
+        matches!(self, Function::Login | Function::Reconnect)
     }
 }

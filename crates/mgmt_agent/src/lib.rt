@@ -8,16 +8,19 @@ mod entries;
 mod function;
 mod law;
 mod manager;
-mod meaning;
 mod operation;
 mod outgoing;
+mod status;
 
 pub use decision::{Decision, Effect, ManagerStep, Outcome, Response};
 pub use function::Function;
-pub use law::{decided_by_first_row, whole_operations};
+pub use law::{
+    asks_one_request, decided_by_first_row, decisions_call, effects_of_decisions,
+    places_of_effects, refusals_do_nothing, replies_call, whole_operations,
+};
 pub use manager::Manager;
-pub use meaning::Meaning;
 pub use operation::{Busy, Operation, Phase};
+pub use status::Status;
 
 #[cfg(test)]
 mod tests;

@@ -1,12 +1,12 @@
-ghost use Rattle.std.specs.Prelude.{◌≡◌, ◌≤◌, ◌<◌, ◌+◌, ◌*◌, ◌^◌, length, Some, None, Ok, Err, IfOk, OnErr};
+ghost use Rattle.std.specs.Prelude.{◌≡◌, ◌≤◌, ◌<◌, ◌+◌, ◌*◌, ◌^◌, length, Some, None, Ok, Err, IfOk, IsSome, OnErr};
 ghost use Rattle.orb_layout.specs.ManagementOrbs.{management_orb};
-ghost use Rattle.mgmt_agent.specs.Machine.{Comes, answer_of, clear_step, decide_step, fail_step, eui_step, high_got, low_got, new_machine, orb_got, failure_of, lent_bytes, payload_of, reply_in, reply_step, response_written, start_step, status_step, status_written, respond_step};
+ghost use Rattle.mgmt_agent.specs.Machine.{answer_of, clear_step, decide_step, fail_step, eui_step, high_got, low_got, new_machine, orb_got, failure_of, lent_bytes, payload_of, reply_in, reply_step, response_written, start_step, status_step, status_written, respond_step, source_in};
 
 use crate::decide::{decide, reads_eui};
 use crate::decision::ManagerStep;
-use crate::meaning::Meaning;
 use crate::operation::{Busy, Operation, Phase};
 use crate::outgoing::Outgoing;
+use crate::status::Status;
 use login_table::Logins;
 use orb_layout::{Ask, FailCause, ManagementOrb, Reply};
 use sbp_base::{NodeId, Offset, quad_at};
@@ -21,7 +21,7 @@ const LOW_EUI: u64 = 0xffff_f000_0410;
 /// The management agent of a target, which has one operation under way at most.
 #[derive(Drop)]
 pub struct Manager {
-    pub(crate) operation: Option<Operation>,
+    operation: Option<Operation>,
     outgoing: Outgoing,
 }
 
@@ -65,6 +65,16 @@ impl Manager {
         })
     }
 
+    /// The node whose operation is under way; there is none exactly while none is.
+    pub fn source(&self) -> Option<NodeId>
+        ensures { result ≡ source_in self.now.operation }
+    {
+        match self.operation {
+            Some(operation) => Some(operation.source),
+            None => None,
+        }
+    }
+
     /// The bytes of the write last asked for.
     pub fn outgoing(&self) -> &[u8]
         ensures value { result.now ≡ self.now.outgoing }
@@ -87,7 +97,7 @@ impl Manager {
     /// payload of another length than asked for. What was decided then stays.
     #[tactic(auto, unfolding(crate::specs::Machine::reply_step))]
     pub fn reply(&mut self, logins: &mut Logins, keys: &[[u8; 8]], reply: Reply<'_>) -> ManagerStep
-        requires { Comes (answer_of reply) self.old.operation }
+        requires { IsSome (source_in self.old.operation) }
         ensures { (result, (self.new, logins.new)) ≡ reply_step self.old logins.old keys.now (answer_of reply.entry) }
     {
         match self.operation {
@@ -189,7 +199,7 @@ impl Manager {
     {
         match failure {
             Some(cause) => self.fail(cause),
-            None => self.write_status(operation, fifo, Meaning::NoFault),
+            None => self.write_status(operation, fifo, Status::NoFault),
         }
     }
 
@@ -224,7 +234,7 @@ impl Manager {
     }
 
     /// Asks for the write of the response that was put; where it is empty, of the status block.
-    fn respond(&mut self, operation: Operation, orb: &ManagementOrb, status: Meaning) -> ManagerStep
+    fn respond(&mut self, operation: Operation, orb: &ManagementOrb, status: Status) -> ManagerStep
         ensures { (result, self.new) ≡ respond_step self.old operation orb.now status }
     {
         let length = self.outgoing.as_slice().len();
@@ -242,7 +252,7 @@ impl Manager {
     }
 
     /// Asks for the write of the status block to a FIFO.
-    fn write_status(&mut self, operation: Operation, fifo: Offset, status: Meaning) -> ManagerStep
+    fn write_status(&mut self, operation: Operation, fifo: Offset, status: Status) -> ManagerStep
         ensures { (result, self.new) ≡ status_step self.old operation fifo status }
     {
         self.outgoing.put_status(operation.orb, status);

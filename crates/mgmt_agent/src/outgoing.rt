@@ -5,7 +5,7 @@ ghost use Rattle.mgmt_agent.specs.Machine.{status_block};
 
 use crate::decision::Response;
 use crate::entries::entries_of;
-use crate::meaning::Meaning;
+use crate::status::Status;
 use login_table::Logins;
 use orb_layout::{QueryResponse, StatusBlock, StatusKind};
 use sbp_base::Offset;
@@ -26,7 +26,7 @@ impl Model for Outgoing {
 
     ghost view = { λ a. take a.length a.room };
 
-    ghost invariant = { λ a. IsRoom a.room a.length };
+    ghost invariant = { λ a. IsRoom 100 a.room a.length };
 }
 
 impl Outgoing {
@@ -47,7 +47,7 @@ impl Outgoing {
     }
 
     /// The status block that names a management ORB.
-    pub(crate) fn put_status(&mut self, orb: Offset, status: Meaning)
+    pub(crate) fn put_status(&mut self, orb: Offset, status: Status)
         ensures { self.new ≡ status_block orb status }
     {
         let block = StatusBlock {

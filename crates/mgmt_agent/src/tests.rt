@@ -1,8 +1,4 @@
-ghost use Rattle.std.specs.Prelude.{IsTrue, ◌≡◌};
-ghost use Rattle.mgmt_agent.specs.Machine.{Comes, answer_of, is_reading};
-
-use crate::operation::Phase;
-use crate::{Busy, Decision, Manager, ManagerStep};
+use crate::{Busy, Decision, Effect, Manager, ManagerStep};
 use login_table::Logins;
 use orb_layout::{Ask, FailCause, Reply};
 use sbp_base::{NodeId, Offset, put_quad};
@@ -17,43 +13,15 @@ const KEYED: [[u8; 8]; 1] = [[1, 2, 3, 4, 5, 6, 7, 8]];
 /// The key as a password.
 const PASSWORD: u64 = 0x0102_0304_0506_0708;
 
-/// Whether a phase waits for a payload.
-fn is_reading(phase: &Phase) -> bool
-    ensures { result ≡ is_reading phase.now }
-{
-    match phase {
-        Phase::Orb => true,
-        Phase::HighEui(_) => true,
-        Phase::LowEui(_, _) => true,
-        _ => false,
-    }
-}
-
-/// Whether the manager waits for such a reply.
-fn waits_for(manager: &Manager, reply: Reply<'_>) -> bool
-    ensures { IsTrue result → Comes (answer_of reply.entry) manager.now.operation }
-{
-    let reading = match &manager.operation {
-        Some(operation) => is_reading(&operation.phase),
-        None => return false,
-    };
-    match reply {
-        Reply::Payload(_) => reading,
-        Reply::Done => !reading,
-        Reply::Refused(rcode) => rcode != 0,
-        _ => true,
-    }
-}
-
-/// `reply` where the manager waits for it.
+/// `reply` where an operation is under way.
 fn reply(
     manager: &mut Manager,
     logins: &mut Logins,
     keys: &[[u8; 8]],
     reply: Reply<'_>,
 ) -> Result<ManagerStep, &'static str> {
-    if !waits_for(manager, reply) {
-        return Err("condition");
+    if manager.source().is_none() {
+        return Err("no operation");
     }
     Ok(manager.reply(logins, keys, reply))
 }
@@ -220,5 +188,82 @@ fn query_cut_short(rt: HostRuntime) -> Result<(), Fail> {
     let failed = reply(&mut manager, &mut logins, &NO_KEYS, Reply::Expired)?;
     assert_eq!(rt; failed.failed, Some(FailCause::Timeout));
     assert!(rt; manager.start(node(1)?, response).is_ok());
+    Ok(())
+}
+
+/// An ORB of a function on login ID 1, with the password's bytes as its ORB pointer.
+fn on_login(function: u8) -> [u8; 32] {
+    let mut bytes = orb(function, false, PASSWORD, 0);
+    put_quad(&mut bytes, 16, (u32::from(function) << 16) + 1);
+    bytes
+}
+
+/// What each function on a live login decides and does for its node, and for another one, whose
+/// operation a reset ends.
+#[test]
+fn functions_on_a_login(rt: HostRuntime) -> Result<(), Fail> {
+    let mut manager = Manager::new();
+    let mut logins = Logins::new();
+    login(
+        &mut manager,
+        &mut logins,
+        &NO_KEYS,
+        1,
+        &orb(0, false, 0, 16),
+    )?;
+    let pointed = Offset::new(0x0304_0506_0708).ok_or("offset")?;
+    let rows = [
+        (
+            0xb,
+            Effect::Abort {
+                place: 0,
+                orb: pointed,
+            },
+        ),
+        (0xc, Effect::AbortSet { place: 0 }),
+        (0xe, Effect::UnitReset { unit: 0 }),
+        (0xf, Effect::TargetReset),
+        (0x7, Effect::Left { place: 0 }),
+    ];
+    for (function, effect) in rows {
+        let other = start(&mut manager, &mut logins, &NO_KEYS, 2, &on_login(function))?;
+        assert_eq!(rt; other.decided.map(|decision| decision.status), Some(0x0a));
+        manager.clear();
+        let own = start(&mut manager, &mut logins, &NO_KEYS, 1, &on_login(function))?;
+        assert_eq!(rt; own.decided.map(|decision| decision.status), Some(0x00));
+        assert_eq!(rt; own.effect, effect);
+        reply(&mut manager, &mut logins, &NO_KEYS, Reply::Done)?;
+    }
+    Ok(())
+}
+
+/// A reconnect of the EUI-64 of a held login, under another node ID.
+#[test]
+fn reconnect(rt: HostRuntime) -> Result<(), Fail> {
+    let mut manager = Manager::new();
+    let mut logins = Logins::new();
+    login(
+        &mut manager,
+        &mut logins,
+        &NO_KEYS,
+        1,
+        &orb(0, false, 0, 16),
+    )?;
+    logins.hold();
+    start(&mut manager, &mut logins, &NO_KEYS, 2, &on_login(3))?;
+    reply(
+        &mut manager,
+        &mut logins,
+        &NO_KEYS,
+        Reply::Payload(&[0, 0x11, 0x22, 0x33]),
+    )?;
+    let step = reply(
+        &mut manager,
+        &mut logins,
+        &NO_KEYS,
+        Reply::Payload(&[0, 0, 0, 1]),
+    )?;
+    assert_eq!(rt; step.effect, Effect::Back { place: 0 });
+    assert!(rt; logins.by_agent(0, node(2)?).is_some());
     Ok(())
 }
