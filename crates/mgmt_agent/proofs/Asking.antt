@@ -1,5 +1,5 @@
 -- What is asked for and what operation is under way.
-use Rattle.std.specs.Prelude.{◌≡◌, ℕ, ◌==◌, Bool, true, false, cond, List, [], length, IfOk, IsSome, Option, Some, None, Result, Ok, Err, refl}
+use Rattle.std.specs.Prelude.{◌≡◌, ℕ, ◌==◌, Bool, true, false, cond, List, length, IfOk, IsSome, Option, Some, None, Result, Ok, Err, refl}
 use Rattle.orb_layout.specs.declared.management.ManagementOrb.{ManagementOrb}
 use Rattle.orb_layout.specs.declared.ask.FailCause.{FailCause}
 use Rattle.login_table.specs.Table.{Table}
@@ -12,7 +12,7 @@ use Rattle.mgmt_agent.specs.declared.operation.Operation.{Operation}
 use Rattle.mgmt_agent.specs.declared.operation.Phase.{Phase}
 use Rattle.mgmt_agent.specs.declared.operation.Phase.TheVariants as phases
 use Rattle.mgmt_agent.specs.Decisions.{decide, reads_eui}
-use Rattle.mgmt_agent.specs.Machine.{Machine, Answer, Asks, source_in, start_step, start_with, reply_step, reply_in, decide_step, decided_as, respond_step, status_step, status_block, cut_response, quiet, in_phase, beside, eui_step, high_eui_at, orb_read, orb_got, high_got, low_got, payload_of, failure_of, response_written, status_written}
+use Rattle.mgmt_agent.specs.Machine.{Machine, Answer, Asks, source_in, start_step, start_with, reply_step, reply_in, decide_step, decided_as, respond_step, status_step, status_block, cut_response, quiet, in_phase, beside, eui_step, high_eui_at, orb_got, high_got, low_got, payload_of, failure_of, response_written, status_written}
 use Rattle.mgmt_agent.specs.Effects.{AsksLaw}
 
 abbrev AsksPair : ManagerStep × Machine → Type 0

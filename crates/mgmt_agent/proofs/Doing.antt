@@ -1,13 +1,11 @@
 -- What each decision does beside its status.
-use Rattle.std.specs.Prelude.{nat_eq, ◌≡◌, ◌≢◌, ◌⊎◌, ℕ, ◌%◌, ◌^◌, ◌<◌, ◌==◌, not, Bool, true, false, cond, List, length, position, is_none, Option, Some, None, refl}
-use Rattle.std.proofs.Common.{arith, inl, inr, set, ap, sym, ◌∙◌, subst}
+use Rattle.std.specs.Prelude.{◌≡◌, ◌≢◌, ℕ, ◌%◌, ◌^◌, ◌<◌, ◌==◌, not, Bool, true, false, cond, List, length, position, is_none, Option, Some, None, refl}
+use Rattle.std.proofs.Common.{arith, ap, sym, ◌∙◌, subst}
 use Rattle.std.proofs.lemmas.Bool.Decides.{nat_tests}
 use Rattle.std.proofs.lemmas.List.{get_or-set_same}
 use Rattle.orb_layout.specs.declared.management.ManagementOrb.{ManagementOrb}
-use Rattle.orb_layout.specs.declared.ask.FailCause.{FailCause}
 use Rattle.login_table.specs.declared.login.Login.{Login}
-use Rattle.login_table.specs.Requests.{LoginRequest}
-use Rattle.login_table.specs.Table.{Table, place_at, find, is_live_of, is_held, is_denied, is_old, is_barred, id_at, left_for, enter_at, enter_step, back_at, back_to, back_step, leave_at, leave_step, revived}
+use Rattle.login_table.specs.Table.{Table, find, is_live_of, is_held, is_denied, is_old, is_barred, id_at, left_for, enter_at, enter_step, back_at, back_to, back_step, leave_at, leave_step, revived}
 use Rattle.login_table.specs.Sound.{IsTable}
 use Rattle.login_table.proofs.Searching.{found, found_empty}
 use Rattle.mgmt_agent.specs.declared.function.Function.{Function}
@@ -18,7 +16,7 @@ use Rattle.mgmt_agent.specs.declared.decision.Effect.TheVariants as effects
 use Rattle.mgmt_agent.specs.declared.decision.Outcome.{Outcome}
 use Rattle.mgmt_agent.specs.declared.decision.Response.TheVariants as responses
 use Rattle.mgmt_agent.specs.Statuses.{function_of}
-use Rattle.mgmt_agent.specs.Decisions.{asked_by, back_decided, decide, decide_function, decide_query, effect_of, key_at, lacks_key, left_decided, live_login, login_decided, login_in, on_login, unit_exists, with_status}
+use Rattle.mgmt_agent.specs.Decisions.{asked_by, back_decided, decide, decide_function, effect_of, key_at, lacks_key, left_decided, live_login, login_decided, login_in, on_login, unit_exists, with_status}
 use Rattle.mgmt_agent.specs.Effects.{StandsFor, Enters, Returns, Leaves, ActsOn, Does, EffectLaw}
 
 -- A login that is found live for the node stands for it.

@@ -1,31 +1,21 @@
 -- The effects of the decisions, and the calls of the table of logins that they make.
-use Rattle.std.specs.Prelude.{nat_eq, ◌≡◌, ◌≢◌, ℕ, ◌<◌, ◌≤◌, ◌==◌, ◌&&◌, not, Bool, true, false, cond, List, [], ◌∷◌, length, position, is_none, Option, Some, None, Result, Ok, Err, refl}
-use Rattle.std.proofs.Common.{arith, set, ap, sym, ◌∙◌, subst}
-use Rattle.std.proofs.lemmas.Bool.Decides.{nat_tests}
-use Rattle.std.proofs.lemmas.List.{get_or-set_same}
+use Rattle.std.specs.Prelude.{◌≡◌, ℕ, ◌≤◌, ◌==◌, ◌&&◌, not, Bool, true, false, cond, List, [], ◌∷◌, length, Option, Some, None, Result, Ok, Err, refl}
+use Rattle.std.proofs.Common.{arith, sym}
 use Rattle.orb_layout.specs.declared.management.ManagementOrb.{ManagementOrb}
 use Rattle.orb_layout.specs.declared.ask.FailCause.{FailCause}
 use Rattle.orb_layout.specs.ManagementOrbs.{management_orb}
-use Rattle.login_table.specs.declared.login.Login.{Login}
-use Rattle.login_table.specs.Requests.{LoginRequest}
-use Rattle.login_table.specs.Table.{Table, place_at, find, is_live, is_live_of, is_held, is_denied, is_old, is_barred, id_at, left_for, enter_at, enter_step, back_at, back_to, back_step, leave_at, leave_step, revived}
-use Rattle.login_table.specs.Sound.{IsTable}
-use Rattle.login_table.specs.Laws.{Call, enter, all_after, Stands}
-use Rattle.login_table.proofs.Searching.{found, found_empty, within}
-use Rattle.login_table.proofs.Kept.{after_kept}
+use Rattle.login_table.specs.Table.{Table, enter_step}
+use Rattle.login_table.specs.Laws.{Call, enter, all_after}
 use Rattle.mgmt_agent.specs.declared.function.Function.{Function}
 use Rattle.mgmt_agent.specs.declared.function.Function.TheVariants as functions
-use Rattle.mgmt_agent.specs.declared.status.Status.{Status}
 use Rattle.mgmt_agent.specs.declared.status.Status.TheVariants as statuses
-use Rattle.mgmt_agent.specs.declared.decision.Effect.{Effect}
-use Rattle.mgmt_agent.specs.declared.decision.Effect.TheVariants as effects
 use Rattle.mgmt_agent.specs.declared.decision.ManagerStep.{ManagerStep}
 use Rattle.mgmt_agent.specs.declared.decision.Outcome.{Outcome}
 use Rattle.mgmt_agent.specs.declared.operation.Operation.{Operation}
 use Rattle.mgmt_agent.specs.declared.operation.Phase.{Phase}
 use Rattle.mgmt_agent.specs.declared.operation.Phase.TheVariants as phases
 use Rattle.mgmt_agent.specs.Statuses.{function_of}
-use Rattle.mgmt_agent.specs.Decisions.{asked_by, decide_query, decide_reconnect, decide_logout, with_status, back_decided, decide, decide_function, effect_of, key_at, lacks_key, left_decided, live_login, login_decided, login_in, on_login, reads_eui, unit_exists}
+use Rattle.mgmt_agent.specs.Decisions.{asked_by, with_status, decide, decide_function, key_at, lacks_key, login_decided, reads_eui, unit_exists}
 use Rattle.mgmt_agent.specs.Machine.{Machine, Answer, reply_step, reply_in, decide_step, beside, eui_step, high_eui_at, orb_got, low_got, payload_of}
 use Rattle.mgmt_agent.specs.Effects.{call_of, calls_on, CallLaw, RepliesCall, RepliesLaw}
 

@@ -1,6 +1,6 @@
 -- The places that effects name.
-use Rattle.std.specs.Prelude.{◌≡◌, ◌≢◌, ℕ, ◌<◌, ◌==◌, Bool, true, false, cond, List, [], ◌∷◌, Option, Some, None, Result, Ok, Err, refl}
-use Rattle.std.proofs.Common.{arith, ap, sym, ◌∙◌, subst}
+use Rattle.std.specs.Prelude.{◌≡◌, ◌≢◌, ℕ, ◌==◌, Bool, true, false, cond, List, [], ◌∷◌, Option, Some, None, Result, Ok, Err, refl}
+use Rattle.std.proofs.Common.{ap, sym, ◌∙◌, subst}
 use Rattle.orb_layout.specs.declared.management.ManagementOrb.{ManagementOrb}
 use Rattle.orb_layout.specs.declared.ask.FailCause.{FailCause}
 use Rattle.orb_layout.specs.ManagementOrbs.{management_orb}
@@ -21,7 +21,7 @@ use Rattle.mgmt_agent.specs.declared.operation.Phase.TheVariants as phases
 use Rattle.mgmt_agent.specs.Statuses.{function_of}
 use Rattle.mgmt_agent.specs.Decisions.{decide, decide_function, reads_eui, with_status}
 use Rattle.mgmt_agent.specs.Machine.{Machine, Answer, reply_step, reply_in, decide_step, beside, eui_step, high_eui_at, orb_got, high_got, low_got, payload_of, failure_of, response_written, status_written}
-use Rattle.mgmt_agent.specs.Effects.{Does, DoesNothing, PlaceBelow, PlaceLaw, calls_on}
+use Rattle.mgmt_agent.specs.Effects.{Does, PlaceBelow, PlaceLaw, calls_on}
 use Rattle.mgmt_agent.proofs.Doing.{effects_of_decisions}
 use Rattle.mgmt_agent.proofs.Effects.{decisions_call}
 use Rattle.mgmt_agent.proofs.Outcomes.{decide_fit}

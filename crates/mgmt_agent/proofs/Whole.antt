@@ -19,7 +19,7 @@ use Rattle.mgmt_agent.specs.declared.operation.Phase.TheVariants as phases
 use Rattle.mgmt_agent.specs.Statuses.{number_of}
 use Rattle.mgmt_agent.specs.Decisions.{decide, reads_eui}
 use Rattle.mgmt_agent.specs.Machine.{Machine, Answer, Payload, Done, Refused, Expired, NoLabel, start_step, reply_step, reply_in, decide_step, decided_as, cut_response, status_block, orb_read, high_eui_at, low_eui_at, payload_of, orb_got, high_got, low_got, beside, failure_of, response_written, status_written}
-use Rattle.mgmt_agent.specs.Laws.{Call, start, reply, clear, Note, reads, writes, got, done, decided, request, no_request, a_read, a_write, is_asked, Request, failed, note_step, note_reply, note_ask, note_decided, note_answer, note_start, after, noted, manager_after, notes_of, under_way, source_of, address_of, gots, decisions, written, orb_in, eui_in, outcome_on, outcome_of, response_after, reads_for, reads_known, read_at, write_at, writes_for, Lawful, OperationLaw}
+use Rattle.mgmt_agent.specs.Laws.{Call, start, reply, clear, Note, reads, writes, got, decided, request, no_request, a_read, a_write, is_asked, Request, failed, note_step, note_reply, note_ask, note_decided, note_answer, note_start, after, noted, manager_after, notes_of, under_way, source_of, address_of, gots, decisions, written, orb_in, eui_in, outcome_on, outcome_of, response_after, reads_for, reads_known, read_at, write_at, writes_for, Lawful, OperationLaw}
 use Rattle.mgmt_agent.proofs.Outcomes.{decide_fit, cut_speaks}
 
 -- what was read so far of an operation that is not decided
