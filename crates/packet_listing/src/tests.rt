@@ -213,17 +213,17 @@ fn outside_fails(rt: HostRuntime) {
 /// which fails and is never made.
 #[test]
 fn writes_are_few(rt: HostRuntime) {
-    for (lines, fails) in [(5usize, 2u32), (819, 2), (820, 3), (4095, 7)] {
+    for (lines, fails) in [(5u16, 2u32), (819, 2), (820, 3), (4095, 7)] {
         let listed = lists_by(rt.alloc(), lines, fails);
         assert_eq!(rt; listed, Ok(true), "at {lines}");
     }
 }
 
-fn lists_by(alloc: Global, lines: usize, fails: u32) -> Result<bool, NoMemory> {
+fn lists_by(alloc: Global, lines: u16, fails: u32) -> Result<bool, NoMemory> {
     let mut input = Vec::new(alloc);
     for _ in 0..lines {
         input.extend_from_slice(b"FFC0\n".as_slice())?;
     }
     let ended = serve(alloc, input.as_slice(), &[], &[fails])?;
-    Ok(ended.status == Status::Done && ended.written.as_slice().len() == 16 * lines)
+    Ok(ended.status == Status::Done && ended.written.as_slice().len() == 16 * usize::from(lines))
 }
