@@ -1,7 +1,9 @@
 -- What the program runs on.
-use Rattle.std.specs.Prelude.{ℕ, [], ◌∷◌}
+use Rattle.std.specs.Prelude.{ℕ, List, [], ◌∷◌, Option}
 use Rattle.rbc_disk.specs.Disk.{Disk, FaultyDisk, blank_disk, protected}
+use Rattle.rbc_disk.specs.Held.{Held, held}
 use Rattle.media_bay.specs.Trays.{new_bay}
+use Rattle.line_session.specs.Outside.{Outside}
 
 -- a medium of 64 blocks of equal bytes
 abbrev pub disc : ℕ → Disk
@@ -18,3 +20,16 @@ locked = protected (disc 0x5a)
 -- unit 2: a medium of 00h whose second call fails
 abbrev pub second_fails : FaultyDisk
 second_fails = record { held = disc 0; plan = record { failing = 2 ∷ []; calls = 0; faults = 0 } }
+
+-- the media as the program begins, by their units; no call of theirs has failed
+abbrev pub program_media : Held
+program_media = held (two_discs ∷ locked ∷ second_fails.held ∷ []) (0 ∷ 0 ∷ 0 ∷ [])
+
+-- what lies outside beside the media: the bytes of the source and the sink, with their counts of faults
+abbrev pub beside : Option (List ℕ) → ℕ → Option (List ℕ) → ℕ → Held → Outside
+beside left reads written writes media = record { left = left; reads = reads; written = written; writes = writes; media = media }
+
+-- A call that begins over the program's media ends so, whatever the media hold then.
+pub record EndsOver (Ends : Outside → Outside → Type 0) (before now : Held → Outside) : Type 0 where
+  pub media : Held
+  pub ends : Ends (before program_media) (now media)

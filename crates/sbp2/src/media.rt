@@ -9,20 +9,10 @@ use std::alloc::Global;
 /// The blocks of each medium.
 const BLOCKS: u32 = 64;
 
-/// The media that the program runs on.
-#[derive(Drop)]
-pub struct ProgramMedia {
-    /// Unit 0, a bay with two discs, both free to read and write; the first one is in the tray.
-    pub bay: Bay<RamMedium>,
-    /// Unit 1, which can't be written.
-    pub locked: ProtectedMedium,
-    /// Unit 2, whose second call fails.
-    pub faulty: FaultyMedium,
-}
-
-/// The bay of unit 0.
-fn two_discs(alloc: Global) -> Result<Bay<RamMedium>, NoMemory>
-    ensures { IfOk result (λ bay. ⟦<Bay<RamMedium> as Medium>⟧.disk bay ≡ two_discs) }
+/// The medium of unit 0: a bay with two discs, both free to read and write, the first one in its tray.
+pub(crate) fn two_discs(alloc: Global) -> Result<Bay<RamMedium>, NoMemory>
+    ensures held { IfOk result (λ bay. ⟦<Bay<RamMedium> as Medium>⟧.disk bay ≡ two_discs) }
+    ensures count { IfOk result (λ bay. ⟦<Bay<RamMedium> as Medium>⟧.media_faults bay ≡ 0) }
 {
     let first = RamMedium::new(alloc, BLOCKS, 0x00)?;
     let second = RamMedium::new(alloc, BLOCKS, 0x77)?;
@@ -32,17 +22,17 @@ fn two_discs(alloc: Global) -> Result<Bay<RamMedium>, NoMemory>
     Ok(Bay::new(BLOCKS, shelf))
 }
 
-impl ProgramMedia {
-    /// The media as the program begins.
-    pub fn new(alloc: Global) -> Result<Self, NoMemory>
-        ensures bay { IfOk result (λ media. ⟦<Bay<RamMedium> as Medium>⟧.disk media.bay ≡ two_discs) }
-        ensures locked { IfOk result (λ media. ⟦<ProtectedMedium as Medium>⟧.disk media.locked ≡ locked) }
-        ensures faulty { IfOk result (λ media. media.faulty ≡ second_fails) }
-    {
-        Ok(ProgramMedia {
-            bay: two_discs(alloc)?,
-            locked: ProtectedMedium::new(alloc, BLOCKS, 0x5a)?,
-            faulty: FaultyMedium::new(alloc, BLOCKS, 0x00, vec![in alloc; 2u32; 1]?)?,
-        })
-    }
+/// The medium of unit 1, which can't be written.
+pub(crate) fn locked(alloc: Global) -> Result<ProtectedMedium, NoMemory>
+    ensures held { IfOk result (λ medium. ⟦<ProtectedMedium as Medium>⟧.disk medium ≡ locked) }
+    ensures count { IfOk result (λ medium. ⟦<ProtectedMedium as Medium>⟧.media_faults medium ≡ 0) }
+{
+    ProtectedMedium::new(alloc, BLOCKS, 0x5a)
+}
+
+/// The medium of unit 2, whose second call fails.
+pub(crate) fn second_fails(alloc: Global) -> Result<FaultyMedium, NoMemory>
+    ensures { IfOk result (λ medium. medium ≡ second_fails) }
+{
+    FaultyMedium::new(alloc, BLOCKS, 0x00, vec![in alloc; 2u32; 1]?)
 }

@@ -3,7 +3,7 @@ ghost use Rattle.std.specs.Prelude.{◌≡◌, ◌+◌, ◌^◌, ◌≤◌, ℕ,
 use sbp_base::{Failed, Sink, SinkFault, Source};
 use std::io::{Read, Write};
 
-/// A source over a reader. It tells nothing of what is left, and counts each error.
+/// A source over a reader. It tells what is left where the reader does, and counts each error.
 #[derive(Drop)]
 pub struct Input<R> {
     reader: R,
@@ -20,7 +20,7 @@ impl<R: Read + Drop> Input<R> {
 }
 
 impl<R: Read + Drop> Source for Input<R> {
-    ghost left = { λ _. None };
+    ghost left = { λ input. R.remaining input.reader };
 
     ghost faults = { λ input. input.errors };
 
@@ -36,7 +36,7 @@ impl<R: Read + Drop> Source for Input<R> {
     }
 }
 
-/// A sink over a writer. It tells nothing of what was written, and counts each error.
+/// A sink over a writer. It tells what was written where the writer does, and counts each error.
 #[derive(Drop)]
 pub struct Output<W> {
     writer: W,
@@ -53,7 +53,7 @@ impl<W: Write + Drop> Output<W> {
 }
 
 impl<W: Write + Drop> Sink for Output<W> {
-    ghost written = { λ _. None };
+    ghost written = { λ output. W.contents output.writer };
 
     ghost faults = { λ output. output.errors };
 
