@@ -1,6 +1,5 @@
 -- The law over every list of calls: an invariant by phase, and one lemma for each step.
 use Rattle.std.proofs.Common.{◌≡◌, refl, ap, sym, ◌∙◌, ℕ, suc, ◌+◌, ◌*◌, ◌==◌, Bool, true, false, cond, List, [], ◌∷◌, ◌++◌, length, Option, Some, None, Result, Ok, Err, arith}
-use Rattle.std.specs.Prelude.{◌&&◌, ◌||◌}
 use Rattle.std.proofs.lemmas.Bool.Decides.{nat_tests}
 use Rattle.orb_layout.specs.declared.ask.FailCause.{FailCause}
 use Rattle.orb_layout.specs.declared.ask.FailCause.TheVariants as causes
@@ -28,10 +27,10 @@ use Rattle.command_agent.specs.declared.step.Move.{Move}
 use Rattle.command_agent.specs.declared.step.Move.TheVariants as moves
 use Rattle.command_agent.specs.declared.step.Which.{Which}
 use Rattle.command_agent.specs.declared.step.Which.TheVariants.{Main, Ahead}
-use Rattle.command_agent.specs.Replies.{Answer, payload_of, write_failure}
-use Rattle.command_agent.specs.Machine.{Machine, aligned, named, rung_in, is_ahead, plan_of, chunk_of}
+use Rattle.orb_layout.specs.Replies.{Answer, payload_of, write_failure}
+use Rattle.command_agent.specs.Machine.{Machine, aligned, named, is_ahead, plan_of, chunk_of}
 use Rattle.command_agent.specs.Checks.{verdict, death_by, reads_table}
-use Rattle.command_agent.specs.Steps.{quiet, sent, is_unsent, ahead_step, dead_step, reread_step, kept_from, end_step, answer_step, with_outcome, ran_as, run_step, judged, judge_step, checked, check_step, ahead_of, served, advanced, orb_read, table_read, elements_read, data_read, data_grown, chunk_written, status_written, next_read, follow_step, turn_step, pointed, point_step, doorbell_step, reset_step, abort_step, reply_step, unread_buffer, answer_chunk, turned}
+use Rattle.command_agent.specs.Steps.{quiet, sent, told_or, ahead_read, ahead_step, dead_step, reread_step, end_step, answer_step, with_outcome, ran_as, run_step, judged, judge_step, checked, check_step, ahead_of, served, advanced, orb_read, table_read, elements_read, data_read, data_grown, chunk_written, status_written, next_read, follow_step, turn_step, pointed, point_step, doorbell_step, reset_step, abort_step, reply_step, unread_buffer, answer_chunk, turned}
 use Rattle.command_agent.specs.Calls.{Call, Point, Doorbell, Reset, Abort, Reply, after_call, after_calls, Note, Pointed, Cut, Turn, Fetched, Reread, AheadRead, AheadUsed, Ran, Answered, Ended, turn_notes, fetch_notes, reread_notes, status_notes, ahead_notes, main_notes, heard, point_notes, step_notes, noted, notes, is_open, before_present, present_in, fetched_in, next_in, runs_in, ahead_in, Lawful, ended, InOrder, CallsAreLawful, CallsKeepOrder, RereadsEndNothing}
 use Rattle.command_agent.proofs.Fits.{data_needed, feeds_all, feeds_none}
 
@@ -253,17 +252,17 @@ main_after phases.Suspended m told place plain answer ns l k a = record { after 
 main_after phases.Dead m told place plain answer ns l k a = record { after = record { tied = record { lawful = l; phase = k; ahead = a } } }
 
 -- to the read ahead
-kept_after : (r : Result (List ℕ) FailCause) (bell : Bool) (m : Machine) (place : ℕ) (plain : PlainDisk) (ns : List Note) → Tied m ns → After place plain (ahead_notes r ns) (quiet, record m { ahead = kept_from r; doorbell = bell })
-kept_after (Ok bytes) bell m place plain ns t = record { tied = record { lawful = t.lawful; phase = t.phase; ahead = refl } }
-kept_after (Err cause) bell m place plain ns t = record { tied = record { lawful = t.lawful; phase = t.phase; ahead = tt } }
+kept_after : (r : Result (List ℕ) FailCause) (m : Machine) (place : ℕ) (plain : PlainDisk) (ns : List Note) → Tied m ns → After place plain (ahead_notes r ns) (ahead_read m r)
+kept_after (Ok bytes) m place plain ns t = record { tied = record { lawful = t.lawful; phase = t.phase; ahead = refl } }
+kept_after (Err cause) m place plain ns t = record { tied = record { lawful = t.lawful; phase = t.phase; ahead = tt } }
 
 heard_after : (b : Bool) (m : Machine) (place : ℕ) (plain : PlainDisk) (answer : Answer) (ns : List Note) → Tied m ns → After place plain (cond b (ahead_notes (payload_of answer 32) ns) ns) (cond b (ahead_step m answer) (quiet, m))
-heard_after true m place plain answer ns t = kept_after (payload_of answer 32) (m.doorbell || (is_unsent answer && rung_in m.ahead)) m place plain ns t
+heard_after true m place plain answer ns t = kept_after (payload_of answer 32) m place plain ns t
 heard_after false m place plain answer ns t = record { tied = t }
 
-reply_after : (which : Which) (m : Machine) (told : Told) (place : ℕ) (plain : PlainDisk) (answer : Answer) (ns : List Note) → Tied m ns → After place plain (heard m which answer ns) (reply_step m place plain told which answer)
+reply_after : (which : Which) (m : Machine) (told : Option Told) (place : ℕ) (plain : PlainDisk) (answer : Answer) (ns : List Note) → Tied m ns → After place plain (heard m which answer ns) (reply_step m place plain told which answer)
 unfolding reply_step
-reply_after Main m told place plain answer ns t = (main_after m.phase m told place plain answer ns t.lawful t.phase t.ahead).after
+reply_after Main m told place plain answer ns t = (main_after m.phase m (told_or told) place plain answer ns t.lawful t.phase t.ahead).after
 reply_after Ahead m told place plain answer ns t = heard_after (is_ahead m.ahead) m place plain answer ns t
 
 -- the other calls, by phase
@@ -304,7 +303,7 @@ calls_lawful calls = (calls_tied calls).lawful
 pub rereads_end_nothing : RereadsEndNothing
 unfolding reply_step
 rereads_end_nothing m place plain told answer cause e =
-    ap (λ (r : Result (List ℕ) FailCause). (served place plain told (next_read (record m { phase = phases.ReadingNext }) r).0 (next_read (record m { phase = phases.ReadingNext }) r).1).0) e
+    ap (λ (r : Result (List ℕ) FailCause). (served place plain (told_or told) (next_read (record m { phase = phases.ReadingNext }) r).0 (next_read (record m { phase = phases.ReadingNext }) r).1).0) e
 
 -- lawful notes are in order
 order : (ns : List Note) → Lawful ns → InOrder ns

@@ -21,7 +21,7 @@ use Rattle.command_agent.specs.declared.step.AgentStep.{AgentStep}
 use Rattle.command_agent.specs.declared.step.PointRefusal.{PointRefusal}
 use Rattle.command_agent.specs.declared.step.Which.{Which}
 use Rattle.command_agent.specs.declared.step.Which.TheVariants.{Main, Ahead}
-use Rattle.command_agent.specs.Replies.{Answer, payload_of, write_failure}
+use Rattle.orb_layout.specs.Replies.{Answer, payload_of, write_failure}
 use Rattle.command_agent.specs.Machine.{Machine, new_machine, aligned, named, is_ahead, plan_of}
 use Rattle.command_agent.specs.Steps.{quiet, point_step, doorbell_step, reset_step, abort_step, reply_step}
 
@@ -31,7 +31,7 @@ pub data Call : Type 0 where
   Doorbell : Call
   Reset : Call
   Abort : (orb : ℕ) → Call
-  Reply : (place : ℕ) (plain : PlainDisk) (told : Told) (which : Which) (answer : Answer) → Call
+  Reply : (place : ℕ) (plain : PlainDisk) (told : Option Told) (which : Which) (answer : Answer) → Call
 
 abbrev pub after_call : Call → Machine → Machine
 after_call (Point pointer) m = (point_step m pointer).1
@@ -215,6 +215,6 @@ CallsKeepOrder = (calls : List Call) → InOrder (notes calls)
 
 -- A failing read of a next pointer makes the agent dead; no ORB ends, none runs and nothing is written.
 abbrev pub RereadsEndNothing : Type 0
-RereadsEndNothing = (m : Machine) (place : ℕ) (plain : PlainDisk) (told : Told) (answer : Answer) (cause : FailCause) →
+RereadsEndNothing = (m : Machine) (place : ℕ) (plain : PlainDisk) (told : Option Told) (answer : Answer) (cause : FailCause) →
     payload_of answer 8 ≡ Err cause →
     (reply_step (record m { phase = phases.ReadingNext }) place plain told Main answer).0 ≡ record quiet { dead = Some cause }

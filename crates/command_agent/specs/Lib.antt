@@ -1,6 +1,6 @@
-pub mod Replies
 pub mod Machine
 pub mod Checks
 pub mod Steps
 pub mod Runs
+pub mod Lost
 pub mod Calls

@@ -10,6 +10,7 @@ use Rattle.orb_layout.specs.declared.pointer.OrbPointer.TheVariants.{Null, At}
 use Rattle.orb_layout.specs.declared.status.StatusBlock.{StatusBlock}
 use Rattle.orb_layout.specs.declared.status.StatusKind.{StatusKind}
 use Rattle.orb_layout.specs.declared.status.StatusKind.TheVariants as kinds
+use Rattle.orb_layout.specs.Replies.{Answer, payload_of, write_failure}
 use Rattle.orb_layout.specs.CommandOrbs.{command_orb}
 use Rattle.orb_layout.specs.Pointers.{pointer_at}
 use Rattle.orb_layout.specs.StatusBlocks.{status_bytes}
@@ -34,13 +35,14 @@ use Rattle.command_agent.specs.declared.step.Which.{Which}
 use Rattle.command_agent.specs.declared.step.Which.TheVariants.{Main, Ahead}
 use Rattle.command_agent.specs.declared.step.Move.{Move}
 use Rattle.command_agent.specs.declared.step.Move.TheVariants as moves
-use Rattle.command_agent.specs.Replies.{Answer, NoLabel, payload_of, write_failure}
-use Rattle.command_agent.specs.Machine.{Machine, unread, aligned, awaits_run, rung_in, is_ahead, plan_of, chunk_of}
+use Rattle.command_agent.specs.declared.step.AgentState.{AgentState}
+use Rattle.command_agent.specs.declared.step.AgentState.TheVariants as states
+use Rattle.command_agent.specs.Machine.{Machine, unread, state_in, aligned, awaits_run, rung_in, is_ahead, plan_of, chunk_of}
 use Rattle.command_agent.specs.Checks.{verdict, death_by, reads_table, plain_length}
 
 -- nothing is sent and nothing told
 abbrev pub quiet : AgentStep
-quiet = record { ask = Nothing; ahead = Nothing; ran = None; ended = None; dead = None }
+quiet = record { ask = Nothing; ahead = Nothing; promoted = false; ran = None; ended = None; dead = None }
 
 abbrev pub asks : Ask → AgentStep
 asks ask = record quiet { ask = ask }
@@ -100,28 +102,26 @@ abbrev pub pointed : Machine → OrbPointer → Result Ask PointRefusal × Machi
 pointed m Null = (Err refusals.Null, m)
 pointed m (At next) = (Ok (fetch_step m next).0.ask, (fetch_step m next).1)
 
+abbrev pub point_in : AgentState → Machine → OrbPointer → Result Ask PointRefusal × Machine
+point_in states.Reset m pointer = pointed m pointer
+point_in states.Suspended m pointer = pointed m pointer
+point_in _ m pointer = (Err refusals.Conflict, m)
+
 unfoldable pub point_step : Machine → OrbPointer → Result Ask PointRefusal × Machine
-point_step m pointer = at_phase m.phase
-  where
-    at_phase : Phase → Result Ask PointRefusal × Machine
-    at_phase phases.Reset = pointed m pointer
-    at_phase phases.Suspended = pointed m pointer
-    at_phase _ = (Err refusals.Conflict, m)
+point_step m pointer = point_in (state_in m.phase) m pointer
 
 -- DOORBELL
+abbrev pub doorbell_in : AgentState → Machine → Ask × Machine
+doorbell_in states.Active m = (Nothing, record m { doorbell = true })
+doorbell_in states.Suspended m = ((reread_step m).0.ask, (reread_step m).1)
+doorbell_in _ m = (Nothing, m)
+
 unfoldable pub doorbell_step : Machine → Ask × Machine
-doorbell_step m = at_phase m.phase
-  where
-    at_phase : Phase → Ask × Machine
-    at_phase phases.Reset = (Nothing, m)
-    at_phase phases.Dead = (Nothing, m)
-    at_phase phases.WritingLastStatus = (Nothing, m)
-    at_phase phases.Suspended = ((reread_step m).0.ask, (reread_step m).1)
-    at_phase _ = (Nothing, record m { doorbell = true })
+doorbell_step m = doorbell_in (state_in m.phase) m
 
 -- AGENT_RESET: the answer tells whether the agent was in another state
-abbrev pub is_reset : Phase → Bool
-is_reset phases.Reset = true
+abbrev pub is_reset : AgentState → Bool
+is_reset states.Reset = true
 is_reset _ = false
 
 unfoldable pub reset_step : Machine → Machine
@@ -131,13 +131,13 @@ reset_step m = record m { phase = phases.Reset; ahead = aheads.Idle }
 unfoldable pub abort_step : Machine → ℕ → Machine
 abort_step m orb = record m { aborted = m.aborted || (awaits_run m.phase && (m.present == aligned orb)) }
 
--- after the status write, by the next pointer as it was last read
+-- after the status write, by the next pointer as it was last read; a read ahead under way becomes the main transaction
 abbrev pub sent : AgentStep × Machine → Move × Machine
 sent s = (moves.Send s.0, s.1)
 
 abbrev pub turn_step : Machine → ℕ → ReadAhead → Move × Machine
 turn_step m next aheads.Idle = sent (fetch_step m next)
-turn_step m next (aheads.UnderWay rung) = (moves.Send quiet, turned m next)
+turn_step m next (aheads.UnderWay rung) = (moves.Send (record quiet { promoted = true }), turned m next)
 turn_step m next (aheads.Kept orb) = (moves.Check, record (turned m next) { orb = orb })
 
 abbrev pub wait_step : Machine → AgentStep × Machine
@@ -266,31 +266,53 @@ served place plain told moves.Check m = with_ahead (check_step m place plain tol
 served place plain told moves.Judge m = judge_step m place plain told
 served place plain told moves.Run m = run_step m told
 
--- the reply to the read ahead: one that was not sent has cleared no doorbell mark
-abbrev pub kept_from : Result (List ℕ) FailCause → ReadAhead
-kept_from (Ok bytes) = aheads.Kept (command_orb bytes)
-kept_from (Err cause) = aheads.Idle
+abbrev pub is_label : FailCause → Bool
+is_label causes.Label = true
+is_label _ = false
 
-abbrev pub is_unsent : Answer → Bool
-is_unsent NoLabel = true
-is_unsent _ = false
+-- The read ahead failed: it is forgotten, and one that was not sent has cleared no doorbell mark.
+abbrev pub ahead_lost : Machine → FailCause → AgentStep × Machine
+ahead_lost m cause = (quiet, record m { ahead = aheads.Idle; doorbell = m.doorbell || (is_label cause && rung_in m.ahead) })
+
+-- the reply to the read ahead: its bytes are kept unchecked, or it is forgotten
+abbrev pub ahead_read : Machine → Result (List ℕ) FailCause → AgentStep × Machine
+ahead_read m (Ok bytes) = (quiet, record m { ahead = aheads.Kept (command_orb bytes) })
+ahead_read m (Err cause) = ahead_lost m cause
 
 abbrev pub ahead_step : Machine → Answer → AgentStep × Machine
-ahead_step m answer = (
-  quiet,
-  record m {
-    ahead = kept_from (payload_of answer 32);
-    doorbell = m.doorbell || (is_unsent answer && rung_in m.ahead);
-  },
-)
+ahead_step m answer = ahead_read m (payload_of answer 32)
 
 abbrev pub replied : Machine → ℕ → PlainDisk → Told → Which → Answer → AgentStep × Machine
 replied m place plain told Main answer = served place plain told (advanced m.phase m answer).0 (advanced m.phase m answer).1
 replied m place plain told Ahead answer = if is_ahead m.ahead then ahead_step m answer else (quiet, m)
 
+-- where no command runs, what a run told is of no account
+abbrev pub told_or : Option Told → Told
+told_or None = record { outcome = outcomes.Good 0; answer = [] }
+told_or (Some told) = told
+
 -- a reply, over what the unit and its medium hold and what a run told
-unfoldable pub reply_step : Machine → ℕ → PlainDisk → Told → Which → Answer → AgentStep × Machine
-reply_step m place plain told which answer = replied m place plain told which answer
+unfoldable pub reply_step : Machine → ℕ → PlainDisk → Option Told → Which → Answer → AgentStep × Machine
+reply_step m place plain told which answer = replied m place plain (told_or told) which answer
+
+-- The main transaction failed: the present ORB ends as failed, but where it has ended, and the agent is dead.
+abbrev pub main_lost : Phase → Machine → FailCause → AgentStep × Machine
+main_lost phases.Fetching m cause = fail_step m cause
+main_lost phases.ReadingTable m cause = fail_step m cause
+main_lost (phases.ReadingData wanted) m cause = fail_step m cause
+main_lost phases.Answering m cause = fail_step m cause
+main_lost phases.WritingStatus m cause = dead_step m cause
+main_lost phases.ReadingNext m cause = dead_step m cause
+main_lost phases.WritingLastStatus m cause = (quiet, record m { phase = phases.Dead })
+main_lost _ m cause = (quiet, m)
+
+abbrev pub lost : Machine → Which → FailCause → AgentStep × Machine
+lost m Main cause = main_lost m.phase m cause
+lost m Ahead cause = if is_ahead m.ahead then ahead_lost m cause else (quiet, m)
+
+-- a transaction failed
+unfoldable pub lost_step : Machine → Which → FailCause → AgentStep × Machine
+lost_step m which cause = lost m which cause
 
 -- what is known of the present ORB where its command is to be judged, or runs
 pub record IsJudgeable (m : Machine) : Type 0 where

@@ -1,7 +1,6 @@
 ghost use Rattle.std.specs.Prelude.{◌≡◌, ◌+◌, ◌-◌, ◌*◌, ◌%◌, ◌^◌, ◌<◌, ◌≤◌, [], ◌++◌, length, take, drop, Some, None, Ok, Err, IfOk, IfErr, not, true, false, if◌then◌else◌};
 
 use crate::phase::{Phase, ReadAhead};
-use crate::reply::orb_in;
 use crate::room::{Outgoing, Room};
 use crate::step::{AgentState, AgentStep, PointRefusal, Which};
 use orb_layout::{Ask, CommandOrb, FailCause, OrbPointer, Reply, StatusBlock, StatusKind};
@@ -81,10 +80,11 @@ impl Agent {
     ghost use Rattle.orb_layout.specs.StatusBlocks.{status_bytes};
     ghost use Rattle.page_table.specs.Buffer.{bytes_of};
     ghost use Rattle.command_agent.specs.Machine.{new_machine, state_in, present_of, awaits_run, aligned, is_under_way, plan_of, limit_of, chunk_of};
-    ghost use Rattle.command_agent.specs.Replies.{answer_of};
-    ghost use Rattle.command_agent.specs.Runs.{Leaves, told_by};
+    ghost use Rattle.orb_layout.specs.Replies.{answer_of};
+    ghost use Rattle.command_agent.specs.Runs.{MayTell, count_after};
     ghost use Rattle.rbc_disk.specs.Units.{plain_disk};
-    ghost use Rattle.command_agent.specs.Steps.{point_step, doorbell_step, reset_step, is_reset, abort_step, reply_step, fetch_step, turned, reread_step, end_step, dead_step, block_of, src_of};
+    ghost use Rattle.rbc_disk.specs.Runs.{told_in, left_by};
+    ghost use Rattle.command_agent.specs.Steps.{point_step, doorbell_step, reset_step, is_reset, abort_step, reply_step, lost_step, main_lost, ahead_lost, fetch_step, turned, reread_step, end_step, dead_step, block_of, src_of};
 
     /// An agent in RESET, with all the room that it will use.
     pub fn new(alloc: Global) -> Result<Agent, NoMemory>
@@ -171,8 +171,10 @@ impl Agent {
     ) -> AgentStep
         requires under_way { is_under_way which self.old ≡ true }
         requires place { login < 8 }
-        ensures step { (result, self.new) ≡ reply_step self.old login (plain_disk unit.old (disk medium.old)) (told_by result self.new) which (answer_of reply.entry) }
-        ensures left { Leaves result.ran self.new login (plain_disk unit.old (disk medium.old)) (plain_disk unit.new (disk medium.new)) (media_faults medium.old) (media_faults medium.new) }
+        ensures step { (result, self.new) ≡ reply_step self.old login (plain_disk unit.old (disk medium.old)) (told_in result.ran self.new.answer) which (answer_of reply.entry) }
+        ensures plain { plain_disk unit.new (disk medium.new) ≡ left_by result.ran self.new.orb.cdb self.new.payload login (plain_disk unit.old (disk medium.old)) }
+        ensures may { MayTell result.ran self.new login (plain_disk unit.old (disk medium.old)) }
+        ensures cause { media_faults medium.new ≡ count_after result.ran (media_faults medium.old) }
     {
         match which {
             Which::Main => {
@@ -183,6 +185,19 @@ impl Agent {
         }
     }
 
+    /// The main transaction or the read ahead failed: no command runs, so it takes no unit and no
+    /// medium. [`Agent::reply`] does the same at each reply that is neither a payload nor `Done`.
+    #[tactic(auto, unfolding(crate::specs::Steps::lost_step))]
+    pub fn lose(&mut self, which: Which, cause: FailCause) -> AgentStep
+        requires { is_under_way which self.old ≡ true }
+        ensures { (result, self.new) ≡ lost_step self.old which cause }
+    {
+        match which {
+            Which::Main => self.lose_main(cause),
+            Which::Ahead => self.lose_ahead(cause),
+        }
+    }
+
     /// A write of ORB_POINTER: in RESET and SUSPENDED a pointer that is not null is taken, and the ORB
     /// there is read.
     #[tactic(auto, unfolding(crate::specs::Steps::point_step))]
@@ -190,7 +205,7 @@ impl Agent {
         ensures step { (result, self.new) ≡ point_step self.old pointer }
         ensures refused { IfErr result (λ _refusal. self.new ≡ self.old) }
     {
-        if !matches!(self.phase, Phase::Reset | Phase::Suspended) {
+        if !matches!(self.state(), AgentState::Reset | AgentState::Suspended) {
             return Err(PointRefusal::Conflict);
         }
         match pointer {
@@ -205,10 +220,10 @@ impl Agent {
     pub fn doorbell(&mut self) -> Ask
         ensures { (result, self.new) ≡ doorbell_step self.old }
     {
-        match self.phase {
-            Phase::Reset | Phase::Dead | Phase::WritingLastStatus => Ask::Nothing,
-            Phase::Suspended => self.reread().ask,
-            _ => {
+        match self.state() {
+            AgentState::Reset | AgentState::Dead => Ask::Nothing,
+            AgentState::Suspended => self.reread().ask,
+            AgentState::Active => {
                 self.doorbell = true;
                 Ask::Nothing
             }
@@ -219,10 +234,10 @@ impl Agent {
     /// transactions belong to nobody. The answer tells whether it was in another state.
     #[tactic(auto, unfolding(crate::specs::Steps::reset_step))]
     pub fn reset(&mut self) -> bool
-        ensures was { result ≡ not (is_reset self.old.phase) }
+        ensures was { result ≡ not (is_reset (state_in self.old.phase)) }
         ensures left { self.new ≡ reset_step self.old }
     {
-        let was_open = !matches!(self.phase, Phase::Reset);
+        let was_open = self.state() != AgentState::Reset;
         self.phase = Phase::Reset;
         self.ahead = ReadAhead::Idle;
         was_open
@@ -247,6 +262,32 @@ impl Agent {
             self.phase,
             Phase::Fetching | Phase::ReadingTable | Phase::ReadingData { .. }
         )
+    }
+
+    /// The main transaction failed.
+    fn lose_main(&mut self, cause: FailCause) -> AgentStep
+        ensures { (result, self.new) ≡ main_lost self.old.phase self.old cause }
+    {
+        match self.phase {
+            Phase::Reset | Phase::Suspended | Phase::Dead => AgentStep::quiet(),
+            Phase::WritingStatus | Phase::ReadingNext => self.die(cause),
+            Phase::WritingLastStatus => {
+                self.phase = Phase::Dead;
+                AgentStep::quiet()
+            }
+            _ => self.end(StatusKind::Failed, Some(cause)),
+        }
+    }
+
+    /// The read ahead failed: it is forgotten. One that was not sent has cleared no doorbell mark.
+    fn lose_ahead(&mut self, cause: FailCause) -> AgentStep
+        ensures { (result, self.new) ≡ ahead_lost self.old cause }
+    {
+        if let (FailCause::Label, ReadAhead::UnderWay { rung: true }) = (cause, self.ahead) {
+            self.doorbell = true;
+        }
+        self.ahead = ReadAhead::Idle;
+        AgentStep::quiet()
     }
 
     /// The turn of the ORB at a pointer.
@@ -390,5 +431,18 @@ fn aligned(pointer: Offset) -> Offset
     match Offset::new(value - value % 4) {
         Some(offset) => offset,
         None => unreachable!(),
+    }
+}
+
+ghost use Rattle.orb_layout.specs.CommandOrbs.{command_orb};
+
+/// The ORB in its 32 bytes.
+fn orb_in(bytes: &[u8]) -> CommandOrb
+    requires { length bytes.now ≡ 32 }
+    ensures { result ≡ command_orb bytes.now }
+{
+    match CommandOrb::read(bytes) {
+        Ok(orb) => orb,
+        Err(_) => unreachable!(),
     }
 }

@@ -1,3 +1,4 @@
+ghost use Rattle.command_agent.specs.Lost.{LostLaw, LossesRunNothing, TwoLossesEndIt};
 ghost use Rattle.command_agent.specs.Calls.{CallsAreLawful, CallsKeepOrder, RereadsEndNothing};
 
 /// Over every list of calls of an agent: each turn comes when the ORB before has ended, and to the one
@@ -19,4 +20,13 @@ pub fn calls_keep_order()
 #[tactic(auto, using(crate::proofs::Lists::rereads_end_nothing))]
 pub fn failing_reread_ends_nothing()
     ensures { RereadsEndNothing }
+{}
+
+/// A reply that fails runs no command and asks nothing of a unit or a medium: it is what
+/// [`crate::Agent::lose`] does. Two losses in turn leave no main transaction under way.
+#[tactic(auto, using(crate::proofs::Losing::reply_lost, crate::proofs::Losing::losses_silent, crate::proofs::Losing::two_losses))]
+pub fn failed_reply_is_a_loss()
+    ensures loss { LostLaw }
+    ensures silent { LossesRunNothing }
+    ensures over { TwoLossesEndIt }
 {}

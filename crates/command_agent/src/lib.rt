@@ -7,12 +7,13 @@ mod agent;
 mod checks;
 mod laws;
 mod phase;
-mod reply;
 mod room;
 mod step;
 
 pub use agent::Agent;
-pub use laws::{calls_are_lawful, calls_keep_order, failing_reread_ends_nothing};
+pub use laws::{
+    calls_are_lawful, calls_keep_order, failed_reply_is_a_loss, failing_reread_ends_nothing,
+};
 pub use phase::{Phase, ReadAhead};
 pub use step::{AgentState, AgentStep, PointRefusal, Which};
 

@@ -34,6 +34,8 @@ pub struct AgentStep {
     pub ask: Ask,
     /// The read ahead.
     pub ahead: Ask,
+    /// The read ahead that was under way is the main transaction from now on.
+    pub promoted: bool,
     /// The present ORB's command ran.
     pub ran: Option<Outcome>,
     /// The present ORB ended.
@@ -53,6 +55,7 @@ impl AgentStep {
         AgentStep {
             ask: Ask::Nothing,
             ahead: Ask::Nothing,
+            promoted: false,
             ran: None,
             ended: None,
             dead: None,

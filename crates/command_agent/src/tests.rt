@@ -115,6 +115,15 @@ fn reply(
     }
 }
 
+/// The step of a loss, by the same rule.
+fn lose(agent: &mut Agent, which: Which, cause: FailCause) -> AgentStep {
+    if agent.is_under_way(which) {
+        agent.lose(which, cause)
+    } else {
+        AgentStep::quiet()
+    }
+}
+
 /// The last step of the same.
 fn last(rt: &impl AllocGlobal, inputs: &[Input]) -> Option<AgentStep> {
     let ended = run(rt, inputs).ok()?;
@@ -228,6 +237,34 @@ fn doorbell(rt: HostRuntime) -> Result<(), Fail> {
         last(&rt, &[orb, Input::Bell, Input::Done, Input::Null]),
         quiet
     );
+    Ok(())
+}
+
+/// A doorbell while the next pointer is read has it read once more, whichever read it came behind.
+#[test]
+fn doorbell_while_the_pointer_is_read(rt: HostRuntime) -> Result<(), Fail> {
+    let first = [
+        Input::Orb(ready(0)),
+        Input::Done,
+        Input::Bell,
+        Input::Bell,
+        Input::Null,
+    ];
+    assert_eq!(rt;
+        last(&rt, &first),
+        Some(AgentStep::asking(read(0x1000_0000, 8)))
+    );
+    let second = [
+        Input::Orb(ready(0)),
+        Input::Done,
+        Input::Bell,
+        Input::Bell,
+        Input::Null,
+        Input::Null,
+    ];
+    let ended = run(&rt, &second).ok().ok_or("memory")?;
+    assert_eq!(rt; ended.steps.last().copied(), Some(AgentStep::quiet()));
+    assert_eq!(rt; ended.agent.state(), AgentState::Suspended);
     Ok(())
 }
 
@@ -472,6 +509,32 @@ fn read_ahead(rt: HostRuntime) -> Result<(), Fail> {
     assert_eq!(rt; told(&rt, &[orb, Input::Ahead(ready(0)), Input::Done]), ran);
     assert_eq!(rt; told(&rt, &[orb, Input::Done, Input::Orb(ready(0))]), ran);
     assert_eq!(rt; last(&rt, &[orb, Input::AheadExpired, Input::Done]), again);
+    let promoted = AgentStep {
+        promoted: true,
+        ..AgentStep::quiet()
+    };
+    assert_eq!(rt; last(&rt, &[orb, Input::Done]), Some(promoted));
+    Ok(())
+}
+
+/// Transactions that are lost, without a unit and a medium: the read ahead, then the status write.
+#[test]
+fn losses(rt: HostRuntime) -> Result<(), Fail> {
+    let mut agent = run(&rt, &[Input::Orb(ready(0x1000_0040)), Input::Bell])
+        .ok()
+        .ok_or("memory")?
+        .agent;
+    assert_eq!(rt;
+        lose(&mut agent, Which::Ahead, FailCause::Label),
+        AgentStep::quiet()
+    );
+    assert!(rt; !agent.is_under_way(Which::Ahead));
+    let dead = AgentStep {
+        dead: Some(FailCause::Timeout),
+        ..AgentStep::quiet()
+    };
+    assert_eq!(rt; lose(&mut agent, Which::Main, FailCause::Timeout), dead);
+    assert_eq!(rt; agent.state(), AgentState::Dead);
     Ok(())
 }
 

@@ -1,8 +1,7 @@
 ghost use Rattle.std.specs.Prelude.{◌≡◌, ◌+◌, ◌*◌, ◌<◌, ◌≤◌, [], length, Ok, Err, Some, None, IfOk, true};
 
-use super::Agent;
+use super::{Agent, ORB_SIZE, POINTER_SIZE, orb_in};
 use crate::phase::{Phase, ReadAhead};
-use crate::reply::{orb_in, payload, write_failure};
 use crate::step::{AgentStep, Move};
 use orb_layout::{Ask, FailCause, OrbPointer, Reply, StatusKind};
 use page_table::elements;
@@ -12,8 +11,8 @@ impl Agent {
     ghost use Rattle.page_table.specs.Buffer.{bytes_of};
     ghost use Rattle.rbc_disk.specs.Runs.{data_length_of};
     ghost use Rattle.command_agent.specs.Machine.{is_sent, chunk_of, IsFilling, IsAnswering, IsTabled};
-    ghost use Rattle.command_agent.specs.Replies.{answer_of, lent};
-    ghost use Rattle.command_agent.specs.Steps.{advanced, fail_step, orb_read, table_read, data_read, data_step, chunk_written, answer_step, status_written, next_read, follow_step, wait_step, turn_step, sent, ahead_step, IsReady};
+    ghost use Rattle.orb_layout.specs.Replies.{answer_of, lent};
+    ghost use Rattle.command_agent.specs.Steps.{quiet, advanced, fail_step, orb_read, table_read, data_read, data_step, chunk_written, answer_step, status_written, next_read, follow_step, wait_step, turn_step, sent, ahead_step, IsReady};
 
     /// What follows from the reply to the main transaction, by its phase.
     pub(super) fn advance(&mut self, reply: Reply<'_>) -> Move
@@ -22,18 +21,18 @@ impl Agent {
         ensures ready { IsReady result self.new }
     {
         match self.phase {
-            Phase::Fetching => self.take_orb(payload(reply, 32)),
+            Phase::Fetching => self.take_orb(reply.payload(usize::from(ORB_SIZE))),
             Phase::ReadingTable => {
                 let size = 8 * usize::from(self.orb.data_size);
-                self.take_table(payload(reply, size))
+                self.take_table(reply.payload(size))
             }
             Phase::ReadingData { wanted } => {
                 let size = usize::from(self.chunk(self.payload.len(), wanted).length);
-                self.take_data(wanted, payload(reply, size))
+                self.take_data(wanted, reply.payload(size))
             }
-            Phase::Answering => self.chunk_written(write_failure(reply)),
-            Phase::WritingStatus => self.status_written(write_failure(reply)),
-            Phase::ReadingNext => self.take_next(payload(reply, 8)),
+            Phase::Answering => self.chunk_written(reply.write_failure()),
+            Phase::WritingStatus => self.status_written(reply.write_failure()),
+            Phase::ReadingNext => self.take_next(reply.payload(usize::from(POINTER_SIZE))),
             Phase::WritingLastStatus => {
                 self.phase = Phase::Dead;
                 Move::Send(AgentStep::quiet())
@@ -47,14 +46,13 @@ impl Agent {
     pub(super) fn keep_ahead(&mut self, reply: Reply<'_>) -> AgentStep
         ensures { (result, self.new) ≡ ahead_step self.old (answer_of reply.entry) }
     {
-        if let (Reply::NoLabel, ReadAhead::UnderWay { rung: true }) = (reply, self.ahead) {
-            self.doorbell = true;
+        match reply.payload(usize::from(ORB_SIZE)) {
+            Ok(bytes) => {
+                self.ahead = ReadAhead::Kept(orb_in(bytes));
+                AgentStep::quiet()
+            }
+            Err(cause) => self.lose_ahead(cause),
         }
-        self.ahead = match payload(reply, 32) {
-            Ok(bytes) => ReadAhead::Kept(orb_in(bytes)),
-            Err(_) => ReadAhead::Idle,
-        };
-        AgentStep::quiet()
     }
 
     /// The main transaction of the present ORB failed.
@@ -229,7 +227,10 @@ impl Agent {
             ReadAhead::Idle => Move::Send(self.fetch(next)),
             ReadAhead::UnderWay { .. } => {
                 self.turn_to(next);
-                Move::Send(AgentStep::quiet())
+                Move::Send(AgentStep {
+                    promoted: true,
+                    ..AgentStep::quiet()
+                })
             }
             ReadAhead::Kept(orb) => {
                 self.turn_to(next);

@@ -1,6 +1,6 @@
 ghost use Rattle.std.specs.Prelude.{◌≡◌, ◌*◌, ◌<◌, ◌≤◌, [], length, Some, None};
 ghost use Rattle.rbc_disk.specs.Units.{plain_disk};
-ghost use Rattle.rbc_disk.specs.Runs.{need_of, Feeds, check_in, answered_length};
+ghost use Rattle.rbc_disk.specs.Runs.{need_of, Feeds, check_in, answered_length, told_in, left_by};
 
 use super::Agent;
 use crate::checks::{death_by, plain_length, reads_table, verdict};
@@ -13,8 +13,8 @@ impl Agent {
     ghost use Rattle.page_table.specs.Buffer.{bytes_of};
     ghost use Rattle.command_agent.specs.Checks.{IsPassed};
     ghost use Rattle.command_agent.specs.Machine.{plan_of, aligned};
-    ghost use Rattle.command_agent.specs.Runs.{Leaves, told_by};
-    ghost use Rattle.command_agent.specs.Steps.{served, check_step, passed_step, judge_step, run_step, ran_as, with_ahead, IsReady, IsJudgeable};
+    ghost use Rattle.command_agent.specs.Runs.{MayTell, count_after};
+    ghost use Rattle.command_agent.specs.Steps.{told_or, served, check_step, passed_step, judge_step, run_step, ran_as, with_ahead, IsReady, IsJudgeable};
 
     /// Does what follows from a reply, over a unit and its medium.
     #[tactic(auto, using(crate::proofs::Fits::feeds_all))]
@@ -27,8 +27,10 @@ impl Agent {
     ) -> AgentStep
         requires place { login < 8 }
         requires ready { IsReady next self.old }
-        ensures step { (result, self.new) ≡ served login (plain_disk unit.old (disk medium.old)) (told_by result self.new) next self.old }
-        ensures left { Leaves result.ran self.new login (plain_disk unit.old (disk medium.old)) (plain_disk unit.new (disk medium.new)) (media_faults medium.old) (media_faults medium.new) }
+        ensures step { (result, self.new) ≡ served login (plain_disk unit.old (disk medium.old)) (told_or (told_in result.ran self.new.answer)) next self.old }
+        ensures plain { plain_disk unit.new (disk medium.new) ≡ left_by result.ran self.new.orb.cdb self.new.payload login (plain_disk unit.old (disk medium.old)) }
+        ensures may { MayTell result.ran self.new login (plain_disk unit.old (disk medium.old)) }
+        ensures cause { media_faults medium.new ≡ count_after result.ran (media_faults medium.old) }
     {
         match next {
             Move::Send(step) => step,
@@ -68,8 +70,10 @@ impl Agent {
     fn check(&mut self, unit: &mut Unit, medium: &mut dyn Medium, login: u8) -> AgentStep
         requires place { login < 8 }
         requires phase { self.old.phase ≡ Phase.Fetching }
-        ensures step { (result, self.new) ≡ check_step self.old login (plain_disk unit.old (disk medium.old)) (told_by result self.new) }
-        ensures left { Leaves result.ran self.new login (plain_disk unit.old (disk medium.old)) (plain_disk unit.new (disk medium.new)) (media_faults medium.old) (media_faults medium.new) }
+        ensures step { (result, self.new) ≡ check_step self.old login (plain_disk unit.old (disk medium.old)) (told_or (told_in result.ran self.new.answer)) }
+        ensures plain { plain_disk unit.new (disk medium.new) ≡ left_by result.ran self.new.orb.cdb self.new.payload login (plain_disk unit.old (disk medium.old)) }
+        ensures may { MayTell result.ran self.new login (plain_disk unit.old (disk medium.old)) }
+        ensures cause { media_faults medium.new ≡ count_after result.ran (media_faults medium.old) }
     {
         match verdict(&self.orb, self.aborted) {
             Some(kind) => self.end(kind, death_by(kind)),
@@ -82,8 +86,10 @@ impl Agent {
         requires place { login < 8 }
         requires passed { IsPassed self.old.orb }
         requires phase { self.old.phase ≡ Phase.Fetching }
-        ensures step { (result, self.new) ≡ passed_step self.old login (plain_disk unit.old (disk medium.old)) (told_by result self.new) }
-        ensures left { Leaves result.ran self.new login (plain_disk unit.old (disk medium.old)) (plain_disk unit.new (disk medium.new)) (media_faults medium.old) (media_faults medium.new) }
+        ensures step { (result, self.new) ≡ passed_step self.old login (plain_disk unit.old (disk medium.old)) (told_or (told_in result.ran self.new.answer)) }
+        ensures plain { plain_disk unit.new (disk medium.new) ≡ left_by result.ran self.new.orb.cdb self.new.payload login (plain_disk unit.old (disk medium.old)) }
+        ensures may { MayTell result.ran self.new login (plain_disk unit.old (disk medium.old)) }
+        ensures cause { media_faults medium.new ≡ count_after result.ran (media_faults medium.old) }
     {
         if reads_table(&self.orb) {
             self.phase = Phase::ReadingTable;
@@ -110,8 +116,10 @@ impl Agent {
     fn judge(&mut self, unit: &mut Unit, medium: &mut dyn Medium, login: u8) -> AgentStep
         requires place { login < 8 }
         requires ready { IsJudgeable self.old }
-        ensures step { (result, self.new) ≡ judge_step self.old login (plain_disk unit.old (disk medium.old)) (told_by result self.new) }
-        ensures left { Leaves result.ran self.new login (plain_disk unit.old (disk medium.old)) (plain_disk unit.new (disk medium.new)) (media_faults medium.old) (media_faults medium.new) }
+        ensures step { (result, self.new) ≡ judge_step self.old login (plain_disk unit.old (disk medium.old)) (told_or (told_in result.ran self.new.answer)) }
+        ensures plain { plain_disk unit.new (disk medium.new) ≡ left_by result.ran self.new.orb.cdb self.new.payload login (plain_disk unit.old (disk medium.old)) }
+        ensures may { MayTell result.ran self.new login (plain_disk unit.old (disk medium.old)) }
+        ensures cause { media_faults medium.new ≡ count_after result.ran (media_faults medium.old) }
     {
         match self.need(unit, medium, login) {
             Need::Payload(wanted) => self.read_data(wanted),
@@ -125,8 +133,10 @@ impl Agent {
         requires place { login < 8 }
         requires limit { self.old.orb.max_payload ≤ 9 }
         requires fed { Feeds (need_of self.old.orb.cdb (plan_of self.old) (plain_disk unit.old (disk medium.old)) login) self.old.payload }
-        ensures step { (result, self.new) ≡ run_step self.old (told_by result self.new) }
-        ensures left { Leaves result.ran self.new login (plain_disk unit.old (disk medium.old)) (plain_disk unit.new (disk medium.new)) (media_faults medium.old) (media_faults medium.new) }
+        ensures step { (result, self.new) ≡ run_step self.old (told_or (told_in result.ran self.new.answer)) }
+        ensures plain { plain_disk unit.new (disk medium.new) ≡ left_by result.ran self.new.orb.cdb self.new.payload login (plain_disk unit.old (disk medium.old)) }
+        ensures may { MayTell result.ran self.new login (plain_disk unit.old (disk medium.old)) }
+        ensures cause { media_faults medium.new ≡ count_after result.ran (media_faults medium.old) }
     {
         let plan = self.plan();
         let payload = self.payload.as_slice();
