@@ -1,12 +1,16 @@
 -- The window of an address.
-use Rattle.std.proofs.Common.{arith, ◌≡◌, refl, inl, inr, ℕ, ◌+◌, ◌-◌, ◌*◌, ◌/◌, ◌%◌, ◌^◌, ◌<◌, ◌≤◌, ◌==◌, ◌&&◌, ◌||◌, ◌⊎◌, nat_le, Bool, true, false, cond, length, Option, Some, None}
+use Rattle.std.proofs.Common.{arith, ◌≡◌, ◌∙◌, refl, inl, inr, [], ℕ, ◌+◌, ◌-◌, ◌*◌, ◌/◌, ◌%◌, ◌^◌, ◌<◌, ◌≤◌, ◌==◌, ◌&&◌, ◌||◌, ◌⊎◌, nat_le, Bool, true, false, cond, length, take, drop, List, sym, ap, subst, Option, Some, None, Result, Ok, Err}
 use Rattle.std.proofs.lemmas.Bool.Decides.{nat_tests}
 use Rattle.bus_memory.specs.declared.window.Window.{Window}
 use Rattle.bus_memory.specs.declared.window.Window.TheVariants as windows
-use Rattle.bus_memory.specs.Windows.{IsWindow, IfShare, start, within, window_at, is_fifo}
-use Rattle.bus_memory.specs.Memory.{Memory, bytes_in}
-use Rattle.bus_memory.specs.Access.{is_open, spot_in, spot_of}
-use Rattle.bus_memory.specs.Laws.{size, IsWhole, IsInside, IsFound, WindowLaw, FifoLaw}
+use Rattle.byteorder.specs.Endian.{big_bytes}
+use Rattle.bus_memory.specs.declared.access.Access.TheVariants.{Read}
+use Rattle.bus_memory.specs.declared.access.Rcode.TheVariants.{TypeError}
+use Rattle.bus_memory.specs.declared.access.Spot.{Spot}
+use Rattle.bus_memory.specs.Windows.{IsWindow, IfShare, start, within, window_at, slot_from, slot_of, is_fifo}
+use Rattle.bus_memory.specs.Memory.{Memory, new_memory, slot_at, bytes_in, with_bytes}
+use Rattle.bus_memory.specs.Access.{is_open, spot_in, spot_of, judged, judged_at, read_at, read_step, IsOwnSpot, IsQuadlet, set_at, set_step}
+use Rattle.bus_memory.specs.Laws.{size, IsWhole, IsInside, IsFound, WindowLaw, FifoLaw, SlotOfLaw, OwnLaw}
 
 -- An address inside a window has it as the window of its share.
 pub window_here : (m : Memory) (offset : ℕ) (window : Window) → IsWindow window → start window ≤ offset → offset < start window + size m window → window_at offset ≡ Some window
@@ -85,4 +89,52 @@ window_law = record {
       let e = h.ends in
       rw (window_here m offset window h.exists b (omega arith)) (found_at m offset count window whole h o);
   no_other = λ m offset count whole. no_other_at m offset count (window_at offset) whole (window_share offset);
+}
+
+-- The slot whose ORB begins at an address.
+orb_when : (offset k slot : ℕ) (b : Bool) → (offset == start (windows.Orb k)) ≡ b → k < 32 → cond b (Some k) None ≡ Some slot → (slot < 32) × (offset ≡ start (windows.Orb slot))
+orb_when offset k slot false e h s = cc
+orb_when offset k slot true e h s =
+    let n : k ≡ slot = cc in
+    let at : offset ≡ start (windows.Orb k) = grind (arith, nat_tests) in
+    (omega arith, omega arith)
+
+slot_is_from : (offset slot : ℕ) (found : Option Window) → IfShare offset found → slot_from offset found ≡ Some slot → (slot < 32) × (offset ≡ start (windows.Orb slot))
+slot_is_from offset slot (Some (windows.Orb k)) h e = orb_when offset k slot _ refl h.0 e
+slot_is_from offset slot _ h e = cc
+
+slot_is : (offset slot : ℕ) → slot_of offset ≡ Some slot → (slot < 32) × (offset ≡ start (windows.Orb slot))
+unfolding slot_of
+slot_is offset slot e = slot_is_from offset slot (window_at offset) (window_share offset) e
+
+slot_here : (offset slot : ℕ) → slot < 32 → offset ≡ start (windows.Orb slot) → slot_of offset ≡ Some slot
+unfolding slot_of
+slot_here offset slot h e =
+    let same : (offset == start (windows.Orb slot)) ≡ true = grind (arith, nat_tests) in
+    ap (λ (w : Option Window). slot_from offset w) (window_here (new_memory []) offset (windows.Orb slot) h (omega arith) (omega arith)) ∙ rw same refl
+
+pub slot_of_law : SlotOfLaw
+slot_of_law = record { begins = slot_is; found = λ slot h. slot_here (start (windows.Orb slot)) slot h refl }
+
+-- A read from the start of an ORB on.
+read_when : (m : Memory) (slot at : ℕ) (out : List ℕ) (refused inside : Bool) → at ≡ 0 → (read_at m out (cond refused (Err TypeError) (judged_at m Read (cond inside (Some (record { window = windows.Orb slot; at = at })) None)))).0 ≡ 0 → (read_at m out (cond refused (Err TypeError) (judged_at m Read (cond inside (Some (record { window = windows.Orb slot; at = at })) None)))).1 ≡ take (length out) (slot_at m slot).orb
+read_when m slot at out true inside z e = absurd (omega arith)
+read_when m slot at out false false z e = absurd (omega arith)
+read_when m slot at out false true z e = ap (λ (n : ℕ). take (length out) (drop n (slot_at m slot).orb)) z
+
+read_orb : (m : Memory) (slot : ℕ) (out : List ℕ) → slot < 32 → (read_step m (start (windows.Orb slot)) out).0 ≡ 0 → (read_step m (start (windows.Orb slot)) out).1 ≡ take (length out) (slot_at m slot).orb
+unfolding judged spot_of
+read_orb m slot out h =
+    subst (λ (found : Option Window). (read_at m out (cond ((length out == 0) || is_fifo (start (windows.Orb slot))) (Err TypeError) (judged_at m Read (spot_in m (start (windows.Orb slot)) (length out) found)))).0 ≡ 0 → (read_at m out (cond ((length out == 0) || is_fifo (start (windows.Orb slot))) (Err TypeError) (judged_at m Read (spot_in m (start (windows.Orb slot)) (length out) found)))).1 ≡ take (length out) (slot_at m slot).orb)
+    (sym (window_here m (start (windows.Orb slot)) (windows.Orb slot) h (omega arith) (omega arith)))
+    (read_when m slot (start (windows.Orb slot) - start (windows.Orb slot)) out _ _ (omega arith))
+
+quadlet_found : (m : Memory) (offset place : ℕ) → IsWhole m → IsInside m offset 4 (windows.Management place) → spot_of m offset 4 ≡ Some (record { window = windows.Management place; at = offset - start (windows.Management place) })
+quadlet_found m offset place whole i = window_law.found m offset 4 (windows.Management place) whole (omega arith) i refl
+
+pub own_law : OwnLaw
+own_law = record {
+  read = read_orb;
+  quadlet = λ m offset place whole i. subst (λ (found : Option Spot). IsOwnSpot found) (sym (quadlet_found m offset place whole i)) tt;
+  set = λ m offset place value whole i. ap (λ (found : Option Spot). set_at m value found) (quadlet_found m offset place whole i);
 }

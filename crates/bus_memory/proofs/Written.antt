@@ -10,7 +10,7 @@ use Rattle.bus_memory.specs.declared.window.Window.{Window}
 use Rattle.bus_memory.specs.declared.window.Window.TheVariants as windows
 use Rattle.bus_memory.specs.Windows.{IsWindow}
 use Rattle.bus_memory.specs.Memory.{Memory, new_memory, empty_slot, empty_place, slot_at, place_at, with_slot, with_place, with_armed, with_bytes, bytes_in, patch}
-use Rattle.bus_memory.specs.Laws.{size, IsWhole, is_same, Change, Sets, Arms, after, AreChanges, covers, last_set, LastSetLaw}
+use Rattle.bus_memory.specs.Laws.{size, IsWhole, is_same, Change, Sets, Arms, after, AreChanges, covers, last_set, LastSetLaw, PartsLaw}
 
 pub patch_length : (old : List ℕ) (at : ℕ) (bytes : List ℕ) → at + length bytes ≤ length old → length (patch old at bytes) ≡ length old
 patch_length old at bytes h = simp (length-append, length-take, length-drop) (omega arith)
@@ -219,6 +219,7 @@ replicated (suc n) zero a = refl
 replicated (suc n) (suc i) a = replicated n i a
 
 new_sizes : (quads : List ℕ) (asked : Window) → length (bytes_in (new_memory quads) asked) ≡ size (new_memory quads) asked
+unfolding new_memory empty_slot empty_place
 new_sizes quads windows.Rom = refl
 new_sizes quads (windows.Orb t) = ap (λ (slot : SlotMemory). length slot.orb) (replicated 32 t empty_slot) ∙ length-replicate {A = ℕ} 32 0
 new_sizes quads (windows.Table t) = ap (λ (slot : SlotMemory). length slot.table) (replicated 32 t empty_slot) ∙ length-replicate {A = ℕ} 512 0
@@ -226,8 +227,30 @@ new_sizes quads (windows.Buffer t) = ap (λ (slot : SlotMemory). length slot.buf
 new_sizes quads (windows.Management t) = ap (λ (place : PlaceMemory). length place.orb) (replicated 2 t empty_place) ∙ length-replicate {A = ℕ} 32 0
 new_sizes quads (windows.Response t) = ap (λ (place : PlaceMemory). length place.response) (replicated 2 t empty_place) ∙ length-replicate {A = ℕ} 256 0
 
+new_whole : (quads : List ℕ) → IsWhole (new_memory quads)
+unfolding new_memory
+new_whole quads = record { slots = length-replicate 32 empty_slot; places = length-replicate 2 empty_place; sizes = new_sizes quads }
+
+new_slot : (quads : List ℕ) (slot : ℕ) → slot_at (new_memory quads) slot ≡ empty_slot
+unfolding new_memory
+new_slot quads slot = replicated 32 slot empty_slot
+
+none_armed : empty_slot.is_armed ≡ false
+unfolding empty_slot
+none_armed = refl
+
+pub parts_law : PartsLaw
+parts_law = record {
+  new = new_slot;
+  free = none_armed;
+  set = λ m window at bytes asked whole w. window_set m window at bytes asked whole.slots whole.places w;
+  armed = λ m slot armed asked whole h. armed_keeps m slot armed asked whole.slots h;
+  whole_set = whole_set;
+  whole_armed = whole_armed;
+}
+
 pub last_set_law : LastSetLaw
 last_set_law = record {
-  new = λ quads. record { slots = length-replicate 32 empty_slot; places = length-replicate 2 empty_place; sizes = new_sizes quads };
+  new = new_whole;
   last = last_set_stands;
 }

@@ -14,17 +14,17 @@ pub record Memory : Type 0 where
   pub slots : List SlotMemory
   pub places : List PlaceMemory
 
-abbrev pub empty_slot : SlotMemory
+unfoldable pub empty_slot : SlotMemory
 empty_slot = record { is_armed = false; orb = replicate 32 0; table = replicate 512 0; buffer = replicate 32768 0 }
 
-abbrev pub empty_place : PlaceMemory
+unfoldable pub empty_place : PlaceMemory
 empty_place = record { orb = replicate 32 0; response = replicate 256 0 }
 
 abbrev pub rom_bytes : List ℕ → List ℕ
 rom_bytes quads = flat_map (big_bytes 4) quads
 
 -- no slot is armed, and every window but the ROM's holds zeros
-abbrev pub new_memory : List ℕ → Memory
+unfoldable pub new_memory : List ℕ → Memory
 new_memory quads = record { rom = rom_bytes quads; slots = replicate 32 empty_slot; places = replicate 2 empty_place }
 
 abbrev pub slot_at : Memory → ℕ → SlotMemory

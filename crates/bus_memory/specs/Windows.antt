@@ -42,6 +42,15 @@ window_at offset =
     else if nat_le 0xffff_f000_0400 offset then Some windows.Rom
     else None
 
+-- the slot of a window that is an ORB and begins at this address
+abbrev pub slot_from : ℕ → Option Window → Option ℕ
+slot_from offset (Some (windows.Orb slot)) = if offset == start (windows.Orb slot) then Some slot else None
+slot_from offset _ = None
+
+-- the slot whose ORB begins at an address
+unfoldable pub slot_of : ℕ → Option ℕ
+slot_of offset = slot_from offset (window_at offset)
+
 -- the FIFOs of the two places of management, and those of the logins, whose number has 32 bits
 unfoldable pub is_fifo : ℕ → Bool
 is_fifo offset =

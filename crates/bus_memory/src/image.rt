@@ -35,6 +35,7 @@ impl Model for Image {
 impl Image {
     /// The memory with the given quadlets as its ROM, in which no slot is armed and every other
     /// window holds zeros.
+    #[tactic(auto, unfolding(crate::specs::Memory::new_memory))]
     pub fn new(alloc: Global, rom: &[u32]) -> Result<Image, NoMemory>
         ensures { IfOk result (λ image. image ≡ new_memory rom.now) }
     {

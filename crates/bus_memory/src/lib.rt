@@ -11,7 +11,10 @@ mod window;
 
 pub use access::{Access, Rcode, Spot};
 pub use image::Image;
-pub use laws::{fifos_are_known, last_bytes_stand, windows_are_found};
+pub use laws::{
+    fifos_are_known, last_bytes_stand, own_quadlets_are_set, parts_stand, slots_are_found,
+    windows_are_found,
+};
 pub use slot::{PlaceMemory, SlotMemory};
 pub use window::Window;
 

@@ -22,6 +22,7 @@ pub struct PlaceMemory {
 
 impl SlotMemory {
     /// A slot that is not armed, of zeros.
+    #[tactic(auto, unfolding(crate::specs::Memory::empty_slot))]
     pub(crate) fn new() -> SlotMemory
         ensures { result ≡ empty_slot }
     {
@@ -43,6 +44,7 @@ impl SlotMemory {
 
 impl PlaceMemory {
     /// A place of zeros.
+    #[tactic(auto, unfolding(crate::specs::Memory::empty_place))]
     pub(crate) fn new() -> PlaceMemory
         ensures { result ≡ empty_place }
     {

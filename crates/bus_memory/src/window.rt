@@ -1,5 +1,5 @@
-ghost use Rattle.std.specs.Prelude.{◌≡◌, ◌<◌};
-ghost use Rattle.bus_memory.specs.Windows.{IfShare, is_fifo, start, window_at};
+ghost use Rattle.std.specs.Prelude.{◌≡◌, ◌<◌, IfSome};
+ghost use Rattle.bus_memory.specs.Windows.{IfShare, is_fifo, slot_of, start, window_at};
 
 use sbp_base::Offset;
 
@@ -41,7 +41,7 @@ impl Window {
 
     /// The window in whose share of the addresses an offset stands.
     #[tactic(auto, unfolding(crate::specs::Windows::window_at))]
-    pub(crate) fn at(offset: Offset) -> Option<Window>
+    pub fn at(offset: Offset) -> Option<Window>
         ensures window { result ≡ window_at offset }
         ensures share { IfShare offset result }
     {
@@ -59,6 +59,20 @@ impl Window {
                 Some(Window::Response(((value - 0x1200_1000) / 0x100) as u8))
             }
             0xffff_f000_0400..=0xffff_ffff_ffff => Some(Window::Rom),
+            _ => None,
+        }
+    }
+
+    /// The slot whose ORB begins at an offset.
+    #[tactic(auto, unfolding(crate::specs::Windows::slot_of))]
+    pub fn slot_of(offset: Offset) -> Option<u8>
+        ensures slot { result ≡ slot_of offset }
+        ensures below { IfSome result (λ slot. slot < 32) }
+    {
+        match Window::at(offset) {
+            Some(window @ Window::Orb(slot)) if offset.value() == window.start().value() => {
+                Some(slot)
+            }
             _ => None,
         }
     }

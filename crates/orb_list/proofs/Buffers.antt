@@ -10,7 +10,7 @@ use Rattle.bus_memory.specs.declared.access.Spot.{Spot}
 use Rattle.bus_memory.specs.declared.slot.SlotMemory.{SlotMemory}
 use Rattle.bus_memory.specs.declared.window.Window.{Window}
 use Rattle.bus_memory.specs.declared.window.Window.TheVariants as windows
-use Rattle.bus_memory.specs.Windows.{is_fifo}
+use Rattle.bus_memory.specs.Windows.{is_fifo, slot_of}
 use Rattle.bus_memory.specs.Memory.{Memory, empty_slot, slot_at, with_slot, with_armed, with_bytes, is_written}
 use Rattle.bus_memory.specs.Access.{judged, judged_at, spot_of, takes_writes, write_at, set_at}
 use Rattle.bus_memory.specs.Laws.{is_same}
@@ -120,8 +120,8 @@ unfolding table.prepare_step table.low_step table.high_step table.dummy_step tab
 buffer_call (Prepare asked) s m k e = buffer_prepare (may_prepare s) s m asked k e
 buffer_call LinkLow s m k e = buffer_low (waits_low s.present) s m k
 buffer_call LinkHigh s m k e = buffer_high (waits_high s.present) s m k
-buffer_call (MakeDummy t) s m k e = buffer_dummy (table.judged s t) s m t k
-buffer_call (TakeStatus block) s m k e = buffer_status (table.slot_of block.orb) s m block k
+buffer_call (MakeDummy t) s m k e = buffer_dummy (table.checked s t) s m t k
+buffer_call (TakeStatus block) s m k e = buffer_status (slot_of block.orb) s m block k
 buffer_call DropList s m k e = refl
 buffer_call FreeAll s m k e = closed_keeps (table.all_freed s).slots m (windows.Buffer k)
 buffer_call (Pin t) s m k e = refl

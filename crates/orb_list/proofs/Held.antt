@@ -8,9 +8,9 @@ use Rattle.bus_memory.specs.declared.slot.SlotMemory.{SlotMemory}
 use Rattle.bus_memory.specs.declared.window.Window.{Window}
 use Rattle.bus_memory.specs.declared.window.Window.TheVariants as windows
 use Rattle.bus_memory.specs.Windows.{IsWindow}
-use Rattle.bus_memory.specs.Memory.{Memory, new_memory, empty_slot, slot_at, with_slot, with_armed, with_bytes}
+use Rattle.bus_memory.specs.Memory.{Memory, new_memory, slot_at, with_slot, with_armed, with_bytes}
 use Rattle.bus_memory.specs.Laws.{IsWhole, size}
-use Rattle.bus_memory.proofs.Written.{replicated, last_set_law, slot_set, whole_set, whole_armed}
+use Rattle.bus_memory.proofs.Written.{replicated, last_set_law, parts_law, slot_set, whole_set, whole_armed}
 use Rattle.orb_layout.specs.CommandOrbs.{command_bytes}
 use Rattle.orb_list.specs.declared.list.Link.{Link}
 use Rattle.orb_list.specs.declared.list.Link.TheVariants as links
@@ -223,7 +223,7 @@ new_free : (k : ℕ) → slot_in (replicate 32 unused) k ≡ unused
 new_free k = replicated 32 k unused
 
 new_memory_slot : (quads : List ℕ) (k : ℕ) → (slot_at (new_memory quads) k).is_armed ≡ false
-new_memory_slot quads k = ap (λ (s : SlotMemory). s.is_armed) (replicated 32 k empty_slot)
+new_memory_slot quads k = ap (λ (s : SlotMemory). s.is_armed) (parts_law.new quads k) ∙ parts_law.free
 
 -- A new memory holds new slots.
 pub held_new : (quads : List ℕ) → HoldsSlots (replicate 32 unused) (new_memory quads)

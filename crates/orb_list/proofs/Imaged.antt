@@ -8,7 +8,7 @@ use Rattle.bus_memory.specs.declared.access.Rcode.TheVariants.{TypeError}
 use Rattle.bus_memory.specs.declared.access.Spot.{Spot}
 use Rattle.bus_memory.specs.declared.window.Window.{Window}
 use Rattle.bus_memory.specs.declared.window.Window.TheVariants as windows
-use Rattle.bus_memory.specs.Windows.{IsWindow, start, is_fifo}
+use Rattle.bus_memory.specs.Windows.{IsWindow, start, is_fifo, slot_of}
 use Rattle.bus_memory.specs.Memory.{Memory, new_memory, slot_at, with_bytes}
 use Rattle.bus_memory.specs.Access.{judged, judged_at, spot_of, takes_writes, write_at, write_step, set_at, set_step}
 use Rattle.bus_memory.specs.Laws.{IsWhole, IsFound, IsInside, size}
@@ -28,11 +28,11 @@ use Rattle.orb_list.specs.Tickets.{TicketParts}
 use Rattle.orb_list.specs.Requests.{Asked, IsRequest}
 use Rattle.orb_list.specs.Table as table
 use Rattle.orb_list.specs.Table.{SlotTable, slot_in, is_free, unused, waiting, may_prepare, next_ticket, extended, low_of, low_in, high_in, waits_low, waits_high, low_for, high_for, with_link, with_orb_quad, high_of, as_dummy, passed_for, link_set, released, freed, state_after}
-use Rattle.orb_list.specs.Runs.{Call, Prepare, LinkLow, LinkHigh, MakeDummy, TakeStatus, DropList, FreeAll, Pin, Unpin, TryWrite, Fill, SetQuad, Note, Prepared, LowWritten, Linked, Dummied, Taken, Dropped, Freed, if_ok, if_some, left_by, noted_by, run}
-use Rattle.orb_list.specs.Kept.{Kept, new_kept, in_slot, next_is, low_is, is_dummy, kept_in, IsManaged, AreProper, ServedLaw}
+use Rattle.orb_list.specs.Runs.{Call, Prepare, LinkLow, LinkHigh, MakeDummy, TakeStatus, DropList, FreeAll, Pin, Unpin, TryWrite, Fill, SetQuad, Note, Prepared, LowWritten, Linked, Dummied, Taken, Dropped, Freed, Pinned, Unpinned, if_ok, if_some, left_by, noted_by, run}
+use Rattle.orb_list.specs.Kept.{Kept, new_kept, in_slot, next_is, low_is, is_dummy, kept_in, IsManaged, IsProper, AreProper, ServedLaw}
 use Rattle.orb_list.specs.Holds.{HoldsLink, HoldsList, HoldsPresent}
 use Rattle.orb_list.proofs.Closed.{closed_whole}
-use Rattle.orb_list.proofs.Held.{keeps_written, high_before}
+use Rattle.orb_list.proofs.Held.{keeps_written, low_before, high_before}
 use Rattle.orb_list.proofs.Sound.{present_released, present_changed, present_added, state_held}
 use Rattle.orb_list.proofs.Tied.{Tied, may_lowest, past_slots, tied_run}
 use Rattle.orb_list.proofs.Spelled.{IsSpelled, IfSpelled, IsData, if_served, spelled_low, spelled_high, spelled_dummy, spelled_slot, spelled_closed, spelled_data, spelled_written}
@@ -114,7 +114,7 @@ imaged_prepare_at s m asked ns (Ok slot) e r t i =
     let small : slot < 32 = omega arith in
     let u = next_ticket s slot asked.login in
     record {
-      sound = present_added s.slots s.acts s.present u t.size small refl p.1 i.sound;
+      sound = present_added s.slots s.acts s.present u s.lists t.size small refl refl p.1 i.sound;
       whole = (keeps_written m slot asked i.whole small r).whole;
       spelled = λ j b. spelled_written m slot j u asked (kept_in ns j) _ refl i.whole small r refl (i.spelled j b);
       fits = fits_added ns s.slots s.acts s.present u asked i.sound p.1 i.fits;
@@ -203,24 +203,24 @@ is_the_some : (found : Option TicketParts) (t : TicketParts) → table.is_the fo
 is_the_some None t e = cc
 is_the_some (Some u) t e = (u, refl)
 
-abbrev judged_for : Bool → Bool → Result (Unit {0}) ListFault
-judged_for present the = cond (not present) (Err faults.Stale) (cond the (Ok tt) (Err faults.Taken))
+abbrev checked_for : Bool → Bool → Result (Unit {0}) ListFault
+checked_for present the = cond (not present) (Err faults.Stale) (cond the (Ok tt) (Err faults.Taken))
 
-judged_waits : (present the : Bool) → judged_for present the ≡ Ok tt → the ≡ true
-judged_waits true true e = refl
-judged_waits true false e = cc
-judged_waits false the e = cc
+checked_waits : (present the : Bool) → checked_for present the ≡ Ok tt → the ≡ true
+checked_waits true true e = refl
+checked_waits true false e = cc
+checked_waits false the e = cc
 
-judged_small : (s : SlotTable) (t : TicketParts) → length s.slots ≡ 32 → table.judged s t ≡ Ok tt → t.slot < 32
-unfolding table.judged
-judged_small s t l e =
-    let u = is_the_some (waiting (slot_in s.slots t.slot)) t (judged_waits (table.is_present s.present t) (table.is_the (waiting (slot_in s.slots t.slot)) t) e) in
+pub checked_small : (s : SlotTable) (t : TicketParts) → length s.slots ≡ 32 → table.checked s t ≡ Ok tt → t.slot < 32
+unfolding table.checked
+checked_small s t l e =
+    let u = is_the_some (waiting (slot_in s.slots t.slot)) t (checked_waits (table.is_present s.present t) (table.is_the (waiting (slot_in s.slots t.slot)) t) e) in
     past_slots s.slots t.slot u.0 l u.1
 
-imaged_dummy_at : (s : SlotTable) (m : Memory) (t : TicketParts) (ns : List Note) (found : Result (Unit {0}) ListFault) → table.judged s t ≡ found → Tied s.slots ns → Imaged s m ns → Imaged (table.dummy_at found s m t).1.0 (table.dummy_at found s m t).1.1 (if_ok (λ done. Dummied t) (table.dummy_at found s m t).0 ns)
+imaged_dummy_at : (s : SlotTable) (m : Memory) (t : TicketParts) (ns : List Note) (found : Result (Unit {0}) ListFault) → table.checked s t ≡ found → Tied s.slots ns → Imaged s m ns → Imaged (table.dummy_at found s m t).1.0 (table.dummy_at found s m t).1.1 (if_ok (λ done. Dummied t) (table.dummy_at found s m t).0 ns)
 imaged_dummy_at s m t ns (Err fault) e k i = i
 imaged_dummy_at s m t ns (Ok done) e k i =
-    let small = judged_small s t k.size e in
+    let small = checked_small s t k.size e in
     let w = i.whole.slots in
     record {
       sound = i.sound;
@@ -279,14 +279,18 @@ imaged_freed s m ns i = record {
   fits = tt;
 }
 
-imaged_pin_at : (s : SlotTable) (m : Memory) (t : TicketParts) (ns : List Note) (found : Result (Unit {0}) ListFault) → Imaged s m ns → Imaged (table.pin_at found s t).1 m ns
-imaged_pin_at s m t ns (Err fault) i = i
-imaged_pin_at s m t ns (Ok done) i = record { sound = i.sound; whole = i.whole; spelled = i.spelled; fits = i.fits }
+fits_same : (ns ms : List Note) (present : Option PresentList) → ((j : ℕ) → kept_in ms j ≡ kept_in ns j) → PresentFits ns present → PresentFits ms present
+fits_same ns ms None e f = tt
+fits_same ns ms (Some list) e f = (link_same ns ms list.tail list.link e f.0, subst (λ (o : Option Kept). IfNull o) (sym (e list.tail.slot)) f.1)
 
-imaged_unpin_for : (s : SlotTable) (m : Memory) (ns : List Note) (pinned : Option TicketParts) → length s.slots ≡ 32 → Imaged s m ns → Imaged (table.unpin_for pinned s m).0 (table.unpin_for pinned s m).1 ns
+imaged_pin_at : (s : SlotTable) (m : Memory) (t : TicketParts) (ns : List Note) (found : Result (Unit {0}) ListFault) → Imaged s m ns → Imaged (table.pin_at found s t).1 m (if_ok (λ done. Pinned t) (table.pin_at found s t).0 ns)
+imaged_pin_at s m t ns (Err fault) i = i
+imaged_pin_at s m t ns (Ok done) i = record { sound = i.sound; whole = i.whole; spelled = i.spelled; fits = fits_same ns (Pinned t ∷ ns) s.present (λ j. refl) i.fits }
+
+imaged_unpin_for : (s : SlotTable) (m : Memory) (ns : List Note) (pinned : Option TicketParts) → length s.slots ≡ 32 → Imaged s m ns → Imaged (table.unpin_for pinned s m).0 (table.unpin_for pinned s m).1 (if_some (λ t. Unpinned t) pinned ns)
 imaged_unpin_for s m ns None z i = i
 imaged_unpin_for s m ns (Some t) z i =
-    imaged_swept (table.counted (record s { pinned = None })) m ns z (record { sound = i.sound; whole = i.whole; spelled = i.spelled; fits = i.fits })
+    imaged_swept (table.counted (record s { pinned = None })) m (Unpinned t ∷ ns) z (record { sound = i.sound; whole = i.whole; spelled = i.spelled; fits = fits_same ns (Unpinned t ∷ ns) s.present (λ j. refl) i.fits })
 
 -- Bytes of buffers and responses are written.
 imaged_data : (s : SlotTable) (m : Memory) (ns : List Note) (w : Window) (at : ℕ) (bytes : List ℕ) → IsData w → IsWindow w → at + length bytes ≤ size m w → Imaged s m ns → Imaged s (with_bytes m w at bytes) ns
@@ -335,34 +339,20 @@ imaged_quad s m ns offset value p i =
     (imaged_data s m ns (windows.Management p.place) (offset - start (windows.Management p.place)) (big_bytes 4 value) tt p.exists (omega arith) i)
 
 -- Every call.
-imaged_call : (call : Call) (s : SlotTable) (m : Memory) (ns : List Note) → AreProper (call ∷ []) → Tied s.slots ns → Imaged s m ns → Imaged (left_by call s m).0 (left_by call s m).1 (noted_by call s m ns)
+imaged_call : (call : Call) (s : SlotTable) (m : Memory) (ns : List Note) → IsProper call → Tied s.slots ns → Imaged s m ns → Imaged (left_by call s m).0 (left_by call s m).1 (noted_by call s m ns)
 unfolding table.prepare_step table.low_step table.high_step table.dummy_step table.status_step table.drop_step table.free_all_step table.pin_step table.unpin_step
-imaged_call (Prepare asked) s m ns p t i = imaged_prepare_at s m asked ns (may_prepare s) refl p.0 t i
+imaged_call (Prepare asked) s m ns p t i = imaged_prepare_at s m asked ns (may_prepare s) refl p t i
 imaged_call LinkLow s m ns p t i = imaged_low_for s m ns s.present refl t i
 imaged_call LinkHigh s m ns p t i = imaged_high_for s m ns s.present refl t i
-imaged_call (MakeDummy u) s m ns p t i = imaged_dummy_at s m u ns (table.judged s u) refl t i
-imaged_call (TakeStatus block) s m ns p t i = imaged_status_for s m block ns (table.slot_of block.orb) t i
+imaged_call (MakeDummy u) s m ns p t i = imaged_dummy_at s m u ns (table.checked s u) refl t i
+imaged_call (TakeStatus block) s m ns p t i = imaged_status_for s m block ns (slot_of block.orb) t i
 imaged_call DropList s m ns p t i = imaged_drop_for s m ns s.present i
 imaged_call FreeAll s m ns p t i = imaged_freed s m ns i
-imaged_call (Pin u) s m ns p t i = imaged_pin_at s m u ns (table.judged s u) i
+imaged_call (Pin u) s m ns p t i = imaged_pin_at s m u ns (table.checked s u) i
 imaged_call Unpin s m ns p t i = imaged_unpin_for s m ns s.pinned t.size i
 imaged_call (TryWrite offset bytes) s m ns p t i = imaged_write s m ns offset bytes i
 imaged_call (Fill slot at bytes) s m ns p t i = imaged_data s m ns (windows.Buffer slot) at bytes tt p.0 p.1 i
-imaged_call (SetQuad offset value) s m ns p t i = imaged_quad s m ns offset value p.0 i
-
-first_proper : (call : Call) (calls : List Call) → AreProper (call ∷ calls) → AreProper (call ∷ []) × AreProper calls
-first_proper (Prepare asked) calls p = ((p.0, tt), p.1)
-first_proper (Fill slot at bytes) calls p = ((p.0, p.1, tt), p.2)
-first_proper (SetQuad offset value) calls p = ((p.0, tt), p.1)
-first_proper LinkLow calls p = (tt, p)
-first_proper LinkHigh calls p = (tt, p)
-first_proper (MakeDummy t) calls p = (tt, p)
-first_proper (TakeStatus block) calls p = (tt, p)
-first_proper DropList calls p = (tt, p)
-first_proper FreeAll calls p = (tt, p)
-first_proper (Pin t) calls p = (tt, p)
-first_proper Unpin calls p = (tt, p)
-first_proper (TryWrite offset bytes) calls p = (tt, p)
+imaged_call (SetQuad offset value) s m ns p t i = imaged_quad s m ns offset value p i
 
 imaged_new : (quads : List ℕ) → Imaged table.new_table (new_memory quads) []
 imaged_new quads = record { sound = tt; whole = last_set_law.new quads; spelled = λ j c. tt; fits = tt }
@@ -370,12 +360,13 @@ imaged_new quads = record { sound = tt; whole = last_set_law.new quads; spelled 
 imaged_run : (calls : List Call) (quads : List ℕ) → AreProper calls → Imaged (run calls quads).table (run calls quads).memory (run calls quads).notes
 imaged_run [] quads p = imaged_new quads
 imaged_run (call ∷ earlier) quads p =
-    let both = first_proper call earlier p in
-    imaged_call call (run earlier quads).table (run earlier quads).memory (run earlier quads).notes both.0 (tied_run earlier quads) (imaged_run earlier quads both.1)
+    imaged_call call (run earlier quads).table (run earlier quads).memory (run earlier quads).notes p.0 (tied_run earlier quads) (imaged_run earlier quads p.1)
 
 pub served_law : ServedLaw
 served_law = record {
   served = λ calls quads k p b. if_served (kept_in (run calls quads).notes k) (slot_at (run calls quads).memory k) ((imaged_run calls quads p).spelled k b);
-  before = λ calls quads linking p e.
+  before_low = λ calls quads linking p e.
+      low_before (run calls quads).table.slots (run calls quads).table.acts (run calls quads).table.present linking (imaged_run calls quads p).sound e;
+  before_high = λ calls quads linking p e.
       high_before (run calls quads).table.slots (run calls quads).table.acts (run calls quads).table.present linking (imaged_run calls quads p).sound e;
 }

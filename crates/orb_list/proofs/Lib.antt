@@ -12,3 +12,5 @@ pub mod Imaged
 pub mod Tables
 pub mod Stays
 pub mod Buffers
+pub mod Named
+pub mod Steps

@@ -1,6 +1,7 @@
 -- The ORBs that wait are of the present list, and their numbers differ.
 use Rattle.std.proofs.Common.{arith, ◌≡◌, refl, sym, ◌∙◌, ap, subst, ℕ, ◌≤◌, ◌&&◌, ◌||◌, not, Bool, true, false, List, [], ◌∷◌, Option, Some, None, Result, Ok, Err}
 use Rattle.std.proofs.lemmas.Bool.Decides.{nat_tests}
+use Rattle.bus_memory.specs.Windows.{slot_of}
 use Rattle.bus_memory.specs.Memory.{Memory}
 use Rattle.orb_layout.specs.declared.status.StatusBlock.{StatusBlock}
 use Rattle.orb_list.specs.declared.fault.ListFault.{ListFault}
@@ -11,7 +12,7 @@ use Rattle.orb_list.specs.Tickets.{TicketParts, is_ticket, ticket}
 use Rattle.orb_list.specs.Requests.{Asked}
 use Rattle.orb_list.specs.Table as table
 use Rattle.orb_list.specs.Table.{SlotTable, extended, is_present, link_set, list_number, orb_number, passed_for, slot_in, waiting, waits_high, waits_low}
-use Rattle.orb_list.specs.Runs.{Call, Prepare, LinkLow, LinkHigh, MakeDummy, TakeStatus, DropList, FreeAll, Pin, Unpin, TryWrite, Fill, SetQuad, Note, Prepared, LowWritten, Linked, Dummied, Taken, Dropped, Freed, if_ok, if_some, left_by, noted_by, run, waits}
+use Rattle.orb_list.specs.Runs.{Call, Prepare, LinkLow, LinkHigh, MakeDummy, TakeStatus, DropList, FreeAll, Pin, Unpin, TryWrite, Fill, SetQuad, Note, Prepared, LowWritten, Linked, Dummied, Taken, Dropped, Freed, Pinned, Unpinned, if_ok, if_some, left_by, noted_by, run, waits}
 use Rattle.orb_list.proofs.Tied.{same_ticket}
 
 -- An ORB is of a list, and not behind its last one.
@@ -110,24 +111,24 @@ numbered_drop : (found : Option PresentList) (s : SlotTable) (ns : List Note) �
 numbered_drop None s ns i = i
 numbered_drop (Some list) s ns i = none_waits (Dropped list.tail.list ∷ ns) (λ t. refl)
 
-numbered_pin : (found : Result (Unit {0}) ListFault) (s : SlotTable) (t : TicketParts) (ns : List Note) → Numbered s.present ns → Numbered (table.pin_at found s t).1.present ns
+numbered_pin : (found : Result (Unit {0}) ListFault) (s : SlotTable) (t : TicketParts) (ns : List Note) → Numbered s.present ns → Numbered (table.pin_at found s t).1.present (if_ok (λ done. Pinned t) (table.pin_at found s t).0 ns)
 numbered_pin (Err fault) s t ns i = i
-numbered_pin (Ok done) s t ns i = i
+numbered_pin (Ok done) s t ns i = fewer s.present s.present ns (Pinned t ∷ ns) (λ u w. w) (λ u e. e) i
 
-numbered_unpin : (pinned : Option TicketParts) (s : SlotTable) (m : Memory) (ns : List Note) → Numbered s.present ns → Numbered (table.unpin_for pinned s m).0.present ns
+numbered_unpin : (pinned : Option TicketParts) (s : SlotTable) (m : Memory) (ns : List Note) → Numbered s.present ns → Numbered (table.unpin_for pinned s m).0.present (if_some (λ t. Unpinned t) pinned ns)
 numbered_unpin None s m ns i = i
-numbered_unpin (Some t) s m ns i = i
+numbered_unpin (Some t) s m ns i = fewer s.present s.present ns (Unpinned t ∷ ns) (λ u w. w) (λ u e. e) i
 
 numbered_call : (call : Call) (s : SlotTable) (m : Memory) (ns : List Note) → Numbered s.present ns → Numbered (left_by call s m).0.present (noted_by call s m ns)
 unfolding table.prepare_step table.low_step table.high_step table.dummy_step table.status_step table.drop_step table.free_all_step table.pin_step table.unpin_step
 numbered_call (Prepare asked) s m ns i = numbered_prepare (table.may_prepare s) s m asked ns i
 numbered_call LinkLow s m ns i = numbered_low (waits_low s.present) s m ns i
 numbered_call LinkHigh s m ns i = numbered_high (waits_high s.present) s m ns i
-numbered_call (MakeDummy t) s m ns i = numbered_dummy (table.judged s t) s m t ns i
-numbered_call (TakeStatus block) s m ns i = numbered_status (table.slot_of block.orb) s m block ns i
+numbered_call (MakeDummy t) s m ns i = numbered_dummy (table.checked s t) s m t ns i
+numbered_call (TakeStatus block) s m ns i = numbered_status (slot_of block.orb) s m block ns i
 numbered_call DropList s m ns i = numbered_drop s.present s ns i
 numbered_call FreeAll s m ns i = none_waits (Freed ∷ ns) (λ t. refl)
-numbered_call (Pin t) s m ns i = numbered_pin (table.judged s t) s t ns i
+numbered_call (Pin t) s m ns i = numbered_pin (table.checked s t) s t ns i
 numbered_call Unpin s m ns i = numbered_unpin s.pinned s m ns i
 numbered_call (TryWrite offset bytes) s m ns i = i
 numbered_call (Fill slot at bytes) s m ns i = i

@@ -13,7 +13,7 @@ use Rattle.orb_list.specs.declared.slot.Slot.{Slot}
 use Rattle.orb_layout.specs.declared.status.StatusBlock.{StatusBlock}
 use Rattle.orb_layout.specs.StatusBlocks.{row_of}
 use Rattle.orb_list.specs.Tickets.{TicketParts}
-use Rattle.orb_list.specs.Table.{SlotTable, unused, slot_in, free_state, is_free, is_done, next_is_linked, over_in, is_over, released, passed_for, state_after, extended, orb_number, lowest}
+use Rattle.orb_list.specs.Table.{SlotTable, unused, slot_in, free_state, is_free, is_done, next_is_linked, over_in, is_over, released, passed_for, state_after, extended, list_number, orb_number, lowest}
 use Rattle.orb_list.specs.Holds.{IsIn, HoldsLink, HoldsPresent, IsSound}
 
 pub slot_after : (slots : List Slot) (k j : ℕ) (x : Slot) → k < length slots → slot_in (slice_set slots k x) j ≡ cond (nat_eq j k) x (slot_in slots j)
@@ -44,9 +44,9 @@ in_other slots k j t x h f i =
 link_changed : (slots : List Slot) (k : ℕ) (x : Slot) (tail : TicketParts) (link : Link) → k < length slots → x.last ≡ (slot_in slots k).last → is_free x ≡ false → HoldsLink slots tail link → HoldsLink (slice_set slots k x) tail link
 link_changed slots k x tail links.Done h l f i = tt
 link_changed slots k x tail (links.Low b) h l f i =
-    record { orb = i.orb; in_slot = in_changed slots k b i.orb x _ refl h l f i.in_slot; before = i.before }
+    record { orb = i.orb; in_slot = in_changed slots k b i.orb x _ refl h l f i.in_slot; list = i.list; before = i.before }
 link_changed slots k x tail (links.High b) h l f i =
-    record { orb = i.orb; in_slot = in_changed slots k b i.orb x _ refl h l f i.in_slot; before = i.before }
+    record { orb = i.orb; in_slot = in_changed slots k b i.orb x _ refl h l f i.in_slot; list = i.list; before = i.before }
 
 -- The slot of an ORB whose next is not linked is not released.
 not_over : (list : PresentList) (pinned : Option TicketParts) (state : SlotState) (t : TicketParts) → next_is_linked list t.number ≡ false → over_in list pinned state (Some t) ≡ false
@@ -76,10 +76,10 @@ link_released : (slots : List Slot) (list : PresentList) (pinned : Option Ticket
 link_released slots list pinned links.Done e size i = tt
 link_released slots list pinned (links.Low b) e size i =
     let d : is_done list.link ≡ false = ap is_done (sym e) in
-    record { orb = i.orb; in_slot = stays_in slots list pinned b i.orb size (before_not_linked list i.orb.number d i.before) i.in_slot; before = i.before }
+    record { orb = i.orb; in_slot = stays_in slots list pinned b i.orb size (before_not_linked list i.orb.number d i.before) i.in_slot; list = i.list; before = i.before }
 link_released slots list pinned (links.High b) e size i =
     let d : is_done list.link ≡ false = ap is_done (sym e) in
-    record { orb = i.orb; in_slot = stays_in slots list pinned b i.orb size (before_not_linked list i.orb.number d i.before) i.in_slot; before = i.before }
+    record { orb = i.orb; in_slot = stays_in slots list pinned b i.orb size (before_not_linked list i.orb.number d i.before) i.in_slot; list = i.list; before = i.before }
 
 pub present_released : (slots : List Slot) (acts : ℕ) (present : Option PresentList) (pinned : Option TicketParts) → length slots ≡ 32 → HoldsPresent slots acts present → HoldsPresent (map (released present pinned) slots) acts present
 present_released slots acts None pinned size i = tt
@@ -97,16 +97,16 @@ present_changed slots acts k (Some list) number x h l f i = record {
   link = link_changed slots k x list.tail list.link h l f i.link;
 }
 
-pub present_added : (slots : List Slot) (acts : ℕ) (present : Option PresentList) (t : TicketParts) → length slots ≡ 32 → t.slot < 32 → t.number ≡ orb_number present → is_free (slot_in slots t.slot) ≡ true → HoldsPresent slots acts present
+pub present_added : (slots : List Slot) (acts : ℕ) (present : Option PresentList) (t : TicketParts) (lists : ℕ) → length slots ≡ 32 → t.slot < 32 → t.list ≡ list_number present lists → t.number ≡ orb_number present → is_free (slot_in slots t.slot) ≡ true → HoldsPresent slots acts present
     → HoldsPresent (slice_set slots t.slot (record { state = states.Waiting; last = Some t })) (acts + 1) (Some (extended present t))
-present_added slots acts None t size small n f i =
+present_added slots acts None t lists size small l n f i =
     let s : slot_in (slice_set slots t.slot (record { state = states.Waiting; last = Some t })) t.slot ≡ record { state = states.Waiting; last = Some t } = grind (arith, common_steps) in
     record {
       count = omega arith;
       tail = record { below = small; last = ap (λ (y : Slot). y.last) s; held = ap (λ (y : Slot). is_free y) s };
       link = tt;
     }
-present_added slots acts (Some list) t size small n f i =
+present_added slots acts (Some list) t lists size small l n f i =
     let s : slot_in (slice_set slots t.slot (record { state = states.Waiting; last = Some t })) t.slot ≡ record { state = states.Waiting; last = Some t } = grind (arith, common_steps) in
     let c = i.count in
     record {
@@ -115,6 +115,7 @@ present_added slots acts (Some list) t size small n f i =
       link = record {
         orb = list.tail;
         in_slot = in_other slots t.slot list.tail.slot list.tail _ (omega arith) f i.tail;
+        list = sym l;
         before = sym n;
       };
     }

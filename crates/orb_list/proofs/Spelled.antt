@@ -22,7 +22,7 @@ use Rattle.orb_list.specs.Tickets.{TicketParts}
 use Rattle.orb_list.specs.Requests.{Asked, IsRequest}
 use Rattle.orb_list.specs.Layout.{behind, data_size, orb_of, table_bytes, data_in_segments, data_written, written}
 use Rattle.orb_list.specs.Table.{closed, low_of, high_of, as_dummy}
-use Rattle.orb_list.specs.Kept.{Kept, new_kept, in_slot, next_is, low_is, is_dummy, orb_now, IsServed, IfServed}
+use Rattle.orb_list.specs.Kept.{Kept, new_kept, in_slot, next_is, low_is, is_dummy, orb_now, HoldsOrb, IfHoldsOrb}
 use Rattle.orb_list.proofs.Closed.{closed_keeps}
 use Rattle.orb_list.proofs.Held.{table_length}
 
@@ -53,14 +53,14 @@ pointer_read (At offset) low rest f =
     let place : offset_at bytes 0 ≡ offset = omega arith in
     rw some (ap (λ (n : ℕ). At n) place)
 
-served_of : (o : Kept) (memory : SlotMemory) → IsSpelled o memory → IsServed o memory
+served_of : (o : Kept) (memory : SlotMemory) → IsSpelled o memory → HoldsOrb o memory
 served_of o memory s = record {
   pointer = ap (λ (l : List ℕ). pointer_at l 0) s.orb ∙ pointer_read o.next o.low (drop 8 (command_bytes (orb_now o))) s.low;
-  rest = ap (λ (l : List ℕ). drop 8 l) s.orb;
+  orb = s.orb;
   table = s.table;
 }
 
-pub if_served : (found : Option Kept) (memory : SlotMemory) → IfSpelled found memory → IfServed found memory
+pub if_served : (found : Option Kept) (memory : SlotMemory) → IfSpelled found memory → IfHoldsOrb found memory
 if_served None memory s = tt
 if_served (Some o) memory s = served_of o memory s
 

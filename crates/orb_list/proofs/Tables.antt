@@ -50,4 +50,4 @@ pub table_law : TableLaw
 unfolding elements_from
 table_law k segments s a h =
     let n : length (table_bytes k 0 segments) / 8 - 0 ≡ length segments = let l = table_length k 0 segments in omega arith in
-    ap (λ (c : ℕ). elements_in c 0 (table_bytes k 0 segments)) n ∙ table_read k 0 0 [] segments s refl a h
+    ap (λ (c : ℕ). elements_in c 0 (table_bytes k 0 segments)) n ∙ table_read k 0 0 [] segments s refl a (omega arith)

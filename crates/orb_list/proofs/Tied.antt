@@ -4,6 +4,7 @@ use Rattle.std.proofs.Math.ListN.{length-set}
 use Rattle.std.proofs.lemmas.Bool.Decides.{nat_tests}
 use Rattle.std.proofs.lemmas.List.{get_or-map, get_or_past, length-map, length-replicate}
 use Rattle.std.proofs.lemmas.List.Quantifiers.{position-Some}
+use Rattle.bus_memory.specs.Windows.{slot_of}
 use Rattle.bus_memory.specs.Memory.{Memory}
 use Rattle.bus_memory.proofs.Written.{replicated}
 use Rattle.orb_layout.specs.declared.status.StatusBlock.{StatusBlock}
@@ -18,8 +19,8 @@ use Rattle.orb_list.specs.declared.slot.SlotState.TheVariants as states
 use Rattle.orb_list.specs.declared.slot.Slot.{Slot}
 use Rattle.orb_list.specs.Tickets.{TicketParts, is_ticket, ticket}
 use Rattle.orb_list.specs.Requests.{Asked}
-use Rattle.orb_list.specs.Table.{SlotTable, unused, slot_in, is_free, waiting, waits_in, released, is_over, over_in, freed, rested, state_after, passed_for, lowest, is_mid_link, free_slot, may_prepare, next_ticket, prepare_at, prepare_step, low_for, low_step, high_for, high_step, waits_low, waits_high, with_link, judged, dummy_at, dummy_step, slot_of, status_at, status_for, status_step, drop_for, drop_step, free_all_step, pin_at, pin_step, unpin_for, unpin_step}
-use Rattle.orb_list.specs.Runs.{Call, Prepare, LinkLow, LinkHigh, MakeDummy, TakeStatus, DropList, FreeAll, Pin, Unpin, TryWrite, Fill, SetQuad, Note, Prepared, LowWritten, Linked, Dummied, Taken, Dropped, Freed, if_ok, if_some, left_by, noted_by, run, waits}
+use Rattle.orb_list.specs.Table.{SlotTable, unused, slot_in, is_free, waiting, waits_in, released, is_over, over_in, freed, rested, state_after, passed_for, lowest, is_mid_link, free_slot, may_prepare, next_ticket, prepare_at, prepare_step, low_for, low_step, high_for, high_step, waits_low, waits_high, with_link, checked, dummy_at, dummy_step, status_at, status_for, status_step, drop_for, drop_step, free_all_step, pin_at, pin_step, unpin_for, unpin_step}
+use Rattle.orb_list.specs.Runs.{Call, Prepare, LinkLow, LinkHigh, MakeDummy, TakeStatus, DropList, FreeAll, Pin, Unpin, TryWrite, Fill, SetQuad, Note, Prepared, LowWritten, Linked, Dummied, Taken, Dropped, Freed, Pinned, Unpinned, if_ok, if_some, left_by, noted_by, run, waits}
 use Rattle.orb_list.specs.Laws.{SlotsLaw}
 use Rattle.orb_list.proofs.Sound.{slot_after}
 
@@ -40,10 +41,10 @@ same_ticket a b e =
 pub ticket_itself : (a : TicketParts) → is_ticket a a ≡ true
 ticket_itself a = grind (arith, nat_tests)
 
-set_here : (slots : List Slot) (k j : ℕ) (x : Slot) → nat_eq j k ≡ true → k < length slots → slot_in (slice_set slots k x) j ≡ x
+pub set_here : (slots : List Slot) (k j : ℕ) (x : Slot) → nat_eq j k ≡ true → k < length slots → slot_in (slice_set slots k x) j ≡ x
 set_here slots k j x e h = slot_after slots k j x h ∙ ap (λ (b : Bool). cond b x (slot_in slots j)) e
 
-set_there : (slots : List Slot) (k j : ℕ) (x : Slot) → nat_eq j k ≡ false → k < length slots → slot_in (slice_set slots k x) j ≡ slot_in slots j
+pub set_there : (slots : List Slot) (k j : ℕ) (x : Slot) → nat_eq j k ≡ false → k < length slots → slot_in (slice_set slots k x) j ≡ slot_in slots j
 set_there slots k j x e h = slot_after slots k j x h ∙ ap (λ (b : Bool). cond b x (slot_in slots j)) e
 
 pub record Tied (slots : List Slot) (ns : List Note) : Type 0 where
@@ -67,7 +68,7 @@ waits_last_in states.Waiting last t e = e
 waits_last_in (states.Taken h) last t e = cc
 waits_last_in states.Resting last t e = cc
 
-waits_last : (slot : Slot) (t : TicketParts) → waiting slot ≡ Some t → slot.last ≡ Some t
+pub waits_last : (slot : Slot) (t : TicketParts) → waiting slot ≡ Some t → slot.last ≡ Some t
 waits_last slot t e = waits_last_in slot.state slot.last t e
 
 -- An ORB that waits has a slot.
@@ -206,12 +207,12 @@ over_last : (b : Bool) (slot : Slot) → (cond b (moved slot states.Free) slot).
 over_last true slot = refl
 over_last false slot = refl
 
-released_waits : (present : Option PresentList) (pinned : Option TicketParts) (slot : Slot) → waiting (released present pinned slot) ≡ waiting slot
+pub released_waits : (present : Option PresentList) (pinned : Option TicketParts) (slot : Slot) → waiting (released present pinned slot) ≡ waiting slot
 unfolding released
 released_waits None pinned slot = refl
 released_waits (Some list) pinned slot = over_waits (is_over list pinned slot) slot (over_taken list pinned slot.state slot.last)
 
-released_last : (present : Option PresentList) (pinned : Option TicketParts) (slot : Slot) → (released present pinned slot).last ≡ slot.last
+pub released_last : (present : Option PresentList) (pinned : Option TicketParts) (slot : Slot) → (released present pinned slot).last ≡ slot.last
 unfolding released
 released_last None pinned slot = refl
 released_last (Some list) pinned slot = over_last (is_over list pinned slot) slot
@@ -265,7 +266,7 @@ tied_dummy_at s m t ns (Ok done) i = tied_note s.slots ns (Dummied t ∷ ns) (λ
 
 tied_dummy : (s : SlotTable) (m : Memory) (t : TicketParts) (ns : List Note) → Tied s.slots ns → Tied (dummy_step s m t).1.0.slots (if_ok (λ done. Dummied t) (dummy_step s m t).0 ns)
 unfolding dummy_step
-tied_dummy s m t ns i = tied_dummy_at s m t ns (judged s t) i
+tied_dummy s m t ns i = tied_dummy_at s m t ns (checked s t) i
 
 none_after : (b had_next : Bool) (last : Option TicketParts) → waits_in (cond b (states.Taken had_next) states.Resting) last ≡ None
 none_after true had_next last = refl
@@ -312,19 +313,19 @@ tied_free_all : (s : SlotTable) (m : Memory) (ns : List Note) → Tied s.slots n
 unfolding free_all_step
 tied_free_all s m ns i = tied_none s.slots ns (Freed ∷ ns) freed (λ slot. refl) (λ slot. refl) (λ t. refl) i
 
-pin_slots : (s : SlotTable) (t : TicketParts) (found : Result (Unit {0}) ListFault) → (pin_at found s t).1.slots ≡ s.slots
-pin_slots s t (Err fault) = refl
-pin_slots s t (Ok done) = refl
+tied_pin_at : (s : SlotTable) (t : TicketParts) (ns : List Note) (found : Result (Unit {0}) ListFault) → Tied s.slots ns → Tied (pin_at found s t).1.slots (if_ok (λ done. Pinned t) (pin_at found s t).0 ns)
+tied_pin_at s t ns (Err fault) i = i
+tied_pin_at s t ns (Ok done) i = tied_note s.slots ns (Pinned t ∷ ns) (λ u. refl) i
 
-tied_pin : (s : SlotTable) (t : TicketParts) (ns : List Note) → Tied s.slots ns → Tied (pin_step s t).1.slots ns
+tied_pin : (s : SlotTable) (t : TicketParts) (ns : List Note) → Tied s.slots ns → Tied (pin_step s t).1.slots (if_ok (λ done. Pinned t) (pin_step s t).0 ns)
 unfolding pin_step
-tied_pin s t ns i = subst (λ (l : List Slot). Tied l ns) (sym (pin_slots s t (judged s t))) i
+tied_pin s t ns i = tied_pin_at s t ns (checked s t) i
 
-tied_unpin_for : (s : SlotTable) (m : Memory) (ns : List Note) (pinned : Option TicketParts) → Tied s.slots ns → Tied (unpin_for pinned s m).0.slots ns
+tied_unpin_for : (s : SlotTable) (m : Memory) (ns : List Note) (pinned : Option TicketParts) → Tied s.slots ns → Tied (unpin_for pinned s m).0.slots (if_some (λ t. Unpinned t) pinned ns)
 tied_unpin_for s m ns None i = i
-tied_unpin_for s m ns (Some t) i = tied_swept s.slots ns s.present None i
+tied_unpin_for s m ns (Some t) i = tied_swept s.slots (Unpinned t ∷ ns) s.present None (tied_note s.slots ns (Unpinned t ∷ ns) (λ u. refl) i)
 
-tied_unpin : (s : SlotTable) (m : Memory) (ns : List Note) → Tied s.slots ns → Tied (unpin_step s m).0.slots ns
+tied_unpin : (s : SlotTable) (m : Memory) (ns : List Note) → Tied s.slots ns → Tied (unpin_step s m).0.slots (if_some (λ t. Unpinned t) s.pinned ns)
 unfolding unpin_step
 tied_unpin s m ns i = tied_unpin_for s m ns s.pinned i
 
@@ -366,20 +367,6 @@ prepared_lowest : (s : SlotTable) (m : Memory) (asked : Asked) (t : TicketParts)
 unfolding prepare_step
 prepared_lowest s m asked t e = may_lowest s t.slot (prepared_at s m asked t (may_prepare s) e)
 
-taken_at : (s : SlotTable) (m : Memory) (block : StatusBlock) (t : TicketParts) (ns : List Note) (number : ℕ) (found : Option TicketParts) → waiting (slot_in s.slots number) ≡ found → Tied s.slots ns → (status_at found number s m block).0 ≡ Ok t → waits ns t ≡ true
-taken_at s m block t ns number None w i e = cc
-taken_at s m block t ns number (Some u) w i e =
-    let f : u ≡ t = cc in
-    i.back number t (past_slots s.slots number u i.size w) (w ∙ ap (λ (x : TicketParts). Some x) f)
-
-taken_for : (s : SlotTable) (m : Memory) (block : StatusBlock) (t : TicketParts) (ns : List Note) (found : Option ℕ) → Tied s.slots ns → (status_for found s m block).0 ≡ Ok t → waits ns t ≡ true
-taken_for s m block t ns None i e = cc
-taken_for s m block t ns (Some number) i e = taken_at s m block t ns number (waiting (slot_in s.slots number)) refl i e
-
-taken_waits : (s : SlotTable) (m : Memory) (block : StatusBlock) (t : TicketParts) (ns : List Note) → Tied s.slots ns → (status_step s m block).0 ≡ Ok t → waits ns t ≡ true
-unfolding status_step
-taken_waits s m block t ns i e = taken_for s m block t ns (slot_of block.orb) i e
-
 apart_at : (slots : List Slot) (t u : TicketParts) → waiting (slot_in slots t.slot) ≡ Some t → waiting (slot_in slots u.slot) ≡ Some u → t.slot ≡ u.slot → t ≡ u
 apart_at slots t u a b e =
     let f : Some t ≡ Some u = sym a ∙ ap (λ (k : ℕ). waiting (slot_in slots k)) e ∙ b in
@@ -398,5 +385,4 @@ slots_law calls quads =
       live = i.index;
       free = λ asked t e. (position-Some is_free r.table.slots t.slot unused (prepared_lowest r.table r.memory asked t e)).1;
       lowest = λ asked t lower e b. lower_not r.table.slots t.slot lower (prepared_lowest r.table r.memory asked t e) b;
-      once = λ block t e. taken_waits r.table r.memory block t r.notes i e;
     }

@@ -15,10 +15,11 @@ pub record IsIn (slots : List Slot) (number : ℕ) (t : TicketParts) : Type 0 wh
   pub last : (slot_in slots number).last ≡ Some t
   pub held : is_free (slot_in slots number) ≡ false
 
--- The ORB before the last one keeps its slot.
+-- The ORB before the last one, of the same list, keeps its slot.
 pub record IsBefore (slots : List Slot) (tail : TicketParts) (number : ℕ) : Type 0 where
   pub orb : TicketParts
   pub in_slot : IsIn slots number orb
+  pub list : orb.list ≡ tail.list
   pub before : orb.number + 1 ≡ tail.number
 
 abbrev pub HoldsLink : List Slot → TicketParts → Link → Type 0

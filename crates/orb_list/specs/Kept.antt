@@ -1,5 +1,6 @@
 -- What the image holds of the ORB that was prepared last in each slot.
-use Rattle.std.specs.Prelude.{◌≡◌, ℕ, ◌*◌, ◌+◌, ◌<◌, ◌≤◌, ◌==◌, if◌then◌else◌, List, [], ◌∷◌, length, take, drop, Option, Some, None}
+use Rattle.std.specs.Prelude.{◌≡◌, ℕ, ◌*◌, ◌+◌, ◌<◌, ◌≤◌, ◌==◌, if◌then◌else◌, List, [], ◌∷◌, ◌++◌, length, take, drop, Option, Some, None}
+use Rattle.byteorder.specs.Endian.{big_bytes}
 use Rattle.bus_memory.specs.declared.slot.SlotMemory.{SlotMemory}
 use Rattle.bus_memory.specs.declared.window.Window.TheVariants as windows
 use Rattle.bus_memory.specs.Windows.{IsWindow, start}
@@ -8,14 +9,14 @@ use Rattle.orb_layout.specs.declared.pointer.OrbPointer.{OrbPointer}
 use Rattle.orb_layout.specs.declared.pointer.OrbPointer.TheVariants.{Null, At}
 use Rattle.orb_layout.specs.declared.command.CommandOrb.{CommandOrb}
 use Rattle.orb_layout.specs.CommandOrbs.{command_bytes}
-use Rattle.orb_layout.specs.Pointers.{pointer_at}
+use Rattle.orb_layout.specs.Pointers.{pointer_at, pointer_high}
 use Rattle.orb_list.specs.Tickets.{TicketParts}
 use Rattle.orb_list.specs.Requests.{Asked, IsRequest}
 use Rattle.orb_list.specs.Layout.{orb_of, table_bytes}
 use Rattle.orb_list.specs.declared.list.Linking.{Linking}
-use Rattle.orb_list.specs.Table.{low_of, waits_high}
+use Rattle.orb_list.specs.Table.{low_of, waits_low, waits_high}
 use Rattle.orb_list.specs.Holds.{IsBefore}
-use Rattle.orb_list.specs.Runs.{Call, Prepare, LinkLow, LinkHigh, MakeDummy, TakeStatus, DropList, FreeAll, Pin, Unpin, TryWrite, Fill, SetQuad, Note, Prepared, LowWritten, Linked, Dummied, Taken, Dropped, Freed, run}
+use Rattle.orb_list.specs.Runs.{Call, Prepare, LinkLow, LinkHigh, MakeDummy, TakeStatus, DropList, FreeAll, Pin, Unpin, TryWrite, Fill, SetQuad, Note, Prepared, LowWritten, Linked, Dummied, Taken, Dropped, Freed, Pinned, Unpinned, run}
 
 -- an ORB by its ticket and its request, its next pointer and the low quadlet that was written for it, and its format
 pub record Kept : Type 0 where
@@ -53,20 +54,23 @@ kept_in (Dummied t ∷ ns) k = in_slot t.slot k is_dummy (kept_in ns k)
 kept_in (Taken t block ∷ ns) k = kept_in ns k
 kept_in (Dropped number ∷ ns) k = kept_in ns k
 kept_in (Freed ∷ ns) k = kept_in ns k
+kept_in (Pinned t ∷ ns) k = kept_in ns k
+kept_in (Unpinned t ∷ ns) k = kept_in ns k
 
 -- the ORB with its format, but for its next pointer
 abbrev pub orb_now : Kept → CommandOrb
 orb_now o = record (orb_of o.asked o.ticket.slot) { format = o.format }
 
--- The slot has the next pointer of the ORB, the rest of its spelling, and its page table.
-pub record IsServed (o : Kept) (memory : SlotMemory) : Type 0 where
+-- The slot has the ORB, each byte of it: the high quadlet of its next pointer, the low quadlet that was written last, and the rest
+-- of its spelling; so its next pointer is read back. It has its page table.
+pub record HoldsOrb (o : Kept) (memory : SlotMemory) : Type 0 where
+  pub orb : memory.orb ≡ big_bytes 4 (pointer_high o.next) ++ (big_bytes 4 o.low ++ drop 8 (command_bytes (orb_now o)))
   pub pointer : pointer_at memory.orb 0 ≡ o.next
-  pub rest : drop 8 memory.orb ≡ drop 8 (command_bytes (orb_now o))
   pub table : take (8 * length o.asked.segments) memory.table ≡ table_bytes o.ticket.slot 0 o.asked.segments
 
-abbrev pub IfServed : Option Kept → SlotMemory → Type 0
-IfServed None memory = Unit {0}
-IfServed (Some o) memory = IsServed o memory
+abbrev pub IfHoldsOrb : Option Kept → SlotMemory → Type 0
+IfHoldsOrb None memory = Unit {0}
+IfHoldsOrb (Some o) memory = HoldsOrb o memory
 
 -- A quadlet at this address stands in a place of management.
 pub record IsManaged (offset : ℕ) : Type 0 where
@@ -75,26 +79,23 @@ pub record IsManaged (offset : ℕ) : Type 0 where
   pub begins : start (windows.Management place) ≤ offset
   pub ends : offset + 4 ≤ start (windows.Management place) + 32
 
--- Each call that prepares has a request of a command, each that fills stays inside a buffer, and each that sets a quadlet does so
--- in a place of management.
+-- A call that prepares has a request of a command, one that fills stays inside a buffer, and one that sets a quadlet does so in
+-- a place of management.
+abbrev pub IsProper : Call → Type 0
+IsProper (Prepare asked) = IsRequest asked
+IsProper (Fill slot at bytes) = (slot < 32) × (at + length bytes ≤ 32768)
+IsProper (SetQuad offset value) = IsManaged offset
+IsProper _ = Unit {0}
+
 abbrev pub AreProper : List Call → Type 0
 AreProper [] = Unit {0}
-AreProper (Prepare asked ∷ calls) = IsRequest asked × AreProper calls
-AreProper (Fill slot at bytes ∷ calls) = (slot < 32) × (at + length bytes ≤ 32768) × AreProper calls
-AreProper (LinkLow ∷ calls) = AreProper calls
-AreProper (LinkHigh ∷ calls) = AreProper calls
-AreProper (MakeDummy t ∷ calls) = AreProper calls
-AreProper (TakeStatus block ∷ calls) = AreProper calls
-AreProper (DropList ∷ calls) = AreProper calls
-AreProper (FreeAll ∷ calls) = AreProper calls
-AreProper (Pin t ∷ calls) = AreProper calls
-AreProper (Unpin ∷ calls) = AreProper calls
-AreProper (TryWrite offset bytes ∷ calls) = AreProper calls
-AreProper (SetQuad offset value ∷ calls) = IsManaged offset × AreProper calls
+AreProper (call ∷ calls) = IsProper call × AreProper calls
 
 -- Over every list of calls each slot has the ORB that was prepared last in it: its next pointer is null until the high
--- quadlet of the ORB behind it was written, and then that ORB's address; the other bytes are as prepared, but for the format
--- of a dummy. That quadlet is written into the slot of the ORB before the one that is linked.
+-- quadlet of the ORB behind it was written, and then that ORB's address; its low quadlet is 0 until that of the ORB behind it
+-- was written; the other bytes are as prepared, but for the format of a dummy. These quadlets are written into the slot of the
+-- ORB before the one that is linked, of the same list.
 pub record ServedLaw : Type 0 where
-  pub served : (calls : List Call) (quads : List ℕ) (k : ℕ) → AreProper calls → k < 32 → IfServed (kept_in (run calls quads).notes k) (slot_at (run calls quads).memory k)
-  pub before : (calls : List Call) (quads : List ℕ) (linking : Linking) → AreProper calls → waits_high (run calls quads).table.present ≡ Some linking → IsBefore (run calls quads).table.slots linking.tail linking.before
+  pub served : (calls : List Call) (quads : List ℕ) (k : ℕ) → AreProper calls → k < 32 → IfHoldsOrb (kept_in (run calls quads).notes k) (slot_at (run calls quads).memory k)
+  pub before_low : (calls : List Call) (quads : List ℕ) (linking : Linking) → AreProper calls → waits_low (run calls quads).table.present ≡ Some linking → IsBefore (run calls quads).table.slots linking.tail linking.before
+  pub before_high : (calls : List Call) (quads : List ℕ) (linking : Linking) → AreProper calls → waits_high (run calls quads).table.present ≡ Some linking → IsBefore (run calls quads).table.slots linking.tail linking.before

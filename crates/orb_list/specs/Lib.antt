@@ -6,6 +6,8 @@ pub mod Holds
 pub mod Runs
 pub mod Kept
 pub mod Laws
+pub mod Named
+pub mod Steps
 pub mod Finds
 pub mod Stays
 pub mod Buffers

@@ -26,7 +26,8 @@ pub data Call : Type 0 where
   SetQuad : ℕ → ℕ → Call
 
 -- what was done: an ORB was prepared for a request; a quadlet of a next pointer was written into the ORB in a slot, for the
--- ORB that is linked there; an ORB became a dummy; its status was taken; a list was dropped; all slots were freed
+-- ORB that is linked there; an ORB became a dummy; its status was taken; a list was dropped; all slots were freed;
+-- the slot of an ORB was pinned, and the pin ended
 pub data Note : Type 0 where
   Prepared : TicketParts → Asked → Note
   LowWritten : ℕ → TicketParts → Note
@@ -35,6 +36,8 @@ pub data Note : Type 0 where
   Taken : TicketParts → StatusBlock → Note
   Dropped : ℕ → Note
   Freed : Note
+  Pinned : TicketParts → Note
+  Unpinned : TicketParts → Note
 
 pub record Run : Type 0 where
   pub table : SlotTable
@@ -77,8 +80,8 @@ noted_by (MakeDummy t) s m ns = if_ok (λ done. Dummied t) (dummy_step s m t).0 
 noted_by (TakeStatus block) s m ns = if_ok (λ t. Taken t block) (status_step s m block).0 ns
 noted_by DropList s m ns = if_some (λ number. Dropped number) (drop_step s).0 ns
 noted_by FreeAll s m ns = Freed ∷ ns
-noted_by (Pin t) s m ns = ns
-noted_by Unpin s m ns = ns
+noted_by (Pin t) s m ns = if_ok (λ done. Pinned t) (pin_step s t).0 ns
+noted_by Unpin s m ns = if_some (λ t. Unpinned t) s.pinned ns
 noted_by (TryWrite offset bytes) s m ns = ns
 noted_by (Fill slot at bytes) s m ns = ns
 noted_by (SetQuad offset value) s m ns = ns
@@ -105,3 +108,5 @@ waits (Freed ∷ ns) t = false
 waits (LowWritten before u ∷ ns) t = waits ns t
 waits (Linked before u ∷ ns) t = waits ns t
 waits (Dummied u ∷ ns) t = waits ns t
+waits (Pinned u ∷ ns) t = waits ns t
+waits (Unpinned u ∷ ns) t = waits ns t

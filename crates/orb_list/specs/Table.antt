@@ -3,7 +3,7 @@ use Rattle.std.specs.Prelude.{ℕ, ◌+◌, ◌-◌, ◌*◌, ◌/◌, ◌%◌, 
 use Rattle.sbp_base.specs.Quadlets.{quad, with_quad}
 use Rattle.bus_memory.specs.declared.slot.SlotMemory.{SlotMemory}
 use Rattle.bus_memory.specs.declared.window.Window.TheVariants as windows
-use Rattle.bus_memory.specs.Windows.{start}
+use Rattle.bus_memory.specs.Windows.{start, slot_of}
 use Rattle.bus_memory.specs.Memory.{Memory, slot_at, with_slot}
 use Rattle.orb_layout.specs.declared.pointer.OrbPointer.TheVariants.{At}
 use Rattle.orb_layout.specs.declared.status.StatusBlock.{StatusBlock}
@@ -244,8 +244,8 @@ is_present None t = false
 is_present (Some list) t = list.tail.list == t.list
 
 -- a ticket is of the present list, and its ORB waits; else the first of the refusals
-unfoldable pub judged : SlotTable → TicketParts → Result (Unit {0}) ListFault
-judged s t =
+unfoldable pub checked : SlotTable → TicketParts → Result (Unit {0}) ListFault
+checked s t =
     if not (is_present s.present t) then Err faults.Stale
     else if is_the (waiting (slot_in s.slots t.slot)) t then Ok tt else Err faults.Taken
 
@@ -267,14 +267,14 @@ dummy_at (Err fault) s m t = (Err fault, (s, m))
 dummy_at (Ok done) s m t = (Ok tt, (counted s, with_orb_quad m t.slot 16 (as_dummy (quad (slot_at m t.slot).orb 16))))
 
 unfoldable pub dummy_step : SlotTable → Memory → TicketParts → Result (Unit {0}) ListFault × (SlotTable × Memory)
-dummy_step s m t = dummy_at (judged s t) s m t
+dummy_step s m t = dummy_at (checked s t) s m t
 
 abbrev pub pin_at : Result (Unit {0}) ListFault → SlotTable → TicketParts → Result (Unit {0}) ListFault × SlotTable
 pin_at (Err fault) s t = (Err fault, s)
 pin_at (Ok done) s t = (Ok tt, counted (record s { pinned = Some t }))
 
 unfoldable pub pin_step : SlotTable → TicketParts → Result (Unit {0}) ListFault × SlotTable
-pin_step s t = pin_at (judged s t) s t
+pin_step s t = pin_at (checked s t) s t
 
 abbrev pub unpin_for : Option TicketParts → SlotTable → Memory → SlotTable × Memory
 unpin_for None s m = (s, m)
@@ -284,11 +284,6 @@ unfoldable pub unpin_step : SlotTable → Memory → SlotTable × Memory
 unpin_step s m = unpin_for s.pinned s m
 
 -- A status is taken.
-
--- the slot whose ORB stands at an address
-abbrev pub slot_of : ℕ → Option ℕ
-slot_of orb =
-    if nat_le 0x1000_0000 orb && (nat_lt orb 0x1000_0800 && (orb % 0x40 == 0)) then Some ((orb - 0x1000_0000) / 0x40) else None
 
 -- a slot whose status was taken rests where resp is not 0
 abbrev pub state_after : StatusBlock → SlotState

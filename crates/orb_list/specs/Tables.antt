@@ -15,4 +15,4 @@ segments_of slot at (count ∷ rest) = record { base = start (windows.Buffer slo
 -- The page table that is written is read as its segments.
 abbrev pub TableLaw : Type 0
 TableLaw =
-    (slot : ℕ) (segments : List ℕ) → slot < 32 → AllByRecursion (λ count. count < 2 ^ 16) segments → 0 + sum segments + 19 * length segments ≤ 32768 → elements_of (table_bytes slot 0 segments) ≡ segments_of slot 0 segments
+    (slot : ℕ) (segments : List ℕ) → slot < 32 → AllByRecursion (λ count. count < 2 ^ 16) segments → sum segments + 19 * length segments ≤ 32768 → elements_of (table_bytes slot 0 segments) ≡ segments_of slot 0 segments

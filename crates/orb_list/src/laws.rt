@@ -2,14 +2,28 @@ ghost use Rattle.orb_list.specs.Buffers.{BufferLaw};
 ghost use Rattle.orb_list.specs.Finds.{FindLaw};
 ghost use Rattle.orb_list.specs.Kept.{ServedLaw};
 ghost use Rattle.orb_list.specs.Laws.{SlotsLaw};
+ghost use Rattle.orb_list.specs.Named.{NamedLaw};
 ghost use Rattle.orb_list.specs.Stays.{StaysLaw};
+ghost use Rattle.orb_list.specs.Steps.{HeldLaw};
 ghost use Rattle.orb_list.specs.Tables.{TableLaw};
 
-/// Over every list of calls an ORB that waits keeps its slot, no slot in use or at rest is given out,
-/// and no status is taken twice.
+/// Over every list of calls an ORB that waits keeps its slot, and no slot in use or at rest is given out.
 #[tactic(auto, using(crate::proofs::Tied::slots_law))]
 pub fn slots_are_kept()
     ensures { SlotsLaw }
+{}
+
+/// Over every list of calls the status that is taken is that of the ORB that the block names, which waits, and
+/// a block that names an ORB that waits is taken.
+#[tactic(auto, using(crate::proofs::Named::named_law))]
+pub fn named_statuses_are_taken()
+    ensures { NamedLaw }
+{}
+
+/// New slots are sound and held by a new image, and each call leaves them so.
+#[tactic(auto, using(crate::proofs::Steps::held_law))]
+pub fn steps_keep_slots()
+    ensures { HeldLaw }
 {}
 
 /// Over every list of calls the ORB that is found by a number is the one that waits and has it, none is found
@@ -20,9 +34,10 @@ pub fn numbers_are_found()
 {}
 
 /// Over every list of calls the next pointer of each ORB that was prepared last in its slot is null until
-/// the high quadlet of the ORB behind it was written, and then that ORB's address; its other bytes and its
-/// page table stay as they were prepared, but for the format of a dummy. The high quadlet is written into the
-/// slot of the ORB before the one that is linked.
+/// the high quadlet of the ORB behind it was written, and then that ORB's address; its low quadlet is 0 until
+/// that of the ORB behind it was written; its other bytes and its page table stay as they were prepared, but
+/// for the format of a dummy. Both quadlets are written into the slot of the ORB before the one that is
+/// linked, of the same list.
 #[tactic(auto, using(crate::proofs::Imaged::served_law))]
 pub fn orbs_are_served()
     ensures { ServedLaw }

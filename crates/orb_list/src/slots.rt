@@ -1,6 +1,6 @@
 ghost use Rattle.std.specs.Prelude.{◌≡◌, ◌+◌, ◌<◌, ◌^◌, length, map, false, true, Some, None, IfOk, IfSome, OnSome, is_some};
 ghost use Rattle.orb_list.specs.Requests.{IsRequest, asked_of};
-ghost use Rattle.orb_list.specs.Table.{added, closed, drop_step, dummy_step, find_in, free_all_step, freed, high_step, is_free, judged, low_step, lowest, may_prepare, new_table, next_ticket, orb_number, passed_for, pin_step, prepare_step, released, rested, slot_in, slot_of, status_step, sweep, unpin_step, waiting, waits_high, waits_low, with_link, with_status};
+ghost use Rattle.orb_list.specs.Table.{added, closed, drop_step, dummy_step, find_in, free_all_step, freed, high_step, is_free, checked, low_step, list_number, lowest, may_prepare, new_table, next_ticket, orb_number, passed_for, pin_step, prepare_step, released, rested, slot_in, status_step, sweep, unpin_step, waiting, waits_high, waits_low, with_link, with_status};
 ghost use Rattle.orb_list.specs.Holds.{HoldsSlots, IsBefore, KeepsHeld, KeepsLink};
 ghost use Rattle.bus_memory.specs.Windows.{start};
 
@@ -12,7 +12,6 @@ use crate::slot::{Slot, SlotState};
 use crate::ticket::Ticket;
 use bus_memory::{Image, Window};
 use orb_layout::{OrbPointer, StatusBlock};
-use sbp_base::Offset;
 use std::marker::Model;
 
 /// The slots of an initiator.
@@ -138,7 +137,7 @@ impl Slots {
         ensures step { (result, (self.new, image.new)) ≡ dummy_step self.old image.old ticket.now }
         ensures kept { HoldsSlots self.new.slots image.new }
     {
-        self.judge(ticket)?;
+        self.check(ticket)?;
         make_dummy(image, ticket.slot());
         self.calls += 1;
         Ok(())
@@ -158,7 +157,7 @@ impl Slots {
         ensures step { (result, (self.new, image.new)) ≡ status_step self.old image.old status.now }
         ensures kept { HoldsSlots self.new.slots image.new }
     {
-        let Some(slot) = slot_of(status.orb) else {
+        let Some(slot) = Window::slot_of(status.orb) else {
             return Err(ListFault::Slot);
         };
         let Some(ticket) = self.waiting(slot) else {
@@ -219,7 +218,7 @@ impl Slots {
         ensures step { (result, self.new) ≡ pin_step self.old ticket.now }
         ensures kept { KeepsHeld self.old.slots self.new.slots }
     {
-        self.judge(ticket)?;
+        self.check(ticket)?;
         self.pinned = Some(*ticket);
         self.calls += 1;
         Ok(())
@@ -287,10 +286,12 @@ impl Slots {
             None => Ticket::new(login, self.lists, 0, slot, self.calls),
         }
     }
+
     /// Adds an ORB that was prepared in a free slot: it is the last of its list from now on.
     fn add(&mut self, ticket: Ticket)
         requires acts { self.old.acts < 2 ^ 31 }
         requires calls { self.old.calls < 2 ^ 56 }
+        requires list { ticket.list ≡ list_number self.old.present self.old.lists }
         requires number { ticket.number ≡ orb_number self.old.present }
         requires small { ticket.slot < 32 }
         requires free { is_free (slot_in self.old.slots ticket.slot) ≡ true }
@@ -358,9 +359,9 @@ impl Slots {
     }
 
     /// Whether a ticket is of the present list and its ORB waits; else the first refusal.
-    #[tactic(auto, unfolding(crate::specs::Table::judged))]
-    fn judge(&self, ticket: &Ticket) -> Result<(), ListFault>
-        ensures judged { result ≡ judged self.now ticket.now }
+    #[tactic(auto, unfolding(crate::specs::Table::checked))]
+    fn check(&self, ticket: &Ticket) -> Result<(), ListFault>
+        ensures checked { result ≡ checked self.now ticket.now }
         ensures held { IfOk result (λ _done. is_free (slot_in self.now.slots ticket.now.slot) ≡ false) }
     {
         match &self.present {
@@ -420,19 +421,6 @@ fn pointer_to(ticket: Ticket) -> OrbPointer
     ensures { result ≡ OrbPointer.At (start (Window.Orb ticket.slot)) }
 {
     OrbPointer::At(Window::Orb(ticket.slot()).start())
-}
-
-/// The slot whose ORB stands at an address.
-fn slot_of(orb: Offset) -> Option<u8>
-    ensures slot { result ≡ slot_of orb }
-    ensures below { IfSome result (λ slot. slot < 32) }
-{
-    match orb.value() {
-        value @ 0x1000_0000..=0x1000_07ff if value % 0x40 == 0 => {
-            Some(((value - 0x1000_0000) / 0x40) as u8)
-        }
-        _ => None,
-    }
 }
 
 /// The waiting ORB of a number.
