@@ -1,15 +1,14 @@
 -- The window of an address.
-use Rattle.std.proofs.Common.{arith, ◌≡◌, ◌∙◌, refl, inl, inr, [], ℕ, ◌+◌, ◌-◌, ◌*◌, ◌/◌, ◌%◌, ◌^◌, ◌<◌, ◌≤◌, ◌==◌, ◌&&◌, ◌||◌, ◌⊎◌, nat_le, Bool, true, false, cond, length, take, drop, List, sym, ap, subst, Option, Some, None, Result, Ok, Err}
+use Rattle.std.proofs.Common.{arith, ◌≡◌, ◌∙◌, refl, inl, inr, [], ℕ, ◌+◌, ◌-◌, ◌*◌, ◌/◌, ◌%◌, ◌^◌, ◌<◌, ◌≤◌, ◌==◌, ◌&&◌, ◌||◌, ◌⊎◌, nat_le, Bool, true, false, cond, length, take, drop, List, sym, ap, subst, Option, Some, None, Err}
 use Rattle.std.proofs.lemmas.Bool.Decides.{nat_tests}
 use Rattle.bus_memory.specs.declared.window.Window.{Window}
 use Rattle.bus_memory.specs.declared.window.Window.TheVariants as windows
-use Rattle.byteorder.specs.Endian.{big_bytes}
 use Rattle.bus_memory.specs.declared.access.Access.TheVariants.{Read}
 use Rattle.bus_memory.specs.declared.access.Rcode.TheVariants.{TypeError}
 use Rattle.bus_memory.specs.declared.access.Spot.{Spot}
 use Rattle.bus_memory.specs.Windows.{IsWindow, IfShare, start, within, window_at, slot_from, slot_of, is_fifo}
-use Rattle.bus_memory.specs.Memory.{Memory, new_memory, slot_at, bytes_in, with_bytes}
-use Rattle.bus_memory.specs.Access.{is_open, spot_in, spot_of, judged, judged_at, read_at, read_step, IsOwnSpot, IsQuadlet, set_at, set_step}
+use Rattle.bus_memory.specs.Memory.{Memory, new_memory, slot_at, bytes_in}
+use Rattle.bus_memory.specs.Access.{is_open, spot_in, spot_of, judged, judged_at, read_at, read_step, IsOwnSpot, set_at}
 use Rattle.bus_memory.specs.Laws.{size, IsWhole, IsInside, IsFound, WindowLaw, FifoLaw, SlotOfLaw, OwnLaw}
 
 -- An address inside a window has it as the window of its share.

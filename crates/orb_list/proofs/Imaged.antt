@@ -199,14 +199,14 @@ fits_dummy : (ns : List Note) (t : TicketParts) (present : Option PresentList) �
 fits_dummy ns t None f = tt
 fits_dummy ns t (Some list) f = (link_dummy ns t list.tail list.link f.0, null_kept t.slot list.tail.slot is_dummy (kept_in ns list.tail.slot) (λ o. refl) f.1)
 
-is_the_some : (found : Option TicketParts) (t : TicketParts) → table.is_the found t ≡ true → (u : TicketParts) × (found ≡ Some u)
+pub is_the_some : (found : Option TicketParts) (t : TicketParts) → table.is_the found t ≡ true → (u : TicketParts) × (found ≡ Some u)
 is_the_some None t e = cc
 is_the_some (Some u) t e = (u, refl)
 
 abbrev checked_for : Bool → Bool → Result (Unit {0}) ListFault
 checked_for present the = cond (not present) (Err faults.Stale) (cond the (Ok tt) (Err faults.Taken))
 
-checked_waits : (present the : Bool) → checked_for present the ≡ Ok tt → the ≡ true
+pub checked_waits : (present the : Bool) → checked_for present the ≡ Ok tt → the ≡ true
 checked_waits true true e = refl
 checked_waits true false e = cc
 checked_waits false the e = cc

@@ -12,5 +12,6 @@ pub mod Imaged
 pub mod Tables
 pub mod Stays
 pub mod Buffers
+pub mod Frees
 pub mod Named
 pub mod Steps

@@ -1,5 +1,5 @@
 -- A status that is taken is that of the ORB that its block names.
-use Rattle.std.proofs.Common.{arith, ◌≡◌, refl, sym, ◌∙◌, ap, ℕ, true, List, Option, Some, None, Ok}
+use Rattle.std.proofs.Common.{◌≡◌, refl, sym, ◌∙◌, ap, ℕ, true, List, Option, Some, None, Ok}
 use Rattle.bus_memory.specs.declared.window.Window.TheVariants as windows
 use Rattle.bus_memory.specs.Windows.{start, slot_of}
 use Rattle.bus_memory.specs.Memory.{Memory}

@@ -59,7 +59,7 @@ free_waits_in states.Waiting last t f e = cc
 free_waits_in (states.Taken h) last t f e = cc
 free_waits_in states.Resting last t f e = cc
 
-free_waits : (slot : Slot) (t : TicketParts) → is_free slot ≡ true → waiting slot ≡ Some t → ⊥
+pub free_waits : (slot : Slot) (t : TicketParts) → is_free slot ≡ true → waiting slot ≡ Some t → ⊥
 free_waits slot t f e = free_waits_in slot.state slot.last t f e
 
 waits_last_in : (state : SlotState) (last : Option TicketParts) (t : TicketParts) → waits_in state last ≡ Some t → last ≡ Some t
@@ -296,7 +296,7 @@ rested_when : (b : Bool) (slot : Slot) → is_free slot ≡ b → waiting (cond 
 rested_when true slot e = free_none slot.state slot.last e
 rested_when false slot e = refl
 
-rested_last : (b : Bool) (slot : Slot) → (cond b slot (moved slot states.Resting)).last ≡ slot.last
+pub rested_last : (b : Bool) (slot : Slot) → (cond b slot (moved slot states.Resting)).last ≡ slot.last
 rested_last true slot = refl
 rested_last false slot = refl
 

@@ -16,7 +16,7 @@ use Rattle.orb_list.specs.Layout.{orb_of, table_bytes}
 use Rattle.orb_list.specs.declared.list.Linking.{Linking}
 use Rattle.orb_list.specs.Table.{low_of, waits_low, waits_high}
 use Rattle.orb_list.specs.Holds.{IsBefore}
-use Rattle.orb_list.specs.Runs.{Call, Prepare, LinkLow, LinkHigh, MakeDummy, TakeStatus, DropList, FreeAll, Pin, Unpin, TryWrite, Fill, SetQuad, Note, Prepared, LowWritten, Linked, Dummied, Taken, Dropped, Freed, Pinned, Unpinned, run}
+use Rattle.orb_list.specs.Runs.{Call, Prepare, Fill, SetQuad, Note, Prepared, LowWritten, Linked, Dummied, Taken, Dropped, Freed, Pinned, Unpinned, run}
 
 -- an ORB by its ticket and its request, its next pointer and the low quadlet that was written for it, and its format
 pub record Kept : Type 0 where

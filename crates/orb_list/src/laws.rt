@@ -1,5 +1,6 @@
 ghost use Rattle.orb_list.specs.Buffers.{BufferLaw};
 ghost use Rattle.orb_list.specs.Finds.{FindLaw};
+ghost use Rattle.orb_list.specs.Frees.{FreeLaw};
 ghost use Rattle.orb_list.specs.Kept.{ServedLaw};
 ghost use Rattle.orb_list.specs.Laws.{SlotsLaw};
 ghost use Rattle.orb_list.specs.Named.{NamedLaw};
@@ -18,6 +19,13 @@ pub fn slots_are_kept()
 #[tactic(auto, using(crate::proofs::Named::named_law))]
 pub fn named_statuses_are_taken()
     ensures { NamedLaw }
+{}
+
+/// Over every list of calls a slot is free exactly where no ORB was prepared there since all were freed, or
+/// the last one is over by what was done, or was when its list was dropped.
+#[tactic(auto, using(crate::proofs::Frees::free_law))]
+pub fn slots_become_free()
+    ensures { FreeLaw }
 {}
 
 /// New slots are sound and held by a new image, and each call leaves them so.
