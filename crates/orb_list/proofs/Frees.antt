@@ -469,9 +469,9 @@ exact_high_in s m ns list (links.High b) z p q i =
       };
       present = present_link s.present links.Done s.lists ns ms
           (λ other e n x.
-            let same = same_list s.present list other p e in
-            subst (λ (y : PresentList). next_is_linked (record y { link = links.Done }) n ≡ is_linked ms y.tail.list (n + 1)) same
-            (whole_linked list ns b b n q (l.linked n)))
+          let same = same_list s.present list other p e in
+          subst (λ (y : PresentList). next_is_linked (record y { link = links.Done }) n ≡ is_linked ms y.tail.list (n + 1)) same
+          (whole_linked list ns b b n q (l.linked n)))
           (λ l n. refl) (λ l. refl) i.loose.present;
       slots = slots_quiet s.present (link_set s.present links.Done) s.lists s.calls (s.calls + 1) ns ms s.slots (omega arith) (λ l. refl) (λ k. refl) (of_link s.present links.Done)
           (λ k c t e f. state_keeps ns ms t (slot_in s.slots k).state refl (over_more ns ms t refl (λ o. or_right ((list.tail.list == t.list) && (list.tail.number == t.number + 1)) (is_linked ns t.list (t.number + 1)) o) (λ o. o) (λ o. o)) f) i.loose.slots;
@@ -602,11 +602,11 @@ slot_taken p lists calls ns slots number t block k false e c small tied w h f =
     subst (λ (x : Slot). SlotFits (passed_for p t.number) lists (calls + 1) ms (prepared_in ns k) x) (sym (set_there slots number k (record (slot_in slots number) { state = state_after block }) e (omega arith)))
     (slot_keeps p (passed_for p t.number) lists lists calls (calls + 1) ns ms (prepared_in ns k) (slot_in slots k) (omega arith) (omega arith) (λ n. refl) (of_passed p t.number)
     (λ v l x.
-      let there = tied.index k v c l in
-      let d : (t.slot == v.slot) ≡ false = grind (arith, nat_tests) in
-      let other : is_ticket t v ≡ false = grind (arith, nat_tests) in
-      let same = status_other ns t v block other in
-      state_keeps ns ms v (slot_in slots k).state same (over_more ns ms v same (λ o. o) (λ o. or_right ((t.list == v.list) && nat_lt v.number t.number) (is_passed ns v.list v.number) o) (λ o. o)) x)
+    let there = tied.index k v c l in
+    let d : (t.slot == v.slot) ≡ false = grind (arith, nat_tests) in
+    let other : is_ticket t v ≡ false = grind (arith, nat_tests) in
+    let same = status_other ns t v block other in
+    state_keeps ns ms v (slot_in slots k).state same (over_more ns ms v same (λ o. o) (λ o. or_right ((t.list == v.list) && nat_lt v.number t.number) (is_passed ns v.list v.number) o) (λ o. o)) x)
     f)
 
 exact_status_at : (s : SlotTable) (m : Memory) (block : StatusBlock) (ns : List Note) (number : ℕ) (found : Option TicketParts) → waiting (slot_in s.slots number) ≡ found → Tied s.slots ns → Exact s ns → Exact (table.status_at found number s m block).1.0 (if_ok (λ t. Taken t block) (table.status_at found number s m block).0 ns)
