@@ -12,6 +12,7 @@ pub mod Imaged
 pub mod Tables
 pub mod Stays
 pub mod Buffers
+pub mod Data
 pub mod Frees
 pub mod Named
 pub mod Steps

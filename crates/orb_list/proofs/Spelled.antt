@@ -198,11 +198,11 @@ same_data m slot [] payload w s p h l = same_more m m slot 0 payload (record { w
 same_data m slot (first ∷ rest) payload w s p h l = same_segments m m slot 0 (first ∷ rest) payload (record { whole = w; orb = λ j. refl; table = λ j. refl }) s (omega arith)
 
 -- What a request that is written leaves in each slot.
-record Parts (m : Memory) (k : ℕ) (asked : Asked) : Type 0 where
-  orb_whole : IsWhole (with_bytes (with_armed m k true) (windows.Orb k) 0 (command_bytes (orb_of asked k)))
-  table_whole : IsWhole (with_bytes (with_bytes (with_armed m k true) (windows.Orb k) 0 (command_bytes (orb_of asked k))) (windows.Table k) 0 (table_bytes k 0 asked.segments))
+pub record Parts (m : Memory) (k : ℕ) (asked : Asked) : Type 0 where
+  pub orb_whole : IsWhole (with_bytes (with_armed m k true) (windows.Orb k) 0 (command_bytes (orb_of asked k)))
+  pub table_whole : IsWhole (with_bytes (with_bytes (with_armed m k true) (windows.Orb k) 0 (command_bytes (orb_of asked k))) (windows.Table k) 0 (table_bytes k 0 asked.segments))
 
-parts : (m : Memory) (k : ℕ) (asked : Asked) → IsWhole m → k < 32 → IsRequest asked → Parts m k asked
+pub parts : (m : Memory) (k : ℕ) (asked : Asked) → IsWhole m → k < 32 → IsRequest asked → Parts m k asked
 parts m k asked whole s r =
     let armed = with_armed m k true in
     let orb = with_bytes armed (windows.Orb k) 0 (command_bytes (orb_of asked k)) in

@@ -6,6 +6,7 @@ pub mod Holds
 pub mod Runs
 pub mod Kept
 pub mod Laws
+pub mod Data
 pub mod Frees
 pub mod Named
 pub mod Steps

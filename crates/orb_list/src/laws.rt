@@ -1,4 +1,5 @@
 ghost use Rattle.orb_list.specs.Buffers.{BufferLaw};
+ghost use Rattle.orb_list.specs.Data.{DataLaw};
 ghost use Rattle.orb_list.specs.Finds.{FindLaw};
 ghost use Rattle.orb_list.specs.Frees.{FreeLaw};
 ghost use Rattle.orb_list.specs.Kept.{ServedLaw};
@@ -55,6 +56,13 @@ pub fn orbs_are_served()
 #[tactic(auto, using(crate::proofs::Tables::table_law))]
 pub fn page_table_reads_back()
     ensures { TableLaw }
+{}
+
+/// The segments of a request lie in its slot's buffer and do not overlap, and its data stand in them, joined in
+/// order.
+#[tactic(auto, using(crate::proofs::Data::data_law))]
+pub fn data_stand_in_segments()
+    ensures { DataLaw }
 {}
 
 /// A write of the target, served or not, a fill of any slot, and a quadlet that is set in a place of management

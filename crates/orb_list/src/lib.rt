@@ -13,8 +13,9 @@ mod ticket;
 
 pub use fault::ListFault;
 pub use laws::{
-    buffers_stay, named_statuses_are_taken, numbers_are_found, orbs_are_served,
-    page_table_reads_back, slots_are_kept, slots_become_free, slots_stay_held, steps_keep_slots,
+    buffers_stay, data_stand_in_segments, named_statuses_are_taken, numbers_are_found,
+    orbs_are_served, page_table_reads_back, slots_are_kept, slots_become_free, slots_stay_held,
+    steps_keep_slots,
 };
 pub use list::{Link, Linking, PresentList};
 pub use request::Request;
