@@ -28,79 +28,79 @@ use Rattle.orb_list.proofs.Tied.{Tied, same_ticket, ticket_itself, set_here, set
 use Rattle.orb_list.proofs.Imaged.{is_the_some, checked_waits}
 
 -- What the notes say of the ORB that was prepared last in a slot.
-record Ended (ns : List Note) (t : TicketParts) (had_next : Bool) : Type 0 where
-  block : StatusBlock
-  is : status_of ns t ≡ Some block
-  resp : ((row_of block.kind).resp == 0) ≡ true
-  src : had_next ≡ (block.src == 0)
+pub record Ended (ns : List Note) (t : TicketParts) (had_next : Bool) : Type 0 where
+  pub block : StatusBlock
+  pub is : status_of ns t ≡ Some block
+  pub resp : ((row_of block.kind).resp == 0) ≡ true
+  pub src : had_next ≡ (block.src == 0)
 
-record Failed (ns : List Note) (t : TicketParts) : Type 0 where
-  block : StatusBlock
-  is : status_of ns t ≡ Some block
-  resp : ((row_of block.kind).resp == 0) ≡ false
+pub record Failed (ns : List Note) (t : TicketParts) : Type 0 where
+  pub block : StatusBlock
+  pub is : status_of ns t ≡ Some block
+  pub resp : ((row_of block.kind).resp == 0) ≡ false
 
-abbrev StateFits : List Note → TicketParts → SlotState → Type 0
+abbrev pub StateFits : List Note → TicketParts → SlotState → Type 0
 StateFits ns t states.Free = is_over_by ns t ≡ true
 StateFits ns t states.Waiting = status_of ns t ≡ None
 StateFits ns t (states.Taken had_next) = Ended ns t had_next
 StateFits ns t states.Resting = Failed ns t
 
-abbrev Settled : SlotState → Type 0
+abbrev pub Settled : SlotState → Type 0
 Settled states.Free = Unit {0}
 Settled states.Waiting = ⊥
 Settled (states.Taken had_next) = ⊥
 Settled states.Resting = Unit {0}
 
-abbrev IsOf : Option PresentList → TicketParts → Type 0
+abbrev pub IsOf : Option PresentList → TicketParts → Type 0
 IsOf None t = ⊥
 IsOf (Some list) t = list.tail.list ≡ t.list
 
-abbrev PlaceFits : Option PresentList → List Note → TicketParts → SlotState → Option (List Note) → Type 0
+abbrev pub PlaceFits : Option PresentList → List Note → TicketParts → SlotState → Option (List Note) → Type 0
 PlaceFits present ns t state None = IsOf present t × StateFits ns t state
 PlaceFits present ns t state (Some before) = Settled state × (free_state state ≡ is_over_by before t)
 
-record OrbFits (present : Option PresentList) (lists calls : ℕ) (ns : List Note) (t : TicketParts) (slot : Slot) : Type 0 where
-  last : slot.last ≡ Some t
-  list : t.list < lists
-  serial : t.serial < calls
-  fits : PlaceFits present ns t slot.state (dropped_at ns t.list)
+pub record OrbFits (present : Option PresentList) (lists calls : ℕ) (ns : List Note) (t : TicketParts) (slot : Slot) : Type 0 where
+  pub last : slot.last ≡ Some t
+  pub list : t.list < lists
+  pub serial : t.serial < calls
+  pub fits : PlaceFits present ns t slot.state (dropped_at ns t.list)
 
-abbrev SlotFits : Option PresentList → ℕ → ℕ → List Note → Option TicketParts → Slot → Type 0
+abbrev pub SlotFits : Option PresentList → ℕ → ℕ → List Note → Option TicketParts → Slot → Type 0
 SlotFits present lists calls ns None slot = is_free slot ≡ true
 SlotFits present lists calls ns (Some t) slot = OrbFits present lists calls ns t slot
 
 -- What they say of the present list, and of lists and ORBs that are to come.
-record ListIs (list : PresentList) (lists : ℕ) (ns : List Note) : Type 0 where
-  below : list.tail.list < lists
-  open_yet : dropped_at ns list.tail.list ≡ None
-  linked : (n : ℕ) → next_is_linked list n ≡ is_linked ns list.tail.list (n + 1)
-  passed : (n : ℕ) → nat_lt n list.passed ≡ is_passed ns list.tail.list n
+pub record ListIs (list : PresentList) (lists : ℕ) (ns : List Note) : Type 0 where
+  pub below : list.tail.list < lists
+  pub open_yet : dropped_at ns list.tail.list ≡ None
+  pub linked : (n : ℕ) → next_is_linked list n ≡ is_linked ns list.tail.list (n + 1)
+  pub passed : (n : ℕ) → nat_lt n list.passed ≡ is_passed ns list.tail.list n
 
-abbrev PresentIs : Option PresentList → ℕ → List Note → Type 0
+abbrev pub PresentIs : Option PresentList → ℕ → List Note → Type 0
 PresentIs None lists ns = Unit {0}
 PresentIs (Some list) lists ns = ListIs list lists ns
 
-record Unseen (lists calls : ℕ) (ns : List Note) : Type 0 where
-  link : (list number : ℕ) → lists ≤ list → is_linked ns list number ≡ false
-  pass : (list number : ℕ) → lists ≤ list → is_passed ns list number ≡ false
-  drop : (list : ℕ) → lists ≤ list → dropped_at ns list ≡ None
-  status : (t : TicketParts) → calls ≤ t.serial → status_of ns t ≡ None
+pub record Unseen (lists calls : ℕ) (ns : List Note) : Type 0 where
+  pub link : (list number : ℕ) → lists ≤ list → is_linked ns list number ≡ false
+  pub pass : (list number : ℕ) → lists ≤ list → is_passed ns list number ≡ false
+  pub drop : (list : ℕ) → lists ≤ list → dropped_at ns list ≡ None
+  pub status : (t : TicketParts) → calls ≤ t.serial → status_of ns t ≡ None
 
-abbrev Fits : Option PresentList → ℕ → ℕ → List Note → List Slot → Type 0
+abbrev pub Fits : Option PresentList → ℕ → ℕ → List Note → List Slot → Type 0
 Fits present lists calls ns slots = (k : ℕ) → k < 32 → SlotFits present lists calls ns (prepared_in ns k) (slot_in slots k)
 
-record Loose (s : SlotTable) (ns : List Note) : Type 0 where
-  pinned : s.pinned ≡ pinned_by ns
-  unseen : Unseen s.lists s.calls ns
-  present : PresentIs s.present s.lists ns
-  slots : Fits s.present s.lists s.calls ns s.slots
+pub record Loose (s : SlotTable) (ns : List Note) : Type 0 where
+  pub pinned : s.pinned ≡ pinned_by ns
+  pub unseen : Unseen s.lists s.calls ns
+  pub present : PresentIs s.present s.lists ns
+  pub slots : Fits s.present s.lists s.calls ns s.slots
 
 -- No ORB that is over keeps its slot.
-abbrev over_now : Option PresentList → Option TicketParts → Slot → Bool
+abbrev pub over_now : Option PresentList → Option TicketParts → Slot → Bool
 over_now None pinned slot = false
 over_now (Some list) pinned slot = is_over list pinned slot
 
-abbrev Swept : SlotTable → Type 0
+abbrev pub Swept : SlotTable → Type 0
 Swept s = (k : ℕ) → k < 32 → over_now s.present s.pinned (slot_in s.slots k) ≡ false
 
 -- The rule of the slots is that of the notes.
@@ -146,9 +146,9 @@ unfolding released
 released_over None pinned slot = refl
 released_over (Some list) pinned slot = over_gone list pinned slot (is_over list pinned slot) refl
 
-record Exact (s : SlotTable) (ns : List Note) : Type 0 where
-  loose : Loose s ns
-  swept : Swept s
+pub record Exact (s : SlotTable) (ns : List Note) : Type 0 where
+  pub loose : Loose s ns
+  pub swept : Swept s
 
 map_at : (f : Slot → Slot) (slots : List Slot) (k : ℕ) → length slots ≡ 32 → k < 32 → slot_in (map f slots) k ≡ f (slot_in slots k)
 map_at f slots k l b = get_or-map f slots k unused unused (omega arith)
@@ -204,10 +204,10 @@ over_by_more None ns ms t f g h i = cc
 over_by_more (Some block) ns ms t f g h i =
     more_over ((row_of block.kind).resp == 0) (is_linked ns t.list (t.number + 1)) (is_linked ms t.list (t.number + 1)) (block.src == 0) (is_passed ns t.list t.number) (is_passed ms t.list t.number) (is_pinned (pinned_by ns) t) (is_pinned (pinned_by ms) t) f g h i
 
-over_more : (ns ms : List Note) (t : TicketParts) → status_of ms t ≡ status_of ns t → (is_linked ns t.list (t.number + 1) ≡ true → is_linked ms t.list (t.number + 1) ≡ true) → (is_passed ns t.list t.number ≡ true → is_passed ms t.list t.number ≡ true) → (is_pinned (pinned_by ns) t ≡ false → is_pinned (pinned_by ms) t ≡ false) → is_over_by ns t ≡ true → is_over_by ms t ≡ true
+pub over_more : (ns ms : List Note) (t : TicketParts) → status_of ms t ≡ status_of ns t → (is_linked ns t.list (t.number + 1) ≡ true → is_linked ms t.list (t.number + 1) ≡ true) → (is_passed ns t.list t.number ≡ true → is_passed ms t.list t.number ≡ true) → (is_pinned (pinned_by ns) t ≡ false → is_pinned (pinned_by ms) t ≡ false) → is_over_by ns t ≡ true → is_over_by ms t ≡ true
 over_more ns ms t e f g h i = ap (λ (found : Option StatusBlock). over_by found ms t) e ∙ over_by_more (status_of ns t) ns ms t f g h i
 
-or_right : (a b : Bool) → b ≡ true → a || b ≡ true
+pub or_right : (a b : Bool) → b ≡ true → a || b ≡ true
 or_right true b e = refl
 or_right false b e = e
 
@@ -518,13 +518,13 @@ place_taken p q ns ms t u (states.Taken h) after last dropped w g n f = cc
 place_taken p q ns ms t u states.Resting after last dropped w g n f = cc
 
 -- The ORB that waits in a slot is the one that was prepared there last.
-record WaitsHere (p : Option PresentList) (lists calls : ℕ) (ns : List Note) (found : Option TicketParts) (slot : Slot) (t : TicketParts) : Type 0 where
-  is : found ≡ Some t
-  of_list : IsOf p t
-  list : t.list < lists
-  serial : t.serial < calls
+pub record WaitsHere (p : Option PresentList) (lists calls : ℕ) (ns : List Note) (found : Option TicketParts) (slot : Slot) (t : TicketParts) : Type 0 where
+  pub is : found ≡ Some t
+  pub of_list : IsOf p t
+  pub list : t.list < lists
+  pub serial : t.serial < calls
 
-waits_here : (p : Option PresentList) (lists calls : ℕ) (ns : List Note) (found : Option TicketParts) (slot : Slot) (t : TicketParts) → waiting slot ≡ Some t → SlotFits p lists calls ns found slot → WaitsHere p lists calls ns found slot t
+pub waits_here : (p : Option PresentList) (lists calls : ℕ) (ns : List Note) (found : Option TicketParts) (slot : Slot) (t : TicketParts) → waiting slot ≡ Some t → SlotFits p lists calls ns found slot → WaitsHere p lists calls ns found slot t
 waits_here p lists calls ns None slot t w f = absurd (free_waits slot t f w)
 waits_here p lists calls ns (Some v) slot t w f =
     let e : Some v ≡ Some t = sym f.last ∙ waits_last slot t w in
@@ -653,7 +653,7 @@ final_place None lists ns pinned t slot None l q e o f = absurd f.0
 final_place (Some list) lists ns pinned t slot None l q e o f =
     final_state list lists ns pinned t slot.state l q f.0 (ap (λ (u : Option TicketParts). over_in list pinned slot.state u) (sym e) ∙ o) f.1
 
-final_slot : (p : Option PresentList) (lists calls : ℕ) (ns : List Note) (pinned : Option TicketParts) (found : Option TicketParts) (slot : Slot) → PresentIs p lists ns → pinned ≡ pinned_by ns → over_now p pinned slot ≡ false → SlotFits p lists calls ns found slot → is_free slot ≡ free_by ns found
+pub final_slot : (p : Option PresentList) (lists calls : ℕ) (ns : List Note) (pinned : Option TicketParts) (found : Option TicketParts) (slot : Slot) → PresentIs p lists ns → pinned ≡ pinned_by ns → over_now p pinned slot ≡ false → SlotFits p lists calls ns found slot → is_free slot ≡ free_by ns found
 final_slot p lists calls ns pinned None slot l q o f = f
 final_slot p lists calls ns pinned (Some t) slot l q o f = final_place p lists ns pinned t slot (dropped_at ns t.list) l q f.last o f.fits
 
@@ -828,7 +828,7 @@ exact_new = record {
   swept = λ k b. refl;
 }
 
-exact_run : (calls : List Call) (quads : List ℕ) → PinsAlone calls quads → Exact (run calls quads).table (run calls quads).notes
+pub exact_run : (calls : List Call) (quads : List ℕ) → PinsAlone calls quads → Exact (run calls quads).table (run calls quads).notes
 exact_run [] quads p = exact_new
 exact_run (call ∷ earlier) quads p =
     exact_call call (run earlier quads).table (run earlier quads).memory (run earlier quads).notes p.0 (tied_run earlier quads) (exact_run earlier quads p.1)

@@ -14,5 +14,6 @@ pub mod Stays
 pub mod Buffers
 pub mod Data
 pub mod Frees
+pub mod Keeps
 pub mod Named
 pub mod Steps

@@ -8,6 +8,7 @@ pub mod Kept
 pub mod Laws
 pub mod Data
 pub mod Frees
+pub mod Keeps
 pub mod Named
 pub mod Steps
 pub mod Finds

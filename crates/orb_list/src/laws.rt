@@ -2,6 +2,7 @@ ghost use Rattle.orb_list.specs.Buffers.{BufferLaw};
 ghost use Rattle.orb_list.specs.Data.{DataLaw};
 ghost use Rattle.orb_list.specs.Finds.{FindLaw};
 ghost use Rattle.orb_list.specs.Frees.{FreeLaw};
+ghost use Rattle.orb_list.specs.Keeps.{KeepsLaw};
 ghost use Rattle.orb_list.specs.Kept.{ServedLaw};
 ghost use Rattle.orb_list.specs.Laws.{SlotsLaw};
 ghost use Rattle.orb_list.specs.Named.{NamedLaw};
@@ -27,6 +28,13 @@ pub fn named_statuses_are_taken()
 #[tactic(auto, using(crate::proofs::Frees::free_law))]
 pub fn slots_become_free()
     ensures { FreeLaw }
+{}
+
+/// Over every list of calls an ORB that was prepared, and is not over by what was done, is the one that was
+/// prepared last in its slot.
+#[tactic(auto, using(crate::proofs::Keeps::keeps_law))]
+pub fn orbs_keep_their_slots()
+    ensures { KeepsLaw }
 {}
 
 /// New slots are sound and held by a new image, and each call leaves them so.
