@@ -25,8 +25,8 @@ asked_of request = record {
   login = request.login;
 }
 
--- A request of a command: a command block of 12 bytes, a buffer of at most 16,384 bytes, no more data than that, and either no page table or one of at
--- most 64 segments, which are the buffer.
+-- A request of a command: a command block of 12 bytes, a buffer of at most 16,384 bytes, no more data than that, and either no
+-- page table or one of at most 64 segments, which together are no longer than the buffer.
 pub record IsRequest (asked : Asked) : Type 0 where
   pub cdb : length asked.cdb ≡ 12
   pub short : asked.length ≤ 16384
