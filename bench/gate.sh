@@ -27,7 +27,6 @@ while kill -0 "$session" 2> /dev/null; do
             words=$(tr '\0' ' ' 2> /dev/null < "/proc/$process/cmdline")
             place=$(readlink "/proc/$process/cwd")
             case "$words" in
-                *--toolchain*) row[$process]="other 0"; continue ;;  # compiles what is proved
                 */rattle\ *--crate-name*) name=${words#*--crate-name }; name=${name%% *} ;;
                 *) row[$process]="other 0"; continue ;;
             esac

@@ -29,8 +29,3 @@ pub use reply::{NoLabel, ReplyKind, Stale, Verdict};
 pub use source::Remembered;
 pub use table::Labels;
 pub use transactions::Transactions;
-
-#[cfg(test)]
-mod layer_tests;
-#[cfg(test)]
-mod tests;

@@ -1,8 +1,8 @@
 ghost use Rattle.std.specs.Prelude.{IsTrue};
 ghost use Rattle.label_table.specs.Requests.{IsRequest};
 
-use crate::{Labels, NoLabel, ReplyKind, Seen, Stale, Verdict};
 use async_packet::{Label, PacketRef, decode};
+use label_table::{Labels, NoLabel, ReplyKind, Seen, Stale, Verdict};
 use sbp_base::{Generation, NodeId};
 use std::test::Fail;
 

@@ -1,5 +1,5 @@
-use crate::{Asked, Judgement, RequestBody, Stale, Transactions};
 use async_packet::PacketRef;
+use label_table::{Asked, Judgement, RequestBody, Stale, Transactions};
 use sbp_base::{Bytes, Generation, NodeId, Offset};
 use std::alloc::Global;
 use std::test::Fail;
