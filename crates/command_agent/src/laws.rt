@@ -1,4 +1,5 @@
 ghost use Rattle.command_agent.specs.Lost.{LostLaw, LossesRunNothing, TwoLossesEndIt};
+ghost use Rattle.command_agent.specs.Wire.{CallsAreWired, UnderWayLaw, SuspendedLaw, MarkLaw};
 ghost use Rattle.command_agent.specs.Calls.{CallsAreLawful, CallsKeepOrder, RereadsEndNothing};
 
 /// Over every list of calls of an agent: each turn comes when the ORB before has ended, and to the one
@@ -29,4 +30,22 @@ pub fn failed_reply_is_a_loss()
     ensures loss { LostLaw }
     ensures silent { LossesRunNothing }
     ensures over { TwoLossesEndIt }
+{}
+
+/// Over every list of calls of an agent: what it asks for has the address and the length that the
+/// pointers and the ORBs that were read name; an ORB ends good or with a check behind its run alone,
+/// and as dummy, aborted or illegal without one, by the status block that says so; a command runs on
+/// the data that were read for it, joined; a pointer is taken in RESET and SUSPENDED alone.
+#[tactic(auto, using(crate::proofs::Lists::calls_wired))]
+pub fn calls_ask_and_end()
+    ensures { CallsAreWired }
+{}
+
+/// After each list of calls of an agent the transactions under way are those asked for and not answered
+/// since; an agent is SUSPENDED only at the end of its list, with no doorbell since; and a doorbell's
+/// mark is cleared only as a read of an ORB or next pointer is asked for.
+pub fn calls_keep_state()
+    ensures under_way { UnderWayLaw }
+    ensures suspended { SuspendedLaw }
+    ensures mark { MarkLaw }
 {}
