@@ -33,7 +33,7 @@ use Rattle.command_agent.specs.declared.step.Which.TheVariants.{Main, Ahead}
 use Rattle.orb_layout.specs.Replies.{Answer, payload_of, write_failure}
 use Rattle.command_agent.specs.Machine.{Machine, aligned, named, is_sent, is_ahead, plan_of, chunk_of}
 use Rattle.command_agent.specs.Checks.{verdict, refusal, death_by, reads_table}
-use Rattle.command_agent.specs.Steps.{quiet, asks, sent, told_or, ahead_read, ahead_step, dead_step, reread_step, end_step, answer_step, with_outcome, ran_as, run_step, judged, judge_step, checked, check_step, ahead_of, served, advanced, orb_read, table_read, elements_read, data_read, data_grown, chunk_written, status_written, next_read, follow_step, turn_step, pointed, point_step, doorbell_step, fetch_step, data_step, block_of, src_of, reset_step, abort_step, reply_step, unread_buffer, answer_chunk, turned}
+use Rattle.command_agent.specs.Steps.{quiet, asks, sent, told_or, ahead_read, ahead_step, dead_step, reread_step, end_step, answer_step, with_outcome, ran_as, run_step, judged, judge_step, checked, check_step, ahead_of, served, advanced, orb_read, table_read, elements_read, data_read, data_grown, chunk_written, status_written, next_read, follow_step, turn_step, pointed, point_step, doorbell_step, data_step, src_of, reset_step, abort_step, reply_step, unread_buffer, answer_chunk, turned}
 use Rattle.command_agent.specs.Calls.{Call, Point, Doorbell, Reset, Abort, Reply, after_call, after_calls, Note, Pointed, Rung, Cut, Came, Turn, Fetched, Table, Data, Reread, AheadRead, AheadUsed, Ran, Reads, Writes, Promoted, Ended, Died, asked, death_notes, ask_notes, run_notes, promotion_notes, turn_notes, fetch_notes, table_notes, data_notes, reread_notes, status_notes, ahead_notes, main_notes, heard, point_notes, step_notes, noted, notes, is_open, before_present, present_in, fetched_in, next_in, runs_in, ahead_in, Lawful, ended, InOrder, CallsAreLawful, CallsKeepOrder, RereadsEndNothing}
 use Rattle.command_agent.specs.Wire.{last_in, outcome_in, has_table, data_in, is_dead, main_in, behind_in, reads_pointer, rung_since, MainReads, is_good, EndsBy, TakesPointer, Wired, CallsAreWired, UnderWayLaw, IsAtEnd, SuspendedLaw, MarkLaw}
 use Rattle.command_agent.proofs.Fits.{data_needed, feeds_all, feeds_none}
@@ -421,19 +421,23 @@ chunk_after None m told place plain ns l s w =
 -- to the write of its status block, and to a read of its next pointer
 turn_after : (ahead : ReadAhead) (next : ℕ) (m : Machine) (told : Told) (place : ℕ) (plain : PlainDisk) (ns : List Note) → Laws ns → Steadily m ahead ns → IsOver ns → next_in ns ≡ At next → AfterMove place plain told (turn_notes (At next) ahead ns) (turn_step m next ahead)
 turn_after aheads.Idle next m told place plain ns l s o n =
-    record { tied = record {
-      laws = ((o.gone, o.still, ap named n, l.0), (fetch_reads (Turn (aligned next) ∷ ns) (aligned next) refl refl, l.1));
-      steady = record { next_is = refl; last_is = refl; kept = tt; behind_is = s.behind_is; bell = λ _ _ h. cc };
-      main = refl;
-      phase = record { still = o.still; alive = o.alive; here = refl; none = refl; unrun = refl; joined = refl };
-    } }
+    record {
+      tied = record {
+        laws = ((o.gone, o.still, ap named n, l.0), (fetch_reads (Turn (aligned next) ∷ ns) (aligned next) refl refl, l.1));
+        steady = record { next_is = refl; last_is = refl; kept = tt; behind_is = s.behind_is; bell = λ _ _ h. cc };
+        main = refl;
+        phase = record { still = o.still; alive = o.alive; here = refl; none = refl; unrun = refl; joined = refl };
+      };
+    }
 turn_after (aheads.UnderWay rung) next m told place plain ns l s o n =
-    record { tied = record {
-      laws = ((o.gone, o.still, ap named n, l.0), l.1);
-      steady = record { next_is = refl; last_is = refl; kept = tt; behind_is = refl; bell = s.bell };
-      main = refl;
-      phase = record { still = o.still; alive = o.alive; here = refl; none = refl; unrun = refl; joined = refl };
-    } }
+    record {
+      tied = record {
+        laws = ((o.gone, o.still, ap named n, l.0), l.1);
+        steady = record { next_is = refl; last_is = refl; kept = tt; behind_is = refl; bell = s.bell };
+        main = refl;
+        phase = record { still = o.still; alive = o.alive; here = refl; none = refl; unrun = refl; joined = refl };
+      };
+    }
 turn_after (aheads.Kept orb) next m told place plain ns l s o n =
     check_after (record (turned m next) { orb = orb }) told place plain (Fetched orb ∷ Turn (aligned next) ∷ AheadUsed orb ∷ ns)
     (record {
@@ -465,12 +469,14 @@ follow_after Null m told place plain ns l s i o n =
     }))
 
 dead_after : (m : Machine) (cause : FailCause) (told : Told) (place : ℕ) (plain : PlainDisk) (ns : List Note) → Laws ns → Steadily m m.ahead ns → main_in ns ≡ false → AfterMove place plain told ns (sent (dead_step m cause))
-dead_after m cause told place plain ns l s i = record { tied = record {
-  laws = l;
-  steady = record { next_is = s.next_is; last_is = s.last_is; kept = tt; behind_is = refl; bell = λ _ live _. cc };
-  main = i;
-  phase = refl;
-} }
+dead_after m cause told place plain ns l s i = record {
+  tied = record {
+    laws = l;
+    steady = record { next_is = s.next_is; last_is = s.last_is; kept = tt; behind_is = refl; bell = λ _ live _. cc };
+    main = i;
+    phase = refl;
+  };
+}
 
 status_after : (failure : Option FailCause) (m : Machine) (told : Told) (place : ℕ) (plain : PlainDisk) (ns : List Note) → Laws ns → Steadily m m.ahead ns → main_in ns ≡ false → IsOver ns → AfterMove place plain told (status_notes failure m.orb.next m.ahead ns) (status_written m failure)
 status_after (Some cause) m told place plain ns l s i o = dead_after m cause told place plain ns l s i

@@ -1,5 +1,5 @@
 -- What an agent asks for, how its ORBs end, and which of its transactions are under way, read off what calls tell.
-use Rattle.std.specs.Prelude.{◌≡◌, ℕ, ◌*◌, ◌||◌, is_none, is_some, Bool, true, false, if◌then◌else◌, List, [], ◌∷◌, ◌++◌, ◌⊎◌, length, Option, Some, None}
+use Rattle.std.specs.Prelude.{◌≡◌, ℕ, ◌*◌, ◌||◌, is_none, Bool, true, false, if◌then◌else◌, List, [], ◌∷◌, ◌++◌, ◌⊎◌, length, Option, Some, None}
 use Rattle.orb_layout.specs.declared.command.CommandOrb.{CommandOrb}
 use Rattle.orb_layout.specs.declared.pointer.OrbPointer.TheVariants.{Null}
 use Rattle.orb_layout.specs.declared.status.StatusKind.{StatusKind}
