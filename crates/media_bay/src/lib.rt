@@ -6,8 +6,3 @@ mod unsolicited;
 
 pub use bay::Bay;
 pub use unsolicited::{read_unsolicited, unsolicited_reads_back, write_unsolicited};
-
-#[cfg(test)]
-mod counted_disc;
-#[cfg(test)]
-mod tests;

@@ -269,6 +269,3 @@ fn without_place(places: u8, place: u8) -> u8
 {
     places & !(1 << place)
 }
-
-#[cfg(test)]
-mod tests;

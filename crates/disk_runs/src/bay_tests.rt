@@ -1,6 +1,7 @@
+use crate::case::{GOOD, checked, ends, play};
 use crate::counted_disc::CountedDisc;
-use crate::{Bay, read_unsolicited, write_unsolicited};
-use rbc_disk::{BufferPlan, FaultyMedium, Medium, Need, Outcome, RamMedium, Sense, Unit};
+use media_bay::{Bay, read_unsolicited, write_unsolicited};
+use rbc_disk::{FaultyMedium, Medium, RamMedium, Sense, Unit};
 use sbp_base::NoMemory;
 use std::cell::Cell;
 use std::rc::Rc;
@@ -18,33 +19,6 @@ const VERIFY: [u8; 12] = [0x2f, 0, 0, 0, 0, 0, 0, 0, 1, 0, 0, 0];
 
 const VERIFY_SEVEN: [u8; 12] = [0x2f, 0, 0, 0, 0, 1, 0, 0, 7, 0, 0, 0];
 
-const NO_DATA: BufferPlan = BufferPlan {
-    to_initiator: true,
-    bytes: 0,
-};
-
-const GOOD: Outcome = Outcome::Good { answer: 0 };
-
-/// Runs commands of place 0 on a new unit in turn, none of which has data.
-fn run_all(
-    rt: &impl AllocGlobal,
-    bay: &mut dyn Medium,
-    cdbs: &[[u8; 12]],
-    answer: &mut [u8],
-) -> Result<Vec<Outcome>, NoMemory> {
-    let mut unit = Unit::new();
-    let mut ended = Vec::new(rt.alloc());
-    if answer.len() != 16384 {
-        return Ok(ended);
-    }
-    for cdb in cdbs {
-        if let Need::RunNow = unit.needs(bay, 0, cdb, NO_DATA) {
-            ended.push(unit.run(bay, 0, cdb, NO_DATA, &[], answer))?;
-        }
-    }
-    Ok(ended)
-}
-
 /// A bay of one block with two discs, of which the first is in the tray.
 fn two_discs(rt: &impl AllocGlobal) -> Result<Bay<RamMedium>, NoMemory> {
     let mut shelf = Vec::new(rt.alloc());
@@ -56,23 +30,16 @@ fn two_discs(rt: &impl AllocGlobal) -> Result<Bay<RamMedium>, NoMemory> {
 #[test]
 fn a_prevented_eject(rt: HostRuntime) -> Result<(), Fail> {
     let mut bay = two_discs(&rt).ok().ok_or("memory")?;
-    let mut answer = vec![in rt.alloc(); 0; 16384]?;
-    let cdbs = [PREVENT, EJECT, ALLOW, EJECT, LOAD, EJECT, LOAD];
-    let ended = run_all(&rt, &mut bay, &cdbs, answer.as_mut_slice());
-    let ended = ended.ok().ok_or("memory")?;
-    assert_eq!(rt;
-        ended.as_slice(),
-        [
-            GOOD,
-            Outcome::Check(Sense::REMOVAL_PREVENTED),
-            GOOD,
-            GOOD,
-            GOOD,
-            GOOD,
-            Outcome::Check(Sense::NO_MEDIUM),
-        ]
-        .as_slice()
-    );
+    let cases = [
+        ends(PREVENT, GOOD),
+        checked(EJECT, Sense::REMOVAL_PREVENTED),
+        ends(ALLOW, GOOD),
+        ends(EJECT, GOOD),
+        ends(LOAD, GOOD),
+        ends(EJECT, GOOD),
+        checked(LOAD, Sense::NO_MEDIUM),
+    ];
+    play(&rt, &mut Unit::new(), &mut bay, 0, &cases)?;
     Ok(())
 }
 
@@ -88,22 +55,14 @@ fn failing_disc(rt: &impl AllocGlobal) -> Result<Bay<FaultyMedium>, NoMemory> {
 #[test]
 fn a_verify_of_the_disc(rt: HostRuntime) -> Result<(), Fail> {
     let mut bay = failing_disc(&rt).ok().ok_or("memory")?;
-    let mut answer = vec![in rt.alloc(); 0; 16384]?;
-    let cdbs = [VERIFY_SEVEN, VERIFY, VERIFY_SEVEN];
-    let ended = run_all(&rt, &mut bay, &cdbs, answer.as_mut_slice());
-    let ended = ended.ok().ok_or("memory")?;
-    assert_eq!(rt;
-        ended.as_slice(),
-        [
-            Outcome::Check(Sense::READ_FAILED),
-            GOOD,
-            Outcome::Check(Sense::READ_FAILED)
-        ]
-        .as_slice()
-    );
+    let cases = [
+        checked(VERIFY_SEVEN, Sense::READ_FAILED),
+        ends(VERIFY, GOOD),
+        checked(VERIFY_SEVEN, Sense::READ_FAILED),
+    ];
+    play(&rt, &mut Unit::new(), &mut bay, 0, &cases)?;
     Ok(())
 }
-
 /// A bay of one block with discs that count their drops.
 fn counted_discs(
     rt: &impl AllocGlobal,
