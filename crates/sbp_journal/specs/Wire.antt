@@ -53,8 +53,9 @@ pub record Terms : Type 0 where
   -- its responder's last request, and the rcode that was given to it
   pub seen : Transaction → Option (List ℕ)
   pub given : Transaction → ℕ
-  -- the request that is to be answered next
+  -- the request that is to be answered next, and the request that a packet answers
   pub owes : Option Owed
+  pub answers : ℕ → Option ℕ
   -- how often a request was judged by a row after the first two; how often a packet was delivered and ignored neither for its
   -- generation nor as a repeat; how often it was got, or ignored with the cause slot
   pub judged : ℕ → ℕ
@@ -88,6 +89,7 @@ beginning = record {
   seen = λ t. None;
   given = λ t. 0;
   owes = None;
+  answers = λ s. None;
   judged = λ s. 0;
   news = λ s. 0;
   served = λ s. 0;
@@ -141,12 +143,17 @@ abbrev pub gives : Option Transaction → (rcode : ℕ) → Terms → Terms
 gives None rcode t = t
 gives (Some u) rcode t = record t { given = at t.given u rcode }
 
-abbrev pub answers : Option Owed → (ℕ → Option Sending) → Sending → Terms → Terms
-answers None sent packet t = t
-answers (Some owed) sent packet t = record (gives (asked_in (sent owed.serial)) (rcode_of packet.bytes) t) { owes = None }
+abbrev pub pays : Option Owed → (ℕ → Option Sending) → (s : ℕ) → Sending → Terms → Terms
+pays None sent s packet t = t
+pays (Some owed) sent s packet t =
+    record (gives (asked_in (sent owed.serial)) (rcode_of packet.bytes) t) {
+      owes = None;
+      answers = upd t.answers s (Some owed.serial);
+    }
 
 abbrev pub sends : (s : ℕ) → Sending → Terms → Terms
-sends s packet t = answers t.owes t.sent packet (begins (begun_by packet) s packet (puts (begun_by packet) s packet t))
+sends s packet t =
+    pays t.owes t.sent s packet (begins (begun_by packet) s packet (puts (begun_by packet) s packet t))
 
 -- ---- a packet is delivered: a repeat leaves its state as it is
 abbrev pub arrives : ℕ → Terms → Terms
