@@ -3,3 +3,5 @@ pub mod Writing
 pub mod StatusBack
 pub mod QueryBack
 pub mod Front
+pub mod Spelled
+pub mod StatusForth

@@ -1,6 +1,7 @@
--- What ties reading to writing: reading what was written gives the value, whatever stands behind it; and of bytes the front alone is read.
-use Rattle.std.specs.Prelude.{◌≡◌, ℕ, ◌<◌, ◌≤◌, List, ◌++◌, length, take, slice_index_or, Some, Ok}
-use Rattle.std.specs.List.{AllByRecursion}
+-- What ties reading to writing: reading what was written gives the value, whatever stands behind it; a
+-- status block that was read is written as the bytes it was read from; and of bytes the front alone is read.
+use Rattle.std.specs.Prelude.{◌≡◌, ℕ, Bool, ◌<◌, ◌≤◌, List, ◌++◌, length, take, slice_index_or, Some, Ok}
+use Rattle.std.specs.List.{All, AllByRecursion}
 use Rattle.orb_layout.specs.declared.command.CommandOrb.{CommandOrb}
 use Rattle.orb_layout.specs.declared.management.ManagementOrb.{ManagementOrb}
 use Rattle.orb_layout.specs.declared.login.LoginResponse.{LoginResponse}
@@ -25,6 +26,16 @@ LoginReadsBack = (response : LoginResponse) (rest : List ℕ) → IsLoginRespons
 -- A status block has no bytes behind it, and is read by the word whether it is of the kind management.
 abbrev pub StatusReadsBack : Type 0
 StatusReadsBack = (block : StatusBlock) → IsStatusBlock block → read_block (is_management block.kind) (status_bytes block) ≡ Ok block
+
+-- The other way: what is read is a block of a row, of the kind that was asked for, and it is written as
+-- the bytes that it was read from. So each row has bytes of its own, and no bit of a block is free.
+pub record IsSpelled (management : Bool) (bytes : List ℕ) (block : StatusBlock) : Type 0 where
+  pub row : IsStatusBlock block
+  pub asked : is_management block.kind ≡ management
+  pub written : status_bytes block ≡ bytes
+
+abbrev pub StatusWritesBack : Type 0
+StatusWritesBack = (management : Bool) (bytes : List ℕ) (block : StatusBlock) → All (λ byte. byte < 256) bytes → read_block management bytes ≡ Ok block → IsSpelled management bytes block
 
 -- Of a query response the number of logins is read also where it was cut short.
 abbrev pub QueryCountsBack : Type 0

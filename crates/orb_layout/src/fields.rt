@@ -4,7 +4,7 @@ ghost use Rattle.orb_layout.specs.Pointers.{bit, flag, quad_bytes};
 use sbp_base::put_quad;
 
 /// Writes quadlets, one behind the other, over the first bytes. The other bytes stay.
-pub fn put_quads(out: &mut [u8], quads: &[u32])
+pub(crate) fn put_quads(out: &mut [u8], quads: &[u32])
     requires { 4 * length quads.now ≤ length out.old }
     ensures { out.new ≡ quad_bytes quads.now ++ drop (4 * length quads.now) out.old }
 {
@@ -15,7 +15,7 @@ pub fn put_quads(out: &mut [u8], quads: &[u32])
 }
 
 /// A bit of a quadlet as a word: true where it is 1.
-pub fn is_set(quad: u32, place: u32) -> bool
+pub(crate) fn is_set(quad: u32, place: u32) -> bool
     requires { place < 32 }
     ensures { result ≡ flag quad place }
 {
@@ -23,7 +23,7 @@ pub fn is_set(quad: u32, place: u32) -> bool
 }
 
 /// A word as a bit.
-pub fn bit_of(word: bool) -> u32
+pub(crate) fn bit_of(word: bool) -> u32
     ensures value { result ≡ bit word }
     ensures small { result ≤ 1 }
 {
@@ -31,7 +31,7 @@ pub fn bit_of(word: bool) -> u32
 }
 
 /// A number of 16 bits as the low half of a quadlet.
-pub fn half(number: u16) -> u32
+pub(crate) fn half(number: u16) -> u32
     ensures value { result ≡ number }
     ensures small { result < 2 ^ 16 }
 {
@@ -39,7 +39,7 @@ pub fn half(number: u16) -> u32
 }
 
 /// A number of 8 bits as the low byte of a quadlet.
-pub fn byte(number: u8) -> u32
+pub(crate) fn byte(number: u8) -> u32
     ensures value { result ≡ number }
     ensures small { result < 2 ^ 8 }
 {
@@ -47,14 +47,14 @@ pub fn byte(number: u8) -> u32
 }
 
 /// The high half of a number of 64 bits.
-pub fn high_quad(number: u64) -> u32
+pub(crate) fn high_quad(number: u64) -> u32
     ensures { result ≡ number / 2 ^ 32 }
 {
     (number >> 32) as u32
 }
 
 /// The low half of a number of 64 bits.
-pub fn low_quad(number: u64) -> u32
+pub(crate) fn low_quad(number: u64) -> u32
     ensures { result ≡ number % 2 ^ 32 }
 {
     (number & 0xffff_ffff) as u32

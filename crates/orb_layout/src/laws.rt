@@ -1,4 +1,4 @@
-ghost use Rattle.orb_layout.specs.ReadBack.{CommandReadsBack, CommandStandsInFront, PointerStandsInFront, ManagementReadsBack, LoginReadsBack, StatusReadsBack, QueryCountsBack, QueryEntriesReadBack};
+ghost use Rattle.orb_layout.specs.ReadBack.{CommandReadsBack, CommandStandsInFront, PointerStandsInFront, ManagementReadsBack, LoginReadsBack, StatusReadsBack, StatusWritesBack, QueryCountsBack, QueryEntriesReadBack};
 
 /// Reading the command ORB that was written gives it back.
 #[tactic(auto, using(crate::proofs::Back::command_back))]
@@ -22,6 +22,11 @@ pub fn login_response_reads_back()
 #[tactic(auto, using(crate::proofs::StatusBack::status_back))]
 pub fn status_block_reads_back()
     ensures { StatusReadsBack }
+{}
+
+/// A status block that was read is one of a row, and is written as the bytes that it was read from.
+pub fn status_block_writes_back()
+    ensures { StatusWritesBack }
 {}
 
 /// Of the query response that was written the number of logins is read, also where it was cut

@@ -19,12 +19,10 @@ pub use fault::OrbFault;
 pub use laws::{
     command_orb_reads_back, command_orb_stands_in_front, login_response_reads_back,
     management_orb_reads_back, query_response_reads_back, status_block_reads_back,
+    status_block_writes_back,
 };
 pub use login::LoginResponse;
 pub use management::ManagementOrb;
 pub use pointer::OrbPointer;
 pub use query::{QueryEntry, QueryResponse};
 pub use status::{StatusBlock, StatusKind, read_status};
-
-#[cfg(test)]
-mod tests;

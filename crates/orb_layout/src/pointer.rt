@@ -13,7 +13,7 @@ pub enum OrbPointer {
 
 /// The 48 bits of an address in two quadlets: bits 47 to 32 are the low half of the first, and the
 /// second is bits 31 to 0. The other half of the first quadlet is not looked at.
-pub fn offset(bytes: &[u8], at: usize) -> Offset
+pub(crate) fn offset(bytes: &[u8], at: usize) -> Offset
     requires { at + 8 ≤ length bytes.now }
     ensures { result ≡ offset_at bytes.now at }
 {
@@ -27,7 +27,7 @@ pub fn offset(bytes: &[u8], at: usize) -> Offset
 }
 
 /// Bits 47 to 32 of an address.
-pub fn high_half(offset: Offset) -> u32
+pub(crate) fn high_half(offset: Offset) -> u32
     ensures half { result ≡ offset / 2 ^ 32 }
     ensures small { result < 2 ^ 16 }
 {
@@ -35,7 +35,7 @@ pub fn high_half(offset: Offset) -> u32
 }
 
 /// Bits 31 to 0 of an address.
-pub fn low_half(offset: Offset) -> u32
+pub(crate) fn low_half(offset: Offset) -> u32
     ensures half { result ≡ offset % 2 ^ 32 }
 {
     (offset.value() & 0xffff_ffff) as u32
