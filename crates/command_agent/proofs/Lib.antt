@@ -1,4 +1,3 @@
 pub mod Limits
 pub mod Fits
 pub mod Losing
-pub mod Lists

@@ -1,8 +1,8 @@
 -- A failed transaction runs no command.
-use Rattle.std.proofs.Common.{◌≡◌, refl, ap, ◌∙◌, ℕ, Bool, true, false, cond, Some, None}
+use Rattle.std.proofs.Common.{◌≡◌, refl, ap, ◌∙◌, ℕ, Bool, true, false, cond, List, Option, Some, None, Result}
 use Rattle.orb_layout.specs.declared.ask.FailCause.{FailCause}
 use Rattle.orb_layout.specs.declared.ask.FailCause.TheVariants as causes
-use Rattle.orb_layout.specs.Replies.{Answer, Payload, Done, Refused, Expired, NoLabel}
+use Rattle.orb_layout.specs.Replies.{Answer, payload_of, Payload, Done, Refused, Expired, NoLabel}
 use Rattle.rbc_disk.specs.Units.{PlainDisk}
 use Rattle.rbc_disk.specs.Runs.{Told}
 use Rattle.command_agent.specs.declared.phase.Phase.{Phase}
@@ -10,8 +10,8 @@ use Rattle.command_agent.specs.declared.phase.Phase.TheVariants as phases
 use Rattle.command_agent.specs.declared.step.AgentStep.{AgentStep}
 use Rattle.command_agent.specs.declared.step.Which.TheVariants.{Main, Ahead}
 use Rattle.command_agent.specs.Machine.{Machine, is_ahead, is_under_way}
-use Rattle.command_agent.specs.Steps.{quiet, told_or, served, advanced, main_lost, ahead_lost, reply_step, lost_step}
-use Rattle.command_agent.specs.Lost.{LostLaw, LossesRunNothing, TwoLossesEndIt}
+use Rattle.command_agent.specs.Steps.{quiet, told_or, served, next_read, advanced, main_lost, ahead_lost, reply_step, lost_step}
+use Rattle.command_agent.specs.Lost.{LostLaw, LossesRunNothing, TwoLossesEndIt, RereadsEndNothing}
 
 abbrev replied_main : Phase → Machine → ℕ → PlainDisk → Told → Answer → AgentStep × Machine
 replied_main phase m place plain told answer = served place plain told (advanced phase m answer).0 (advanced phase m answer).1
@@ -66,3 +66,9 @@ ended_main _ m first second = refl
 pub two_losses : TwoLossesEndIt
 unfolding lost_step
 two_losses m first second = ended_main m.phase m first second
+
+-- a failing read of a next pointer
+pub rereads_end_nothing : RereadsEndNothing
+unfolding reply_step
+rereads_end_nothing m place plain told answer cause e =
+    ap (λ (r : Result (List ℕ) FailCause). (served place plain (told_or told) (next_read (record m { phase = phases.ReadingNext }) r).0 (next_read (record m { phase = phases.ReadingNext }) r).1).0) e

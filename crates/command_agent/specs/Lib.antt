@@ -3,5 +3,3 @@ pub mod Checks
 pub mod Steps
 pub mod Runs
 pub mod Lost
-pub mod Calls
-pub mod Wire

@@ -11,12 +11,6 @@ mod room;
 mod step;
 
 pub use agent::Agent;
-pub use laws::{
-    calls_are_lawful, calls_ask_and_end, calls_keep_order, calls_keep_state,
-    failed_reply_is_a_loss, failing_reread_ends_nothing,
-};
+pub use laws::{failed_reply_is_a_loss, failing_reread_ends_nothing};
 pub use phase::{Phase, ReadAhead};
 pub use step::{AgentState, AgentStep, PointRefusal, Which};
-
-#[cfg(test)]
-mod tests;

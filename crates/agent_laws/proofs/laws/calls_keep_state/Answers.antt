@@ -1,6 +1,6 @@
 -- What state an agent is in behind its calls.
-use Rattle.command_agent.proofs.Lists.{under_way, suspended_at_end, mark_kept}
-use Rattle.command_agent.proofs.laws.calls_keep_state.Goals as goal
+use Rattle.agent_laws.proofs.Lists.{under_way, suspended_at_end, mark_kept}
+use Rattle.agent_laws.proofs.laws.calls_keep_state.Goals as goal
 
 pub returns-clause-under_way : goal.returns-clause-under_way
 returns-clause-under_way c = under_way

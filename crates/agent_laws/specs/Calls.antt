@@ -254,9 +254,3 @@ CallsAreLawful = (calls : List Call) → Lawful (notes calls)
 
 abbrev pub CallsKeepOrder : Type 0
 CallsKeepOrder = (calls : List Call) → InOrder (notes calls)
-
--- A failing read of a next pointer makes the agent dead; no ORB ends, none runs and nothing is written.
-abbrev pub RereadsEndNothing : Type 0
-RereadsEndNothing = (m : Machine) (place : ℕ) (plain : PlainDisk) (told : Option Told) (answer : Answer) (cause : FailCause) →
-    payload_of answer 8 ≡ Err cause →
-    (reply_step (record m { phase = phases.ReadingNext }) place plain told Main answer).0 ≡ record quiet { dead = Some cause }

@@ -1,0 +1,5 @@
+pub mod Known
+pub mod Places
+pub mod Ahead
+pub mod Lists
+pub mod Order

@@ -1,0 +1,6 @@
+pub mod Calls
+pub mod Buffers
+pub mod Answers
+pub mod Transactions
+pub mod Wire
+pub mod Bells
