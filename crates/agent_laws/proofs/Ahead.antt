@@ -14,7 +14,7 @@ use Rattle.command_agent.specs.declared.phase.Phase.TheVariants as phases
 use Rattle.command_agent.specs.declared.step.AgentStep.{AgentStep}
 use Rattle.command_agent.specs.Machine.{Machine, is_ahead, plan_of}
 use Rattle.command_agent.specs.Checks.{verdict, death_by, reads_table}
-use Rattle.command_agent.specs.Steps.{end_step, answer_step, ran_as, run_step, judged, checked, check_step, unread_buffer}
+use Rattle.command_agent.specs.Steps.{end_step, answer_step, ran_as, judged, checked, check_step, unread_buffer}
 
 abbrev pub is_fetching : Phase → Bool
 is_fetching phases.Fetching = true

@@ -1,5 +1,5 @@
 -- The laws over every list of calls: one lemma for each step.
-use Rattle.std.proofs.Common.{◌≡◌, refl, ap, sym, subst, inl, inr, nat_lt, ◌∙◌, ◌⊎◌, ℕ, zero, suc, ◌+◌, ◌-◌, ◌*◌, ◌==◌, ◌≤◌, min, Bool, true, false, cond, List, [], ◌∷◌, ◌++◌, length, take, drop, Option, Some, None, Result, Ok, Err, arith, is_none, IfSome, ◌||◌, ◌&&◌, not, ◌^◌}
+use Rattle.std.proofs.Common.{◌≡◌, refl, ap, sym, subst, inl, inr, nat_lt, ◌∙◌, ℕ, suc, ◌+◌, ◌-◌, ◌*◌, ◌==◌, ◌≤◌, Bool, true, false, cond, List, [], ◌∷◌, ◌++◌, length, take, drop, Option, Some, None, Result, Ok, Err, arith, is_none, IfSome, ◌||◌, ◌&&◌, not, ◌^◌}
 use Rattle.std.proofs.lemmas.Bool.Decides.{nat_tests}
 use Rattle.std.proofs.lemmas.List.{length-take-le}
 use Rattle.std.proofs.Math.Seq.{take-add, take-length}
@@ -12,7 +12,7 @@ use Rattle.orb_layout.specs.declared.pointer.OrbPointer.TheVariants.{Null, At}
 use Rattle.orb_layout.specs.declared.status.StatusKind.{StatusKind}
 use Rattle.orb_layout.specs.declared.status.StatusKind.TheVariants as kinds
 use Rattle.orb_layout.specs.declared.ask.Ask.{Ask}
-use Rattle.orb_layout.specs.declared.ask.Ask.TheVariants.{Read, Nothing}
+use Rattle.orb_layout.specs.declared.ask.Ask.TheVariants.{Read}
 use Rattle.orb_layout.specs.StatusBlocks.{status_bytes}
 use Rattle.orb_layout.specs.CommandOrbs.{command_orb}
 use Rattle.orb_layout.specs.Pointers.{pointer_at}
@@ -26,7 +26,7 @@ use Rattle.rbc_disk.specs.declared.command.Need.TheVariants as needs
 use Rattle.rbc_disk.specs.declared.command.Outcome.{Outcome}
 use Rattle.rbc_disk.specs.declared.command.Outcome.TheVariants as outcomes
 use Rattle.rbc_disk.specs.Units.{PlainDisk}
-use Rattle.rbc_disk.specs.Runs.{need_of, Feeds, data_length_of, Told}
+use Rattle.rbc_disk.specs.Runs.{need_of, data_length_of, Told}
 use Rattle.command_agent.specs.declared.phase.Phase.{Phase}
 use Rattle.command_agent.specs.declared.phase.Phase.TheVariants as phases
 use Rattle.command_agent.specs.declared.phase.ReadAhead.{ReadAhead}
@@ -38,15 +38,15 @@ use Rattle.command_agent.specs.declared.step.Which.{Which}
 use Rattle.command_agent.specs.declared.step.Which.TheVariants.{Main, Ahead}
 use Rattle.command_agent.specs.Machine.{Machine, aligned, named, is_sent, is_ahead, plan_of, chunk_of, cut_to}
 use Rattle.command_agent.specs.Checks.{verdict, refusal, death_by, reads_table}
-use Rattle.command_agent.specs.Steps.{quiet, asks, sent, told_or, ahead_read, ahead_step, dead_step, reread_step, end_step, answer_step, with_outcome, ran_as, run_step, judged, judge_step, checked, check_step, ahead_of, served, advanced, orb_read, table_read, elements_read, data_read, data_grown, chunk_written, status_written, next_read, follow_step, turn_step, pointed, point_step, doorbell_step, data_step, src_of, reset_step, abort_step, reply_step, unread_buffer, answer_chunk, turned}
+use Rattle.command_agent.specs.Steps.{quiet, asks, sent, told_or, ahead_read, ahead_step, dead_step, reread_step, end_step, answer_step, with_outcome, ran_as, run_step, judged, judge_step, checked, check_step, ahead_of, advanced, orb_read, table_read, elements_read, data_read, data_grown, chunk_written, status_written, next_read, follow_step, turn_step, pointed, point_step, doorbell_step, data_step, src_of, reset_step, abort_step, reply_step, unread_buffer, answer_chunk, turned}
 use Rattle.command_agent.proofs.Fits.{data_needed, feeds_all, feeds_none}
-use Rattle.agent_laws.specs.Calls.{Call, Point, Doorbell, Reset, Abort, Reply, after_call, after_calls, Note, Pointed, Rung, Cut, Came, Turn, Fetched, Table, Data, Reread, AheadRead, AheadUsed, Ran, Reads, Writes, Promoted, Ended, Died, asked, death_notes, ask_notes, run_notes, promotion_notes, turn_notes, fetch_notes, table_notes, data_notes, reread_notes, status_notes, ahead_notes, main_notes, heard, point_notes, step_notes, noted, notes, is_open, present_in, fetched_in, next_in, CallsAreLawful}
-use Rattle.agent_laws.specs.Buffers.{table_in, data_in, buffer_in, wanted_by, wanted_in, piece, piece_in, plan_for, CallsFeed}
+use Rattle.agent_laws.specs.Calls.{Call, Point, Doorbell, Reset, Abort, Reply, after_call, after_calls, Note, Pointed, Rung, Came, Turn, Fetched, Table, Data, Reread, AheadUsed, Ran, asked, death_notes, ask_notes, run_notes, promotion_notes, turn_notes, fetch_notes, table_notes, data_notes, reread_notes, status_notes, ahead_notes, main_notes, heard, point_notes, step_notes, noted, notes, is_open, present_in, fetched_in, next_in, CallsAreLawful}
+use Rattle.agent_laws.specs.Buffers.{table_in, buffer_in, wanted_by, piece, plan_for, CallsFeed}
 use Rattle.agent_laws.specs.Answers.{outcome_in, answer_in, written_in, to_write, EndsWhole, CallsAnswer}
-use Rattle.agent_laws.specs.Transactions.{main_in, behind_in, UnderWayLaw}
+use Rattle.agent_laws.specs.Transactions.{main_in, UnderWayLaw}
 use Rattle.agent_laws.specs.Wire.{is_dead, EndsBy, TakesPointer, CallsAreWired}
 use Rattle.agent_laws.specs.Bells.{reads_pointer, rung_since, IsAtEnd, SuspendedLaw, MarkLaw}
-use Rattle.agent_laws.proofs.Known.{Laws, Clear, Parts, parts, Seen, seen, Begun, WaitsBy, TablingBy, FillingBy, AnswersBy, OverBy, BegunBy, next_bytes, KeepsBy, Keeps, Steadily, Tied, After, AfterMove, Ready, Fresh, Judgeable, Runnable}
+use Rattle.agent_laws.proofs.Known.{Laws, Clear, Parts, parts, Seen, seen, WaitsBy, TablingBy, FillingBy, AnswersBy, OverBy, BegunBy, KeepsBy, Keeps, Steadily, Tied, After, AfterMove, Ready, Fresh, Judgeable, Runnable}
 use Rattle.agent_laws.proofs.Places.{own_known, table_known, piece_is, fetch_reads, again_reads, table_reads, data_reads, ends_whole}
 use Rattle.agent_laws.proofs.Ahead.{is_fetching, Calm, calm}
 
@@ -131,17 +131,31 @@ answer_after m place plain ns l s k =
     record {
       tied = record {
         laws = (
-          (k.once, l.0), (l.4, l.1), l.2,
-          (record {
-            good = k.good;
-            place = piece_is (fetched_in ns) (buffer_in ns) m.orb m.segments (length (written_in ns)) m.written (length (answer_in ns)) (length m.answer) k.got k.over far (ap length k.same);
-            same = sym (ap (λ (n : ℕ). take (answer_chunk m) (drop n (answer_in ns))) far ∙ ap (λ (xs : List ℕ). take (answer_chunk m) (drop m.written xs)) k.same);
-          }, l.3)
+          (k.once, l.0),
+          (l.4, l.1),
+          l.2,
+          (
+            record {
+              good = k.good;
+              place = piece_is (fetched_in ns) (buffer_in ns) m.orb m.segments (length (written_in ns)) m.written (length (answer_in ns)) (length m.answer) k.got k.over far (ap length k.same);
+              same = sym (ap (λ (n : ℕ). take (answer_chunk m) (drop n (answer_in ns))) far ∙ ap (λ (xs : List ℕ). take (answer_chunk m) (drop m.written xs)) k.same);
+            },
+            l.3,
+          ),
         );
         steady = s;
         main = refl;
         phase = record {
-          still = k.still; alive = k.alive; here = k.here; once = k.once; good = k.good; got = k.got; over = k.over; same = k.same; whole = k.whole; within = k.within;
+          still = k.still;
+          alive = k.alive;
+          here = k.here;
+          once = k.once;
+          good = k.good;
+          got = k.got;
+          over = k.over;
+          same = k.same;
+          whole = k.whole;
+          within = k.within;
           joined = ap (λ (xs : List ℕ). xs ++ bytes) k.joined ∙ sym (take-add m.written (answer_chunk m) m.answer);
         };
       };
@@ -166,7 +180,14 @@ good_after false len m place plain ns e z r =
     let w : WaitsBy (parts m) (seen ns) = r.ready.waits in
     record {
       tied = (answer_after m place plain (run_note m place plain (outcomes.Good len) ∷ ns) (run_laws m place plain (outcomes.Good len) ns r) r.ready.steady (record {
-        still = w.still; alive = w.alive; here = w.here; once = ap suc w.none; good = refl; got = w.got; over = r.over; same = refl;
+        still = w.still;
+        alive = w.alive;
+        here = w.here;
+        once = ap suc w.none;
+        good = refl;
+        got = w.got;
+        over = r.over;
+        same = refl;
         whole = ap (λ (b : Bool). cond b [] m.answer) e;
         within = omega arith;
         joined = sym (ap (λ (n : ℕ). take n m.answer) z);
@@ -192,7 +213,8 @@ data_step_after m wanted place plain ns l s k = record {
     laws = (
       l.0,
       (data_reads ns m.present m.orb m.segments (length m.payload) wanted l.4 k.waits.here k.waits.got k.over (ap length k.waits.joined) (ap wanted_by k.waits.got ∙ sym k.whole), l.1),
-      l.2, l.3
+      l.2,
+      l.3,
     );
     steady = record { next_is = s.next_is; last_is = s.last_is; kept = s.kept; behind_is = s.behind_is; bell = λ o d h. s.bell o d (rung_less (reads_pointer ns) (rung_since ns) h) };
     main = refl;
@@ -310,11 +332,11 @@ elements_after : (fault : Option PageFault) (bytes : List ℕ) (m : Machine) (to
 elements_after (Some fault) bytes m told place plain ns t reads empty r = moved place plain told ns _ (unrun_after m (kinds.Illegal 0xff) (Some causes.Grammar) place plain ns refl r)
 elements_after None bytes m told place plain ns t reads empty r = record {
   tied = (judge_after (record m { segments = elements_of bytes }) told place plain ns
-  (record {
-    ready = record { laws = r.laws; steady = r.steady; waits = r.waits };
-    over = table_known (fetched_in ns) (table_in ns) m.orb bytes r.waits.got reads t;
-    empty = empty;
-  })).tied;
+      (record {
+        ready = record { laws = r.laws; steady = r.steady; waits = r.waits };
+        over = table_known (fetched_in ns) (table_in ns) m.orb bytes r.waits.got reads t;
+        empty = empty;
+      })).tied;
 }
 
 aborted_after : (m : Machine) (told : Told) (place : ℕ) (plain : PlainDisk) (ns : List Note) → Ready m ns → AfterMove place plain told ns (sent (end_step m kinds.Aborted None))

@@ -1,5 +1,5 @@
 -- Lawful notes are in order.
-use Rattle.std.proofs.Common.{◌≡◌, refl, ap, ◌∙◌, ℕ, List, [], ◌∷◌, Option}
+use Rattle.std.proofs.Common.{refl, ap, ◌∙◌, ℕ, List, [], ◌∷◌, Option}
 use Rattle.agent_laws.specs.Calls.{notes, Note, Pointed, Rung, Cut, Came, Turn, Fetched, Table, Data, Reread, AheadRead, AheadUsed, Ran, Reads, Writes, Promoted, Ended, Died, before_present, Lawful, ended, InOrder, CallsKeepOrder}
 use Rattle.agent_laws.proofs.Lists.{calls_lawful}
 

@@ -1,5 +1,5 @@
 -- What an agent may read, and where the bytes of a buffer are moved.
-use Rattle.std.proofs.Common.{◌≡◌, refl, ap, sym, subst, ◌∙◌, ℕ, ◌*◌, ◌==◌, Bool, true, false, cond, List, [], ◌∷◌, length, Option, Some, None}
+use Rattle.std.proofs.Common.{◌≡◌, refl, ap, sym, ◌∙◌, ℕ, ◌*◌, Bool, true, false, cond, List, [], length, Option, Some, None}
 use Rattle.std.specs.Option.{option_map}
 use Rattle.orb_layout.specs.declared.command.CommandOrb.{CommandOrb}
 use Rattle.orb_layout.specs.declared.status.StatusKind.{StatusKind}
@@ -11,7 +11,7 @@ use Rattle.rbc_disk.specs.declared.command.Outcome.{Outcome}
 use Rattle.command_agent.specs.Checks.{reads_table}
 use Rattle.command_agent.specs.Steps.{unread_buffer}
 use Rattle.agent_laws.specs.Calls.{Note, present_in, fetched_in}
-use Rattle.agent_laws.specs.Buffers.{table_in, data_in, own_buffer, buffer_by, buffer_in, wanted_by, wanted_in, piece, piece_by}
+use Rattle.agent_laws.specs.Buffers.{table_in, data_in, own_buffer, buffer_by, buffer_in, wanted_in, piece, piece_by}
 use Rattle.agent_laws.specs.Answers.{to_write, EndsWhole}
 use Rattle.agent_laws.specs.Transactions.{main_in}
 use Rattle.agent_laws.specs.Wire.{last_in, MainReads}

@@ -23,7 +23,7 @@ use Rattle.command_agent.specs.declared.step.Which.{Which}
 use Rattle.command_agent.specs.declared.step.Which.TheVariants.{Main, Ahead}
 use Rattle.orb_layout.specs.Replies.{Answer, payload_of, write_failure}
 use Rattle.command_agent.specs.Machine.{Machine, new_machine, aligned, named, is_ahead, plan_of, chunk_of}
-use Rattle.command_agent.specs.Steps.{quiet, point_step, doorbell_step, reset_step, abort_step, reply_step}
+use Rattle.command_agent.specs.Steps.{point_step, doorbell_step, reset_step, abort_step, reply_step}
 
 -- a call; a reply with what the unit and its medium hold, and what a run tells where there is one
 pub data Call : Type 0 where

@@ -1,8 +1,8 @@
 -- A failed transaction runs no command.
-use Rattle.std.proofs.Common.{◌≡◌, refl, ap, ◌∙◌, ℕ, Bool, true, false, cond, List, Option, Some, None, Result}
+use Rattle.std.proofs.Common.{◌≡◌, refl, ap, ◌∙◌, ℕ, Bool, true, false, cond, List, Some, None, Result}
 use Rattle.orb_layout.specs.declared.ask.FailCause.{FailCause}
 use Rattle.orb_layout.specs.declared.ask.FailCause.TheVariants as causes
-use Rattle.orb_layout.specs.Replies.{Answer, payload_of, Payload, Done, Refused, Expired, NoLabel}
+use Rattle.orb_layout.specs.Replies.{Answer, Payload, Done, Refused, Expired, NoLabel}
 use Rattle.rbc_disk.specs.Units.{PlainDisk}
 use Rattle.rbc_disk.specs.Runs.{Told}
 use Rattle.command_agent.specs.declared.phase.Phase.{Phase}
