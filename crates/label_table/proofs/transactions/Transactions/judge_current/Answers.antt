@@ -1,6 +1,6 @@
 use Rattle.std.proofs.Common.{arith, ◌∙◌, sym}
 use Rattle.label_table.proofs.Layers.{again_small}
-use Rattle.label_table.proofs.transactions.Transactions.judge.Goals as goal
+use Rattle.label_table.proofs.transactions.Transactions.judge_current.Goals as goal
 
 pub returns-in-Again-clause-lent : goal.returns-in-Again-clause-lent
 returns-in-Again-clause-lent g c =
