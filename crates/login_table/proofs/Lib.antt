@@ -5,3 +5,4 @@ pub mod Kept
 pub mod Listed
 pub mod Holding
 pub mod Laws
+pub mod Units

@@ -1,5 +1,6 @@
 -- What holds of the logins after every list of calls (NCITS 325-1998, access).
-use Rattle.std.specs.Prelude.{◌≡◌, ◌≢◌, ◌↔◌, ℕ, zero, suc, ◌+◌, ◌-◌, ◌<◌, ◌≤◌, true, false, List, [], ◌∷◌, reverse, AllPairs, Contains, Option, Some, None, Result, Ok, Err}
+use Rattle.std.specs.Prelude.{◌≡◌, ◌≢◌, ◌↔◌, ℕ, zero, suc, ◌+◌, ◌-◌, ◌<◌, ◌≤◌, true, false, List, [], ◌∷◌, reverse, AllPairs, Contains, IfSome, Option, Some, None, Result, Ok, Err}
+use Rattle.std.specs.List.{All, AllByRecursion}
 use Rattle.std.specs.Result.{IsErr}
 use Rattle.login_table.specs.declared.login.Login.{Login}
 use Rattle.login_table.specs.Requests.{LoginRequest}
@@ -200,3 +201,17 @@ pub record ListsLogins (table : Table) : Type 0 where
 
 abbrev pub ListLaw : Type 0
 ListLaw = (calls : List Call) → ListsLogins (made_by calls)
+
+-- Every login, live or held, is on a unit below this number.
+abbrev pub UnitsBelow : ℕ → Table → Type 0
+UnitsBelow units table = All (λ place. IfSome place (λ login. login.unit < units)) table.places
+
+-- The call enters no login on a unit from this number on.
+abbrev pub EntersBelow : ℕ → Call → Type 0
+EntersBelow units (enter asked) = asked.unit < units
+EntersBelow units _ = Unit {0}
+
+-- A new table has no units, and a login that is entered alone brings one.
+pub record UnitsLaw : Type 0 where
+  pub begins : (units : ℕ) → UnitsBelow units new_table
+  pub kept : (units : ℕ) (calls : List Call) (table : Table) → AllByRecursion (EntersBelow units) calls → UnitsBelow units table → UnitsBelow units (all_after calls table)

@@ -1,4 +1,4 @@
-ghost use Rattle.login_table.specs.Laws.{ExclusiveLaw, ExpiryLaw, HeldLaw, ListLaw, LiveLaw, NextIdLaw, NumberedLaw, OneByEuiLaw, OneByIdLaw, OneByNodeLaw, SecondsLaw, TickLaw, TurnLaw};
+ghost use Rattle.login_table.specs.Laws.{ExclusiveLaw, ExpiryLaw, HeldLaw, ListLaw, LiveLaw, NextIdLaw, NumberedLaw, OneByEuiLaw, OneByIdLaw, OneByNodeLaw, SecondsLaw, TickLaw, TurnLaw, UnitsLaw};
 
 /// The law that after every list of calls an EUI-64 has at most one login on a unit, live or held.
 pub fn one_by_eui()
@@ -69,4 +69,10 @@ pub fn lists_of_logins()
 /// The law that calls in their order make the table that they make with the latest first.
 pub fn calls_in_turn()
     ensures { TurnLaw }
+{}
+
+/// The law that the units of the logins stay below a number as long as those of the logins that are
+/// entered do.
+pub fn units_stay_below()
+    ensures { UnitsLaw }
 {}
