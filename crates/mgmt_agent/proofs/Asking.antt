@@ -12,7 +12,8 @@ use Rattle.mgmt_agent.specs.declared.operation.Operation.{Operation}
 use Rattle.mgmt_agent.specs.declared.operation.Phase.{Phase}
 use Rattle.mgmt_agent.specs.declared.operation.Phase.TheVariants as phases
 use Rattle.mgmt_agent.specs.Decisions.{decide, reads_eui}
-use Rattle.mgmt_agent.specs.Machine.{Machine, Answer, Asks, source_in, start_step, start_with, reply_step, reply_in, decide_step, decided_as, respond_step, status_step, status_block, cut_response, quiet, in_phase, beside, eui_step, high_eui_at, orb_got, high_got, low_got, payload_of, failure_of, response_written, status_written}
+use Rattle.orb_layout.specs.Replies.{Answer, payload_of, write_failure}
+use Rattle.mgmt_agent.specs.Machine.{Machine, Asks, source_in, start_step, start_with, reply_step, reply_in, decide_step, decided_as, respond_step, status_step, status_block, cut_response, quiet, in_phase, beside, eui_step, high_eui_at, orb_got, high_got, low_got, response_written, status_written}
 use Rattle.mgmt_agent.specs.Effects.{AsksLaw}
 
 abbrev AsksPair : ManagerStep × Machine → Type 0
@@ -66,11 +67,11 @@ status_asks None m = refl
 status_asks (Some cause) m = refl
 
 phase_asks : (phase : Phase) (m : Machine) (operation : Operation) (table : Table) (keys : List (List ℕ)) (answer : Answer) → AsksStep (reply_in phase m operation table keys answer)
-phase_asks phases.Orb m operation table keys answer = orb_asks (payload_of 32 answer) m operation table keys
-phase_asks (phases.HighEui orb) m operation table keys answer = high_asks (payload_of 4 answer) m operation orb
-phase_asks (phases.LowEui orb high) m operation table keys answer = low_asks (payload_of 4 answer) m operation orb high table keys
-phase_asks (phases.Response fifo) m operation table keys answer = response_asks (failure_of answer) m operation fifo
-phase_asks phases.Status m operation table keys answer = status_asks (failure_of answer) m
+phase_asks phases.Orb m operation table keys answer = orb_asks (payload_of answer 32) m operation table keys
+phase_asks (phases.HighEui orb) m operation table keys answer = high_asks (payload_of answer 4) m operation orb
+phase_asks (phases.LowEui orb high) m operation table keys answer = low_asks (payload_of answer 4) m operation orb high table keys
+phase_asks (phases.Response fifo) m operation table keys answer = response_asks (write_failure answer) m operation fifo
+phase_asks phases.Status m operation table keys answer = status_asks (write_failure answer) m
 
 reply_asks : (o : Option Operation) (outgoing : List ℕ) (table : Table) (keys : List (List ℕ)) (answer : Answer) → IsSome (source_in o) → AsksStep (reply_step (record { operation = o; outgoing = outgoing }) table keys answer)
 unfolding reply_step

@@ -18,7 +18,8 @@ use Rattle.mgmt_agent.specs.declared.operation.Phase.{Phase}
 use Rattle.mgmt_agent.specs.declared.operation.Phase.TheVariants as phases
 use Rattle.mgmt_agent.specs.Statuses.{number_of}
 use Rattle.mgmt_agent.specs.Decisions.{decide, reads_eui}
-use Rattle.mgmt_agent.specs.Machine.{Machine, Answer, Payload, Done, Refused, Expired, NoLabel, start_step, reply_step, reply_in, decide_step, decided_as, cut_response, status_block, orb_read, high_eui_at, low_eui_at, payload_of, orb_got, high_got, low_got, beside, failure_of, response_written, status_written}
+use Rattle.orb_layout.specs.Replies.{Answer, Payload, Done, Refused, Expired, NoLabel, payload_of, write_failure}
+use Rattle.mgmt_agent.specs.Machine.{Machine, start_step, reply_step, reply_in, decide_step, decided_as, cut_response, status_block, orb_read, high_eui_at, low_eui_at, orb_got, high_got, low_got, beside, response_written, status_written}
 use Rattle.mgmt_agent.specs.Laws.{Call, start, reply, clear, Note, reads, writes, got, decided, request, no_request, a_read, a_write, is_asked, Request, failed, note_step, note_reply, note_ask, note_decided, note_answer, note_start, after, noted, manager_after, notes_of, under_way, source_of, address_of, gots, decisions, written, orb_in, eui_in, outcome_on, outcome_of, response_after, reads_for, reads_known, read_at, write_at, writes_for, Lawful, OperationLaw}
 use Rattle.mgmt_agent.proofs.Outcomes.{decide_fit, cut_speaks}
 
@@ -260,13 +261,13 @@ own_size : (size : ℕ) (bytes : List ℕ) (notes : List Note) → request notes
 own_size size bytes notes q e = q ∙ ap a_read (let s : size ≡ length bytes = grind (arith, nat_tests) in s)
 
 orb_sized : (b : Bool) (m : Machine) (operation : Operation) (table : Table) (keys : List (List ℕ)) (bytes : List ℕ) (notes : List Note) → (length bytes == 32) ≡ b → request notes ≡ a_read 32 → Tied operation notes → Reading [] notes → Lawful notes
-    → KeptReply (orb_got (payload_of 32 (Payload bytes)) m operation table keys) table keys (Payload bytes) notes
+    → KeptReply (orb_got (payload_of (Payload bytes) 32) m operation table keys) table keys (Payload bytes) notes
 orb_sized true m operation table keys bytes notes e q t r l =
     rw e (taken (orb_read m operation (management_orb bytes) table keys) table keys bytes notes (orb_goes_on m operation (management_orb bytes) table keys) (orb_by _ m operation table keys bytes notes refl (own_size 32 bytes notes q e) t r l))
 orb_sized false m operation table keys bytes notes e q t r l = rw e (fail_kept causes.Grammar notes t.under (ap is_asked q) l)
 
 orb_kept : (answer : Answer) (m : Machine) (operation : Operation) (table : Table) (keys : List (List ℕ)) (notes : List Note) → request notes ≡ a_read 32 → Tied operation notes → Reading [] notes → Lawful notes
-    → KeptReply (orb_got (payload_of 32 answer) m operation table keys) table keys answer notes
+    → KeptReply (orb_got (payload_of answer 32) m operation table keys) table keys answer notes
 orb_kept (Payload bytes) m operation table keys notes q t r l = orb_sized _ m operation table keys bytes notes refl q t r l
 orb_kept Done m operation table keys notes q t r l = fail_kept causes.Grammar notes t.under (ap is_asked q) l
 orb_kept (Refused rcode) m operation table keys notes q t r l = fail_kept causes.Refused notes t.under (ap is_asked q) l
@@ -286,12 +287,12 @@ high_taken m operation orb bytes notes g t r l =
     }
 
 high_sized : (b : Bool) (m : Machine) (operation : Operation) (orb : ManagementOrb) (table : Table) (keys : List (List ℕ)) (bytes : List ℕ) (notes : List Note) → (length bytes == 4) ≡ b → request notes ≡ a_read 4 → Tied operation notes → High orb notes → Lawful notes
-    → KeptReply (beside table (high_got (payload_of 4 (Payload bytes)) m operation orb)) table keys (Payload bytes) notes
+    → KeptReply (beside table (high_got (payload_of (Payload bytes) 4) m operation orb)) table keys (Payload bytes) notes
 high_sized true m operation orb table keys bytes notes e q t r l = rw e (high_taken m operation orb bytes notes (own_size 4 bytes notes q e) t r l)
 high_sized false m operation orb table keys bytes notes e q t r l = rw e (fail_kept causes.Grammar notes t.under (ap is_asked q) l)
 
 high_kept : (answer : Answer) (m : Machine) (operation : Operation) (orb : ManagementOrb) (table : Table) (keys : List (List ℕ)) (notes : List Note) → request notes ≡ a_read 4 → Tied operation notes → High orb notes → Lawful notes
-    → KeptReply (beside table (high_got (payload_of 4 answer) m operation orb)) table keys answer notes
+    → KeptReply (beside table (high_got (payload_of answer 4) m operation orb)) table keys answer notes
 high_kept (Payload bytes) m operation orb table keys notes q t r l = high_sized _ m operation orb table keys bytes notes refl q t r l
 high_kept Done m operation orb table keys notes q t r l = fail_kept causes.Grammar notes t.under (ap is_asked q) l
 high_kept (Refused rcode) m operation orb table keys notes q t r l = fail_kept causes.Refused notes t.under (ap is_asked q) l
@@ -311,13 +312,13 @@ low_taken m operation orb high table keys bytes notes g t r l =
     (record { source = t.source; address = t.address; orb_is = orb_is; eui_is = eui_is })
 
 low_sized : (b : Bool) (m : Machine) (operation : Operation) (orb : ManagementOrb) (high : ℕ) (table : Table) (keys : List (List ℕ)) (bytes : List ℕ) (notes : List Note) → (length bytes == 4) ≡ b → request notes ≡ a_read 4 → Tied operation notes → Low orb high notes → Lawful notes
-    → KeptReply (low_got (payload_of 4 (Payload bytes)) m operation orb high table keys) table keys (Payload bytes) notes
+    → KeptReply (low_got (payload_of (Payload bytes) 4) m operation orb high table keys) table keys (Payload bytes) notes
 low_sized true m operation orb high table keys bytes notes e q t r l =
     rw e (taken (decide_step m operation orb (high * 2 ^ 32 + quad bytes 0) table keys) table keys bytes notes (decide_goes_on m operation orb (high * 2 ^ 32 + quad bytes 0) table keys) (low_taken m operation orb high table keys bytes notes (own_size 4 bytes notes q e) t r l))
 low_sized false m operation orb high table keys bytes notes e q t r l = rw e (fail_kept causes.Grammar notes t.under (ap is_asked q) l)
 
 low_kept : (answer : Answer) (m : Machine) (operation : Operation) (orb : ManagementOrb) (high : ℕ) (table : Table) (keys : List (List ℕ)) (notes : List Note) → request notes ≡ a_read 4 → Tied operation notes → Low orb high notes → Lawful notes
-    → KeptReply (low_got (payload_of 4 answer) m operation orb high table keys) table keys answer notes
+    → KeptReply (low_got (payload_of answer 4) m operation orb high table keys) table keys answer notes
 low_kept (Payload bytes) m operation orb high table keys notes q t r l = low_sized _ m operation orb high table keys bytes notes refl q t r l
 low_kept Done m operation orb high table keys notes q t r l = fail_kept causes.Grammar notes t.under (ap is_asked q) l
 low_kept (Refused rcode) m operation orb high table keys notes q t r l = fail_kept causes.Refused notes t.under (ap is_asked q) l
@@ -334,7 +335,7 @@ status_next operation fifo notes none t r =
 
 -- A payload for a write is grammar, and no payload that was asked for.
 response_kept : (answer : Answer) (m : Machine) (operation : Operation) (fifo : ℕ) (table : Table) (keys : List (List ℕ)) (notes : List Note) → request notes ≡ a_write → Tied operation notes → Responding fifo notes → Lawful notes
-    → KeptReply (beside table (response_written (failure_of answer) m operation fifo)) table keys answer notes
+    → KeptReply (beside table (response_written (write_failure answer) m operation fifo)) table keys answer notes
 response_kept (Payload bytes) m operation fifo table keys notes q t r l = fail_kept causes.Grammar notes t.under (ap is_asked q) l
 response_kept (Refused rcode) m operation fifo table keys notes q t r l = fail_kept causes.Refused notes t.under (ap is_asked q) l
 response_kept Expired m operation fifo table keys notes q t r l = fail_kept causes.Timeout notes t.under (ap is_asked q) l
@@ -345,7 +346,7 @@ response_kept Done m operation fifo table keys notes q t r l = record {
 }
 
 status_kept : (answer : Answer) (m : Machine) (operation : Operation) (table : Table) (keys : List (List ℕ)) (notes : List Note) → request notes ≡ a_write → Tied operation notes → Ending notes → Lawful notes
-    → KeptReply (beside table (status_written (failure_of answer) m)) table keys answer notes
+    → KeptReply (beside table (status_written (write_failure answer) m)) table keys answer notes
 status_kept (Payload bytes) m operation table keys notes q t r l = fail_kept causes.Grammar notes t.under (ap is_asked q) l
 status_kept (Refused rcode) m operation table keys notes q t r l = fail_kept causes.Refused notes t.under (ap is_asked q) l
 status_kept Expired m operation table keys notes q t r l = fail_kept causes.Timeout notes t.under (ap is_asked q) l

@@ -1,11 +1,12 @@
 -- What a decision does beside its status, and what it makes of the logins (NCITS 325-1998, management
 -- functions).
 use Rattle.std.specs.Prelude.{◌≡◌, ◌≢◌, ℕ, ◌%◌, ◌^◌, ◌<◌, ◌≤◌, ◌==◌, ◌&&◌, not, true, if◌then◌else◌, List, [], ◌∷◌, length, IfOk, IsSome, Option, Some, None}
+use Rattle.std.specs.List.{AllByRecursion}
 use Rattle.orb_layout.specs.declared.management.ManagementOrb.{ManagementOrb}
 use Rattle.login_table.specs.declared.login.Login.{Login}
 use Rattle.login_table.specs.Table.{Table, place_at, is_live, entered}
 use Rattle.login_table.specs.Sound.{IsTable}
-use Rattle.login_table.specs.Laws.{Call, enter, back, leave, all_after, Stands}
+use Rattle.login_table.specs.Laws.{Call, enter, back, leave, all_after, Stands, EntersBelow, UnitsBelow}
 use Rattle.mgmt_agent.specs.declared.function.Function.{Function}
 use Rattle.mgmt_agent.specs.declared.function.Function.TheVariants as functions
 use Rattle.mgmt_agent.specs.declared.status.Status.TheVariants as statuses
@@ -15,7 +16,8 @@ use Rattle.mgmt_agent.specs.declared.decision.Outcome.{Outcome}
 use Rattle.mgmt_agent.specs.declared.decision.Response.TheVariants as responses
 use Rattle.mgmt_agent.specs.Statuses.{function_of}
 use Rattle.mgmt_agent.specs.Decisions.{agent_base, asked_by, decide, granted_hold, key_at, lacks_key, unit_exists}
-use Rattle.mgmt_agent.specs.Machine.{Machine, Answer, Asks, source_in, start_step, reply_step}
+use Rattle.orb_layout.specs.Replies.{Answer}
+use Rattle.mgmt_agent.specs.Machine.{Machine, Asks, source_in, start_step, reply_step}
 
 -- the call of the table of logins that a function makes
 abbrev pub call_of : Option Function → ManagementOrb → ℕ → ℕ → List (List ℕ) → List Call
@@ -33,15 +35,17 @@ abbrev pub CallLaw : Type 0
 CallLaw =
     (orb : ManagementOrb) (source eui : ℕ) (table : Table) (keys : List (List ℕ)) → (decide orb source eui table keys).1 ≡ all_after (calls_on orb source eui keys) table
 
--- what a reply makes of the logins: one call of their table at most
-pub record RepliesCall (before left : Table) : Type 0 where
+-- what a reply makes of the logins: one call of their table at most, which enters a login only on a unit
+-- below this number
+pub record RepliesCall (units : ℕ) (before left : Table) : Type 0 where
   pub calls : List Call
   pub one : length calls ≤ 1
+  pub on_units : AllByRecursion (EntersBelow units) calls
   pub made : all_after calls before ≡ left
 
 abbrev pub RepliesLaw : Type 0
 RepliesLaw =
-    (m : Machine) (table : Table) (keys : List (List ℕ)) (answer : Answer) → RepliesCall table (reply_step m table keys answer).1.1
+    (m : Machine) (table : Table) (keys : List (List ℕ)) (answer : Answer) → RepliesCall (length keys) table (reply_step m table keys answer).1.1
 
 -- A request is asked for exactly while an operation is under way: it is what the phase waits for.
 pub record AsksLaw : Type 0 where
@@ -121,3 +125,14 @@ PlaceBelow _ = Unit {0}
 abbrev pub PlaceLaw : Type 0
 PlaceLaw =
     (m : Machine) (table : Table) (keys : List (List ℕ)) (answer : Answer) → IsTable table → PlaceBelow (reply_step m table keys answer).0.effect
+
+-- the unit that an effect names is below this number
+abbrev pub UnitBelow : ℕ → Effect → Type 0
+UnitBelow units (effects.UnitReset unit) = unit < units
+UnitBelow units _ = Unit {0}
+
+-- Where the logins are on units that have a key, a reply leaves them so, and the unit that an effect names
+-- has a key.
+pub record UnitLaw : Type 0 where
+  pub kept : (m : Machine) (table : Table) (keys : List (List ℕ)) (answer : Answer) → UnitsBelow (length keys) table → UnitsBelow (length keys) (reply_step m table keys answer).1.1
+  pub named : (m : Machine) (table : Table) (keys : List (List ℕ)) (answer : Answer) → IsTable table → UnitsBelow (length keys) table → UnitBelow (length keys) (reply_step m table keys answer).0.effect

@@ -15,7 +15,8 @@ use Rattle.mgmt_agent.specs.declared.decision.ManagerStep.{ManagerStep}
 use Rattle.mgmt_agent.specs.declared.operation.Busy.{Busy}
 use Rattle.mgmt_agent.specs.declared.operation.Operation.{Operation}
 use Rattle.mgmt_agent.specs.Decisions.{decide, reads_eui, told}
-use Rattle.mgmt_agent.specs.Machine.{Machine, Answer, Payload, Done, new_machine, start_step, reply_step, clear_step, cut_response, status_block, high_eui_at, low_eui_at}
+use Rattle.orb_layout.specs.Replies.{Answer, Payload, Done}
+use Rattle.mgmt_agent.specs.Machine.{Machine, new_machine, start_step, reply_step, clear_step, cut_response, status_block, high_eui_at, low_eui_at}
 
 -- a call, with the logins and the keys that a reply is taken beside
 pub data Call : Type 0 where

@@ -1,16 +1,13 @@
 -- The management agent, one request after the other (NCITS 325-1998, management agent).
 use Rattle.std.specs.Prelude.{◌≡◌, ℕ, ◌+◌, ◌*◌, ◌^◌, ◌==◌, if◌then◌else◌, List, [], length, take, Option, Some, None, Result, Ok, Err}
-use Rattle.std.specs.Borrow.{Bor}
 use Rattle.sbp_base.specs.Quadlets.{quad}
 use Rattle.orb_layout.specs.declared.management.ManagementOrb.{ManagementOrb}
 use Rattle.orb_layout.specs.declared.status.StatusKind.TheVariants as kinds
 use Rattle.orb_layout.specs.declared.ask.Ask.{Ask}
 use Rattle.orb_layout.specs.declared.ask.Ask.TheVariants as asks
-use Rattle.orb_layout.specs.declared.ask.Reply.{Reply}
-use Rattle.orb_layout.specs.declared.ask.Reply.TheVariants as replies
 use Rattle.orb_layout.specs.declared.ask.FailCause.{FailCause}
-use Rattle.orb_layout.specs.declared.ask.FailCause.TheVariants as causes
 use Rattle.orb_layout.specs.ManagementOrbs.{management_orb}
+use Rattle.orb_layout.specs.Replies.{Answer, payload_of, write_failure}
 use Rattle.orb_layout.specs.StatusBlocks.{status_bytes}
 use Rattle.login_table.specs.Table.{Table}
 use Rattle.mgmt_agent.specs.declared.status.Status.{Status}
@@ -32,21 +29,6 @@ pub record Machine : Type 0 where
 
 abbrev pub new_machine : Machine
 new_machine = record { operation = None; outgoing = [] }
-
--- what came of a request
-pub data Answer : Type 0 where
-  Payload : List ℕ → Answer
-  Done : Answer
-  Refused : ℕ → Answer
-  Expired : Answer
-  NoLabel : Answer
-
-abbrev pub answer_of : Reply → Answer
-answer_of (replies.Payload bytes) = Payload bytes.now
-answer_of replies.Done = Done
-answer_of (replies.Refused rcode) = Refused rcode
-answer_of replies.Expired = Expired
-answer_of replies.NoLabel = NoLabel
 
 -- the node whose operation is under way
 abbrev pub source_in : Option Operation → Option ℕ
@@ -100,27 +82,6 @@ end_step m = (quiet asks.Nothing, record m { operation = None })
 
 abbrev pub fail_step : Machine → FailCause → ManagerStep × Machine
 fail_step m cause = (failing cause, record m { operation = None })
-
--- why a write failed
-abbrev pub failure_of : Answer → Option FailCause
-failure_of (Payload bytes) = Some causes.Grammar
-failure_of Done = None
-failure_of (Refused rcode) = Some causes.Refused
-failure_of Expired = Some causes.Timeout
-failure_of NoLabel = Some causes.Label
-
--- the payload of a read of so many bytes
-abbrev pub payload_of : ℕ → Answer → Result (List ℕ) FailCause
-payload_of size (Payload bytes) = if length bytes == size then Ok bytes else Err causes.Grammar
-payload_of size Done = Err causes.Grammar
-payload_of size (Refused rcode) = Err causes.Refused
-payload_of size Expired = Err causes.Timeout
-payload_of size NoLabel = Err causes.Label
-
--- a payload that is lent, as its bytes
-abbrev pub lent_bytes : Result (Bor (List ℕ)) FailCause → Result (List ℕ) FailCause
-lent_bytes (Ok lent) = Ok lent.now
-lent_bytes (Err cause) = Err cause
 
 -- the status block of a management ORB
 abbrev pub status_block : ℕ → Status → List ℕ
@@ -193,11 +154,11 @@ status_written None m = end_step m
 status_written (Some cause) m = fail_step m cause
 
 abbrev pub reply_in : Phase → Machine → Operation → Table → List (List ℕ) → Answer → ManagerStep × (Machine × Table)
-reply_in phases.Orb m operation table keys answer = orb_got (payload_of 32 answer) m operation table keys
-reply_in (phases.HighEui orb) m operation table keys answer = beside table (high_got (payload_of 4 answer) m operation orb)
-reply_in (phases.LowEui orb high) m operation table keys answer = low_got (payload_of 4 answer) m operation orb high table keys
-reply_in (phases.Response fifo) m operation table keys answer = beside table (response_written (failure_of answer) m operation fifo)
-reply_in phases.Status m operation table keys answer = beside table (status_written (failure_of answer) m)
+reply_in phases.Orb m operation table keys answer = orb_got (payload_of answer 32) m operation table keys
+reply_in (phases.HighEui orb) m operation table keys answer = beside table (high_got (payload_of answer 4) m operation orb)
+reply_in (phases.LowEui orb high) m operation table keys answer = low_got (payload_of answer 4) m operation orb high table keys
+reply_in (phases.Response fifo) m operation table keys answer = beside table (response_written (write_failure answer) m operation fifo)
+reply_in phases.Status m operation table keys answer = beside table (status_written (write_failure answer) m)
 
 abbrev pub reply_to : Option Operation → Machine → Table → List (List ℕ) → Answer → ManagerStep × (Machine × Table)
 reply_to None m table keys answer = beside table (quiet asks.Nothing, m)

@@ -1,6 +1,6 @@
 ghost use Rattle.mgmt_agent.specs.Rows.{DecisionLaw};
 ghost use Rattle.mgmt_agent.specs.Laws.{OperationLaw};
-ghost use Rattle.mgmt_agent.specs.Effects.{AsksLaw, CallLaw, EffectLaw, PlaceLaw, RefusalLaw, RepliesLaw};
+ghost use Rattle.mgmt_agent.specs.Effects.{AsksLaw, CallLaw, EffectLaw, PlaceLaw, RefusalLaw, RepliesLaw, UnitLaw};
 
 /// The law of whole operations: over every list of calls, one operation at a time, each reads its ORB
 /// and, for login and reconnect, the EUI-64 of its source, is decided once on what it read, then writes
@@ -26,8 +26,9 @@ pub fn decisions_call()
     ensures { CallLaw }
 {}
 
-/// The law that a reply leaves the logins as at most one call of their table does, so that what holds of
-/// the table after every list of calls holds of the logins of a manager.
+/// The law that a reply leaves the logins as at most one call of their table does, which enters a login
+/// only on a unit that has a key. So what holds of the table after every list of calls holds of the logins
+/// of a manager.
 pub fn replies_call()
     ensures { RepliesLaw }
 {}
@@ -46,4 +47,10 @@ pub fn refusals_do_nothing()
 /// The law that the place that an effect names is below 8.
 pub fn places_of_effects()
     ensures { PlaceLaw }
+{}
+
+/// The law that a manager enters logins only on units that have a key, and that the unit that an effect
+/// names has one.
+pub fn units_of_effects()
+    ensures { UnitLaw }
 {}

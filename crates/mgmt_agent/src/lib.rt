@@ -16,7 +16,7 @@ pub use decision::{Decision, Effect, ManagerStep, Outcome, Response};
 pub use function::Function;
 pub use law::{
     asks_one_request, decided_by_first_row, decisions_call, effects_of_decisions,
-    places_of_effects, refusals_do_nothing, replies_call, whole_operations,
+    places_of_effects, refusals_do_nothing, replies_call, units_of_effects, whole_operations,
 };
 pub use manager::Manager;
 pub use operation::{Busy, Operation, Phase};

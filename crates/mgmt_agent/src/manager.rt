@@ -1,6 +1,7 @@
 ghost use Rattle.std.specs.Prelude.{◌≡◌, ◌≤◌, ◌<◌, ◌+◌, ◌*◌, ◌^◌, length, Some, None, Ok, Err, IfOk, IsSome, OnErr};
 ghost use Rattle.orb_layout.specs.ManagementOrbs.{management_orb};
-ghost use Rattle.mgmt_agent.specs.Machine.{answer_of, clear_step, decide_step, fail_step, eui_step, high_got, low_got, new_machine, orb_got, failure_of, lent_bytes, payload_of, reply_in, reply_step, response_written, start_step, status_step, status_written, respond_step, source_in};
+ghost use Rattle.orb_layout.specs.Replies.{answer_of, lent};
+ghost use Rattle.mgmt_agent.specs.Machine.{clear_step, decide_step, fail_step, eui_step, high_got, low_got, new_machine, orb_got, reply_in, reply_step, response_written, start_step, status_step, status_written, respond_step, source_in};
 
 use crate::decide::{decide, reads_eui};
 use crate::decision::ManagerStep;
@@ -118,13 +119,13 @@ impl Manager {
     {
         let phase = operation.phase;
         match phase {
-            Phase::Orb => self.orb_got(operation, logins, keys, payload(reply, 32)),
-            Phase::HighEui(orb) => self.high_got(operation, orb, payload(reply, 4)),
+            Phase::Orb => self.orb_got(operation, logins, keys, reply.payload(32)),
+            Phase::HighEui(orb) => self.high_got(operation, orb, reply.payload(4)),
             Phase::LowEui(orb, high) => {
-                self.low_got(operation, orb, high, logins, keys, payload(reply, 4))
+                self.low_got(operation, orb, high, logins, keys, reply.payload(4))
             }
-            Phase::Response(fifo) => self.response_written(operation, fifo, write_failure(reply)),
-            Phase::Status => self.status_written(write_failure(reply)),
+            Phase::Response(fifo) => self.response_written(operation, fifo, reply.write_failure()),
+            Phase::Status => self.status_written(reply.write_failure()),
         }
     }
 
@@ -136,8 +137,8 @@ impl Manager {
         keys: &[[u8; 8]],
         bytes: Result<&[u8], FailCause>,
     ) -> ManagerStep
-        requires { IfOk bytes (λ lent. length lent.now ≡ 32) }
-        ensures { (result, (self.new, logins.new)) ≡ orb_got (lent_bytes bytes.entry) self.old operation logins.old keys.now }
+        requires { IfOk bytes (λ bytes. length bytes.now ≡ 32) }
+        ensures { (result, (self.new, logins.new)) ≡ orb_got (lent bytes.entry) self.old operation logins.old keys.now }
     {
         let bytes = match bytes {
             Err(cause) => return self.fail(cause),
@@ -157,8 +158,8 @@ impl Manager {
         orb: ManagementOrb,
         bytes: Result<&[u8], FailCause>,
     ) -> ManagerStep
-        requires { IfOk bytes (λ lent. length lent.now ≡ 4) }
-        ensures { (result, self.new) ≡ high_got (lent_bytes bytes.entry) self.old operation orb }
+        requires { IfOk bytes (λ bytes. length bytes.now ≡ 4) }
+        ensures { (result, self.new) ≡ high_got (lent bytes.entry) self.old operation orb }
     {
         let bytes = match bytes {
             Err(cause) => return self.fail(cause),
@@ -177,8 +178,8 @@ impl Manager {
         keys: &[[u8; 8]],
         bytes: Result<&[u8], FailCause>,
     ) -> ManagerStep
-        requires { IfOk bytes (λ lent. length lent.now ≡ 4) }
-        ensures { (result, (self.new, logins.new)) ≡ low_got (lent_bytes bytes.entry) self.old operation orb high logins.old keys.now }
+        requires { IfOk bytes (λ bytes. length bytes.now ≡ 4) }
+        ensures { (result, (self.new, logins.new)) ≡ low_got (lent bytes.entry) self.old operation orb high logins.old keys.now }
     {
         let bytes = match bytes {
             Err(cause) => return self.fail(cause),
@@ -295,32 +296,5 @@ fn orb_at(bytes: &[u8]) -> ManagementOrb
     match ManagementOrb::read(bytes) {
         Ok(orb) => orb,
         Err(_) => unreachable!(),
-    }
-}
-
-/// The payload of a read of so many bytes.
-fn payload<'a>(reply: Reply<'a>, size: usize) -> Result<&'a [u8], FailCause>
-    ensures bytes { lent_bytes result ≡ payload_of size (answer_of reply.entry) }
-    ensures size { IfOk result (λ lent. length lent.now ≡ size) }
-{
-    match reply {
-        Reply::Payload(bytes) if bytes.len() == size => Ok(bytes),
-        Reply::Payload(_) | Reply::Done => Err(FailCause::Grammar),
-        Reply::Refused(_) => Err(FailCause::Refused),
-        Reply::Expired => Err(FailCause::Timeout),
-        Reply::NoLabel => Err(FailCause::Label),
-    }
-}
-
-/// Why a write failed.
-fn write_failure(reply: Reply<'_>) -> Option<FailCause>
-    ensures { result ≡ failure_of (answer_of reply.entry) }
-{
-    match reply {
-        Reply::Done => None,
-        Reply::Payload(_) => Some(FailCause::Grammar),
-        Reply::Refused(_) => Some(FailCause::Refused),
-        Reply::Expired => Some(FailCause::Timeout),
-        Reply::NoLabel => Some(FailCause::Label),
     }
 }
