@@ -1,9 +1,9 @@
 -- Bytes that are written quadlet by quadlet.
-use Rattle.std.proofs.Common.{arith, ◌≡◌, refl, sym, ◌∙◌, ap, ℕ, zero, suc, ◌+◌, ◌-◌, ◌*◌, ◌/◌, ◌%◌, ◌^◌, ◌<◌, ◌≤◌, List, [], ◌∷◌, ◌++◌, length, take, drop, get_or, append_assoc, add-zero, length-append, length-take, length-drop}
+use Rattle.std.proofs.Common.{arith, ◌≡◌, refl, sym, ◌∙◌, ap, ℕ, zero, suc, ◌+◌, ◌-◌, ◌*◌, ◌^◌, ◌<◌, ◌≤◌, List, [], ◌∷◌, ◌++◌, length, take, drop, get_or, append_assoc, add-zero, length-append, length-take, length-drop}
 use Rattle.std.proofs.Math.ListN.{set}
 use Rattle.std.proofs.Math.Seq.{drop-append_seam, take-append_seam}
 use Rattle.std.proofs.lemmas.List.{set-get_or, get_or-set_same, get_or-drop, take-append-drop, drop-drop, drop_all, take_all, append-nil}
-use Rattle.byteorder.specs.Endian.{big_bytes, big_number}
+use Rattle.byteorder.specs.Endian.{big_bytes}
 use Rattle.sbp_base.specs.Quadlets.{quad}
 use Rattle.bus_memory.specs.declared.slot.SlotMemory.{SlotMemory}
 use Rattle.bus_memory.specs.declared.window.Window.{Window}
@@ -11,25 +11,8 @@ use Rattle.bus_memory.specs.declared.window.Window.TheVariants as windows
 use Rattle.bus_memory.specs.Windows.{start}
 use Rattle.bus_memory.specs.Memory.{Memory, empty_slot, slot_at, with_slot, with_bytes, patch}
 use Rattle.bus_memory.specs.Laws.{IsWhole}
+use Rattle.orb_layout.proofs.Spelled.{quad_spelled}
 use Rattle.orb_list.specs.Layout.{IsSlotWindow, behind, slot_size, table_bytes}
-
--- Four bytes are the quadlet that they spell.
-pub quad_spelled : (xs : List ℕ) → 4 ≤ length xs → ((k : ℕ) → get_or xs k 0 < 256) → big_bytes 4 (big_number 4 xs) ≡ take 4 xs
-quad_spelled [] h small = absurd (omega arith)
-quad_spelled (a ∷ []) h small = absurd (omega arith)
-quad_spelled (a ∷ b ∷ []) h small = absurd (omega arith)
-quad_spelled (a ∷ b ∷ c ∷ []) h small = absurd (omega arith)
-quad_spelled (a ∷ b ∷ c ∷ d ∷ rest) h small =
-    let p : a < 256 = small 0 in
-    let q : b < 256 = small 1 in
-    let r : c < 256 = small 2 in
-    let s : d < 256 = small 3 in
-    let x = a * 16777216 + (b * 65536 + (c * 256 + (d * 1 + 0))) in
-    let e : x / 16777216 % 256 ≡ a = omega arith in
-    let f : x / 65536 % 256 ≡ b = omega arith in
-    let g : x / 256 % 256 ≡ c = omega arith in
-    let i : x % 256 ≡ d = omega arith in
-    cc
 
 -- Nothing written is no change, and what is written behind other bytes joins them.
 pub patch_none : (old : List ℕ) (n : ℕ) → patch old n [] ≡ old
