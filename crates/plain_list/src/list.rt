@@ -3,6 +3,7 @@ ghost use Rattle.std.specs.List.{AllByRecursion};
 ghost use Rattle.sbp_journal.specs.Run.{with_entry};
 ghost use Rattle.sbp_journal.specs.Run as journal_runs;
 ghost use Rattle.sbp_journal.specs.Form.{HasForm};
+ghost use Rattle.sbp_laws.specs.DiskFold.{NoneFell};
 ghost use Rattle.sbp_journal.specs.Written.{IsTyped};
 ghost use Rattle.sbp_journal.specs.declared.note.Note.TheVariants as notes;
 ghost use Rattle.rbc_disk.specs.Held.{Held, held};
@@ -175,6 +176,7 @@ impl PlainList {
 }
 
 /// Runs a command, with `room` for its answer, and tells its run, its end and its status.
+#[tactic(auto, using(crate::proofs::Counts::count_steps))]
 fn serve_command(
     alloc: Global,
     fresh: &mut Journal,
@@ -187,6 +189,7 @@ fn serve_command(
     requires media { 0 < length media.old.items }
     requires room { length room.old ≡ 16384 }
     ensures count { length media.new.items ≡ length media.old.items }
+    ensures fell { NoneFell (map media_faults media.old.items) (map media_faults media.new.items) }
     ensures served { OnOk result (RunsAndTells cmd.now orb fresh.old fresh.new unit.old unit.new (held (map disk media.old.items) (map media_faults media.old.items)) (held (map disk media.new.items) (map media_faults media.new.items))) }
 {
     let run = run_waiting(unit, media, cmd, room);
@@ -197,10 +200,12 @@ fn serve_command(
 
 impl PlainList {
     /// Runs the first waiting command, and tells its run, its end and its status.
+    #[tactic(auto, using(crate::proofs::Counts::count_steps))]
     fn serve(&mut self, media: &mut Vec<Box<dyn Medium>>) -> Result<(), NoMemory>
         requires waits { 0 < length self.old.waiting }
         requires media { 0 < length media.old.items }
         ensures count { length media.new.items ≡ length media.old.items }
+        ensures fell { NoneFell (map media_faults media.old.items) (map media_faults media.new.items) }
         ensures served { OnOk result (Serves self.old self.new (held (map disk media.old.items) (map media_faults media.old.items)) (held (map disk media.new.items) (map media_faults media.new.items))) }
     {
         let Some(cmd) = self.waiting.pop_front() else {
@@ -227,6 +232,7 @@ impl PlainList {
         requires fresh { self.old.fresh ≡ [] }
         requires media { 0 < length media.old.items }
         ensures count { length media.new.items ≡ length media.old.items }
+        ensures fell { NoneFell (map media_faults media.old.items) (map media_faults media.new.items) }
         ensures served { OnOk result (Settling self.old self.new (held (map disk media.old.items) (map media_faults media.old.items)) (held (map disk media.new.items) (map media_faults media.new.items))) }
         ensures none { OnOk result (self.new.waiting ≡ []) }
     {
@@ -242,6 +248,7 @@ impl PlainList {
         requires fresh { self.old.fresh ≡ [] }
         requires media { 0 < length media.old.items }
         ensures count { length media.new.items ≡ length media.old.items }
+        ensures fell { NoneFell (map media_faults media.old.items) (map media_faults media.new.items) }
         ensures settled { OnOk result (HasSettled self.old self.new (held (map disk media.old.items) (map media_faults media.old.items)) (held (map disk media.new.items) (map media_faults media.new.items))) }
     {
         self.serve_all(media)?;
@@ -250,8 +257,9 @@ impl PlainList {
 }
 
 impl PlainList {
-    /// Runs the event of the line with this number; its notes are then [`PlainList::fresh`].
-    #[tactic(auto, using(crate::proofs::Settling::step_steps))]
+    /// Runs the event of the line with this number; its notes are then [`PlainList::fresh`]. No count of a
+    /// medium falls, also where memory was wanting.
+    #[tactic(auto, using(crate::proofs::Settling::step_steps, crate::proofs::Counts::count_steps))]
     pub fn step(
         &mut self,
         media: &mut Vec<Box<dyn Medium>>,
@@ -262,6 +270,7 @@ impl PlainList {
         requires room { self.old.appended < 65536 }
         requires media { 0 < length media.old.items }
         ensures count { length media.new.items ≡ length media.old.items }
+        ensures fell { NoneFell (map media_faults media.old.items) (map media_faults media.new.items) }
         ensures begun { OnOk result (self.new.begun ≡ true) }
         ensures room { OnOk result (self.new.appended ≤ self.old.appended + 1) }
         ensures form { OnOk result (AllByRecursion HasForm (reverse self.new.fresh)) }

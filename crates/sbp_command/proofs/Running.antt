@@ -1,6 +1,6 @@
 -- A script is run line by line, and ends as its status says.
 use Rattle.std.proofs.Common.{◌≡◌, ◌∙◌, refl, sym, ap, subst, ℕ, ◌+◌, ◌<◌, ◌≤◌, inl, inr, true, List, [], ◌∷◌, ◌++◌, take, length, map, reverse, Some, None, Ok, Err, append_assoc, append-nil, arith}
-use Rattle.std.specs.Prelude.{IfSome}
+use Rattle.std.specs.Prelude.{IfSome, slice_index}
 use Rattle.std.specs.Io.KnownBytes.{Appends}
 use Rattle.std.specs.Str.Lines.{lines}
 use Rattle.std.proofs.Math.Seq.{take-append_seam}
@@ -12,7 +12,7 @@ use Rattle.sbp_journal.specs.Run.{Run, with_entry, empty_run, journal, history, 
 use Rattle.sbp_journal.specs.Text.{text_of, note_text}
 use Rattle.sbp_journal.specs.declared.event.Event.{Event}
 use Rattle.sbp_journal.specs.declared.note.Note.{Note}
-use Rattle.sbp_laws.specs.DiskFold.{DisksAre}
+use Rattle.sbp_laws.specs.DiskFold.{DisksAre, FailuresFit, FailuresWithin, NoneFell}
 use Rattle.sbp_laws.specs.Lawful.{Lawful, AreLawful}
 use Rattle.plain_list.specs.Plain.{PlainState, empty_list, StandsFor}
 use Rattle.line_session.specs.Outside.{Outside}
@@ -25,6 +25,7 @@ use Rattle.line_session.specs.declared.serve.LineError.TheVariants.{Fault, NoMem
 use Rattle.line_session.specs.declared.status.Status.{Status}
 use Rattle.line_session.specs.declared.status.Status.TheVariants as stream_statuses
 use Rattle.plain_list.proofs.Beginning.{stands_at_first}
+use Rattle.plain_list.proofs.Counts.{none_fell_same}
 use Rattle.line_session.proofs.Sessions.{begins, stops}
 use Rattle.sbp_command.specs.Script.{script, says, heard, Hears}
 use Rattle.sbp_command.specs.Runner.{has_some, of_lines, RanSo, run_meaning}
@@ -92,7 +93,7 @@ pub line_fails : (error : LineError) (start media : Held) (served : List (List �
     → Serves run_meaning (λ fault. says (1 + length served) (has_some (of_lines served).events) line ≡ Err fault) (Err error) start served line text after media media
 line_fails (Fault fault) start media served line text list after number e few read h =
     (says-within (1 + length served) (has_some (of_lines served).events) line (omega arith) ∙ ap (λ b. heard b line) (sym h.begun) ∙ read, (list, h))
-line_fails NoMemory start media served line text list after number e few read h = tt
+line_fails NoMemory start media served line text list after number e few read h = none_fell_same media.faults
 
 -- ---- how it ends
 
@@ -111,6 +112,10 @@ leaves before now run list h = record {
   failures = h.moments.failures;
 }
 
+-- the failing runs have their causes, also where the counts rose further
+within : (start mid now : List ℕ) (run : Run) → FailuresFit start (history run.entries) mid → NoneFell mid now → FailuresWithin start (history run.entries) now
+within start mid now run h k = record { each = λ u. subst (λ n. n ≤ slice_index now u) (h.each u) (k.each u) }
+
 -- the first events of the input
 front_events : (events more all : List (ℕ × Event)) → all ≡ events ++ more → events ≡ take (length events) all
 front_events events more all e = sym (ap (take (length events)) e ∙ take-append_seam events more)
@@ -120,8 +125,8 @@ first_events served [] input clean e = front_events (of_lines served).events [] 
 first_events served (line ∷ others) input clean e = front_events (of_lines served).events _ (script input).events (ap (λ ls. (of_lines ls).events) e ∙ ap (λ s. s.events) (served-next served line others clean))
 
 torn_by : (before now : Outside) (served others : List (List ℕ)) (input output : List ℕ) (len : ℕ) (media : Held) → IfSome before.left (λ bytes. bytes ≡ input) → lines input ≡ served ++ others
-    → Brings run_meaning before.media served others media output → Appends before.written now.written (take len output) → Torn before now
-torn_by before now served others input output len media told e (lines_alone text (list, h)) w = record {
+    → Brings run_meaning before.media served others media output → NoneFell media.faults now.media.faults → Appends before.written now.written (take len output) → Torn before now
+torn_by before now served others input output len media told e (lines_alone text (list, h)) kept w = record {
   input = input;
   run = h.run;
   count = length (of_lines served).events;
@@ -130,9 +135,10 @@ torn_by before now served others input output len media told e (lines_alone text
   told = told;
   over = over before media h.run list _ h.stands (h.events_are ∙ first_events served others input h.clean e);
   may_write = inl h.text_is;
+  failures = within before.media.faults media.faults now.media.faults h.run h.stands.moments.failures kept;
   written = w;
 }
-torn_by before now served others input output len media told e (with_fault text line behind fault (list, h) f refused) w =
+torn_by before now served others input output len media told e (with_fault text line behind fault (list, h) f refused) kept w =
     let read = refused-says (1 + length served) (has_some (of_lines served).events) line fault refused in
     let found : script input ≡ record { events = (of_lines served).events; fault = Some (1 + length served, fault) } = ap of_lines (e ∙ ap (λ ls. served ++ ls) f) ∙ served-fault served line behind fault h.clean read in
     record {
@@ -144,9 +150,10 @@ torn_by before now served others input output len media told e (with_fault text 
       told = told;
       over = over before media h.run list _ h.stands (h.events_are ∙ first_events served others input h.clean e);
       may_write = inr (h.events_are ∙ sym (ap (λ s. s.events) found), ap (λ t. t ++ fault_text (1 + length served) fault) h.text_is ∙ ap (λ s. text_of (journal h.run) ++ ending s.fault) (sym found));
+      failures = within before.media.faults media.faults now.media.faults h.run h.stands.moments.failures kept;
       written = w;
     }
-torn_by before now served others input output len media told e (with_end text f (list, h)) w = record {
+torn_by before now served others input output len media told e (with_end text f (list, h)) kept w = record {
   input = input;
   run = h.run;
   count = length (of_lines served).events;
@@ -155,11 +162,12 @@ torn_by before now served others input output len media told e (with_end text f 
   told = told;
   over = over before media h.run list _ h.stands (h.events_are ∙ first_events served others input h.clean e);
   may_write = inl h.text_is;
+  failures = within before.media.faults media.faults now.media.faults h.run h.stands.moments.failures kept;
   written = w;
 }
 
 torn : (before now : Outside) → stream.Torn run_meaning before now → Torn before now
-torn before now t = torn_by before now t.served t.others t.input t.output t.len t.media t.told t.input_is t.brings t.written
+torn before now t = torn_by before now t.served t.others t.input t.output t.len t.media t.told t.input_is t.brings t.stays t.written
 
 pub run_ends : (status : Status) (before now : Outside) → Ends run_meaning status before now → RunEnds (status_of status) before now
 run_ends stream_statuses.Done before now (end, t) = (
@@ -214,7 +222,7 @@ run_ends stream_statuses.NoMemory before now t = torn before now t
 
 -- no line was read
 pub not_begun : (before : Outside) → RanSo before.media [] [] empty_list before.media → RunEnds (status_of stream_statuses.NoMemory) before before
-not_begun before h = torn before before (stops run_meaning before before before [] _ empty_list (begins run_meaning before empty_list h) refl tt)
+not_begun before h = torn before before (stops run_meaning before before before [] _ empty_list (begins run_meaning before empty_list h) refl (none_fell_same _))
 
 pub some_mapped : {A B : Type 0} (f : A → B) (xs : List A) → 1 ≤ length xs → 0 < length (map f xs)
 some_mapped f xs h = omega (arith, length-map xs f)

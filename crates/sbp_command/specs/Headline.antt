@@ -9,7 +9,7 @@ use Rattle.line_session.specs.Ends.{NoFault}
 use Rattle.line_session.specs.declared.status.Status.{Status as StreamStatus}
 use Rattle.line_session.specs.declared.status.Status.TheVariants as stream_statuses
 use Rattle.sbp_journal.specs.Run.{Run, journal, history, events_of}
-use Rattle.sbp_laws.specs.DiskFold.{DisksAre, FailuresFit}
+use Rattle.sbp_laws.specs.DiskFold.{DisksAre, FailuresFit, FailuresWithin}
 use Rattle.sbp_laws.specs.Lawful.{Lawful}
 use Rattle.sbp_journal.specs.Text.{text_of}
 use Rattle.sbp_journal.specs.declared.event.Event.{Event}
@@ -67,7 +67,7 @@ pub record RanLines (before now : Outside) : Type 0 where
 abbrev pub MayWrite : Script → Run → List ℕ → Type 0
 MayWrite s run output = (output ≡ text_of (journal run)) ⊎ ((events_of run ≡ s.events) × (output ≡ text_of (journal run) ++ ending s.fault))
 
--- A front of such a text was written, for a lawful run over the first events of the input.
+-- A front of such a text was written, for a lawful run over the first events of the input; each of its failing runs has its cause.
 pub record Torn (before now : Outside) : Type 0 where
   pub input : List ℕ
   pub run : Run
@@ -77,6 +77,7 @@ pub record Torn (before now : Outside) : Type 0 where
   pub told : IfSome before.left (λ bytes. bytes ≡ input)
   pub over : RunsOver before run (take count (script input).events)
   pub may_write : MayWrite (script input) run output
+  pub failures : FailuresWithin before.media.faults (history run.entries) now.media.faults
   pub written : Appends before.written now.written (take len output)
 
 -- the clause of `run` by status

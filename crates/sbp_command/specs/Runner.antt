@@ -1,8 +1,10 @@
 -- What `run` does with lines.
-use Rattle.std.specs.Prelude.{◌≡◌, ℕ, ◌+◌, ◌<◌, Bool, true, false, List, [], ◌∷◌, length, None, Err}
+use Rattle.std.specs.Prelude.{◌≡◌, ℕ, ◌+◌, ◌<◌, Bool, true, false, List, [], ◌∷◌, length, slice_index, None, Err}
+use Rattle.std.proofs.Math.Nat.{le_refl}
 use Rattle.rbc_disk.specs.Held.{Held}
 use Rattle.sbp_journal.specs.Run.{Run, journal, events_of}
 use Rattle.sbp_journal.specs.Text.{text_of}
+use Rattle.sbp_laws.specs.DiskFold.{NoneFell}
 use Rattle.plain_list.specs.Plain.{PlainState, StandsFor}
 use Rattle.script_text.specs.Script.{Script}
 use Rattle.line_session.specs.Meaning.{Meaning}
@@ -37,6 +39,6 @@ run_meaning = record {
   ran = RanSo;
   refuses = λ served line fault. says (1 + length served) (has_some (of_lines served).events) line ≡ Err fault;
   closed = λ served text start media. (list : PlainState) × RanSo start served text list media;
-  stays = λ old new. Unit {0};
-  stays_same = λ media. tt;
+  stays = λ old new. NoneFell old.faults new.faults;
+  stays_same = λ media. record { each = λ u. le_refl (slice_index media.faults u) };
 }

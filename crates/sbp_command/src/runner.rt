@@ -5,6 +5,7 @@ ghost use Rattle.sbp_journal.specs.Run.{with_entry};
 ghost use Rattle.sbp_journal.specs.Run as journal_runs;
 ghost use Rattle.sbp_journal.specs.Form.{HasForm};
 ghost use Rattle.sbp_journal.specs.Text.{text_of};
+ghost use Rattle.sbp_laws.specs.DiskFold.{NoneFell};
 ghost use Rattle.plain_list.specs.Plain.{empty_list, is_served, StandsFor};
 
 use crate::script::read_served;
@@ -54,6 +55,7 @@ impl ScriptRunner {
         requires room { self.old.appended < 65536 }
         requires media { 0 < length media.old.items }
         ensures count { length media.new.items ≡ length media.old.items }
+        ensures fell { NoneFell (map media_faults media.old.items) (map media_faults media.new.items) }
         ensures begun { OnOk result (self.new.begun ≡ true) }
         ensures room { OnOk result (self.new.appended ≤ self.old.appended + 1) }
         ensures text { OnOk result (out.new ≡ out.old ++ text_of (reverse self.new.fresh)) }

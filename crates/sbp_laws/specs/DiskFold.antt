@@ -1,5 +1,5 @@
 -- The disk fold: what a unit is and what its medium holds, as a fold over the history (RBC). The latest moment stands first.
-use Rattle.std.specs.Prelude.{ℕ, suc, ◌≡◌, ◌<◌, if◌then◌else◌, List, [], ◌∷◌, length, slice_index, Some}
+use Rattle.std.specs.Prelude.{ℕ, suc, ◌≡◌, ◌<◌, ◌≤◌, if◌then◌else◌, List, [], ◌∷◌, length, slice_index, Some}
 use Rattle.sbp_base.specs.Faults.{count_up}
 use Rattle.rbc_disk.specs.Disk.{Disk, disk_at, no_disk}
 use Rattle.rbc_disk.specs.Units.{PlainDisk, plain_disk, new_unit}
@@ -40,3 +40,11 @@ pub record DisksAre (start : List Disk) (past : List Moment) (disks : List Disk)
 -- the count of each unit's medium rose by the failing runs on the unit, up to its last value
 pub record FailuresFit (before : List ℕ) (past : List Moment) (now : List ℕ) : Type 0 where
   pub each : (u : ℕ) → slice_index now u ≡ count_up (slice_index before u) (failures past u)
+
+-- no count of a medium fell
+pub record NoneFell (before now : List ℕ) : Type 0 where
+  pub each : (u : ℕ) → slice_index before u ≤ slice_index now u
+
+-- the count of each unit's medium rose by the failing runs on the unit at least, up to its last value
+pub record FailuresWithin (before : List ℕ) (past : List Moment) (now : List ℕ) : Type 0 where
+  pub each : (u : ℕ) → count_up (slice_index before u) (failures past u) ≤ slice_index now u
