@@ -19,7 +19,7 @@ use std::alloc::Global;
 use std::marker::Model;
 
 /// How many bytes are read by one call.
-const PIECE: usize = 4096;
+const PIECE: usize = 512;
 
 /// From how many bytes on the text that waits is written.
 const FULL: usize = 65536;

@@ -213,7 +213,7 @@ fn outside_fails(rt: HostRuntime) {
 /// which fails and is never made.
 #[test]
 fn writes_are_few(rt: HostRuntime) {
-    for (lines, fails) in [(5u16, 2u32), (819, 2), (820, 3), (4095, 7)] {
+    for (lines, fails) in [(5u16, 2u32), (102, 2), (103, 3), (1023, 11)] {
         let listed = lists_by(rt.alloc(), lines, fails);
         assert_eq!(rt; listed, Ok(true), "at {lines}");
     }

@@ -89,7 +89,7 @@ impl Text {
     }
 
     /// Adds bytes at the end.
-    pub fn extend_from_slice(&mut self, bytes: &[u8]) -> Result<(), NoMemory>
+    pub(crate) fn extend_from_slice(&mut self, bytes: &[u8]) -> Result<(), NoMemory>
         ensures ok { OnOk result (self.new ≡ self.old ++ bytes.now) }
         ensures err { OnErr result (self.new ≡ self.old) }
     {

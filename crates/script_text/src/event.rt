@@ -1,7 +1,8 @@
-ghost use Rattle.std.specs.Prelude.{◌≡◌, ◌≢◌, ◌==◌, []};
+ghost use Rattle.std.specs.Prelude.{◌≡◌, ◌≢◌, ◌==◌, ◌≤◌, [], IfOk};
 ghost use Rattle.std.specs.List.{list_any};
 ghost use Rattle.script_text.specs.Line as spec;
 ghost use Rattle.script_words.specs.Words.{shown, numbers};
+ghost use Rattle.script_words.specs.Words as numerals;
 
 use crate::row::{Act, Fate, OrbAct, Placing, Row};
 use sbp_base::Bytes;
@@ -9,8 +10,19 @@ use sbp_journal::{Action, Cmd, Event};
 use script_words::{FixedWord, LineFault, behind, bytes_of_hex, cmd_of, key_of, number, verb_of};
 use std::alloc::Global;
 
-/// The highest number of an initiator, and of a unit.
-const LAST: u32 = 3;
+/// The highest number of an initiator.
+const LAST_INITIATOR: u8 = 3;
+
+/// The highest number of a unit.
+const LAST_UNIT: u8 = 3;
+
+/// The number from `low` to `high` that decimal digits spell.
+fn small(word: &[u8], low: u8, high: u8) -> Result<u8, LineFault>
+    ensures value { result ≡ numerals.number low high word.now }
+    ensures bound { IfOk result (λ number. number ≤ high) }
+{
+    Ok(number(word, u32::from(low), u32::from(high))? as u8)
+}
 
 /// The event of a row and the words behind its first one, whose shape is the row's.
 pub(crate) fn event_of(alloc: Global, row: Row, words: &[&[u8]]) -> Result<Event, LineFault>
@@ -41,7 +53,7 @@ fn begin(words: &[&[u8]]) -> Result<Event, LineFault>
     let [initiators, mode] = words else {
         return Err(LineFault::Shape);
     };
-    let initiators = number(initiators, 1, 4)? as u8;
+    let initiators = small(initiators, 1, 4)?;
     Ok(Event::Begin {
         initiators,
         ready: *mode == b"ready".as_slice(),
@@ -66,7 +78,7 @@ fn act_event(act: Act, words: &[&[u8]]) -> Result<Event, LineFault>
     let [initiator] = words else {
         return Err(LineFault::Shape);
     };
-    let initiator = number(initiator, 0, LAST)? as u8;
+    let initiator = small(initiator, 0, LAST_INITIATOR)?;
     Ok(Event::Act {
         initiator,
         action: action_of(act),
@@ -99,9 +111,9 @@ fn login(words: &[&[u8]]) -> Result<Event, LineFault>
     let [initiator, unit, reconnect, options @ ..] = words else {
         return Err(LineFault::Shape);
     };
-    let initiator = number(initiator, 0, LAST)? as u8;
-    let unit = number(unit, 0, LAST)? as u8;
-    let reconnect = number(reconnect, 0, 15)? as u8;
+    let initiator = small(initiator, 0, LAST_INITIATOR)?;
+    let unit = small(unit, 0, LAST_UNIT)?;
+    let reconnect = small(reconnect, 0, 15)?;
     Ok(Event::Act {
         initiator,
         action: Action::Login {
@@ -140,8 +152,8 @@ fn query(words: &[&[u8]]) -> Result<Event, LineFault>
     let [initiator, unit] = words else {
         return Err(LineFault::Shape);
     };
-    let initiator = number(initiator, 0, LAST)? as u8;
-    let unit = number(unit, 0, LAST)? as u8;
+    let initiator = small(initiator, 0, LAST_INITIATOR)?;
+    let unit = small(unit, 0, LAST_UNIT)?;
     Ok(Event::Act {
         initiator,
         action: Action::Query { unit },
@@ -155,7 +167,7 @@ fn orb_event(act: OrbAct, words: &[&[u8]]) -> Result<Event, LineFault>
     let [initiator, orb] = words else {
         return Err(LineFault::Shape);
     };
-    let initiator = number(initiator, 0, LAST)? as u8;
+    let initiator = small(initiator, 0, LAST_INITIATOR)?;
     let orb = number(orb, 0, 65535)?;
     let action = match act {
         OrbAct::Abort => Action::Abort { orb },
@@ -171,7 +183,7 @@ fn command_event(alloc: Global, placing: Placing, words: &[&[u8]]) -> Result<Eve
     let [initiator, verb, rest @ ..] = words else {
         return Err(LineFault::Shape);
     };
-    let initiator = number(initiator, 0, LAST)? as u8;
+    let initiator = small(initiator, 0, LAST_INITIATOR)?;
     let Some(verb) = verb_of(verb) else {
         return Err(LineFault::Shape);
     };
@@ -241,7 +253,7 @@ fn see(words: &[&[u8]]) -> Result<Event, LineFault>
     if *node == b"t".as_slice() {
         return Ok(Event::See { node: 0 });
     }
-    let initiator = number(node, 0, LAST)? as u8;
+    let initiator = small(node, 0, LAST_INITIATOR)?;
     Ok(Event::See {
         node: initiator + 1,
     })
@@ -254,7 +266,7 @@ fn key(words: &[&[u8]]) -> Result<Event, LineFault>
     let [unit, key] = words else {
         return Err(LineFault::Shape);
     };
-    let unit = number(unit, 0, LAST)? as u8;
+    let unit = small(unit, 0, LAST_UNIT)?;
     Ok(Event::Key {
         unit,
         key: key_of(key),
@@ -296,7 +308,7 @@ fn inject(alloc: Global, words: &[&[u8]]) -> Result<Event, LineFault>
     let [initiator, packet] = words else {
         return Err(LineFault::Shape);
     };
-    let initiator = number(initiator, 0, LAST)? as u8;
+    let initiator = small(initiator, 0, LAST_INITIATOR)?;
     if packet.len() < 8 || packet.len() > 4128 {
         return Err(LineFault::Range);
     }

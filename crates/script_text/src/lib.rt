@@ -14,6 +14,3 @@ pub use drill::{Drill, drill_line};
 pub use laws::{only_silent_lines_say_nothing, shaped_words_are_read};
 pub use line::{read_line, read_write};
 pub use script_words::LineFault;
-
-#[cfg(test)]
-mod tests;

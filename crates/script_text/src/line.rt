@@ -49,6 +49,7 @@ pub fn read_line(alloc: Global, bytes: &[u8], initiators: u8) -> Result<Option<E
     let event = match event_of(alloc, row, arguments) {
         Ok(event) => event,
         Err(LineFault::NoMemory) => return Err(LineFault::NoMemory),
+        // Words of their row's shape have no other fault.
         Err(_) => return Err(LineFault::Range),
     };
     if names_none(&event, initiators) {

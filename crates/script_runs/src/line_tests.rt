@@ -1,8 +1,7 @@
 ghost use Rattle.std.specs.Prelude.{◌≤◌};
 
-use crate::{Drill, LineFault, drill_line, read_line, read_write};
-use sbp_base::NoMemory;
 use sbp_journal::{Action, Event};
+use script_text::{LineFault, read_line, read_write};
 use std::alloc::Global;
 use std::test::Fail;
 
@@ -335,63 +334,4 @@ fn writes_are_read(rt: HostRuntime) {
         };
         assert_eq!(rt; said, want, "{words}");
     }
-}
-
-/// An event of a drill: whether it begins the run, a settle, or the initiator, the opcode, the block
-/// and the first byte that is written.
-#[derive(Clone, Copy, Debug, PartialEq, Eq)]
-enum Drilled {
-    Begin,
-    Settle,
-    Append(u8, u8, u8, u8),
-    Other,
-    End,
-}
-
-fn event_by(alloc: Global, drill: &mut Drill) -> Result<Drilled, NoMemory> {
-    let event = drill_line(alloc, drill)?;
-    Ok(match &event {
-        Some(Event::Begin { .. }) => Drilled::Begin,
-        Some(Event::Settle) => Drilled::Settle,
-        Some(
-            Event::Act {
-                initiator,
-                action: Action::Append(cmd),
-            },
-        ) => {
-            let byte = cmd.payload.as_slice().first().copied().unwrap_or(0);
-            Drilled::Append(*initiator, cmd.cdb[0], cmd.cdb[5], byte)
-        }
-        Some(_) => Drilled::Other,
-        None => Drilled::End,
-    })
-}
-
-/// The script of `drill 1 2`, worked out by another program.
-#[test]
-fn a_drill_of_two_lines(rt: HostRuntime) -> Result<(), Fail> {
-    let mut drill = Drill::new(1, 2);
-    for want in [
-        Drilled::Begin,
-        Drilled::Append(0, 0x28, 12, 0),
-        Drilled::Append(0, 0x2a, 51, 0x9a),
-        Drilled::Settle,
-        Drilled::End,
-        Drilled::End,
-    ] {
-        assert_eq!(rt; event_by(rt.alloc(), &mut drill)?, want);
-    }
-    Ok(())
-}
-
-/// Seventeen lines settle twice.
-#[test]
-fn a_drill_settles(rt: HostRuntime) -> Result<(), Fail> {
-    let mut drill = Drill::new(1, 17);
-    for place in 0_u8..21 {
-        let want = place == 17 || place == 19;
-        let got = event_by(rt.alloc(), &mut drill)?;
-        assert_eq!(rt; got == Drilled::Settle, want, "{place}");
-    }
-    Ok(())
 }
