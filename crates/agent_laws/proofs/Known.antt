@@ -1,5 +1,5 @@
 -- What is known of an agent behind its calls: an invariant by phase, over what the notes say.
-use Rattle.std.proofs.Common.{◌≡◌, ◌⊎◌, ℕ, ◌+◌, ◌≤◌, length, take, Bool, true, false, List, [], Option, Some, None}
+use Rattle.std.proofs.Common.{◌≡◌, ◌⊎◌, ℕ, ◌+◌, ◌*◌, ◌≤◌, length, take, Bool, true, false, List, [], Option, Some, None}
 use Rattle.orb_layout.specs.declared.ask.Ask.TheVariants.{Nothing}
 use Rattle.orb_layout.specs.declared.command.CommandOrb.{CommandOrb}
 use Rattle.orb_layout.specs.declared.pointer.OrbPointer.{OrbPointer}
@@ -23,13 +23,17 @@ use Rattle.agent_laws.specs.Answers.{outcome_in, answer_in, written_in, is_good,
 use Rattle.agent_laws.specs.Transactions.{main_in, behind_in}
 use Rattle.agent_laws.specs.Wire.{last_in, is_dead, Wired}
 use Rattle.agent_laws.specs.Bells.{rung_since}
+use Rattle.agent_laws.specs.Deaths.{asked_in, illegal_in, due_in, Mortal}
 
--- the laws of notes, and with no main transaction under way
+-- the laws of notes; with no main transaction under way, behind what came of the last one; and where this did not fail
 abbrev pub Laws : List Note → Type 0
-Laws ns = Lawful ns × Wired ns × Fed ns × Answered ns
+Laws ns = Lawful ns × Wired ns × Fed ns × Answered ns × Mortal ns
+
+abbrev pub Heard : List Note → Type 0
+Heard ns = Lawful ns × Wired ns × Fed ns × Answered ns × Mortal ns × (main_in ns ≡ false) × (illegal_in ns ≡ false)
 
 abbrev pub Clear : List Note → Type 0
-Clear ns = Lawful ns × Wired ns × Fed ns × Answered ns × (main_in ns ≡ false)
+Clear ns = Lawful ns × Wired ns × Fed ns × Answered ns × Mortal ns × (main_in ns ≡ false) × (due_in ns ≡ None)
 
 -- what an agent keeps of its present ORB
 pub record Parts : Type 0 where
@@ -174,6 +178,16 @@ KeepsBy _ p s = s.dead ≡ true
 abbrev pub Keeps : Phase → Machine → List Note → Type 0
 Keeps phase m ns = KeepsBy phase (parts m) (seen ns)
 
+-- the bytes that are waited for, by phase
+abbrev pub AsksBy : Phase → Parts → Option ℕ → Type 0
+AsksBy phases.Fetching p size = size ≡ Some 32
+AsksBy phases.ReadingTable p size = size ≡ Some (8 * p.orb.data_size)
+AsksBy (phases.ReadingData wanted) p size = size ≡ Some (piece p.orb p.segments (length p.payload) wanted).length
+AsksBy phases.Answering p size = size ≡ None
+AsksBy phases.WritingStatus p size = size ≡ None
+AsksBy phases.ReadingNext p size = size ≡ Some 8
+AsksBy _ p size = Unit {0}
+
 -- Bytes that are kept were read ahead.
 abbrev pub KeepsAhead : ReadAhead → Option CommandOrb → Type 0
 KeepsAhead (aheads.Kept orb) got = got ≡ Some orb
@@ -195,6 +209,8 @@ pub record Tied (m : Machine) (ns : List Note) : Type 0 where
   pub steady : Steadily m m.ahead ns
   pub main : main_in ns ≡ is_sent m.phase
   pub phase : Keeps m.phase m ns
+  pub asks : AsksBy m.phase (parts m) (asked_in ns)
+  pub due : is_dead ns ≡ false → due_in ns ≡ None
 
 -- a step, over the notes before it; it does not ask for a read ahead
 pub record After (place : ℕ) (plain : PlainDisk) (ns : List Note) (s : AgentStep × Machine) : Type 0 where

@@ -4,3 +4,4 @@ pub mod Answers
 pub mod Transactions
 pub mod Wire
 pub mod Bells
+pub mod Deaths

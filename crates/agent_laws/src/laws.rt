@@ -2,6 +2,7 @@ ghost use Rattle.agent_laws.specs.Answers.{CallsAnswer};
 ghost use Rattle.agent_laws.specs.Bells.{SuspendedLaw, MarkLaw};
 ghost use Rattle.agent_laws.specs.Buffers.{CallsFeed};
 ghost use Rattle.agent_laws.specs.Calls.{CallsAreLawful, CallsKeepOrder};
+ghost use Rattle.agent_laws.specs.Deaths.{CallsDieDuly, DeathLaw};
 ghost use Rattle.agent_laws.specs.Transactions.{UnderWayLaw};
 ghost use Rattle.agent_laws.specs.Wire.{CallsAreWired};
 
@@ -41,6 +42,15 @@ pub fn calls_run_on_their_data()
 #[tactic(auto, using(crate::proofs::Lists::calls_answered))]
 pub fn calls_write_their_answers()
     ensures { CallsAnswer }
+{}
+
+/// Over every list of calls of an agent: an ORB ends as failed exactly where its transaction failed, and
+/// the agent becomes dead exactly where its main transaction failed, for that cause, and with an illegal
+/// ORB.
+#[tactic(auto, using(crate::proofs::Lists::calls_mortal, crate::proofs::Lists::deaths_due))]
+pub fn calls_die_duly()
+    ensures only { CallsDieDuly }
+    ensures always { DeathLaw }
 {}
 
 /// After each list of calls of an agent the transactions under way are those asked for and not answered

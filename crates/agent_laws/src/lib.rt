@@ -4,6 +4,6 @@
 mod laws;
 
 pub use laws::{
-    calls_are_lawful, calls_ask_and_end, calls_keep_order, calls_keep_state,
+    calls_are_lawful, calls_ask_and_end, calls_die_duly, calls_keep_order, calls_keep_state,
     calls_run_on_their_data, calls_write_their_answers,
 };
