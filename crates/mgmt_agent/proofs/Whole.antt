@@ -1,5 +1,5 @@
 -- Each call keeps what ties the manager to the notes, and its notes are lawful.
-use Rattle.std.specs.Prelude.{◌≡◌, ℕ, suc, ◌+◌, ◌*◌, ◌^◌, ◌<◌, ◌==◌, ◌&&◌, not, Bool, true, false, cond, List, [], ◌∷◌, length, Option, Some, None, refl}
+use Rattle.std.specs.Prelude.{◌≡◌, ℕ, suc, ◌+◌, ◌*◌, ◌^◌, ◌<◌, ◌==◌, ◌&&◌, ◌||◌, not, Bool, true, false, cond, List, [], ◌∷◌, length, Option, Some, None, refl}
 use Rattle.std.proofs.Common.{arith, ap, sym, ◌∙◌, subst}
 use Rattle.std.proofs.lemmas.Bool.Decides.{nat_tests}
 use Rattle.std.proofs.lemmas.List.{take_all}
@@ -17,7 +17,8 @@ use Rattle.mgmt_agent.specs.declared.operation.Operation.{Operation}
 use Rattle.mgmt_agent.specs.declared.operation.Phase.{Phase}
 use Rattle.mgmt_agent.specs.declared.operation.Phase.TheVariants as phases
 use Rattle.mgmt_agent.specs.Statuses.{number_of}
-use Rattle.mgmt_agent.specs.Decisions.{decide, reads_eui}
+use Rattle.mgmt_agent.specs.Statuses.{function_of}
+use Rattle.mgmt_agent.specs.Decisions.{decide, known_wants_eui, reads_eui}
 use Rattle.orb_layout.specs.Replies.{Answer, Payload, Done, Refused, Expired, NoLabel, payload_of, write_failure}
 use Rattle.mgmt_agent.specs.Machine.{Machine, start_step, reply_step, reply_in, decide_step, decided_as, cut_response, status_block, orb_read, high_eui_at, low_eui_at, orb_got, high_got, low_got, beside, response_written, status_written}
 use Rattle.mgmt_agent.specs.Laws.{Call, start, reply, clear, Note, reads, writes, got, decided, request, no_request, a_read, a_write, is_asked, Request, failed, note_step, note_reply, note_ask, note_decided, note_answer, note_start, after, noted, manager_after, notes_of, under_way, source_of, address_of, gots, decisions, written, orb_in, eui_in, outcome_on, outcome_of, response_after, reads_for, reads_known, read_at, write_at, writes_for, Lawful, OperationLaw}
@@ -135,11 +136,19 @@ first_write w r e = grind arith
 second_write : (w : ℕ) (r : List ℕ) → w ≡ 1 → (length r == 0) ≡ false → w < cond (length r == 0) 1 2
 second_write w r e f = rw f (omega arith)
 
+-- The functions that want the EUI-64, by their numbers.
+wants_as : (n : ℕ) → known_wants_eui (function_of n) ≡ (n == 0x0 || n == 0x3)
+wants_as n = grind (arith, nat_tests)
+
+reads_as : (orb : ManagementOrb) → reads_eui orb ≡ (orb.format == 0 && (orb.function == 0x0 || orb.function == 0x3))
+unfolding reads_eui
+reads_as orb = ap (λ (b : Bool). orb.format == 0 && b) (wants_as orb.function)
+
 one_read : (orb : ManagementOrb) → reads_eui orb ≡ false → reads_for orb ≡ 1
-one_read orb e = rw e refl
+one_read orb e = rw (sym (reads_as orb) ∙ e) refl
 
 three_reads : (orb : ManagementOrb) → reads_eui orb ≡ true → reads_for orb ≡ 3
-three_reads orb e = rw e refl
+three_reads orb e = rw (sym (reads_as orb) ∙ e) refl
 
 two_writes : (r : List ℕ) → (length r == 0) ≡ false → ◌≡◌ {A = ℕ} 2 (cond (length r == 0) 1 2)
 two_writes r e = grind arith

@@ -1,6 +1,6 @@
 -- Whole operations of the management agent, over every list of its calls (NCITS 325-1998, management
 -- agent). What happens is a list of notes, the latest of them first.
-use Rattle.std.specs.Prelude.{◌≡◌, ℕ, suc, ◌+◌, ◌*◌, ◌^◌, ◌<◌, ◌==◌, ◌&&◌, not, Bool, true, false, if◌then◌else◌, List, [], ◌∷◌, length, take, Option, Some, None, Result, Ok}
+use Rattle.std.specs.Prelude.{◌≡◌, ℕ, suc, ◌+◌, ◌*◌, ◌^◌, ◌<◌, ◌==◌, ◌&&◌, ◌||◌, not, Bool, true, false, if◌then◌else◌, List, [], ◌∷◌, length, take, Option, Some, None, Result, Ok}
 use Rattle.sbp_base.specs.Quadlets.{quad}
 use Rattle.orb_layout.specs.declared.management.ManagementOrb.{ManagementOrb}
 use Rattle.orb_layout.specs.declared.ask.Ask.{Ask}
@@ -14,7 +14,7 @@ use Rattle.mgmt_agent.specs.declared.decision.Outcome.{Outcome}
 use Rattle.mgmt_agent.specs.declared.decision.ManagerStep.{ManagerStep}
 use Rattle.mgmt_agent.specs.declared.operation.Busy.{Busy}
 use Rattle.mgmt_agent.specs.declared.operation.Operation.{Operation}
-use Rattle.mgmt_agent.specs.Decisions.{decide, reads_eui, told}
+use Rattle.mgmt_agent.specs.Decisions.{decide, told}
 use Rattle.orb_layout.specs.Replies.{Answer, Payload, Done}
 use Rattle.mgmt_agent.specs.Machine.{Machine, new_machine, start_step, reply_step, clear_step, cut_response, status_block, high_eui_at, low_eui_at}
 
@@ -175,9 +175,10 @@ read_at [] orb = (orb, 32)
 read_at (first ∷ []) orb = (high_eui_at, 4)
 read_at _ orb = (low_eui_at, 4)
 
--- how much is read before the decision
+-- how much is read before the decision: the EUI-64 as well for a login (function 0) and a reconnect
+-- (function 3) of request format 0
 abbrev pub reads_for : ManagementOrb → ℕ
-reads_for orb = if reads_eui orb then 3 else 1
+reads_for orb = if orb.format == 0 && (orb.function == 0x0 || orb.function == 0x3) then 3 else 1
 
 -- how much is to be read, as far as what was read tells: the ORB at first
 abbrev pub reads_known : List (List ℕ) → ℕ
