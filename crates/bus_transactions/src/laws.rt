@@ -1,0 +1,29 @@
+ghost use Rattle.bus_transactions.specs.May.{Always};
+ghost use Rattle.bus_transactions.specs.Packets.{PacketLaw};
+ghost use Rattle.bus_transactions.specs.Rows.{RowsLaw};
+ghost use Rattle.bus_transactions.specs.Once.{OnceLaw};
+ghost use Rattle.bus_transactions.specs.Judging.{JudgementLaw};
+
+/// The law of packets: serials count from 1, and the store has the packets and the states that the
+/// history tells, by the bus rule.
+pub fn packets_by_history()
+    ensures { Always PacketLaw }
+{}
+
+/// The law of rows: each node's labels and its filter are what the history tells of the generation
+/// that the node is in.
+pub fn rows_by_history()
+    ensures { Always RowsLaw }
+{}
+
+/// The once law: a write is taken as new at most once where its sender has not injected packets, and
+/// exactly once where it was closed and its receiver has not either.
+pub fn writes_taken_once()
+    ensures { Always OnceLaw }
+{}
+
+/// The judgement law up to the causes of a node's own: a delivery begins with the note of the first row
+/// that holds.
+pub fn first_row_decides()
+    ensures { Always JudgementLaw }
+{}

@@ -1,0 +1,7 @@
+//! The transactions on the bus, whatever its nodes do: the store, the transaction layers of the nodes and
+//! the history as one machine, and what holds for every list of its moves.
+#![tactic(auto)]
+
+mod laws;
+
+pub use laws::{first_row_decides, packets_by_history, rows_by_history, writes_taken_once};
