@@ -16,12 +16,12 @@ use std::alloc::Global;
 /// What is written where the words are in no row.
 const USAGE: &str = "usage: sbp2 run | drill SEED N | decode | rom | tasks | queue\n";
 
-/// Whether the words are `run` alone.
-fn is_run(words: &[String]) -> bool
-    ensures { result ≡ true ↔ IsRun (map string_bytes words.now) }
+/// Whether the words are this one alone.
+fn is_alone(words: &[String], word: &str) -> bool
+    ensures { result ≡ true ↔ map string_bytes words.now ≡ word.now ∷ [] }
 {
     match words {
-        [word] => word.as_str() == "run",
+        [only] => only.as_str() == word,
         _ => false,
     }
 }
@@ -33,26 +33,6 @@ fn tell_usage<K: Sink>(sink: &mut K) -> Status
     match write_all(sink, USAGE.as_bytes()) {
         Ok(()) => Status::Words,
         Err(status) => status_of(status),
-    }
-}
-
-/// Whether the words are `decode` alone.
-fn is_decode(words: &[String]) -> bool
-    ensures { result ≡ true ↔ IsDecode (map string_bytes words.now) }
-{
-    match words {
-        [word] => word.as_str() == "decode",
-        _ => false,
-    }
-}
-
-/// Whether the words are `rom` alone.
-fn is_rom(words: &[String]) -> bool
-    ensures { result ≡ true ↔ IsRom (map string_bytes words.now) }
-{
-    match words {
-        [word] => word.as_str() == "rom",
-        _ => false,
     }
 }
 
@@ -133,11 +113,11 @@ pub fn sbp2<S: Source, K: Sink>(
     ensures rom { IsRom (map string_bytes words.now) → RomEnds result (outside (S.left source.old) (S.faults source.old) (K.written sink.old) (K.faults sink.old) (map disk media.old.items) (map media_faults media.old.items)) (outside (S.left source.new) (S.faults source.new) (K.written sink.new) (K.faults sink.new) (map disk media.new.items) (map media_faults media.new.items)) }
     ensures words { ¬ IsRun (map string_bytes words.now) → ¬ IsDecode (map string_bytes words.now) → ¬ IsRom (map string_bytes words.now) → UsageEnds result (outside (S.left source.old) (S.faults source.old) (K.written sink.old) (K.faults sink.old) (map disk media.old.items) (map media_faults media.old.items)) (outside (S.left source.new) (S.faults source.new) (K.written sink.new) (K.faults sink.new) (map disk media.new.items) (map media_faults media.new.items)) }
 {
-    if is_run(words) {
+    if is_alone(words, "run") {
         run_script(alloc, media, source, sink)
-    } else if is_decode(words) {
+    } else if is_alone(words, "decode") {
         list_packets(alloc, media, source, sink)
-    } else if is_rom(words) {
+    } else if is_alone(words, "rom") {
         list_rom(alloc, media, source, sink)
     } else {
         tell_usage(sink)
