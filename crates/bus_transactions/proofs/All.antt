@@ -20,7 +20,7 @@ first_facts : Facts first
 first_facts = record {
   apart = λ g i j e. omega (arith, e);
   aged = λ i. omega arith;
-  unsent = λ s l. record { sent_is = refl; honest = refl; unjudged = refl; no_news = refl; open_still = refl };
+  unsent = λ s l. record { sent_is = refl; honest = refl; unjudged = refl; no_news = refl; open_still = refl; unanswered = refl };
   zero = refl;
   tie = λ u. tie_none true true (λ e. refl);
   asked = λ u l. absurd (omega (arith, l));
@@ -30,6 +30,8 @@ first_facts = record {
   honest = λ s q e. cc;
   flies = λ s q e. cc;
   counts = λ s q e. cc;
+  waiting_kind = λ u k r e. cc;
+  replied = λ s r e. cc;
 }
 
 begins : Stands beginning

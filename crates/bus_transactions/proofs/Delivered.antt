@@ -1,14 +1,15 @@
 -- What a delivery makes of the history and the nodes, by what it is found to be.
-use Rattle.std.specs.Prelude.{◌≡◌, ℕ, ◌+◌, ◌<◌, nat_eq, Bool, true, false, cond, Some, None, Ok, refl}
+use Rattle.std.specs.Prelude.{◌≡◌, ℕ, ◌+◌, ◌<◌, nat_eq, Bool, true, false, cond, Option, Some, None, Ok, refl}
 use Rattle.std.proofs.Common.{arith, sym, ◌∙◌, ap, subst}
 use Rattle.sbp_base.specs.Update.{upd}
 use Rattle.async_packet.specs.Packet.{Packet, header_in}
 use Rattle.async_packet.specs.Reading.{reading}
 use Rattle.label_table.specs.Filter.{place_for}
 use Rattle.packet_store.specs.Stored.{Stored}
+use Rattle.sbp_journal.specs.declared.cause.Cause.{Cause}
 use Rattle.sbp_journal.specs.Transactions.{Kind, request, response, part_of, Transaction, at, Sending, between, asked_by, begun_by}
 use Rattle.sbp_journal.specs.Wire.{Terms, free, waits, is_news}
-use Rattle.bus_transactions.specs.Wire.{Node, Reply}
+use Rattle.bus_transactions.specs.Wire.{Node, is_stated, is_reply, Reply}
 use Rattle.bus_transactions.proofs.PacketParts.{same_refl}
 use Rattle.bus_transactions.proofs.Follows.{is_live}
 use Rattle.bus_transactions.proofs.Ties.{counts_new}
@@ -66,18 +67,18 @@ module _ (t : Terms) (store : Stored) (layer : ℕ → Node) (bus : ℕ) (ids : 
       by_test false i = (o.facts.flies s q sent).asks v (asked_begun q v i a) live
       by_test true i = absurd (not_true (fair_not t.injects v (ap t.injects r ∙ (o.facts.honest s q sent).bold i)) f)
 
-  pub judged_on : (p : Packet) (l place : ℕ) (k : Kind) (again : Bool) (news served : ℕ → ℕ) (reply : Reply) (new : Node) → reading q.bytes ≡ Ok p → part_of q.bytes ≡ request l k → t.generation q.to ≡ q.generation → news s ≡ t.news s + counts_new (t.seen (between q q.from q.to l)) q.bytes → ((r : ℕ) → nat_eq r s ≡ false → news r ≡ t.news r) → place_for (header_in p).source (layer q.to).filter ≡ Some place → new ≡ layer q.to → On (judged_at t s q (between q q.from q.to l) (Some (record { serial = s; again = again })) news served) store (upd layer q.to new) bus ids (Some (record { serial = s; request = q; packet = p; reply = reply }))
-  judged_on p l place k again news served reply new read part now counted other room same =
+  pub judged_on : (p : Packet) (l place : ℕ) (k : Kind) (cause : Option Cause) (news served : ℕ → ℕ) (reply : Reply) (new : Node) → reading q.bytes ≡ Ok p → part_of q.bytes ≡ request l k → t.generation q.to ≡ q.generation → news s ≡ t.news s + counts_new (t.seen (between q q.from q.to l)) q.bytes → ((r : ℕ) → nat_eq r s ≡ false → news r ≡ t.news r) → place_for (header_in p).source (layer q.to).filter ≡ Some place → new ≡ layer q.to → ((rcode : ℕ) → is_reply reply rcode ≡ true → is_stated cause (t.given (between q q.from q.to l)) rcode ≡ true) → On (judged_at t s q (between q q.from q.to l) (Some (record { serial = s; cause = cause })) news served) store (upd layer q.to new) bus ids (Some (record { serial = s; request = q; packet = p; reply = reply }))
+  judged_on p l place k cause news served reply new read part now counted other room same stated =
       let v : Transaction = between q q.from q.to l in
       let a = request_asked q l k part in
       record {
-        facts = facts_judged o.facts s q v sent live a news counted other (omega arith) (Some (record { serial = s; again = again })) served;
+        facts = facts_judged o.facts s q v sent live a news counted other (omega arith) (Some (record { serial = s; cause = cause })) served;
         follows = o.follows;
         bus_is = o.bus_is;
         ids_are = o.ids_are;
         due_is = record {
           sent_is = sent;
-          owed = record { serial = s; again = again };
+          owed = record { serial = s; cause = cause };
           owes_is = refl;
           serial_is = refl;
           read = read;
@@ -86,6 +87,7 @@ module _ (t : Terms) (store : Stored) (layer : ℕ → Node) (bus : ℕ) (ids : 
           part = part;
           now = sym now;
           heard = ap (λ b. cond b (Some q.bytes) (t.seen v)) (same_refl v);
+          stated = stated;
           own = own_asked v a refl;
           came = subst (λ b. 0 < cond b (t.judged s + 1) (t.judged s)) (sym (nat_same s)) (omega arith);
           place = place;

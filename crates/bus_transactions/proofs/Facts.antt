@@ -5,7 +5,7 @@ use Rattle.async_packet.specs.Packet.{Packet, header_in}
 use Rattle.async_packet.specs.Reading.{reading}
 use Rattle.label_table.specs.Requests.{label_of, is_write}
 use Rattle.sbp_journal.specs.Transactions.{Kind, Part, request, response, no_packet, part_of, is_to, Transaction, is_same, Sending, between, asked_as, asked_by, begun_if, begun_by, belongs_as, is_that, belongs}
-use Rattle.sbp_journal.specs.Wire.{Terms, Flight, Held}
+use Rattle.sbp_journal.specs.Wire.{Terms, Flight, Held, waits}
 use Rattle.bus_transactions.proofs.Follows.{is_live}
 use Rattle.bus_transactions.proofs.Ties.{Tie}
 
@@ -21,12 +21,13 @@ TieOf injects count current last seen held judged news u =
     Tie (fair injects u) (both injects u) count (current u) (last u) (seen u) (held u) (judged (current u)) (news (current u))
 
 -- a serial that is not given yet
-pub record IsUnsent (sent : Option Sending) (injected : Bool) (judged news : ℕ) (closed : Option ℕ) : Type 0 where
+pub record IsUnsent (sent : Option Sending) (injected : Bool) (judged news : ℕ) (closed answers : Option ℕ) : Type 0 where
   pub sent_is : sent ≡ None
   pub honest : injected ≡ false
   pub unjudged : judged ≡ 0
   pub no_news : news ≡ 0
   pub open_still : closed ≡ None
+  pub unanswered : answers ≡ None
 
 -- the present request of a transaction
 pub record IsAsked (last : Option (List ℕ)) (so : Option Sending) (u : Transaction) : Type 0 where
@@ -54,10 +55,30 @@ pub record Counts (injects : ℕ → Bool) (news : ℕ) (closed : Option ℕ) (q
   pub most : (u : Transaction) → begun_by q ≡ Some u → is_write q.bytes ≡ true → fair injects u ≡ true → news ≤ 1
   pub once : (u : Transaction) (rcode : ℕ) → begun_by q ≡ Some u → is_write q.bytes ≡ true → both injects u ≡ true → closed ≡ Some rcode → news ≡ 1
 
+-- the request that a label waits for is of its kind
+pub record IsKind (so : Option Sending) (l : ℕ) (k : Kind) : Type 0 where
+  pub packet : Sending
+  pub sent_is : so ≡ Some packet
+  pub part : part_of packet.bytes ≡ request l k
+
+-- a packet answers a request: between the same nodes in the same generation, under its label and with its kind
+pub record IsReply (so sr : Option Sending) : Type 0 where
+  pub reply : Sending
+  pub asking : Sending
+  pub reply_is : so ≡ Some reply
+  pub asking_is : sr ≡ Some asking
+  pub label : ℕ
+  pub kind : Kind
+  pub reply_part : part_of reply.bytes ≡ response label kind
+  pub asking_part : part_of asking.bytes ≡ request label kind
+  pub generation : reply.generation ≡ asking.generation
+  pub from_is : reply.from ≡ asking.to
+  pub to_is : reply.to ≡ asking.from
+
 pub record Facts (t : Terms) : Type 0 where
   pub apart : (g i j : ℕ) → t.ids g i ≡ t.ids g j → i ≡ j
   pub aged : (i : ℕ) → t.generation i ≤ t.bus
-  pub unsent : (s : ℕ) → t.count < s → IsUnsent (t.sent s) (t.injected s) (t.judged s) (t.news s) (t.closed s)
+  pub unsent : (s : ℕ) → t.count < s → IsUnsent (t.sent s) (t.injected s) (t.judged s) (t.news s) (t.closed s) (t.answers s)
   pub zero : t.sent 0 ≡ None
   pub tie : (u : Transaction) → TieOf t.injects t.count t.current t.last t.seen t.held t.judged t.news u
   pub asked : (u : Transaction) → 0 < t.current u → IsAsked (t.last u) (t.sent (t.current u)) u
@@ -67,6 +88,8 @@ pub record Facts (t : Terms) : Type 0 where
   pub honest : (s : ℕ) (q : Sending) → t.sent s ≡ Some q → Honest t.ids t.generation t.injects q
   pub flies : (s : ℕ) (q : Sending) → t.sent s ≡ Some q → Flies t.injects t.current t.judged (t.answers s) (t.flight s) s q
   pub counts : (s : ℕ) (q : Sending) → t.sent s ≡ Some q → Counts t.injects (t.news s) (t.closed s) q
+  pub waiting_kind : (u : Transaction) (k : Kind) (r : ℕ) → t.held u ≡ waits k r → IsKind (t.sent r) u.label k
+  pub replied : (s r : ℕ) → t.answers s ≡ Some r → IsReply (t.sent s) (t.sent r)
 
 -- ---- small lemmas
 pub not_true : {b : Bool} → b ≡ false → b ≡ true → ⊥

@@ -7,7 +7,7 @@ use Rattle.sbp_journal.specs.Wire.{Terms, Flight, free, waits, rests, Owed}
 use Rattle.bus_transactions.proofs.PacketParts.{same_refl, same_is}
 use Rattle.bus_transactions.proofs.Follows.{is_live}
 use Rattle.bus_transactions.proofs.Ties.{Tie, counts_new, tie_judged, tie_heard, tie_freed, tie_rests}
-use Rattle.bus_transactions.proofs.Facts.{fair, both, Flies, Counts, Facts, not_true, fair_not, nat_same, nat_is, some_same, begun_asked, asked_begun, injected_begun, asked_is, current_not}
+use Rattle.bus_transactions.proofs.Facts.{fair, both, Flies, Counts, IsKind, Facts, not_true, fair_not, nat_same, nat_is, some_same, begun_asked, asked_begun, injected_begun, asked_is, current_not}
 
 -- ---- the state of packets changes, and no packet comes back
 abbrev pub flies_at : (t : Terms) → (ℕ → Flight) → Terms
@@ -30,6 +30,8 @@ facts_flight f flight less = record {
     replies = λ l k part honest live. old.replies l k part honest (less r q e live);
   };
   counts = f.counts;
+  waiting_kind = f.waiting_kind;
+  replied = f.replied;
 }
 
 -- ---- counts of a packet that is the present request of none
@@ -72,6 +74,7 @@ module _ {t : Terms} (f : Facts t) (s : ℕ) (q : Sending) (sent : t.sent s ≡ 
       unjudged = g.unjudged;
       no_news = news_unsent news same r (nat_eq r s) refl l;
       open_still = g.open_still;
+      unanswered = g.unanswered;
     };
     zero = f.zero;
     tie = λ u. subst (Tie (fair t.injects u) (both t.injects u) t.count (t.current u) (t.last u) (t.seen u) (t.held u) (t.judged (t.current u)))
@@ -83,6 +86,8 @@ module _ {t : Terms} (f : Facts t) (s : ℕ) (q : Sending) (sent : t.sent s ≡ 
     honest = f.honest;
     flies = f.flies;
     counts = λ r p. news_counts news same r p (nat_eq r s) refl;
+    waiting_kind = f.waiting_kind;
+    replied = f.replied;
   }
 
 -- ---- a request is judged
@@ -211,6 +216,7 @@ module _ {t : Terms} (f : Facts t) (s : ℕ) (q : Sending) (v : Transaction) (se
       unjudged = j.0;
       no_news = j.1;
       open_still = g.open_still;
+      unanswered = g.unanswered;
     };
     zero = f.zero;
     tie = λ u. judged_tie u (is_same u v) refl;
@@ -221,6 +227,8 @@ module _ {t : Terms} (f : Facts t) (s : ℕ) (q : Sending) (v : Transaction) (se
     honest = f.honest;
     flies = judged_flies;
     counts = λ r p. judged_counts r p (nat_eq r s) refl;
+    waiting_kind = f.waiting_kind;
+    replied = f.replied;
   }
 
 -- ---- a response closes a transaction
@@ -258,6 +266,10 @@ module _ {t : Terms} (f : Facts t) (u : Transaction) (kind : Kind) (r rcode : �
       let is = nat_is s r i in
       absurd (omega (arith, w.0, low, is, l))
 
+  closed_kind : (v : Transaction) (k : Kind) (n : ℕ) (b : Bool) → cond b free (t.held v) ≡ waits k n → IsKind (t.sent n) v.label k
+  closed_kind v k n true e = cc
+  closed_kind v k n false e = f.waiting_kind v k n e
+
   pub facts_closed : Facts (closed_at t u r rcode)
   facts_closed = record {
     apart = f.apart;
@@ -268,6 +280,7 @@ module _ {t : Terms} (f : Facts t) (u : Transaction) (kind : Kind) (r rcode : �
       unjudged = g.unjudged;
       no_news = g.no_news;
       open_still = closed_unsent s (nat_eq s r) refl l;
+      unanswered = g.unanswered;
     };
     zero = f.zero;
     tie = λ v. closed_tie v (is_same v u) refl;
@@ -278,6 +291,8 @@ module _ {t : Terms} (f : Facts t) (u : Transaction) (kind : Kind) (r rcode : �
     honest = f.honest;
     flies = f.flies;
     counts = λ s p. closed_counts s p (nat_eq s r) refl;
+    waiting_kind = λ v k n. closed_kind v k n (is_same v u);
+    replied = f.replied;
   }
 
 -- ---- a transaction times out
@@ -289,6 +304,10 @@ rests_tie {t} f u kind r waiting v true i =
     subst (λ w. Tie (fair t.injects w) (both t.injects w) t.count (t.current w) (t.last w) (t.seen w) rests (t.judged (t.current w)) (t.news (t.current w))) (sym (same_is v u i))
     (tie_rests (f.tie u) waiting)
 rests_tie f u kind r waiting v false i = f.tie v
+
+rests_kind : {t : Terms} → Facts t → (v : Transaction) (k : Kind) (n : ℕ) (b : Bool) → cond b rests (t.held v) ≡ waits k n → IsKind (t.sent n) v.label k
+rests_kind f v k n true e = cc
+rests_kind f v k n false e = f.waiting_kind v k n e
 
 pub facts_rests : {t : Terms} → Facts t → (u : Transaction) (kind : Kind) (r : ℕ) → t.held u ≡ waits kind r → Facts (rests_at t u)
 facts_rests f u kind r waiting = record {
@@ -304,4 +323,6 @@ facts_rests f u kind r waiting = record {
   honest = f.honest;
   flies = f.flies;
   counts = f.counts;
+  waiting_kind = λ v k n. rests_kind f v k n (is_same v u);
+  replied = f.replied;
 }

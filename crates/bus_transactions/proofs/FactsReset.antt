@@ -44,6 +44,8 @@ module _ {t : Terms} (f : Facts t) (new : ℕ → ℕ) where
     honest = λ s q e. reset_honest q (f.honest s q e);
     flies = f.flies;
     counts = f.counts;
+    waiting_kind = f.waiting_kind;
+    replied = f.replied;
   }
 
 -- ---- a node sees the latest one
@@ -82,6 +84,8 @@ module _ {t : Terms} (f : Facts t) (node : ℕ) where
     };
     flies = f.flies;
     counts = f.counts;
+    waiting_kind = f.waiting_kind;
+    replied = f.replied;
   }
 
 -- ---- a word on the line, and that a packet is injected
@@ -99,6 +103,8 @@ facts_opened f repeats = record {
   honest = f.honest;
   flies = f.flies;
   counts = f.counts;
+  waiting_kind = f.waiting_kind;
+  replied = f.replied;
 }
 
 marked : (injected : ℕ → Bool) (count s r : ℕ) (b : Bool) → nat_eq r s ≡ b → s ≤ count → count < r → injected r ≡ false → cond b true (injected r) ≡ false
@@ -115,6 +121,7 @@ facts_marked {t} f s l = record {
     unjudged = g.unjudged;
     no_news = g.no_news;
     open_still = g.open_still;
+    unanswered = g.unanswered;
   };
   zero = f.zero;
   tie = f.tie;
@@ -125,4 +132,6 @@ facts_marked {t} f s l = record {
   honest = f.honest;
   flies = f.flies;
   counts = f.counts;
+  waiting_kind = f.waiting_kind;
+  replied = f.replied;
 }

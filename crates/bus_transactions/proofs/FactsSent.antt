@@ -3,12 +3,41 @@ use Rattle.std.specs.Prelude.{◌≡◌, ℕ, ◌+◌, ◌<◌, ◌≤◌, nat_e
 use Rattle.std.proofs.Common.{arith, sym, ◌∙◌, ap, subst}
 use Rattle.sbp_base.specs.Update.{upd}
 use Rattle.label_table.specs.Requests.{is_write, is_last}
-use Rattle.sbp_journal.specs.Transactions.{Kind, Transaction, is_same, at, Sending, between, begun_by, belongs}
+use Rattle.sbp_journal.specs.Transactions.{Kind, request, part_of, Transaction, is_same, at, Sending, between, begun_by, belongs}
 use Rattle.sbp_journal.specs.Wire.{Terms, Flight, unsent, in_flight, delivered, lost, withdrawn, withdraw, belongs_to, by_bus_rule, free, waits, Owed}
 use Rattle.bus_transactions.proofs.PacketParts.{same_refl, same_is}
 use Rattle.bus_transactions.proofs.Follows.{is_live}
 use Rattle.bus_transactions.proofs.Ties.{Tie, tie_counts, tie_begins, tie_weaker}
-use Rattle.bus_transactions.proofs.Facts.{fair, both, IsAsked, Honest, Flies, Counts, Facts, both_fair, nat_same, nat_apart, nat_above, some_same, response_asked, none_begun, begun_belongs, reply_belongs}
+use Rattle.bus_transactions.proofs.Facts.{fair, both, IsAsked, Honest, Flies, Counts, IsKind, IsReply, Facts, both_fair, nat_same, nat_apart, nat_above, some_same, response_asked, none_begun, begun_belongs, reply_belongs}
+
+-- what was sent stays
+sent_kept : {t : Terms} → Facts t → (q : Sending) (r : ℕ) (p : Sending) (b : Bool) → nat_eq r (t.count + 1) ≡ b → t.sent r ≡ Some p → cond b (Some q) (t.sent r) ≡ Some p
+sent_kept f q r p false i e = e
+sent_kept {t} f q r p true i e =
+    let is : r ≡ t.count + 1 = grind arith in
+    let g = f.unsent r (omega arith) in
+    absurd (nothing (sym g.sent_is ∙ e))
+  where
+    nothing : {p : Sending} → None ≡ Some p → ⊥
+    nothing e = cc
+
+kind_kept : {t : Terms} → Facts t → (q : Sending) (r l : ℕ) (k : Kind) → IsKind (t.sent r) l k → IsKind (upd t.sent (t.count + 1) (Some q) r) l k
+kind_kept {t} f q r l k i = record { packet = i.packet; sent_is = sent_kept f q r i.packet (nat_eq r (t.count + 1)) refl i.sent_is; part = i.part }
+
+reply_kept : {t : Terms} → Facts t → (q : Sending) (s r : ℕ) → IsReply (t.sent s) (t.sent r) → IsReply (upd t.sent (t.count + 1) (Some q) s) (upd t.sent (t.count + 1) (Some q) r)
+reply_kept {t} f q s r i = record {
+  reply = i.reply;
+  asking = i.asking;
+  reply_is = sent_kept f q s i.reply (nat_eq s (t.count + 1)) refl i.reply_is;
+  asking_is = sent_kept f q r i.asking (nat_eq r (t.count + 1)) refl i.asking_is;
+  label = i.label;
+  kind = i.kind;
+  reply_part = i.reply_part;
+  asking_part = i.asking_part;
+  generation = i.generation;
+  from_is = i.from_is;
+  to_is = i.to_is;
+}
 
 -- ---- the request of a transaction
 abbrev pub begins_at : (t : Terms) → Transaction → Kind → Sending → Terms
@@ -112,8 +141,26 @@ module _ {t : Terms} (f : Facts t) (u : Transaction) (kind : Kind) (q : Sending)
         once = λ v rcode b w h c. let n = g.open_still in cc;
       }
 
-  pub facts_begun : t.held u ≡ free → (is_write q.bytes ≡ true → is_last (t.last u) q.bytes ≡ false) → Honest t.ids t.generation t.injects q → u.generation ≤ t.generation u.requester → Facts (begins_at t u kind q)
-  facts_begun is_free differs h now = record {
+  new_kind : part_of q.bytes ≡ request u.label kind → (v : Transaction) (k : Kind) (r : ℕ) (b : Bool) → is_same v u ≡ b → cond b (waits kind (t.count + 1)) (t.held v) ≡ waits k r → IsKind (upd t.sent (t.count + 1) (Some q) r) v.label k
+  new_kind part v k r false i e = kind_kept f q r v.label k (f.waiting_kind v k r e)
+  new_kind part v k r true i e =
+      let is_kind : kind ≡ k = kinds e in
+      let is_serial : t.count + 1 ≡ r = serials e in
+      let here : cond (nat_eq (t.count + 1) (t.count + 1)) (Some q) (t.sent (t.count + 1)) ≡ Some q = ap (λ b. cond b (Some q) (t.sent (t.count + 1))) (nat_same (t.count + 1)) in
+      record {
+        packet = q;
+        sent_is = subst (λ n. upd t.sent (t.count + 1) (Some q) n ≡ Some q) is_serial here;
+        part = part ∙ ap (λ (x : Transaction). request x.label kind) (sym (same_is v u i)) ∙ ap (request v.label) is_kind;
+      }
+    where
+      kinds : {k m : Kind} {r n : ℕ} → waits k r ≡ waits m n → k ≡ m
+      kinds e = cc
+
+      serials : {k m : Kind} {r n : ℕ} → waits k r ≡ waits m n → r ≡ n
+      serials e = cc
+
+  pub facts_begun : t.held u ≡ free → (is_write q.bytes ≡ true → is_last (t.last u) q.bytes ≡ false) → Honest t.ids t.generation t.injects q → u.generation ≤ t.generation u.requester → part_of q.bytes ≡ request u.label kind → Facts (begins_at t u kind q)
+  facts_begun is_free differs h now part = record {
     apart = f.apart;
     aged = f.aged;
     unsent = λ s l.
@@ -124,6 +171,7 @@ module _ {t : Terms} (f : Facts t) (u : Transaction) (kind : Kind) (q : Sending)
           unjudged = g.unjudged;
           no_news = g.no_news;
           open_still = g.open_still;
+          unanswered = g.unanswered;
         };
     zero = rw (nat_apart 0 (t.count + 1) (omega arith)) f.zero;
     tie = λ v. new_tie is_free differs v (is_same v u) refl;
@@ -134,6 +182,8 @@ module _ {t : Terms} (f : Facts t) (u : Transaction) (kind : Kind) (q : Sending)
     honest = λ r p. new_honest h r p (nat_eq r (t.count + 1));
     flies = λ r p. new_flies r p (nat_eq r (t.count + 1)) refl;
     counts = λ r p. new_counts r p (nat_eq r (t.count + 1)) refl;
+    waiting_kind = λ v k r. new_kind part v k r (is_same v u) refl;
+    replied = λ s r e. reply_kept f q s r (f.replied s r e);
   }
 
 -- ---- a packet that begins nothing
@@ -208,8 +258,44 @@ module _ {t : Terms} (f : Facts t) (q : Sending) (begun : begun_by q ≡ None) (
         once = λ v rcode b w h. c.once v rcode b w (bothly v h);
       }
 
-  pub facts_put : Honest t.ids t.generation injects q → Flies injects t.current t.judged (answers (t.count + 1)) in_flight (t.count + 1) q → (given : Transaction → ℕ) → ((v : Transaction) → t.generation v.responder < v.generation → given v ≡ 0) → (owes : Option Owed) → Facts (puts_at t q injects answers given owes)
-  facts_put h new given ungiven owes = record {
+  put_replied : ((r : ℕ) → answers (t.count + 1) ≡ Some r → IsReply (Some q) (t.sent r)) → (s r : ℕ) (b : Bool) → nat_eq s (t.count + 1) ≡ b → answers s ≡ Some r → IsReply (cond b (Some q) (t.sent s)) (upd t.sent (t.count + 1) (Some q) r)
+  put_replied new s r false i e =
+      let old = f.replied s r (sym (elsewhere s i) ∙ e) in
+      record {
+        reply = old.reply;
+        asking = old.asking;
+        reply_is = old.reply_is;
+        asking_is = sent_kept f q r old.asking (nat_eq r (t.count + 1)) refl old.asking_is;
+        label = old.label;
+        kind = old.kind;
+        reply_part = old.reply_part;
+        asking_part = old.asking_part;
+        generation = old.generation;
+        from_is = old.from_is;
+        to_is = old.to_is;
+      }
+  put_replied new s r true i e =
+      let is : s ≡ t.count + 1 = grind arith in
+      let x = new r (ap answers (sym is) ∙ e) in
+      record {
+        reply = x.reply;
+        asking = x.asking;
+        reply_is = x.reply_is;
+        asking_is = sent_kept f q r x.asking (nat_eq r (t.count + 1)) refl x.asking_is;
+        label = x.label;
+        kind = x.kind;
+        reply_part = x.reply_part;
+        asking_part = x.asking_part;
+        generation = x.generation;
+        from_is = x.from_is;
+        to_is = x.to_is;
+      }
+
+  put_unanswered : (s : ℕ) → t.count + 1 < s → answers s ≡ None
+  put_unanswered s l = elsewhere s (nat_above s (t.count + 1) l) ∙ (f.unsent s (omega arith)).unanswered
+
+  pub facts_put : Honest t.ids t.generation injects q → Flies injects t.current t.judged (answers (t.count + 1)) in_flight (t.count + 1) q → (given : Transaction → ℕ) → ((v : Transaction) → t.generation v.responder < v.generation → given v ≡ 0) → (owes : Option Owed) → ((r : ℕ) → answers (t.count + 1) ≡ Some r → IsReply (Some q) (t.sent r)) → Facts (puts_at t q injects answers given owes)
+  facts_put h new given ungiven owes reply = record {
     apart = f.apart;
     aged = f.aged;
     unsent = λ s l.
@@ -220,6 +306,7 @@ module _ {t : Terms} (f : Facts t) (q : Sending) (begun : begun_by q ≡ None) (
           unjudged = g.unjudged;
           no_news = g.no_news;
           open_still = g.open_still;
+          unanswered = put_unanswered s l;
         };
     zero = rw (nat_apart 0 (t.count + 1) (omega arith)) f.zero;
     tie = λ v. tie_counts (tie_weaker (f.tie v) (fairly v) (bothly v) (both_fair injects v));
@@ -230,4 +317,6 @@ module _ {t : Terms} (f : Facts t) (q : Sending) (begun : begun_by q ≡ None) (
     honest = λ r p. put_honest h r p (nat_eq r (t.count + 1));
     flies = λ r p. put_flies new r p (nat_eq r (t.count + 1)) refl;
     counts = λ r p. put_counts r p (nat_eq r (t.count + 1)) refl;
+    waiting_kind = λ v k r e. kind_kept f q r v.label k (f.waiting_kind v k r e);
+    replied = λ s r. put_replied reply s r (nat_eq s (t.count + 1)) refl;
   }

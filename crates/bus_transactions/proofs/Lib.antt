@@ -18,3 +18,5 @@ pub mod MoveAnswer
 pub mod All
 pub mod PacketLaws
 pub mod JudgementLaws
+pub mod SentLaws
+pub mod AnswerLaws

@@ -1,4 +1,6 @@
 -- A node answers the request that it has judged.
+use Rattle.bus_transactions.specs.Answers.{IsSentFor}
+use Rattle.bus_transactions.specs.Sent.{IsOwn}
 use Rattle.std.specs.Prelude.{◌≡◌, ℕ, ◌+◌, ◌<◌, nat_eq, Bool, true, false, cond, List, Some, None, Ok, refl}
 use Rattle.std.proofs.Common.{arith, sym, ◌∙◌, ap, subst}
 use Rattle.sbp_base.specs.Update.{upd}
@@ -16,12 +18,12 @@ use Rattle.label_table.specs.Layer.{answering_step}
 use Rattle.packet_store.specs.Stored.{send_step}
 use Rattle.sbp_journal.specs.Transactions.{Kind, request, response, part_in, part_of, Transaction, is_same, at, Sending, between, asked_by, begun_by}
 use Rattle.sbp_journal.specs.Wire.{Terms, terms, in_flight, by_bus_rule, asked_in, sends}
-use Rattle.bus_transactions.specs.Wire.{Node, Due, Wire, as_sent, transaction, outgoing, next_serial}
+use Rattle.bus_transactions.specs.Wire.{Node, Due, Wire, as_sent, transaction, outgoing, next_serial, is_stated, is_reply}
 use Rattle.bus_transactions.specs.Moves.{answer, answered, answering, moved}
 use Rattle.bus_transactions.specs.May.{MayAnswer}
 use Rattle.bus_transactions.proofs.PacketParts.{same_is, part_read, to_read, asking_read, read_once}
 use Rattle.bus_transactions.proofs.Follows.{Follows, last_is, follows_sent}
-use Rattle.bus_transactions.proofs.Facts.{fair, Honest, Flies, nat_same, request_asked, response_asked, none_begun}
+use Rattle.bus_transactions.proofs.Facts.{fair, Honest, Flies, nat_same, request_asked, response_asked, none_begun, IsReply}
 use Rattle.bus_transactions.proofs.FactsSent.{puts_at, facts_put}
 use Rattle.bus_transactions.proofs.NodeRows.{IsNode, node_answered, node_answered_beside}
 use Rattle.bus_transactions.proofs.Stands.{IsDue, On, Stands, node_case, paid_terms, marked}
@@ -146,6 +148,26 @@ module _ (w : Wire) (h : Stands w) (d : Due) (rcode : ℕ) (given : List ℕ) (o
       let now = due.now in
       absurd (omega arith)
 
+  reply_to : (r : ℕ) → upd T.answers (T.count + 1) (Some due.owed.serial) (T.count + 1) ≡ Some r → IsReply (Some q) (T.sent r)
+  reply_to r e =
+      let is : due.owed.serial ≡ r = serial_one (sym (ap (λ b. cond b (Some due.owed.serial) (T.answers (T.count + 1))) (nat_same (T.count + 1))) ∙ e) in
+      record {
+        reply = q;
+        asking = d.request;
+        reply_is = refl;
+        asking_is = ap T.sent (sym is ∙ due.serial_is) ∙ due.sent_is;
+        label = due.label;
+        kind = due.kind;
+        reply_part = part_is;
+        asking_part = due.part;
+        generation = generation_is;
+        from_is = refl;
+        to_is = refl;
+      }
+    where
+      serial_one : {m n : ℕ} → Some m ≡ Some n → m ≡ n
+      serial_one e = cc
+
   terms_are : sends (next_serial w) (marked T (next_serial w) q (T.injected (next_serial w))) T ≡ puts_at T q T.injects (upd T.answers (T.count + 1) (Some due.owed.serial)) (at T.given v rcode) None
   terms_are =
       let serial : next_serial w ≡ T.count + 1 = ap (λ x. x + 1) (last_is o.follows) in
@@ -166,7 +188,7 @@ module _ (w : Wire) (h : Stands w) (d : Due) (rcode : ℕ) (given : List ℕ) (o
 
   answered_on : On (puts_at T q T.injects (upd T.answers (T.count + 1) (Some due.owed.serial)) (at T.given v rcode) None) (send_step w.store (as_sent q)) (upd w.layer i new) w.bus w.ids None
   answered_on = record {
-    facts = facts_put o.facts q none T.injects (λ k e. e) (upd T.answers (T.count + 1) (Some due.owed.serial)) (λ r e. ap (λ b. cond b (Some due.owed.serial) (T.answers r)) e) honest flies (at T.given v rcode) (λ u. ungiven u (is_same u v) refl) None;
+    facts = facts_put o.facts q none T.injects (λ k e. e) (upd T.answers (T.count + 1) (Some due.owed.serial)) (λ r e. ap (λ b. cond b (Some due.owed.serial) (T.answers r)) e) honest flies (at T.given v rcode) (λ u. ungiven u (is_same u v) refl) None reply_to;
     follows = subst (λ b. Follows (T.count + 1) (upd T.sent (T.count + 1) (Some q)) (upd (by_bus_rule b T.sent T.flight) (T.count + 1) in_flight) (send_step w.store (as_sent q))) none (follows_sent o.follows q (T.count + 1) refl);
     bus_is = o.bus_is;
     ids_are = o.ids_are;
@@ -179,6 +201,42 @@ module _ (w : Wire) (h : Stands w) (d : Due) (rcode : ℕ) (given : List ℕ) (o
   answered_stands : Stands (answered (answering_step (w.layer i) d.packet d.request.bytes rcode given) d w)
   unfolding answering_step
   answered_stands = subst (λ t. On t (send_step w.store (as_sent q)) (upd w.layer i new) w.bus w.ids None) (sym terms_are) answered_on
+
+  -- the packet is the node's own, and the answer that is owed
+  pub answered_own : IsOwn T (w.layer i).generation i j (canon p)
+  answered_own = record {
+    now = (o.nodes i).generation;
+    canonical = record {
+      packet = p;
+      valid = valid;
+      spelled = refl;
+      header =
+          packet_is.header
+          ∙ ap (λ x. header_to x (header_in d.packet).source (header_in d.packet).label) (o.nodes i).id
+          ∙ ap (λ x. header_to (T.ids (T.generation i) i) x (header_in d.packet).label) (from_is ∙ ap (λ g. T.ids g j) due.now)
+          ∙ ap (λ x. header_to (T.ids (T.generation i) i) (T.ids (T.generation i) j) x) (sym (ap (λ (x : Header). x.label) packet_is.header));
+    };
+    lowest = λ l k e. absurd (apart (sym part_is ∙ e));
+  }
+    where
+      apart : {l m : ℕ} {k n : Kind} → response l k ≡ request m n → ⊥
+      apart e = cc
+
+  pub answered_owed : is_reply d.reply rcode ≡ true → (b : Bool) → IsSentFor T.owes T (record { generation = (w.layer i).generation; from = i; to = j; bytes = canon p; injected = b })
+  answered_owed stated b = subst (λ x. IsSentFor x T (record { generation = (w.layer i).generation; from = i; to = j; bytes = canon p; injected = b })) (sym due.owes_is) (record {
+    asking = d.request;
+    sent = ap T.sent due.serial_is ∙ due.sent_is;
+    responds = record {
+      label = due.label;
+      kind = due.kind;
+      asks = due.part;
+      replies = part_is;
+      generation = generation_is;
+      from = refl;
+      to = refl;
+    };
+    stated = subst (λ x. is_stated due.owed.cause (T.given v) x ≡ true) (packet_is.rcode_is (canon p) (canon_spells p valid)) (due.stated rcode stated);
+  })
 
 pub move_answer : (w : Wire) → Stands w → (rcode : ℕ) (given : List ℕ) → MayAnswer w rcode given → Stands (moved (answer rcode given) w)
 move_answer w h rcode given may =

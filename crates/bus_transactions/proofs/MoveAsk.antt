@@ -139,7 +139,7 @@ module _ (w : Wire) (h : Stands w) (i j : ℕ) (body : Body) (may : MayAsk w i j
         label = λ l k e. b.label ∙ label_one n l b.kind k (sym b.part ∙ e);
       } in
       subst (λ t. On t (send_step w.store (as_sent q)) (upd w.layer i new) w.bus w.ids w.due) (sym terms_are) (record {
-        facts = facts_begun h.facts u b.kind q begun is_free differs honest (omega arith);
+        facts = facts_begun h.facts u b.kind q begun is_free differs honest (omega arith) b.part;
         follows = subst (λ o. Follows (T.count + 1) (upd T.sent (T.count + 1) (Some q)) (upd (by_bus_rule o T.sent T.flight) (T.count + 1) in_flight) (send_step w.store (as_sent q))) begun (follows_sent h.follows q (T.count + 1) refl);
         bus_is = h.bus_is;
         ids_are = h.ids_are;

@@ -1,5 +1,7 @@
 -- A packet is delivered.
-use Rattle.std.specs.Prelude.{◌≡◌, ◌≢◌, ℕ, ◌+◌, nat_eq, Bool, true, false, cond, List, Option, Some, None, IsSome, Result, Ok, Err, refl}
+use Rattle.label_table.specs.Requests.{is_write, is_last}
+use Rattle.label_table.specs.declared.source.Remembered.{Remembered}
+use Rattle.std.specs.Prelude.{◌≡◌, ◌≢◌, ℕ, ◌+◌, nat_eq, Bool, true, false, cond, List, Option, Some, None, IsSome, Result, Ok, Err, refl, ◌&&◌}
 use Rattle.std.proofs.Common.{arith, sym, ◌∙◌, ap, subst}
 use Rattle.sbp_base.specs.Update.{upd}
 use Rattle.async_packet.specs.Fields.{rcode_of}
@@ -11,7 +13,7 @@ use Rattle.label_table.specs.declared.reply.Verdict.TheVariants as verdicts
 use Rattle.label_table.specs.declared.place.LabelState.TheVariants as states
 use Rattle.label_table.specs.Filter.{SourcePlace, place_for, judge_step}
 use Rattle.label_table.specs.Judging.{Facts, Row, by_grammar, by_label, by_response, by_again, by_request, row_of}
-use Rattle.label_table.specs.Layer.{Finding, of_generation, of_grammar, of_label, of_response, of_again, of_request, facts_in, judging_step}
+use Rattle.label_table.specs.Layer.{Finding, of_generation, of_grammar, of_label, of_response, of_again, of_request, facts_in, judging_step, rcode_in, is_again}
 use Rattle.label_table.specs.Layer as layers
 use Rattle.label_table.proofs.Course.{place_of}
 use Rattle.packet_store.specs.declared.sent.Kept.{Kept}
@@ -21,16 +23,16 @@ use Rattle.sbp_journal.specs.Transactions.{Kind, is_same_kind, Part, request, re
 use Rattle.sbp_journal.specs.Wire.{Terms, terms, Flight, delivered, Held, free, waits, rests, arrives, is_news, is_served, judges, closes, closes_if, gets_as, gets, ignores_that, judges_if, noted}
 use Rattle.sbp_journal.specs.declared.cause.Cause.{Cause}
 use Rattle.sbp_journal.specs.declared.cause.Cause.TheVariants as causes
-use Rattle.bus_transactions.specs.Wire.{Node, as_before, as_decided, Wire, as_sending, transaction, first_note, due_for}
+use Rattle.bus_transactions.specs.Wire.{Node, as_before, as_decided, Wire, as_sending, transaction, first_note, due_for, is_stated}
 use Rattle.bus_transactions.specs.Moves.{deliver, arrived, judging, delivering, moved}
 use Rattle.bus_transactions.specs.May.{MayDeliver, may_ignore}
 use Rattle.bus_transactions.specs.Judging.{is_response, is_repeated, is_awaited, waits_for, facts_of}
 use Rattle.bus_transactions.proofs.PacketParts.{part_read, PartOf, asks, replies, part_case, answering_read}
 use Rattle.bus_transactions.proofs.Follows.{Follows, is_live, follows_delivered, found_kept}
 use Rattle.bus_transactions.proofs.Ties.{counts_new}
-use Rattle.bus_transactions.proofs.Facts.{not_true, nat_same, injected_begun, request_asked, response_asked, none_begun, asked_is}
+use Rattle.bus_transactions.proofs.Facts.{not_true, nat_same, injected_begun, request_asked, response_asked, none_begun, asked_is, Honest}
 use Rattle.bus_transactions.proofs.FactsJudged.{facts_flight, news_at, judged_at, closed_at}
-use Rattle.bus_transactions.proofs.JudgedStep.{Says, row_says, Responds, Requests, JudgedAs, judged_step, facts_agree}
+use Rattle.bus_transactions.proofs.JudgedStep.{Says, row_says, Responds, Requests, JudgedAs, judged_step, facts_agree, remembered_is, again_at, rcode_at}
 use Rattle.bus_transactions.proofs.NodeRows.{IsNode, node_frees, node_beside_held}
 use Rattle.bus_transactions.proofs.Stands.{On, Stands}
 use Rattle.bus_transactions.proofs.Delivered.{stays_on, news_on, judged_on, closed_on}
@@ -131,6 +133,17 @@ room_place filter source bytes room = some_of (place_for source filter) (place_o
     some_of None i = cc
     some_of (Some n) i = (n, refl)
 
+-- a cause of the node's own states its rcode whatever was given before
+decided_stated : (cause : Option Cause) (given rcode : ℕ) → may_ignore cause ≡ true → is_stated cause 0 rcode ≡ true → is_stated cause given rcode ≡ true
+decided_stated None given rcode known e = refl
+decided_stated (Some causes.Generation) given rcode known e = cc
+decided_stated (Some causes.Label) given rcode known e = cc
+decided_stated (Some causes.Again) given rcode known e = cc
+decided_stated (Some causes.Grammar) given rcode known e = e
+decided_stated (Some causes.Source) given rcode known e = e
+decided_stated (Some causes.Login) given rcode known e = e
+decided_stated (Some causes.Slot) given rcode known e = e
+
 module _ (w : Wire) (h : Stands w) (s : ℕ) (q : Sending) (cause : Option Cause) (free_now : w.due ≡ None) (sent : (terms w.past).sent s ≡ Some q) (live : is_live ((terms w.past).flight s) ≡ true) (flies : (terms w.past).repeats ≡ false → is_flying s w.store.kept ≡ true) (room : (p : Packet) → reading q.bytes ≡ Ok p → judge_step (w.layer q.to).filter (header_in p).source q.bytes ≢ verdicts.Crowded) where
   abbrev pub B : Terms
   B = arrives s (terms w.past)
@@ -214,8 +227,8 @@ module _ (w : Wire) (h : Stands w) (s : ℕ) (q : Sending) (cause : Option Cause
       subst (λ t. On t store' (upd w.layer q.to new) w.bus w.ids None) (sym terms_are)
       (closed_on B store' w.layer w.bus w.ids o s q sent still r.label r.kind waiting.kind' waiting.serial (rcode_of q.bytes) (upd B.news s (B.news s + 1)) (upd B.served s (B.served s + 1)) new r.part now waiting.is (λ x d. ap (λ b. cond b (B.news s + 1) (B.news x)) d) (λ n d. node_beside_held (o.nodes n) u free d) own')
 
-  again_case : (new : Node) (p : Packet) (rcode : ℕ) → Requests (w.layer q.to) new q.bytes F p by_again → On (noted (first_note (of_again p rcode) cause s) (terms w.past)) store' (upd w.layer q.to new) w.bus w.ids (due_for (of_again p rcode) cause s q)
-  again_case new p rcode x =
+  again_case : (new : Node) (p : Packet) (rcode : ℕ) → Requests (w.layer q.to) new q.bytes F p by_again → rcode ≡ rcode_in (judge_step (w.layer q.to).filter (header_in p).source q.bytes) → On (noted (first_note (of_again p rcode) cause s) (terms w.past)) store' (upd w.layer q.to new) w.bus w.ids (due_for (of_again p rcode) cause s q)
+  again_case new p rcode x code =
       let now = is_now (row_says F by_again x.row_is).0.current in
       let f = row_now by_again x.row_is (row_says F by_again x.row_is).0.current in
       let r = request_is q.bytes p x.read f.1 in
@@ -224,12 +237,22 @@ module _ (w : Wire) (h : Stands w) (s : ℕ) (q : Sending) (cause : Option Cause
       let zero = repeated_count B q r.label r.kind true r.part f.2 in
       let counted : B.news s ≡ B.news s + counts_new (B.seen v) q.bytes = omega (arith, zero) in
       subst (λ t. On t store' (upd w.layer q.to new) w.bus w.ids (due_for (of_again p rcode) cause s q))
-      (sym (ap (λ so. ignores_that so causes.Again s (terms w.past)) sent ∙ ap (λ a. judges a true s q B) (request_asked q r.label r.kind r.part)))
-      (judged_on B store' w.layer w.bus w.ids o s q sent still p r.label place.0 r.kind true B.news B.served (as_before rcode) new x.read r.part now counted (λ x d. refl) place.1 x.same)
+      (sym (ap (λ so. ignores_that so causes.Again s (terms w.past)) sent ∙ ap (λ a. judges a (Some causes.Again) s q B) (request_asked q r.label r.kind r.part)))
+      (judged_on B store' w.layer w.bus w.ids o s q sent still p r.label place.0 r.kind (Some causes.Again) B.news B.served (as_before rcode) new x.read r.part now counted (λ x d. refl) place.1 x.same
+      (λ c e. subst (λ g. is_stated (Some causes.Again) g c ≡ true) (code ∙ before_is (o.facts.honest s q sent) (node_now now) p r.label r.kind x.read r.part f.2) e))
+    where
+      before_is : Honest B.ids B.generation B.injects q → IsNode (B.ids q.generation) q.generation q.to B.held B.last B.seen B.given None (w.layer q.to) → (p : Packet) (l : ℕ) (k : Kind) → reading q.bytes ≡ Ok p → part_of q.bytes ≡ request l k → is_repeated B (part_of q.bytes) q ≡ true → rcode_in (judge_step (w.layer q.to).filter (header_in p).source q.bytes) ≡ B.given (between q q.from q.to l)
+      before_is honest node p l k read part again =
+          let r = remembered_is B (w.layer q.to) q node honest.source honest.label p l k read part in
+          let a : is_again (judge_step (w.layer q.to).filter (header_in p).source q.bytes) ≡ true =
+          again_at (w.layer q.to).filter q.bytes (place_for (header_in p).source (w.layer q.to).filter)
+          ∙ ap (λ (x : Remembered). is_write q.bytes && is_last x.last q.bytes) r
+          ∙ sym (ap (λ x. is_repeated B x q) part) ∙ again in
+          rcode_at (w.layer q.to).filter q.bytes (place_for (header_in p).source (w.layer q.to).filter) a ∙ ap (λ (x : Remembered). x.rcode) r
 
   -- a request that the node decides on, got or ignored
-  request_on : (new : Node) (p : Packet) (served : ℕ → ℕ) → Requests (w.layer q.to) new q.bytes F p by_request → (t : Terms) → ((v : Transaction) → asked_by q ≡ Some v → is_to q.bytes (B.ids q.generation q.to) ≡ true → t ≡ judged_at B s q v (Some (record { serial = s; again = false })) (upd B.news s (B.news s + 1)) served) → On t store' (upd w.layer q.to new) w.bus w.ids (due_for (of_request p) cause s q)
-  request_on new p served x t is =
+  request_on : may_ignore cause ≡ true → (new : Node) (p : Packet) (served : ℕ → ℕ) → Requests (w.layer q.to) new q.bytes F p by_request → (t : Terms) → ((v : Transaction) → asked_by q ≡ Some v → is_to q.bytes (B.ids q.generation q.to) ≡ true → t ≡ judged_at B s q v (Some (record { serial = s; cause = cause })) (upd B.news s (B.news s + 1)) served) → On t store' (upd w.layer q.to new) w.bus w.ids (due_for (of_request p) cause s q)
+  request_on known new p served x t is =
       let now = is_now (row_says F by_request x.row_is).0.current in
       let f = row_now by_request x.row_is (row_says F by_request x.row_is).0.current in
       let r = request_is q.bytes p x.read f.1 in
@@ -240,13 +263,13 @@ module _ (w : Wire) (h : Stands w) (s : ℕ) (q : Sending) (cause : Option Cause
       let here : upd B.news s (B.news s + 1) s ≡ B.news s + 1 = ap (λ b. cond b (B.news s + 1) (B.news s)) (nat_same s) in
       let counted : upd B.news s (B.news s + 1) s ≡ B.news s + counts_new (B.seen v) q.bytes = here ∙ ap (λ n. B.news s + n) (sym one) in
       subst (λ t. On t store' (upd w.layer q.to new) w.bus w.ids (due_for (of_request p) cause s q)) (sym (is v a f.0.for_node))
-      (judged_on B store' w.layer w.bus w.ids o s q sent still p r.label place.0 r.kind false (upd B.news s (B.news s + 1)) served (as_decided cause) new x.read r.part now counted (λ x d. ap (λ b. cond b (B.news s + 1) (B.news x)) d) place.1 x.same)
+      (judged_on B store' w.layer w.bus w.ids o s q sent still p r.label place.0 r.kind cause (upd B.news s (B.news s + 1)) served (as_decided cause) new x.read r.part now counted (λ x d. ap (λ b. cond b (B.news s + 1) (B.news x)) d) place.1 x.same (λ c e. decided_stated cause (B.given v) c known e))
 
 -- the terms of a request that is taken, or ignored for a cause
-gets_request : (t : Terms) (s : ℕ) (q : Sending) (v : Transaction) → asked_by q ≡ Some v → gets_as (part_of q.bytes) s q t ≡ judges (Some v) false s q t
+gets_request : (t : Terms) (s : ℕ) (q : Sending) (v : Transaction) → asked_by q ≡ Some v → gets_as (part_of q.bytes) s q t ≡ judges (Some v) None s q t
 gets_request t s q v a =
     let r = asked_is q v a in
-    ap (λ part. gets_as part s q t) r.part ∙ ap (λ o. judges o false s q t) a
+    ap (λ part. gets_as part s q t) r.part ∙ ap (λ o. judges o None s q t) a
 
 module _ (w : Wire) (h : Stands w) (s : ℕ) (q : Sending) (free_now : w.due ≡ None) (sent : (terms w.past).sent s ≡ Some q) (live : is_live ((terms w.past).flight s) ≡ true) (flies : (terms w.past).repeats ≡ false → is_flying s w.store.kept ≡ true) (room : (p : Packet) → reading q.bytes ≡ Ok p → judge_step (w.layer q.to).filter (header_in p).source q.bytes ≢ verdicts.Crowded) where
   abbrev C : Terms
@@ -254,32 +277,32 @@ module _ (w : Wire) (h : Stands w) (s : ℕ) (q : Sending) (free_now : w.due ≡
 
   request_case : (cause : Option Cause) → may_ignore cause ≡ true → (new : Node) (p : Packet) → Requests (w.layer q.to) new q.bytes (layers.facts_of (w.layer q.to) q.generation q.bytes) p by_request → On (noted (first_note (of_request p) cause s) (terms w.past)) (arrived (terms w.past).repeats s w.store) (upd w.layer q.to new) w.bus w.ids (due_for (of_request p) cause s q)
   request_case None known new p x =
-      request_on w h s q None free_now sent live flies room new p (upd C.served s (C.served s + 1)) x _ (λ v a f.
+      request_on w h s q None free_now sent live flies room known new p (upd C.served s (C.served s + 1)) x _ (λ v a f.
       ap (λ so. gets so s (terms w.past)) sent ∙ gets_request (is_served s (is_news s C)) s q v a)
   request_case (Some causes.Generation) known new p x = cc
   request_case (Some causes.Label) known new p x = cc
   request_case (Some causes.Again) known new p x = cc
   request_case (Some causes.Grammar) known new p x =
-      request_on w h s q (Some causes.Grammar) free_now sent live flies room new p C.served x _ (λ v a f.
+      request_on w h s q (Some causes.Grammar) free_now sent live flies room known new p C.served x _ (λ v a f.
       ap (λ so. ignores_that so causes.Grammar s (terms w.past)) sent
       ∙ ap (λ b. judges_if b (asked_by q) s q (is_news s C)) f
-      ∙ ap (λ o. judges o false s q (is_news s C)) a)
+      ∙ ap (λ o. judges o (Some causes.Grammar) s q (is_news s C)) a)
   request_case (Some causes.Source) known new p x =
-      request_on w h s q (Some causes.Source) free_now sent live flies room new p C.served x _ (λ v a f.
-      ap (λ so. ignores_that so causes.Source s (terms w.past)) sent ∙ ap (λ o. judges o false s q (is_news s C)) a)
+      request_on w h s q (Some causes.Source) free_now sent live flies room known new p C.served x _ (λ v a f.
+      ap (λ so. ignores_that so causes.Source s (terms w.past)) sent ∙ ap (λ o. judges o (Some causes.Source) s q (is_news s C)) a)
   request_case (Some causes.Login) known new p x =
-      request_on w h s q (Some causes.Login) free_now sent live flies room new p C.served x _ (λ v a f.
-      ap (λ so. ignores_that so causes.Login s (terms w.past)) sent ∙ ap (λ o. judges o false s q (is_news s C)) a)
+      request_on w h s q (Some causes.Login) free_now sent live flies room known new p C.served x _ (λ v a f.
+      ap (λ so. ignores_that so causes.Login s (terms w.past)) sent ∙ ap (λ o. judges o (Some causes.Login) s q (is_news s C)) a)
   request_case (Some causes.Slot) known new p x =
-      request_on w h s q (Some causes.Slot) free_now sent live flies room new p (upd C.served s (C.served s + 1)) x _ (λ v a f.
-      ap (λ so. ignores_that so causes.Slot s (terms w.past)) sent ∙ ap (λ o. judges o false s q (is_served s (is_news s C))) a)
+      request_on w h s q (Some causes.Slot) free_now sent live flies room known new p (upd C.served s (C.served s + 1)) x _ (λ v a f.
+      ap (λ so. ignores_that so causes.Slot s (terms w.past)) sent ∙ ap (λ o. judges o (Some causes.Slot) s q (is_served s (is_news s C))) a)
 
   judged_case : (cause : Option Cause) → may_ignore cause ≡ true → (r : Finding (Unit {0}) × Node) → JudgedAs (w.layer q.to) q.bytes (layers.facts_of (w.layer q.to) q.generation q.bytes) r → Stands (judging r cause s q (record w { store = arrived (terms w.past).repeats s w.store }))
   judged_case cause known (of_generation, new) j = generation_case w h s q cause free_now sent live flies room new j.0
   judged_case cause known (of_grammar, new) j = grammar_case w h s q cause free_now sent live flies room new j.0 j.1
   judged_case cause known (of_label, new) j = label_case w h s q cause free_now sent live flies room new j.0 j.1
   judged_case cause known (of_response p label purpose, new) j = response_case w h s q cause free_now sent live flies room new p label purpose j
-  judged_case cause known (of_again p rcode, new) j = again_case w h s q cause free_now sent live flies room new p rcode j.0
+  judged_case cause known (of_again p rcode, new) j = again_case w h s q cause free_now sent live flies room new p rcode j.0 j.1
   judged_case cause known (of_request p, new) j = request_case cause known new p j
 
   pub delivered_on : (cause : Option Cause) → may_ignore cause ≡ true → Stands (delivering s q cause w)

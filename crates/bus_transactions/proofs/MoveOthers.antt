@@ -117,6 +117,7 @@ room_kept w h i new same (Some due) d = record {
   part = d.part;
   now = d.now;
   heard = d.heard;
+  stated = d.stated;
   own = d.own;
   came = d.came;
   place = d.place;
@@ -281,7 +282,7 @@ module _ (w : Wire) (h : Stands w) (i j : ℕ) (bytes : List ℕ) (may : MayInje
         asks = λ u e. absurd (nothing (sym begun ∙ e));
         replies = λ l kind part e. absurd (differ e);
       } in
-      let put = facts_put k.facts q begun wild (λ n. wilder n (nat_eq n i)) I.answers (λ r e. refl) honest flies I.given k.facts.ungiven I.owes in
+      let put = facts_put k.facts q begun wild (λ n. wilder n (nat_eq n i)) I.answers (λ r e. refl) honest flies I.given k.facts.ungiven I.owes (λ r e. absurd (unanswered (sym (k.facts.unsent (I.count + 1) (omega arith)).unanswered ∙ e))) in
       subst (λ t. On t (send_step w.store (as_sent q)) w.layer w.bus w.ids w.due) (sym terms_are)
       (subst (On (puts_at t1 q wild I.answers I.given I.owes) (send_step w.store (as_sent q)) w.layer w.bus w.ids) (sym may.free) (record {
         facts = facts_marked put s (omega arith);
@@ -297,3 +298,6 @@ module _ (w : Wire) (h : Stands w) (i j : ℕ) (bytes : List ℕ) (may : MayInje
 
       differ : true ≡ false → ⊥
       differ e = cc
+
+      unanswered : {r : ℕ} → None ≡ Some r → ⊥
+      unanswered e = cc

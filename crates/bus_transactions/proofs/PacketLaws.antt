@@ -102,7 +102,7 @@ rows_always moves may =
     }
 
 -- ---- writes
-fair_is : (injects : ℕ → Bool) (u : Transaction) → injects u.requester ≡ false → fair injects u ≡ true
+pub fair_is : (injects : ℕ → Bool) (u : Transaction) → injects u.requester ≡ false → fair injects u ≡ true
 fair_is injects u e = rw e refl
 
 both_is : (injects : ℕ → Bool) (u : Transaction) → injects u.requester ≡ false → injects u.responder ≡ false → both injects u ≡ true

@@ -9,7 +9,7 @@ use Rattle.label_table.specs.Filter.{place_for}
 use Rattle.packet_store.specs.Stored.{Stored}
 use Rattle.sbp_journal.specs.Transactions.{Kind, request, part_of, Transaction, at, Sending, between, asked_by, begun_by}
 use Rattle.sbp_journal.specs.Wire.{Terms, terms, in_flight, waits, kind_in, by_bus_rule, asked_in, Owed, sends, puts, begins, pays, gives}
-use Rattle.bus_transactions.specs.Wire.{Node, Due, Wire}
+use Rattle.bus_transactions.specs.Wire.{is_stated, is_reply, Node, Due, Wire}
 use Rattle.bus_transactions.proofs.Facts.{fair, Facts, nat_is}
 use Rattle.bus_transactions.proofs.FactsSent.{begins_at, puts_at}
 use Rattle.bus_transactions.proofs.Follows.{Follows}
@@ -27,6 +27,7 @@ pub record IsDue (t : Terms) (layer : ℕ → Node) (d : Due) : Type 0 where
   pub part : part_of d.request.bytes ≡ request label kind
   pub now : d.request.generation ≡ t.generation d.request.to
   pub heard : t.seen (between d.request d.request.from d.request.to label) ≡ Some d.request.bytes
+  pub stated : (rcode : ℕ) → is_reply d.reply rcode ≡ true → is_stated owed.cause (t.given (between d.request d.request.from d.request.to label)) rcode ≡ true
   pub own : fair t.injects (between d.request d.request.from d.request.to label) ≡ true → d.serial ≡ t.current (between d.request d.request.from d.request.to label)
   pub came : 0 < t.judged d.serial
   pub place : ℕ

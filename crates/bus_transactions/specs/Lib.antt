@@ -5,3 +5,5 @@ pub mod Packets
 pub mod Rows
 pub mod Once
 pub mod Judging
+pub mod Answers
+pub mod Sent

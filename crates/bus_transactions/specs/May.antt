@@ -1,6 +1,6 @@
 -- When each move may be made: what the node or the bus checks, and what its types say. While a request is to be answered nothing else
 -- may happen but what tells nothing of the wire.
-use Rattle.std.specs.Prelude.{◌≡◌, ◌≢◌, ◌<◌, ◌==◌, ℕ, Bool, true, false, is_ok, List, [], ◌∷◌, Option, Some, None, Ok}
+use Rattle.std.specs.Prelude.{◌≡◌, ◌≢◌, ◌<◌, ℕ, Bool, true, false, is_ok, List, [], ◌∷◌, Option, Some, None, Ok}
 use Rattle.std.specs.List.{All}
 use Rattle.async_packet.specs.Packet.{Packet, header_in}
 use Rattle.async_packet.specs.Canon.{IsValid}
@@ -20,26 +20,13 @@ use Rattle.sbp_journal.specs.declared.cause.Cause.{Cause}
 use Rattle.sbp_journal.specs.declared.cause.Cause.TheVariants as causes
 use Rattle.sbp_journal.specs.declared.note.Note.{Note}
 use Rattle.sbp_journal.specs.declared.note.Note.TheVariants as notes
-use Rattle.bus_transactions.specs.Wire.{Reply, as_before, as_decided, Due, Wire, id_for}
+use Rattle.bus_transactions.specs.Wire.{is_reply, Due, Wire, id_for}
 use Rattle.bus_transactions.specs.Moves.{Move, ask, answer, inject, deliver, lose, expire, disown, reset, see, start, tell, after}
 
 -- a body that fits its fields
 pub record MayAsk (w : Wire) (node peer : ℕ) (body : Body) : Type 0 where
   pub free : w.due ≡ None
   pub valid : IsValid (request_with (header_to (w.layer node).node (id_for w node peer) 0) body)
-
--- the answers to a request (system rcodes: 0 complete, 5 data_error, 7 address_error)
-abbrev pub is_stated : Option Cause → (rcode : ℕ) → Bool
-is_stated None rcode = true
-is_stated (Some causes.Slot) rcode = rcode == 0
-is_stated (Some causes.Grammar) rcode = rcode == 5
-is_stated (Some causes.Source) rcode = rcode == 7
-is_stated (Some causes.Login) rcode = rcode == 7
-is_stated (Some _) rcode = false
-
-abbrev pub is_reply : Reply → (rcode : ℕ) → Bool
-is_reply (as_before before) rcode = rcode == before
-is_reply (as_decided cause) rcode = is_stated cause rcode
 
 -- the request that is to be answered, with an rcode that its judgement states; a read that is complete gives as many bytes as were
 -- asked for

@@ -1,6 +1,6 @@
 -- The bus with the transaction layers of its nodes, whatever the nodes do (IEEE 1394-1995): the store of packets, each node's layer, the
 -- bus generation with its IDs, the request that is to be answered, and the history. Nodes are numbered as in notes.
-use Rattle.std.specs.Prelude.{ℕ, ◌+◌, Bool, List, [], ◌∷◌, Option, Some, None}
+use Rattle.std.specs.Prelude.{ℕ, ◌+◌, ◌==◌, Bool, true, false, List, [], ◌∷◌, Option, Some, None}
 use Rattle.async_packet.specs.Packet.{Packet}
 use Rattle.label_table.specs.Layer.{Layer, Finding, of_generation, of_grammar, of_label, of_response, of_again, of_request, new_layer}
 use Rattle.packet_store.specs.declared.sent.Sent.{Sent}
@@ -21,6 +21,21 @@ Node = Layer (Unit {0})
 pub data Reply : Type 0 where
   as_before : (rcode : ℕ) → Reply
   as_decided : Option Cause → Reply
+
+-- The rcodes that answer a request that is ignored for a cause: 0 complete, 5 data_error, 7 address_error; and as the first time where it
+-- comes again. A request that is got is answered as its receiver decides.
+abbrev pub is_stated : Option Cause → (given rcode : ℕ) → Bool
+is_stated None given rcode = true
+is_stated (Some causes.Slot) given rcode = rcode == 0
+is_stated (Some causes.Grammar) given rcode = rcode == 5
+is_stated (Some causes.Source) given rcode = rcode == 7
+is_stated (Some causes.Login) given rcode = rcode == 7
+is_stated (Some causes.Again) given rcode = rcode == given
+is_stated (Some _) given rcode = false
+
+abbrev pub is_reply : Reply → (rcode : ℕ) → Bool
+is_reply (as_before before) rcode = is_stated (Some causes.Again) before rcode
+is_reply (as_decided cause) rcode = is_stated cause 0 rcode
 
 -- a request that its receiver has judged and not answered yet
 pub record Due : Type 0 where

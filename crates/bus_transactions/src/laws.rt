@@ -3,6 +3,8 @@ ghost use Rattle.bus_transactions.specs.Packets.{PacketLaw};
 ghost use Rattle.bus_transactions.specs.Rows.{RowsLaw};
 ghost use Rattle.bus_transactions.specs.Once.{OnceLaw};
 ghost use Rattle.bus_transactions.specs.Judging.{JudgementLaw};
+ghost use Rattle.bus_transactions.specs.Answers.{AnswerLaw};
+ghost use Rattle.bus_transactions.specs.Sent.{SentLaw};
 
 /// The law of packets: serials count from 1, and the store has the packets and the states that the
 /// history tells, by the bus rule.
@@ -26,4 +28,16 @@ pub fn writes_taken_once()
 /// that holds.
 pub fn first_row_decides()
     ensures { Always JudgementLaw }
+{}
+
+/// The law of answers: a request that is judged has exactly one response, the next packet that is sent;
+/// and a response that comes for a label that waits answers the request that waits there.
+pub fn answered_next()
+    ensures { Always AnswerLaw }
+{}
+
+/// The sent law of packets: what is not injected is canonical, from its sender's ID, in its sender's
+/// generation, and a request has the lowest label that it may have.
+pub fn packets_are_own()
+    ensures { Always SentLaw }
 {}

@@ -4,4 +4,7 @@
 
 mod laws;
 
-pub use laws::{first_row_decides, packets_by_history, rows_by_history, writes_taken_once};
+pub use laws::{
+    answered_next, first_row_decides, packets_are_own, packets_by_history, rows_by_history,
+    writes_taken_once,
+};

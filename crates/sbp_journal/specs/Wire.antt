@@ -27,10 +27,10 @@ pub data Held : Type 0 where
   waits : Kind → (serial : ℕ) → Held
   rests : Held
 
--- a request that a node has judged and not answered yet, and whether it came again
+-- a request that a node has judged and not answered yet, and the cause if it was ignored
 pub record Owed : Type 0 where
   pub serial : ℕ
-  pub again : Bool
+  pub cause : Option Cause
 
 pub record Terms : Type 0 where
   -- the generation of the bus, the ID of a node by generation, and the generation that a node is in
@@ -165,13 +165,13 @@ is_news s t = record t { news = upd t.news s (t.news s + 1) }
 abbrev pub is_served : ℕ → Terms → Terms
 is_served s t = record t { served = upd t.served s (t.served s + 1) }
 
--- a request is judged by a row after the first two, as one that comes again or not
-abbrev pub judges : Option Transaction → (again : Bool) → (s : ℕ) → Sending → Terms → Terms
-judges None again s packet t = t
-judges (Some u) again s packet t = record t {
+-- a request is judged by a row after the first two: it is got, or ignored for a cause
+abbrev pub judges : Option Transaction → Option Cause → (s : ℕ) → Sending → Terms → Terms
+judges None cause s packet t = t
+judges (Some u) cause s packet t = record t {
   seen = at t.seen u (Some packet.bytes);
   judged = upd t.judged s (t.judged s + 1);
-  owes = Some (record { serial = s; again = again });
+  owes = Some (record { serial = s; cause = cause });
 }
 
 -- a response with an rcode closes the transaction that waits for its kind
@@ -185,7 +185,7 @@ closes free u other rcode t = t
 closes rests u other rcode t = t
 
 abbrev pub gets_as : Part → (s : ℕ) → Sending → Terms → Terms
-gets_as (request label kind) s packet t = judges (asked_by packet) false s packet t
+gets_as (request label kind) s packet t = judges (asked_by packet) None s packet t
 gets_as (response label kind) s packet t =
     let u = between packet packet.to packet.from label in closes (t.held u) u kind (rcode_of packet.bytes) t
 gets_as no_packet s packet t = t
@@ -197,7 +197,7 @@ gets (Some packet) s t = gets_as (part_of packet.bytes) s packet (is_served s (i
 -- Two rows have the word grammar: by the second row the bytes are no packet to the receiver, and nothing is judged; by a later one a
 -- request is.
 abbrev pub judges_if : Bool → Option Transaction → (s : ℕ) → Sending → Terms → Terms
-judges_if true began s packet t = judges began false s packet t
+judges_if true began s packet t = judges began (Some causes.Grammar) s packet t
 judges_if false began s packet t = t
 
 abbrev pub ignores : Cause → (s : ℕ) → Sending → Terms → Terms
@@ -205,10 +205,10 @@ ignores causes.Generation s packet t = t
 ignores causes.Grammar s packet t =
     judges_if (is_to packet.bytes (t.ids packet.generation packet.to)) (asked_by packet) s packet (is_news s t)
 ignores causes.Label s packet t = is_news s t
-ignores causes.Again s packet t = judges (asked_by packet) true s packet t
-ignores causes.Source s packet t = judges (asked_by packet) false s packet (is_news s t)
-ignores causes.Login s packet t = judges (asked_by packet) false s packet (is_news s t)
-ignores causes.Slot s packet t = judges (asked_by packet) false s packet (is_served s (is_news s t))
+ignores causes.Again s packet t = judges (asked_by packet) (Some causes.Again) s packet t
+ignores causes.Source s packet t = judges (asked_by packet) (Some causes.Source) s packet (is_news s t)
+ignores causes.Login s packet t = judges (asked_by packet) (Some causes.Login) s packet (is_news s t)
+ignores causes.Slot s packet t = judges (asked_by packet) (Some causes.Slot) s packet (is_served s (is_news s t))
 
 abbrev pub ignores_that : Option Sending → Cause → ℕ → Terms → Terms
 ignores_that None cause s t = t
