@@ -151,7 +151,7 @@ impl Image {
 
     /// The place of a range of addresses in a window that is open and that it does not leave.
     #[tactic(auto, unfolding(crate::specs::Access::spot_of))]
-    pub(crate) fn spot(&self, offset: Offset, count: usize) -> Option<Spot>
+    pub fn spot(&self, offset: Offset, count: usize) -> Option<Spot>
         ensures spot { result ≡ spot_of self.now offset count }
         ensures within { IfSpot self.now count result }
     {

@@ -17,6 +17,3 @@ pub use laws::{
 };
 pub use slot::{PlaceMemory, SlotMemory};
 pub use window::Window;
-
-#[cfg(test)]
-mod tests;

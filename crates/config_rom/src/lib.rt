@@ -18,6 +18,3 @@ pub use read::parse;
 pub use rom::Rom;
 pub use sum::sum16;
 pub use unit::{SbpUnit, sbp_unit};
-
-#[cfg(test)]
-mod tests;

@@ -17,6 +17,3 @@ pub use law::{
 };
 pub use login::{Entered, Login, LoginRefusal};
 pub use table::Logins;
-
-#[cfg(test)]
-mod tests;

@@ -6,8 +6,3 @@ mod packet;
 mod start;
 
 pub use lister::PacketLister;
-
-#[cfg(test)]
-mod boundaries;
-#[cfg(test)]
-mod tests;

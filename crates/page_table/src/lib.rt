@@ -12,6 +12,3 @@ pub use fault::PageFault;
 pub use laws::{chunk_is_in_place, chunks_in_turn, chunks_join_to_the_buffer};
 pub use segment::Chunk;
 pub use table::{SegmentTable, elements};
-
-#[cfg(test)]
-mod tests;

@@ -7,6 +7,3 @@ mod quadlets;
 
 pub use gatherer::RomLister;
 pub use listing::rom_tree_is_listed;
-
-#[cfg(test)]
-mod tests;

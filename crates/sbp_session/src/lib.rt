@@ -17,6 +17,3 @@ pub use law::{
 pub use live::Live;
 pub use out::{Entering, Out};
 pub use seat::{Origin, Seat, Stuck};
-
-#[cfg(test)]
-mod tests;

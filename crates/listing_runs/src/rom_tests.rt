@@ -1,4 +1,4 @@
-use crate::RomLister;
+use rom_listing::RomLister;
 use line_session::{Status, serve_lines};
 use sbp_base::{Bytes, MemorySink, MemorySource, NoMemory};
 use std::alloc::Global;

@@ -1,4 +1,4 @@
-use crate::PacketLister;
+use packet_listing::PacketLister;
 use line_session::{Status, serve_lines};
 use sbp_base::{Bytes, MemorySink, MemorySource, NoMemory};
 use std::alloc::Global;

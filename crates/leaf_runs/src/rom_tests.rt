@@ -1,6 +1,6 @@
 ghost use Rattle.std.specs.Prelude.{◌≤◌, length};
 
-use crate::{Block, RomFault, RomPlan, SbpUnit, make, parse, sbp_unit, sum16};
+use config_rom::{Block, RomFault, RomPlan, SbpUnit, make, parse, sbp_unit, sum16};
 use std::test::Fail;
 
 /// A ROM of four bus quadlets, a root directory with one leaf, and the leaf.

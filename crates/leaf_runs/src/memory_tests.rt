@@ -1,4 +1,4 @@
-use crate::{Image, Spot, Window};
+use bus_memory::{Image, Spot, Window};
 use sbp_base::Offset;
 use std::test::Fail;
 

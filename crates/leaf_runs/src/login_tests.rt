@@ -1,4 +1,4 @@
-use crate::{Entered, LoginRefusal, Logins};
+use login_table::{Entered, LoginRefusal, Logins};
 use sbp_base::{NodeId, Offset};
 use std::test::Fail;
 

@@ -1,4 +1,4 @@
-use crate::tests::lists;
+use crate::packet_tests::lists;
 use line_session::Status;
 
 const TRACE_1: &str = "FFC0FF0F FFC1FFFF F0040010 DEADBEEF\n\

@@ -1,4 +1,4 @@
-use crate::{Live, Out, Seat};
+use sbp_session::{Live, Out, Seat};
 use orb_layout::LoginResponse;
 use sbp_base::Offset;
 use std::test::Fail;

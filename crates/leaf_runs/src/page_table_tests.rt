@@ -1,4 +1,4 @@
-use crate::{Chunk, PageFault, SegmentTable, elements};
+use page_table::{Chunk, PageFault, SegmentTable, elements};
 use sbp_base::Offset;
 use std::test::Fail;
 

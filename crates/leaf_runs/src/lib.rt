@@ -1,0 +1,16 @@
+//! Worked runs of the page tables, the configuration ROM, the logins, the sessions, an initiator's memory
+//! and its slots, as tests: where a crate has tests of its own it is proved twice, so these stand beside.
+#![tactic(auto)]
+
+#[cfg(test)]
+mod login_tests;
+#[cfg(test)]
+mod memory_tests;
+#[cfg(test)]
+mod page_table_tests;
+#[cfg(test)]
+mod rom_tests;
+#[cfg(test)]
+mod session_tests;
+#[cfg(test)]
+mod slot_tests;
