@@ -6,7 +6,7 @@ use Rattle.sbp_journal.specs.Text.{text_of}
 use Rattle.sbp_journal.specs.Written.{IsWritten}
 use Rattle.sbp_journal.specs.declared.note.Note.{Note}
 use Rattle.sbp_journal.proofs.Each.{all_append, all_front, all_back, all_reverse}
-use Rattle.sbp_laws.specs.Lawful.{Lawful, IsTold}
+use Rattle.sbp_laws.specs.FirstPath.{Lawful, IsTold}
 use Rattle.journal_text.proofs.TextsBack.{texts_determine}
 
 -- what is told in moments is written

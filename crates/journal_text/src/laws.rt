@@ -7,7 +7,7 @@ ghost use Rattle.sbp_journal.specs.Written.{IsWritten};
 ghost use Rattle.sbp_journal.specs.declared.note.Note as notes;
 ghost use Rattle.sbp_journal.specs.Run as journals;
 ghost use Rattle.sbp_journal.specs.Run.{journal};
-ghost use Rattle.sbp_laws.specs.Lawful.{Lawful};
+ghost use Rattle.sbp_laws.specs.FirstPath.{Lawful};
 
 /// The runs by which the canonical form of bytes goes are the maximal ones: they join to the bytes,
 /// each has a byte, and no two side by side have the same one; and no other list of runs does so.

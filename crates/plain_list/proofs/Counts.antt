@@ -5,7 +5,7 @@ use Rattle.std.proofs.lemmas.List.{get_or-set_other}
 use Rattle.sbp_base.specs.Faults.{count_up}
 use Rattle.rbc_disk.specs.Runs.{is_failure, count_after_run}
 use Rattle.rbc_command.specs.declared.sense.Sense.{Sense}
-use Rattle.sbp_laws.specs.DiskFold.{NoneFell}
+use Rattle.sbp_laws.specs.FirstPath.{NoneFell}
 
 pub none_fell_same : (counts : List ℕ) → NoneFell counts counts
 none_fell_same counts = record { each = λ u. omega arith }

@@ -15,9 +15,7 @@ use Rattle.rbc_disk.proofs.KeyLemmas.{run_key}
 use Rattle.rbc_disk.proofs.NeedLemmas.{needs_data}
 use Rattle.sbp_laws.specs.Terms.{Request, plan_of, data_of}
 use Rattle.sbp_journal.specs.Form.{IsCheck}
-use Rattle.sbp_laws.specs.ExecutionLaw.{RunsOn, asked_data}
-use Rattle.sbp_laws.specs.AnswerLaw.{IsAnswerOf}
-use Rattle.sbp_laws.specs.ActionLaw.{buffer_of, in_buffer, out_buffer}
+use Rattle.sbp_laws.specs.FirstPath.{RunsOn, asked_data, IsAnswerOf, buffer_of, in_buffer, out_buffer}
 use Rattle.sbp_journal.specs.declared.event.Cmd.{Cmd}
 use Rattle.sbp_journal.specs.declared.note.NoteBuffer.{NoteBuffer}
 use Rattle.sbp_journal.specs.declared.note.NoteBuffer.TheVariants.{Nothing, In, Out}

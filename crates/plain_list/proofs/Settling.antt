@@ -5,9 +5,9 @@ use Rattle.std.specs.List.{AllByRecursion}
 use Rattle.sbp_journal.specs.Run.{Run, Moment, asked, said, with_entry, history}
 use Rattle.sbp_journal.specs.Written.{IsTyped}
 use Rattle.sbp_journal.proofs.Each.{all_reverse}
-use Rattle.sbp_laws.specs.Terms.{lists, appends, ends, statuses, slots_in_use}
+use Rattle.sbp_laws.specs.Terms.{lists, appends, ends}
+use Rattle.sbp_laws.specs.FirstPath.{statuses, slots_in_use, AreServed, none, more, NothingWaits, append_notes, append_or_refusal, buffer_of, slots}
 use Rattle.sbp_journal.specs.Form.{HasForm}
-use Rattle.sbp_laws.specs.ActionLaw.{AreServed, none, more, NothingWaits, append_notes, append_or_refusal, buffer_of, slots}
 use Rattle.sbp_journal.specs.declared.event.Cmd.{Cmd}
 use Rattle.sbp_journal.specs.declared.event.Event.{Event}
 use Rattle.sbp_journal.specs.declared.event.Event.TheVariants as events

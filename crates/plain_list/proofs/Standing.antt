@@ -10,19 +10,14 @@ use Rattle.rbc_disk.specs.Units.{UnitState, PlainDisk, plain_disk}
 use Rattle.rbc_disk.specs.Runs.{medium_after, unit_after, after_run, is_failure, count_after_run}
 use Rattle.rbc_command.specs.declared.sense.Sense.{Sense}
 use Rattle.sbp_laws.specs.Terms.{Request, lists, appends, runs, takes, request_at, ran_status, ended_status, status_of}
-use Rattle.sbp_laws.specs.DiskFold.{plain_of, disk_of, before_run, failures, DisksAre, FailuresFit}
+use Rattle.sbp_laws.specs.FirstPath.{plain_of, disk_of, before_run, failures, DisksAre, FailuresFit, IsPresent, RunsOn, AnswerLaw, IsAnswerOf, AreLawful, buffer_of, in_buffer, out_buffer, served}
 use Rattle.sbp_journal.specs.Form.{IsCheck, IsStatus, IsAnswer, IsBuffer}
-use Rattle.sbp_laws.specs.OrderLaw.{IsPresent}
-use Rattle.sbp_laws.specs.ExecutionLaw.{RunsOn}
-use Rattle.sbp_laws.specs.AnswerLaw.{AnswerLaw, IsAnswerOf}
-use Rattle.sbp_laws.specs.Lawful.{AreLawful}
 use Rattle.sbp_journal.specs.declared.event.Cmd.{Cmd}
 use Rattle.sbp_journal.specs.declared.event.Event.{Event}
 use Rattle.sbp_journal.specs.declared.note.Note.{Note}
 use Rattle.sbp_journal.specs.Run.{Moment, asked, said}
 use Rattle.sbp_journal.specs.Written.{IsTyped}
 use Rattle.sbp_journal.specs.declared.note.Note.TheVariants.{Begin, Append, Low, Linked, Rung, Ran, Ended, Taken, Settled, Refused}
-use Rattle.sbp_laws.specs.ActionLaw.{buffer_of, in_buffer, out_buffer, served}
 use Rattle.sbp_journal.specs.declared.note.NoteBuffer.TheVariants.{Nothing, In}
 use Rattle.rbc_disk.specs.Held.{Held}
 use Rattle.plain_list.specs.Plain.{PlainState, request_of, RunsAndTells, Serves, Stands}

@@ -13,14 +13,10 @@ use Rattle.sbp_journal.specs.declared.event.Event.{Event}
 use Rattle.sbp_journal.specs.declared.event.Event.TheVariants.{Begin, Act, Settle}
 use Rattle.sbp_journal.specs.declared.event.Action.TheVariants.{Append}
 use Rattle.sbp_journal.specs.Run.{Run, Moment, said, history, empty_run}
-use Rattle.sbp_laws.specs.Terms.{Request, lists, appends, ends, runs, takes, statuses, request_at, unit_of}
-use Rattle.sbp_laws.specs.DiskFold.{plain_of, DisksAre, FailuresFit}
+use Rattle.sbp_laws.specs.Terms.{Request, lists, appends, ends, runs, takes, request_at}
+use Rattle.sbp_laws.specs.FirstPath.{statuses, unit_of, plain_of, DisksAre, FailuresFit, RunsOn, IsAnswerOf, ActionLaw, AreServed, append_notes, buffer_of, served, slots, AreLawful}
 use Rattle.sbp_journal.specs.Form.{HasForm, IsCheck}
 use Rattle.sbp_journal.specs.Written.{IsTyped}
-use Rattle.sbp_laws.specs.ExecutionLaw.{RunsOn}
-use Rattle.sbp_laws.specs.AnswerLaw.{IsAnswerOf}
-use Rattle.sbp_laws.specs.ActionLaw.{ActionLaw, AreServed, append_notes, buffer_of, served, slots}
-use Rattle.sbp_laws.specs.Lawful.{AreLawful}
 
 -- The commands that wait, how many were appended and how many ended, the state of unit 0, and the notes of the latest line, the
 -- latest one first.

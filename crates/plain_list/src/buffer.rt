@@ -1,6 +1,6 @@
 ghost use Rattle.std.specs.Prelude.{◌≡◌, ◌<◌, length, IfOk};
 ghost use Rattle.sbp_laws.specs.Terms.{plan_of, data_of};
-ghost use Rattle.sbp_laws.specs.ActionLaw.{buffer_of};
+ghost use Rattle.sbp_laws.specs.FirstPath.{buffer_of};
 
 use rbc_disk::BufferPlan;
 use sbp_base::{Bytes, NoMemory};

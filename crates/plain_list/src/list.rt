@@ -3,7 +3,7 @@ ghost use Rattle.std.specs.List.{AllByRecursion};
 ghost use Rattle.sbp_journal.specs.Run.{with_entry};
 ghost use Rattle.sbp_journal.specs.Run as journal_runs;
 ghost use Rattle.sbp_journal.specs.Form.{HasForm};
-ghost use Rattle.sbp_laws.specs.DiskFold.{NoneFell};
+ghost use Rattle.sbp_laws.specs.FirstPath.{NoneFell};
 ghost use Rattle.sbp_journal.specs.Written.{IsTyped};
 ghost use Rattle.sbp_journal.specs.declared.note.Note.TheVariants as notes;
 ghost use Rattle.rbc_disk.specs.Held.{Held, held};

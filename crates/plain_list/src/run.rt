@@ -3,8 +3,7 @@ ghost use Rattle.rbc_disk.specs.Disk.{disk_at};
 ghost use Rattle.rbc_disk.specs.Units.{plain_disk};
 ghost use Rattle.rbc_disk.specs.Runs.{check_in, answered_length, count_after_run, medium_after, unit_after};
 ghost use Rattle.sbp_journal.specs.Form.{IsCheck};
-ghost use Rattle.sbp_laws.specs.ExecutionLaw.{RunsOn, asked_data};
-ghost use Rattle.sbp_laws.specs.AnswerLaw.{IsAnswerOf};
+ghost use Rattle.sbp_laws.specs.FirstPath.{RunsOn, asked_data, IsAnswerOf};
 ghost use Rattle.plain_list.specs.Plain.{request_of};
 
 use crate::buffer::{plan, sent};

@@ -2,8 +2,7 @@ ghost use Rattle.std.specs.Prelude.{◌≡◌, ◌++◌, IfOk, OnOk};
 ghost use Rattle.std.specs.List.{AllByRecursion};
 ghost use Rattle.sbp_journal.specs.Written.{IsTyped};
 ghost use Rattle.sbp_laws.specs.Terms.{status_of};
-ghost use Rattle.sbp_laws.specs.ExecutionLaw.{asked_data};
-ghost use Rattle.sbp_laws.specs.ActionLaw.{append_notes, served};
+ghost use Rattle.sbp_laws.specs.FirstPath.{asked_data, append_notes, served};
 ghost use Rattle.plain_list.specs.Plain.{request_of};
 
 use crate::buffer::{note_buffer, sent};

@@ -12,8 +12,7 @@ use Rattle.sbp_journal.specs.Run.{Run, with_entry, empty_run, journal, history, 
 use Rattle.sbp_journal.specs.Text.{text_of, note_text}
 use Rattle.sbp_journal.specs.declared.event.Event.{Event}
 use Rattle.sbp_journal.specs.declared.note.Note.{Note}
-use Rattle.sbp_laws.specs.DiskFold.{DisksAre, FailuresFit, FailuresWithin, NoneFell}
-use Rattle.sbp_laws.specs.Lawful.{Lawful, AreLawful}
+use Rattle.sbp_laws.specs.FirstPath.{DisksAre, FailuresFit, FailuresWithin, NoneFell, Lawful, AreLawful}
 use Rattle.plain_list.specs.Plain.{PlainState, empty_list, StandsFor}
 use Rattle.line_session.specs.Outside.{Outside}
 use Rattle.line_session.specs.Meaning.{Serves, fault_text}

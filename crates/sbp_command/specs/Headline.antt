@@ -9,8 +9,7 @@ use Rattle.line_session.specs.Ends.{NoFault}
 use Rattle.line_session.specs.declared.status.Status.{Status as StreamStatus}
 use Rattle.line_session.specs.declared.status.Status.TheVariants as stream_statuses
 use Rattle.sbp_journal.specs.Run.{Run, journal, history, events_of}
-use Rattle.sbp_laws.specs.DiskFold.{DisksAre, FailuresFit, FailuresWithin}
-use Rattle.sbp_laws.specs.Lawful.{Lawful}
+use Rattle.sbp_laws.specs.FirstPath.{DisksAre, FailuresFit, FailuresWithin, Lawful}
 use Rattle.sbp_journal.specs.Text.{text_of}
 use Rattle.sbp_journal.specs.declared.event.Event.{Event}
 use Rattle.script_text.specs.Script.{Script}

@@ -4,7 +4,7 @@ use Rattle.std.proofs.Math.Nat.{le_refl}
 use Rattle.rbc_disk.specs.Held.{Held}
 use Rattle.sbp_journal.specs.Run.{Run, journal, events_of}
 use Rattle.sbp_journal.specs.Text.{text_of}
-use Rattle.sbp_laws.specs.DiskFold.{NoneFell}
+use Rattle.sbp_laws.specs.FirstPath.{NoneFell}
 use Rattle.plain_list.specs.Plain.{PlainState, StandsFor}
 use Rattle.script_text.specs.Script.{Script}
 use Rattle.line_session.specs.Meaning.{Meaning}

@@ -5,7 +5,7 @@ ghost use Rattle.sbp_journal.specs.Run.{with_entry};
 ghost use Rattle.sbp_journal.specs.Run as journal_runs;
 ghost use Rattle.sbp_journal.specs.Form.{HasForm};
 ghost use Rattle.sbp_journal.specs.Text.{text_of};
-ghost use Rattle.sbp_laws.specs.DiskFold.{NoneFell};
+ghost use Rattle.sbp_laws.specs.FirstPath.{NoneFell};
 ghost use Rattle.plain_list.specs.Plain.{empty_list, is_served, StandsFor};
 
 use crate::script::read_served;

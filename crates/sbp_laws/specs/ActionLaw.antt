@@ -1,74 +1,200 @@
--- The action law: which notes each line brings. They stand with the latest one first.
-use Rattle.std.specs.Prelude.{◌≡◌, ℕ, ◌==◌, nat_lt, if◌then◌else◌, List, [], ◌∷◌, ◌++◌, map, take, Option, Some}
-use Rattle.rbc_command.specs.declared.sense.Sense.{Sense}
-use Rattle.sbp_journal.specs.Run.{Entry, Moment, said, history}
-use Rattle.sbp_laws.specs.Terms.{appends, ends, present_list, slots_in_use, status_of}
-use Rattle.sbp_laws.specs.OrderLaw.{IsPresent}
-use Rattle.sbp_journal.specs.declared.event.Action.TheVariants as actions
-use Rattle.sbp_journal.specs.declared.event.Cmd.{Cmd}
+-- The action law. Which notes a line brings: `begin` its note; an initiator's action the refusal with the least number that holds, and
+-- nothing else, or its notes and one request where it makes one; `deliver` and `repeat` one delivery, `lose` and `timeout` their note and
+-- effects, or refusal 11; `step` and `settle` deliveries of the lowest serial in flight, up to a number or until none is in flight, and
+-- `settle` then `settled` or `stopped`; `reset` and `see` the latest generation, and where it is new its effects; `tick` the logins that
+-- expire; `inject` the injected packet, or refusal 12; `key` its note, or refusal 13. In each turn the effects stand before the packets, in
+-- one order.
+use Rattle.std.specs.Prelude.{◌≡◌, ℕ, zero, suc, ◌+◌, ◌-◌, ◌/◌, ◌^◌, ◌==◌, ◌≤◌, ◌&&◌, ◌||◌, ◌⊎◌, not, nat_lt, nat_le, Bool, true, false, if◌then◌else◌, List, [], ◌∷◌, ◌++◌, length, map, reverse, Option, Some, None}
+use Rattle.sbp_base.specs.Quadlets.{quad}
+use Rattle.rbc_disk.specs.Disk.{Disk}
+use Rattle.sbp_journal.specs.Run.{Entry, Moment, asked, said, history}
+use Rattle.sbp_journal.specs.Wire.{Terms, terms, Flight, in_flight, delivered}
 use Rattle.sbp_journal.specs.declared.event.Event.{Event}
 use Rattle.sbp_journal.specs.declared.event.Event.TheVariants as events
+use Rattle.sbp_journal.specs.declared.event.Action.{Action}
 use Rattle.sbp_journal.specs.declared.note.Note.{Note}
-use Rattle.sbp_journal.specs.declared.note.Note.TheVariants.{Begin, Append, Low, Linked, Rung, Ran, Ended, Taken, Settled, Refused}
-use Rattle.sbp_journal.specs.declared.note.NoteBuffer.{NoteBuffer}
-use Rattle.sbp_journal.specs.declared.note.NoteBuffer.TheVariants.{Nothing, In, Out}
+use Rattle.sbp_journal.specs.declared.note.Note.TheVariants as notes
+use Rattle.sbp_laws.specs.Turns.{Turn, EachTurn, is_sent, effects_of, sends_of}
+use Rattle.sbp_laws.specs.Packets.{is_under_way, id_of, id_for}
+use Rattle.sbp_laws.specs.Actions.{refusal_at, action_notes}
+use Rattle.sbp_laws.specs.Budget.{flies, lowest_in_flight, settle_deliveries, initiators}
+use Rattle.sbp_laws.specs.CauseLaw.{of_kind, is_cut_note, is_cleared_note, is_failure_note, is_end_note, is_operation_note}
+use Rattle.sbp_laws.specs.LoginLaw.{is_login_note, is_decision_note}
+use Rattle.sbp_laws.specs.MediaLaw.{is_push_note, is_told_note}
 
--- a buffer that is named has a byte
-abbrev pub in_buffer : ℕ → NoteBuffer
-in_buffer len = if len == 0 then Nothing else In len
+-- ---- turns
+-- a note that begins a delivery, and its serial
+abbrev pub delivered_by : Note → Option ℕ
+delivered_by (notes.Got serial) = Some serial
+delivered_by (notes.Ignored serial cause) = Some serial
+delivered_by note = None
 
-abbrev pub out_buffer : List ℕ → NoteBuffer
-out_buffer [] = Nothing
-out_buffer (byte ∷ bytes) = Out (byte ∷ bytes)
+-- a note that stands behind the first one of a turn: neither such a one, nor one that a line alone brings
+abbrev pub is_run_note : Note → Bool
+is_run_note (notes.Ran i list number unit cdb bytes check) = true
+is_run_note note = false
 
--- the buffer of a command: to the target it holds the command's data, as far as its length goes
-abbrev pub buffer_of : Cmd → NoteBuffer
-buffer_of cmd = if cmd.to_initiator then in_buffer cmd.length else out_buffer (take cmd.length cmd.payload)
+abbrev pub is_taken_note : Note → Bool
+is_taken_note (notes.Taken i n k status answer) = true
+is_taken_note note = false
 
--- an ORB behind another one is linked to it
-abbrev pub link_notes : ℕ → ℕ → ℕ → List Note
-link_notes i n k = if k == 0 then [] else Linked i n k ∷ Low i n k ∷ []
+abbrev pub is_effect : Note → Bool
+is_effect note =
+    is_cut_note note || is_cleared_note note || is_login_note note || is_decision_note note || is_failure_note note || is_run_note note || is_end_note note
+    || is_push_note note || is_told_note note || is_taken_note note || is_operation_note note || is_sent note
 
--- an append is prepared, linked and rung
-abbrev pub append_notes : ℕ → ℕ → ℕ → Cmd → List Note
-append_notes i n k cmd = Rung i n k ∷ (link_notes i n k ++ Append i n k cmd.cdb (buffer_of cmd) ∷ [])
+abbrev pub AreEffects : List Note → Type 0
+AreEffects [] = Unit {0}
+AreEffects (note ∷ rest) = (is_effect note ≡ true) × AreEffects rest
 
--- an ORB that is served runs, ends with the status of its run, and has that status taken
-abbrev pub served : ℕ → ℕ → ℕ → ℕ → List ℕ → List ℕ → Option Sense → List ℕ → List Note
-served i n k unit cdb bytes check answer =
-    Taken i n k (status_of check) answer ∷ Ended i (Some n) (Some k) (status_of check) ∷ Ran i (Some n) (Some k) unit cdb bytes check ∷ []
+-- one delivery of a packet
+abbrev pub IsDelivery : ℕ → List Note → Type 0
+IsDelivery serial [] = ⊥
+IsDelivery serial (note ∷ rest) = (delivered_by note ≡ Some serial) × AreEffects rest
 
--- ORBs that are served one after the other
-pub data AreServed : List Note → Type 0 where
-  none : AreServed []
-  more : {notes : List Note} (i n k unit : ℕ) (cdb bytes : List ℕ) (check : Option Sense) (answer : List ℕ) → AreServed notes → AreServed (served i n k unit cdb bytes check answer ++ notes)
+-- a note, and its effects
+abbrev pub IsTurnOf : Note → List Note → Type 0
+IsTurnOf first [] = ⊥
+IsTurnOf first (note ∷ rest) = (note ≡ first) × AreEffects rest
 
--- each ORB of a present list has ended
-abbrev pub NothingWaits : List Moment → Type 0
-NothingWaits past = (i n : ℕ) → IsPresent past i n → ends past i n ≡ appends past i n
+-- Deliveries one after the other, each of the lowest serial in flight before it. `past` is what stands before the notes.
+abbrev pub AreLowest : List Moment → List Note → Type 0
+AreLowest past [] = Unit {0}
+AreLowest past (notes.Got serial ∷ rest) = (lowest_in_flight (terms past) ≡ Some serial) × AreLowest (said (notes.Got serial) ∷ past) rest
+AreLowest past (notes.Ignored serial cause ∷ rest) = (lowest_in_flight (terms past) ≡ Some serial) × AreLowest (said (notes.Ignored serial cause) ∷ past) rest
+AreLowest past (note ∷ rest) = (is_effect note ≡ true) × AreLowest (said note ∷ past) rest
 
--- a settle serves ORBs until none waits
-pub record Settles (past : List Moment) (notes : List Note) : Type 0 where
+abbrev pub deliveries : List Note → ℕ
+deliveries [] = 0
+deliveries (notes.Got serial ∷ rest) = suc (deliveries rest)
+deliveries (notes.Ignored serial cause ∷ rest) = suc (deliveries rest)
+deliveries (note ∷ rest) = deliveries rest
+
+-- the first of them begins with a delivery
+abbrev pub BeginsDelivery : List Note → Type 0
+BeginsDelivery [] = Unit {0}
+BeginsDelivery (notes.Got serial ∷ rest) = Unit {0}
+BeginsDelivery (notes.Ignored serial cause ∷ rest) = Unit {0}
+BeginsDelivery (note ∷ rest) = ⊥
+
+-- the history once these notes were told, in the order of time
+abbrev pub once_told : List Moment → List Note → List Moment
+once_told past told = map said (reverse told) ++ past
+
+abbrev pub NoneFlies : List Moment → Type 0
+NoneFlies past = lowest_in_flight (terms past) ≡ None
+
+-- so many deliveries of the lowest packet, or fewer where none is in flight any more
+pub record AreDeliveries (past : List Moment) (most : ℕ) (told : List Note) : Type 0 where
+  pub begins : BeginsDelivery told
+  pub lowest : AreLowest past told
+  pub few : deliveries told ≤ most
+  pub all : (deliveries told ≡ most) ⊎ NoneFlies (once_told past told)
+
+-- a settle: the same up to its budget, and whether it came to rest
+abbrev pub EndsSettle : List Moment → (most : ℕ) → List Note → Note → Type 0
+EndsSettle past most told notes.Settled = NoneFlies (once_told past told)
+EndsSettle past most told notes.Stopped = (deliveries told ≡ most) × (NoneFlies (once_told past told) → ⊥)
+EndsSettle past most told note = ⊥
+
+pub record Settles (past : List Moment) (told : List Note) : Type 0 where
   pub before : List Note
-  pub served : AreServed before
-  pub settled : notes ≡ Settled ∷ before
-  pub done : NothingWaits (map said notes ++ past)
+  pub last : Note
+  pub is : told ≡ before ++ last ∷ []
+  pub delivers : AreDeliveries past (settle_deliveries past) before
+  pub ends : EndsSettle past (settle_deliveries past) before last
 
--- the slots of an initiator
-abbrev pub slots : ℕ
-slots = 32
+-- ---- lines
+-- one of two conditions, by a test
+abbrev pub Either : Bool → Type 0 → Type 0 → Type 0
+Either true holds fails = holds
+Either false holds fails = fails
 
--- the notes of an append to the present list n: it is refused, and that is all, where no slot is free
-abbrev pub append_or_refusal : List Moment → ℕ → ℕ → ℕ → Cmd → List Note
-append_or_refusal past line i n cmd = if nat_lt (slots_in_use past i) slots then append_notes i n (appends past i n) cmd else Refused line 9 ∷ []
+abbrev pub refused : (line number : ℕ) → List Note
+refused line number = notes.Refused line number ∷ []
 
--- the notes of the event of the line with this number
-abbrev pub Brings : List Moment → ℕ → Event → List Note → Type 0
-Brings past line (events.Begin initiators ready) notes = notes ≡ Begin initiators ready ∷ []
-Brings past line (events.Act i (actions.Append cmd)) notes = notes ≡ append_or_refusal past line i (present_list past i) cmd
-Brings past line events.Settle notes = Settles past notes
-Brings past line _ notes = ⊥  -- no run has another line yet
+-- an action that is not refused: its notes, and behind them its request, if it makes one
+pub record Acts (past : List Moment) (i : ℕ) (action : Action) (told : List Note) : Type 0 where
+  pub effects : effects_of told ≡ action_notes action past i
+  pub first : told ≡ effects_of told ++ sends_of told
 
-abbrev pub ActionLaw : List Entry → Type 0
-ActionLaw [] = Unit {0}
-ActionLaw (entry ∷ before) = Brings (history before) entry.line entry.event entry.notes × ActionLaw before
+abbrev pub ActsOr : Option ℕ → List Moment → (line i : ℕ) → Action → List Note → Type 0
+ActsOr (Some number) past line i action told = told ≡ refused line number
+ActsOr None past line i action told = Acts past i action told
+
+-- what may be done with a packet: a repeat reaches back over the last 1,024 serials
+abbrev pub is_known : Flight → Bool
+is_known in_flight = true
+is_known delivered = true
+is_known state = false
+
+abbrev pub may_repeat : Terms → ℕ → Bool
+may_repeat wire serial = is_known (wire.flight serial) && nat_lt (wire.count - 1024) serial
+
+-- an injected packet: it names another node of the sender's generation, and its sender as source
+abbrev pub names_node : Terms → (i nodes id : ℕ) → Bool
+names_node wire i zero id = false
+names_node wire i (suc node) id = (id_for wire (suc i) node == id && not (node == suc i)) || names_node wire i node id
+
+-- the high half of a quadlet
+abbrev pub high_half : ℕ → ℕ
+high_half quadlet = quadlet / 2 ^ 16
+
+abbrev pub may_inject : Terms → (i nodes : ℕ) → List ℕ → Bool
+may_inject wire i nodes bytes =
+    nat_le 8 (length bytes) && names_node wire i nodes (high_half (quad bytes 0)) && (high_half (quad bytes 4) == id_of wire (suc i))
+
+-- the node that an ID names, the lowest
+abbrev pub node_from : Terms → (i nodes node id : ℕ) → ℕ
+node_from wire i zero node id = node
+node_from wire i (suc nodes) node id = if id_for wire (suc i) node == id then node else node_from wire i nodes (node + 1) id
+
+abbrev pub injected : Terms → (i nodes : ℕ) → List ℕ → List Note
+injected wire i nodes bytes =
+    notes.Injected (wire.count + 1)
+    ∷ notes.Sent (wire.count + 1) (wire.generation (suc i)) (suc i) (node_from wire i nodes 0 (high_half (quad bytes 0))) bytes ∷ []
+
+-- The notes of the line with this number, in the order of time, behind what stood before it.
+abbrev pub Brings : List Disk → List Moment → ℕ → Event → List Note → Type 0
+Brings disks past line (events.Begin count ready) told = told ≡ notes.Begin count ready ∷ []
+Brings disks past line (events.Act i action) told = ActsOr (refusal_at past i action) past line i action told
+Brings disks past line (events.Deliver serial) told = Either (flies ((terms past).flight serial)) (IsDelivery serial told) (told ≡ refused line 11)
+Brings disks past line (events.Repeat serial) told = Either (may_repeat (terms past) serial) (IsDelivery serial told) (told ≡ refused line 11)
+Brings disks past line (events.Lose serial) told = told ≡ (if flies ((terms past).flight serial) then notes.Lost serial ∷ [] else refused line 11)
+Brings disks past line (events.Timeout serial) told = Either (is_under_way (terms past) serial) (IsTurnOf (notes.TimedOut serial) told) (told ≡ refused line 11)
+Brings disks past line (events.Step count) told = AreDeliveries (asked line (events.Step count) ∷ past) count told
+Brings disks past line events.Settle told = Settles (asked line events.Settle ∷ past) told
+Brings disks past line (events.Reset physical) told = told ≡ notes.Reset ((terms past).bus + 1) ∷ []
+Brings disks past line (events.See node) told = IsTurnOf (notes.Seen node (terms past).bus) told
+Brings disks past line events.Tick told = IsTurnOf notes.Tick told
+Brings disks past line (events.Inject i bytes) told =
+    told ≡ (if may_inject (terms past) i (suc (initiators past)) bytes then injected (terms past) i (suc (initiators past)) bytes else refused line 12)
+Brings disks past line (events.Key unit key) told = told ≡ (if nat_lt unit (length disks) then notes.Key unit ∷ [] else refused line 13)
+
+abbrev pub BringsEach : List Disk → List Entry → Type 0
+BringsEach disks [] = Unit {0}
+BringsEach disks (entry ∷ before) = Brings disks (history before) entry.line entry.event (reverse entry.notes) × BringsEach disks before
+
+-- ---- the order of the notes of a turn
+-- the effects in their order: cuts, `cleared`, logins, the decision, its failure; a run, a death and an end; unsolicited statuses; what an
+-- initiator is told and takes, and what its operations, its list and its session come to
+abbrev pub in_order : List Note → List Note
+in_order effects =
+    of_kind is_cut_note effects ++ of_kind is_cleared_note effects ++ of_kind is_login_note effects ++ of_kind is_decision_note effects ++ of_kind is_failure_note effects
+    ++ of_kind is_run_note effects ++ of_kind is_end_note effects ++ of_kind is_push_note effects
+    ++ of_kind is_told_note effects ++ of_kind is_taken_note effects ++ of_kind is_operation_note effects
+
+pub record InOrder (t : Turn) : Type 0 where
+  pub effects : effects_of t.rest ≡ in_order (effects_of t.rest)
+  pub first : t.rest ≡ effects_of t.rest ++ sends_of t.rest
+
+abbrev pub OrdersTurn : Moment → Turn → Type 0
+OrdersTurn (asked line event) t = Unit {0}
+OrdersTurn (said note) t = InOrder t
+
+abbrev pub Ordered : Turn → Type 0
+Ordered t = OrdersTurn t.start t
+
+pub record ActionLaw (disks : List Disk) (entries : List Entry) : Type 0 where
+  pub brings : BringsEach disks entries
+  pub ordered : EachTurn Ordered (history entries)

@@ -1,29 +1,61 @@
--- A lawful run: the laws together. Each is a condition on an entry and on what stands before the end of that entry.
-use Rattle.std.specs.Prelude.{List}
-use Rattle.std.specs.List.{AllByRecursion}
+-- A lawful run: the laws together. Each is a condition on an entry and on what stands before the end of that entry. Lawful for the others
+-- is the same for the initiators outside a set, those that injected packets: of packets that they and the target exchange, and of what they
+-- do; of those in the set hold the judgement law, the login law, the action law and the parts of the cause law and of the sent law that
+-- speak of the target alone. Where the set is empty, it is all of every law.
+use Rattle.std.specs.Prelude.{ℕ, suc, Bool, false, List}
 use Rattle.rbc_disk.specs.Disk.{Disk}
 use Rattle.sbp_journal.specs.Run.{Run, Moment, asked, said, history}
 use Rattle.sbp_journal.specs.Written.{IsWritten}
+use Rattle.sbp_journal.specs.Wire.{terms}
+use Rattle.sbp_laws.specs.Turns.{EachMoment}
+use Rattle.sbp_laws.specs.OnceLaw.{OnceLaw}
 use Rattle.sbp_laws.specs.OrderLaw.{OrderLaw}
 use Rattle.sbp_laws.specs.ExecutionLaw.{ExecutionLaw}
 use Rattle.sbp_laws.specs.StatusLaw.{StatusLaw}
 use Rattle.sbp_laws.specs.AnswerLaw.{AnswerLaw}
+use Rattle.sbp_laws.specs.CarriedLaw.{CarriedLaw}
+use Rattle.sbp_laws.specs.CauseLaw.{CauseLaw}
+use Rattle.sbp_laws.specs.JudgementLaw.{JudgementLaw}
+use Rattle.sbp_laws.specs.LoginLaw.{LoginLaw}
+use Rattle.sbp_laws.specs.SentLaw.{SentLaw}
+use Rattle.sbp_laws.specs.MediaLaw.{MediaLaw}
 use Rattle.sbp_laws.specs.ActionLaw.{ActionLaw}
 
 -- a note of a run has its form, and is determined by its text
-abbrev pub IsTold : Moment → Type 0
-IsTold (asked line event) = Unit {0}
-IsTold (said note) = IsWritten note
+abbrev pub FormAt : Moment → List Moment → Type 0
+FormAt (asked line event) past = Unit {0}
+FormAt (said note) past = IsWritten note
 
--- The laws over what was asked and what was said, the latest moment first. A law may read events and notes, and joins by a field.
-pub record AreLawful (start : List Disk) (past : List Moment) : Type 0 where
-  pub form : AllByRecursion IsTold past
-  pub order : OrderLaw past
-  pub execution : ExecutionLaw start past
-  pub status : StatusLaw past
-  pub answer : AnswerLaw start past
+-- the laws over what was asked and what was said, for the initiators outside a set
+pub record AreLawful (wild : ℕ → Bool) (start : List Disk) (past : List Moment) : Type 0 where
+  pub form : EachMoment FormAt past
+  pub once : OnceLaw wild past
+  pub order : OrderLaw wild past
+  pub execution : ExecutionLaw wild start past
+  pub status : StatusLaw wild past
+  pub answer : AnswerLaw wild start past
+  pub carried : CarriedLaw wild start past
+  pub cause : CauseLaw wild start past
+  pub judgement : JudgementLaw start past
+  pub login : LoginLaw start past
+  pub sent : SentLaw wild start past
+  pub media : MediaLaw wild start past
 
--- the laws over moments, and the one over whole entries
-pub record Lawful (run : Run) : Type 0 where
-  pub moments : AreLawful run.start (history run.entries)
-  pub action : ActionLaw run.entries
+-- with the law over whole entries
+pub record LawfulBut (wild : ℕ → Bool) (run : Run) : Type 0 where
+  pub moments : AreLawful wild run.start (history run.entries)
+  pub action : ActionLaw run.start run.entries
+
+-- no initiator
+abbrev pub nobody : ℕ → Bool
+nobody i = false
+
+abbrev pub Lawful : Run → Type 0
+Lawful run = LawfulBut nobody run
+
+-- the initiators that injected packets
+abbrev pub injectors : List Moment → ℕ → Bool
+injectors past i = (terms past).injects (suc i)
+
+abbrev pub LawfulForOthers : Run → Type 0
+LawfulForOthers run = LawfulBut (injectors (history run.entries)) run

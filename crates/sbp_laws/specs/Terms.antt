@@ -1,11 +1,11 @@
 -- What is read off the history of a run, the latest moment first. An ORB is named by its initiator, its list and its number in that
 -- list; each term is a function of such names, and a note changes it at the name that the note has.
-use Rattle.std.specs.Prelude.{ℕ, suc, ◌==◌, ◌&&◌, ◌+◌, ◌-◌, min, nat_lt, true, false, if◌then◌else◌, List, [], ◌∷◌, length, Option, Some, None}
+use Rattle.std.specs.Prelude.{ℕ, suc, ◌==◌, true, false, if◌then◌else◌, List, [], ◌∷◌, length, Option, Some, None}
 use Rattle.sbp_base.specs.Update.{upd, upd2, upd3}
 use Rattle.rbc_command.specs.declared.sense.Sense.{Sense}
 use Rattle.rbc_disk.specs.declared.command.BufferPlan.{BufferPlan}
 use Rattle.sbp_journal.specs.Run.{Moment, said}
-use Rattle.sbp_journal.specs.declared.note.Note.TheVariants.{Begin, Append, Ran, Ended, Taken}
+use Rattle.sbp_journal.specs.declared.note.Note.TheVariants.{Append, Ran, Ended, Taken}
 use Rattle.sbp_journal.specs.declared.note.NoteBuffer.{NoteBuffer}
 use Rattle.sbp_journal.specs.declared.note.NoteBuffer.TheVariants.{Nothing, In, Out}
 use Rattle.orb_layout.specs.declared.status.StatusKind.{StatusKind}
@@ -76,28 +76,3 @@ abbrev pub ended_status : List Moment → ℕ → ℕ → ℕ → Option StatusK
 ended_status [] = λ i n k. None
 ended_status (said (Ended i (Some n) (Some k) status) ∷ past) = upd3 (ended_status past) i n k (Some status)
 ended_status (_ ∷ past) = ended_status past
-
--- the unit of an initiator's live login: a run that begins ready begins with a login on unit 0
-abbrev pub unit_of : List Moment → ℕ → Option ℕ
-unit_of [] = λ i. None
-unit_of (said (Begin initiators ready) ∷ past) = λ i. if ready && nat_lt i initiators then Some 0 else None
-unit_of (_ ∷ past) = unit_of past
-
--- the place of an initiator's login in the login table: a run that begins ready begins with initiator i at place i
-abbrev pub place_of : ℕ → ℕ
-place_of i = i
-
--- of how many ORBs of a list the status was taken
-abbrev pub statuses : List Moment → ℕ → ℕ → ℕ
-statuses [] = λ i n. 0
-statuses (said (Taken i n k status answer) ∷ past) = upd2 (statuses past) i n (suc (statuses past i n))
-statuses (_ ∷ past) = statuses past
-
--- the list that an append joins: the latest one; the first append begins list 0
-abbrev pub present_list : List Moment → ℕ → ℕ
-present_list past i = lists past i - 1
-
--- How many slots of an initiator are in use: a slot is in use from its ORB's append until the ORB's status was taken, and that of the
--- last ORB taken until the next one is.
-abbrev pub slots_in_use : List Moment → ℕ → ℕ
-slots_in_use past i = let n = present_list past i in (appends past i n - statuses past i n) + min (statuses past i n) 1

@@ -1,9 +1,18 @@
-ghost use Rattle.std.specs.Prelude.{List};
-ghost use Rattle.sbp_laws.specs.OrderLaw.{OrderLaw, EndsInOrder};
-ghost use Rattle.sbp_journal.specs.Run.{Moment};
+ghost use Rattle.sbp_laws.specs.Adds.{AddsLawfully};
+ghost use Rattle.sbp_laws.specs.Readings.{FirstPathInTurn, InTurnLaw};
 
-/// What the order law says in the order of time: of each list the ORBs that ended are, in order and
-/// each once, a front of those that were appended.
+/// What the order law says in the order of time, of each initiator that injected no packets: of each
+/// list the ORBs that ended are, in order and each once, a front of those that were appended.
 pub fn ends_in_order()
-    ensures { (past : List Moment) → OrderLaw past → EndsInOrder past }
+    ensures { InTurnLaw }
+{}
+
+/// The same of the runs of the first path.
+pub fn first_path_ends_in_order()
+    ensures { FirstPathInTurn }
+{}
+
+/// A run with one more entry is lawful exactly where the run was and the entry adds lawfully.
+pub fn lawful_entry_by_entry()
+    ensures { AddsLawfully }
 {}

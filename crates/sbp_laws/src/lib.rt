@@ -4,4 +4,4 @@
 
 mod laws;
 
-pub use laws::ends_in_order;
+pub use laws::{ends_in_order, first_path_ends_in_order, lawful_entry_by_entry};

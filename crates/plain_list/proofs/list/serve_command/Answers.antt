@@ -1,5 +1,5 @@
 use Rattle.std.proofs.Common.{ap, take}
-use Rattle.sbp_laws.specs.ExecutionLaw.{asked_data}
+use Rattle.sbp_laws.specs.FirstPath.{asked_data}
 use Rattle.plain_list.specs.Plain.{request_of}
 use Rattle.plain_list.proofs.list.serve_command.Goals as goal
 

@@ -1,7 +1,7 @@
 -- Since the start of the loop commands were served; each turn serves one.
 use Rattle.std.proofs.Common.{◌≡◌, length, map}
 use Rattle.rbc_disk.specs.Held.{held}
-use Rattle.sbp_laws.specs.DiskFold.{NoneFell}
+use Rattle.sbp_laws.specs.FirstPath.{NoneFell}
 use Rattle.plain_list.specs.Plain.{Settling}
 use Rattle.plain_list.proofs.list.PlainList.serve_all.Given as goal
 
