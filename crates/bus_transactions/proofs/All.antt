@@ -1,5 +1,6 @@
 -- Every list of moves keeps it.
-use Rattle.std.specs.Prelude.{true, List, [], ◌∷◌, refl}
+use Rattle.sbp_journal.specs.Transactions.{Sending}
+use Rattle.std.specs.Prelude.{true, List, [], ◌∷◌, refl, ◌≡◌, Some, None}
 use Rattle.std.proofs.Common.{arith}
 use Rattle.sbp_journal.specs.Wire.{beginning as first, local_id}
 use Rattle.bus_transactions.specs.Wire.{beginning}
@@ -34,6 +35,9 @@ first_facts = record {
   replied = λ s r e. cc;
 }
 
+nothing : {q : Sending} → None ≡ Some q → ⊥
+nothing e = cc
+
 begins : Stands beginning
 begins = record {
   facts = first_facts;
@@ -41,6 +45,15 @@ begins = record {
   bus_is = refl;
   ids_are = λ i. refl;
   due_is = refl;
+  codes = record {
+    unserved = λ s l. refl;
+    fresh = λ u w j. refl;
+    done = λ u w n j. absurd (omega (arith, j));
+    replies = λ u s w n c. absurd (nothing c.sent);
+    ended = λ s q u e. cc;
+    due_done = λ u owed rcode e. cc;
+    due_replies = λ u owed rcode s e. cc;
+  };
   nodes = λ i. node_new local_id i;
 }
 

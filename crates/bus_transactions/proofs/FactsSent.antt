@@ -39,6 +39,15 @@ reply_kept {t} f q s r i = record {
   to_is = i.to_is;
 }
 
+-- the bus rule leaves a packet in flight or delivered alone where it is of another transaction
+pub live_not : (b : Bool) (state : Flight) → is_live (cond b (withdraw state) state) ≡ true → (b ≡ false) × (is_live state ≡ true)
+live_not false state e = (refl, e)
+live_not true unsent e = cc
+live_not true in_flight e = cc
+live_not true delivered e = cc
+live_not true lost e = cc
+live_not true withdrawn e = cc
+
 -- ---- the request of a transaction
 abbrev pub begins_at : (t : Terms) → Transaction → Kind → Sending → Terms
 begins_at t u kind q = record t {
@@ -86,14 +95,6 @@ module _ {t : Terms} (f : Facts t) (u : Transaction) (kind : Kind) (q : Sending)
   new_honest : Honest t.ids t.generation t.injects q → (r : ℕ) (p : Sending) (b : Bool) → cond b (Some q) (t.sent r) ≡ Some p → Honest t.ids t.generation t.injects p
   new_honest h r p true e = subst (Honest t.ids t.generation t.injects) (some_same (Some q) q p refl e) h
   new_honest h r p false e = f.honest r p e
-
-  live_not : (b : Bool) (state : Flight) → is_live (cond b (withdraw state) state) ≡ true → (b ≡ false) × (is_live state ≡ true)
-  live_not false state e = (refl, e)
-  live_not true unsent e = cc
-  live_not true in_flight e = cc
-  live_not true delivered e = cc
-  live_not true lost e = cc
-  live_not true withdrawn e = cc
 
   -- a packet that is left is of another transaction
   other_left : (v : Transaction) (p : Sending) → belongs p u ≡ is_same v u → belongs p u ≡ false → cond (is_same v u) (t.count + 1) (t.current v) ≡ t.current v

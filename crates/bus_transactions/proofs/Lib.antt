@@ -20,3 +20,4 @@ pub mod PacketLaws
 pub mod JudgementLaws
 pub mod SentLaws
 pub mod AnswerLaws
+pub mod ServedFacts

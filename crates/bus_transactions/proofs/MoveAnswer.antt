@@ -1,4 +1,5 @@
 -- A node answers the request that it has judged.
+use Rattle.bus_transactions.proofs.ServedFacts.{Served, served_paid}
 use Rattle.bus_transactions.specs.Answers.{IsSentFor}
 use Rattle.bus_transactions.specs.Sent.{IsOwn}
 use Rattle.std.specs.Prelude.{◌≡◌, ℕ, ◌+◌, ◌<◌, nat_eq, Bool, true, false, cond, List, Some, None, Ok, refl}
@@ -186,21 +187,22 @@ module _ (w : Wire) (h : Stands w) (d : Due) (rcode : ℕ) (given : List ℕ) (o
       ((o.facts.honest d.serial d.request due.sent_is).label due.label due.kind due.part)
       due.heard (ap (λ g. transaction g j i due.label) due.now) due.room
 
-  answered_on : On (puts_at T q T.injects (upd T.answers (T.count + 1) (Some due.owed.serial)) (at T.given v rcode) None) (send_step w.store (as_sent q)) (upd w.layer i new) w.bus w.ids None
-  answered_on = record {
+  answered_on : is_reply d.reply rcode ≡ true → On (puts_at T q T.injects (upd T.answers (T.count + 1) (Some due.owed.serial)) (at T.given v rcode) None) (send_step w.store (as_sent q)) (upd w.layer i new) w.bus w.ids None
+  answered_on stated = record {
     facts = facts_put o.facts q none T.injects (λ k e. e) (upd T.answers (T.count + 1) (Some due.owed.serial)) (λ r e. ap (λ b. cond b (Some due.owed.serial) (T.answers r)) e) honest flies (at T.given v rcode) (λ u. ungiven u (is_same u v) refl) None reply_to;
     follows = subst (λ b. Follows (T.count + 1) (upd T.sent (T.count + 1) (Some q)) (upd (by_bus_rule b T.sent T.flight) (T.count + 1) in_flight) (send_step w.store (as_sent q))) none (follows_sent o.follows q (T.count + 1) refl);
     bus_is = o.bus_is;
     ids_are = o.ids_are;
     due_is = refl;
+    codes = served_paid o.facts v (subst (Served T) is_asked o.codes) q rcode due.owed due.owes_is (upd T.answers (T.count + 1) (Some due.owed.serial)) (due.stated rcode stated) (sym (packet_is.rcode_is (canon p) (canon_spells p valid))) same_transaction none;
     nodes = λ k.
         node_case (λ x l. IsNode (T.ids (T.generation x)) (T.generation x) x T.held T.last T.seen (at T.given v rcode) None l) i k new w.layer (nat_eq k i) refl
         own_node (λ e. node_answered_beside (old k) rcode e);
   }
 
-  answered_stands : Stands (answered (answering_step (w.layer i) d.packet d.request.bytes rcode given) d w)
+  answered_stands : is_reply d.reply rcode ≡ true → Stands (answered (answering_step (w.layer i) d.packet d.request.bytes rcode given) d w)
   unfolding answering_step
-  answered_stands = subst (λ t. On t (send_step w.store (as_sent q)) (upd w.layer i new) w.bus w.ids None) (sym terms_are) answered_on
+  answered_stands stated = subst (λ t. On t (send_step w.store (as_sent q)) (upd w.layer i new) w.bus w.ids None) (sym terms_are) (answered_on stated)
 
   -- the packet is the node's own, and the answer that is owed
   pub answered_own : IsOwn T (w.layer i).generation i j (canon p)
@@ -240,4 +242,4 @@ module _ (w : Wire) (h : Stands w) (d : Due) (rcode : ℕ) (given : List ℕ) (o
 
 pub move_answer : (w : Wire) → Stands w → (rcode : ℕ) (given : List ℕ) → MayAnswer w rcode given → Stands (moved (answer rcode given) w)
 move_answer w h rcode given may =
-    subst (λ o. Stands (answering o rcode given w)) (sym may.owed) (answered_stands w h may.due rcode given may.owed may.valid)
+    subst (λ o. Stands (answering o rcode given w)) (sym may.owed) (answered_stands w h may.due rcode given may.owed may.valid may.stated)

@@ -1,4 +1,5 @@
 -- A node asks another.
+use Rattle.bus_transactions.proofs.ServedFacts.{Served, served_begun}
 use Rattle.std.specs.Prelude.{◌≡◌, ℕ, ◌+◌, ◌<◌, nat_eq, true, false, List, Option, Some, None, Ok, refl}
 use Rattle.std.proofs.Common.{arith, sym, ◌∙◌, ap, subst}
 use Rattle.sbp_base.specs.Update.{upd}
@@ -144,6 +145,7 @@ module _ (w : Wire) (h : Stands w) (i j : ℕ) (body : Body) (may : MayAsk w i j
         bus_is = h.bus_is;
         ids_are = h.ids_are;
         due_is = subst (DueIs (begins_at T u b.kind q) (upd w.layer i new)) (sym may.free) owes;
+        codes = subst (λ d. Served (begins_at T u b.kind q) (due_transaction d)) (sym may.free) (served_begun h.facts (subst (λ d. Served T (due_transaction d)) may.free h.codes) u b.kind q begun);
         nodes = λ k.
             node_case (λ x l. IsNode (T.ids (T.generation x)) (T.generation x) x (at T.held u (waits b.kind (T.count + 1))) (at T.last u (Some asked.bytes)) T.seen T.given (due_transaction w.due) l) i k new w.layer (nat_eq k i) refl
             (node_asks node (h.facts.apart g) new (id_for w i j) j (T.count + 1) (unlabelled (w.layer i) (id_for w i j) body) asked b.kind peer_is b.kind_is a)

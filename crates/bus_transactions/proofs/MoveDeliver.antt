@@ -1,7 +1,8 @@
 -- A packet is delivered.
+use Rattle.bus_transactions.proofs.ServedFacts.{served_flight}
 use Rattle.label_table.specs.Requests.{is_write, is_last}
 use Rattle.label_table.specs.declared.source.Remembered.{Remembered}
-use Rattle.std.specs.Prelude.{◌≡◌, ◌≢◌, ℕ, ◌+◌, nat_eq, Bool, true, false, cond, List, Option, Some, None, IsSome, Result, Ok, Err, refl, ◌&&◌}
+use Rattle.std.specs.Prelude.{◌≡◌, ◌≢◌, ℕ, ◌+◌, nat_eq, Bool, true, false, cond, List, Option, Some, None, IsSome, Result, Ok, Err, refl, ◌&&◌, suc}
 use Rattle.std.proofs.Common.{arith, sym, ◌∙◌, ap, subst}
 use Rattle.sbp_base.specs.Update.{upd}
 use Rattle.async_packet.specs.Fields.{rcode_of}
@@ -30,7 +31,7 @@ use Rattle.bus_transactions.specs.Judging.{is_response, is_repeated, is_awaited,
 use Rattle.bus_transactions.proofs.PacketParts.{part_read, PartOf, asks, replies, part_case, answering_read}
 use Rattle.bus_transactions.proofs.Follows.{Follows, is_live, follows_delivered, found_kept}
 use Rattle.bus_transactions.proofs.Ties.{counts_new}
-use Rattle.bus_transactions.proofs.Facts.{not_true, nat_same, injected_begun, request_asked, response_asked, none_begun, asked_is, Honest}
+use Rattle.bus_transactions.proofs.Facts.{not_true, nat_same, injected_begun, request_asked, response_asked, none_begun, asked_is, Honest, nat_is}
 use Rattle.bus_transactions.proofs.FactsJudged.{facts_flight, news_at, judged_at, closed_at}
 use Rattle.bus_transactions.proofs.JudgedStep.{Says, row_says, Responds, Requests, JudgedAs, judged_step, facts_agree, remembered_is, again_at, rcode_at}
 use Rattle.bus_transactions.proofs.NodeRows.{IsNode, node_frees, node_beside_held}
@@ -67,6 +68,7 @@ module _ (w : Wire) (h : Stands w) (s : ℕ) (q : Sending) (free_now : w.due ≡
         bus_is = o.bus_is;
         ids_are = o.ids_are;
         due_is = o.due_is;
+        codes = served_flight o.codes (cond T.repeats T.flight (upd T.flight s delivered)) (live_by T.repeats);
         nodes = o.nodes;
       }
 
@@ -225,7 +227,7 @@ module _ (w : Wire) (h : Stands w) (s : ℕ) (q : Sending) (cause : Option Cause
       ∙ ap (λ held. closes held u r.kind (rcode_of q.bytes) (is_served s (is_news s B))) waiting.is
       ∙ ap (λ b. closes_if b waiting.serial u (rcode_of q.bytes) (is_served s (is_news s B))) waiting.same in
       subst (λ t. On t store' (upd w.layer q.to new) w.bus w.ids None) (sym terms_are)
-      (closed_on B store' w.layer w.bus w.ids o s q sent still r.label r.kind waiting.kind' waiting.serial (rcode_of q.bytes) (upd B.news s (B.news s + 1)) (upd B.served s (B.served s + 1)) new r.part now waiting.is (λ x d. ap (λ b. cond b (B.news s + 1) (B.news x)) d) (λ n d. node_beside_held (o.nodes n) u free d) own')
+      (closed_on B store' w.layer w.bus w.ids o s q sent still r.label r.kind waiting.kind' waiting.serial (rcode_of q.bytes) (upd B.news s (B.news s + 1)) (upd B.served s (B.served s + 1)) new refl (λ x d. ap (λ b. cond b (B.served s + 1) (B.served x)) d) r.part now waiting.is (λ x d. ap (λ b. cond b (B.news s + 1) (B.news x)) d) (λ n d. node_beside_held (o.nodes n) u free d) own')
 
   again_case : (new : Node) (p : Packet) (rcode : ℕ) → Requests (w.layer q.to) new q.bytes F p by_again → rcode ≡ rcode_in (judge_step (w.layer q.to).filter (header_in p).source q.bytes) → On (noted (first_note (of_again p rcode) cause s) (terms w.past)) store' (upd w.layer q.to new) w.bus w.ids (due_for (of_again p rcode) cause s q)
   again_case new p rcode x code =
@@ -239,8 +241,11 @@ module _ (w : Wire) (h : Stands w) (s : ℕ) (q : Sending) (cause : Option Cause
       subst (λ t. On t store' (upd w.layer q.to new) w.bus w.ids (due_for (of_again p rcode) cause s q))
       (sym (ap (λ so. ignores_that so causes.Again s (terms w.past)) sent ∙ ap (λ a. judges a (Some causes.Again) s q B) (request_asked q r.label r.kind r.part)))
       (judged_on B store' w.layer w.bus w.ids o s q sent still p r.label place.0 r.kind (Some causes.Again) B.news B.served (as_before rcode) new x.read r.part now counted (λ x d. refl) place.1 x.same
-      (λ c e. subst (λ g. is_stated (Some causes.Again) g c ≡ true) (code ∙ before_is (o.facts.honest s q sent) (node_now now) p r.label r.kind x.read r.part f.2) e))
+      (λ c e. subst (λ g. is_stated (Some causes.Again) g c ≡ true) (code ∙ before_is (o.facts.honest s q sent) (node_now now) p r.label r.kind x.read r.part f.2) e) (λ r d. refl) (λ e. (refl, refl)) (λ e. absurd (zero_one (sym zero ∙ e))))
     where
+      zero_one : {n : ℕ} → 0 ≡ suc n → ⊥
+      zero_one e = cc
+
       before_is : Honest B.ids B.generation B.injects q → IsNode (B.ids q.generation) q.generation q.to B.held B.last B.seen B.given None (w.layer q.to) → (p : Packet) (l : ℕ) (k : Kind) → reading q.bytes ≡ Ok p → part_of q.bytes ≡ request l k → is_repeated B (part_of q.bytes) q ≡ true → rcode_in (judge_step (w.layer q.to).filter (header_in p).source q.bytes) ≡ B.given (between q q.from q.to l)
       before_is honest node p l k read part again =
           let r = remembered_is B (w.layer q.to) q node honest.source honest.label p l k read part in
@@ -251,8 +256,8 @@ module _ (w : Wire) (h : Stands w) (s : ℕ) (q : Sending) (cause : Option Cause
           rcode_at (w.layer q.to).filter q.bytes (place_for (header_in p).source (w.layer q.to).filter) a ∙ ap (λ (x : Remembered). x.rcode) r
 
   -- a request that the node decides on, got or ignored
-  request_on : may_ignore cause ≡ true → (new : Node) (p : Packet) (served : ℕ → ℕ) → Requests (w.layer q.to) new q.bytes F p by_request → (t : Terms) → ((v : Transaction) → asked_by q ≡ Some v → is_to q.bytes (B.ids q.generation q.to) ≡ true → t ≡ judged_at B s q v (Some (record { serial = s; cause = cause })) (upd B.news s (B.news s + 1)) served) → On t store' (upd w.layer q.to new) w.bus w.ids (due_for (of_request p) cause s q)
-  request_on known new p served x t is =
+  request_on : may_ignore cause ≡ true → (new : Node) (p : Packet) (served : ℕ → ℕ) → ((r : ℕ) → nat_eq r s ≡ false → served r ≡ B.served r) → ((given rcode : ℕ) → is_stated cause given rcode ≡ true → rcode ≡ 0 → served s ≡ B.served s + 1) → Requests (w.layer q.to) new q.bytes F p by_request → (t : Terms) → ((v : Transaction) → asked_by q ≡ Some v → is_to q.bytes (B.ids q.generation q.to) ≡ true → t ≡ judged_at B s q v (Some (record { serial = s; cause = cause })) (upd B.news s (B.news s + 1)) served) → On t store' (upd w.layer q.to new) w.bus w.ids (due_for (of_request p) cause s q)
+  request_on known new p served beyond serves x t is =
       let now = is_now (row_says F by_request x.row_is).0.current in
       let f = row_now by_request x.row_is (row_says F by_request x.row_is).0.current in
       let r = request_is q.bytes p x.read f.1 in
@@ -263,7 +268,14 @@ module _ (w : Wire) (h : Stands w) (s : ℕ) (q : Sending) (cause : Option Cause
       let here : upd B.news s (B.news s + 1) s ≡ B.news s + 1 = ap (λ b. cond b (B.news s + 1) (B.news s)) (nat_same s) in
       let counted : upd B.news s (B.news s + 1) s ≡ B.news s + counts_new (B.seen v) q.bytes = here ∙ ap (λ n. B.news s + n) (sym one) in
       subst (λ t. On t store' (upd w.layer q.to new) w.bus w.ids (due_for (of_request p) cause s q)) (sym (is v a f.0.for_node))
-      (judged_on B store' w.layer w.bus w.ids o s q sent still p r.label place.0 r.kind cause (upd B.news s (B.news s + 1)) served (as_decided cause) new x.read r.part now counted (λ x d. ap (λ b. cond b (B.news s + 1) (B.news x)) d) place.1 x.same (λ c e. decided_stated cause (B.given v) c known e))
+      (judged_on B store' w.layer w.bus w.ids o s q sent still p r.label place.0 r.kind cause (upd B.news s (B.news s + 1)) served (as_decided cause) new x.read r.part now counted (λ x d. ap (λ b. cond b (B.news s + 1) (B.news x)) d) place.1 x.same (λ c e. decided_stated cause (B.given v) c known e) beyond (λ e. absurd (zero_one (sym e ∙ one))) (λ e c st nil. serves (B.given v) c st nil))
+    where
+      zero_one : {n : ℕ} → 0 ≡ suc n → ⊥
+      zero_one e = cc
+
+-- a cause that states another rcode than 0
+no_code : (rcode code : ℕ) → nat_eq rcode (suc code) ≡ true → rcode ≡ 0 → ⊥
+no_code rcode code e nil = let i = nat_is rcode (suc code) e in absurd (omega (arith, i, nil))
 
 -- the terms of a request that is taken, or ignored for a cause
 gets_request : (t : Terms) (s : ℕ) (q : Sending) (v : Transaction) → asked_by q ≡ Some v → gets_as (part_of q.bytes) s q t ≡ judges (Some v) None s q t
@@ -277,24 +289,24 @@ module _ (w : Wire) (h : Stands w) (s : ℕ) (q : Sending) (free_now : w.due ≡
 
   request_case : (cause : Option Cause) → may_ignore cause ≡ true → (new : Node) (p : Packet) → Requests (w.layer q.to) new q.bytes (layers.facts_of (w.layer q.to) q.generation q.bytes) p by_request → On (noted (first_note (of_request p) cause s) (terms w.past)) (arrived (terms w.past).repeats s w.store) (upd w.layer q.to new) w.bus w.ids (due_for (of_request p) cause s q)
   request_case None known new p x =
-      request_on w h s q None free_now sent live flies room known new p (upd C.served s (C.served s + 1)) x _ (λ v a f.
+      request_on w h s q None free_now sent live flies room known new p (upd C.served s (C.served s + 1)) (λ r d. ap (λ b. cond b (C.served s + 1) (C.served r)) d) (λ g c st nil. ap (λ b. cond b (C.served s + 1) (C.served s)) (nat_same s)) x _ (λ v a f.
       ap (λ so. gets so s (terms w.past)) sent ∙ gets_request (is_served s (is_news s C)) s q v a)
   request_case (Some causes.Generation) known new p x = cc
   request_case (Some causes.Label) known new p x = cc
   request_case (Some causes.Again) known new p x = cc
   request_case (Some causes.Grammar) known new p x =
-      request_on w h s q (Some causes.Grammar) free_now sent live flies room known new p C.served x _ (λ v a f.
+      request_on w h s q (Some causes.Grammar) free_now sent live flies room known new p C.served (λ r d. refl) (λ g c st nil. absurd (no_code c 4 st nil)) x _ (λ v a f.
       ap (λ so. ignores_that so causes.Grammar s (terms w.past)) sent
       ∙ ap (λ b. judges_if b (asked_by q) s q (is_news s C)) f
       ∙ ap (λ o. judges o (Some causes.Grammar) s q (is_news s C)) a)
   request_case (Some causes.Source) known new p x =
-      request_on w h s q (Some causes.Source) free_now sent live flies room known new p C.served x _ (λ v a f.
+      request_on w h s q (Some causes.Source) free_now sent live flies room known new p C.served (λ r d. refl) (λ g c st nil. absurd (no_code c 6 st nil)) x _ (λ v a f.
       ap (λ so. ignores_that so causes.Source s (terms w.past)) sent ∙ ap (λ o. judges o (Some causes.Source) s q (is_news s C)) a)
   request_case (Some causes.Login) known new p x =
-      request_on w h s q (Some causes.Login) free_now sent live flies room known new p C.served x _ (λ v a f.
+      request_on w h s q (Some causes.Login) free_now sent live flies room known new p C.served (λ r d. refl) (λ g c st nil. absurd (no_code c 6 st nil)) x _ (λ v a f.
       ap (λ so. ignores_that so causes.Login s (terms w.past)) sent ∙ ap (λ o. judges o (Some causes.Login) s q (is_news s C)) a)
   request_case (Some causes.Slot) known new p x =
-      request_on w h s q (Some causes.Slot) free_now sent live flies room known new p (upd C.served s (C.served s + 1)) x _ (λ v a f.
+      request_on w h s q (Some causes.Slot) free_now sent live flies room known new p (upd C.served s (C.served s + 1)) (λ r d. ap (λ b. cond b (C.served s + 1) (C.served r)) d) (λ g c st nil. ap (λ b. cond b (C.served s + 1) (C.served s)) (nat_same s)) x _ (λ v a f.
       ap (λ so. ignores_that so causes.Slot s (terms w.past)) sent ∙ ap (λ o. judges o (Some causes.Slot) s q (is_served s (is_news s C))) a)
 
   judged_case : (cause : Option Cause) → may_ignore cause ≡ true → (r : Finding (Unit {0}) × Node) → JudgedAs (w.layer q.to) q.bytes (layers.facts_of (w.layer q.to) q.generation q.bytes) r → Stands (judging r cause s q (record w { store = arrived (terms w.past).repeats s w.store }))

@@ -1,4 +1,5 @@
 -- The moves of the bus, and those that send nothing.
+use Rattle.bus_transactions.proofs.ServedFacts.{served_flight, served_other, served_injected}
 use Rattle.std.specs.Prelude.{◌≡◌, ℕ, ◌+◌, ◌<◌, ◌≤◌, nat_eq, nat_lt, is_ok, Bool, true, false, cond, List, Option, Some, None, Result, Ok, Err, refl}
 use Rattle.std.proofs.Common.{arith, sym, ◌∙◌, ap, subst}
 use Rattle.sbp_base.specs.Update.{upd}
@@ -53,6 +54,7 @@ move_lose w h s may =
       bus_is = o.bus_is;
       ids_are = o.ids_are;
       due_is = o.due_is;
+      codes = served_flight o.codes (upd t.flight s lost) (λ r q e. lost_live (nat_eq r s) (t.flight r));
       nodes = o.nodes;
     })
 
@@ -90,6 +92,7 @@ module _ (w : Wire) (h : Stands w) (i j : ℕ) (label : LabelParts) (may : MayEx
         bus_is = o.bus_is;
         ids_are = o.ids_are;
         due_is = o.due_is;
+        codes = served_other o.codes (at t.held u rests) t.bus t.ids t.generation t.repeats t.injected;
         nodes = λ k.
             node_case (λ x l. IsNode (t.ids (t.generation x)) (t.generation x) x (at t.held u rests) t.last t.seen t.given None l) i k new w.layer (nat_eq k i) refl
             (node_frees node (o.facts.apart (t.generation i)) new (id_for w i j) j label.number x.kind states.Resting rests peer_is refl x.frees)
@@ -135,6 +138,7 @@ move_disown w h i j label =
       bus_is = h.bus_is;
       ids_are = h.ids_are;
       due_is = room_kept w h i new s.stays.filter w.due h.due_is;
+      codes = h.codes;
       nodes = λ k.
           node_case (λ x l. IsNode (t.ids (t.generation x)) (t.generation x) x t.held t.last t.seen t.given (due_transaction w.due) l) i k new w.layer (nat_eq k i) refl
           (node_same (h.nodes i) new s)
@@ -154,6 +158,7 @@ move_reset w h line physical may =
       bus_is = refl;
       ids_are = λ i. ap (λ b. cond b new (t.ids (t.bus + 1)) i) (sym (nat_same (t.bus + 1)));
       due_is = o.due_is;
+      codes = served_other o.codes t.held (t.bus + 1) (upd t.ids (t.bus + 1) new) t.generation false t.injected;
       nodes = λ k. node_row (o.nodes k) (upd t.ids (t.bus + 1) new (t.generation k)) (ids_before o.facts new (t.generation k) (o.facts.aged k));
     }))
 
@@ -196,6 +201,7 @@ module _ (w : Wire) (h : Stands w) (i : ℕ) (idle : w.due ≡ None) where
         bus_is = o.bus_is;
         ids_are = o.ids_are;
         due_is = o.due_is;
+        codes = served_other o.codes T.held T.bus T.ids (upd T.generation i T.bus) T.repeats T.injected;
         nodes = λ k.
             node_case (λ x l. IsNode (T.ids (upd T.generation i T.bus x)) (upd T.generation i T.bus x) x T.held T.last T.seen T.given None l) i k new w.layer (nat_eq k i) refl
             (subst (λ g. IsNode (T.ids g) g i T.held T.last T.seen T.given None new) (seen_here i true (nat_same i) refl)
@@ -222,6 +228,7 @@ move_start w h line event may =
     let o = settled w h may.free in
     record {
       facts = facts_opened o.facts x.repeats;
+      codes = served_other o.codes t.held t.bus t.ids t.generation x.repeats t.injected;
       follows = o.follows;
       bus_is = o.bus_is;
       ids_are = o.ids_are;
@@ -290,6 +297,7 @@ module _ (w : Wire) (h : Stands w) (i j : ℕ) (bytes : List ℕ) (may : MayInje
         bus_is = k.bus_is;
         ids_are = k.ids_are;
         due_is = k.due_is;
+        codes = served_other (served_injected k.facts k.codes q refl wild (λ n. wilder n (nat_eq n i))) I.held I.bus I.ids I.generation I.repeats marks;
         nodes = k.nodes;
       }))
     where

@@ -16,7 +16,7 @@ use Rattle.bus_transactions.specs.Moves.{Move, ask, answer, inject, deliver, los
 use Rattle.bus_transactions.specs.May.{May, MayAll, Always, is_plain}
 use Rattle.bus_transactions.specs.Packets.{SerialsCount, PacketLaw}
 use Rattle.bus_transactions.specs.Rows.{RowsLaw}
-use Rattle.bus_transactions.specs.Once.{OnceLaw}
+use Rattle.bus_transactions.specs.Once.{OnceLaw, ServedLaw}
 use Rattle.bus_transactions.proofs.PacketParts.{request_read, asking_read}
 use Rattle.bus_transactions.proofs.Follows.{last_is, kept_is}
 use Rattle.bus_transactions.proofs.Facts.{fair, both, request_asked, asked_begun}
@@ -120,3 +120,12 @@ once_always moves may s label q sent honest part =
       most = λ e. c.most u begun writes (fair_is t.injects u e);
       once = λ rcode e f closed. c.once u rcode begun writes (both_is t.injects u e f) closed;
     }
+
+pub served_always : Always ServedLaw
+served_always moves may s label q sent honest part from to closed =
+    let t : Terms = terms (after moves).past in
+    let u : Transaction = between q q.from q.to label in
+    let begun = asked_begun q u honest (request_asked q label writing part) in
+    let r = request_read q.bytes label writing part in
+    let writes = (asking_read q.bytes r.packet label writing r.read r.is).writes in
+    (all_stand moves may).codes.ended s q u sent begun writes (both_is t.injects u from to) closed

@@ -1,4 +1,5 @@
 -- What holds of the wire at every moment: the history, the store and the nodes agree.
+use Rattle.bus_transactions.proofs.ServedFacts.{Served}
 use Rattle.std.specs.Prelude.{◌≡◌, ℕ, ◌+◌, ◌<◌, nat_eq, Bool, true, false, cond, Option, Some, None, Ok}
 use Rattle.std.proofs.Common.{sym, ◌∙◌, ap, subst}
 use Rattle.sbp_base.specs.Update.{upd}
@@ -47,6 +48,7 @@ pub record On (t : Terms) (store : Stored) (layer : ℕ → Node) (bus : ℕ) (i
   pub bus_is : bus ≡ t.bus
   pub ids_are : (i : ℕ) → ids i ≡ t.ids t.bus i
   pub due_is : DueIs t layer due
+  pub codes : Served t (due_transaction due)
   pub nodes : (i : ℕ) → IsNode (t.ids (t.generation i)) (t.generation i) i t.held t.last t.seen t.given (due_transaction due) (layer i)
 
 abbrev pub Stands : Wire → Type 0

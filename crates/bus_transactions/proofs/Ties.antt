@@ -72,7 +72,7 @@ tie_weaker t f b g = record {
   once = λ e. t.once (b e);
 }
 
-one_of : (n : ℕ) → (n ≡ 0) ⊎ (0 < n)
+pub one_of : (n : ℕ) → (n ≡ 0) ⊎ (0 < n)
 one_of zero = inl refl
 one_of (suc n) = inr (omega arith)
 
@@ -103,17 +103,17 @@ tie_begins {fair} {both} {count} {current} {judged} {news} {last} {seen} {held} 
 abbrev pub counts_new : Option (List ℕ) → List ℕ → ℕ
 counts_new seen b = cond (is_write b && is_last seen b) 0 1
 
-is_counted : (seen : Option (List ℕ)) (b : List ℕ) → is_write b ≡ true → is_last seen b ≡ true → counts_new seen b ≡ 0
+pub is_counted : (seen : Option (List ℕ)) (b : List ℕ) → is_write b ≡ true → is_last seen b ≡ true → counts_new seen b ≡ 0
 is_counted seen b w e = rw (w, e) refl
 
-is_first : (seen : Option (List ℕ)) (b : List ℕ) → is_write b ≡ true → is_last seen b ≡ false → counts_new seen b ≡ 1
+pub is_first : (seen : Option (List ℕ)) (b : List ℕ) → is_write b ≡ true → is_last seen b ≡ false → counts_new seen b ≡ 1
 is_first seen b w e = rw (w, e) refl
 
 at_most : (seen : Option (List ℕ)) (b : List ℕ) (x : Bool) → (is_write b && is_last seen b) ≡ x → counts_new seen b ≤ 1
 at_most seen b true e = rw e (omega arith)
 at_most seen b false e = rw e (omega arith)
 
-same_last : (seen last : Option (List ℕ)) (b : List ℕ) → seen ≡ last → last ≡ Some b → is_last seen b ≡ true
+pub same_last : (seen last : Option (List ℕ)) (b : List ℕ) → seen ≡ last → last ≡ Some b → is_last seen b ≡ true
 same_last seen last b e f = rw (e ∙ f) (bytes_same b)
 
 -- its present request is judged

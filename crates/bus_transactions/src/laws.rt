@@ -1,7 +1,7 @@
 ghost use Rattle.bus_transactions.specs.May.{Always};
 ghost use Rattle.bus_transactions.specs.Packets.{PacketLaw};
 ghost use Rattle.bus_transactions.specs.Rows.{RowsLaw};
-ghost use Rattle.bus_transactions.specs.Once.{OnceLaw};
+ghost use Rattle.bus_transactions.specs.Once.{OnceLaw, ServedLaw};
 ghost use Rattle.bus_transactions.specs.Judging.{JudgementLaw};
 ghost use Rattle.bus_transactions.specs.Answers.{AnswerLaw};
 ghost use Rattle.bus_transactions.specs.Sent.{SentLaw};
@@ -22,6 +22,12 @@ pub fn rows_by_history()
 /// exactly once where it was closed and its receiver has not either.
 pub fn writes_taken_once()
     ensures { Always OnceLaw }
+{}
+
+/// The once law, with the rcode: a write between nodes that have not injected packets, which was closed
+/// with rcode 0, was got, or ignored for its slot, exactly once.
+pub fn closed_writes_are_served()
+    ensures { Always ServedLaw }
 {}
 
 /// The judgement law up to the causes of a node's own: a delivery begins with the note of the first row
