@@ -39,6 +39,8 @@ pub record IsAsked (last : Option (List ℕ)) (so : Option Sending) (u : Transac
 -- a packet is of its sender's generation or an earlier one; if it was not injected, its destination is the receiver in that generation;
 -- its source is its sender; and the tables read its label
 pub record Honest (ids : ℕ → ℕ → ℕ) (generation : ℕ → ℕ) (injects : ℕ → Bool) (q : Sending) : Type 0 where
+  pub from_small : q.from < 5
+  pub to_small : q.to < 5
   pub past : q.generation ≤ generation q.from
   pub bold : q.injected ≡ true → injects q.from ≡ true
   pub is_for : q.injected ≡ false → is_to q.bytes (ids q.generation q.to) ≡ true

@@ -23,6 +23,8 @@ module _ {t : Terms} (f : Facts t) (new : ℕ → ℕ) where
   reset_honest q h =
       let old = ids_before q.generation (let a = h.past in let b = f.aged q.from in omega arith) in
       record {
+        from_small = h.from_small;
+        to_small = h.to_small;
         past = h.past;
         bold = h.bold;
         is_for = λ e. subst (λ (row : ℕ → ℕ). is_to q.bytes (row q.to) ≡ true) (sym old) (h.is_for e);
@@ -76,6 +78,8 @@ module _ {t : Terms} (f : Facts t) (node : ℕ) where
     silent = λ u l. f.silent u (later u.responder u.generation l);
     ungiven = λ u l. f.ungiven u (later u.responder u.generation l);
     honest = λ s q e. let h = f.honest s q e in record {
+      from_small = h.from_small;
+      to_small = h.to_small;
       past = let r = risen q.from (nat_eq q.from node) refl in let p = h.past in omega arith;
       bold = h.bold;
       is_for = h.is_for;

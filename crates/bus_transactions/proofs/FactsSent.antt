@@ -219,6 +219,8 @@ module _ {t : Terms} (f : Facts t) (q : Sending) (begun : begun_by q ≡ None) (
 
   bolder : (p : Sending) → Honest t.ids t.generation t.injects p → Honest t.ids t.generation injects p
   bolder p h = record {
+    from_small = h.from_small;
+    to_small = h.to_small;
     past = h.past;
     bold = λ e. let b = h.bold e in let m = more p.from in grind arith;
     is_for = h.is_for;

@@ -21,3 +21,4 @@ pub mod JudgementLaws
 pub mod SentLaws
 pub mod AnswerLaws
 pub mod ServedFacts
+pub mod Rooms

@@ -104,6 +104,8 @@ module _ (w : Wire) (h : Stands w) (d : Due) (rcode : ℕ) (given : List ℕ) (o
 
   honest : Honest T.ids T.generation T.injects q
   honest = record {
+    from_small = (o.facts.honest d.serial d.request due.sent_is).to_small;
+    to_small = (o.facts.honest d.serial d.request due.sent_is).from_small;
     past = let e = (o.nodes i).generation in omega arith;
     bold = λ e. cc;
     is_for = λ e.
@@ -185,7 +187,7 @@ module _ (w : Wire) (h : Stands w) (d : Due) (rcode : ℕ) (given : List ℕ) (o
       node_answered (old i) (o.facts.apart (T.generation i)) d.request.bytes rcode (header_in d.packet).source due.place
       (from_is ∙ ap (λ g. T.ids g j) due.now)
       ((o.facts.honest d.serial d.request due.sent_is).label due.label due.kind due.part)
-      due.heard (ap (λ g. transaction g j i due.label) due.now) due.room
+      due.heard (ap (λ g. transaction g j i due.label) due.now) due.room (o.facts.honest d.serial d.request due.sent_is).from_small
 
   answered_on : is_reply d.reply rcode ≡ true → On (puts_at T q T.injects (upd T.answers (T.count + 1) (Some due.owed.serial)) (at T.given v rcode) None) (send_step w.store (as_sent q)) (upd w.layer i new) w.bus w.ids None
   answered_on stated = record {

@@ -131,6 +131,8 @@ module _ (w : Wire) (h : Stands w) (i j : ℕ) (body : Body) (may : MayAsk w i j
       ∙ ap (is_last (last_for (w.layer i).peers (id_for w i j) n)) a.labelled
       ∙ taken_differs (w.layer i) (id_for w i j) n (unlabelled (w.layer i) (id_for w i j) body) a.takes (sym b.writes ∙ x) in
       let honest : Honest T.ids T.generation T.injects q = record {
+        from_small = may.node_small;
+        to_small = may.peer_small;
         past = let e = node.generation in omega arith;
         bold = λ e. cc;
         is_for = λ e. to_read asked.bytes b.packet (id_for w i j) b.read ∙ ap (λ (x : Header). nat_eq x.destination (id_for w i j)) b.header ∙ nat_same (id_for w i j);

@@ -1,8 +1,9 @@
 -- A packet is delivered.
+use Rattle.bus_transactions.proofs.Rooms.{has_room}
 use Rattle.bus_transactions.proofs.ServedFacts.{served_flight}
 use Rattle.label_table.specs.Requests.{is_write, is_last}
 use Rattle.label_table.specs.declared.source.Remembered.{Remembered}
-use Rattle.std.specs.Prelude.{◌≡◌, ◌≢◌, ℕ, ◌+◌, nat_eq, Bool, true, false, cond, List, Option, Some, None, IsSome, Result, Ok, Err, refl, ◌&&◌, suc}
+use Rattle.std.specs.Prelude.{◌≡◌, ℕ, ◌+◌, nat_eq, Bool, true, false, cond, List, Option, Some, None, Result, Ok, Err, refl, ◌&&◌, suc}
 use Rattle.std.proofs.Common.{arith, sym, ◌∙◌, ap, subst}
 use Rattle.sbp_base.specs.Update.{upd}
 use Rattle.async_packet.specs.Fields.{rcode_of}
@@ -10,13 +11,11 @@ use Rattle.async_packet.specs.declared.fault.PacketFault.{PacketFault}
 use Rattle.async_packet.specs.Labels.{LabelParts}
 use Rattle.async_packet.specs.Packet.{Packet, header_in}
 use Rattle.async_packet.specs.Reading.{reading}
-use Rattle.label_table.specs.declared.reply.Verdict.TheVariants as verdicts
 use Rattle.label_table.specs.declared.place.LabelState.TheVariants as states
-use Rattle.label_table.specs.Filter.{SourcePlace, place_for, judge_step}
+use Rattle.label_table.specs.Filter.{place_for, judge_step}
 use Rattle.label_table.specs.Judging.{Facts, Row, by_grammar, by_label, by_response, by_again, by_request, row_of}
 use Rattle.label_table.specs.Layer.{Finding, of_generation, of_grammar, of_label, of_response, of_again, of_request, facts_in, judging_step, rcode_in, is_again}
 use Rattle.label_table.specs.Layer as layers
-use Rattle.label_table.proofs.Course.{place_of}
 use Rattle.packet_store.specs.declared.sent.Kept.{Kept}
 use Rattle.packet_store.specs.Kept.{is_flying}
 use Rattle.packet_store.specs.Stored.{Stored}
@@ -128,13 +127,6 @@ waiting_is (waits k r) kind e = record { kind' = k; serial = r; is = refl; same 
 repeated_count : (t : Terms) (q : Sending) (l : ℕ) (k : Kind) (b : Bool) → part_of q.bytes ≡ request l k → is_repeated t (part_of q.bytes) q ≡ b → counts_new (t.seen (between q q.from q.to l)) q.bytes ≡ cond b 0 1
 repeated_count t q l k b part e = ap (λ x. cond x 0 1) (sym (ap (λ p. is_repeated t p q) part) ∙ e)
 
-room_place : (filter : List SourcePlace) (source : ℕ) (bytes : List ℕ) → judge_step filter source bytes ≢ verdicts.Crowded → (place : ℕ) × (place_for source filter ≡ Some place)
-room_place filter source bytes room = some_of (place_for source filter) (place_of filter bytes (place_for source filter) room)
-  where
-    some_of : (o : Option ℕ) → IsSome o → (place : ℕ) × (o ≡ Some place)
-    some_of None i = cc
-    some_of (Some n) i = (n, refl)
-
 -- a cause of the node's own states its rcode whatever was given before
 decided_stated : (cause : Option Cause) (given rcode : ℕ) → may_ignore cause ≡ true → is_stated cause 0 rcode ≡ true → is_stated cause given rcode ≡ true
 decided_stated None given rcode known e = refl
@@ -146,7 +138,7 @@ decided_stated (Some causes.Source) given rcode known e = e
 decided_stated (Some causes.Login) given rcode known e = e
 decided_stated (Some causes.Slot) given rcode known e = e
 
-module _ (w : Wire) (h : Stands w) (s : ℕ) (q : Sending) (cause : Option Cause) (free_now : w.due ≡ None) (sent : (terms w.past).sent s ≡ Some q) (live : is_live ((terms w.past).flight s) ≡ true) (flies : (terms w.past).repeats ≡ false → is_flying s w.store.kept ≡ true) (room : (p : Packet) → reading q.bytes ≡ Ok p → judge_step (w.layer q.to).filter (header_in p).source q.bytes ≢ verdicts.Crowded) where
+module _ (w : Wire) (h : Stands w) (s : ℕ) (q : Sending) (cause : Option Cause) (free_now : w.due ≡ None) (sent : (terms w.past).sent s ≡ Some q) (live : is_live ((terms w.past).flight s) ≡ true) (flies : (terms w.past).repeats ≡ false → is_flying s w.store.kept ≡ true) where
   abbrev pub B : Terms
   B = arrives s (terms w.past)
 
@@ -181,6 +173,14 @@ module _ (w : Wire) (h : Stands w) (s : ℕ) (q : Sending) (cause : Option Cause
 
   row_now : (row : Row) → row_of F ≡ row → F.is_current ≡ true → Says row (facts_of B q)
   row_now row r e = subst (Says row) (agree (is_now e)) (row_says F row r)
+
+  -- the filter has a place for the source
+  room_now : (p : Packet) → reading q.bytes ≡ Ok p → B.generation q.to ≡ q.generation → (k : ℕ) × (place_for (header_in p).source (w.layer q.to).filter ≡ Some k)
+  room_now p read now =
+      let n = node_now now in
+      let honest = o.facts.honest s q sent in
+      let r = has_room (B.ids q.generation) q.from (w.layer q.to).filter honest.from_small n.room in
+      (r.0, ap (λ x. place_for x (w.layer q.to).filter) (honest.source p read) ∙ r.1)
 
   generation_case : (new : Node) → new ≡ w.layer q.to → On (noted (first_note of_generation cause s) (terms w.past)) store' (upd w.layer q.to new) w.bus w.ids None
   generation_case new same =
@@ -235,7 +235,7 @@ module _ (w : Wire) (h : Stands w) (s : ℕ) (q : Sending) (cause : Option Cause
       let f = row_now by_again x.row_is (row_says F by_again x.row_is).0.current in
       let r = request_is q.bytes p x.read f.1 in
       let v : Transaction = between q q.from q.to r.label in
-      let place = room_place (w.layer q.to).filter (header_in p).source q.bytes (room p x.read) in
+      let place = room_now p x.read now in
       let zero = repeated_count B q r.label r.kind true r.part f.2 in
       let counted : B.news s ≡ B.news s + counts_new (B.seen v) q.bytes = omega (arith, zero) in
       subst (λ t. On t store' (upd w.layer q.to new) w.bus w.ids (due_for (of_again p rcode) cause s q))
@@ -263,7 +263,7 @@ module _ (w : Wire) (h : Stands w) (s : ℕ) (q : Sending) (cause : Option Cause
       let r = request_is q.bytes p x.read f.1 in
       let v : Transaction = between q q.from q.to r.label in
       let a = request_asked q r.label r.kind r.part in
-      let place = room_place (w.layer q.to).filter (header_in p).source q.bytes (room p x.read) in
+      let place = room_now p x.read now in
       let one = repeated_count B q r.label r.kind false r.part f.2 in
       let here : upd B.news s (B.news s + 1) s ≡ B.news s + 1 = ap (λ b. cond b (B.news s + 1) (B.news s)) (nat_same s) in
       let counted : upd B.news s (B.news s + 1) s ≡ B.news s + counts_new (B.seen v) q.bytes = here ∙ ap (λ n. B.news s + n) (sym one) in
@@ -283,38 +283,38 @@ gets_request t s q v a =
     let r = asked_is q v a in
     ap (λ part. gets_as part s q t) r.part ∙ ap (λ o. judges o None s q t) a
 
-module _ (w : Wire) (h : Stands w) (s : ℕ) (q : Sending) (free_now : w.due ≡ None) (sent : (terms w.past).sent s ≡ Some q) (live : is_live ((terms w.past).flight s) ≡ true) (flies : (terms w.past).repeats ≡ false → is_flying s w.store.kept ≡ true) (room : (p : Packet) → reading q.bytes ≡ Ok p → judge_step (w.layer q.to).filter (header_in p).source q.bytes ≢ verdicts.Crowded) where
+module _ (w : Wire) (h : Stands w) (s : ℕ) (q : Sending) (free_now : w.due ≡ None) (sent : (terms w.past).sent s ≡ Some q) (live : is_live ((terms w.past).flight s) ≡ true) (flies : (terms w.past).repeats ≡ false → is_flying s w.store.kept ≡ true) where
   abbrev C : Terms
   C = arrives s (terms w.past)
 
   request_case : (cause : Option Cause) → may_ignore cause ≡ true → (new : Node) (p : Packet) → Requests (w.layer q.to) new q.bytes (layers.facts_of (w.layer q.to) q.generation q.bytes) p by_request → On (noted (first_note (of_request p) cause s) (terms w.past)) (arrived (terms w.past).repeats s w.store) (upd w.layer q.to new) w.bus w.ids (due_for (of_request p) cause s q)
   request_case None known new p x =
-      request_on w h s q None free_now sent live flies room known new p (upd C.served s (C.served s + 1)) (λ r d. ap (λ b. cond b (C.served s + 1) (C.served r)) d) (λ g c st nil. ap (λ b. cond b (C.served s + 1) (C.served s)) (nat_same s)) x _ (λ v a f.
+      request_on w h s q None free_now sent live flies known new p (upd C.served s (C.served s + 1)) (λ r d. ap (λ b. cond b (C.served s + 1) (C.served r)) d) (λ g c st nil. ap (λ b. cond b (C.served s + 1) (C.served s)) (nat_same s)) x _ (λ v a f.
       ap (λ so. gets so s (terms w.past)) sent ∙ gets_request (is_served s (is_news s C)) s q v a)
   request_case (Some causes.Generation) known new p x = cc
   request_case (Some causes.Label) known new p x = cc
   request_case (Some causes.Again) known new p x = cc
   request_case (Some causes.Grammar) known new p x =
-      request_on w h s q (Some causes.Grammar) free_now sent live flies room known new p C.served (λ r d. refl) (λ g c st nil. absurd (no_code c 4 st nil)) x _ (λ v a f.
+      request_on w h s q (Some causes.Grammar) free_now sent live flies known new p C.served (λ r d. refl) (λ g c st nil. absurd (no_code c 4 st nil)) x _ (λ v a f.
       ap (λ so. ignores_that so causes.Grammar s (terms w.past)) sent
       ∙ ap (λ b. judges_if b (asked_by q) s q (is_news s C)) f
       ∙ ap (λ o. judges o (Some causes.Grammar) s q (is_news s C)) a)
   request_case (Some causes.Source) known new p x =
-      request_on w h s q (Some causes.Source) free_now sent live flies room known new p C.served (λ r d. refl) (λ g c st nil. absurd (no_code c 6 st nil)) x _ (λ v a f.
+      request_on w h s q (Some causes.Source) free_now sent live flies known new p C.served (λ r d. refl) (λ g c st nil. absurd (no_code c 6 st nil)) x _ (λ v a f.
       ap (λ so. ignores_that so causes.Source s (terms w.past)) sent ∙ ap (λ o. judges o (Some causes.Source) s q (is_news s C)) a)
   request_case (Some causes.Login) known new p x =
-      request_on w h s q (Some causes.Login) free_now sent live flies room known new p C.served (λ r d. refl) (λ g c st nil. absurd (no_code c 6 st nil)) x _ (λ v a f.
+      request_on w h s q (Some causes.Login) free_now sent live flies known new p C.served (λ r d. refl) (λ g c st nil. absurd (no_code c 6 st nil)) x _ (λ v a f.
       ap (λ so. ignores_that so causes.Login s (terms w.past)) sent ∙ ap (λ o. judges o (Some causes.Login) s q (is_news s C)) a)
   request_case (Some causes.Slot) known new p x =
-      request_on w h s q (Some causes.Slot) free_now sent live flies room known new p (upd C.served s (C.served s + 1)) (λ r d. ap (λ b. cond b (C.served s + 1) (C.served r)) d) (λ g c st nil. ap (λ b. cond b (C.served s + 1) (C.served s)) (nat_same s)) x _ (λ v a f.
+      request_on w h s q (Some causes.Slot) free_now sent live flies known new p (upd C.served s (C.served s + 1)) (λ r d. ap (λ b. cond b (C.served s + 1) (C.served r)) d) (λ g c st nil. ap (λ b. cond b (C.served s + 1) (C.served s)) (nat_same s)) x _ (λ v a f.
       ap (λ so. ignores_that so causes.Slot s (terms w.past)) sent ∙ ap (λ o. judges o (Some causes.Slot) s q (is_served s (is_news s C))) a)
 
   judged_case : (cause : Option Cause) → may_ignore cause ≡ true → (r : Finding (Unit {0}) × Node) → JudgedAs (w.layer q.to) q.bytes (layers.facts_of (w.layer q.to) q.generation q.bytes) r → Stands (judging r cause s q (record w { store = arrived (terms w.past).repeats s w.store }))
-  judged_case cause known (of_generation, new) j = generation_case w h s q cause free_now sent live flies room new j.0
-  judged_case cause known (of_grammar, new) j = grammar_case w h s q cause free_now sent live flies room new j.0 j.1
-  judged_case cause known (of_label, new) j = label_case w h s q cause free_now sent live flies room new j.0 j.1
-  judged_case cause known (of_response p label purpose, new) j = response_case w h s q cause free_now sent live flies room new p label purpose j
-  judged_case cause known (of_again p rcode, new) j = again_case w h s q cause free_now sent live flies room new p rcode j.0 j.1
+  judged_case cause known (of_generation, new) j = generation_case w h s q cause free_now sent live flies new j.0
+  judged_case cause known (of_grammar, new) j = grammar_case w h s q cause free_now sent live flies new j.0 j.1
+  judged_case cause known (of_label, new) j = label_case w h s q cause free_now sent live flies new j.0 j.1
+  judged_case cause known (of_response p label purpose, new) j = response_case w h s q cause free_now sent live flies new p label purpose j
+  judged_case cause known (of_again p rcode, new) j = again_case w h s q cause free_now sent live flies new p rcode j.0 j.1
   judged_case cause known (of_request p, new) j = request_case cause known new p j
 
   pub delivered_on : (cause : Option Cause) → may_ignore cause ≡ true → Stands (delivering s q cause w)
@@ -325,4 +325,4 @@ pub move_deliver : (w : Wire) → Stands w → (kept : Kept) (cause : Option Cau
 move_deliver w h kept cause may =
     let k = found_kept h.follows kept.serial kept may.kept_is in
     let is : k.packet ≡ as_sending kept.sent = ap as_sending (sym k.is) in
-    delivered_on w h kept.serial (as_sending kept.sent) may.free (k.sent ∙ ap Some is) k.live may.flies may.room cause may.known
+    delivered_on w h kept.serial (as_sending kept.sent) may.free (k.sent ∙ ap Some is) k.live may.flies cause may.known

@@ -277,6 +277,8 @@ module _ (w : Wire) (h : Stands w) (i j : ℕ) (bytes : List ℕ) (may : MayInje
       let terms_are : sends s (marked t1 s q (marks s)) t1 ≡ puts_at t1 q wild I.answers I.given I.owes =
       injected_terms t1 s q k.due_is begun refl serial (ap (λ b. cond b true (I.injected s)) (nat_same s)) in
       let honest : Honest I.ids I.generation wild q = record {
+        from_small = may.node_small;
+        to_small = may.peer_small;
         past = let e = node.generation in omega arith;
         bold = λ e. ap (λ b. cond b true (I.injects i)) (nat_same i);
         is_for = λ e. cc;

@@ -1,5 +1,6 @@
 -- A node's transaction layer has the rows of the history in the generation that the node is in.
-use Rattle.std.specs.Prelude.{◌≡◌, ◌≢◌, ℕ, ◌&&◌, nat_eq, Bool, true, false, cond, List, Option, Some, None, refl}
+use Rattle.bus_transactions.proofs.Rooms.{unknown, frees, room_kept, new_room}
+use Rattle.std.specs.Prelude.{◌≡◌, ◌≢◌, ℕ, ◌&&◌, nat_eq, Bool, true, false, cond, List, Option, Some, None, refl, ◌<◌, ◌≤◌}
 use Rattle.std.proofs.Common.{arith, sym, ◌∙◌, ap, subst}
 use Rattle.label_table.specs.declared.reply.ReplyKind.{ReplyKind}
 use Rattle.label_table.specs.declared.place.LabelState.{LabelState}
@@ -24,6 +25,7 @@ pub record IsNode (row : ℕ → ℕ) (g i : ℕ) (held : Transaction → Held) 
   pub id : layer.node ≡ row i
   pub places : Places layer.generation layer.peers
   pub fit : IsFit layer.filter
+  pub room : unknown row 5 layer.filter ≤ frees layer.filter
   pub states_are : (j l : ℕ) → shape (state_for layer.peers (row j) l) ≡ shape_of (held (transaction g i j l))
   pub lasts_are : (j l : ℕ) → last_for layer.peers (row j) l ≡ last (transaction g i j l)
   pub seen_are : (j l : ℕ) → is_that of (transaction g j i l) ≡ false → seen_at (row j) layer.filter l ≡ record { last = seen (transaction g j i l); rcode = given (transaction g j i l) }
@@ -85,6 +87,7 @@ module _ {row : ℕ → ℕ} {g i : ℕ} {held : Transaction → Held} {last see
     id = a.shows.stays.node ∙ n.id;
     places = a.shows.places;
     fit = subst IsFit (sym a.shows.stays.filter) n.fit;
+    room = subst (λ f. unknown row 5 f ≤ frees f) (sym a.shows.stays.filter) n.room;
     states_are = shows_states apart new peer k asked.label.number (states.UnderWay (kind_of bytes) a.serial) (waits kind s) e (ap awaits is) a.shows;
     lasts_are = λ j l.
         a.lasts_are (row j) l
@@ -99,6 +102,7 @@ module _ {row : ℕ → ℕ} {g i : ℕ} {held : Transaction → Held} {last see
     id = a.shows.stays.node ∙ n.id;
     places = a.shows.places;
     fit = subst IsFit (sym a.shows.stays.filter) n.fit;
+    room = subst (λ f. unknown row 5 f ≤ frees f) (sym a.shows.stays.filter) n.room;
     states_are = shows_states apart new peer k m state x e same a.shows;
     lasts_are = λ j l. a.lasts_are (row j) l ∙ n.lasts_are j l;
     seen_are = same_filter new a.shows.stays;
@@ -110,6 +114,7 @@ module _ {row : ℕ → ℕ} {g i : ℕ} {held : Transaction → Held} {last see
     id = s.stays.node ∙ n.id;
     places = s.places;
     fit = subst IsFit (sym s.stays.filter) n.fit;
+    room = subst (λ f. unknown row 5 f ≤ frees f) (sym s.stays.filter) n.room;
     states_are = λ j l. ap shape (s.states_are (row j) l) ∙ n.states_are j l;
     lasts_are = λ j l. s.lasts_are (row j) l ∙ n.lasts_are j l;
     seen_are = same_filter new s.stays;
@@ -122,6 +127,7 @@ module _ {row : ℕ → ℕ} {g i : ℕ} {held : Transaction → Held} {last see
     id = n.id;
     places = n.places;
     fit = n.fit;
+    room = n.room;
     states_are = λ j l. n.states_are j l ∙ ap (λ b. shape_of (cond b x (held (transaction g i j l)))) (sym (other_requester (transaction g i j l) u d));
     lasts_are = λ j l. n.lasts_are j l ∙ ap (λ b. cond b y (last (transaction g i j l))) (sym (other_requester (transaction g i j l) u d));
     seen_are = n.seen_are;
@@ -133,6 +139,7 @@ module _ {row : ℕ → ℕ} {g i : ℕ} {held : Transaction → Held} {last see
     id = n.id;
     places = n.places;
     fit = n.fit;
+    room = n.room;
     states_are = λ j l. n.states_are j l ∙ ap (λ b. shape_of (cond b x (held (transaction g i j l)))) (sym (other_requester (transaction g i j l) u d));
     lasts_are = n.lasts_are;
     seen_are = n.seen_are;
@@ -149,6 +156,7 @@ node_judged {row} {g} {i} {seen = seen} {given = given} {layer = layer} n v byte
   id = n.id;
   places = n.places;
   fit = n.fit;
+  room = n.room;
   states_are = n.states_are;
   lasts_are = n.lasts_are;
   seen_are = λ j l e.
@@ -168,6 +176,7 @@ module _ {row : ℕ → ℕ} {g i : ℕ} {held : Transaction → Held} {last see
     id = n.id;
     places = n.places;
     fit = n.fit;
+    room = n.room;
     states_are = n.states_are;
     lasts_are = n.lasts_are;
     seen_are = λ j l e.
@@ -176,7 +185,7 @@ module _ {row : ℕ → ℕ} {g i : ℕ} {held : Transaction → Held} {last see
         n.seen_are j l other ∙ ap (λ r. record { last = seen w; rcode = r }) (sym (given_same rcode w other));
   }
 
-  module _ (apart : (i j : ℕ) → row i ≡ row j → i ≡ j) (bytes : List ℕ) (rcode source k : ℕ) (is_source : source ≡ row v.requester) (is_label : label_of bytes ≡ v.label) (heard : seen v ≡ Some bytes) (is_v : v ≡ transaction g v.requester i v.label) (room : place_for source layer.filter ≡ Some k) where
+  module _ (apart : (i j : ℕ) → row i ≡ row j → i ≡ j) (bytes : List ℕ) (rcode source k : ℕ) (is_source : source ≡ row v.requester) (is_label : label_of bytes ≡ v.label) (heard : seen v ≡ Some bytes) (is_v : v ≡ transaction g v.requester i v.label) (room : place_for source layer.filter ≡ Some k) (small : v.requester < 5) where
     own_row : (j l : ℕ) → j ≡ v.requester → seen_at (row j) (remember_step layer.filter source bytes rcode) l ≡ cond (nat_eq l v.label) (record { last = Some bytes; rcode = rcode }) (seen_at (row j) layer.filter l)
     own_row j l e =
         let at_source : source ≡ row j = is_source ∙ ap row (sym e) in
@@ -215,6 +224,7 @@ module _ {row : ℕ → ℕ} {g i : ℕ} {held : Transaction → Held} {last see
       id = n.id;
       places = n.places;
       fit = remembered_fit layer.filter source bytes rcode n.fit;
+      room = room_kept row layer.filter source k v.requester bytes rcode (sym is_source) small n.room room;
       states_are = n.states_are;
       lasts_are = n.lasts_are;
       seen_are = λ j l e. in_row j l _ _ refl refl;
@@ -227,6 +237,7 @@ node_seen {row} {g} {i} {held} {last} {seen} {given} layer id is no_held no_last
   id = is;
   places = cleared_places g layer.peers;
   fit = new_fit;
+  room = new_room row;
   states_are = λ j l. ap shape (cleared_looked (λ place. place.state) states.Free g layer.peers refl (row j) l) ∙ ap shape_of (sym (no_held j l));
   lasts_are = λ j l. cleared_looked (λ place. place.last) None g layer.peers refl (row j) l ∙ sym (no_last j l);
   seen_are = λ j l e.
@@ -240,6 +251,7 @@ node_new row i = record {
   id = refl;
   places = new_places;
   fit = new_fit;
+  room = new_room row;
   states_are = λ j l. ap shape (new_looked (λ place. place.state) states.Free refl (row j) l);
   lasts_are = λ j l. new_looked (λ place. place.last) None refl (row j) l;
   seen_are = λ j l e. new_unseen (row j) l;

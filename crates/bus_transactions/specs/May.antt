@@ -1,15 +1,11 @@
 -- When each move may be made: what the node or the bus checks, and what its types say. While a request is to be answered nothing else
 -- may happen but what tells nothing of the wire.
-use Rattle.std.specs.Prelude.{◌≡◌, ◌≢◌, ◌<◌, ℕ, Bool, true, false, is_ok, List, [], ◌∷◌, Option, Some, None, Ok}
+use Rattle.std.specs.Prelude.{◌≡◌, ◌<◌, ℕ, Bool, true, false, is_ok, List, [], ◌∷◌, Option, Some, None}
 use Rattle.std.specs.List.{All}
-use Rattle.async_packet.specs.Packet.{Packet, header_in}
 use Rattle.async_packet.specs.Canon.{IsValid}
 use Rattle.async_packet.specs.Fields.{header_of}
-use Rattle.async_packet.specs.Reading.{reading}
 use Rattle.async_packet.specs.Labels.{LabelParts}
-use Rattle.label_table.specs.declared.reply.Verdict.TheVariants as verdicts
 use Rattle.label_table.specs.Bodies.{Body, Gives, header_to, request_with, response_to}
-use Rattle.label_table.specs.Filter.{judge_step}
 use Rattle.label_table.specs.Layer.{expiring_step}
 use Rattle.packet_store.specs.declared.sent.Kept.{Kept}
 use Rattle.packet_store.specs.Kept.{found, is_flying}
@@ -23,9 +19,11 @@ use Rattle.sbp_journal.specs.declared.note.Note.TheVariants as notes
 use Rattle.bus_transactions.specs.Wire.{is_reply, Due, Wire, id_for}
 use Rattle.bus_transactions.specs.Moves.{Move, ask, answer, inject, deliver, lose, expire, disown, reset, see, start, tell, after}
 
--- a body that fits its fields
+-- a body that fits its fields; the bus has five nodes at most
 pub record MayAsk (w : Wire) (node peer : ℕ) (body : Body) : Type 0 where
   pub free : w.due ≡ None
+  pub node_small : node < 5
+  pub peer_small : peer < 5
   pub valid : IsValid (request_with (header_to (w.layer node).node (id_for w node peer) 0) body)
 
 -- the request that is to be answered, with an rcode that its judgement states; a read that is complete gives as many bytes as were
@@ -40,6 +38,8 @@ pub record MayAnswer (w : Wire) (rcode : ℕ) (given : List ℕ) : Type 0 where
 -- bytes from the node's own ID to that of the other node, both in its generation
 pub record MayInject (w : Wire) (node peer : ℕ) (bytes : List ℕ) : Type 0 where
   pub free : w.due ≡ None
+  pub node_small : node < 5
+  pub peer_small : peer < 5
   pub bytes_fit : All (λ byte. byte < 256) bytes
   pub source : (header_of bytes).source ≡ id_for w node node
   pub destination : (header_of bytes).destination ≡ id_for w node peer
@@ -59,7 +59,6 @@ pub record MayDeliver (w : Wire) (kept : Kept) (cause : Option Cause) : Type 0 w
   pub kept_is : found kept.serial w.store.kept ≡ Some kept
   pub flies : (terms w.past).repeats ≡ false → is_flying kept.serial w.store.kept ≡ true
   pub known : may_ignore cause ≡ true
-  pub room : (packet : Packet) → reading kept.sent.bytes ≡ Ok packet → judge_step (w.layer kept.sent.to).filter (header_in packet).source kept.sent.bytes ≢ verdicts.Crowded
 
 pub record MayLose (w : Wire) (s : ℕ) : Type 0 where
   pub free : w.due ≡ None
