@@ -1,4 +1,4 @@
-ghost use Rattle.std.specs.Prelude.{◌≡◌, ◌+◌, ◌<◌, ◌^◌, length, map, false, true, Some, None, IfOk, IfSome, OnSome, is_some};
+ghost use Rattle.std.specs.Prelude.{◌≡◌, ◌+◌, ◌<◌, ◌^◌, length, map, false, true, not, Some, None, IfOk, IfSome, OnSome, is_some};
 ghost use Rattle.orb_list.specs.Requests.{IsRequest, asked_of};
 ghost use Rattle.orb_list.specs.Table.{added, closed, drop_step, dummy_step, find_in, free_all_step, freed, high_step, is_free, checked, low_step, list_number, lowest, may_prepare, new_table, next_ticket, orb_number, passed_for, pin_step, prepare_step, released, rested, slot_in, status_step, sweep, unpin_step, waiting, waits_high, waits_low, with_link, with_status};
 ghost use Rattle.orb_list.specs.Holds.{HoldsSlots, IsBefore, KeepsHeld, KeepsLink};
@@ -240,6 +240,13 @@ impl Slots {
         self.sweep(image);
     }
 
+    /// The present list: the ORB that was prepared last, and how far it is linked.
+    pub fn present(&self) -> Option<PresentList>
+        ensures { result ≡ self.now.present }
+    {
+        self.present
+    }
+
     /// The ticket of the latest ORB that was prepared in a slot below 32.
     pub fn last(&self, slot: u8) -> Option<Ticket>
         requires { slot < 32 }
@@ -253,6 +260,20 @@ impl Slots {
         ensures { result ≡ is_some self.now.pinned }
     {
         self.pinned.is_some()
+    }
+
+    /// The number of lists that were begun, which is that of the next one.
+    pub fn lists(&self) -> u32
+        ensures { result ≡ self.now.lists }
+    {
+        self.lists
+    }
+
+    /// Whether every slot is in use or rests.
+    pub fn is_full(&self) -> bool
+        ensures { result ≡ not (is_some (lowest self.now.slots)) }
+    {
+        lowest(&self.slots).is_none()
     }
 
     /// The number of calls that changed this.

@@ -1,5 +1,5 @@
 -- The words of a line, each behind a blank.
-use Rattle.std.proofs.Common.{◌≡◌, ◌∙◌, refl, sym, ap, ℕ, List, [], ◌∷◌, ◌++◌, map, append_assoc, append-nil}
+use Rattle.std.proofs.Common.{◌≡◌, ◌∙◌, sym, ap, ℕ, List, [], ◌∷◌, ◌++◌, map, append_assoc, append-nil}
 use Rattle.std.specs.List.{join_with_byte}
 use Rattle.orb_layout.specs.declared.status.StatusKind.{StatusKind}
 use Rattle.orb_layout.specs.declared.status.StatusKind.TheVariants.{Good, Check, Dummy, Aborted, Illegal, Failed, Management}

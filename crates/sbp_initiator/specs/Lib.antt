@@ -1,0 +1,11 @@
+pub mod Lists
+pub mod Quads
+pub mod States
+pub mod Effects
+pub mod Refusals
+pub mod Acting
+pub mod Counted
+pub mod Receiving
+pub mod Seeing
+pub mod Judged
+pub mod Initiators

@@ -1,0 +1,185 @@
+-- The state of an initiator, and what is read off it.
+use Rattle.std.specs.Prelude.{ℕ, ◌+◌, ◌-◌, ◌*◌, ◌%◌, ◌^◌, ◌==◌, ◌&&◌, ◌||◌, not, nat_le, nat_lt, Bool, true, false, unwrap_or, if◌then◌else◌, List, length, Option, Some, None, Result}
+use Rattle.byteorder.specs.Endian.{big_bytes}
+use Rattle.async_packet.specs.Packet.{Packet, write_response, read_quadlet, read_block, read_quadlet_response, read_block_response, lock_response}
+use Rattle.label_table.specs.Bodies.{Body, quadlet_write, block_write, quadlet_read}
+use Rattle.bus_memory.specs.declared.window.Window.TheVariants as windows
+use Rattle.bus_memory.specs.Windows.{start}
+use Rattle.orb_layout.specs.declared.login.LoginResponse.{LoginResponse}
+use Rattle.orb_layout.specs.declared.status.StatusBlock.{StatusBlock}
+use Rattle.orb_layout.specs.declared.fault.OrbFault.{OrbFault}
+use Rattle.orb_layout.specs.Pointers.{offset_at}
+use Rattle.orb_layout.specs.StatusBlocks.{read_block as read_status_block}
+use Rattle.orb_list.specs.declared.list.PresentList.{PresentList}
+use Rattle.orb_list.specs.Table.{is_done}
+use Rattle.sbp_session.specs.declared.seat.Seat.{Seat}
+use Rattle.sbp_session.specs.declared.seat.Seat.TheVariants as seats
+use Rattle.sbp_journal.specs.declared.operation.Operation.{Operation}
+use Rattle.sbp_initiator.specs.Refusals.{SessionState, is_out, is_entering, is_live, is_held, is_returning, is_leaving, is_stuck}
+use Rattle.sbp_initiator.specs.declared.purpose.Ending.{Ending}
+use Rattle.sbp_initiator.specs.declared.purpose.Ending.TheVariants as endings
+use Rattle.sbp_initiator.specs.declared.purpose.Wanted.{Wanted}
+use Rattle.sbp_initiator.specs.declared.purpose.Wanted.TheVariants as wants
+use Rattle.sbp_initiator.specs.declared.purpose.Running.{Running}
+use Rattle.sbp_initiator.specs.declared.purpose.Pointing.{Pointing}
+use Rattle.sbp_initiator.specs.declared.purpose.Pointing.TheVariants as pointings
+use Rattle.sbp_initiator.specs.declared.purpose.ListMarks.{ListMarks}
+use Rattle.sbp_initiator.specs.declared.fifo.Fifo.{Fifo}
+use Rattle.sbp_initiator.specs.declared.fifo.Fifo.TheVariants as fifos
+
+-- ---- the session
+
+abbrev pub session_of : Seat → SessionState
+session_of (seats.Out out) = is_out
+session_of (seats.Entering entering) = is_entering
+session_of (seats.Live live) = is_live
+session_of (seats.Held response) = is_held
+session_of (seats.Returning response) = is_returning
+session_of (seats.Leaving response) = is_leaving
+session_of (seats.Stuck origin) = is_stuck
+
+-- an ORB_POINTER write is under way
+abbrev pub points : Seat → Bool
+points (seats.Live live) = live.pointing
+points _ = false
+
+abbrev pub no_response : LoginResponse
+no_response = record { login = 0; agent = 0; hold = 0 }
+
+-- the response of the login
+abbrev pub response_in : Seat → LoginResponse
+response_in (seats.Live live) = live.response
+response_in (seats.Held response) = response
+response_in (seats.Returning response) = response
+response_in (seats.Leaving response) = response
+response_in _ = no_response
+
+abbrev pub is_out_seat : Seat → Bool
+is_out_seat (seats.Out out) = true
+is_out_seat _ = false
+
+abbrev pub is_stuck_seat : Seat → Bool
+is_stuck_seat (seats.Stuck origin) = true
+is_stuck_seat _ = false
+
+-- ---- addresses
+
+-- an address so far behind another, of 48 bits
+abbrev pub behind_by : ℕ → ℕ → ℕ
+behind_by base distance = (base + distance) % 2 ^ 48
+
+-- the FIFO of a login number, and that of a place of management
+abbrev pub login_fifo : ℕ → ℕ
+login_fifo number = 0x1300_0000 + 0x20 * number
+
+abbrev pub place_fifo : ℕ → ℕ
+place_fifo place = 0x1200_2000 + 0x20 * place
+
+-- where MANAGEMENT_AGENT stands by a ROM
+abbrev pub management_at : ℕ → ℕ
+management_at distance = behind_by 0xffff_f000_0000 (4 * distance)
+
+-- the login FIFOs are open by the latest login number, where the session is not Out
+abbrev pub is_open_login : ℕ → Seat → ℕ → Bool
+is_open_login logins seat offset = nat_lt 0 logins && offset == login_fifo (logins - 1) && not (is_out_seat seat)
+
+abbrev pub is_login_fifo : ℕ → Bool
+is_login_fifo offset = nat_le 0x1300_0000 offset && nat_lt offset 0x20_1300_0000 && offset % 0x20 == 0
+
+-- the FIFO at an address
+unfoldable pub fifo_at : ℕ → Seat → ℕ → Option Fifo
+fifo_at logins seat offset =
+    if offset == place_fifo 0 || offset == place_fifo 1 then Some fifos.Place
+    else if is_open_login logins seat offset then Some fifos.Login
+    else if is_login_fifo offset then Some fifos.Closed
+    else None
+
+-- a range of the ROM, of 8 quadlets
+abbrev pub is_in_rom : ℕ → ℕ → Bool
+is_in_rom offset count = nat_le 0xffff_f000_0400 offset && nat_le (offset + count) (0xffff_f000_0400 + 32)
+
+abbrev pub reads_rom : Packet → Bool
+reads_rom (read_quadlet header offset) = is_in_rom offset 4
+reads_rom (read_block header offset asked) = is_in_rom offset asked
+reads_rom _ = false
+
+-- a management ORB stands at this address
+abbrev pub is_managed_orb : ℕ → Bool
+is_managed_orb offset = offset == start (windows.Management 0) || offset == start (windows.Management 1)
+
+-- the status block in a payload: it names a management ORB where its offset is that of a place
+abbrev pub names_place : List ℕ → Bool
+names_place payload = nat_le 8 (length payload) && is_managed_orb (offset_at payload 0)
+
+abbrev pub status_in : List ℕ → Result StatusBlock OrbFault
+status_in payload = read_status_block (names_place payload) payload
+
+-- ---- requests
+
+abbrev pub wanted_body : Wanted → Body
+wanted_body (wants.Read offset) = quadlet_read offset
+wanted_body (wants.Write offset value) = quadlet_write offset value
+wanted_body (wants.Point offset orb) = block_write offset (big_bytes 8 orb)
+
+abbrev pub ending_by : ℕ → ℕ → Ending
+ending_by rcode value = if rcode == 0 then endings.Complete value else endings.Refused rcode
+
+-- how a response ends its transaction
+abbrev pub ending_of : Packet → Ending
+ending_of (read_quadlet_response header rcode value) = ending_by rcode value
+ending_of (read_block_response header rcode payload) = ending_by rcode 0
+ending_of (lock_response header rcode extended payload) = ending_by rcode 0
+ending_of (write_response header rcode) = ending_by rcode 0
+ending_of _ = endings.Expired
+
+-- ---- operations and lists
+
+-- the operation under way is the one that an action began
+abbrev pub is_own : ℕ → Option Running → Bool
+is_own act None = false
+is_own act (Some running) = running.act == act
+
+-- the place of the n-th write to MANAGEMENT_AGENT
+abbrev pub place_of : ℕ → ℕ
+place_of managed = managed % 2
+
+-- the place of an operation's management ORB; 0 where it has none
+abbrev pub place_in : Running → ℕ
+place_in running = place_of (unwrap_or running.managed 0)
+
+abbrev pub is_orb_of : Option ℕ → ℕ → Bool
+is_orb_of None orb = false
+is_orb_of (Some managed) orb = orb == start (windows.Management (place_of managed))
+
+-- the operation under way is the one of this management ORB
+abbrev pub is_present_orb : ℕ → Option Running → Bool
+is_present_orb orb None = false
+is_present_orb orb (Some running) = is_orb_of running.managed orb
+
+abbrev pub operation_in : Option Running → Option Operation
+operation_in None = None
+operation_in (Some running) = Some running.operation
+
+abbrev pub no_marks : ListMarks
+no_marks = record { first = 0; pointing = pointings.Unwritten; is_dead = false }
+
+abbrev pub is_unwritten : Pointing → Bool
+is_unwritten pointings.Unwritten = true
+is_unwritten _ = false
+
+abbrev pub is_answered : Pointing → Bool
+is_answered pointings.Answered = true
+is_answered _ = false
+
+-- the last ORB of a list that is linked; the first one counts as linked
+abbrev pub last_linked : PresentList → ℕ
+last_linked list = if is_done list.link then list.tail.number else list.tail.number - 1
+
+-- this list is the present one
+abbrev pub is_list : Option PresentList → ℕ → Bool
+is_list None number = false
+is_list (Some list) number = list.tail.list == number
+
+abbrev pub counts_for : Option PresentList → Option ℕ → Bool
+counts_for present None = false
+counts_for present (Some number) = is_list present number

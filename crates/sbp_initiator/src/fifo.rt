@@ -1,0 +1,10 @@
+/// A FIFO of an initiator.
+#[derive(Clone, Copy, Debug, PartialEq, Eq)]
+pub enum Fifo {
+    /// That of a place of management, which is always open.
+    Place,
+    /// The open one of a login.
+    Login,
+    /// A closed one of a login.
+    Closed,
+}
