@@ -1,2 +1,14 @@
 mod Orders
 mod Added
+mod OnceTries
+mod OrderTries
+mod ExecutionTries
+mod StatusTries
+mod AnswerTries
+mod CarriedTries
+mod CauseTries
+mod JudgementTries
+mod LoginTries
+mod SentTries
+mod MediaTries
+mod ActionTries

@@ -18,7 +18,7 @@ use Rattle.config_rom.specs.declared.unit.SbpUnit.{SbpUnit}
 use Rattle.sbp_journal.specs.Run.{Moment, asked, said}
 use Rattle.sbp_journal.specs.Addresses.{Access, base_of}
 use Rattle.sbp_journal.specs.Transactions.{Part, request, part_of}
-use Rattle.sbp_journal.specs.Wire.{Terms, terms}
+use Rattle.sbp_journal.specs.Wire.{Terms, beginning, passed}
 use Rattle.sbp_journal.specs.declared.event.Event.{Event}
 use Rattle.sbp_journal.specs.declared.event.Event.TheVariants as events
 use Rattle.sbp_journal.specs.declared.event.Action.{Action}
@@ -331,7 +331,18 @@ host_by (notes.Seen node generation) past wire i host =
     if node == suc i then reset_seen (not (generation == wire.generation node)) host else host
 host_by _ past wire i host = host
 
+-- the wire and an initiator, as one fold
+pub record KnownHost : Type 0 where
+  pub wire : Terms
+  pub host : Host
+
+abbrev pub knows : Moment → List Moment → ℕ → KnownHost → KnownHost
+knows (asked line event) past i known = record known { wire = passed (asked line event) known.wire }
+knows (said note) past i known = record { wire = passed (said note) known.wire; host = host_by note past known.wire i known.host }
+
+abbrev pub known_host : List Moment → ℕ → KnownHost
+known_host [] i = record { wire = beginning; host = new_host }
+known_host (moment ∷ past) i = knows moment past i (known_host past i)
+
 abbrev pub host_at : List Moment → ℕ → Host
-host_at [] i = new_host
-host_at (asked line event ∷ past) i = host_at past i
-host_at (said note ∷ past) i = host_by note past (terms past) i (host_at past i)
+host_at past i = (known_host past i).host

@@ -1,7 +1,7 @@
 -- The judgement law (IEEE 1394-1995, transaction layer; NCITS 325-1998, agents and status FIFO). A delivery begins with the note of the
 -- first row that holds. Where that is `ignored`, the delivery has no other note but one packet with the stated answer, and none where the
 -- row has none. Two rows have the word grammar, one without an answer and one with data_error; they are told apart by the row that holds.
-use Rattle.std.specs.Prelude.{◌≡◌, ℕ, zero, suc, ◌+◌, ◌*◌, ◌==◌, ◌&&◌, ◌||◌, not, is_some, Bool, true, false, List, [], ◌∷◌, length, Option, Some, None, Result, Ok, Err}
+use Rattle.std.specs.Prelude.{◌≡◌, ℕ, zero, suc, ◌+◌, ◌*◌, ◌==◌, ◌&&◌, ◌||◌, not, is_some, Bool, true, false, List, [], ◌∷◌, Option, Some, None, Result, Ok, Err}
 use Rattle.async_packet.specs.Packet.{Packet}
 use Rattle.async_packet.specs.Canon.{canon}
 use Rattle.orb_layout.specs.declared.fault.OrbFault.{OrbFault}
@@ -42,8 +42,14 @@ abbrev pub rom_of : (node units : ℕ) → List ℕ
 rom_of zero units = made target_eui units
 rom_of (suc i) units = made (eui_of i) 0
 
+-- its length in bytes: 8 quadlets, or 16 and one for each unit where there are units
+abbrev pub rom_quads : (units : ℕ) → ℕ
+rom_quads zero = 8
+rom_quads (suc units) = 17 + units
+
 abbrev pub rom_size : (node units : ℕ) → ℕ
-rom_size node units = 4 * length (rom_of node units)
+rom_size zero units = 4 * rom_quads units
+rom_size (suc i) units = 4 * rom_quads 0
 
 -- ---- FIFOs
 -- the FIFO of a login is open where it is that of the latest login sent and the session is not out

@@ -27,3 +27,5 @@ pub mod ActionLaw
 pub mod Lawful
 pub mod Adds
 pub mod Readings
+pub mod Journals
+pub mod Tried

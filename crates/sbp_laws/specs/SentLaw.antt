@@ -6,7 +6,7 @@
 -- address, its length and its value. After each turn an ACTIVE agent has one main transaction under way and at most one read ahead, a
 -- management operation one request, a `rom` operation one read, and an agent is SUSPENDED only where its last ORB's status was answered, the
 -- next pointer last read is null, and no DOORBELL came since the read of it was sent.
-use Rattle.std.specs.Prelude.{◌≡◌, ℕ, zero, suc, ◌+◌, ◌&&◌, ◌||◌, not, Bool, true, false, if◌then◌else◌, List, [], ◌∷◌, ◌++◌, length, map, reverse, take, drop, Option, Some, None, IsSomeAnd}
+use Rattle.std.specs.Prelude.{◌≡◌, ℕ, zero, suc, ◌+◌, ◌&&◌, ◌||◌, not, Bool, true, false, if◌then◌else◌, List, [], ◌∷◌, ◌++◌, length, map, reverse, drop, Option, Some, None, IsSomeAnd}
 use Rattle.async_packet.specs.Packet.{Packet, header_in}
 use Rattle.async_packet.specs.Canon.{canon}
 use Rattle.orb_layout.specs.declared.pointer.OrbPointer.TheVariants.{Null}
@@ -112,10 +112,12 @@ is_free wild t moment = false
 
 -- the packets of a turn begin with these
 abbrev pub Begins : List Note → List Note → Type 0
-Begins due sent = take (length due) sent ≡ due
+Begins [] sent = Unit {0}
+Begins (note ∷ due) [] = ⊥
+Begins (note ∷ due) (first ∷ sent) = (first ≡ note) × Begins due sent
 
-abbrev pub AnswersLaw : (ℕ → Bool) → List Disk → Turn → Type 0
-AnswersLaw wild disks t = is_free wild t t.start ≡ false → Begins (answer_due disks t t.start) (sends_of t.rest)
+pub record AnswersLaw (wild : ℕ → Bool) (disks : List Disk) (t : Turn) : Type 0 where
+  pub begins : is_free wild t t.start ≡ false → Begins (answer_due disks t t.start) (sends_of t.rest)
 
 -- ---- requests
 abbrev pub agent_requests : Target → Turn → Option AgentTurn → List Request

@@ -41,7 +41,7 @@ use Rattle.sbp_laws.specs.Lists.{Orb, SlotState, vacant, used, resting, slots, s
 use Rattle.sbp_laws.specs.Hosts.{Host, host_at, operation_of, is_management}
 use Rattle.sbp_laws.specs.Targets.{Target, Agent, agent_at, login_fifo}
 use Rattle.sbp_laws.specs.CarriedLaw.{laid_out}
-use Rattle.sbp_laws.specs.JudgementLaw.{rom_of}
+use Rattle.sbp_laws.specs.JudgementLaw.{rom_of, rom_size}
 
 -- an rcode, and the bytes that a read gives
 pub record Reply : Type 0 where
@@ -101,14 +101,18 @@ target_facts size target access = record {
   is_start = is_start (start_at access.offset);
 }
 
-abbrev pub target_gives : List ℕ → Target → Access → List ℕ
-target_gives rom target access =
-    if lies_in_rom (length rom) access then take access.count (drop (access.offset - rom_base) rom) else start_gives (start_at access.offset) target
+-- the bytes of a range of a node's ROM
+abbrev pub rom_gives : (node units : ℕ) → Access → List ℕ
+rom_gives node units access = take access.count (drop (access.offset - rom_base) (rom_bytes node units))
+
+abbrev pub target_gives : (in_rom : Bool) → (units : ℕ) → Target → Access → List ℕ
+target_gives true units target access = rom_gives 0 units access
+target_gives false units target access = start_gives (start_at access.offset) target
 
 abbrev pub target_reply : List Disk → Target → Access → Reply
 target_reply disks target access = record {
-  rcode = target_rcode (target_facts (length (rom_bytes 0 (length disks))) target access);
-  given = target_gives (rom_bytes 0 (length disks)) target access;
+  rcode = target_rcode (target_facts (rom_size 0 (length disks)) target access);
+  given = target_gives (lies_in_rom (rom_size 0 (length disks)) access) (length disks) target access;
 }
 
 -- ---- at an initiator: what its memory holds
@@ -318,7 +322,7 @@ cut access base held = take access.count (drop (access.offset - base) held)
 
 abbrev pub window_gives : List Moment → ℕ → Access → Option Window → List ℕ
 window_gives past i access None = []
-window_gives past i access (Some windows.Rom) = cut access rom_base (rom_bytes (suc i) 0)
+window_gives past i access (Some windows.Rom) = rom_gives (suc i) 0 access
 window_gives past i access (Some (windows.Orb slot)) = cut access (start (windows.Orb slot)) (orb_in_slot past i slot (prepared_in past i slot))
 window_gives past i access (Some (windows.Table slot)) = cut access (start (windows.Table slot)) (table_in_slot past i slot (prepared_in past i slot))
 window_gives past i access (Some (windows.Buffer slot)) = bytes_from access.count (byte_in past i slot) access.offset
@@ -331,7 +335,7 @@ is_fifo_write access = access.is_write && access.is_block && is_fifo access.offs
 -- a block write to a FIFO that was got is complete
 abbrev pub host_reply : List Moment → ℕ → Access → Reply
 host_reply past i access = record {
-  rcode = if is_fifo_write access then 0 else window_rcode (window_facts past i (length (rom_bytes (suc i) 0)) access);
+  rcode = if is_fifo_write access then 0 else window_rcode (window_facts past i (rom_size (suc i) 0) access);
   given = window_gives past i access (window_at access.offset);
 }
 

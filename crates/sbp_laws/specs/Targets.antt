@@ -37,7 +37,7 @@ use Rattle.mgmt_agent.specs.declared.decision.Effect.TheVariants as effects
 use Rattle.sbp_journal.specs.Run.{Moment, asked, said}
 use Rattle.sbp_journal.specs.Addresses.{Access, Register, agent_state, agent_reset, orb_pointer, doorbell, unsolicited_enable, Start, rom_start, management_agent, register, no_start, start_at, start_serves}
 use Rattle.sbp_journal.specs.Transactions.{Part, request, part_of}
-use Rattle.sbp_journal.specs.Wire.{Terms, terms, local_id}
+use Rattle.sbp_journal.specs.Wire.{Terms, beginning, passed, local_id}
 use Rattle.sbp_journal.specs.declared.event.Event.{Event}
 use Rattle.sbp_journal.specs.declared.event.Event.TheVariants as events
 use Rattle.sbp_journal.specs.declared.operation.FunctionWord.TheVariants as functions
@@ -461,10 +461,21 @@ target_by (notes.Unsolicited i) past wire target =
     record target { enabled = slice_set target.enabled (place_on target (last_unit past) (id_for wire 0 (i + 1))) false }
 target_by note past wire target = going_on note target
 
+-- the wire and the target, as one fold
+pub record Known : Type 0 where
+  pub wire : Terms
+  pub target : Target
+
+abbrev pub knows : Moment → List Moment → Known → Known
+knows (asked line event) past known = record { wire = passed (asked line event) known.wire; target = over known.target }
+knows (said note) past known = record { wire = passed (said note) known.wire; target = target_by note past known.wire known.target }
+
+abbrev pub known_at : List Disk → List Moment → Known
+known_at start [] = record { wire = beginning; target = new_target start }
+known_at start (moment ∷ past) = knows moment past (known_at start past)
+
 abbrev pub target_at : List Disk → List Moment → Target
-target_at start [] = new_target start
-target_at start (asked line event ∷ past) = over (target_at start past)
-target_at start (said note ∷ past) = target_by note past (terms past) (target_at start past)
+target_at start past = (known_at start past).target
 
 -- ---- the disk fold
 abbrev pub plain_of : List Disk → List Moment → ℕ → PlainDisk
