@@ -22,3 +22,4 @@ pub mod SentLaws
 pub mod AnswerLaws
 pub mod ServedFacts
 pub mod Rooms
+pub mod Bares

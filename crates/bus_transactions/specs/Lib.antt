@@ -7,3 +7,4 @@ pub mod Once
 pub mod Judging
 pub mod Answers
 pub mod Sent
+pub mod Bare

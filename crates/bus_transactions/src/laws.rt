@@ -1,3 +1,4 @@
+ghost use Rattle.bus_transactions.specs.Bare.{TakesSteps};
 ghost use Rattle.bus_transactions.specs.May.{Always};
 ghost use Rattle.bus_transactions.specs.Packets.{PacketLaw};
 ghost use Rattle.bus_transactions.specs.Rows.{RowsLaw};
@@ -46,4 +47,10 @@ pub fn answered_next()
 /// generation, and a request has the lowest label that it may have.
 pub fn packets_are_own()
     ensures { Always SentLaw }
+{}
+
+/// The law that what a node's transactions are for changes no step of its layer: each call of a layer is
+/// the primitive of a move on the layer without it.
+pub fn purposes_change_nothing<P>()
+    ensures { TakesSteps P }
 {}
