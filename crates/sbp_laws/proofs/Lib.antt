@@ -12,3 +12,4 @@ mod LoginTries
 mod SentTries
 mod MediaTries
 mod ActionTries
+mod RunsTries

@@ -28,4 +28,5 @@ pub mod Lawful
 pub mod Adds
 pub mod Readings
 pub mod Journals
+pub mod WorkedRuns
 pub mod Tried

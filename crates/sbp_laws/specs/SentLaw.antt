@@ -239,9 +239,14 @@ abbrev pub ManagerRuns : (ℕ → Bool) → Option Operation → Terms → Optio
 ManagerRuns wild None wire serial = Unit {0}
 ManagerRuns wild (Some operation) wire serial = wild (initiator_with wire operation.source) ≡ false → Runs wire serial
 
+-- a condition, where it counts
+abbrev pub Where : Bool → Type 0 → Type 0
+Where true holds = holds
+Where false holds = Unit {0}
+
 abbrev pub RomRuns : Option Underway → Terms → Type 0
 RomRuns None wire = Unit {0}
-RomRuns (Some underway) wire = is_rom (Some underway) ≡ true → is_under_way wire underway.latest ≡ true
+RomRuns (Some underway) wire = Where (is_rom (Some underway)) (is_under_way wire underway.latest ≡ true)
 
 abbrev pub RomsRun : (ℕ → Bool) → List Moment → (count : ℕ) → Type 0
 RomsRun wild past zero = Unit {0}

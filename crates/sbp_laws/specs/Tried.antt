@@ -1,7 +1,8 @@
 -- What the laws say of the journals of Journals.antt: of each law one that it accepts, and others that it refuses.
-use Rattle.std.specs.Prelude.{[], ◌∷◌, None, Some}
+use Rattle.std.specs.Prelude.{[], ◌∷◌, None, Some, List}
 use Rattle.orb_layout.specs.Pointers.{quad_bytes}
-use Rattle.sbp_journal.specs.Run.{said}
+use Rattle.rbc_disk.specs.Disk.{Disk}
+use Rattle.sbp_journal.specs.Run.{Moment, said}
 use Rattle.sbp_journal.specs.declared.note.Note.TheVariants as notes
 use Rattle.sbp_laws.specs.Lawful.{nobody}
 use Rattle.sbp_laws.specs.OnceLaw.{OnceLaw}
@@ -17,6 +18,7 @@ use Rattle.sbp_laws.specs.SentLaw.{SentLaw}
 use Rattle.sbp_laws.specs.MediaLaw.{MediaLaw}
 use Rattle.sbp_laws.specs.ActionLaw.{ActionLaw}
 use Rattle.sbp_laws.specs.Journals as journals
+use Rattle.sbp_laws.specs.WorkedRuns as runs
 
 pub record OnceTried : Type 0 where
   pub accepts : OnceLaw nobody journals.whole
@@ -123,3 +125,25 @@ pub record ActionTried : Type 0 where
   pub settles_early : ActionLaw journals.one_disk journals.settles_early → ⊥
   pub refuses_append : ActionLaw journals.one_disk journals.refuses_append → ⊥
   pub other_number : ActionLaw journals.one_disk (journals.refuses_login 3) → ⊥
+
+-- Worked runs that each law of moments and turns accepts, whole.
+pub record KeepsLaws (start : List Disk) (past : List Moment) : Type 0 where
+  pub once : OnceLaw nobody past
+  pub order : OrderLaw nobody past
+  pub execution : ExecutionLaw nobody start past
+  pub status : StatusLaw nobody past
+  pub answer : AnswerLaw nobody start past
+  pub carried : CarriedLaw nobody start past
+  pub cause : CauseLaw nobody start past
+  pub judgement : JudgementLaw start past
+  pub login : LoginLaw start past
+  pub sent : SentLaw nobody start past
+  pub media : MediaLaw nobody start past
+
+pub record RunsTried : Type 0 where
+  pub capacity : KeepsLaws journals.one_disk runs.capacity_told
+  pub agent_reset : KeepsLaws journals.one_disk runs.agent_reset_told
+  pub logout : KeepsLaws journals.one_disk runs.logout_told
+  pub read_ahead : KeepsLaws journals.one_disk runs.read_ahead_told
+  pub login : KeepsLaws journals.one_disk runs.login_told
+  pub reconnect : KeepsLaws journals.one_disk runs.reconnect_told

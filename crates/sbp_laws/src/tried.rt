@@ -1,4 +1,4 @@
-ghost use Rattle.sbp_laws.specs.Tried.{ActionTried, AnswerTried, CarriedTried, CauseTried, ExecutionTried, JudgementTried, LoginTried, MediaTried, OnceTried, OrderTried, SentTried, StatusTried};
+ghost use Rattle.sbp_laws.specs.Tried.{RunsTried, ActionTried, AnswerTried, CarriedTried, CauseTried, ExecutionTried, JudgementTried, LoginTried, MediaTried, OnceTried, OrderTried, SentTried, StatusTried};
 
 // Each law accepts a journal and refuses others that differ from it in a note.
 
@@ -60,4 +60,10 @@ pub fn media_law_tried()
 /// A line brings its notes, and a refusal only where it is due.
 pub fn action_law_tried()
     ensures { ActionTried }
+{}
+
+/// Worked runs that each law of moments and turns accepts, whole: a READ CAPACITY, an agent reset, a
+/// read ahead, a logout, a login and a reconnect.
+pub fn worked_runs_tried()
+    ensures { RunsTried }
 {}

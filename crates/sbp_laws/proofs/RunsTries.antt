@@ -1,0 +1,390 @@
+use Rattle.std.proofs.Common.{◌≡◌, ◌<◌, [], ◌∷◌, refl, inl, arith}
+use Rattle.async_packet.specs.Packet.{write_quadlet, write_block, write_response, read_quadlet, read_block, read_quadlet_response, read_block_response}
+use Rattle.orb_layout.specs.Pointers.{quad_bytes}
+use Rattle.orb_layout.specs.ManagementOrbs.{management_bytes}
+use Rattle.sbp_laws.specs.Turns.{EachMoment, EachTurn}
+use Rattle.sbp_laws.specs.Lawful.{nobody}
+use Rattle.sbp_laws.specs.Journals as journals
+use Rattle.sbp_laws.specs.WorkedRuns as more
+use Rattle.sbp_laws.specs.Tried.{RunsTried}
+use Rattle.sbp_laws.specs.OnceLaw.{OnceLaw}
+use Rattle.sbp_laws.specs.OrderLaw.{OrderLaw}
+use Rattle.sbp_laws.specs.ExecutionLaw.{ExecutionLaw}
+use Rattle.sbp_laws.specs.StatusLaw.{StatusLaw}
+use Rattle.sbp_laws.specs.AnswerLaw.{AnswerLaw}
+use Rattle.sbp_laws.specs.CarriedLaw.{CarriedLaw}
+use Rattle.sbp_laws.specs.CauseLaw.{CauseLaw}
+use Rattle.sbp_laws.specs.JudgementLaw.{JudgementLaw}
+use Rattle.sbp_laws.specs.LoginLaw.{LoginLaw}
+use Rattle.sbp_laws.specs.MediaLaw.{MediaLaw}
+use Rattle.sbp_laws.specs.SentLaw.{SentAt, AnswersLaw, RequestsLaw, AfterTurn}
+use Rattle.async_packet.specs.Reading.{reading}
+use Rattle.async_packet.specs.Faults.{fault_of}
+use Rattle.async_packet.specs.Fields.{tcode_of, header_of, offset_of, rcode_of, value_of, length_of, extended_of}
+use Rattle.async_packet.specs.Canon.{three, four}
+use Rattle.sbp_journal.specs.Transactions.{part_of, is_to, is_same, asked_by, begun_by, belongs}
+use Rattle.sbp_journal.specs.Addresses.{start_at}
+use Rattle.sbp_laws.specs.Packets.{lowest_from, label_for, free_from}
+use Rattle.sbp_laws.specs.Budget.{count_flying, lowest_flying}
+use Rattle.label_table.specs.Requests.{label_of, with_label, is_write, kind_of}
+use Rattle.bus_memory.specs.Windows.{slot_of, window_at, is_fifo}
+use Rattle.command_agent.specs.Steps.{point_step, doorbell_step, reset_step, abort_step, reply_step, lost_step}
+use Rattle.command_agent.specs.Checks.{refusal, verdict}
+use Rattle.rbc_disk.specs.Requests.{request_of}
+use Rattle.rbc_disk.specs.Checks.{check_of}
+use Rattle.rbc_disk.specs.Disk.{blank_bytes}
+use Rattle.orb_layout.specs.StatusBlocks.{command_kind}
+use Rattle.page_table.specs.Elements.{elements_from}
+use Rattle.config_rom.specs.Make.{made}
+use Rattle.media_bay.specs.Unsolicited.{block_head}
+use Rattle.mgmt_agent.specs.Decisions.{decide, reads_eui, live_login, response_bytes}
+use Rattle.mgmt_agent.specs.Machine.{start_step, reply_step as reply_step_of_manager, decide_step}
+use Rattle.login_table.specs.Table.{fresh_id, left_for, enter_step, back_step, leave_step}
+
+first_of_one : 0 < 1
+first_of_one = omega arith
+
+first_of_two : 0 < 2
+first_of_two = omega arith
+
+second_of_two : 1 < 2
+second_of_two = omega arith
+
+capacity_cause : CauseLaw nobody journals.one_disk more.capacity_told
+unfolding reading fault_of tcode_of header_of offset_of rcode_of value_of length_of extended_of three four part_of is_to is_same asked_by begun_by belongs start_at lowest_from label_for free_from count_flying lowest_flying label_of with_label is_write kind_of slot_of window_at is_fifo point_step doorbell_step reset_step abort_step reply_step lost_step refusal verdict request_of check_of blank_bytes command_kind elements_from made block_head decide reads_eui live_login response_bytes start_step reply_step_of_manager decide_step fresh_id left_for enter_step back_step leave_step
+capacity_cause = record { causes = (record { cuts = refl; cleared = refl; ends = refl; failures = refl; operations = refl }, (record { cuts = refl; cleared = refl; ends = refl; failures = refl; operations = refl }, (record { cuts = refl; cleared = refl; ends = refl; failures = refl; operations = refl }, (record { cuts = refl; cleared = refl; ends = refl; failures = refl; operations = refl }, (record { cuts = refl; cleared = refl; ends = refl; failures = refl; operations = refl }, (record { cuts = refl; cleared = refl; ends = refl; failures = refl; operations = refl }, (record { cuts = refl; cleared = refl; ends = refl; failures = refl; operations = refl }, (record { cuts = refl; cleared = refl; ends = refl; failures = refl; operations = refl }, (record { cuts = refl; cleared = refl; ends = refl; failures = refl; operations = refl }, (record { cuts = refl; cleared = refl; ends = refl; failures = refl; operations = refl }, (record { cuts = refl; cleared = refl; ends = refl; failures = refl; operations = refl }, (record { cuts = refl; cleared = refl; ends = refl; failures = refl; operations = refl }, tt)))))))))))); aborted = (tt, (tt, (tt, (tt, (tt, (tt, (tt, (tt, (tt, (tt, (tt, (tt, (tt, (tt, (tt, (tt, (tt, (tt, (tt, (tt, (tt, (tt, (tt, (tt, (tt, (tt, tt)))))))))))))))))))))))))) }
+
+capacity_judged : JudgementLaw journals.one_disk more.capacity_told
+unfolding reading fault_of tcode_of header_of offset_of rcode_of value_of length_of extended_of three four part_of is_to is_same asked_by begun_by belongs start_at lowest_from label_for free_from count_flying lowest_flying label_of with_label is_write kind_of slot_of window_at is_fifo point_step doorbell_step reset_step abort_step reply_step lost_step refusal verdict request_of check_of blank_bytes command_kind elements_from made block_head decide reads_eui live_login response_bytes start_step reply_step_of_manager decide_step fresh_id left_for enter_step back_step leave_step
+capacity_judged = (tt, (refl, (refl, (refl, (refl, (refl, (refl, (refl, (refl, (tt, (tt, (tt, tt))))))))))))
+
+capacity_login : LoginLaw journals.one_disk more.capacity_told
+unfolding reading fault_of tcode_of header_of offset_of rcode_of value_of length_of extended_of three four part_of is_to is_same asked_by begun_by belongs start_at lowest_from label_for free_from count_flying lowest_flying label_of with_label is_write kind_of slot_of window_at is_fifo point_step doorbell_step reset_step abort_step reply_step lost_step refusal verdict request_of check_of blank_bytes command_kind elements_from made block_head decide reads_eui live_login response_bytes start_step reply_step_of_manager decide_step fresh_id left_for enter_step back_step leave_step
+capacity_login = (record { rows = tt; decisions = refl; logins = refl }, (record { rows = tt; decisions = refl; logins = refl }, (record { rows = tt; decisions = refl; logins = refl }, (record { rows = tt; decisions = refl; logins = refl }, (record { rows = tt; decisions = refl; logins = refl }, (record { rows = tt; decisions = refl; logins = refl }, (record { rows = tt; decisions = refl; logins = refl }, (record { rows = tt; decisions = refl; logins = refl }, (record { rows = tt; decisions = refl; logins = refl }, (record { rows = tt; decisions = refl; logins = refl }, (record { rows = tt; decisions = refl; logins = refl }, (record { rows = tt; decisions = refl; logins = refl }, tt))))))))))))
+
+capacity_media : MediaLaw nobody journals.one_disk more.capacity_told
+unfolding reading fault_of tcode_of header_of offset_of rcode_of value_of length_of extended_of three four part_of is_to is_same asked_by begun_by belongs start_at lowest_from label_for free_from count_flying lowest_flying label_of with_label is_write kind_of slot_of window_at is_fifo point_step doorbell_step reset_step abort_step reply_step lost_step refusal verdict request_of check_of blank_bytes command_kind elements_from made block_head decide reads_eui live_login response_bytes start_step reply_step_of_manager decide_step fresh_id left_for enter_step back_step leave_step
+capacity_media = (record { pushes = refl; told = refl }, (record { pushes = refl; told = refl }, (record { pushes = refl; told = refl }, (record { pushes = refl; told = refl }, (record { pushes = refl; told = refl }, (record { pushes = refl; told = refl }, (record { pushes = refl; told = refl }, (record { pushes = refl; told = refl }, (record { pushes = refl; told = refl }, (record { pushes = refl; told = refl }, (record { pushes = refl; told = refl }, (record { pushes = refl; told = refl }, tt))))))))))))
+
+capacity_packets : EachMoment (SentAt nobody) more.capacity_told
+unfolding reading fault_of tcode_of header_of offset_of rcode_of value_of length_of extended_of three four part_of is_to is_same asked_by begun_by belongs start_at lowest_from label_for free_from count_flying lowest_flying label_of with_label is_write kind_of slot_of window_at is_fifo point_step doorbell_step reset_step abort_step reply_step lost_step refusal verdict request_of check_of blank_bytes command_kind elements_from made block_head decide reads_eui live_login response_bytes start_step reply_step_of_manager decide_step fresh_id left_for enter_step back_step leave_step
+capacity_packets = (tt, (tt, ((refl, λ e. record { in_generation = refl; spelled = record { packet = write_response (journals.to_target 0) 0; canonical = refl; retry = refl; priority = refl; source = refl; destination = refl }; label = tt }), (tt, (tt, ((refl, λ e. record { in_generation = refl; spelled = record { packet = write_block (journals.to_first 0) 0x13000000 (quad_bytes (0x41000000 ∷ 0x10000000 ∷ [])); canonical = refl; retry = refl; priority = refl; source = refl; destination = refl }; label = refl }), (tt, (tt, ((refl, λ e. record { in_generation = refl; spelled = record { packet = write_response (journals.to_target 0) 0; canonical = refl; retry = refl; priority = refl; source = refl; destination = refl }; label = tt }), (tt, ((refl, λ e. record { in_generation = refl; spelled = record { packet = write_block (journals.to_first 0) 0x11000000 (more.capacity); canonical = refl; retry = refl; priority = refl; source = refl; destination = refl }; label = refl }), (tt, (tt, ((refl, λ e. record { in_generation = refl; spelled = record { packet = read_block_response (journals.to_target 0) 0 (more.capacity_orb); canonical = refl; retry = refl; priority = refl; source = refl; destination = refl }; label = tt }), (tt, (tt, ((refl, λ e. record { in_generation = refl; spelled = record { packet = read_block (journals.to_first 0) 0x10000000 32; canonical = refl; retry = refl; priority = refl; source = refl; destination = refl }; label = refl }), ((refl, λ e. record { in_generation = refl; spelled = record { packet = write_response (journals.to_first 0) 0; canonical = refl; retry = refl; priority = refl; source = refl; destination = refl }; label = tt }), (tt, (tt, ((refl, λ e. record { in_generation = refl; spelled = record { packet = write_block (journals.to_target 0) 0xfffff0040008 (quad_bytes (0 ∷ 0x10000000 ∷ [])); canonical = refl; retry = refl; priority = refl; source = refl; destination = refl }; label = refl }), (tt, (tt, (tt, (tt, (tt, tt))))))))))))))))))))))))))
+
+capacity_answers : EachTurn (AnswersLaw nobody journals.one_disk) more.capacity_told
+unfolding reading fault_of tcode_of header_of offset_of rcode_of value_of length_of extended_of three four part_of is_to is_same asked_by begun_by belongs start_at lowest_from label_for free_from count_flying lowest_flying label_of with_label is_write kind_of slot_of window_at is_fifo point_step doorbell_step reset_step abort_step reply_step lost_step refusal verdict request_of check_of blank_bytes command_kind elements_from made block_head decide reads_eui live_login response_bytes start_step reply_step_of_manager decide_step fresh_id left_for enter_step back_step leave_step
+capacity_answers = (record { begins = λ e. tt }, (record { begins = λ e. tt }, (record { begins = λ e. (refl, tt) }, (record { begins = λ e. tt }, (record { begins = λ e. (refl, tt) }, (record { begins = λ e. tt }, (record { begins = λ e. (refl, tt) }, (record { begins = λ e. tt }, (record { begins = λ e. (refl, tt) }, (record { begins = λ e. tt }, (record { begins = λ e. tt }, (record { begins = λ e. tt }, tt))))))))))))
+
+capacity_requests : EachTurn (RequestsLaw nobody journals.one_disk) more.capacity_told
+unfolding reading fault_of tcode_of header_of offset_of rcode_of value_of length_of extended_of three four part_of is_to is_same asked_by begun_by belongs start_at lowest_from label_for free_from count_flying lowest_flying label_of with_label is_write kind_of slot_of window_at is_fifo point_step doorbell_step reset_step abort_step reply_step lost_step refusal verdict request_of check_of blank_bytes command_kind elements_from made block_head decide reads_eui live_login response_bytes start_step reply_step_of_manager decide_step fresh_id left_for enter_step back_step leave_step
+capacity_requests = (λ e. tt, (λ e. tt, (λ e. tt, (λ e. (record { sender = refl; receiver = refl; spelled = refl }, tt), (λ e. tt, (λ e. (record { payload = more.capacity; size = refl; is = record { sender = refl; receiver = refl; spelled = refl } }, tt), (λ e. tt, (λ e. tt, (λ e. (record { sender = refl; receiver = refl; spelled = refl }, tt), (λ e. tt, (λ e. (record { sender = refl; receiver = refl; spelled = refl }, tt), (λ e. tt, tt))))))))))))
+
+capacity_after : EachTurn (AfterTurn nobody journals.one_disk) more.capacity_told
+unfolding reading fault_of tcode_of header_of offset_of rcode_of value_of length_of extended_of three four part_of is_to is_same asked_by begun_by belongs start_at lowest_from label_for free_from count_flying lowest_flying label_of with_label is_write kind_of slot_of window_at is_fifo point_step doorbell_step reset_step abort_step reply_step lost_step refusal verdict request_of check_of blank_bytes command_kind elements_from made block_head decide reads_eui live_login response_bytes start_step reply_step_of_manager decide_step fresh_id left_for enter_step back_step leave_step
+capacity_after = (record { agents = (λ e. record { answered = refl; ends = refl; unrung = refl }, (λ e. tt, (λ e. tt, (λ e. tt, (λ e. tt, (λ e. tt, (λ e. tt, (λ e. tt, tt)))))))); management = tt; roms = (λ e. tt, tt) }, (record { agents = (λ e. record { answered = refl; ends = refl; unrung = refl }, (λ e. tt, (λ e. tt, (λ e. tt, (λ e. tt, (λ e. tt, (λ e. tt, (λ e. tt, tt)))))))); management = tt; roms = (λ e. tt, tt) }, (record { agents = (λ e. refl, (λ e. tt, (λ e. tt, (λ e. tt, (λ e. tt, (λ e. tt, (λ e. tt, (λ e. tt, tt)))))))); management = tt; roms = (λ e. tt, tt) }, (record { agents = (λ e. refl, (λ e. tt, (λ e. tt, (λ e. tt, (λ e. tt, (λ e. tt, (λ e. tt, (λ e. tt, tt)))))))); management = tt; roms = (λ e. tt, tt) }, (record { agents = (λ e. refl, (λ e. tt, (λ e. tt, (λ e. tt, (λ e. tt, (λ e. tt, (λ e. tt, (λ e. tt, tt)))))))); management = tt; roms = (λ e. tt, tt) }, (record { agents = (λ e. refl, (λ e. tt, (λ e. tt, (λ e. tt, (λ e. tt, (λ e. tt, (λ e. tt, (λ e. tt, tt)))))))); management = tt; roms = (λ e. tt, tt) }, (record { agents = (λ e. refl, (λ e. tt, (λ e. tt, (λ e. tt, (λ e. tt, (λ e. tt, (λ e. tt, (λ e. tt, tt)))))))); management = tt; roms = (λ e. tt, tt) }, (record { agents = (λ e. refl, (λ e. tt, (λ e. tt, (λ e. tt, (λ e. tt, (λ e. tt, (λ e. tt, (λ e. tt, tt)))))))); management = tt; roms = (λ e. tt, tt) }, (record { agents = (λ e. refl, (λ e. tt, (λ e. tt, (λ e. tt, (λ e. tt, (λ e. tt, (λ e. tt, (λ e. tt, tt)))))))); management = tt; roms = (λ e. tt, tt) }, (record { agents = (λ e. tt, (λ e. tt, (λ e. tt, (λ e. tt, (λ e. tt, (λ e. tt, (λ e. tt, (λ e. tt, tt)))))))); management = tt; roms = (λ e. tt, tt) }, (record { agents = (λ e. tt, (λ e. tt, (λ e. tt, (λ e. tt, (λ e. tt, (λ e. tt, (λ e. tt, (λ e. tt, tt)))))))); management = tt; roms = (λ e. tt, tt) }, (record { agents = (λ e. tt, (λ e. tt, (λ e. tt, (λ e. tt, (λ e. tt, (λ e. tt, (λ e. tt, (λ e. tt, tt)))))))); management = tt; roms = (λ e. tt, tt) }, tt))))))))))))
+
+capacity_once : OnceLaw nobody more.capacity_told
+unfolding reading fault_of tcode_of header_of offset_of rcode_of value_of length_of extended_of three four part_of is_to is_same asked_by begun_by belongs start_at lowest_from label_for free_from count_flying lowest_flying label_of with_label is_write kind_of slot_of window_at is_fifo point_step doorbell_step reset_step abort_step reply_step lost_step refusal verdict request_of check_of blank_bytes command_kind elements_from made block_head decide reads_eui live_login response_bytes start_step reply_step_of_manager decide_step fresh_id left_for enter_step back_step leave_step
+capacity_once = (tt, ((λ e. refl, λ e. record { once = refl; served = refl }), (tt, (tt, ((λ e. refl, tt), (tt, (tt, ((λ e. refl, λ e. record { once = refl; served = refl }), (tt, ((λ e. refl, tt), (tt, (tt, ((λ e. refl, λ e. record { once = refl; served = refl }), (tt, ((λ e. refl, tt), ((λ e. refl, λ e. record { once = refl; served = refl }), (tt, (tt, ((λ e. refl, tt), (tt, (tt, (tt, (tt, (tt, (tt, (tt, tt))))))))))))))))))))))))))
+
+capacity_order : OrderLaw nobody more.capacity_told
+unfolding reading fault_of tcode_of header_of offset_of rcode_of value_of length_of extended_of three four part_of is_to is_same asked_by begun_by belongs start_at lowest_from label_for free_from count_flying lowest_flying label_of with_label is_write kind_of slot_of window_at is_fifo point_step doorbell_step reset_step abort_step reply_step lost_step refusal verdict request_of check_of blank_bytes command_kind elements_from made block_head decide reads_eui live_login response_bytes start_step reply_step_of_manager decide_step fresh_id left_for enter_step back_step leave_step
+capacity_order = (tt, (tt, (tt, (tt, (tt, (tt, (λ e. record { number = refl; appended = first_of_one; still = record { latest = refl; uncut = refl } }, (tt, (tt, (tt, (tt, (λ e. record { latest = refl; uncut = refl }, (tt, (tt, (tt, (tt, (tt, (tt, (tt, (tt, (tt, (tt, (record { number = refl; list = refl }, (tt, (tt, (tt, tt))))))))))))))))))))))))))
+
+capacity_execution : ExecutionLaw nobody journals.one_disk more.capacity_told
+unfolding reading fault_of tcode_of header_of offset_of rcode_of value_of length_of extended_of three four part_of is_to is_same asked_by begun_by belongs start_at lowest_from label_for free_from count_flying lowest_flying label_of with_label is_write kind_of slot_of window_at is_fifo point_step doorbell_step reset_step abort_step reply_step lost_step refusal verdict request_of check_of blank_bytes command_kind elements_from made block_head decide reads_eui live_login response_bytes start_step reply_step_of_manager decide_step fresh_id left_for enter_step back_step leave_step
+capacity_execution = (tt, (tt, (tt, (tt, (tt, (tt, (λ e. refl, (tt, (tt, (tt, (tt, (λ e. (record { once = refl; order = refl; login = refl }, record { command = refl; carried = inl refl; needed = λ len need. absurd (cc need); ended = tt }), (tt, (tt, (tt, (tt, (tt, (tt, (tt, (tt, (tt, (tt, (tt, (tt, (tt, (tt, tt))))))))))))))))))))))))))
+
+capacity_carried : CarriedLaw nobody journals.one_disk more.capacity_told
+unfolding reading fault_of tcode_of header_of offset_of rcode_of value_of length_of extended_of three four part_of is_to is_same asked_by begun_by belongs start_at lowest_from label_for free_from count_flying lowest_flying label_of with_label is_write kind_of slot_of window_at is_fifo point_step doorbell_step reset_step abort_step reply_step lost_step refusal verdict request_of check_of blank_bytes command_kind elements_from made block_head decide reads_eui live_login response_bytes start_step reply_step_of_manager decide_step fresh_id left_for enter_step back_step leave_step
+capacity_carried = record { carried = (tt, (tt, (tt, (λ e. refl, (tt, (tt, (λ e. record { read = record { response = 4; request = 3; got = refl; answers = refl; of_target = refl; of_initiator = refl; asks = record { read = refl; block = refl; from = refl; size = refl }; appended = first_of_one; opened = refl }; matches = (λ e. let bad : 0 ≡ 3 = e in omega (arith, bad), record { command = refl; direction = refl }) }, (tt, (tt, (tt, (tt, (λ e. record { read = record { response = 4; request = 3; got = refl; answers = refl; of_target = refl; of_initiator = refl; asks = record { read = refl; block = refl; from = refl; size = refl }; appended = first_of_one; opened = refl }; not_dummy = λ e. let bad : 0 ≡ 3 = e in omega (arith, bad); as_appended = record { command = refl; direction = refl }; size = refl; payloads = refl }, (tt, (tt, (tt, (tt, (tt, (tt, (tt, (tt, (tt, (tt, (tt, (tt, (tt, (tt, tt)))))))))))))))))))))))))); due = (refl, (refl, (refl, (refl, (refl, (refl, (refl, (refl, (refl, (refl, (refl, (refl, tt)))))))))))) }
+
+capacity_status : StatusLaw nobody more.capacity_told
+unfolding reading fault_of tcode_of header_of offset_of rcode_of value_of length_of extended_of three four part_of is_to is_same asked_by begun_by belongs start_at lowest_from label_for free_from count_flying lowest_flying label_of with_label is_write kind_of slot_of window_at is_fifo point_step doorbell_step reset_step abort_step reply_step lost_step refusal verdict request_of check_of blank_bytes command_kind elements_from made block_head decide reads_eui live_login response_bytes start_step reply_step_of_manager decide_step fresh_id left_for enter_step back_step leave_step
+capacity_status = record { taken = (tt, (tt, (tt, (λ e. record { once = refl; ended = refl; sent = refl; written = record { is_write = refl; goes = refl; src = 1; spells = refl } }, (tt, (tt, (tt, (tt, (tt, (tt, (tt, (tt, (tt, (tt, (tt, (tt, (tt, (tt, (tt, (tt, (tt, (tt, (tt, (tt, (tt, (tt, tt)))))))))))))))))))))))))); each = (refl, (refl, (refl, (refl, (refl, (refl, (refl, (refl, (refl, (refl, (refl, (refl, tt)))))))))))) }
+
+capacity_answer : AnswerLaw nobody journals.one_disk more.capacity_told
+unfolding reading fault_of tcode_of header_of offset_of rcode_of value_of length_of extended_of three four part_of is_to is_same asked_by begun_by belongs start_at lowest_from label_for free_from count_flying lowest_flying label_of with_label is_write kind_of slot_of window_at is_fifo point_step doorbell_step reset_step abort_step reply_step lost_step refusal verdict request_of check_of blank_bytes command_kind elements_from made block_head decide reads_eui live_login response_bytes start_step reply_step_of_manager decide_step fresh_id left_for enter_step back_step leave_step
+capacity_answer = (tt, (tt, (tt, (λ e. record { len = refl; told = refl }, (tt, (tt, (tt, (tt, (tt, (tt, (tt, (tt, (tt, (tt, (tt, (tt, (tt, (tt, (tt, (tt, (tt, (tt, (tt, (tt, (tt, (tt, tt))))))))))))))))))))))))))
+
+agent_reset_cause : CauseLaw nobody journals.one_disk more.agent_reset_told
+unfolding reading fault_of tcode_of header_of offset_of rcode_of value_of length_of extended_of three four part_of is_to is_same asked_by begun_by belongs start_at lowest_from label_for free_from count_flying lowest_flying label_of with_label is_write kind_of slot_of window_at is_fifo point_step doorbell_step reset_step abort_step reply_step lost_step refusal verdict request_of check_of blank_bytes command_kind elements_from made block_head decide reads_eui live_login response_bytes start_step reply_step_of_manager decide_step fresh_id left_for enter_step back_step leave_step
+agent_reset_cause = record { causes = (record { cuts = refl; cleared = refl; ends = refl; failures = refl; operations = refl }, (record { cuts = refl; cleared = refl; ends = refl; failures = refl; operations = refl }, (record { cuts = refl; cleared = refl; ends = refl; failures = refl; operations = refl }, (record { cuts = refl; cleared = refl; ends = refl; failures = refl; operations = refl }, (record { cuts = refl; cleared = refl; ends = refl; failures = refl; operations = refl }, (record { cuts = refl; cleared = refl; ends = refl; failures = refl; operations = refl }, (record { cuts = refl; cleared = refl; ends = refl; failures = refl; operations = refl }, (record { cuts = refl; cleared = refl; ends = refl; failures = refl; operations = refl }, (record { cuts = refl; cleared = refl; ends = refl; failures = refl; operations = refl }, (record { cuts = refl; cleared = refl; ends = refl; failures = refl; operations = refl }, (record { cuts = refl; cleared = refl; ends = refl; failures = refl; operations = refl }, (record { cuts = refl; cleared = refl; ends = refl; failures = refl; operations = refl }, (record { cuts = refl; cleared = refl; ends = refl; failures = refl; operations = refl }, (record { cuts = refl; cleared = refl; ends = refl; failures = refl; operations = refl }, (record { cuts = refl; cleared = refl; ends = refl; failures = refl; operations = refl }, tt))))))))))))))); aborted = (tt, (tt, (tt, (tt, (tt, (tt, (tt, (tt, (tt, (tt, (tt, (tt, (tt, (tt, (tt, (tt, (tt, (tt, (tt, (tt, (tt, (tt, (tt, (tt, (tt, (tt, (tt, (tt, (tt, (tt, (tt, (tt, tt)))))))))))))))))))))))))))))))) }
+
+agent_reset_judged : JudgementLaw journals.one_disk more.agent_reset_told
+unfolding reading fault_of tcode_of header_of offset_of rcode_of value_of length_of extended_of three four part_of is_to is_same asked_by begun_by belongs start_at lowest_from label_for free_from count_flying lowest_flying label_of with_label is_write kind_of slot_of window_at is_fifo point_step doorbell_step reset_step abort_step reply_step lost_step refusal verdict request_of check_of blank_bytes command_kind elements_from made block_head decide reads_eui live_login response_bytes start_step reply_step_of_manager decide_step fresh_id left_for enter_step back_step leave_step
+agent_reset_judged = (tt, (refl, (refl, (tt, (tt, (tt, (refl, (refl, (refl, (refl, (refl, (refl, (tt, (tt, (tt, tt)))))))))))))))
+
+agent_reset_login : LoginLaw journals.one_disk more.agent_reset_told
+unfolding reading fault_of tcode_of header_of offset_of rcode_of value_of length_of extended_of three four part_of is_to is_same asked_by begun_by belongs start_at lowest_from label_for free_from count_flying lowest_flying label_of with_label is_write kind_of slot_of window_at is_fifo point_step doorbell_step reset_step abort_step reply_step lost_step refusal verdict request_of check_of blank_bytes command_kind elements_from made block_head decide reads_eui live_login response_bytes start_step reply_step_of_manager decide_step fresh_id left_for enter_step back_step leave_step
+agent_reset_login = (record { rows = tt; decisions = refl; logins = refl }, (record { rows = tt; decisions = refl; logins = refl }, (record { rows = tt; decisions = refl; logins = refl }, (record { rows = tt; decisions = refl; logins = refl }, (record { rows = tt; decisions = refl; logins = refl }, (record { rows = tt; decisions = refl; logins = refl }, (record { rows = tt; decisions = refl; logins = refl }, (record { rows = tt; decisions = refl; logins = refl }, (record { rows = tt; decisions = refl; logins = refl }, (record { rows = tt; decisions = refl; logins = refl }, (record { rows = tt; decisions = refl; logins = refl }, (record { rows = tt; decisions = refl; logins = refl }, (record { rows = tt; decisions = refl; logins = refl }, (record { rows = tt; decisions = refl; logins = refl }, (record { rows = tt; decisions = refl; logins = refl }, tt)))))))))))))))
+
+agent_reset_media : MediaLaw nobody journals.one_disk more.agent_reset_told
+unfolding reading fault_of tcode_of header_of offset_of rcode_of value_of length_of extended_of three four part_of is_to is_same asked_by begun_by belongs start_at lowest_from label_for free_from count_flying lowest_flying label_of with_label is_write kind_of slot_of window_at is_fifo point_step doorbell_step reset_step abort_step reply_step lost_step refusal verdict request_of check_of blank_bytes command_kind elements_from made block_head decide reads_eui live_login response_bytes start_step reply_step_of_manager decide_step fresh_id left_for enter_step back_step leave_step
+agent_reset_media = (record { pushes = refl; told = refl }, (record { pushes = refl; told = refl }, (record { pushes = refl; told = refl }, (record { pushes = refl; told = refl }, (record { pushes = refl; told = refl }, (record { pushes = refl; told = refl }, (record { pushes = refl; told = refl }, (record { pushes = refl; told = refl }, (record { pushes = refl; told = refl }, (record { pushes = refl; told = refl }, (record { pushes = refl; told = refl }, (record { pushes = refl; told = refl }, (record { pushes = refl; told = refl }, (record { pushes = refl; told = refl }, (record { pushes = refl; told = refl }, tt)))))))))))))))
+
+agent_reset_packets : EachMoment (SentAt nobody) more.agent_reset_told
+unfolding reading fault_of tcode_of header_of offset_of rcode_of value_of length_of extended_of three four part_of is_to is_same asked_by begun_by belongs start_at lowest_from label_for free_from count_flying lowest_flying label_of with_label is_write kind_of slot_of window_at is_fifo point_step doorbell_step reset_step abort_step reply_step lost_step refusal verdict request_of check_of blank_bytes command_kind elements_from made block_head decide reads_eui live_login response_bytes start_step reply_step_of_manager decide_step fresh_id left_for enter_step back_step leave_step
+agent_reset_packets = (tt, (tt, (tt, (tt, ((refl, λ e. record { in_generation = refl; spelled = record { packet = write_response (journals.to_first 0) 0; canonical = refl; retry = refl; priority = refl; source = refl; destination = refl }; label = tt }), (tt, (tt, (tt, ((refl, λ e. record { in_generation = refl; spelled = record { packet = write_quadlet (journals.to_target 0) 0xfffff0040004 1; canonical = refl; retry = refl; priority = refl; source = refl; destination = refl }; label = refl }), (tt, (tt, (tt, ((refl, λ e. record { in_generation = refl; spelled = record { packet = write_response (journals.to_target 0) 0; canonical = refl; retry = refl; priority = refl; source = refl; destination = refl }; label = tt }), (tt, (tt, ((refl, λ e. record { in_generation = refl; spelled = record { packet = write_block (journals.to_first 0) 0x13000000 (quad_bytes (0x41000000 ∷ 0x10000000 ∷ [])); canonical = refl; retry = refl; priority = refl; source = refl; destination = refl }; label = refl }), (tt, (tt, (tt, ((refl, λ e. record { in_generation = refl; spelled = record { packet = read_block_response (journals.to_target 0) 0 (journals.orb_bytes 0x80000000 0); canonical = refl; retry = refl; priority = refl; source = refl; destination = refl }; label = tt }), (tt, (tt, ((refl, λ e. record { in_generation = refl; spelled = record { packet = read_block (journals.to_first 0) 0x10000000 32; canonical = refl; retry = refl; priority = refl; source = refl; destination = refl }; label = refl }), ((refl, λ e. record { in_generation = refl; spelled = record { packet = write_response (journals.to_first 0) 0; canonical = refl; retry = refl; priority = refl; source = refl; destination = refl }; label = tt }), (tt, (tt, ((refl, λ e. record { in_generation = refl; spelled = record { packet = write_block (journals.to_target 0) 0xfffff0040008 (quad_bytes (0 ∷ 0x10000000 ∷ [])); canonical = refl; retry = refl; priority = refl; source = refl; destination = refl }; label = refl }), (tt, (tt, (tt, (tt, (tt, tt))))))))))))))))))))))))))))))))
+
+agent_reset_answers : EachTurn (AnswersLaw nobody journals.one_disk) more.agent_reset_told
+unfolding reading fault_of tcode_of header_of offset_of rcode_of value_of length_of extended_of three four part_of is_to is_same asked_by begun_by belongs start_at lowest_from label_for free_from count_flying lowest_flying label_of with_label is_write kind_of slot_of window_at is_fifo point_step doorbell_step reset_step abort_step reply_step lost_step refusal verdict request_of check_of blank_bytes command_kind elements_from made block_head decide reads_eui live_login response_bytes start_step reply_step_of_manager decide_step fresh_id left_for enter_step back_step leave_step
+agent_reset_answers = (record { begins = λ e. tt }, (record { begins = λ e. tt }, (record { begins = λ e. (refl, tt) }, (record { begins = λ e. tt }, (record { begins = λ e. tt }, (record { begins = λ e. tt }, (record { begins = λ e. tt }, (record { begins = λ e. (refl, tt) }, (record { begins = λ e. tt }, (record { begins = λ e. (refl, tt) }, (record { begins = λ e. tt }, (record { begins = λ e. (refl, tt) }, (record { begins = λ e. tt }, (record { begins = λ e. tt }, (record { begins = λ e. tt }, tt)))))))))))))))
+
+agent_reset_requests : EachTurn (RequestsLaw nobody journals.one_disk) more.agent_reset_told
+unfolding reading fault_of tcode_of header_of offset_of rcode_of value_of length_of extended_of three four part_of is_to is_same asked_by begun_by belongs start_at lowest_from label_for free_from count_flying lowest_flying label_of with_label is_write kind_of slot_of window_at is_fifo point_step doorbell_step reset_step abort_step reply_step lost_step refusal verdict request_of check_of blank_bytes command_kind elements_from made block_head decide reads_eui live_login response_bytes start_step reply_step_of_manager decide_step fresh_id left_for enter_step back_step leave_step
+agent_reset_requests = (λ e. tt, (λ e. tt, (λ e. tt, (λ e. tt, (λ e. (record { sender = refl; receiver = refl; spelled = refl }, tt), (λ e. tt, (λ e. tt, (λ e. tt, (λ e. (record { sender = refl; receiver = refl; spelled = refl }, tt), (λ e. tt, (λ e. tt, (λ e. (record { sender = refl; receiver = refl; spelled = refl }, tt), (λ e. tt, (λ e. (record { sender = refl; receiver = refl; spelled = refl }, tt), (λ e. tt, tt)))))))))))))))
+
+agent_reset_after : EachTurn (AfterTurn nobody journals.one_disk) more.agent_reset_told
+unfolding reading fault_of tcode_of header_of offset_of rcode_of value_of length_of extended_of three four part_of is_to is_same asked_by begun_by belongs start_at lowest_from label_for free_from count_flying lowest_flying label_of with_label is_write kind_of slot_of window_at is_fifo point_step doorbell_step reset_step abort_step reply_step lost_step refusal verdict request_of check_of blank_bytes command_kind elements_from made block_head decide reads_eui live_login response_bytes start_step reply_step_of_manager decide_step fresh_id left_for enter_step back_step leave_step
+agent_reset_after = (record { agents = (λ e. tt, (λ e. tt, (λ e. tt, (λ e. tt, (λ e. tt, (λ e. tt, (λ e. tt, (λ e. tt, tt)))))))); management = tt; roms = (λ e. tt, tt) }, (record { agents = (λ e. tt, (λ e. tt, (λ e. tt, (λ e. tt, (λ e. tt, (λ e. tt, (λ e. tt, (λ e. tt, tt)))))))); management = tt; roms = (λ e. tt, tt) }, (record { agents = (λ e. tt, (λ e. tt, (λ e. tt, (λ e. tt, (λ e. tt, (λ e. tt, (λ e. tt, (λ e. tt, tt)))))))); management = tt; roms = (λ e. tt, tt) }, (record { agents = (λ e. record { answered = refl; ends = refl; unrung = refl }, (λ e. tt, (λ e. tt, (λ e. tt, (λ e. tt, (λ e. tt, (λ e. tt, (λ e. tt, tt)))))))); management = tt; roms = (λ e. tt, tt) }, (record { agents = (λ e. record { answered = refl; ends = refl; unrung = refl }, (λ e. tt, (λ e. tt, (λ e. tt, (λ e. tt, (λ e. tt, (λ e. tt, (λ e. tt, tt)))))))); management = tt; roms = (λ e. tt, tt) }, (record { agents = (λ e. record { answered = refl; ends = refl; unrung = refl }, (λ e. tt, (λ e. tt, (λ e. tt, (λ e. tt, (λ e. tt, (λ e. tt, (λ e. tt, tt)))))))); management = tt; roms = (λ e. tt, tt) }, (record { agents = (λ e. record { answered = refl; ends = refl; unrung = refl }, (λ e. tt, (λ e. tt, (λ e. tt, (λ e. tt, (λ e. tt, (λ e. tt, (λ e. tt, tt)))))))); management = tt; roms = (λ e. tt, tt) }, (record { agents = (λ e. refl, (λ e. tt, (λ e. tt, (λ e. tt, (λ e. tt, (λ e. tt, (λ e. tt, (λ e. tt, tt)))))))); management = tt; roms = (λ e. tt, tt) }, (record { agents = (λ e. refl, (λ e. tt, (λ e. tt, (λ e. tt, (λ e. tt, (λ e. tt, (λ e. tt, (λ e. tt, tt)))))))); management = tt; roms = (λ e. tt, tt) }, (record { agents = (λ e. refl, (λ e. tt, (λ e. tt, (λ e. tt, (λ e. tt, (λ e. tt, (λ e. tt, (λ e. tt, tt)))))))); management = tt; roms = (λ e. tt, tt) }, (record { agents = (λ e. refl, (λ e. tt, (λ e. tt, (λ e. tt, (λ e. tt, (λ e. tt, (λ e. tt, (λ e. tt, tt)))))))); management = tt; roms = (λ e. tt, tt) }, (record { agents = (λ e. refl, (λ e. tt, (λ e. tt, (λ e. tt, (λ e. tt, (λ e. tt, (λ e. tt, (λ e. tt, tt)))))))); management = tt; roms = (λ e. tt, tt) }, (record { agents = (λ e. tt, (λ e. tt, (λ e. tt, (λ e. tt, (λ e. tt, (λ e. tt, (λ e. tt, (λ e. tt, tt)))))))); management = tt; roms = (λ e. tt, tt) }, (record { agents = (λ e. tt, (λ e. tt, (λ e. tt, (λ e. tt, (λ e. tt, (λ e. tt, (λ e. tt, (λ e. tt, tt)))))))); management = tt; roms = (λ e. tt, tt) }, (record { agents = (λ e. tt, (λ e. tt, (λ e. tt, (λ e. tt, (λ e. tt, (λ e. tt, (λ e. tt, (λ e. tt, tt)))))))); management = tt; roms = (λ e. tt, tt) }, tt)))))))))))))))
+
+agent_reset_once : OnceLaw nobody more.agent_reset_told
+unfolding reading fault_of tcode_of header_of offset_of rcode_of value_of length_of extended_of three four part_of is_to is_same asked_by begun_by belongs start_at lowest_from label_for free_from count_flying lowest_flying label_of with_label is_write kind_of slot_of window_at is_fifo point_step doorbell_step reset_step abort_step reply_step lost_step refusal verdict request_of check_of blank_bytes command_kind elements_from made block_head decide reads_eui live_login response_bytes start_step reply_step_of_manager decide_step fresh_id left_for enter_step back_step leave_step
+agent_reset_once = (tt, (tt, (tt, ((λ e. refl, λ e. record { once = refl; served = refl }), (tt, (tt, ((λ e. refl, tt), (tt, (tt, (tt, (tt, ((λ e. refl, λ e. record { once = refl; served = refl }), (tt, (tt, ((λ e. refl, tt), (tt, (tt, (tt, ((λ e. refl, λ e. record { once = refl; served = refl }), (tt, ((λ e. refl, tt), ((λ e. refl, λ e. record { once = refl; served = refl }), (tt, (tt, ((λ e. refl, tt), (tt, (tt, (tt, (tt, (tt, (tt, (tt, tt))))))))))))))))))))))))))))))))
+
+agent_reset_order : OrderLaw nobody more.agent_reset_told
+unfolding reading fault_of tcode_of header_of offset_of rcode_of value_of length_of extended_of three four part_of is_to is_same asked_by begun_by belongs start_at lowest_from label_for free_from count_flying lowest_flying label_of with_label is_write kind_of slot_of window_at is_fifo point_step doorbell_step reset_step abort_step reply_step lost_step refusal verdict request_of check_of blank_bytes command_kind elements_from made block_head decide reads_eui live_login response_bytes start_step reply_step_of_manager decide_step fresh_id left_for enter_step back_step leave_step
+agent_reset_order = (tt, (tt, (tt, (tt, (tt, (tt, (tt, (tt, (tt, (tt, (tt, (tt, (tt, (tt, (tt, (tt, (λ e. record { number = refl; appended = first_of_one; still = record { latest = refl; uncut = refl } }, (λ e. record { latest = refl; uncut = refl }, (tt, (tt, (tt, (tt, (tt, (tt, (tt, (tt, (tt, (tt, (record { number = refl; list = refl }, (tt, (tt, (tt, tt))))))))))))))))))))))))))))))))
+
+agent_reset_execution : ExecutionLaw nobody journals.one_disk more.agent_reset_told
+unfolding reading fault_of tcode_of header_of offset_of rcode_of value_of length_of extended_of three four part_of is_to is_same asked_by begun_by belongs start_at lowest_from label_for free_from count_flying lowest_flying label_of with_label is_write kind_of slot_of window_at is_fifo point_step doorbell_step reset_step abort_step reply_step lost_step refusal verdict request_of check_of blank_bytes command_kind elements_from made block_head decide reads_eui live_login response_bytes start_step reply_step_of_manager decide_step fresh_id left_for enter_step back_step leave_step
+agent_reset_execution = (tt, (tt, (tt, (tt, (tt, (tt, (tt, (tt, (tt, (tt, (tt, (tt, (tt, (tt, (tt, (tt, (λ e. refl, (λ e. (record { once = refl; order = refl; login = refl }, record { command = refl; carried = inl refl; needed = λ len need. absurd (cc need); ended = tt }), (tt, (tt, (tt, (tt, (tt, (tt, (tt, (tt, (tt, (tt, (tt, (tt, (tt, (tt, tt))))))))))))))))))))))))))))))))
+
+agent_reset_carried : CarriedLaw nobody journals.one_disk more.agent_reset_told
+unfolding reading fault_of tcode_of header_of offset_of rcode_of value_of length_of extended_of three four part_of is_to is_same asked_by begun_by belongs start_at lowest_from label_for free_from count_flying lowest_flying label_of with_label is_write kind_of slot_of window_at is_fifo point_step doorbell_step reset_step abort_step reply_step lost_step refusal verdict request_of check_of blank_bytes command_kind elements_from made block_head decide reads_eui live_login response_bytes start_step reply_step_of_manager decide_step fresh_id left_for enter_step back_step leave_step
+agent_reset_carried = record { carried = (tt, (tt, (tt, (tt, (tt, (tt, (tt, (tt, (tt, (tt, (tt, (tt, (tt, (λ e. refl, (tt, (tt, (λ e. record { read = record { response = 4; request = 3; got = refl; answers = refl; of_target = refl; of_initiator = refl; asks = record { read = refl; block = refl; from = refl; size = refl }; appended = first_of_one; opened = refl }; matches = (λ e. let bad : 0 ≡ 3 = e in omega (arith, bad), record { command = refl; direction = refl }) }, (λ e. record { read = record { response = 4; request = 3; got = refl; answers = refl; of_target = refl; of_initiator = refl; asks = record { read = refl; block = refl; from = refl; size = refl }; appended = first_of_one; opened = refl }; not_dummy = λ e. let bad : 0 ≡ 3 = e in omega (arith, bad); as_appended = record { command = refl; direction = refl }; size = refl; payloads = refl }, (tt, (tt, (tt, (tt, (tt, (tt, (tt, (tt, (tt, (tt, (tt, (tt, (tt, (tt, tt)))))))))))))))))))))))))))))))); due = (refl, (refl, (refl, (refl, (refl, (refl, (refl, (refl, (refl, (refl, (refl, (refl, (refl, (refl, (refl, tt))))))))))))))) }
+
+agent_reset_status : StatusLaw nobody more.agent_reset_told
+unfolding reading fault_of tcode_of header_of offset_of rcode_of value_of length_of extended_of three four part_of is_to is_same asked_by begun_by belongs start_at lowest_from label_for free_from count_flying lowest_flying label_of with_label is_write kind_of slot_of window_at is_fifo point_step doorbell_step reset_step abort_step reply_step lost_step refusal verdict request_of check_of blank_bytes command_kind elements_from made block_head decide reads_eui live_login response_bytes start_step reply_step_of_manager decide_step fresh_id left_for enter_step back_step leave_step
+agent_reset_status = record { taken = (tt, (tt, (tt, (tt, (tt, (tt, (tt, (tt, (tt, (tt, (tt, (tt, (tt, (λ e. record { once = refl; ended = refl; sent = refl; written = record { is_write = refl; goes = refl; src = 1; spells = refl } }, (tt, (tt, (tt, (tt, (tt, (tt, (tt, (tt, (tt, (tt, (tt, (tt, (tt, (tt, (tt, (tt, (tt, (tt, tt)))))))))))))))))))))))))))))))); each = (refl, (refl, (refl, (refl, (refl, (refl, (refl, (refl, (refl, (refl, (refl, (refl, (refl, (refl, (refl, tt))))))))))))))) }
+
+agent_reset_answer : AnswerLaw nobody journals.one_disk more.agent_reset_told
+unfolding reading fault_of tcode_of header_of offset_of rcode_of value_of length_of extended_of three four part_of is_to is_same asked_by begun_by belongs start_at lowest_from label_for free_from count_flying lowest_flying label_of with_label is_write kind_of slot_of window_at is_fifo point_step doorbell_step reset_step abort_step reply_step lost_step refusal verdict request_of check_of blank_bytes command_kind elements_from made block_head decide reads_eui live_login response_bytes start_step reply_step_of_manager decide_step fresh_id left_for enter_step back_step leave_step
+agent_reset_answer = (tt, (tt, (tt, (tt, (tt, (tt, (tt, (tt, (tt, (tt, (tt, (tt, (tt, (λ e. record { len = refl; told = refl }, (tt, (tt, (tt, (tt, (tt, (tt, (tt, (tt, (tt, (tt, (tt, (tt, (tt, (tt, (tt, (tt, (tt, (tt, tt))))))))))))))))))))))))))))))))
+
+logout_cause : CauseLaw nobody journals.one_disk more.logout_told
+unfolding reading fault_of tcode_of header_of offset_of rcode_of value_of length_of extended_of three four part_of is_to is_same asked_by begun_by belongs start_at lowest_from label_for free_from count_flying lowest_flying label_of with_label is_write kind_of slot_of window_at is_fifo point_step doorbell_step reset_step abort_step reply_step lost_step refusal verdict request_of check_of blank_bytes command_kind elements_from made block_head decide reads_eui live_login response_bytes start_step reply_step_of_manager decide_step fresh_id left_for enter_step back_step leave_step
+logout_cause = record { causes = (record { cuts = refl; cleared = refl; ends = refl; failures = refl; operations = refl }, (record { cuts = refl; cleared = refl; ends = refl; failures = refl; operations = refl }, (record { cuts = refl; cleared = refl; ends = refl; failures = refl; operations = refl }, (record { cuts = refl; cleared = refl; ends = refl; failures = refl; operations = refl }, (record { cuts = refl; cleared = refl; ends = refl; failures = refl; operations = refl }, (record { cuts = refl; cleared = refl; ends = refl; failures = refl; operations = refl }, (record { cuts = refl; cleared = refl; ends = refl; failures = refl; operations = refl }, (record { cuts = refl; cleared = refl; ends = refl; failures = refl; operations = refl }, (record { cuts = refl; cleared = refl; ends = refl; failures = refl; operations = refl }, (record { cuts = refl; cleared = refl; ends = refl; failures = refl; operations = refl }, tt)))))))))); aborted = (tt, (tt, (tt, (tt, (tt, (tt, (tt, (tt, (tt, (tt, (tt, (tt, (tt, (tt, (tt, (tt, (tt, (tt, (tt, (tt, tt)))))))))))))))))))) }
+
+logout_judged : JudgementLaw journals.one_disk more.logout_told
+unfolding reading fault_of tcode_of header_of offset_of rcode_of value_of length_of extended_of three four part_of is_to is_same asked_by begun_by belongs start_at lowest_from label_for free_from count_flying lowest_flying label_of with_label is_write kind_of slot_of window_at is_fifo point_step doorbell_step reset_step abort_step reply_step lost_step refusal verdict request_of check_of blank_bytes command_kind elements_from made block_head decide reads_eui live_login response_bytes start_step reply_step_of_manager decide_step fresh_id left_for enter_step back_step leave_step
+logout_judged = (tt, (refl, (refl, (refl, (refl, (refl, (refl, (tt, (tt, (tt, tt))))))))))
+
+logout_login : LoginLaw journals.one_disk more.logout_told
+unfolding reading fault_of tcode_of header_of offset_of rcode_of value_of length_of extended_of three four part_of is_to is_same asked_by begun_by belongs start_at lowest_from label_for free_from count_flying lowest_flying label_of with_label is_write kind_of slot_of window_at is_fifo point_step doorbell_step reset_step abort_step reply_step lost_step refusal verdict request_of check_of blank_bytes command_kind elements_from made block_head decide reads_eui live_login response_bytes start_step reply_step_of_manager decide_step fresh_id left_for enter_step back_step leave_step
+logout_login = (record { rows = tt; decisions = refl; logins = refl }, (record { rows = tt; decisions = refl; logins = refl }, (record { rows = tt; decisions = refl; logins = refl }, (record { rows = (refl, tt); decisions = refl; logins = refl }, (record { rows = tt; decisions = refl; logins = refl }, (record { rows = tt; decisions = refl; logins = refl }, (record { rows = tt; decisions = refl; logins = refl }, (record { rows = tt; decisions = refl; logins = refl }, (record { rows = tt; decisions = refl; logins = refl }, (record { rows = tt; decisions = refl; logins = refl }, tt))))))))))
+
+logout_media : MediaLaw nobody journals.one_disk more.logout_told
+unfolding reading fault_of tcode_of header_of offset_of rcode_of value_of length_of extended_of three four part_of is_to is_same asked_by begun_by belongs start_at lowest_from label_for free_from count_flying lowest_flying label_of with_label is_write kind_of slot_of window_at is_fifo point_step doorbell_step reset_step abort_step reply_step lost_step refusal verdict request_of check_of blank_bytes command_kind elements_from made block_head decide reads_eui live_login response_bytes start_step reply_step_of_manager decide_step fresh_id left_for enter_step back_step leave_step
+logout_media = (record { pushes = refl; told = refl }, (record { pushes = refl; told = refl }, (record { pushes = refl; told = refl }, (record { pushes = refl; told = refl }, (record { pushes = refl; told = refl }, (record { pushes = refl; told = refl }, (record { pushes = refl; told = refl }, (record { pushes = refl; told = refl }, (record { pushes = refl; told = refl }, (record { pushes = refl; told = refl }, tt))))))))))
+
+logout_packets : EachMoment (SentAt nobody) more.logout_told
+unfolding reading fault_of tcode_of header_of offset_of rcode_of value_of length_of extended_of three four part_of is_to is_same asked_by begun_by belongs start_at lowest_from label_for free_from count_flying lowest_flying label_of with_label is_write kind_of slot_of window_at is_fifo point_step doorbell_step reset_step abort_step reply_step lost_step refusal verdict request_of check_of blank_bytes command_kind elements_from made block_head decide reads_eui live_login response_bytes start_step reply_step_of_manager decide_step fresh_id left_for enter_step back_step leave_step
+logout_packets = (tt, (tt, ((refl, λ e. record { in_generation = refl; spelled = record { packet = write_response (journals.to_target 0) 0; canonical = refl; retry = refl; priority = refl; source = refl; destination = refl }; label = tt }), (tt, (tt, ((refl, λ e. record { in_generation = refl; spelled = record { packet = write_block (journals.to_first 0) 0x12002000 (quad_bytes (0x01000000 ∷ 0x12000000 ∷ [])); canonical = refl; retry = refl; priority = refl; source = refl; destination = refl }; label = refl }), (tt, (tt, (tt, ((refl, λ e. record { in_generation = refl; spelled = record { packet = read_block_response (journals.to_target 0) 0 (management_bytes more.logout_orb); canonical = refl; retry = refl; priority = refl; source = refl; destination = refl }; label = tt }), (tt, (tt, ((refl, λ e. record { in_generation = refl; spelled = record { packet = read_block (journals.to_first 0) 0x12000000 32; canonical = refl; retry = refl; priority = refl; source = refl; destination = refl }; label = refl }), ((refl, λ e. record { in_generation = refl; spelled = record { packet = write_response (journals.to_first 0) 0; canonical = refl; retry = refl; priority = refl; source = refl; destination = refl }; label = tt }), (tt, (tt, ((refl, λ e. record { in_generation = refl; spelled = record { packet = write_block (journals.to_target 0) 0xfffff0010000 (quad_bytes (0 ∷ 0x12000000 ∷ [])); canonical = refl; retry = refl; priority = refl; source = refl; destination = refl }; label = refl }), (tt, (tt, (tt, tt))))))))))))))))))))
+
+logout_answers : EachTurn (AnswersLaw nobody journals.one_disk) more.logout_told
+unfolding reading fault_of tcode_of header_of offset_of rcode_of value_of length_of extended_of three four part_of is_to is_same asked_by begun_by belongs start_at lowest_from label_for free_from count_flying lowest_flying label_of with_label is_write kind_of slot_of window_at is_fifo point_step doorbell_step reset_step abort_step reply_step lost_step refusal verdict request_of check_of blank_bytes command_kind elements_from made block_head decide reads_eui live_login response_bytes start_step reply_step_of_manager decide_step fresh_id left_for enter_step back_step leave_step
+logout_answers = (record { begins = λ e. tt }, (record { begins = λ e. tt }, (record { begins = λ e. (refl, tt) }, (record { begins = λ e. tt }, (record { begins = λ e. (refl, tt) }, (record { begins = λ e. tt }, (record { begins = λ e. (refl, tt) }, (record { begins = λ e. tt }, (record { begins = λ e. tt }, (record { begins = λ e. tt }, tt))))))))))
+
+logout_requests : EachTurn (RequestsLaw nobody journals.one_disk) more.logout_told
+unfolding reading fault_of tcode_of header_of offset_of rcode_of value_of length_of extended_of three four part_of is_to is_same asked_by begun_by belongs start_at lowest_from label_for free_from count_flying lowest_flying label_of with_label is_write kind_of slot_of window_at is_fifo point_step doorbell_step reset_step abort_step reply_step lost_step refusal verdict request_of check_of blank_bytes command_kind elements_from made block_head decide reads_eui live_login response_bytes start_step reply_step_of_manager decide_step fresh_id left_for enter_step back_step leave_step
+logout_requests = (λ e. tt, (λ e. tt, (λ e. tt, (λ e. (record { sender = refl; receiver = refl; spelled = refl }, tt), (λ e. tt, (λ e. tt, (λ e. (record { sender = refl; receiver = refl; spelled = refl }, tt), (λ e. tt, (λ e. (record { sender = refl; receiver = refl; spelled = refl }, tt), (λ e. tt, tt))))))))))
+
+logout_after : EachTurn (AfterTurn nobody journals.one_disk) more.logout_told
+unfolding reading fault_of tcode_of header_of offset_of rcode_of value_of length_of extended_of three four part_of is_to is_same asked_by begun_by belongs start_at lowest_from label_for free_from count_flying lowest_flying label_of with_label is_write kind_of slot_of window_at is_fifo point_step doorbell_step reset_step abort_step reply_step lost_step refusal verdict request_of check_of blank_bytes command_kind elements_from made block_head decide reads_eui live_login response_bytes start_step reply_step_of_manager decide_step fresh_id left_for enter_step back_step leave_step
+logout_after = (record { agents = (λ e. tt, (λ e. tt, (λ e. tt, (λ e. tt, (λ e. tt, (λ e. tt, (λ e. tt, (λ e. tt, tt)))))))); management = tt; roms = (λ e. tt, tt) }, (record { agents = (λ e. tt, (λ e. tt, (λ e. tt, (λ e. tt, (λ e. tt, (λ e. tt, (λ e. tt, (λ e. tt, tt)))))))); management = tt; roms = (λ e. tt, tt) }, (record { agents = (λ e. tt, (λ e. tt, (λ e. tt, (λ e. tt, (λ e. tt, (λ e. tt, (λ e. tt, (λ e. tt, tt)))))))); management = λ e. refl; roms = (λ e. tt, tt) }, (record { agents = (λ e. tt, (λ e. tt, (λ e. tt, (λ e. tt, (λ e. tt, (λ e. tt, (λ e. tt, (λ e. tt, tt)))))))); management = λ e. refl; roms = (λ e. tt, tt) }, (record { agents = (λ e. tt, (λ e. tt, (λ e. tt, (λ e. tt, (λ e. tt, (λ e. tt, (λ e. tt, (λ e. tt, tt)))))))); management = λ e. refl; roms = (λ e. tt, tt) }, (record { agents = (λ e. tt, (λ e. tt, (λ e. tt, (λ e. tt, (λ e. tt, (λ e. tt, (λ e. tt, (λ e. tt, tt)))))))); management = λ e. refl; roms = (λ e. tt, tt) }, (record { agents = (λ e. tt, (λ e. tt, (λ e. tt, (λ e. tt, (λ e. tt, (λ e. tt, (λ e. tt, (λ e. tt, tt)))))))); management = λ e. refl; roms = (λ e. tt, tt) }, (record { agents = (λ e. tt, (λ e. tt, (λ e. tt, (λ e. tt, (λ e. tt, (λ e. tt, (λ e. tt, (λ e. tt, tt)))))))); management = tt; roms = (λ e. tt, tt) }, (record { agents = (λ e. tt, (λ e. tt, (λ e. tt, (λ e. tt, (λ e. tt, (λ e. tt, (λ e. tt, (λ e. tt, tt)))))))); management = tt; roms = (λ e. tt, tt) }, (record { agents = (λ e. tt, (λ e. tt, (λ e. tt, (λ e. tt, (λ e. tt, (λ e. tt, (λ e. tt, (λ e. tt, tt)))))))); management = tt; roms = (λ e. tt, tt) }, tt))))))))))
+
+logout_once : OnceLaw nobody more.logout_told
+unfolding reading fault_of tcode_of header_of offset_of rcode_of value_of length_of extended_of three four part_of is_to is_same asked_by begun_by belongs start_at lowest_from label_for free_from count_flying lowest_flying label_of with_label is_write kind_of slot_of window_at is_fifo point_step doorbell_step reset_step abort_step reply_step lost_step refusal verdict request_of check_of blank_bytes command_kind elements_from made block_head decide reads_eui live_login response_bytes start_step reply_step_of_manager decide_step fresh_id left_for enter_step back_step leave_step
+logout_once = (tt, ((λ e. refl, λ e. record { once = refl; served = refl }), (tt, (tt, ((λ e. refl, tt), (tt, (tt, (tt, ((λ e. refl, λ e. record { once = refl; served = refl }), (tt, ((λ e. refl, tt), ((λ e. refl, λ e. record { once = refl; served = refl }), (tt, (tt, ((λ e. refl, tt), (tt, (tt, (tt, (tt, (tt, tt))))))))))))))))))))
+
+logout_order : OrderLaw nobody more.logout_told
+unfolding reading fault_of tcode_of header_of offset_of rcode_of value_of length_of extended_of three four part_of is_to is_same asked_by begun_by belongs start_at lowest_from label_for free_from count_flying lowest_flying label_of with_label is_write kind_of slot_of window_at is_fifo point_step doorbell_step reset_step abort_step reply_step lost_step refusal verdict request_of check_of blank_bytes command_kind elements_from made block_head decide reads_eui live_login response_bytes start_step reply_step_of_manager decide_step fresh_id left_for enter_step back_step leave_step
+logout_order = (tt, (tt, (tt, (tt, (tt, (tt, (tt, (tt, (tt, (tt, (tt, (tt, (tt, (tt, (tt, (tt, (tt, (tt, (tt, (tt, tt))))))))))))))))))))
+
+logout_execution : ExecutionLaw nobody journals.one_disk more.logout_told
+unfolding reading fault_of tcode_of header_of offset_of rcode_of value_of length_of extended_of three four part_of is_to is_same asked_by begun_by belongs start_at lowest_from label_for free_from count_flying lowest_flying label_of with_label is_write kind_of slot_of window_at is_fifo point_step doorbell_step reset_step abort_step reply_step lost_step refusal verdict request_of check_of blank_bytes command_kind elements_from made block_head decide reads_eui live_login response_bytes start_step reply_step_of_manager decide_step fresh_id left_for enter_step back_step leave_step
+logout_execution = (tt, (tt, (tt, (tt, (tt, (tt, (tt, (tt, (tt, (tt, (tt, (tt, (tt, (tt, (tt, (tt, (tt, (tt, (tt, (tt, tt))))))))))))))))))))
+
+logout_carried : CarriedLaw nobody journals.one_disk more.logout_told
+unfolding reading fault_of tcode_of header_of offset_of rcode_of value_of length_of extended_of three four part_of is_to is_same asked_by begun_by belongs start_at lowest_from label_for free_from count_flying lowest_flying label_of with_label is_write kind_of slot_of window_at is_fifo point_step doorbell_step reset_step abort_step reply_step lost_step refusal verdict request_of check_of blank_bytes command_kind elements_from made block_head decide reads_eui live_login response_bytes start_step reply_step_of_manager decide_step fresh_id left_for enter_step back_step leave_step
+logout_carried = record { carried = (tt, (tt, (tt, (tt, (tt, (tt, (tt, (tt, (tt, (tt, (tt, (tt, (tt, (tt, (tt, (tt, (tt, (tt, (tt, (tt, tt)))))))))))))))))))); due = (refl, (refl, (refl, (refl, (refl, (refl, (refl, (refl, (refl, (refl, tt)))))))))) }
+
+logout_status : StatusLaw nobody more.logout_told
+unfolding reading fault_of tcode_of header_of offset_of rcode_of value_of length_of extended_of three four part_of is_to is_same asked_by begun_by belongs start_at lowest_from label_for free_from count_flying lowest_flying label_of with_label is_write kind_of slot_of window_at is_fifo point_step doorbell_step reset_step abort_step reply_step lost_step refusal verdict request_of check_of blank_bytes command_kind elements_from made block_head decide reads_eui live_login response_bytes start_step reply_step_of_manager decide_step fresh_id left_for enter_step back_step leave_step
+logout_status = record { taken = (tt, (tt, (tt, (tt, (tt, (tt, (tt, (tt, (tt, (tt, (tt, (tt, (tt, (tt, (tt, (tt, (tt, (tt, (tt, (tt, tt)))))))))))))))))))); each = (refl, (refl, (refl, (refl, (refl, (refl, (refl, (refl, (refl, (refl, tt)))))))))) }
+
+logout_answer : AnswerLaw nobody journals.one_disk more.logout_told
+unfolding reading fault_of tcode_of header_of offset_of rcode_of value_of length_of extended_of three four part_of is_to is_same asked_by begun_by belongs start_at lowest_from label_for free_from count_flying lowest_flying label_of with_label is_write kind_of slot_of window_at is_fifo point_step doorbell_step reset_step abort_step reply_step lost_step refusal verdict request_of check_of blank_bytes command_kind elements_from made block_head decide reads_eui live_login response_bytes start_step reply_step_of_manager decide_step fresh_id left_for enter_step back_step leave_step
+logout_answer = (tt, (tt, (tt, (tt, (tt, (tt, (tt, (tt, (tt, (tt, (tt, (tt, (tt, (tt, (tt, (tt, (tt, (tt, (tt, (tt, tt))))))))))))))))))))
+
+read_ahead_cause : CauseLaw nobody journals.one_disk more.read_ahead_told
+unfolding reading fault_of tcode_of header_of offset_of rcode_of value_of length_of extended_of three four part_of is_to is_same asked_by begun_by belongs start_at lowest_from label_for free_from count_flying lowest_flying label_of with_label is_write kind_of slot_of window_at is_fifo point_step doorbell_step reset_step abort_step reply_step lost_step refusal verdict request_of check_of blank_bytes command_kind elements_from made block_head decide reads_eui live_login response_bytes start_step reply_step_of_manager decide_step fresh_id left_for enter_step back_step leave_step
+read_ahead_cause = record { causes = (record { cuts = refl; cleared = refl; ends = refl; failures = refl; operations = refl }, (record { cuts = refl; cleared = refl; ends = refl; failures = refl; operations = refl }, (record { cuts = refl; cleared = refl; ends = refl; failures = refl; operations = refl }, (record { cuts = refl; cleared = refl; ends = refl; failures = refl; operations = refl }, (record { cuts = refl; cleared = refl; ends = refl; failures = refl; operations = refl }, (record { cuts = refl; cleared = refl; ends = refl; failures = refl; operations = refl }, (record { cuts = refl; cleared = refl; ends = refl; failures = refl; operations = refl }, (record { cuts = refl; cleared = refl; ends = refl; failures = refl; operations = refl }, (record { cuts = refl; cleared = refl; ends = refl; failures = refl; operations = refl }, (record { cuts = refl; cleared = refl; ends = refl; failures = refl; operations = refl }, (record { cuts = refl; cleared = refl; ends = refl; failures = refl; operations = refl }, (record { cuts = refl; cleared = refl; ends = refl; failures = refl; operations = refl }, (record { cuts = refl; cleared = refl; ends = refl; failures = refl; operations = refl }, (record { cuts = refl; cleared = refl; ends = refl; failures = refl; operations = refl }, (record { cuts = refl; cleared = refl; ends = refl; failures = refl; operations = refl }, (record { cuts = refl; cleared = refl; ends = refl; failures = refl; operations = refl }, (record { cuts = refl; cleared = refl; ends = refl; failures = refl; operations = refl }, tt))))))))))))))))); aborted = (tt, (tt, (tt, (tt, (tt, (tt, (tt, (tt, (tt, (tt, (tt, (tt, (tt, (tt, (tt, (tt, (tt, (tt, (tt, (tt, (tt, (tt, (tt, (tt, (tt, (tt, (tt, (tt, (tt, (tt, (tt, (tt, (tt, (tt, (tt, (tt, (tt, (tt, (tt, (tt, (tt, (tt, tt)))))))))))))))))))))))))))))))))))))))))) }
+
+read_ahead_judged : JudgementLaw journals.one_disk more.read_ahead_told
+unfolding reading fault_of tcode_of header_of offset_of rcode_of value_of length_of extended_of three four part_of is_to is_same asked_by begun_by belongs start_at lowest_from label_for free_from count_flying lowest_flying label_of with_label is_write kind_of slot_of window_at is_fifo point_step doorbell_step reset_step abort_step reply_step lost_step refusal verdict request_of check_of blank_bytes command_kind elements_from made block_head decide reads_eui live_login response_bytes start_step reply_step_of_manager decide_step fresh_id left_for enter_step back_step leave_step
+read_ahead_judged = (tt, (refl, (refl, (refl, (refl, (refl, (refl, (refl, (refl, (refl, (refl, (refl, (refl, (tt, (tt, (tt, (tt, tt)))))))))))))))))
+
+read_ahead_login : LoginLaw journals.one_disk more.read_ahead_told
+unfolding reading fault_of tcode_of header_of offset_of rcode_of value_of length_of extended_of three four part_of is_to is_same asked_by begun_by belongs start_at lowest_from label_for free_from count_flying lowest_flying label_of with_label is_write kind_of slot_of window_at is_fifo point_step doorbell_step reset_step abort_step reply_step lost_step refusal verdict request_of check_of blank_bytes command_kind elements_from made block_head decide reads_eui live_login response_bytes start_step reply_step_of_manager decide_step fresh_id left_for enter_step back_step leave_step
+read_ahead_login = (record { rows = tt; decisions = refl; logins = refl }, (record { rows = tt; decisions = refl; logins = refl }, (record { rows = tt; decisions = refl; logins = refl }, (record { rows = tt; decisions = refl; logins = refl }, (record { rows = tt; decisions = refl; logins = refl }, (record { rows = tt; decisions = refl; logins = refl }, (record { rows = tt; decisions = refl; logins = refl }, (record { rows = tt; decisions = refl; logins = refl }, (record { rows = tt; decisions = refl; logins = refl }, (record { rows = tt; decisions = refl; logins = refl }, (record { rows = tt; decisions = refl; logins = refl }, (record { rows = tt; decisions = refl; logins = refl }, (record { rows = tt; decisions = refl; logins = refl }, (record { rows = tt; decisions = refl; logins = refl }, (record { rows = tt; decisions = refl; logins = refl }, (record { rows = tt; decisions = refl; logins = refl }, (record { rows = tt; decisions = refl; logins = refl }, tt)))))))))))))))))
+
+read_ahead_media : MediaLaw nobody journals.one_disk more.read_ahead_told
+unfolding reading fault_of tcode_of header_of offset_of rcode_of value_of length_of extended_of three four part_of is_to is_same asked_by begun_by belongs start_at lowest_from label_for free_from count_flying lowest_flying label_of with_label is_write kind_of slot_of window_at is_fifo point_step doorbell_step reset_step abort_step reply_step lost_step refusal verdict request_of check_of blank_bytes command_kind elements_from made block_head decide reads_eui live_login response_bytes start_step reply_step_of_manager decide_step fresh_id left_for enter_step back_step leave_step
+read_ahead_media = (record { pushes = refl; told = refl }, (record { pushes = refl; told = refl }, (record { pushes = refl; told = refl }, (record { pushes = refl; told = refl }, (record { pushes = refl; told = refl }, (record { pushes = refl; told = refl }, (record { pushes = refl; told = refl }, (record { pushes = refl; told = refl }, (record { pushes = refl; told = refl }, (record { pushes = refl; told = refl }, (record { pushes = refl; told = refl }, (record { pushes = refl; told = refl }, (record { pushes = refl; told = refl }, (record { pushes = refl; told = refl }, (record { pushes = refl; told = refl }, (record { pushes = refl; told = refl }, (record { pushes = refl; told = refl }, tt)))))))))))))))))
+
+read_ahead_packets : EachMoment (SentAt nobody) more.read_ahead_told
+unfolding reading fault_of tcode_of header_of offset_of rcode_of value_of length_of extended_of three four part_of is_to is_same asked_by begun_by belongs start_at lowest_from label_for free_from count_flying lowest_flying label_of with_label is_write kind_of slot_of window_at is_fifo point_step doorbell_step reset_step abort_step reply_step lost_step refusal verdict request_of check_of blank_bytes command_kind elements_from made block_head decide reads_eui live_login response_bytes start_step reply_step_of_manager decide_step fresh_id left_for enter_step back_step leave_step
+read_ahead_packets = (tt, (tt, ((refl, λ e. record { in_generation = refl; spelled = record { packet = write_response (journals.to_target 0) 0; canonical = refl; retry = refl; priority = refl; source = refl; destination = refl }; label = tt }), (tt, (tt, ((refl, λ e. record { in_generation = refl; spelled = record { packet = write_block (journals.to_first 0) 0x13000000 (quad_bytes (0x41000000 ∷ 0x10000040 ∷ [])); canonical = refl; retry = refl; priority = refl; source = refl; destination = refl }; label = refl }), (tt, (tt, (tt, (tt, ((refl, λ e. record { in_generation = refl; spelled = record { packet = read_block_response (journals.to_target 1) 0 (journals.orb_bytes 0x80000000 0); canonical = refl; retry = refl; priority = refl; source = refl; destination = refl }; label = tt }), (tt, ((refl, λ e. record { in_generation = refl; spelled = record { packet = write_response (journals.to_target 0) 0; canonical = refl; retry = refl; priority = refl; source = refl; destination = refl }; label = tt }), (tt, (tt, ((refl, λ e. record { in_generation = refl; spelled = record { packet = read_block (journals.to_first 1) 0x10000040 32; canonical = refl; retry = refl; priority = refl; source = refl; destination = refl }; label = refl }), ((refl, λ e. record { in_generation = refl; spelled = record { packet = write_block (journals.to_first 0) 0x13000000 (quad_bytes (0x01000000 ∷ 0x10000000 ∷ [])); canonical = refl; retry = refl; priority = refl; source = refl; destination = refl }; label = refl }), (tt, (tt, (tt, (tt, ((refl, λ e. record { in_generation = refl; spelled = record { packet = read_block_response (journals.to_target 0) 0 (journals.orb_bytes 0 0x10000040); canonical = refl; retry = refl; priority = refl; source = refl; destination = refl }; label = tt }), (tt, (tt, ((refl, λ e. record { in_generation = refl; spelled = record { packet = write_response (journals.to_first 1) 0; canonical = refl; retry = refl; priority = refl; source = refl; destination = refl }; label = tt }), (tt, ((refl, λ e. record { in_generation = refl; spelled = record { packet = read_block (journals.to_first 0) 0x10000000 32; canonical = refl; retry = refl; priority = refl; source = refl; destination = refl }; label = refl }), ((refl, λ e. record { in_generation = refl; spelled = record { packet = write_response (journals.to_first 0) 0; canonical = refl; retry = refl; priority = refl; source = refl; destination = refl }; label = tt }), (tt, (tt, ((refl, λ e. record { in_generation = refl; spelled = record { packet = write_quadlet (journals.to_target 1) 0xfffff0040010 1; canonical = refl; retry = refl; priority = refl; source = refl; destination = refl }; label = refl }), (tt, (tt, (tt, (tt, (tt, ((refl, λ e. record { in_generation = refl; spelled = record { packet = write_block (journals.to_target 0) 0xfffff0040008 (quad_bytes (0 ∷ 0x10000000 ∷ [])); canonical = refl; retry = refl; priority = refl; source = refl; destination = refl }; label = refl }), (tt, (tt, (tt, (tt, (tt, tt))))))))))))))))))))))))))))))))))))))))))
+
+read_ahead_answers : EachTurn (AnswersLaw nobody journals.one_disk) more.read_ahead_told
+unfolding reading fault_of tcode_of header_of offset_of rcode_of value_of length_of extended_of three four part_of is_to is_same asked_by begun_by belongs start_at lowest_from label_for free_from count_flying lowest_flying label_of with_label is_write kind_of slot_of window_at is_fifo point_step doorbell_step reset_step abort_step reply_step lost_step refusal verdict request_of check_of blank_bytes command_kind elements_from made block_head decide reads_eui live_login response_bytes start_step reply_step_of_manager decide_step fresh_id left_for enter_step back_step leave_step
+read_ahead_answers = (record { begins = λ e. tt }, (record { begins = λ e. tt }, (record { begins = λ e. (refl, tt) }, (record { begins = λ e. tt }, (record { begins = λ e. tt }, (record { begins = λ e. (refl, tt) }, (record { begins = λ e. (refl, tt) }, (record { begins = λ e. tt }, (record { begins = λ e. tt }, (record { begins = λ e. (refl, tt) }, (record { begins = λ e. tt }, (record { begins = λ e. (refl, tt) }, (record { begins = λ e. (refl, tt) }, (record { begins = λ e. tt }, (record { begins = λ e. tt }, (record { begins = λ e. tt }, (record { begins = λ e. tt }, tt)))))))))))))))))
+
+read_ahead_requests : EachTurn (RequestsLaw nobody journals.one_disk) more.read_ahead_told
+unfolding reading fault_of tcode_of header_of offset_of rcode_of value_of length_of extended_of three four part_of is_to is_same asked_by begun_by belongs start_at lowest_from label_for free_from count_flying lowest_flying label_of with_label is_write kind_of slot_of window_at is_fifo point_step doorbell_step reset_step abort_step reply_step lost_step refusal verdict request_of check_of blank_bytes command_kind elements_from made block_head decide reads_eui live_login response_bytes start_step reply_step_of_manager decide_step fresh_id left_for enter_step back_step leave_step
+read_ahead_requests = (λ e. tt, (λ e. tt, (λ e. tt, (λ e. (record { sender = refl; receiver = refl; spelled = refl }, tt), (λ e. tt, (λ e. tt, (λ e. tt, (λ e. (record { sender = refl; receiver = refl; spelled = refl }, (record { sender = refl; receiver = refl; spelled = refl }, tt)), (λ e. tt, (λ e. tt, (λ e. tt, (λ e. tt, (λ e. (record { sender = refl; receiver = refl; spelled = refl }, tt), (λ e. tt, (λ e. (record { sender = refl; receiver = refl; spelled = refl }, tt), (λ e. (record { sender = refl; receiver = refl; spelled = refl }, tt), (λ e. tt, tt)))))))))))))))))
+
+read_ahead_after : EachTurn (AfterTurn nobody journals.one_disk) more.read_ahead_told
+unfolding reading fault_of tcode_of header_of offset_of rcode_of value_of length_of extended_of three four part_of is_to is_same asked_by begun_by belongs start_at lowest_from label_for free_from count_flying lowest_flying label_of with_label is_write kind_of slot_of window_at is_fifo point_step doorbell_step reset_step abort_step reply_step lost_step refusal verdict request_of check_of blank_bytes command_kind elements_from made block_head decide reads_eui live_login response_bytes start_step reply_step_of_manager decide_step fresh_id left_for enter_step back_step leave_step
+read_ahead_after = (record { agents = (λ e. record { answered = refl; ends = refl; unrung = refl }, (λ e. tt, (λ e. tt, (λ e. tt, (λ e. tt, (λ e. tt, (λ e. tt, (λ e. tt, tt)))))))); management = tt; roms = (λ e. tt, tt) }, (record { agents = (λ e. record { answered = refl; ends = refl; unrung = refl }, (λ e. tt, (λ e. tt, (λ e. tt, (λ e. tt, (λ e. tt, (λ e. tt, (λ e. tt, tt)))))))); management = tt; roms = (λ e. tt, tt) }, (record { agents = (λ e. refl, (λ e. tt, (λ e. tt, (λ e. tt, (λ e. tt, (λ e. tt, (λ e. tt, (λ e. tt, tt)))))))); management = tt; roms = (λ e. tt, tt) }, (record { agents = (λ e. refl, (λ e. tt, (λ e. tt, (λ e. tt, (λ e. tt, (λ e. tt, (λ e. tt, (λ e. tt, tt)))))))); management = tt; roms = (λ e. tt, tt) }, (record { agents = (λ e. refl, (λ e. tt, (λ e. tt, (λ e. tt, (λ e. tt, (λ e. tt, (λ e. tt, (λ e. tt, tt)))))))); management = tt; roms = (λ e. tt, tt) }, (record { agents = (λ e. refl, (λ e. tt, (λ e. tt, (λ e. tt, (λ e. tt, (λ e. tt, (λ e. tt, (λ e. tt, tt)))))))); management = tt; roms = (λ e. tt, tt) }, (record { agents = (λ e. refl, (λ e. tt, (λ e. tt, (λ e. tt, (λ e. tt, (λ e. tt, (λ e. tt, (λ e. tt, tt)))))))); management = tt; roms = (λ e. tt, tt) }, (record { agents = (λ e. refl, (λ e. tt, (λ e. tt, (λ e. tt, (λ e. tt, (λ e. tt, (λ e. tt, (λ e. tt, tt)))))))); management = tt; roms = (λ e. tt, tt) }, (record { agents = (λ e. refl, (λ e. tt, (λ e. tt, (λ e. tt, (λ e. tt, (λ e. tt, (λ e. tt, (λ e. tt, tt)))))))); management = tt; roms = (λ e. tt, tt) }, (record { agents = (λ e. refl, (λ e. tt, (λ e. tt, (λ e. tt, (λ e. tt, (λ e. tt, (λ e. tt, (λ e. tt, tt)))))))); management = tt; roms = (λ e. tt, tt) }, (record { agents = (λ e. refl, (λ e. tt, (λ e. tt, (λ e. tt, (λ e. tt, (λ e. tt, (λ e. tt, (λ e. tt, tt)))))))); management = tt; roms = (λ e. tt, tt) }, (record { agents = (λ e. refl, (λ e. tt, (λ e. tt, (λ e. tt, (λ e. tt, (λ e. tt, (λ e. tt, (λ e. tt, tt)))))))); management = tt; roms = (λ e. tt, tt) }, (record { agents = (λ e. refl, (λ e. tt, (λ e. tt, (λ e. tt, (λ e. tt, (λ e. tt, (λ e. tt, (λ e. tt, tt)))))))); management = tt; roms = (λ e. tt, tt) }, (record { agents = (λ e. tt, (λ e. tt, (λ e. tt, (λ e. tt, (λ e. tt, (λ e. tt, (λ e. tt, (λ e. tt, tt)))))))); management = tt; roms = (λ e. tt, tt) }, (record { agents = (λ e. tt, (λ e. tt, (λ e. tt, (λ e. tt, (λ e. tt, (λ e. tt, (λ e. tt, (λ e. tt, tt)))))))); management = tt; roms = (λ e. tt, tt) }, (record { agents = (λ e. tt, (λ e. tt, (λ e. tt, (λ e. tt, (λ e. tt, (λ e. tt, (λ e. tt, (λ e. tt, tt)))))))); management = tt; roms = (λ e. tt, tt) }, (record { agents = (λ e. tt, (λ e. tt, (λ e. tt, (λ e. tt, (λ e. tt, (λ e. tt, (λ e. tt, (λ e. tt, tt)))))))); management = tt; roms = (λ e. tt, tt) }, tt)))))))))))))))))
+
+read_ahead_once : OnceLaw nobody more.read_ahead_told
+unfolding reading fault_of tcode_of header_of offset_of rcode_of value_of length_of extended_of three four part_of is_to is_same asked_by begun_by belongs start_at lowest_from label_for free_from count_flying lowest_flying label_of with_label is_write kind_of slot_of window_at is_fifo point_step doorbell_step reset_step abort_step reply_step lost_step refusal verdict request_of check_of blank_bytes command_kind elements_from made block_head decide reads_eui live_login response_bytes start_step reply_step_of_manager decide_step fresh_id left_for enter_step back_step leave_step
+read_ahead_once = (tt, ((λ e. refl, λ e. record { once = refl; served = refl }), (tt, (tt, ((λ e. refl, tt), (tt, (tt, (tt, ((λ e. refl, λ e. record { once = refl; served = refl }), ((λ e. refl, λ e. record { once = refl; served = refl }), (tt, ((λ e. refl, tt), (tt, (tt, ((λ e. refl, tt), (tt, (tt, (tt, (tt, ((λ e. refl, λ e. record { once = refl; served = refl }), ((λ e. refl, λ e. record { once = refl; served = refl }), (tt, ((λ e. refl, tt), ((λ e. refl, λ e. record { once = refl; served = refl }), (tt, ((λ e. refl, tt), (tt, (tt, ((λ e. refl, tt), (tt, (tt, (tt, (tt, (tt, (tt, (tt, (tt, (tt, (tt, (tt, (tt, (tt, tt))))))))))))))))))))))))))))))))))))))))))
+
+read_ahead_order : OrderLaw nobody more.read_ahead_told
+unfolding reading fault_of tcode_of header_of offset_of rcode_of value_of length_of extended_of three four part_of is_to is_same asked_by begun_by belongs start_at lowest_from label_for free_from count_flying lowest_flying label_of with_label is_write kind_of slot_of window_at is_fifo point_step doorbell_step reset_step abort_step reply_step lost_step refusal verdict request_of check_of blank_bytes command_kind elements_from made block_head decide reads_eui live_login response_bytes start_step reply_step_of_manager decide_step fresh_id left_for enter_step back_step leave_step
+read_ahead_order = (tt, (tt, (tt, (tt, (tt, (tt, (λ e. record { number = refl; appended = second_of_two; still = record { latest = refl; uncut = refl } }, (λ e. record { latest = refl; uncut = refl }, (tt, (tt, (tt, (tt, (tt, (tt, (tt, (tt, (tt, (λ e. record { number = refl; appended = first_of_two; still = record { latest = refl; uncut = refl } }, (λ e. record { latest = refl; uncut = refl }, (tt, (tt, (tt, (tt, (tt, (tt, (tt, (tt, (tt, (tt, (tt, (tt, (tt, (tt, (tt, (record { number = refl; list = refl }, (tt, (tt, (tt, (record { number = refl; list = refl }, (tt, (tt, (tt, tt))))))))))))))))))))))))))))))))))))))))))
+
+read_ahead_execution : ExecutionLaw nobody journals.one_disk more.read_ahead_told
+unfolding reading fault_of tcode_of header_of offset_of rcode_of value_of length_of extended_of three four part_of is_to is_same asked_by begun_by belongs start_at lowest_from label_for free_from count_flying lowest_flying label_of with_label is_write kind_of slot_of window_at is_fifo point_step doorbell_step reset_step abort_step reply_step lost_step refusal verdict request_of check_of blank_bytes command_kind elements_from made block_head decide reads_eui live_login response_bytes start_step reply_step_of_manager decide_step fresh_id left_for enter_step back_step leave_step
+read_ahead_execution = (tt, (tt, (tt, (tt, (tt, (tt, (λ e. refl, (λ e. (record { once = refl; order = refl; login = refl }, record { command = refl; carried = inl refl; needed = λ len need. absurd (cc need); ended = tt }), (tt, (tt, (tt, (tt, (tt, (tt, (tt, (tt, (tt, (λ e. refl, (λ e. (record { once = refl; order = refl; login = refl }, record { command = refl; carried = inl refl; needed = λ len need. absurd (cc need); ended = tt }), (tt, (tt, (tt, (tt, (tt, (tt, (tt, (tt, (tt, (tt, (tt, (tt, (tt, (tt, (tt, (tt, (tt, (tt, (tt, (tt, (tt, (tt, (tt, tt))))))))))))))))))))))))))))))))))))))))))
+
+read_ahead_carried : CarriedLaw nobody journals.one_disk more.read_ahead_told
+unfolding reading fault_of tcode_of header_of offset_of rcode_of value_of length_of extended_of three four part_of is_to is_same asked_by begun_by belongs start_at lowest_from label_for free_from count_flying lowest_flying label_of with_label is_write kind_of slot_of window_at is_fifo point_step doorbell_step reset_step abort_step reply_step lost_step refusal verdict request_of check_of blank_bytes command_kind elements_from made block_head decide reads_eui live_login response_bytes start_step reply_step_of_manager decide_step fresh_id left_for enter_step back_step leave_step
+read_ahead_carried = record { carried = (tt, (tt, (tt, (λ e. refl, (tt, (tt, (λ e. record { read = record { response = 10; request = 8; got = refl; answers = refl; of_target = refl; of_initiator = refl; asks = record { read = refl; block = refl; from = refl; size = refl }; appended = second_of_two; opened = refl }; matches = (λ e. let bad : 0 ≡ 3 = e in omega (arith, bad), record { command = refl; direction = refl }) }, (λ e. record { read = record { response = 10; request = 8; got = refl; answers = refl; of_target = refl; of_initiator = refl; asks = record { read = refl; block = refl; from = refl; size = refl }; appended = second_of_two; opened = refl }; not_dummy = λ e. let bad : 0 ≡ 3 = e in omega (arith, bad); as_appended = record { command = refl; direction = refl }; size = refl; payloads = refl }, (tt, (tt, (tt, (tt, (tt, (λ e. refl, (tt, (tt, (tt, (λ e. record { read = record { response = 6; request = 4; got = refl; answers = refl; of_target = refl; of_initiator = refl; asks = record { read = refl; block = refl; from = refl; size = refl }; appended = first_of_two; opened = refl }; matches = (λ e. let bad : 0 ≡ 3 = e in omega (arith, bad), record { command = refl; direction = refl }) }, (λ e. record { read = record { response = 6; request = 4; got = refl; answers = refl; of_target = refl; of_initiator = refl; asks = record { read = refl; block = refl; from = refl; size = refl }; appended = first_of_two; opened = refl }; not_dummy = λ e. let bad : 0 ≡ 3 = e in omega (arith, bad); as_appended = record { command = refl; direction = refl }; size = refl; payloads = refl }, (tt, (tt, (tt, (tt, (tt, (tt, (tt, (tt, (tt, (tt, (tt, (tt, (tt, (tt, (tt, (tt, (tt, (tt, (tt, (tt, (tt, (tt, (tt, tt)))))))))))))))))))))))))))))))))))))))))); due = (refl, (refl, (refl, (refl, (refl, (refl, (refl, (refl, (refl, (refl, (refl, (refl, (refl, (refl, (refl, (refl, (refl, tt))))))))))))))))) }
+
+read_ahead_status : StatusLaw nobody more.read_ahead_told
+unfolding reading fault_of tcode_of header_of offset_of rcode_of value_of length_of extended_of three four part_of is_to is_same asked_by begun_by belongs start_at lowest_from label_for free_from count_flying lowest_flying label_of with_label is_write kind_of slot_of window_at is_fifo point_step doorbell_step reset_step abort_step reply_step lost_step refusal verdict request_of check_of blank_bytes command_kind elements_from made block_head decide reads_eui live_login response_bytes start_step reply_step_of_manager decide_step fresh_id left_for enter_step back_step leave_step
+read_ahead_status = record { taken = (tt, (tt, (tt, (λ e. record { once = refl; ended = refl; sent = refl; written = record { is_write = refl; goes = refl; src = 1; spells = refl } }, (tt, (tt, (tt, (tt, (tt, (tt, (tt, (tt, (tt, (λ e. record { once = refl; ended = refl; sent = refl; written = record { is_write = refl; goes = refl; src = 0; spells = refl } }, (tt, (tt, (tt, (tt, (tt, (tt, (tt, (tt, (tt, (tt, (tt, (tt, (tt, (tt, (tt, (tt, (tt, (tt, (tt, (tt, (tt, (tt, (tt, (tt, (tt, (tt, (tt, (tt, tt)))))))))))))))))))))))))))))))))))))))))); each = (refl, (refl, (refl, (refl, (refl, (refl, (refl, (refl, (refl, (refl, (refl, (refl, (refl, (refl, (refl, (refl, (refl, tt))))))))))))))))) }
+
+read_ahead_answer : AnswerLaw nobody journals.one_disk more.read_ahead_told
+unfolding reading fault_of tcode_of header_of offset_of rcode_of value_of length_of extended_of three four part_of is_to is_same asked_by begun_by belongs start_at lowest_from label_for free_from count_flying lowest_flying label_of with_label is_write kind_of slot_of window_at is_fifo point_step doorbell_step reset_step abort_step reply_step lost_step refusal verdict request_of check_of blank_bytes command_kind elements_from made block_head decide reads_eui live_login response_bytes start_step reply_step_of_manager decide_step fresh_id left_for enter_step back_step leave_step
+read_ahead_answer = (tt, (tt, (tt, (λ e. record { len = refl; told = refl }, (tt, (tt, (tt, (tt, (tt, (tt, (tt, (tt, (tt, (λ e. record { len = refl; told = refl }, (tt, (tt, (tt, (tt, (tt, (tt, (tt, (tt, (tt, (tt, (tt, (tt, (tt, (tt, (tt, (tt, (tt, (tt, (tt, (tt, (tt, (tt, (tt, (tt, (tt, (tt, (tt, (tt, tt))))))))))))))))))))))))))))))))))))))))))
+
+login_cause : CauseLaw nobody journals.one_disk more.login_told
+unfolding reading fault_of tcode_of header_of offset_of rcode_of value_of length_of extended_of three four part_of is_to is_same asked_by begun_by belongs start_at lowest_from label_for free_from count_flying lowest_flying label_of with_label is_write kind_of slot_of window_at is_fifo point_step doorbell_step reset_step abort_step reply_step lost_step refusal verdict request_of check_of blank_bytes command_kind elements_from made block_head decide reads_eui live_login response_bytes start_step reply_step_of_manager decide_step fresh_id left_for enter_step back_step leave_step
+login_cause = record { causes = (record { cuts = refl; cleared = refl; ends = refl; failures = refl; operations = refl }, (record { cuts = refl; cleared = refl; ends = refl; failures = refl; operations = refl }, (record { cuts = refl; cleared = refl; ends = refl; failures = refl; operations = refl }, (record { cuts = refl; cleared = refl; ends = refl; failures = refl; operations = refl }, (record { cuts = refl; cleared = refl; ends = refl; failures = refl; operations = refl }, (record { cuts = refl; cleared = refl; ends = refl; failures = refl; operations = refl }, (record { cuts = refl; cleared = refl; ends = refl; failures = refl; operations = refl }, (record { cuts = refl; cleared = refl; ends = refl; failures = refl; operations = refl }, (record { cuts = refl; cleared = refl; ends = refl; failures = refl; operations = refl }, (record { cuts = refl; cleared = refl; ends = refl; failures = refl; operations = refl }, (record { cuts = refl; cleared = refl; ends = refl; failures = refl; operations = refl }, (record { cuts = refl; cleared = refl; ends = refl; failures = refl; operations = refl }, (record { cuts = refl; cleared = refl; ends = refl; failures = refl; operations = refl }, (record { cuts = refl; cleared = refl; ends = refl; failures = refl; operations = refl }, (record { cuts = refl; cleared = refl; ends = refl; failures = refl; operations = refl }, (record { cuts = refl; cleared = refl; ends = refl; failures = refl; operations = refl }, (record { cuts = refl; cleared = refl; ends = refl; failures = refl; operations = refl }, (record { cuts = refl; cleared = refl; ends = refl; failures = refl; operations = refl }, (record { cuts = refl; cleared = refl; ends = refl; failures = refl; operations = refl }, (record { cuts = refl; cleared = refl; ends = refl; failures = refl; operations = refl }, (record { cuts = refl; cleared = refl; ends = refl; failures = refl; operations = refl }, (record { cuts = refl; cleared = refl; ends = refl; failures = refl; operations = refl }, (record { cuts = refl; cleared = refl; ends = refl; failures = refl; operations = refl }, (record { cuts = refl; cleared = refl; ends = refl; failures = refl; operations = refl }, (record { cuts = refl; cleared = refl; ends = refl; failures = refl; operations = refl }, tt))))))))))))))))))))))))); aborted = (tt, (tt, (tt, (tt, (tt, (tt, (tt, (tt, (tt, (tt, (tt, (tt, (tt, (tt, (tt, (tt, (tt, (tt, (tt, (tt, (tt, (tt, (tt, (tt, (tt, (tt, (tt, (tt, (tt, (tt, (tt, (tt, (tt, (tt, (tt, (tt, (tt, (tt, (tt, (tt, (tt, (tt, (tt, (tt, (tt, (tt, (tt, (tt, (tt, tt))))))))))))))))))))))))))))))))))))))))))))))))) }
+
+login_judged : JudgementLaw journals.one_disk more.login_told
+unfolding reading fault_of tcode_of header_of offset_of rcode_of value_of length_of extended_of three four part_of is_to is_same asked_by begun_by belongs start_at lowest_from label_for free_from count_flying lowest_flying label_of with_label is_write kind_of slot_of window_at is_fifo point_step doorbell_step reset_step abort_step reply_step lost_step refusal verdict request_of check_of blank_bytes command_kind elements_from made block_head decide reads_eui live_login response_bytes start_step reply_step_of_manager decide_step fresh_id left_for enter_step back_step leave_step
+login_judged = (tt, (refl, (refl, (refl, (refl, (refl, (refl, (refl, (refl, (refl, (refl, (refl, (refl, (tt, (tt, (tt, (refl, (refl, (refl, (refl, (refl, (refl, (tt, (tt, (tt, tt)))))))))))))))))))))))))
+
+login_login : LoginLaw journals.one_disk more.login_told
+unfolding reading fault_of tcode_of header_of offset_of rcode_of value_of length_of extended_of three four part_of is_to is_same asked_by begun_by belongs start_at lowest_from label_for free_from count_flying lowest_flying label_of with_label is_write kind_of slot_of window_at is_fifo point_step doorbell_step reset_step abort_step reply_step lost_step refusal verdict request_of check_of blank_bytes command_kind elements_from made block_head decide reads_eui live_login response_bytes start_step reply_step_of_manager decide_step fresh_id left_for enter_step back_step leave_step
+login_login = (record { rows = tt; decisions = refl; logins = refl }, (record { rows = tt; decisions = refl; logins = refl }, (record { rows = tt; decisions = refl; logins = refl }, (record { rows = tt; decisions = refl; logins = refl }, (record { rows = tt; decisions = refl; logins = refl }, (record { rows = (refl, tt); decisions = refl; logins = refl }, (record { rows = tt; decisions = refl; logins = refl }, (record { rows = tt; decisions = refl; logins = refl }, (record { rows = tt; decisions = refl; logins = refl }, (record { rows = tt; decisions = refl; logins = refl }, (record { rows = tt; decisions = refl; logins = refl }, (record { rows = tt; decisions = refl; logins = refl }, (record { rows = tt; decisions = refl; logins = refl }, (record { rows = tt; decisions = refl; logins = refl }, (record { rows = tt; decisions = refl; logins = refl }, (record { rows = tt; decisions = refl; logins = refl }, (record { rows = tt; decisions = refl; logins = refl }, (record { rows = tt; decisions = refl; logins = refl }, (record { rows = (refl, tt); decisions = refl; logins = refl }, (record { rows = tt; decisions = refl; logins = refl }, (record { rows = tt; decisions = refl; logins = refl }, (record { rows = tt; decisions = refl; logins = refl }, (record { rows = tt; decisions = refl; logins = refl }, (record { rows = tt; decisions = refl; logins = refl }, (record { rows = tt; decisions = refl; logins = refl }, tt)))))))))))))))))))))))))
+
+login_media : MediaLaw nobody journals.one_disk more.login_told
+unfolding reading fault_of tcode_of header_of offset_of rcode_of value_of length_of extended_of three four part_of is_to is_same asked_by begun_by belongs start_at lowest_from label_for free_from count_flying lowest_flying label_of with_label is_write kind_of slot_of window_at is_fifo point_step doorbell_step reset_step abort_step reply_step lost_step refusal verdict request_of check_of blank_bytes command_kind elements_from made block_head decide reads_eui live_login response_bytes start_step reply_step_of_manager decide_step fresh_id left_for enter_step back_step leave_step
+login_media = (record { pushes = refl; told = refl }, (record { pushes = refl; told = refl }, (record { pushes = refl; told = refl }, (record { pushes = refl; told = refl }, (record { pushes = refl; told = refl }, (record { pushes = refl; told = refl }, (record { pushes = refl; told = refl }, (record { pushes = refl; told = refl }, (record { pushes = refl; told = refl }, (record { pushes = refl; told = refl }, (record { pushes = refl; told = refl }, (record { pushes = refl; told = refl }, (record { pushes = refl; told = refl }, (record { pushes = refl; told = refl }, (record { pushes = refl; told = refl }, (record { pushes = refl; told = refl }, (record { pushes = refl; told = refl }, (record { pushes = refl; told = refl }, (record { pushes = refl; told = refl }, (record { pushes = refl; told = refl }, (record { pushes = refl; told = refl }, (record { pushes = refl; told = refl }, (record { pushes = refl; told = refl }, (record { pushes = refl; told = refl }, (record { pushes = refl; told = refl }, tt)))))))))))))))))))))))))
+
+login_packets : EachMoment (SentAt nobody) more.login_told
+unfolding reading fault_of tcode_of header_of offset_of rcode_of value_of length_of extended_of three four part_of is_to is_same asked_by begun_by belongs start_at lowest_from label_for free_from count_flying lowest_flying label_of with_label is_write kind_of slot_of window_at is_fifo point_step doorbell_step reset_step abort_step reply_step lost_step refusal verdict request_of check_of blank_bytes command_kind elements_from made block_head decide reads_eui live_login response_bytes start_step reply_step_of_manager decide_step fresh_id left_for enter_step back_step leave_step
+login_packets = (tt, (tt, ((refl, λ e. record { in_generation = refl; spelled = record { packet = write_response (journals.to_target 0) 0; canonical = refl; retry = refl; priority = refl; source = refl; destination = refl }; label = tt }), (tt, (tt, ((refl, λ e. record { in_generation = refl; spelled = record { packet = write_block (journals.to_first 0) 0x13000020 (quad_bytes (0x01000000 ∷ 0x12000020 ∷ [])); canonical = refl; retry = refl; priority = refl; source = refl; destination = refl }; label = refl }), (tt, ((refl, λ e. record { in_generation = refl; spelled = record { packet = write_response (journals.to_target 0) 0; canonical = refl; retry = refl; priority = refl; source = refl; destination = refl }; label = tt }), (tt, ((refl, λ e. record { in_generation = refl; spelled = record { packet = write_block (journals.to_first 0) 0x12001100 (more.next_response); canonical = refl; retry = refl; priority = refl; source = refl; destination = refl }; label = refl }), (tt, (tt, ((refl, λ e. record { in_generation = refl; spelled = record { packet = read_quadlet_response (journals.to_target 0) 0 1; canonical = refl; retry = refl; priority = refl; source = refl; destination = refl }; label = tt }), (tt, ((refl, λ e. record { in_generation = refl; spelled = record { packet = read_quadlet (journals.to_first 0) 0xfffff0000410; canonical = refl; retry = refl; priority = refl; source = refl; destination = refl }; label = refl }), (tt, ((refl, λ e. record { in_generation = refl; spelled = record { packet = read_quadlet_response (journals.to_target 0) 0 0x02000000; canonical = refl; retry = refl; priority = refl; source = refl; destination = refl }; label = tt }), (tt, ((refl, λ e. record { in_generation = refl; spelled = record { packet = read_quadlet (journals.to_first 0) 0xfffff000040c; canonical = refl; retry = refl; priority = refl; source = refl; destination = refl }; label = refl }), (tt, ((refl, λ e. record { in_generation = refl; spelled = record { packet = read_block_response (journals.to_target 0) 0 (management_bytes more.next_login_orb); canonical = refl; retry = refl; priority = refl; source = refl; destination = refl }; label = tt }), (tt, (tt, ((refl, λ e. record { in_generation = refl; spelled = record { packet = read_block (journals.to_first 0) 0x12000020 32; canonical = refl; retry = refl; priority = refl; source = refl; destination = refl }; label = refl }), ((refl, λ e. record { in_generation = refl; spelled = record { packet = write_response (journals.to_first 0) 0; canonical = refl; retry = refl; priority = refl; source = refl; destination = refl }; label = tt }), (tt, (tt, ((refl, λ e. record { in_generation = refl; spelled = record { packet = write_block (journals.to_target 0) 0xfffff0010000 (quad_bytes (0 ∷ 0x12000020 ∷ [])); canonical = refl; retry = refl; priority = refl; source = refl; destination = refl }; label = refl }), (tt, (tt, (tt, ((refl, λ e. record { in_generation = refl; spelled = record { packet = write_response (journals.to_target 0) 0; canonical = refl; retry = refl; priority = refl; source = refl; destination = refl }; label = tt }), (tt, (tt, ((refl, λ e. record { in_generation = refl; spelled = record { packet = write_block (journals.to_first 0) 0x12002000 (quad_bytes (0x01000000 ∷ 0x12000000 ∷ [])); canonical = refl; retry = refl; priority = refl; source = refl; destination = refl }; label = refl }), (tt, (tt, (tt, ((refl, λ e. record { in_generation = refl; spelled = record { packet = read_block_response (journals.to_target 0) 0 (management_bytes more.logout_orb); canonical = refl; retry = refl; priority = refl; source = refl; destination = refl }; label = tt }), (tt, (tt, ((refl, λ e. record { in_generation = refl; spelled = record { packet = read_block (journals.to_first 0) 0x12000000 32; canonical = refl; retry = refl; priority = refl; source = refl; destination = refl }; label = refl }), ((refl, λ e. record { in_generation = refl; spelled = record { packet = write_response (journals.to_first 0) 0; canonical = refl; retry = refl; priority = refl; source = refl; destination = refl }; label = tt }), (tt, (tt, ((refl, λ e. record { in_generation = refl; spelled = record { packet = write_block (journals.to_target 0) 0xfffff0010000 (quad_bytes (0 ∷ 0x12000000 ∷ [])); canonical = refl; retry = refl; priority = refl; source = refl; destination = refl }; label = refl }), (tt, (tt, (tt, tt)))))))))))))))))))))))))))))))))))))))))))))))))
+
+login_answers : EachTurn (AnswersLaw nobody journals.one_disk) more.login_told
+unfolding reading fault_of tcode_of header_of offset_of rcode_of value_of length_of extended_of three four part_of is_to is_same asked_by begun_by belongs start_at lowest_from label_for free_from count_flying lowest_flying label_of with_label is_write kind_of slot_of window_at is_fifo point_step doorbell_step reset_step abort_step reply_step lost_step refusal verdict request_of check_of blank_bytes command_kind elements_from made block_head decide reads_eui live_login response_bytes start_step reply_step_of_manager decide_step fresh_id left_for enter_step back_step leave_step
+login_answers = (record { begins = λ e. tt }, (record { begins = λ e. tt }, (record { begins = λ e. (refl, tt) }, (record { begins = λ e. tt }, (record { begins = λ e. (refl, tt) }, (record { begins = λ e. tt }, (record { begins = λ e. (refl, tt) }, (record { begins = λ e. tt }, (record { begins = λ e. (refl, tt) }, (record { begins = λ e. tt }, (record { begins = λ e. (refl, tt) }, (record { begins = λ e. tt }, (record { begins = λ e. (refl, tt) }, (record { begins = λ e. tt }, (record { begins = λ e. tt }, (record { begins = λ e. tt }, (record { begins = λ e. tt }, (record { begins = λ e. (refl, tt) }, (record { begins = λ e. tt }, (record { begins = λ e. (refl, tt) }, (record { begins = λ e. tt }, (record { begins = λ e. (refl, tt) }, (record { begins = λ e. tt }, (record { begins = λ e. tt }, (record { begins = λ e. tt }, tt)))))))))))))))))))))))))
+
+login_requests : EachTurn (RequestsLaw nobody journals.one_disk) more.login_told
+unfolding reading fault_of tcode_of header_of offset_of rcode_of value_of length_of extended_of three four part_of is_to is_same asked_by begun_by belongs start_at lowest_from label_for free_from count_flying lowest_flying label_of with_label is_write kind_of slot_of window_at is_fifo point_step doorbell_step reset_step abort_step reply_step lost_step refusal verdict request_of check_of blank_bytes command_kind elements_from made block_head decide reads_eui live_login response_bytes start_step reply_step_of_manager decide_step fresh_id left_for enter_step back_step leave_step
+login_requests = (λ e. tt, (λ e. tt, (λ e. tt, (λ e. (record { sender = refl; receiver = refl; spelled = refl }, tt), (λ e. tt, (λ e. (record { sender = refl; receiver = refl; spelled = refl }, tt), (λ e. tt, (λ e. (record { sender = refl; receiver = refl; spelled = refl }, tt), (λ e. tt, (λ e. (record { sender = refl; receiver = refl; spelled = refl }, tt), (λ e. tt, (λ e. tt, (λ e. (record { sender = refl; receiver = refl; spelled = refl }, tt), (λ e. tt, (λ e. (record { sender = refl; receiver = refl; spelled = refl }, tt), (λ e. tt, (λ e. tt, (λ e. tt, (λ e. (record { sender = refl; receiver = refl; spelled = refl }, tt), (λ e. tt, (λ e. tt, (λ e. (record { sender = refl; receiver = refl; spelled = refl }, tt), (λ e. tt, (λ e. (record { sender = refl; receiver = refl; spelled = refl }, tt), (λ e. tt, tt)))))))))))))))))))))))))
+
+login_after : EachTurn (AfterTurn nobody journals.one_disk) more.login_told
+unfolding reading fault_of tcode_of header_of offset_of rcode_of value_of length_of extended_of three four part_of is_to is_same asked_by begun_by belongs start_at lowest_from label_for free_from count_flying lowest_flying label_of with_label is_write kind_of slot_of window_at is_fifo point_step doorbell_step reset_step abort_step reply_step lost_step refusal verdict request_of check_of blank_bytes command_kind elements_from made block_head decide reads_eui live_login response_bytes start_step reply_step_of_manager decide_step fresh_id left_for enter_step back_step leave_step
+login_after = (record { agents = (λ e. tt, (λ e. tt, (λ e. tt, (λ e. tt, (λ e. tt, (λ e. tt, (λ e. tt, (λ e. tt, tt)))))))); management = tt; roms = (λ e. tt, tt) }, (record { agents = (λ e. tt, (λ e. tt, (λ e. tt, (λ e. tt, (λ e. tt, (λ e. tt, (λ e. tt, (λ e. tt, tt)))))))); management = tt; roms = (λ e. tt, tt) }, (record { agents = (λ e. tt, (λ e. tt, (λ e. tt, (λ e. tt, (λ e. tt, (λ e. tt, (λ e. tt, (λ e. tt, tt)))))))); management = λ e. refl; roms = (λ e. tt, tt) }, (record { agents = (λ e. tt, (λ e. tt, (λ e. tt, (λ e. tt, (λ e. tt, (λ e. tt, (λ e. tt, (λ e. tt, tt)))))))); management = λ e. refl; roms = (λ e. tt, tt) }, (record { agents = (λ e. tt, (λ e. tt, (λ e. tt, (λ e. tt, (λ e. tt, (λ e. tt, (λ e. tt, (λ e. tt, tt)))))))); management = λ e. refl; roms = (λ e. tt, tt) }, (record { agents = (λ e. tt, (λ e. tt, (λ e. tt, (λ e. tt, (λ e. tt, (λ e. tt, (λ e. tt, (λ e. tt, tt)))))))); management = λ e. refl; roms = (λ e. tt, tt) }, (record { agents = (λ e. tt, (λ e. tt, (λ e. tt, (λ e. tt, (λ e. tt, (λ e. tt, (λ e. tt, (λ e. tt, tt)))))))); management = λ e. refl; roms = (λ e. tt, tt) }, (record { agents = (λ e. tt, (λ e. tt, (λ e. tt, (λ e. tt, (λ e. tt, (λ e. tt, (λ e. tt, (λ e. tt, tt)))))))); management = λ e. refl; roms = (λ e. tt, tt) }, (record { agents = (λ e. tt, (λ e. tt, (λ e. tt, (λ e. tt, (λ e. tt, (λ e. tt, (λ e. tt, (λ e. tt, tt)))))))); management = λ e. refl; roms = (λ e. tt, tt) }, (record { agents = (λ e. tt, (λ e. tt, (λ e. tt, (λ e. tt, (λ e. tt, (λ e. tt, (λ e. tt, (λ e. tt, tt)))))))); management = λ e. refl; roms = (λ e. tt, tt) }, (record { agents = (λ e. tt, (λ e. tt, (λ e. tt, (λ e. tt, (λ e. tt, (λ e. tt, (λ e. tt, (λ e. tt, tt)))))))); management = λ e. refl; roms = (λ e. tt, tt) }, (record { agents = (λ e. tt, (λ e. tt, (λ e. tt, (λ e. tt, (λ e. tt, (λ e. tt, (λ e. tt, (λ e. tt, tt)))))))); management = λ e. refl; roms = (λ e. tt, tt) }, (record { agents = (λ e. tt, (λ e. tt, (λ e. tt, (λ e. tt, (λ e. tt, (λ e. tt, (λ e. tt, (λ e. tt, tt)))))))); management = λ e. refl; roms = (λ e. tt, tt) }, (record { agents = (λ e. tt, (λ e. tt, (λ e. tt, (λ e. tt, (λ e. tt, (λ e. tt, (λ e. tt, (λ e. tt, tt)))))))); management = tt; roms = (λ e. tt, tt) }, (record { agents = (λ e. tt, (λ e. tt, (λ e. tt, (λ e. tt, (λ e. tt, (λ e. tt, (λ e. tt, (λ e. tt, tt)))))))); management = tt; roms = (λ e. tt, tt) }, (record { agents = (λ e. tt, (λ e. tt, (λ e. tt, (λ e. tt, (λ e. tt, (λ e. tt, (λ e. tt, (λ e. tt, tt)))))))); management = tt; roms = (λ e. tt, tt) }, (record { agents = (λ e. tt, (λ e. tt, (λ e. tt, (λ e. tt, (λ e. tt, (λ e. tt, (λ e. tt, (λ e. tt, tt)))))))); management = tt; roms = (λ e. tt, tt) }, (record { agents = (λ e. tt, (λ e. tt, (λ e. tt, (λ e. tt, (λ e. tt, (λ e. tt, (λ e. tt, (λ e. tt, tt)))))))); management = λ e. refl; roms = (λ e. tt, tt) }, (record { agents = (λ e. tt, (λ e. tt, (λ e. tt, (λ e. tt, (λ e. tt, (λ e. tt, (λ e. tt, (λ e. tt, tt)))))))); management = λ e. refl; roms = (λ e. tt, tt) }, (record { agents = (λ e. tt, (λ e. tt, (λ e. tt, (λ e. tt, (λ e. tt, (λ e. tt, (λ e. tt, (λ e. tt, tt)))))))); management = λ e. refl; roms = (λ e. tt, tt) }, (record { agents = (λ e. tt, (λ e. tt, (λ e. tt, (λ e. tt, (λ e. tt, (λ e. tt, (λ e. tt, (λ e. tt, tt)))))))); management = λ e. refl; roms = (λ e. tt, tt) }, (record { agents = (λ e. tt, (λ e. tt, (λ e. tt, (λ e. tt, (λ e. tt, (λ e. tt, (λ e. tt, (λ e. tt, tt)))))))); management = λ e. refl; roms = (λ e. tt, tt) }, (record { agents = (λ e. tt, (λ e. tt, (λ e. tt, (λ e. tt, (λ e. tt, (λ e. tt, (λ e. tt, (λ e. tt, tt)))))))); management = tt; roms = (λ e. tt, tt) }, (record { agents = (λ e. tt, (λ e. tt, (λ e. tt, (λ e. tt, (λ e. tt, (λ e. tt, (λ e. tt, (λ e. tt, tt)))))))); management = tt; roms = (λ e. tt, tt) }, (record { agents = (λ e. tt, (λ e. tt, (λ e. tt, (λ e. tt, (λ e. tt, (λ e. tt, (λ e. tt, (λ e. tt, tt)))))))); management = tt; roms = (λ e. tt, tt) }, tt)))))))))))))))))))))))))
+
+login_once : OnceLaw nobody more.login_told
+unfolding reading fault_of tcode_of header_of offset_of rcode_of value_of length_of extended_of three four part_of is_to is_same asked_by begun_by belongs start_at lowest_from label_for free_from count_flying lowest_flying label_of with_label is_write kind_of slot_of window_at is_fifo point_step doorbell_step reset_step abort_step reply_step lost_step refusal verdict request_of check_of blank_bytes command_kind elements_from made block_head decide reads_eui live_login response_bytes start_step reply_step_of_manager decide_step fresh_id left_for enter_step back_step leave_step
+login_once = (tt, ((λ e. refl, λ e. record { once = refl; served = refl }), (tt, (tt, ((λ e. refl, tt), (tt, ((λ e. refl, λ e. record { once = refl; served = refl }), (tt, ((λ e. refl, tt), (tt, (tt, ((λ e. refl, λ e. record { once = refl; served = refl }), (tt, ((λ e. refl, tt), (tt, ((λ e. refl, λ e. record { once = refl; served = refl }), (tt, ((λ e. refl, tt), (tt, ((λ e. refl, λ e. record { once = refl; served = refl }), (tt, ((λ e. refl, tt), ((λ e. refl, λ e. record { once = refl; served = refl }), (tt, (tt, ((λ e. refl, tt), (tt, (tt, (tt, (tt, ((λ e. refl, λ e. record { once = refl; served = refl }), (tt, (tt, ((λ e. refl, tt), (tt, (tt, (tt, ((λ e. refl, λ e. record { once = refl; served = refl }), (tt, ((λ e. refl, tt), ((λ e. refl, λ e. record { once = refl; served = refl }), (tt, (tt, ((λ e. refl, tt), (tt, (tt, (tt, (tt, (tt, tt)))))))))))))))))))))))))))))))))))))))))))))))))
+
+login_order : OrderLaw nobody more.login_told
+unfolding reading fault_of tcode_of header_of offset_of rcode_of value_of length_of extended_of three four part_of is_to is_same asked_by begun_by belongs start_at lowest_from label_for free_from count_flying lowest_flying label_of with_label is_write kind_of slot_of window_at is_fifo point_step doorbell_step reset_step abort_step reply_step lost_step refusal verdict request_of check_of blank_bytes command_kind elements_from made block_head decide reads_eui live_login response_bytes start_step reply_step_of_manager decide_step fresh_id left_for enter_step back_step leave_step
+login_order = (tt, (tt, (tt, (tt, (tt, (tt, (tt, (tt, (tt, (tt, (tt, (tt, (tt, (tt, (tt, (tt, (tt, (tt, (tt, (tt, (tt, (tt, (tt, (tt, (tt, (tt, (tt, (tt, (tt, (tt, (tt, (tt, (tt, (tt, (tt, (tt, (tt, (tt, (tt, (tt, (tt, (tt, (tt, (tt, (tt, (tt, (tt, (tt, (tt, tt)))))))))))))))))))))))))))))))))))))))))))))))))
+
+login_execution : ExecutionLaw nobody journals.one_disk more.login_told
+unfolding reading fault_of tcode_of header_of offset_of rcode_of value_of length_of extended_of three four part_of is_to is_same asked_by begun_by belongs start_at lowest_from label_for free_from count_flying lowest_flying label_of with_label is_write kind_of slot_of window_at is_fifo point_step doorbell_step reset_step abort_step reply_step lost_step refusal verdict request_of check_of blank_bytes command_kind elements_from made block_head decide reads_eui live_login response_bytes start_step reply_step_of_manager decide_step fresh_id left_for enter_step back_step leave_step
+login_execution = (tt, (tt, (tt, (tt, (tt, (tt, (tt, (tt, (tt, (tt, (tt, (tt, (tt, (tt, (tt, (tt, (tt, (tt, (tt, (tt, (tt, (tt, (tt, (tt, (tt, (tt, (tt, (tt, (tt, (tt, (tt, (tt, (tt, (tt, (tt, (tt, (tt, (tt, (tt, (tt, (tt, (tt, (tt, (tt, (tt, (tt, (tt, (tt, (tt, tt)))))))))))))))))))))))))))))))))))))))))))))))))
+
+login_carried : CarriedLaw nobody journals.one_disk more.login_told
+unfolding reading fault_of tcode_of header_of offset_of rcode_of value_of length_of extended_of three four part_of is_to is_same asked_by begun_by belongs start_at lowest_from label_for free_from count_flying lowest_flying label_of with_label is_write kind_of slot_of window_at is_fifo point_step doorbell_step reset_step abort_step reply_step lost_step refusal verdict request_of check_of blank_bytes command_kind elements_from made block_head decide reads_eui live_login response_bytes start_step reply_step_of_manager decide_step fresh_id left_for enter_step back_step leave_step
+login_carried = record { carried = (tt, (tt, (tt, (tt, (tt, (tt, (tt, (tt, (tt, (tt, (tt, (tt, (tt, (tt, (tt, (tt, (tt, (tt, (tt, (tt, (tt, (tt, (tt, (tt, (tt, (tt, (tt, (tt, (tt, (tt, (tt, (tt, (tt, (tt, (tt, (tt, (tt, (tt, (tt, (tt, (tt, (tt, (tt, (tt, (tt, (tt, (tt, (tt, (tt, tt))))))))))))))))))))))))))))))))))))))))))))))))); due = (refl, (refl, (refl, (refl, (refl, (refl, (refl, (refl, (refl, (refl, (refl, (refl, (refl, (refl, (refl, (refl, (refl, (refl, (refl, (refl, (refl, (refl, (refl, (refl, (refl, tt))))))))))))))))))))))))) }
+
+login_status : StatusLaw nobody more.login_told
+unfolding reading fault_of tcode_of header_of offset_of rcode_of value_of length_of extended_of three four part_of is_to is_same asked_by begun_by belongs start_at lowest_from label_for free_from count_flying lowest_flying label_of with_label is_write kind_of slot_of window_at is_fifo point_step doorbell_step reset_step abort_step reply_step lost_step refusal verdict request_of check_of blank_bytes command_kind elements_from made block_head decide reads_eui live_login response_bytes start_step reply_step_of_manager decide_step fresh_id left_for enter_step back_step leave_step
+login_status = record { taken = (tt, (tt, (tt, (tt, (tt, (tt, (tt, (tt, (tt, (tt, (tt, (tt, (tt, (tt, (tt, (tt, (tt, (tt, (tt, (tt, (tt, (tt, (tt, (tt, (tt, (tt, (tt, (tt, (tt, (tt, (tt, (tt, (tt, (tt, (tt, (tt, (tt, (tt, (tt, (tt, (tt, (tt, (tt, (tt, (tt, (tt, (tt, (tt, (tt, tt))))))))))))))))))))))))))))))))))))))))))))))))); each = (refl, (refl, (refl, (refl, (refl, (refl, (refl, (refl, (refl, (refl, (refl, (refl, (refl, (refl, (refl, (refl, (refl, (refl, (refl, (refl, (refl, (refl, (refl, (refl, (refl, tt))))))))))))))))))))))))) }
+
+login_answer : AnswerLaw nobody journals.one_disk more.login_told
+unfolding reading fault_of tcode_of header_of offset_of rcode_of value_of length_of extended_of three four part_of is_to is_same asked_by begun_by belongs start_at lowest_from label_for free_from count_flying lowest_flying label_of with_label is_write kind_of slot_of window_at is_fifo point_step doorbell_step reset_step abort_step reply_step lost_step refusal verdict request_of check_of blank_bytes command_kind elements_from made block_head decide reads_eui live_login response_bytes start_step reply_step_of_manager decide_step fresh_id left_for enter_step back_step leave_step
+login_answer = (tt, (tt, (tt, (tt, (tt, (tt, (tt, (tt, (tt, (tt, (tt, (tt, (tt, (tt, (tt, (tt, (tt, (tt, (tt, (tt, (tt, (tt, (tt, (tt, (tt, (tt, (tt, (tt, (tt, (tt, (tt, (tt, (tt, (tt, (tt, (tt, (tt, (tt, (tt, (tt, (tt, (tt, (tt, (tt, (tt, (tt, (tt, (tt, (tt, tt)))))))))))))))))))))))))))))))))))))))))))))))))
+
+reconnect_cause : CauseLaw nobody journals.one_disk more.reconnect_told
+unfolding reading fault_of tcode_of header_of offset_of rcode_of value_of length_of extended_of three four part_of is_to is_same asked_by begun_by belongs start_at lowest_from label_for free_from count_flying lowest_flying label_of with_label is_write kind_of slot_of window_at is_fifo point_step doorbell_step reset_step abort_step reply_step lost_step refusal verdict request_of check_of blank_bytes command_kind elements_from made block_head decide reads_eui live_login response_bytes start_step reply_step_of_manager decide_step fresh_id left_for enter_step back_step leave_step
+reconnect_cause = record { causes = (record { cuts = refl; cleared = refl; ends = refl; failures = refl; operations = refl }, (record { cuts = refl; cleared = refl; ends = refl; failures = refl; operations = refl }, (record { cuts = refl; cleared = refl; ends = refl; failures = refl; operations = refl }, (record { cuts = refl; cleared = refl; ends = refl; failures = refl; operations = refl }, (record { cuts = refl; cleared = refl; ends = refl; failures = refl; operations = refl }, (record { cuts = refl; cleared = refl; ends = refl; failures = refl; operations = refl }, (record { cuts = refl; cleared = refl; ends = refl; failures = refl; operations = refl }, (record { cuts = refl; cleared = refl; ends = refl; failures = refl; operations = refl }, (record { cuts = refl; cleared = refl; ends = refl; failures = refl; operations = refl }, (record { cuts = refl; cleared = refl; ends = refl; failures = refl; operations = refl }, (record { cuts = refl; cleared = refl; ends = refl; failures = refl; operations = refl }, (record { cuts = refl; cleared = refl; ends = refl; failures = refl; operations = refl }, (record { cuts = refl; cleared = refl; ends = refl; failures = refl; operations = refl }, (record { cuts = refl; cleared = refl; ends = refl; failures = refl; operations = refl }, (record { cuts = refl; cleared = refl; ends = refl; failures = refl; operations = refl }, (record { cuts = refl; cleared = refl; ends = refl; failures = refl; operations = refl }, (record { cuts = refl; cleared = refl; ends = refl; failures = refl; operations = refl }, (record { cuts = refl; cleared = refl; ends = refl; failures = refl; operations = refl }, (record { cuts = refl; cleared = refl; ends = refl; failures = refl; operations = refl }, tt))))))))))))))))))); aborted = (tt, (tt, (tt, (tt, (tt, (tt, (tt, (tt, (tt, (tt, (tt, (tt, (tt, (tt, (tt, (tt, (tt, (tt, (tt, (tt, (tt, (tt, (tt, (tt, (tt, (tt, (tt, (tt, (tt, (tt, (tt, (tt, (tt, (tt, (tt, tt))))))))))))))))))))))))))))))))))) }
+
+reconnect_judged : JudgementLaw journals.one_disk more.reconnect_told
+unfolding reading fault_of tcode_of header_of offset_of rcode_of value_of length_of extended_of three four part_of is_to is_same asked_by begun_by belongs start_at lowest_from label_for free_from count_flying lowest_flying label_of with_label is_write kind_of slot_of window_at is_fifo point_step doorbell_step reset_step abort_step reply_step lost_step refusal verdict request_of check_of blank_bytes command_kind elements_from made block_head decide reads_eui live_login response_bytes start_step reply_step_of_manager decide_step fresh_id left_for enter_step back_step leave_step
+reconnect_judged = (tt, (refl, (refl, (refl, (refl, (refl, (refl, (refl, (refl, (refl, (refl, (tt, (tt, (tt, (tt, (tt, (tt, (tt, (tt, tt)))))))))))))))))))
+
+reconnect_login : LoginLaw journals.one_disk more.reconnect_told
+unfolding reading fault_of tcode_of header_of offset_of rcode_of value_of length_of extended_of three four part_of is_to is_same asked_by begun_by belongs start_at lowest_from label_for free_from count_flying lowest_flying label_of with_label is_write kind_of slot_of window_at is_fifo point_step doorbell_step reset_step abort_step reply_step lost_step refusal verdict request_of check_of blank_bytes command_kind elements_from made block_head decide reads_eui live_login response_bytes start_step reply_step_of_manager decide_step fresh_id left_for enter_step back_step leave_step
+reconnect_login = (record { rows = tt; decisions = refl; logins = refl }, (record { rows = tt; decisions = refl; logins = refl }, (record { rows = tt; decisions = refl; logins = refl }, (record { rows = (refl, tt); decisions = refl; logins = refl }, (record { rows = tt; decisions = refl; logins = refl }, (record { rows = tt; decisions = refl; logins = refl }, (record { rows = tt; decisions = refl; logins = refl }, (record { rows = tt; decisions = refl; logins = refl }, (record { rows = tt; decisions = refl; logins = refl }, (record { rows = tt; decisions = refl; logins = refl }, (record { rows = tt; decisions = refl; logins = refl }, (record { rows = tt; decisions = refl; logins = refl }, (record { rows = tt; decisions = refl; logins = refl }, (record { rows = tt; decisions = refl; logins = refl }, (record { rows = tt; decisions = refl; logins = refl }, (record { rows = tt; decisions = refl; logins = refl }, (record { rows = tt; decisions = refl; logins = refl }, (record { rows = tt; decisions = refl; logins = refl }, (record { rows = tt; decisions = refl; logins = refl }, tt)))))))))))))))))))
+
+reconnect_media : MediaLaw nobody journals.one_disk more.reconnect_told
+unfolding reading fault_of tcode_of header_of offset_of rcode_of value_of length_of extended_of three four part_of is_to is_same asked_by begun_by belongs start_at lowest_from label_for free_from count_flying lowest_flying label_of with_label is_write kind_of slot_of window_at is_fifo point_step doorbell_step reset_step abort_step reply_step lost_step refusal verdict request_of check_of blank_bytes command_kind elements_from made block_head decide reads_eui live_login response_bytes start_step reply_step_of_manager decide_step fresh_id left_for enter_step back_step leave_step
+reconnect_media = (record { pushes = refl; told = refl }, (record { pushes = refl; told = refl }, (record { pushes = refl; told = refl }, (record { pushes = refl; told = refl }, (record { pushes = refl; told = refl }, (record { pushes = refl; told = refl }, (record { pushes = refl; told = refl }, (record { pushes = refl; told = refl }, (record { pushes = refl; told = refl }, (record { pushes = refl; told = refl }, (record { pushes = refl; told = refl }, (record { pushes = refl; told = refl }, (record { pushes = refl; told = refl }, (record { pushes = refl; told = refl }, (record { pushes = refl; told = refl }, (record { pushes = refl; told = refl }, (record { pushes = refl; told = refl }, (record { pushes = refl; told = refl }, (record { pushes = refl; told = refl }, tt)))))))))))))))))))
+
+reconnect_packets : EachMoment (SentAt nobody) more.reconnect_told
+unfolding reading fault_of tcode_of header_of offset_of rcode_of value_of length_of extended_of three four part_of is_to is_same asked_by begun_by belongs start_at lowest_from label_for free_from count_flying lowest_flying label_of with_label is_write kind_of slot_of window_at is_fifo point_step doorbell_step reset_step abort_step reply_step lost_step refusal verdict request_of check_of blank_bytes command_kind elements_from made block_head decide reads_eui live_login response_bytes start_step reply_step_of_manager decide_step fresh_id left_for enter_step back_step leave_step
+reconnect_packets = (tt, (tt, ((refl, λ e. record { in_generation = refl; spelled = record { packet = write_response (more.to_new_target) 0; canonical = refl; retry = refl; priority = refl; source = refl; destination = refl }; label = tt }), (tt, (tt, ((refl, λ e. record { in_generation = refl; spelled = record { packet = write_block (more.to_new_first) 0x12002000 (quad_bytes (0x01000000 ∷ 0x12000000 ∷ [])); canonical = refl; retry = refl; priority = refl; source = refl; destination = refl }; label = refl }), (tt, (tt, (tt, ((refl, λ e. record { in_generation = refl; spelled = record { packet = read_quadlet_response (more.to_new_target) 0 1; canonical = refl; retry = refl; priority = refl; source = refl; destination = refl }; label = tt }), (tt, ((refl, λ e. record { in_generation = refl; spelled = record { packet = read_quadlet (more.to_new_first) 0xfffff0000410; canonical = refl; retry = refl; priority = refl; source = refl; destination = refl }; label = refl }), (tt, ((refl, λ e. record { in_generation = refl; spelled = record { packet = read_quadlet_response (more.to_new_target) 0 0x02000000; canonical = refl; retry = refl; priority = refl; source = refl; destination = refl }; label = tt }), (tt, ((refl, λ e. record { in_generation = refl; spelled = record { packet = read_quadlet (more.to_new_first) 0xfffff000040c; canonical = refl; retry = refl; priority = refl; source = refl; destination = refl }; label = refl }), (tt, ((refl, λ e. record { in_generation = refl; spelled = record { packet = read_block_response more.to_new_target 0 (management_bytes more.reconnect_orb); canonical = refl; retry = refl; priority = refl; source = refl; destination = refl }; label = tt }), (tt, (tt, ((refl, λ e. record { in_generation = refl; spelled = record { packet = read_block more.to_new_first 0x12000000 32; canonical = refl; retry = refl; priority = refl; source = refl; destination = refl }; label = refl }), ((refl, λ e. record { in_generation = refl; spelled = record { packet = write_response (more.to_new_first) 0; canonical = refl; retry = refl; priority = refl; source = refl; destination = refl }; label = tt }), (tt, (tt, ((refl, λ e. record { in_generation = refl; spelled = record { packet = write_block (more.to_new_target) 0xfffff0010000 (quad_bytes (0 ∷ 0x12000000 ∷ [])); canonical = refl; retry = refl; priority = refl; source = refl; destination = refl }; label = refl }), (tt, (tt, (tt, (tt, (tt, (tt, (tt, (tt, (tt, (tt, tt)))))))))))))))))))))))))))))))))))
+
+reconnect_answers : EachTurn (AnswersLaw nobody journals.one_disk) more.reconnect_told
+unfolding reading fault_of tcode_of header_of offset_of rcode_of value_of length_of extended_of three four part_of is_to is_same asked_by begun_by belongs start_at lowest_from label_for free_from count_flying lowest_flying label_of with_label is_write kind_of slot_of window_at is_fifo point_step doorbell_step reset_step abort_step reply_step lost_step refusal verdict request_of check_of blank_bytes command_kind elements_from made block_head decide reads_eui live_login response_bytes start_step reply_step_of_manager decide_step fresh_id left_for enter_step back_step leave_step
+reconnect_answers = (record { begins = λ e. tt }, (record { begins = λ e. tt }, (record { begins = λ e. (refl, tt) }, (record { begins = λ e. tt }, (record { begins = λ e. (refl, tt) }, (record { begins = λ e. tt }, (record { begins = λ e. (refl, tt) }, (record { begins = λ e. tt }, (record { begins = λ e. (refl, tt) }, (record { begins = λ e. tt }, (record { begins = λ e. (refl, tt) }, (record { begins = λ e. tt }, (record { begins = λ e. tt }, (record { begins = λ e. tt }, (record { begins = λ e. tt }, (record { begins = λ e. tt }, (record { begins = λ e. tt }, (record { begins = λ e. tt }, (record { begins = λ e. tt }, tt)))))))))))))))))))
+
+reconnect_requests : EachTurn (RequestsLaw nobody journals.one_disk) more.reconnect_told
+unfolding reading fault_of tcode_of header_of offset_of rcode_of value_of length_of extended_of three four part_of is_to is_same asked_by begun_by belongs start_at lowest_from label_for free_from count_flying lowest_flying label_of with_label is_write kind_of slot_of window_at is_fifo point_step doorbell_step reset_step abort_step reply_step lost_step refusal verdict request_of check_of blank_bytes command_kind elements_from made block_head decide reads_eui live_login response_bytes start_step reply_step_of_manager decide_step fresh_id left_for enter_step back_step leave_step
+reconnect_requests = (λ e. tt, (λ e. tt, (λ e. tt, (λ e. (record { sender = refl; receiver = refl; spelled = refl }, tt), (λ e. tt, (λ e. (record { sender = refl; receiver = refl; spelled = refl }, tt), (λ e. tt, (λ e. (record { sender = refl; receiver = refl; spelled = refl }, tt), (λ e. tt, (λ e. tt, (λ e. (record { sender = refl; receiver = refl; spelled = refl }, tt), (λ e. tt, (λ e. (record { sender = refl; receiver = refl; spelled = refl }, tt), (λ e. tt, (λ e. tt, (λ e. tt, (λ e. tt, (λ e. tt, (λ e. tt, tt)))))))))))))))))))
+
+reconnect_after : EachTurn (AfterTurn nobody journals.one_disk) more.reconnect_told
+unfolding reading fault_of tcode_of header_of offset_of rcode_of value_of length_of extended_of three four part_of is_to is_same asked_by begun_by belongs start_at lowest_from label_for free_from count_flying lowest_flying label_of with_label is_write kind_of slot_of window_at is_fifo point_step doorbell_step reset_step abort_step reply_step lost_step refusal verdict request_of check_of blank_bytes command_kind elements_from made block_head decide reads_eui live_login response_bytes start_step reply_step_of_manager decide_step fresh_id left_for enter_step back_step leave_step
+reconnect_after = (record { agents = (λ e. tt, (λ e. tt, (λ e. tt, (λ e. tt, (λ e. tt, (λ e. tt, (λ e. tt, (λ e. tt, tt)))))))); management = tt; roms = (λ e. tt, tt) }, (record { agents = (λ e. tt, (λ e. tt, (λ e. tt, (λ e. tt, (λ e. tt, (λ e. tt, (λ e. tt, (λ e. tt, tt)))))))); management = tt; roms = (λ e. tt, tt) }, (record { agents = (λ e. tt, (λ e. tt, (λ e. tt, (λ e. tt, (λ e. tt, (λ e. tt, (λ e. tt, (λ e. tt, tt)))))))); management = λ e. refl; roms = (λ e. tt, tt) }, (record { agents = (λ e. tt, (λ e. tt, (λ e. tt, (λ e. tt, (λ e. tt, (λ e. tt, (λ e. tt, (λ e. tt, tt)))))))); management = λ e. refl; roms = (λ e. tt, tt) }, (record { agents = (λ e. tt, (λ e. tt, (λ e. tt, (λ e. tt, (λ e. tt, (λ e. tt, (λ e. tt, (λ e. tt, tt)))))))); management = λ e. refl; roms = (λ e. tt, tt) }, (record { agents = (λ e. tt, (λ e. tt, (λ e. tt, (λ e. tt, (λ e. tt, (λ e. tt, (λ e. tt, (λ e. tt, tt)))))))); management = λ e. refl; roms = (λ e. tt, tt) }, (record { agents = (λ e. tt, (λ e. tt, (λ e. tt, (λ e. tt, (λ e. tt, (λ e. tt, (λ e. tt, (λ e. tt, tt)))))))); management = λ e. refl; roms = (λ e. tt, tt) }, (record { agents = (λ e. tt, (λ e. tt, (λ e. tt, (λ e. tt, (λ e. tt, (λ e. tt, (λ e. tt, (λ e. tt, tt)))))))); management = λ e. refl; roms = (λ e. tt, tt) }, (record { agents = (λ e. tt, (λ e. tt, (λ e. tt, (λ e. tt, (λ e. tt, (λ e. tt, (λ e. tt, (λ e. tt, tt)))))))); management = λ e. refl; roms = (λ e. tt, tt) }, (record { agents = (λ e. tt, (λ e. tt, (λ e. tt, (λ e. tt, (λ e. tt, (λ e. tt, (λ e. tt, (λ e. tt, tt)))))))); management = λ e. refl; roms = (λ e. tt, tt) }, (record { agents = (λ e. tt, (λ e. tt, (λ e. tt, (λ e. tt, (λ e. tt, (λ e. tt, (λ e. tt, (λ e. tt, tt)))))))); management = λ e. refl; roms = (λ e. tt, tt) }, (record { agents = (λ e. tt, (λ e. tt, (λ e. tt, (λ e. tt, (λ e. tt, (λ e. tt, (λ e. tt, (λ e. tt, tt)))))))); management = tt; roms = (λ e. tt, tt) }, (record { agents = (λ e. tt, (λ e. tt, (λ e. tt, (λ e. tt, (λ e. tt, (λ e. tt, (λ e. tt, (λ e. tt, tt)))))))); management = tt; roms = (λ e. tt, tt) }, (record { agents = (λ e. tt, (λ e. tt, (λ e. tt, (λ e. tt, (λ e. tt, (λ e. tt, (λ e. tt, (λ e. tt, tt)))))))); management = tt; roms = (λ e. tt, tt) }, (record { agents = (λ e. tt, (λ e. tt, (λ e. tt, (λ e. tt, (λ e. tt, (λ e. tt, (λ e. tt, (λ e. tt, tt)))))))); management = tt; roms = (λ e. tt, tt) }, (record { agents = (λ e. tt, (λ e. tt, (λ e. tt, (λ e. tt, (λ e. tt, (λ e. tt, (λ e. tt, (λ e. tt, tt)))))))); management = tt; roms = (λ e. tt, tt) }, (record { agents = (λ e. tt, (λ e. tt, (λ e. tt, (λ e. tt, (λ e. tt, (λ e. tt, (λ e. tt, (λ e. tt, tt)))))))); management = tt; roms = (λ e. tt, tt) }, (record { agents = (λ e. tt, (λ e. tt, (λ e. tt, (λ e. tt, (λ e. tt, (λ e. tt, (λ e. tt, (λ e. tt, tt)))))))); management = tt; roms = (λ e. tt, tt) }, (record { agents = (λ e. tt, (λ e. tt, (λ e. tt, (λ e. tt, (λ e. tt, (λ e. tt, (λ e. tt, (λ e. tt, tt)))))))); management = tt; roms = (λ e. tt, tt) }, tt)))))))))))))))))))
+
+reconnect_once : OnceLaw nobody more.reconnect_told
+unfolding reading fault_of tcode_of header_of offset_of rcode_of value_of length_of extended_of three four part_of is_to is_same asked_by begun_by belongs start_at lowest_from label_for free_from count_flying lowest_flying label_of with_label is_write kind_of slot_of window_at is_fifo point_step doorbell_step reset_step abort_step reply_step lost_step refusal verdict request_of check_of blank_bytes command_kind elements_from made block_head decide reads_eui live_login response_bytes start_step reply_step_of_manager decide_step fresh_id left_for enter_step back_step leave_step
+reconnect_once = (tt, ((λ e. refl, λ e. record { once = refl; served = refl }), (tt, (tt, ((λ e. refl, tt), (tt, (tt, (tt, ((λ e. refl, λ e. record { once = refl; served = refl }), (tt, ((λ e. refl, tt), (tt, ((λ e. refl, λ e. record { once = refl; served = refl }), (tt, ((λ e. refl, tt), (tt, ((λ e. refl, λ e. record { once = refl; served = refl }), (tt, ((λ e. refl, tt), ((λ e. refl, λ e. record { once = refl; served = refl }), (tt, (tt, ((λ e. refl, tt), (tt, (tt, (tt, (tt, (tt, (tt, (tt, (tt, (tt, (tt, (tt, (tt, tt)))))))))))))))))))))))))))))))))))
+
+reconnect_order : OrderLaw nobody more.reconnect_told
+unfolding reading fault_of tcode_of header_of offset_of rcode_of value_of length_of extended_of three four part_of is_to is_same asked_by begun_by belongs start_at lowest_from label_for free_from count_flying lowest_flying label_of with_label is_write kind_of slot_of window_at is_fifo point_step doorbell_step reset_step abort_step reply_step lost_step refusal verdict request_of check_of blank_bytes command_kind elements_from made block_head decide reads_eui live_login response_bytes start_step reply_step_of_manager decide_step fresh_id left_for enter_step back_step leave_step
+reconnect_order = (tt, (tt, (tt, (tt, (tt, (tt, (tt, (tt, (tt, (tt, (tt, (tt, (tt, (tt, (tt, (tt, (tt, (tt, (tt, (tt, (tt, (tt, (tt, (tt, (tt, (tt, (tt, (tt, (tt, (tt, (tt, (tt, (tt, (tt, (tt, tt)))))))))))))))))))))))))))))))))))
+
+reconnect_execution : ExecutionLaw nobody journals.one_disk more.reconnect_told
+unfolding reading fault_of tcode_of header_of offset_of rcode_of value_of length_of extended_of three four part_of is_to is_same asked_by begun_by belongs start_at lowest_from label_for free_from count_flying lowest_flying label_of with_label is_write kind_of slot_of window_at is_fifo point_step doorbell_step reset_step abort_step reply_step lost_step refusal verdict request_of check_of blank_bytes command_kind elements_from made block_head decide reads_eui live_login response_bytes start_step reply_step_of_manager decide_step fresh_id left_for enter_step back_step leave_step
+reconnect_execution = (tt, (tt, (tt, (tt, (tt, (tt, (tt, (tt, (tt, (tt, (tt, (tt, (tt, (tt, (tt, (tt, (tt, (tt, (tt, (tt, (tt, (tt, (tt, (tt, (tt, (tt, (tt, (tt, (tt, (tt, (tt, (tt, (tt, (tt, (tt, tt)))))))))))))))))))))))))))))))))))
+
+reconnect_carried : CarriedLaw nobody journals.one_disk more.reconnect_told
+unfolding reading fault_of tcode_of header_of offset_of rcode_of value_of length_of extended_of three four part_of is_to is_same asked_by begun_by belongs start_at lowest_from label_for free_from count_flying lowest_flying label_of with_label is_write kind_of slot_of window_at is_fifo point_step doorbell_step reset_step abort_step reply_step lost_step refusal verdict request_of check_of blank_bytes command_kind elements_from made block_head decide reads_eui live_login response_bytes start_step reply_step_of_manager decide_step fresh_id left_for enter_step back_step leave_step
+reconnect_carried = record { carried = (tt, (tt, (tt, (tt, (tt, (tt, (tt, (tt, (tt, (tt, (tt, (tt, (tt, (tt, (tt, (tt, (tt, (tt, (tt, (tt, (tt, (tt, (tt, (tt, (tt, (tt, (tt, (tt, (tt, (tt, (tt, (tt, (tt, (tt, (tt, tt))))))))))))))))))))))))))))))))))); due = (refl, (refl, (refl, (refl, (refl, (refl, (refl, (refl, (refl, (refl, (refl, (refl, (refl, (refl, (refl, (refl, (refl, (refl, (refl, tt))))))))))))))))))) }
+
+reconnect_status : StatusLaw nobody more.reconnect_told
+unfolding reading fault_of tcode_of header_of offset_of rcode_of value_of length_of extended_of three four part_of is_to is_same asked_by begun_by belongs start_at lowest_from label_for free_from count_flying lowest_flying label_of with_label is_write kind_of slot_of window_at is_fifo point_step doorbell_step reset_step abort_step reply_step lost_step refusal verdict request_of check_of blank_bytes command_kind elements_from made block_head decide reads_eui live_login response_bytes start_step reply_step_of_manager decide_step fresh_id left_for enter_step back_step leave_step
+reconnect_status = record { taken = (tt, (tt, (tt, (tt, (tt, (tt, (tt, (tt, (tt, (tt, (tt, (tt, (tt, (tt, (tt, (tt, (tt, (tt, (tt, (tt, (tt, (tt, (tt, (tt, (tt, (tt, (tt, (tt, (tt, (tt, (tt, (tt, (tt, (tt, (tt, tt))))))))))))))))))))))))))))))))))); each = (refl, (refl, (refl, (refl, (refl, (refl, (refl, (refl, (refl, (refl, (refl, (refl, (refl, (refl, (refl, (refl, (refl, (refl, (refl, tt))))))))))))))))))) }
+
+reconnect_answer : AnswerLaw nobody journals.one_disk more.reconnect_told
+unfolding reading fault_of tcode_of header_of offset_of rcode_of value_of length_of extended_of three four part_of is_to is_same asked_by begun_by belongs start_at lowest_from label_for free_from count_flying lowest_flying label_of with_label is_write kind_of slot_of window_at is_fifo point_step doorbell_step reset_step abort_step reply_step lost_step refusal verdict request_of check_of blank_bytes command_kind elements_from made block_head decide reads_eui live_login response_bytes start_step reply_step_of_manager decide_step fresh_id left_for enter_step back_step leave_step
+reconnect_answer = (tt, (tt, (tt, (tt, (tt, (tt, (tt, (tt, (tt, (tt, (tt, (tt, (tt, (tt, (tt, (tt, (tt, (tt, (tt, (tt, (tt, (tt, (tt, (tt, (tt, (tt, (tt, (tt, (tt, (tt, (tt, (tt, (tt, (tt, (tt, tt)))))))))))))))))))))))))))))))))))
+
+pub tried : RunsTried
+tried = record { capacity = record { once = capacity_once; order = capacity_order; execution = capacity_execution; status = capacity_status; answer = capacity_answer; carried = capacity_carried; cause = capacity_cause; judgement = capacity_judged; login = capacity_login; media = capacity_media; sent = record { packets = capacity_packets; answers = capacity_answers; requests = capacity_requests; after = capacity_after } }; agent_reset = record { once = agent_reset_once; order = agent_reset_order; execution = agent_reset_execution; status = agent_reset_status; answer = agent_reset_answer; carried = agent_reset_carried; cause = agent_reset_cause; judgement = agent_reset_judged; login = agent_reset_login; media = agent_reset_media; sent = record { packets = agent_reset_packets; answers = agent_reset_answers; requests = agent_reset_requests; after = agent_reset_after } }; logout = record { once = logout_once; order = logout_order; execution = logout_execution; status = logout_status; answer = logout_answer; carried = logout_carried; cause = logout_cause; judgement = logout_judged; login = logout_login; media = logout_media; sent = record { packets = logout_packets; answers = logout_answers; requests = logout_requests; after = logout_after } }; read_ahead = record { once = read_ahead_once; order = read_ahead_order; execution = read_ahead_execution; status = read_ahead_status; answer = read_ahead_answer; carried = read_ahead_carried; cause = read_ahead_cause; judgement = read_ahead_judged; login = read_ahead_login; media = read_ahead_media; sent = record { packets = read_ahead_packets; answers = read_ahead_answers; requests = read_ahead_requests; after = read_ahead_after } }; login = record { once = login_once; order = login_order; execution = login_execution; status = login_status; answer = login_answer; carried = login_carried; cause = login_cause; judgement = login_judged; login = login_login; media = login_media; sent = record { packets = login_packets; answers = login_answers; requests = login_requests; after = login_after } }; reconnect = record { once = reconnect_once; order = reconnect_order; execution = reconnect_execution; status = reconnect_status; answer = reconnect_answer; carried = reconnect_carried; cause = reconnect_cause; judgement = reconnect_judged; login = reconnect_login; media = reconnect_media; sent = record { packets = reconnect_packets; answers = reconnect_answers; requests = reconnect_requests; after = reconnect_after } } }

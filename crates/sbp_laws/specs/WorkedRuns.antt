@@ -1,0 +1,147 @@
+-- More worked journals: a READ CAPACITY, an agent reset, and a logout, each with every packet.
+use Rattle.std.specs.Prelude.{ℕ, true, false, List, [], ◌∷◌, ◌++◌, replicate, None, Some}
+use Rattle.async_packet.specs.Packet.{write_quadlet, write_block, write_response, read_quadlet, read_block, read_quadlet_response, read_block_response}
+use Rattle.async_packet.specs.Canon.{canon}
+use Rattle.async_packet.specs.declared.packet.Header.{Header}
+use Rattle.orb_layout.specs.LoginResponses.{login_bytes}
+use Rattle.orb_layout.specs.declared.management.ManagementOrb.{ManagementOrb}
+use Rattle.orb_layout.specs.declared.status.StatusKind.TheVariants as kinds
+use Rattle.orb_layout.specs.ManagementOrbs.{management_bytes}
+use Rattle.orb_layout.specs.Pointers.{quad_bytes}
+use Rattle.sbp_journal.specs.Run.{Moment, asked, said}
+use Rattle.sbp_journal.specs.declared.cause.CutCause.TheVariants as cuts
+use Rattle.sbp_journal.specs.declared.event.Event.TheVariants as events
+use Rattle.sbp_journal.specs.declared.event.Action.TheVariants as actions
+use Rattle.sbp_journal.specs.declared.event.Cmd.{Cmd}
+use Rattle.sbp_journal.specs.declared.note.NoteBuffer.TheVariants.{In}
+use Rattle.sbp_journal.specs.declared.operation.FunctionWord.TheVariants as functions
+use Rattle.sbp_journal.specs.declared.operation.Operation.TheVariants as operations
+use Rattle.sbp_journal.specs.declared.operation.OpWord.TheVariants as words
+use Rattle.sbp_journal.specs.declared.note.Note.TheVariants as notes
+use Rattle.sbp_laws.specs.Journals.{told, begins, settles, appends_first, appended, pointer_packet, points_agent, header, target_id, first_id, to_target, to_first, done_by_target, done_by_first, fetch_packet, orb_packet, status_packet, test_ready, ready_block, capacity_block, ran, ended, taken, till_status, takes_status, comes_to_rest, login_orb}
+
+-- ---- every packet of one READ CAPACITY, whose answer the target writes into the buffer of slot 0
+abbrev pub read_capacity : Cmd
+read_capacity = record { cdb = capacity_block; to_initiator = true; length = 8; payload = []; segments = []; max_payload = 9 }
+
+abbrev pub capacity_orb : List ℕ
+capacity_orb = quad_bytes (0x80000000 ∷ 0 ∷ 0xffc10000 ∷ 0x11000000 ∷ 0x8a900008 ∷ 0x25000000 ∷ 0 ∷ 0 ∷ [])
+
+abbrev pub capacity : List ℕ
+capacity = quad_bytes (0 ∷ 512 ∷ [])
+
+abbrev pub till_capacity : List Moment
+till_capacity =
+    begins ++ asked 2 (events.Act 0 (actions.Append read_capacity)) ∷ said (notes.Append 0 0 0 capacity_block (In 8)) ∷ said (notes.Rung 0 0 0)
+    ∷ said (notes.Sent 1 0 1 0 pointer_packet) ∷ settles ∷ points_agent
+    ++ said (notes.Got 2) ∷ said (notes.Got 3) ∷ said (notes.Sent 4 0 1 0 (canon (read_block_response (to_target 0) 0 capacity_orb))) ∷ []
+
+abbrev pub answers_capacity : List Moment
+answers_capacity =
+    said (notes.Got 4) ∷ said (notes.Ran 0 (Some 0) (Some 0) 0 capacity_block [] None) ∷ said (notes.Sent 5 0 0 1 (canon (write_block (to_first 0) 0x11000000 capacity)))
+    ∷ said (notes.Got 5) ∷ said (notes.Sent 6 0 1 0 (done_by_first 0))
+    ∷ said (notes.Got 6) ∷ ended kinds.Good ∷ said (notes.Sent 7 0 0 1 (status_packet 0x41000000))
+    ∷ said (notes.Got 7) ∷ said (notes.Taken 0 0 0 kinds.Good capacity) ∷ said (notes.Sent 8 0 1 0 (done_by_first 0)) ∷ said (notes.Got 8) ∷ said notes.Settled ∷ []
+
+abbrev pub capacity_told : List Moment
+capacity_told = told (till_capacity ++ answers_capacity)
+
+-- ---- the agent is reset behind a TEST UNIT READY
+abbrev pub agent_reset_told : List Moment
+agent_reset_told =
+    told (till_status ++ (takes_status ++ (comes_to_rest
+    ++ asked 4 (events.Act 0 actions.AgentReset) ∷ said (notes.Sent 7 0 1 0 (canon (write_quadlet (to_target 0) 0xfffff0040004 1))) ∷ asked 5 events.Settle
+    ∷ said (notes.Got 7) ∷ said (notes.Cut 0 (Some 0) cuts.AgentReset) ∷ said (notes.Sent 8 0 0 1 (done_by_target 0 0))
+    ∷ said (notes.Got 8) ∷ said (notes.Drop 0 0) ∷ said (notes.Op 0 operations.AgentReset words.Done) ∷ said notes.Settled ∷ [])))
+
+-- ---- a logout
+abbrev pub logout_orb : ManagementOrb
+logout_orb = record {
+  first = 0;
+  second = 0;
+  notify = true;
+  format = 0;
+  exclusive = false;
+  reconnect = 0;
+  function = 7;
+  subject = 1;
+  password_length = 0;
+  response_length = 0;
+  fifo = 0x12002000;
+}
+
+abbrev pub logs_out : List Moment
+logs_out =
+    begins ++ asked 2 (events.Act 0 actions.Logout)
+    ∷ said (notes.Sent 1 0 1 0 (canon (write_block (to_target 0) 0xfffff0010000 (quad_bytes (0 ∷ 0x12000000 ∷ []))))) ∷ asked 3 events.Settle
+    ∷ said (notes.Got 1) ∷ said (notes.Sent 2 0 0 1 (done_by_target 0 0)) ∷ said (notes.Sent 3 0 0 1 (fetch_packet 0 0x12000000))
+    ∷ said (notes.Got 2) ∷ said (notes.Got 3) ∷ said (notes.Sent 4 0 1 0 (canon (read_block_response (to_target 0) 0 (management_bytes logout_orb))))
+    ∷ said (notes.Got 4) ∷ said (notes.Left 1) ∷ said (notes.Managed 0 functions.Logout 1 0 None)
+    ∷ said (notes.Sent 5 0 0 1 (canon (write_block (to_first 0) 0x12002000 (quad_bytes (0x01000000 ∷ 0x12000000 ∷ [])))))
+    ∷ said (notes.Got 5) ∷ said (notes.Op 0 operations.Logout words.Done) ∷ said (notes.Sent 6 0 1 0 (done_by_first 0)) ∷ said (notes.Got 6) ∷ said notes.Settled ∷ []
+
+abbrev pub logout_told : List Moment
+logout_told = told logs_out
+
+-- ---- two TEST UNIT READYs, the second of which is read ahead
+abbrev pub read_ahead_told : List Moment
+read_ahead_told =
+    told (begins ++ (appends_first ++ asked 3 (events.Act 0 (actions.Append test_ready)) ∷ appended 1 ∷ said (notes.Low 0 0 1) ∷ said (notes.Linked 0 0 1) ∷ said (notes.Rung 0 0 1)
+    ∷ said (notes.Sent 2 0 1 0 (canon (write_quadlet (to_target 1) 0xfffff0040010 1))) ∷ asked 4 events.Settle
+    ∷ said (notes.Got 1) ∷ said (notes.Sent 3 0 0 1 (done_by_target 0 0)) ∷ said (notes.Sent 4 0 0 1 (fetch_packet 0 0x10000000))
+    ∷ said (notes.Got 2) ∷ said (notes.Sent 5 0 0 1 (done_by_target 1 0)) ∷ said (notes.Got 3)
+    ∷ said (notes.Got 4) ∷ said (notes.Sent 6 0 1 0 (orb_packet 0 0 0x10000040)) ∷ said (notes.Got 5)
+    ∷ said (notes.Got 6) ∷ ran None ∷ ended kinds.Good ∷ said (notes.Sent 7 0 0 1 (status_packet 0x01000000)) ∷ said (notes.Sent 8 0 0 1 (fetch_packet 1 0x10000040))
+    ∷ said (notes.Got 7) ∷ taken kinds.Good ∷ said (notes.Sent 9 0 1 0 (done_by_first 0))
+    ∷ said (notes.Got 8) ∷ said (notes.Sent 10 0 1 0 (orb_packet 1 0x80000000 0)) ∷ said (notes.Got 9)
+    ∷ said (notes.Got 10) ∷ said (notes.Ran 0 (Some 0) (Some 1) 0 ready_block [] None) ∷ said (notes.Ended 0 (Some 0) (Some 1) kinds.Good)
+    ∷ said (notes.Sent 11 0 0 1 (canon (write_block (to_first 0) 0x13000000 (quad_bytes (0x41000000 ∷ 0x10000040 ∷ [])))))
+    ∷ said (notes.Got 11) ∷ said (notes.Taken 0 0 1 kinds.Good []) ∷ said (notes.Sent 12 0 1 0 (done_by_first 0)) ∷ said (notes.Got 12) ∷ said notes.Settled ∷ []))
+
+-- ---- a login behind the logout: by the other place of management, with the next FIFO and the next ID
+abbrev pub next_login_orb : ManagementOrb
+next_login_orb = record login_orb { second = 0x12001100; fifo = 0x13000020 }
+
+abbrev pub next_response : List ℕ
+next_response = login_bytes (record { login = 2; agent = 0xfffff0040000; hold = 0 })
+
+abbrev pub login_told : List Moment
+login_told =
+    told (logs_out ++ asked 4 (events.Act 0 (actions.Login 0 0 false (replicate 8 0)))
+    ∷ said (notes.Sent 7 0 1 0 (canon (write_block (to_target 0) 0xfffff0010000 (quad_bytes (0 ∷ 0x12000020 ∷ []))))) ∷ asked 5 events.Settle
+    ∷ said (notes.Got 7) ∷ said (notes.Sent 8 0 0 1 (done_by_target 0 0)) ∷ said (notes.Sent 9 0 0 1 (fetch_packet 0 0x12000020))
+    ∷ said (notes.Got 8) ∷ said (notes.Got 9) ∷ said (notes.Sent 10 0 1 0 (canon (read_block_response (to_target 0) 0 (management_bytes next_login_orb))))
+    ∷ said (notes.Got 10) ∷ said (notes.Sent 11 0 0 1 (canon (read_quadlet (to_first 0) 0xfffff000040c)))
+    ∷ said (notes.Got 11) ∷ said (notes.Sent 12 0 1 0 (canon (read_quadlet_response (to_target 0) 0 0x02000000)))
+    ∷ said (notes.Got 12) ∷ said (notes.Sent 13 0 0 1 (canon (read_quadlet (to_first 0) 0xfffff0000410)))
+    ∷ said (notes.Got 13) ∷ said (notes.Sent 14 0 1 0 (canon (read_quadlet_response (to_target 0) 0 1)))
+    ∷ said (notes.Got 14) ∷ said (notes.Managed 0 functions.Login 0 0 (Some 2)) ∷ said (notes.Sent 15 0 0 1 (canon (write_block (to_first 0) 0x12001100 next_response)))
+    ∷ said (notes.Got 15) ∷ said (notes.Sent 16 0 1 0 (done_by_first 0))
+    ∷ said (notes.Got 16) ∷ said (notes.Sent 17 0 0 1 (canon (write_block (to_first 0) 0x13000020 (quad_bytes (0x01000000 ∷ 0x12000020 ∷ [])))))
+    ∷ said (notes.Got 17) ∷ said (notes.Op 0 operations.Login words.Done) ∷ said (notes.Sent 18 0 1 0 (done_by_first 0)) ∷ said (notes.Got 18) ∷ said notes.Settled ∷ [])
+
+-- ---- a reconnect behind a reset, in which the two nodes change their IDs
+abbrev pub reconnect_orb : ManagementOrb
+reconnect_orb = record logout_orb { function = 3 }
+
+abbrev pub to_new_target : Header
+to_new_target = header first_id target_id 0
+
+abbrev pub to_new_first : Header
+to_new_first = header target_id first_id 0
+
+abbrev pub reconnect_told : List Moment
+reconnect_told =
+    told (begins ++ asked 2 (events.Reset (1 ∷ 0 ∷ [])) ∷ said (notes.Reset 1) ∷ asked 3 (events.See 0) ∷ said (notes.Seen 0 1) ∷ said (notes.Held 1)
+    ∷ asked 4 (events.See 1) ∷ said (notes.Seen 1 1) ∷ asked 5 (events.Act 0 actions.Reconnect)
+    ∷ said (notes.Sent 1 1 1 0 (canon (write_block to_new_target 0xfffff0010000 (quad_bytes (0 ∷ 0x12000000 ∷ []))))) ∷ asked 6 events.Settle
+    ∷ said (notes.Got 1) ∷ said (notes.Sent 2 1 0 1 (canon (write_response to_new_first 0))) ∷ said (notes.Sent 3 1 0 1 (canon (read_block to_new_first 0x12000000 32)))
+    ∷ said (notes.Got 2) ∷ said (notes.Got 3) ∷ said (notes.Sent 4 1 1 0 (canon (read_block_response to_new_target 0 (management_bytes reconnect_orb))))
+    ∷ said (notes.Got 4) ∷ said (notes.Sent 5 1 0 1 (canon (read_quadlet to_new_first 0xfffff000040c)))
+    ∷ said (notes.Got 5) ∷ said (notes.Sent 6 1 1 0 (canon (read_quadlet_response to_new_target 0 0x02000000)))
+    ∷ said (notes.Got 6) ∷ said (notes.Sent 7 1 0 1 (canon (read_quadlet to_new_first 0xfffff0000410)))
+    ∷ said (notes.Got 7) ∷ said (notes.Sent 8 1 1 0 (canon (read_quadlet_response to_new_target 0 1)))
+    ∷ said (notes.Got 8) ∷ said (notes.Back 1) ∷ said (notes.Managed 0 functions.Reconnect 1 0 None)
+    ∷ said (notes.Sent 9 1 0 1 (canon (write_block to_new_first 0x12002000 (quad_bytes (0x01000000 ∷ 0x12000000 ∷ [])))))
+    ∷ said (notes.Got 9) ∷ said (notes.Op 0 operations.Reconnect words.Done) ∷ said (notes.Sent 10 1 1 0 (canon (write_response to_new_target 0)))
+    ∷ said (notes.Got 10) ∷ said notes.Settled ∷ [])
