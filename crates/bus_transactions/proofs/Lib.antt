@@ -23,3 +23,4 @@ pub mod AnswerLaws
 pub mod ServedFacts
 pub mod Rooms
 pub mod Bares
+pub mod Courses

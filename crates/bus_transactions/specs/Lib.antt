@@ -8,3 +8,4 @@ pub mod Judging
 pub mod Answers
 pub mod Sent
 pub mod Bare
+pub mod Course

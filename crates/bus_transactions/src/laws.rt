@@ -1,4 +1,5 @@
 ghost use Rattle.bus_transactions.specs.Bare.{TakesSteps};
+ghost use Rattle.bus_transactions.specs.Course.{CanHappen};
 ghost use Rattle.bus_transactions.specs.May.{Always};
 ghost use Rattle.bus_transactions.specs.Packets.{PacketLaw};
 ghost use Rattle.bus_transactions.specs.Rows.{RowsLaw};
@@ -53,4 +54,10 @@ pub fn packets_are_own()
 /// the primitive of a move on the layer without it.
 pub fn purposes_change_nothing<P>()
     ensures { TakesSteps P }
+{}
+
+/// Moves can be made: a write is asked, delivered and answered, its response closes it, and it comes
+/// once more as a repeat.
+pub fn moves_can_be_made()
+    ensures { CanHappen }
 {}
