@@ -24,3 +24,4 @@ pub mod ServedFacts
 pub mod Rooms
 pub mod Bares
 pub mod Courses
+pub mod Reaches

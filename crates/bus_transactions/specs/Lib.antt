@@ -9,3 +9,4 @@ pub mod Answers
 pub mod Sent
 pub mod Bare
 pub mod Course
+pub mod Reached

@@ -2,6 +2,7 @@ ghost use Rattle.bus_transactions.specs.Bare.{TakesSteps};
 ghost use Rattle.bus_transactions.specs.Course.{CanHappen};
 ghost use Rattle.bus_transactions.specs.May.{Always};
 ghost use Rattle.bus_transactions.specs.Packets.{PacketLaw};
+ghost use Rattle.bus_transactions.specs.Reached.{GoesOn};
 ghost use Rattle.bus_transactions.specs.Rows.{RowsLaw};
 ghost use Rattle.bus_transactions.specs.Once.{OnceLaw, ServedLaw};
 ghost use Rattle.bus_transactions.specs.Judging.{JudgementLaw};
@@ -60,4 +61,9 @@ pub fn purposes_change_nothing<P>()
 /// once more as a repeat.
 pub fn moves_can_be_made()
     ensures { CanHappen }
+{}
+
+/// How a world goes on by moves, and what it knows wherever it stands.
+pub fn goes_by_moves()
+    ensures { GoesOn }
 {}
