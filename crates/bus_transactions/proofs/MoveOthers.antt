@@ -1,6 +1,7 @@
 -- The moves of the bus, and those that send nothing.
+use Rattle.std.proofs.lemmas.List.{get_or_past}
 use Rattle.bus_transactions.proofs.ServedFacts.{served_flight, served_other, served_injected}
-use Rattle.std.specs.Prelude.{◌≡◌, ℕ, ◌+◌, ◌<◌, ◌≤◌, nat_eq, nat_lt, is_ok, Bool, true, false, cond, List, Option, Some, None, Result, Ok, Err, refl}
+use Rattle.std.specs.Prelude.{◌≡◌, ℕ, ◌+◌, ◌<◌, ◌≤◌, nat_eq, nat_lt, is_ok, Bool, true, false, cond, List, Option, Some, None, Result, Ok, Err, refl, zero, suc, length, slice_index_or, [], ◌∷◌}
 use Rattle.std.proofs.Common.{arith, sym, ◌∙◌, ap, subst}
 use Rattle.sbp_base.specs.Update.{upd}
 use Rattle.async_packet.specs.declared.packet.Header.{Header}
@@ -146,6 +147,40 @@ move_disown w h i j label =
     }
 
 -- ---- the bus is reset
+at_any : (xs : List ℕ) (i d e : ℕ) → i < length xs → slice_index_or xs i d ≡ slice_index_or xs i e
+at_any [] i d e h = absurd (omega (arith, h))
+at_any (x ∷ xs) zero d e h = refl
+at_any (x ∷ xs) (suc i) d e h = at_any xs i d e (omega (arith, h))
+
+-- the IDs of the nodes that there are, and of those that are not, are all different
+ids_apart : (physical : List ℕ) → ((i : ℕ) → i < length physical → slice_index_or physical i 0 ≤ 62) → ((i j : ℕ) → i < length physical → j < length physical → slice_index_or physical i 0 ≡ slice_index_or physical j 0 → i ≡ j) → (i j : ℕ) (a b : Bool) → nat_lt i (length physical) ≡ a → nat_lt j (length physical) ≡ b → ids_of physical i ≡ ids_of physical j → i ≡ j
+ids_apart physical small apart i j true true f g e =
+    let h : i < length physical = grind arith in
+    let k : j < length physical = grind arith in
+    let x = at_any physical i (63 + i) 0 h in
+    let y = at_any physical j (63 + j) 0 k in
+    apart i j h k (omega (arith, e, x, y))
+ids_apart physical small apart i j true false f g e =
+    let h : i < length physical = grind arith in
+    let k : length physical ≤ j = grind arith in
+    let x = at_any physical i (63 + i) 0 h in
+    let y = get_or_past physical j (63 + j) k in
+    let s = small i h in
+    absurd (omega (arith, e, x, y, s))
+ids_apart physical small apart i j false true f g e =
+    let h : length physical ≤ i = grind arith in
+    let k : j < length physical = grind arith in
+    let x = get_or_past physical i (63 + i) h in
+    let y = at_any physical j (63 + j) 0 k in
+    let s = small j k in
+    absurd (omega (arith, e, x, y, s))
+ids_apart physical small apart i j false false f g e =
+    let h : length physical ≤ i = grind arith in
+    let k : length physical ≤ j = grind arith in
+    let x = get_or_past physical i (63 + i) h in
+    let y = get_or_past physical j (63 + j) k in
+    omega (arith, e, x, y)
+
 pub move_reset : (w : Wire) → Stands w → (line : ℕ) (physical : List ℕ) → MayReset w physical → Stands (moved (reset line physical) w)
 move_reset w h line physical may =
     let o = settled w h may.free in
@@ -153,7 +188,7 @@ move_reset w h line physical may =
     let new : ℕ → ℕ = ids_of physical in
     subst (λ b. On (record t { ids = upd t.ids (t.bus + 1) new; repeats = false; bus = b + 1 }) w.store w.layer (b + 1) new w.due) (sym o.bus_is)
     (subst (On (reset_at t new) w.store w.layer (t.bus + 1) new) (sym may.free) (record {
-      facts = facts_reset o.facts new may.apart;
+      facts = facts_reset o.facts new (λ i j. ids_apart physical may.small may.apart i j _ _ refl refl);
       follows = o.follows;
       bus_is = refl;
       ids_are = λ i. ap (λ b. cond b new (t.ids (t.bus + 1)) i) (sym (nat_same (t.bus + 1)));

@@ -1,6 +1,6 @@
 -- When each move may be made: what the node or the bus checks, and what its types say. While a request is to be answered nothing else
 -- may happen but what tells nothing of the wire.
-use Rattle.std.specs.Prelude.{◌≡◌, ◌<◌, ℕ, Bool, true, false, is_ok, List, [], ◌∷◌, Option, Some, None}
+use Rattle.std.specs.Prelude.{◌≡◌, ◌<◌, ℕ, Bool, true, false, is_ok, List, [], ◌∷◌, Option, Some, None, length, slice_index_or, ◌≤◌}
 use Rattle.std.specs.List.{All}
 use Rattle.async_packet.specs.Canon.{IsValid}
 use Rattle.async_packet.specs.Fields.{header_of}
@@ -9,7 +9,7 @@ use Rattle.label_table.specs.Bodies.{Body, Gives, header_to, request_with, respo
 use Rattle.label_table.specs.Layer.{expiring_step}
 use Rattle.packet_store.specs.declared.sent.Kept.{Kept}
 use Rattle.packet_store.specs.Kept.{found, is_flying}
-use Rattle.sbp_journal.specs.Wire.{terms, ids_of}
+use Rattle.sbp_journal.specs.Wire.{terms}
 use Rattle.sbp_journal.specs.declared.event.Event.{Event}
 use Rattle.sbp_journal.specs.declared.event.Event.TheVariants as events
 use Rattle.sbp_journal.specs.declared.cause.Cause.{Cause}
@@ -69,10 +69,11 @@ pub record MayExpire (w : Wire) (node peer : ℕ) (label : LabelParts) : Type 0 
   pub free : w.due ≡ None
   pub current : is_ok (expiring_step (w.layer node) (id_for w node peer) label).0 ≡ true
 
--- no two nodes get one ID
+-- each node gets a physical ID from 0 to 62, and no two the same
 pub record MayReset (w : Wire) (physical : List ℕ) : Type 0 where
   pub free : w.due ≡ None
-  pub apart : (i j : ℕ) → ids_of physical i ≡ ids_of physical j → i ≡ j
+  pub small : (i : ℕ) → i < length physical → slice_index_or physical i 0 ≤ 62
+  pub apart : (i j : ℕ) → i < length physical → j < length physical → slice_index_or physical i 0 ≡ slice_index_or physical j 0 → i ≡ j
 
 abbrev pub is_reset : Event → Bool
 is_reset (events.Reset physical) = true
