@@ -50,6 +50,15 @@ module _ (past : List Moment) (most : ℕ) where
 at_once : (past : List Moment) → Settles past (notes.Settled ∷ []) → NoneFlies past
 at_once past s = early_by past (settle_deliveries past) s.before s.last s.is s.ends
 
+-- a settle that stops at once has no deliveries to spend
+stopped_by : (past : List Moment) (most : ℕ) (before : List Note) (last : Note) → notes.Stopped ∷ [] ≡ before ++ last ∷ [] → EndsSettle past most before last → 0 ≡ most
+stopped_by past most [] last is ends = let same : notes.Stopped ≡ last = cc is in (subst (λ n. EndsSettle past most [] n) (sym same) ends).0
+stopped_by past most (x ∷ []) last is ends = absurd (cc is)
+stopped_by past most (x ∷ y ∷ before) last is ends = absurd (cc is)
+
+stopped_at_once : (past : List Moment) → Settles past (notes.Stopped ∷ []) → 0 ≡ settle_deliveries past
+stopped_at_once past s = stopped_by past (settle_deliveries past) s.before s.last s.is s.ends
+
 -- the number of the first refusal
 abbrev number_told : List Note → ℕ
 number_told (notes.Refused line number ∷ rest) = number
@@ -71,6 +80,30 @@ steps_not : ActionLaw journals.one_disk journals.steps_not → ⊥
 unfolding reading fault_of tcode_of header_of offset_of rcode_of value_of length_of extended_of three four part_of is_to is_same asked_by begun_by belongs start_at lowest_from label_for free_from count_flying lowest_flying label_of with_label is_write kind_of slot_of window_at is_fifo point_step doorbell_step reset_step abort_step reply_step lost_step refusal verdict request_of check_of blank_bytes command_kind elements_from made block_head decide reads_eui live_login response_bytes start_step reply_step_of_manager decide_step fresh_id left_for enter_step back_step leave_step
 steps_not = λ law. neither (λ e. let bad : 0 ≡ 1 = e in omega (arith, bad)) (λ e. cc e) law.brings.0.all
 
+injects : ActionLaw journals.one_disk (journals.injects journals.first_id journals.injected_notes)
+unfolding reading fault_of tcode_of header_of offset_of rcode_of value_of length_of extended_of three four part_of is_to is_same asked_by begun_by belongs start_at lowest_from label_for free_from count_flying lowest_flying label_of with_label is_write kind_of slot_of window_at is_fifo point_step doorbell_step reset_step abort_step reply_step lost_step refusal verdict request_of check_of blank_bytes command_kind elements_from made block_head decide reads_eui live_login response_bytes start_step reply_step_of_manager decide_step fresh_id left_for enter_step back_step leave_step
+injects = record { brings = (refl, (refl, tt)); ordered = (tt, (tt, tt)) }
+
+other_source : ActionLaw journals.one_disk (journals.injects journals.second_id (notes.Refused 2 12 ∷ []))
+unfolding reading fault_of tcode_of header_of offset_of rcode_of value_of length_of extended_of three four part_of is_to is_same asked_by begun_by belongs start_at lowest_from label_for free_from count_flying lowest_flying label_of with_label is_write kind_of slot_of window_at is_fifo point_step doorbell_step reset_step abort_step reply_step lost_step refusal verdict request_of check_of blank_bytes command_kind elements_from made block_head decide reads_eui live_login response_bytes start_step reply_step_of_manager decide_step fresh_id left_for enter_step back_step leave_step
+other_source = record { brings = (refl, (refl, tt)); ordered = (tt, (tt, tt)) }
+
+sets_key : ActionLaw journals.one_disk (journals.sets_key 0 (notes.Key 0 ∷ []))
+unfolding reading fault_of tcode_of header_of offset_of rcode_of value_of length_of extended_of three four part_of is_to is_same asked_by begun_by belongs start_at lowest_from label_for free_from count_flying lowest_flying label_of with_label is_write kind_of slot_of window_at is_fifo point_step doorbell_step reset_step abort_step reply_step lost_step refusal verdict request_of check_of blank_bytes command_kind elements_from made block_head decide reads_eui live_login response_bytes start_step reply_step_of_manager decide_step fresh_id left_for enter_step back_step leave_step
+sets_key = record { brings = (refl, (refl, tt)); ordered = (tt, (tt, tt)) }
+
+no_unit : ActionLaw journals.one_disk (journals.sets_key 1 (notes.Refused 2 13 ∷ []))
+unfolding reading fault_of tcode_of header_of offset_of rcode_of value_of length_of extended_of three four part_of is_to is_same asked_by begun_by belongs start_at lowest_from label_for free_from count_flying lowest_flying label_of with_label is_write kind_of slot_of window_at is_fifo point_step doorbell_step reset_step abort_step reply_step lost_step refusal verdict request_of check_of blank_bytes command_kind elements_from made block_head decide reads_eui live_login response_bytes start_step reply_step_of_manager decide_step fresh_id left_for enter_step back_step leave_step
+no_unit = record { brings = (refl, (refl, tt)); ordered = (tt, (tt, tt)) }
+
+inject_refused : ActionLaw journals.one_disk (journals.injects journals.first_id (notes.Refused 2 12 ∷ [])) → ⊥
+unfolding reading fault_of tcode_of header_of offset_of rcode_of value_of length_of extended_of three four part_of is_to is_same asked_by begun_by belongs start_at lowest_from label_for free_from count_flying lowest_flying label_of with_label is_write kind_of slot_of window_at is_fifo point_step doorbell_step reset_step abort_step reply_step lost_step refusal verdict request_of check_of blank_bytes command_kind elements_from made block_head decide reads_eui live_login response_bytes start_step reply_step_of_manager decide_step fresh_id left_for enter_step back_step leave_step
+inject_refused = λ law. let bad = law.brings.0 in cc bad
+
+stops_early : ActionLaw journals.one_disk journals.stops_early → ⊥
+unfolding reading fault_of tcode_of header_of offset_of rcode_of value_of length_of extended_of three four part_of is_to is_same asked_by begun_by belongs start_at lowest_from label_for free_from count_flying lowest_flying label_of with_label is_write kind_of slot_of window_at is_fifo point_step doorbell_step reset_step abort_step reply_step lost_step refusal verdict request_of check_of blank_bytes command_kind elements_from made block_head decide reads_eui live_login response_bytes start_step reply_step_of_manager decide_step fresh_id left_for enter_step back_step leave_step
+stops_early = λ law. let bad : 0 ≡ 620 = stopped_at_once _ law.brings.0 in omega (arith, bad)
+
 settles_early : ActionLaw journals.one_disk journals.settles_early → ⊥
 unfolding reading fault_of tcode_of header_of offset_of rcode_of value_of length_of extended_of three four part_of is_to is_same asked_by begun_by belongs start_at lowest_from label_for free_from count_flying lowest_flying label_of with_label is_write kind_of slot_of window_at is_fifo point_step doorbell_step reset_step abort_step reply_step lost_step refusal verdict request_of check_of blank_bytes command_kind elements_from made block_head decide reads_eui live_login response_bytes start_step reply_step_of_manager decide_step fresh_id left_for enter_step back_step leave_step
 settles_early = λ law. let bad = at_once _ law.brings.0 in cc bad
@@ -84,4 +117,4 @@ unfolding reading fault_of tcode_of header_of offset_of rcode_of value_of length
 other_number = λ law. let bad : 3 ≡ 2 = ap number_told law.brings.0 in omega (arith, bad)
 
 pub tried : ActionTried
-tried = record { steps_once = steps_once; settles_at_rest = settles_at_rest; refuses_login = refuses_login; steps_not = steps_not; settles_early = settles_early; refuses_append = refuses_append; other_number = other_number }
+tried = record { steps_once = steps_once; settles_at_rest = settles_at_rest; refuses_login = refuses_login; steps_not = steps_not; injects = injects; other_source = other_source; sets_key = sets_key; no_unit = no_unit; inject_refused = inject_refused; stops_early = stops_early; settles_early = settles_early; refuses_append = refuses_append; other_number = other_number }

@@ -63,7 +63,7 @@ module _ (wild : ℕ → Bool) (run : Run) (line : ℕ) (event : Event) (told : 
       once = (split (OnceAt wild) (history run.entries) line event told law.moments.once).1;
       order = (split (OrderAt wild) (history run.entries) line event told law.moments.order).1;
       execution = (split (ExecutionAt wild run.start) (history run.entries) line event told law.moments.execution).1;
-      status = record { taken = (split (TakenAt wild) (history run.entries) line event told law.moments.status.taken).1; each = (split_turns TakesEach (history run.entries) line event told [] law.moments.status.each).1 };
+      status = record { taken = (split (TakenAt wild) (history run.entries) line event told law.moments.status.taken).1; each = (split_turns (TakesEach wild) (history run.entries) line event told [] law.moments.status.each).1 };
       answer = (split (AnswerAt wild run.start) (history run.entries) line event told law.moments.answer).1;
       carried = record { carried = (split (CarriedAt wild run.start) (history run.entries) line event told law.moments.carried.carried).1; due = (split_turns (RunsWhereDue wild run.start) (history run.entries) line event told [] law.moments.carried.due).1 };
       cause = record { causes = (split_turns (HasCauses wild run.start) (history run.entries) line event told [] law.moments.cause.causes).1; aborted = (split (AbortedAt wild) (history run.entries) line event told law.moments.cause.aborted).1 };
@@ -82,7 +82,7 @@ module _ (wild : ℕ → Bool) (run : Run) (line : ℕ) (event : Event) (told : 
     order = (split (OrderAt wild) (history run.entries) line event told law.moments.order).0;
     execution = (split (ExecutionAt wild run.start) (history run.entries) line event told law.moments.execution).0;
     taken = (split (TakenAt wild) (history run.entries) line event told law.moments.status.taken).0;
-    taken_each = (split_turns TakesEach (history run.entries) line event told [] law.moments.status.each).0;
+    taken_each = (split_turns (TakesEach wild) (history run.entries) line event told [] law.moments.status.each).0;
     answer = (split (AnswerAt wild run.start) (history run.entries) line event told law.moments.answer).0;
     carried = (split (CarriedAt wild run.start) (history run.entries) line event told law.moments.carried.carried).0;
     run_where_due = (split_turns (RunsWhereDue wild run.start) (history run.entries) line event told [] law.moments.carried.due).0;
@@ -106,7 +106,7 @@ module _ (wild : ℕ → Bool) (run : Run) (line : ℕ) (event : Event) (told : 
       once = join (OnceAt wild) (history run.entries) line event told new.once before.moments.once;
       order = join (OrderAt wild) (history run.entries) line event told new.order before.moments.order;
       execution = join (ExecutionAt wild run.start) (history run.entries) line event told new.execution before.moments.execution;
-      status = record { taken = join (TakenAt wild) (history run.entries) line event told new.taken before.moments.status.taken; each = join_turns TakesEach (history run.entries) line event told [] new.taken_each before.moments.status.each };
+      status = record { taken = join (TakenAt wild) (history run.entries) line event told new.taken before.moments.status.taken; each = join_turns (TakesEach wild) (history run.entries) line event told [] new.taken_each before.moments.status.each };
       answer = join (AnswerAt wild run.start) (history run.entries) line event told new.answer before.moments.answer;
       carried = record { carried = join (CarriedAt wild run.start) (history run.entries) line event told new.carried before.moments.carried.carried; due = join_turns (RunsWhereDue wild run.start) (history run.entries) line event told [] new.run_where_due before.moments.carried.due };
       cause = record { causes = join_turns (HasCauses wild run.start) (history run.entries) line event told [] new.causes before.moments.cause.causes; aborted = join (AbortedAt wild) (history run.entries) line event told new.aborted before.moments.cause.aborted };

@@ -13,3 +13,4 @@ mod SentTries
 mod MediaTries
 mod ActionTries
 mod RunsTries
+mod BudgetTries

@@ -52,7 +52,7 @@ second_of_two = omega arith
 
 capacity_cause : CauseLaw nobody journals.one_disk more.capacity_told
 unfolding reading fault_of tcode_of header_of offset_of rcode_of value_of length_of extended_of three four part_of is_to is_same asked_by begun_by belongs start_at lowest_from label_for free_from count_flying lowest_flying label_of with_label is_write kind_of slot_of window_at is_fifo point_step doorbell_step reset_step abort_step reply_step lost_step refusal verdict request_of check_of blank_bytes command_kind elements_from made block_head decide reads_eui live_login response_bytes start_step reply_step_of_manager decide_step fresh_id left_for enter_step back_step leave_step
-capacity_cause = record { causes = (record { cuts = refl; cleared = refl; ends = refl; failures = refl; operations = refl }, (record { cuts = refl; cleared = refl; ends = refl; failures = refl; operations = refl }, (record { cuts = refl; cleared = refl; ends = refl; failures = refl; operations = refl }, (record { cuts = refl; cleared = refl; ends = refl; failures = refl; operations = refl }, (record { cuts = refl; cleared = refl; ends = refl; failures = refl; operations = refl }, (record { cuts = refl; cleared = refl; ends = refl; failures = refl; operations = refl }, (record { cuts = refl; cleared = refl; ends = refl; failures = refl; operations = refl }, (record { cuts = refl; cleared = refl; ends = refl; failures = refl; operations = refl }, (record { cuts = refl; cleared = refl; ends = refl; failures = refl; operations = refl }, (record { cuts = refl; cleared = refl; ends = refl; failures = refl; operations = refl }, (record { cuts = refl; cleared = refl; ends = refl; failures = refl; operations = refl }, (record { cuts = refl; cleared = refl; ends = refl; failures = refl; operations = refl }, tt)))))))))))); aborted = (tt, (tt, (tt, (tt, (tt, (tt, (tt, (tt, (tt, (tt, (tt, (tt, (tt, (tt, (tt, (tt, (tt, (tt, (tt, (tt, (tt, (tt, (tt, (tt, (tt, (tt, tt)))))))))))))))))))))))))) }
+capacity_cause = record { causes = (record { cuts = refl; cleared = refl; ends = refl; deaths = tt; faults = tt; failures = refl; operations = refl }, (record { cuts = refl; cleared = refl; ends = refl; deaths = tt; faults = tt; failures = refl; operations = refl }, (record { cuts = refl; cleared = refl; ends = refl; deaths = tt; faults = tt; failures = refl; operations = refl }, (record { cuts = refl; cleared = refl; ends = refl; deaths = tt; faults = tt; failures = refl; operations = refl }, (record { cuts = refl; cleared = refl; ends = refl; deaths = tt; faults = tt; failures = refl; operations = refl }, (record { cuts = refl; cleared = refl; ends = refl; deaths = tt; faults = tt; failures = refl; operations = refl }, (record { cuts = refl; cleared = refl; ends = refl; deaths = tt; faults = tt; failures = refl; operations = refl }, (record { cuts = refl; cleared = refl; ends = refl; deaths = tt; faults = tt; failures = refl; operations = refl }, (record { cuts = refl; cleared = refl; ends = refl; deaths = tt; faults = tt; failures = refl; operations = refl }, (record { cuts = refl; cleared = refl; ends = refl; deaths = tt; faults = tt; failures = refl; operations = refl }, (record { cuts = refl; cleared = refl; ends = refl; deaths = tt; faults = tt; failures = refl; operations = refl }, (record { cuts = refl; cleared = refl; ends = refl; deaths = tt; faults = tt; failures = refl; operations = refl }, tt)))))))))))); aborted = (tt, (tt, (tt, (tt, (tt, (tt, (tt, (tt, (tt, (tt, (tt, (tt, (tt, (tt, (tt, (tt, (tt, (tt, (tt, (tt, (tt, (tt, (tt, (tt, (tt, (tt, tt)))))))))))))))))))))))))) }
 
 capacity_judged : JudgementLaw journals.one_disk more.capacity_told
 unfolding reading fault_of tcode_of header_of offset_of rcode_of value_of length_of extended_of three four part_of is_to is_same asked_by begun_by belongs start_at lowest_from label_for free_from count_flying lowest_flying label_of with_label is_write kind_of slot_of window_at is_fifo point_step doorbell_step reset_step abort_step reply_step lost_step refusal verdict request_of check_of blank_bytes command_kind elements_from made block_head decide reads_eui live_login response_bytes start_step reply_step_of_manager decide_step fresh_id left_for enter_step back_step leave_step
@@ -108,7 +108,7 @@ capacity_answer = (tt, (tt, (tt, (λ e. record { len = refl; told = refl }, (tt,
 
 agent_reset_cause : CauseLaw nobody journals.one_disk more.agent_reset_told
 unfolding reading fault_of tcode_of header_of offset_of rcode_of value_of length_of extended_of three four part_of is_to is_same asked_by begun_by belongs start_at lowest_from label_for free_from count_flying lowest_flying label_of with_label is_write kind_of slot_of window_at is_fifo point_step doorbell_step reset_step abort_step reply_step lost_step refusal verdict request_of check_of blank_bytes command_kind elements_from made block_head decide reads_eui live_login response_bytes start_step reply_step_of_manager decide_step fresh_id left_for enter_step back_step leave_step
-agent_reset_cause = record { causes = (record { cuts = refl; cleared = refl; ends = refl; failures = refl; operations = refl }, (record { cuts = refl; cleared = refl; ends = refl; failures = refl; operations = refl }, (record { cuts = refl; cleared = refl; ends = refl; failures = refl; operations = refl }, (record { cuts = refl; cleared = refl; ends = refl; failures = refl; operations = refl }, (record { cuts = refl; cleared = refl; ends = refl; failures = refl; operations = refl }, (record { cuts = refl; cleared = refl; ends = refl; failures = refl; operations = refl }, (record { cuts = refl; cleared = refl; ends = refl; failures = refl; operations = refl }, (record { cuts = refl; cleared = refl; ends = refl; failures = refl; operations = refl }, (record { cuts = refl; cleared = refl; ends = refl; failures = refl; operations = refl }, (record { cuts = refl; cleared = refl; ends = refl; failures = refl; operations = refl }, (record { cuts = refl; cleared = refl; ends = refl; failures = refl; operations = refl }, (record { cuts = refl; cleared = refl; ends = refl; failures = refl; operations = refl }, (record { cuts = refl; cleared = refl; ends = refl; failures = refl; operations = refl }, (record { cuts = refl; cleared = refl; ends = refl; failures = refl; operations = refl }, (record { cuts = refl; cleared = refl; ends = refl; failures = refl; operations = refl }, tt))))))))))))))); aborted = (tt, (tt, (tt, (tt, (tt, (tt, (tt, (tt, (tt, (tt, (tt, (tt, (tt, (tt, (tt, (tt, (tt, (tt, (tt, (tt, (tt, (tt, (tt, (tt, (tt, (tt, (tt, (tt, (tt, (tt, (tt, (tt, tt)))))))))))))))))))))))))))))))) }
+agent_reset_cause = record { causes = (record { cuts = refl; cleared = refl; ends = refl; deaths = tt; faults = tt; failures = refl; operations = refl }, (record { cuts = refl; cleared = refl; ends = refl; deaths = tt; faults = tt; failures = refl; operations = refl }, (record { cuts = refl; cleared = refl; ends = refl; deaths = tt; faults = tt; failures = refl; operations = refl }, (record { cuts = refl; cleared = refl; ends = refl; deaths = tt; faults = tt; failures = refl; operations = refl }, (record { cuts = refl; cleared = refl; ends = refl; deaths = tt; faults = tt; failures = refl; operations = refl }, (record { cuts = refl; cleared = refl; ends = refl; deaths = tt; faults = tt; failures = refl; operations = refl }, (record { cuts = refl; cleared = refl; ends = refl; deaths = tt; faults = tt; failures = refl; operations = refl }, (record { cuts = refl; cleared = refl; ends = refl; deaths = tt; faults = tt; failures = refl; operations = refl }, (record { cuts = refl; cleared = refl; ends = refl; deaths = tt; faults = tt; failures = refl; operations = refl }, (record { cuts = refl; cleared = refl; ends = refl; deaths = tt; faults = tt; failures = refl; operations = refl }, (record { cuts = refl; cleared = refl; ends = refl; deaths = tt; faults = tt; failures = refl; operations = refl }, (record { cuts = refl; cleared = refl; ends = refl; deaths = tt; faults = tt; failures = refl; operations = refl }, (record { cuts = refl; cleared = refl; ends = refl; deaths = tt; faults = tt; failures = refl; operations = refl }, (record { cuts = refl; cleared = refl; ends = refl; deaths = tt; faults = tt; failures = refl; operations = refl }, (record { cuts = refl; cleared = refl; ends = refl; deaths = tt; faults = tt; failures = refl; operations = refl }, tt))))))))))))))); aborted = (tt, (tt, (tt, (tt, (tt, (tt, (tt, (tt, (tt, (tt, (tt, (tt, (tt, (tt, (tt, (tt, (tt, (tt, (tt, (tt, (tt, (tt, (tt, (tt, (tt, (tt, (tt, (tt, (tt, (tt, (tt, (tt, tt)))))))))))))))))))))))))))))))) }
 
 agent_reset_judged : JudgementLaw journals.one_disk more.agent_reset_told
 unfolding reading fault_of tcode_of header_of offset_of rcode_of value_of length_of extended_of three four part_of is_to is_same asked_by begun_by belongs start_at lowest_from label_for free_from count_flying lowest_flying label_of with_label is_write kind_of slot_of window_at is_fifo point_step doorbell_step reset_step abort_step reply_step lost_step refusal verdict request_of check_of blank_bytes command_kind elements_from made block_head decide reads_eui live_login response_bytes start_step reply_step_of_manager decide_step fresh_id left_for enter_step back_step leave_step
@@ -164,7 +164,7 @@ agent_reset_answer = (tt, (tt, (tt, (tt, (tt, (tt, (tt, (tt, (tt, (tt, (tt, (tt,
 
 logout_cause : CauseLaw nobody journals.one_disk more.logout_told
 unfolding reading fault_of tcode_of header_of offset_of rcode_of value_of length_of extended_of three four part_of is_to is_same asked_by begun_by belongs start_at lowest_from label_for free_from count_flying lowest_flying label_of with_label is_write kind_of slot_of window_at is_fifo point_step doorbell_step reset_step abort_step reply_step lost_step refusal verdict request_of check_of blank_bytes command_kind elements_from made block_head decide reads_eui live_login response_bytes start_step reply_step_of_manager decide_step fresh_id left_for enter_step back_step leave_step
-logout_cause = record { causes = (record { cuts = refl; cleared = refl; ends = refl; failures = refl; operations = refl }, (record { cuts = refl; cleared = refl; ends = refl; failures = refl; operations = refl }, (record { cuts = refl; cleared = refl; ends = refl; failures = refl; operations = refl }, (record { cuts = refl; cleared = refl; ends = refl; failures = refl; operations = refl }, (record { cuts = refl; cleared = refl; ends = refl; failures = refl; operations = refl }, (record { cuts = refl; cleared = refl; ends = refl; failures = refl; operations = refl }, (record { cuts = refl; cleared = refl; ends = refl; failures = refl; operations = refl }, (record { cuts = refl; cleared = refl; ends = refl; failures = refl; operations = refl }, (record { cuts = refl; cleared = refl; ends = refl; failures = refl; operations = refl }, (record { cuts = refl; cleared = refl; ends = refl; failures = refl; operations = refl }, tt)))))))))); aborted = (tt, (tt, (tt, (tt, (tt, (tt, (tt, (tt, (tt, (tt, (tt, (tt, (tt, (tt, (tt, (tt, (tt, (tt, (tt, (tt, tt)))))))))))))))))))) }
+logout_cause = record { causes = (record { cuts = refl; cleared = refl; ends = refl; deaths = tt; faults = tt; failures = refl; operations = refl }, (record { cuts = refl; cleared = refl; ends = refl; deaths = tt; faults = tt; failures = refl; operations = refl }, (record { cuts = refl; cleared = refl; ends = refl; deaths = tt; faults = tt; failures = refl; operations = refl }, (record { cuts = refl; cleared = refl; ends = refl; deaths = tt; faults = tt; failures = refl; operations = refl }, (record { cuts = refl; cleared = refl; ends = refl; deaths = tt; faults = tt; failures = refl; operations = refl }, (record { cuts = refl; cleared = refl; ends = refl; deaths = tt; faults = tt; failures = refl; operations = refl }, (record { cuts = refl; cleared = refl; ends = refl; deaths = tt; faults = tt; failures = refl; operations = refl }, (record { cuts = refl; cleared = refl; ends = refl; deaths = tt; faults = tt; failures = refl; operations = refl }, (record { cuts = refl; cleared = refl; ends = refl; deaths = tt; faults = tt; failures = refl; operations = refl }, (record { cuts = refl; cleared = refl; ends = refl; deaths = tt; faults = tt; failures = refl; operations = refl }, tt)))))))))); aborted = (tt, (tt, (tt, (tt, (tt, (tt, (tt, (tt, (tt, (tt, (tt, (tt, (tt, (tt, (tt, (tt, (tt, (tt, (tt, (tt, tt)))))))))))))))))))) }
 
 logout_judged : JudgementLaw journals.one_disk more.logout_told
 unfolding reading fault_of tcode_of header_of offset_of rcode_of value_of length_of extended_of three four part_of is_to is_same asked_by begun_by belongs start_at lowest_from label_for free_from count_flying lowest_flying label_of with_label is_write kind_of slot_of window_at is_fifo point_step doorbell_step reset_step abort_step reply_step lost_step refusal verdict request_of check_of blank_bytes command_kind elements_from made block_head decide reads_eui live_login response_bytes start_step reply_step_of_manager decide_step fresh_id left_for enter_step back_step leave_step
@@ -220,7 +220,7 @@ logout_answer = (tt, (tt, (tt, (tt, (tt, (tt, (tt, (tt, (tt, (tt, (tt, (tt, (tt,
 
 read_ahead_cause : CauseLaw nobody journals.one_disk more.read_ahead_told
 unfolding reading fault_of tcode_of header_of offset_of rcode_of value_of length_of extended_of three four part_of is_to is_same asked_by begun_by belongs start_at lowest_from label_for free_from count_flying lowest_flying label_of with_label is_write kind_of slot_of window_at is_fifo point_step doorbell_step reset_step abort_step reply_step lost_step refusal verdict request_of check_of blank_bytes command_kind elements_from made block_head decide reads_eui live_login response_bytes start_step reply_step_of_manager decide_step fresh_id left_for enter_step back_step leave_step
-read_ahead_cause = record { causes = (record { cuts = refl; cleared = refl; ends = refl; failures = refl; operations = refl }, (record { cuts = refl; cleared = refl; ends = refl; failures = refl; operations = refl }, (record { cuts = refl; cleared = refl; ends = refl; failures = refl; operations = refl }, (record { cuts = refl; cleared = refl; ends = refl; failures = refl; operations = refl }, (record { cuts = refl; cleared = refl; ends = refl; failures = refl; operations = refl }, (record { cuts = refl; cleared = refl; ends = refl; failures = refl; operations = refl }, (record { cuts = refl; cleared = refl; ends = refl; failures = refl; operations = refl }, (record { cuts = refl; cleared = refl; ends = refl; failures = refl; operations = refl }, (record { cuts = refl; cleared = refl; ends = refl; failures = refl; operations = refl }, (record { cuts = refl; cleared = refl; ends = refl; failures = refl; operations = refl }, (record { cuts = refl; cleared = refl; ends = refl; failures = refl; operations = refl }, (record { cuts = refl; cleared = refl; ends = refl; failures = refl; operations = refl }, (record { cuts = refl; cleared = refl; ends = refl; failures = refl; operations = refl }, (record { cuts = refl; cleared = refl; ends = refl; failures = refl; operations = refl }, (record { cuts = refl; cleared = refl; ends = refl; failures = refl; operations = refl }, (record { cuts = refl; cleared = refl; ends = refl; failures = refl; operations = refl }, (record { cuts = refl; cleared = refl; ends = refl; failures = refl; operations = refl }, tt))))))))))))))))); aborted = (tt, (tt, (tt, (tt, (tt, (tt, (tt, (tt, (tt, (tt, (tt, (tt, (tt, (tt, (tt, (tt, (tt, (tt, (tt, (tt, (tt, (tt, (tt, (tt, (tt, (tt, (tt, (tt, (tt, (tt, (tt, (tt, (tt, (tt, (tt, (tt, (tt, (tt, (tt, (tt, (tt, (tt, tt)))))))))))))))))))))))))))))))))))))))))) }
+read_ahead_cause = record { causes = (record { cuts = refl; cleared = refl; ends = refl; deaths = tt; faults = tt; failures = refl; operations = refl }, (record { cuts = refl; cleared = refl; ends = refl; deaths = tt; faults = tt; failures = refl; operations = refl }, (record { cuts = refl; cleared = refl; ends = refl; deaths = tt; faults = tt; failures = refl; operations = refl }, (record { cuts = refl; cleared = refl; ends = refl; deaths = tt; faults = tt; failures = refl; operations = refl }, (record { cuts = refl; cleared = refl; ends = refl; deaths = tt; faults = tt; failures = refl; operations = refl }, (record { cuts = refl; cleared = refl; ends = refl; deaths = tt; faults = tt; failures = refl; operations = refl }, (record { cuts = refl; cleared = refl; ends = refl; deaths = tt; faults = tt; failures = refl; operations = refl }, (record { cuts = refl; cleared = refl; ends = refl; deaths = tt; faults = tt; failures = refl; operations = refl }, (record { cuts = refl; cleared = refl; ends = refl; deaths = tt; faults = tt; failures = refl; operations = refl }, (record { cuts = refl; cleared = refl; ends = refl; deaths = tt; faults = tt; failures = refl; operations = refl }, (record { cuts = refl; cleared = refl; ends = refl; deaths = tt; faults = tt; failures = refl; operations = refl }, (record { cuts = refl; cleared = refl; ends = refl; deaths = tt; faults = tt; failures = refl; operations = refl }, (record { cuts = refl; cleared = refl; ends = refl; deaths = tt; faults = tt; failures = refl; operations = refl }, (record { cuts = refl; cleared = refl; ends = refl; deaths = tt; faults = tt; failures = refl; operations = refl }, (record { cuts = refl; cleared = refl; ends = refl; deaths = tt; faults = tt; failures = refl; operations = refl }, (record { cuts = refl; cleared = refl; ends = refl; deaths = tt; faults = tt; failures = refl; operations = refl }, (record { cuts = refl; cleared = refl; ends = refl; deaths = tt; faults = tt; failures = refl; operations = refl }, tt))))))))))))))))); aborted = (tt, (tt, (tt, (tt, (tt, (tt, (tt, (tt, (tt, (tt, (tt, (tt, (tt, (tt, (tt, (tt, (tt, (tt, (tt, (tt, (tt, (tt, (tt, (tt, (tt, (tt, (tt, (tt, (tt, (tt, (tt, (tt, (tt, (tt, (tt, (tt, (tt, (tt, (tt, (tt, (tt, (tt, tt)))))))))))))))))))))))))))))))))))))))))) }
 
 read_ahead_judged : JudgementLaw journals.one_disk more.read_ahead_told
 unfolding reading fault_of tcode_of header_of offset_of rcode_of value_of length_of extended_of three four part_of is_to is_same asked_by begun_by belongs start_at lowest_from label_for free_from count_flying lowest_flying label_of with_label is_write kind_of slot_of window_at is_fifo point_step doorbell_step reset_step abort_step reply_step lost_step refusal verdict request_of check_of blank_bytes command_kind elements_from made block_head decide reads_eui live_login response_bytes start_step reply_step_of_manager decide_step fresh_id left_for enter_step back_step leave_step
@@ -276,7 +276,7 @@ read_ahead_answer = (tt, (tt, (tt, (λ e. record { len = refl; told = refl }, (t
 
 login_cause : CauseLaw nobody journals.one_disk more.login_told
 unfolding reading fault_of tcode_of header_of offset_of rcode_of value_of length_of extended_of three four part_of is_to is_same asked_by begun_by belongs start_at lowest_from label_for free_from count_flying lowest_flying label_of with_label is_write kind_of slot_of window_at is_fifo point_step doorbell_step reset_step abort_step reply_step lost_step refusal verdict request_of check_of blank_bytes command_kind elements_from made block_head decide reads_eui live_login response_bytes start_step reply_step_of_manager decide_step fresh_id left_for enter_step back_step leave_step
-login_cause = record { causes = (record { cuts = refl; cleared = refl; ends = refl; failures = refl; operations = refl }, (record { cuts = refl; cleared = refl; ends = refl; failures = refl; operations = refl }, (record { cuts = refl; cleared = refl; ends = refl; failures = refl; operations = refl }, (record { cuts = refl; cleared = refl; ends = refl; failures = refl; operations = refl }, (record { cuts = refl; cleared = refl; ends = refl; failures = refl; operations = refl }, (record { cuts = refl; cleared = refl; ends = refl; failures = refl; operations = refl }, (record { cuts = refl; cleared = refl; ends = refl; failures = refl; operations = refl }, (record { cuts = refl; cleared = refl; ends = refl; failures = refl; operations = refl }, (record { cuts = refl; cleared = refl; ends = refl; failures = refl; operations = refl }, (record { cuts = refl; cleared = refl; ends = refl; failures = refl; operations = refl }, (record { cuts = refl; cleared = refl; ends = refl; failures = refl; operations = refl }, (record { cuts = refl; cleared = refl; ends = refl; failures = refl; operations = refl }, (record { cuts = refl; cleared = refl; ends = refl; failures = refl; operations = refl }, (record { cuts = refl; cleared = refl; ends = refl; failures = refl; operations = refl }, (record { cuts = refl; cleared = refl; ends = refl; failures = refl; operations = refl }, (record { cuts = refl; cleared = refl; ends = refl; failures = refl; operations = refl }, (record { cuts = refl; cleared = refl; ends = refl; failures = refl; operations = refl }, (record { cuts = refl; cleared = refl; ends = refl; failures = refl; operations = refl }, (record { cuts = refl; cleared = refl; ends = refl; failures = refl; operations = refl }, (record { cuts = refl; cleared = refl; ends = refl; failures = refl; operations = refl }, (record { cuts = refl; cleared = refl; ends = refl; failures = refl; operations = refl }, (record { cuts = refl; cleared = refl; ends = refl; failures = refl; operations = refl }, (record { cuts = refl; cleared = refl; ends = refl; failures = refl; operations = refl }, (record { cuts = refl; cleared = refl; ends = refl; failures = refl; operations = refl }, (record { cuts = refl; cleared = refl; ends = refl; failures = refl; operations = refl }, tt))))))))))))))))))))))))); aborted = (tt, (tt, (tt, (tt, (tt, (tt, (tt, (tt, (tt, (tt, (tt, (tt, (tt, (tt, (tt, (tt, (tt, (tt, (tt, (tt, (tt, (tt, (tt, (tt, (tt, (tt, (tt, (tt, (tt, (tt, (tt, (tt, (tt, (tt, (tt, (tt, (tt, (tt, (tt, (tt, (tt, (tt, (tt, (tt, (tt, (tt, (tt, (tt, (tt, tt))))))))))))))))))))))))))))))))))))))))))))))))) }
+login_cause = record { causes = (record { cuts = refl; cleared = refl; ends = refl; deaths = tt; faults = tt; failures = refl; operations = refl }, (record { cuts = refl; cleared = refl; ends = refl; deaths = tt; faults = tt; failures = refl; operations = refl }, (record { cuts = refl; cleared = refl; ends = refl; deaths = tt; faults = tt; failures = refl; operations = refl }, (record { cuts = refl; cleared = refl; ends = refl; deaths = tt; faults = tt; failures = refl; operations = refl }, (record { cuts = refl; cleared = refl; ends = refl; deaths = tt; faults = tt; failures = refl; operations = refl }, (record { cuts = refl; cleared = refl; ends = refl; deaths = tt; faults = tt; failures = refl; operations = refl }, (record { cuts = refl; cleared = refl; ends = refl; deaths = tt; faults = tt; failures = refl; operations = refl }, (record { cuts = refl; cleared = refl; ends = refl; deaths = tt; faults = tt; failures = refl; operations = refl }, (record { cuts = refl; cleared = refl; ends = refl; deaths = tt; faults = tt; failures = refl; operations = refl }, (record { cuts = refl; cleared = refl; ends = refl; deaths = tt; faults = tt; failures = refl; operations = refl }, (record { cuts = refl; cleared = refl; ends = refl; deaths = tt; faults = tt; failures = refl; operations = refl }, (record { cuts = refl; cleared = refl; ends = refl; deaths = tt; faults = tt; failures = refl; operations = refl }, (record { cuts = refl; cleared = refl; ends = refl; deaths = tt; faults = tt; failures = refl; operations = refl }, (record { cuts = refl; cleared = refl; ends = refl; deaths = tt; faults = tt; failures = refl; operations = refl }, (record { cuts = refl; cleared = refl; ends = refl; deaths = tt; faults = tt; failures = refl; operations = refl }, (record { cuts = refl; cleared = refl; ends = refl; deaths = tt; faults = tt; failures = refl; operations = refl }, (record { cuts = refl; cleared = refl; ends = refl; deaths = tt; faults = tt; failures = refl; operations = refl }, (record { cuts = refl; cleared = refl; ends = refl; deaths = tt; faults = tt; failures = refl; operations = refl }, (record { cuts = refl; cleared = refl; ends = refl; deaths = tt; faults = tt; failures = refl; operations = refl }, (record { cuts = refl; cleared = refl; ends = refl; deaths = tt; faults = tt; failures = refl; operations = refl }, (record { cuts = refl; cleared = refl; ends = refl; deaths = tt; faults = tt; failures = refl; operations = refl }, (record { cuts = refl; cleared = refl; ends = refl; deaths = tt; faults = tt; failures = refl; operations = refl }, (record { cuts = refl; cleared = refl; ends = refl; deaths = tt; faults = tt; failures = refl; operations = refl }, (record { cuts = refl; cleared = refl; ends = refl; deaths = tt; faults = tt; failures = refl; operations = refl }, (record { cuts = refl; cleared = refl; ends = refl; deaths = tt; faults = tt; failures = refl; operations = refl }, tt))))))))))))))))))))))))); aborted = (tt, (tt, (tt, (tt, (tt, (tt, (tt, (tt, (tt, (tt, (tt, (tt, (tt, (tt, (tt, (tt, (tt, (tt, (tt, (tt, (tt, (tt, (tt, (tt, (tt, (tt, (tt, (tt, (tt, (tt, (tt, (tt, (tt, (tt, (tt, (tt, (tt, (tt, (tt, (tt, (tt, (tt, (tt, (tt, (tt, (tt, (tt, (tt, (tt, tt))))))))))))))))))))))))))))))))))))))))))))))))) }
 
 login_judged : JudgementLaw journals.one_disk more.login_told
 unfolding reading fault_of tcode_of header_of offset_of rcode_of value_of length_of extended_of three four part_of is_to is_same asked_by begun_by belongs start_at lowest_from label_for free_from count_flying lowest_flying label_of with_label is_write kind_of slot_of window_at is_fifo point_step doorbell_step reset_step abort_step reply_step lost_step refusal verdict request_of check_of blank_bytes command_kind elements_from made block_head decide reads_eui live_login response_bytes start_step reply_step_of_manager decide_step fresh_id left_for enter_step back_step leave_step
@@ -332,7 +332,7 @@ login_answer = (tt, (tt, (tt, (tt, (tt, (tt, (tt, (tt, (tt, (tt, (tt, (tt, (tt, 
 
 reconnect_cause : CauseLaw nobody journals.one_disk more.reconnect_told
 unfolding reading fault_of tcode_of header_of offset_of rcode_of value_of length_of extended_of three four part_of is_to is_same asked_by begun_by belongs start_at lowest_from label_for free_from count_flying lowest_flying label_of with_label is_write kind_of slot_of window_at is_fifo point_step doorbell_step reset_step abort_step reply_step lost_step refusal verdict request_of check_of blank_bytes command_kind elements_from made block_head decide reads_eui live_login response_bytes start_step reply_step_of_manager decide_step fresh_id left_for enter_step back_step leave_step
-reconnect_cause = record { causes = (record { cuts = refl; cleared = refl; ends = refl; failures = refl; operations = refl }, (record { cuts = refl; cleared = refl; ends = refl; failures = refl; operations = refl }, (record { cuts = refl; cleared = refl; ends = refl; failures = refl; operations = refl }, (record { cuts = refl; cleared = refl; ends = refl; failures = refl; operations = refl }, (record { cuts = refl; cleared = refl; ends = refl; failures = refl; operations = refl }, (record { cuts = refl; cleared = refl; ends = refl; failures = refl; operations = refl }, (record { cuts = refl; cleared = refl; ends = refl; failures = refl; operations = refl }, (record { cuts = refl; cleared = refl; ends = refl; failures = refl; operations = refl }, (record { cuts = refl; cleared = refl; ends = refl; failures = refl; operations = refl }, (record { cuts = refl; cleared = refl; ends = refl; failures = refl; operations = refl }, (record { cuts = refl; cleared = refl; ends = refl; failures = refl; operations = refl }, (record { cuts = refl; cleared = refl; ends = refl; failures = refl; operations = refl }, (record { cuts = refl; cleared = refl; ends = refl; failures = refl; operations = refl }, (record { cuts = refl; cleared = refl; ends = refl; failures = refl; operations = refl }, (record { cuts = refl; cleared = refl; ends = refl; failures = refl; operations = refl }, (record { cuts = refl; cleared = refl; ends = refl; failures = refl; operations = refl }, (record { cuts = refl; cleared = refl; ends = refl; failures = refl; operations = refl }, (record { cuts = refl; cleared = refl; ends = refl; failures = refl; operations = refl }, (record { cuts = refl; cleared = refl; ends = refl; failures = refl; operations = refl }, tt))))))))))))))))))); aborted = (tt, (tt, (tt, (tt, (tt, (tt, (tt, (tt, (tt, (tt, (tt, (tt, (tt, (tt, (tt, (tt, (tt, (tt, (tt, (tt, (tt, (tt, (tt, (tt, (tt, (tt, (tt, (tt, (tt, (tt, (tt, (tt, (tt, (tt, (tt, tt))))))))))))))))))))))))))))))))))) }
+reconnect_cause = record { causes = (record { cuts = refl; cleared = refl; ends = refl; deaths = tt; faults = tt; failures = refl; operations = refl }, (record { cuts = refl; cleared = refl; ends = refl; deaths = tt; faults = tt; failures = refl; operations = refl }, (record { cuts = refl; cleared = refl; ends = refl; deaths = tt; faults = tt; failures = refl; operations = refl }, (record { cuts = refl; cleared = refl; ends = refl; deaths = tt; faults = tt; failures = refl; operations = refl }, (record { cuts = refl; cleared = refl; ends = refl; deaths = tt; faults = tt; failures = refl; operations = refl }, (record { cuts = refl; cleared = refl; ends = refl; deaths = tt; faults = tt; failures = refl; operations = refl }, (record { cuts = refl; cleared = refl; ends = refl; deaths = tt; faults = tt; failures = refl; operations = refl }, (record { cuts = refl; cleared = refl; ends = refl; deaths = tt; faults = tt; failures = refl; operations = refl }, (record { cuts = refl; cleared = refl; ends = refl; deaths = tt; faults = tt; failures = refl; operations = refl }, (record { cuts = refl; cleared = refl; ends = refl; deaths = tt; faults = tt; failures = refl; operations = refl }, (record { cuts = refl; cleared = refl; ends = refl; deaths = tt; faults = tt; failures = refl; operations = refl }, (record { cuts = refl; cleared = refl; ends = refl; deaths = tt; faults = tt; failures = refl; operations = refl }, (record { cuts = refl; cleared = refl; ends = refl; deaths = tt; faults = tt; failures = refl; operations = refl }, (record { cuts = refl; cleared = refl; ends = refl; deaths = tt; faults = tt; failures = refl; operations = refl }, (record { cuts = refl; cleared = refl; ends = refl; deaths = tt; faults = tt; failures = refl; operations = refl }, (record { cuts = refl; cleared = refl; ends = refl; deaths = tt; faults = tt; failures = refl; operations = refl }, (record { cuts = refl; cleared = refl; ends = refl; deaths = tt; faults = tt; failures = refl; operations = refl }, (record { cuts = refl; cleared = refl; ends = refl; deaths = tt; faults = tt; failures = refl; operations = refl }, (record { cuts = refl; cleared = refl; ends = refl; deaths = tt; faults = tt; failures = refl; operations = refl }, tt))))))))))))))))))); aborted = (tt, (tt, (tt, (tt, (tt, (tt, (tt, (tt, (tt, (tt, (tt, (tt, (tt, (tt, (tt, (tt, (tt, (tt, (tt, (tt, (tt, (tt, (tt, (tt, (tt, (tt, (tt, (tt, (tt, (tt, (tt, (tt, (tt, (tt, (tt, tt))))))))))))))))))))))))))))))))))) }
 
 reconnect_judged : JudgementLaw journals.one_disk more.reconnect_told
 unfolding reading fault_of tcode_of header_of offset_of rcode_of value_of length_of extended_of three four part_of is_to is_same asked_by begun_by belongs start_at lowest_from label_for free_from count_flying lowest_flying label_of with_label is_write kind_of slot_of window_at is_fifo point_step doorbell_step reset_step abort_step reply_step lost_step refusal verdict request_of check_of blank_bytes command_kind elements_from made block_head decide reads_eui live_login response_bytes start_step reply_step_of_manager decide_step fresh_id left_for enter_step back_step leave_step

@@ -27,7 +27,7 @@ pub record Adds (wild : ℕ → Bool) (start : List Disk) (past : List Moment) (
   pub order : EachMomentOf (OrderAt wild) past line event told
   pub execution : EachMomentOf (ExecutionAt wild start) past line event told
   pub taken : EachMomentOf (TakenAt wild) past line event told
-  pub taken_each : EachTurnOf TakesEach past line event told
+  pub taken_each : EachTurnOf (TakesEach wild) past line event told
   pub answer : EachMomentOf (AnswerAt wild start) past line event told
   pub carried : EachMomentOf (CarriedAt wild start) past line event told
   pub run_where_due : EachTurnOf (RunsWhereDue wild start) past line event told

@@ -508,3 +508,23 @@ refuses_append = entry 2 (events.Act 0 (actions.Append test_ready)) (notes.Refus
 
 abbrev pub refuses_login : (number : ℕ) → List Entry
 refuses_login number = entry 2 (events.Act 0 (actions.Login 0 0 false (replicate 8 0))) (notes.Refused 2 number ∷ []) ∷ begin_entry ∷ []
+
+abbrev pub stops_early : List Entry
+stops_early = entry 3 events.Settle (notes.Stopped ∷ []) ∷ append_entry ∷ begin_entry ∷ []
+
+-- injected packets: 16 bytes from initiator 0 to the target, and from another node
+abbrev pub wild_bytes : (source : ℕ) → List ℕ
+wild_bytes source = canon (write_quadlet (header target_id source 0) 0 0)
+
+abbrev pub injects : (source : ℕ) → List Note → List Entry
+injects source notes_told = entry 2 (events.Inject 0 (wild_bytes source)) notes_told ∷ begin_entry ∷ []
+
+abbrev pub injected_notes : List Note
+injected_notes = notes.Injected 1 ∷ notes.Sent 1 0 1 0 (wild_bytes first_id) ∷ []
+
+abbrev pub sets_key : (unit : ℕ) → List Note → List Entry
+sets_key unit notes_told = entry 2 (events.Key unit (replicate 8 1)) notes_told ∷ begin_entry ∷ []
+
+-- ---- the cause law: an ORB ends as aborted, though no abort of it was asked for
+abbrev pub aborted_unasked : List Moment
+aborted_unasked = told (till_orb ++ said (notes.Got 4) ∷ ended kinds.Aborted ∷ sends_status ∷ [])

@@ -2,7 +2,8 @@
 -- the ORB ended. It is taken in the delivery of a write that the delivery or time-out of that end sent behind it; the write goes to the
 -- FIFO of the initiator's login, and its payload spells that status with the address of the ORB's slot. Each status block for a waiting ORB
 -- that an initiator gets has that ORB's `taken` in its delivery.
-use Rattle.std.specs.Prelude.{◌≡◌, ℕ, zero, suc, ◌-◌, ◌==◌, ◌&&◌, Bool, true, false, if◌then◌else◌, List, [], ◌∷◌, Option, Some, None, IsSomeAnd, Result, Ok, Err}
+use Rattle.std.specs.Prelude.{◌≡◌, ℕ, zero, suc, ◌-◌, ◌==◌, ◌&&◌, not, Bool, true, false, if◌then◌else◌, List, [], ◌∷◌, Option, Some, None, IsSomeAnd, Result, Ok, Err}
+use Rattle.std.specs.List.{filter}
 use Rattle.orb_layout.specs.declared.status.StatusKind.{StatusKind}
 use Rattle.orb_layout.specs.declared.status.StatusBlock.{StatusBlock}
 use Rattle.orb_layout.specs.declared.fault.OrbFault.{OrbFault}
@@ -107,9 +108,13 @@ abbrev pub takings_due : Turn → Moment → List Taking
 takings_due t (said (notes.Got serial)) = taking_at t.past (receiver_in ((terms t.past).sent serial)) (access_at (terms t.past) serial)
 takings_due t moment = []
 
-abbrev pub TakesEach : Turn → Type 0
-TakesEach t = takings_in t.rest ≡ takings_due t t.start
+-- those of the initiators that injected no packets
+abbrev pub of_others : (ℕ → Bool) → List Taking → List Taking
+of_others wild takings = filter (λ taking. not (wild taking.initiator)) takings
+
+abbrev pub TakesEach : (ℕ → Bool) → Turn → Type 0
+TakesEach wild t = of_others wild (takings_in t.rest) ≡ of_others wild (takings_due t t.start)
 
 pub record StatusLaw (wild : ℕ → Bool) (past : List Moment) : Type 0 where
   pub taken : EachMoment (TakenAt wild) past
-  pub each : EachTurn TakesEach past
+  pub each : EachTurn (TakesEach wild) past

@@ -1,5 +1,5 @@
 -- What the laws say of the journals of Journals.antt: of each law one that it accepts, and others that it refuses.
-use Rattle.std.specs.Prelude.{[], ◌∷◌, None, Some, List}
+use Rattle.std.specs.Prelude.{◌≡◌, [], ◌∷◌, None, Some, List}
 use Rattle.orb_layout.specs.Pointers.{quad_bytes}
 use Rattle.rbc_disk.specs.Disk.{Disk}
 use Rattle.sbp_journal.specs.Run.{Moment, said}
@@ -17,6 +17,7 @@ use Rattle.sbp_laws.specs.LoginLaw.{LoginLaw}
 use Rattle.sbp_laws.specs.SentLaw.{SentLaw}
 use Rattle.sbp_laws.specs.MediaLaw.{MediaLaw}
 use Rattle.sbp_laws.specs.ActionLaw.{ActionLaw}
+use Rattle.sbp_laws.specs.Budget.{budget, Lossless}
 use Rattle.sbp_laws.specs.Journals as journals
 use Rattle.sbp_laws.specs.WorkedRuns as runs
 
@@ -73,6 +74,7 @@ pub record CauseTried : Type 0 where
   pub death_left_out : CauseLaw nobody journals.one_disk journals.death_left_out → ⊥
   pub dead_twice : CauseLaw nobody journals.one_disk journals.dead_twice → ⊥
   pub dead_at_an_orb : CauseLaw nobody journals.one_disk journals.dead_at_an_orb → ⊥
+  pub aborted_unasked : CauseLaw nobody journals.one_disk journals.aborted_unasked → ⊥
   pub stuck_at_time_out : CauseLaw nobody journals.one_disk journals.stuck_at_time_out
   pub stuck_left_out : CauseLaw nobody journals.one_disk journals.stuck_left_out → ⊥
   pub state_ends : CauseLaw nobody journals.one_disk journals.state_ends_in_error
@@ -122,6 +124,12 @@ pub record ActionTried : Type 0 where
   pub settles_at_rest : ActionLaw journals.one_disk journals.settles_at_rest
   pub refuses_login : ActionLaw journals.one_disk (journals.refuses_login 2)
   pub steps_not : ActionLaw journals.one_disk journals.steps_not → ⊥
+  pub injects : ActionLaw journals.one_disk (journals.injects journals.first_id journals.injected_notes)
+  pub other_source : ActionLaw journals.one_disk (journals.injects journals.second_id (notes.Refused 2 12 ∷ []))
+  pub sets_key : ActionLaw journals.one_disk (journals.sets_key 0 (notes.Key 0 ∷ []))
+  pub no_unit : ActionLaw journals.one_disk (journals.sets_key 1 (notes.Refused 2 13 ∷ []))
+  pub inject_refused : ActionLaw journals.one_disk (journals.injects journals.first_id (notes.Refused 2 12 ∷ [])) → ⊥
+  pub stops_early : ActionLaw journals.one_disk journals.stops_early → ⊥
   pub settles_early : ActionLaw journals.one_disk journals.settles_early → ⊥
   pub refuses_append : ActionLaw journals.one_disk journals.refuses_append → ⊥
   pub other_number : ActionLaw journals.one_disk (journals.refuses_login 3) → ⊥
@@ -147,3 +155,14 @@ pub record RunsTried : Type 0 where
   pub read_ahead : KeepsLaws journals.one_disk runs.read_ahead_told
   pub login : KeepsLaws journals.one_disk runs.login_told
   pub reconnect : KeepsLaws journals.one_disk runs.reconnect_told
+
+-- The budget of a settle: 620 behind one append, whose pointer write is in flight, 622 where its command has a buffer of one chunk, 600 once
+-- its status was taken. Which runs are lossless.
+pub record BudgetTried : Type 0 where
+  pub one_waits : budget (journals.told journals.till_pointer) ≡ 620
+  pub one_chunk : budget (journals.told runs.appends_capacity) ≡ 622
+  pub none_waits : budget journals.whole ≡ 600
+  pub whole : Lossless journals.whole
+  pub all_seen : Lossless runs.reconnect_told
+  pub timed_out : Lossless journals.dead_at_time_out → ⊥
+  pub unseen : Lossless journals.drops_at_reset → ⊥

@@ -30,6 +30,11 @@ capacity_orb = quad_bytes (0x80000000 ∷ 0 ∷ 0xffc10000 ∷ 0x11000000 ∷ 0x
 abbrev pub capacity : List ℕ
 capacity = quad_bytes (0 ∷ 512 ∷ [])
 
+abbrev pub appends_capacity : List Moment
+appends_capacity =
+    begins ++ asked 2 (events.Act 0 (actions.Append read_capacity)) ∷ said (notes.Append 0 0 0 capacity_block (In 8)) ∷ said (notes.Rung 0 0 0)
+    ∷ said (notes.Sent 1 0 1 0 pointer_packet) ∷ []
+
 abbrev pub till_capacity : List Moment
 till_capacity =
     begins ++ asked 2 (events.Act 0 (actions.Append read_capacity)) ∷ said (notes.Append 0 0 0 capacity_block (In 8)) ∷ said (notes.Rung 0 0 0)

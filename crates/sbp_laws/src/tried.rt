@@ -1,4 +1,4 @@
-ghost use Rattle.sbp_laws.specs.Tried.{RunsTried, ActionTried, AnswerTried, CarriedTried, CauseTried, ExecutionTried, JudgementTried, LoginTried, MediaTried, OnceTried, OrderTried, SentTried, StatusTried};
+ghost use Rattle.sbp_laws.specs.Tried.{RunsTried, ActionTried, AnswerTried, BudgetTried, CarriedTried, CauseTried, ExecutionTried, JudgementTried, LoginTried, MediaTried, OnceTried, OrderTried, SentTried, StatusTried};
 
 // Each law accepts a journal and refuses others that differ from it in a note.
 
@@ -66,4 +66,9 @@ pub fn action_law_tried()
 /// read ahead, a logout, a login and a reconnect.
 pub fn worked_runs_tried()
     ensures { RunsTried }
+{}
+
+/// How many deliveries a settle has behind some worked runs, and which of these are lossless.
+pub fn budget_tried()
+    ensures { BudgetTried }
 {}
