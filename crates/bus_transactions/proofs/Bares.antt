@@ -1,8 +1,8 @@
 -- A transaction layer without what its transactions are for takes the same steps.
-use Rattle.std.specs.Prelude.{◌≡◌, ℕ, zero, suc, ◌+◌, not, nat_lt, is_some, Bool, true, false, cond, List, [], ◌∷◌, length, map, replicate, position, slice_set, slice_index_or, Option, Some, None, Result, Ok, Err, refl}
-use Rattle.std.specs.List.{prefix_len}
+use Rattle.bus_transactions.proofs.Rooms.{position_map}
+use Rattle.std.specs.Prelude.{◌≡◌, ℕ, zero, suc, ◌+◌, nat_lt, is_some, Bool, true, false, cond, List, [], ◌∷◌, map, replicate, position, slice_set, slice_index_or, Option, Some, None, Result, Ok, Err, refl}
 use Rattle.std.proofs.Common.{sym, ◌∙◌, ap}
-use Rattle.std.proofs.lemmas.List.{map-set, length-map}
+use Rattle.std.proofs.lemmas.List.{map-set}
 use Rattle.std.proofs.Math.ListN.{get_or-map}
 use Rattle.async_packet.specs.declared.fault.PacketFault.{PacketFault}
 use Rattle.async_packet.specs.Labels.{LabelParts}
@@ -20,15 +20,6 @@ use Rattle.label_table.specs.Peers.{PeerPlace, peer_of, no_peer, with_purpose, b
 use Rattle.label_table.specs.Layer.{Layer, peer_at, peer_place, with_peer, unlabelled, asked_at, asking_in, asking_step, closed_at, closing_in, closing_step, closed_by, facts_in, facts_of, responded, judged_by, judging_step, answering_step, expired_at, expiring_in, expiring_step, disowning_in, disowning_step, seen_in_generation, seeing_step}
 use Rattle.bus_transactions.specs.Wire.{Node}
 use Rattle.bus_transactions.specs.Bare.{bare_purpose, bare_place, bare, bare_finding, bare_result, bare_after, same, TakesSteps}
-
-prefix_map : {A B : Type 0} (p : B → Bool) (f : A → B) (xs : List A) → prefix_len p (map f xs) ≡ prefix_len (λ x. p (f x)) xs
-prefix_map p f [] = refl
-prefix_map p f (x ∷ xs) = ap (λ n. cond (p (f x)) (1 + n) 0) (prefix_map p f xs)
-
-position_map : {A B : Type 0} (p : B → Bool) (f : A → B) (xs : List A) → position p (map f xs) ≡ position (λ x. p (f x)) xs
-position_map p f xs =
-    ap (λ n. cond (nat_lt n (length (map f xs))) (Some n) None) (prefix_map (λ y. not (p y)) f xs)
-    ∙ ap (λ n. cond (nat_lt (prefix_len (λ x. not (p (f x))) xs) n) (Some (prefix_len (λ x. not (p (f x))) xs)) None) (length-map xs f)
 
 none_bare : (P : Type 0) (n : ℕ) → map (bare_purpose {P = P}) (replicate n None) ≡ replicate n None
 none_bare P zero = refl

@@ -150,7 +150,7 @@ module _ (w : Wire) (h : Stands w) (i j : ℕ) (body : Body) (may : MayAsk w i j
         codes = subst (λ d. Served (begins_at T u b.kind q) (due_transaction d)) (sym may.free) (served_begun h.facts (subst (λ d. Served T (due_transaction d)) may.free h.codes) u b.kind q begun);
         nodes = λ k.
             node_case (λ x l. IsNode (T.ids (T.generation x)) (T.generation x) x (at T.held u (waits b.kind (T.count + 1))) (at T.last u (Some asked.bytes)) T.seen T.given (due_transaction w.due) l) i k new w.layer (nat_eq k i) refl
-            (node_asks node (h.facts.apart g) new (id_for w i j) j (T.count + 1) (unlabelled (w.layer i) (id_for w i j) body) asked b.kind peer_is b.kind_is a)
+            (node_asks node (h.facts.apart g) new (id_for w i j) j (T.count + 1) (unlabelled (w.layer i) (id_for w i j) body) asked b.kind may.peer_small peer_is b.kind_is a)
             (λ d. node_beside (h.nodes k) u (waits b.kind (T.count + 1)) (Some asked.bytes) d);
       })
     where

@@ -12,7 +12,7 @@ use Rattle.async_packet.specs.Labels.{LabelParts}
 use Rattle.async_packet.specs.Packet.{Packet, header_in}
 use Rattle.async_packet.specs.Reading.{reading}
 use Rattle.label_table.specs.declared.place.LabelState.TheVariants as states
-use Rattle.label_table.specs.Filter.{place_for, judge_step}
+use Rattle.label_table.specs.Filter.{place_for, judge_step, source_of}
 use Rattle.label_table.specs.Judging.{Facts, Row, by_grammar, by_label, by_response, by_again, by_request, row_of}
 use Rattle.label_table.specs.Layer.{Finding, of_generation, of_grammar, of_label, of_response, of_again, of_request, facts_in, judging_step, rcode_in, is_again}
 use Rattle.label_table.specs.Layer as layers
@@ -179,7 +179,7 @@ module _ (w : Wire) (h : Stands w) (s : ℕ) (q : Sending) (cause : Option Cause
   room_now p read now =
       let n = node_now now in
       let honest = o.facts.honest s q sent in
-      let r = has_room (B.ids q.generation) q.from (w.layer q.to).filter honest.from_small n.room in
+      let r = has_room source_of (B.ids q.generation) q.from (w.layer q.to).filter honest.from_small n.room in
       (r.0, ap (λ x. place_for x (w.layer q.to).filter) (honest.source p read) ∙ r.1)
 
   generation_case : (new : Node) → new ≡ w.layer q.to → On (noted (first_note of_generation cause s) (terms w.past)) store' (upd w.layer q.to new) w.bus w.ids None

@@ -210,7 +210,7 @@ module _ (w : Wire) (h : Stands w) (i : ℕ) (idle : w.due ≡ None) where
   own_seen true e =
       let before : T.generation i < T.bus = let g = (o.nodes i).generation in let b = o.bus_is in let l : (w.layer i).generation < w.bus = grind arith in omega (arith, g, b, l) in
       subst (λ g. IsNode (T.ids T.bus) T.bus i T.held T.last T.seen T.given None (seen_in_generation (w.layer i) g (w.ids i))) (sym o.bus_is)
-      (node_seen (w.layer i) (w.ids i) (o.ids_are i)
+      (node_seen (w.layer i) (w.ids i) (o.nodes i).places.size (o.ids_are i)
       (λ j l. (o.facts.tie (transaction T.bus i j l)).idle (o.facts.early (transaction T.bus i j l) before))
       (λ j l. (o.facts.tie (transaction T.bus i j l)).none (o.facts.early (transaction T.bus i j l) before))
       (λ j l. o.facts.silent (transaction T.bus j i l) before)

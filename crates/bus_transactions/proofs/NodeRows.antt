@@ -1,14 +1,14 @@
 -- A node's transaction layer has the rows of the history in the generation that the node is in.
-use Rattle.bus_transactions.proofs.Rooms.{unknown, frees, room_kept, new_room}
-use Rattle.std.specs.Prelude.{◌≡◌, ◌≢◌, ℕ, ◌&&◌, nat_eq, Bool, true, false, cond, List, Option, Some, None, refl, ◌<◌, ◌≤◌}
+use Rattle.bus_transactions.proofs.Rooms.{unknown, frees, room_kept, new_room, HasRoom}
+use Rattle.std.specs.Prelude.{◌≡◌, ◌≢◌, ℕ, ◌&&◌, nat_eq, Bool, true, false, cond, List, Option, Some, None, refl, ◌<◌, ◌≤◌, map, replicate, length}
 use Rattle.std.proofs.Common.{arith, sym, ◌∙◌, ap, subst}
 use Rattle.label_table.specs.declared.reply.ReplyKind.{ReplyKind}
 use Rattle.label_table.specs.declared.place.LabelState.{LabelState}
 use Rattle.label_table.specs.declared.place.LabelState.TheVariants as states
 use Rattle.label_table.specs.declared.judgement.Asked.{Asked}
 use Rattle.label_table.specs.Requests.{label_of, kind_of}
-use Rattle.label_table.specs.Filter.{place_for, seen_at, remember_step}
-use Rattle.label_table.specs.Peers.{state_for, last_for}
+use Rattle.label_table.specs.Filter.{place_for, seen_at, remember_step, source_of, source_at, remembered, remember_at, SourcePlace, new_filter}
+use Rattle.label_table.specs.Peers.{state_for, last_for, peer_of, no_peer, clear_place}
 use Rattle.label_table.specs.Layer.{new_layer, seen_in_generation}
 use Rattle.label_table.proofs.Sources.{IsFit, own_after, other_after, remembered_fit, new_fit, new_unseen}
 use Rattle.sbp_journal.specs.Transactions.{Kind, Transaction, is_same, at, is_that}
@@ -16,7 +16,7 @@ use Rattle.sbp_journal.specs.Wire.{Held, free, waits}
 use Rattle.bus_transactions.specs.Wire.{Node, transaction}
 use Rattle.bus_transactions.specs.Rows.{shape, shape_of, kind_as, awaits}
 use Rattle.bus_transactions.proofs.PacketParts.{same_refl, same_is, same_asked, same_heard, other_requester, other_responder}
-use Rattle.bus_transactions.proofs.Places.{Places, cleared_places, cleared_looked, new_places, new_looked}
+use Rattle.bus_transactions.proofs.Places.{Places, cleared_places, cleared_looked, new_places, new_looked, cleared_owners}
 use Rattle.bus_transactions.proofs.Steps.{Stays, Shows, Asks, Frees, Same}
 
 -- `row` are the IDs of the nodes in the generation; `of` is the transaction of the request that is to be answered
@@ -25,7 +25,8 @@ pub record IsNode (row : ℕ → ℕ) (g i : ℕ) (held : Transaction → Held) 
   pub id : layer.node ≡ row i
   pub places : Places layer.generation layer.peers
   pub fit : IsFit layer.filter
-  pub room : unknown row 5 layer.filter ≤ frees layer.filter
+  pub room : HasRoom source_of row layer.filter
+  pub peer_room : HasRoom peer_of row layer.peers
   pub states_are : (j l : ℕ) → shape (state_for layer.peers (row j) l) ≡ shape_of (held (transaction g i j l))
   pub lasts_are : (j l : ℕ) → last_for layer.peers (row j) l ≡ last (transaction g i j l)
   pub seen_are : (j l : ℕ) → is_that of (transaction g j i l) ≡ false → seen_at (row j) layer.filter l ≡ record { last = seen (transaction g j i l); rcode = given (transaction g j i l) }
@@ -81,13 +82,14 @@ module _ {row : ℕ → ℕ} {g i : ℕ} {held : Transaction → Held} {last see
   same_filter : (new : Node) → Stays layer new → (j l : ℕ) → is_that of (transaction g j i l) ≡ false → seen_at (row j) new.filter l ≡ record { last = seen (transaction g j i l); rcode = given (transaction g j i l) }
   same_filter new s j l e = ap (λ f. seen_at (row j) f l) s.filter ∙ n.seen_are j l e
 
-  pub node_asks : ((i j : ℕ) → row i ≡ row j → i ≡ j) → (new : Node) (peer k s : ℕ) (bytes : List ℕ) (asked : Asked) (kind : Kind) → peer ≡ row k → kind_of bytes ≡ kind_as kind → Asks layer new peer bytes asked → IsNode row g i (at held (transaction g i k asked.label.number) (waits kind s)) (at last (transaction g i k asked.label.number) (Some asked.bytes)) seen given of new
-  node_asks apart new peer k s bytes asked kind e is a = record {
+  pub node_asks : ((i j : ℕ) → row i ≡ row j → i ≡ j) → (new : Node) (peer k s : ℕ) (bytes : List ℕ) (asked : Asked) (kind : Kind) → k < 5 → peer ≡ row k → kind_of bytes ≡ kind_as kind → Asks layer new peer bytes asked → IsNode row g i (at held (transaction g i k asked.label.number) (waits kind s)) (at last (transaction g i k asked.label.number) (Some asked.bytes)) seen given of new
+  node_asks apart new peer k s bytes asked kind small e is a = record {
     generation = a.shows.stays.generation ∙ n.generation;
     id = a.shows.stays.node ∙ n.id;
     places = a.shows.places;
     fit = subst IsFit (sym a.shows.stays.filter) n.fit;
-    room = subst (λ f. unknown row 5 f ≤ frees f) (sym a.shows.stays.filter) n.room;
+    room = subst (HasRoom source_of row) (sym a.shows.stays.filter) n.room;
+    peer_room = a.rooms row k (sym e) small n.peer_room;
     states_are = shows_states apart new peer k asked.label.number (states.UnderWay (kind_of bytes) a.serial) (waits kind s) e (ap awaits is) a.shows;
     lasts_are = λ j l.
         a.lasts_are (row j) l
@@ -102,7 +104,8 @@ module _ {row : ℕ → ℕ} {g i : ℕ} {held : Transaction → Held} {last see
     id = a.shows.stays.node ∙ n.id;
     places = a.shows.places;
     fit = subst IsFit (sym a.shows.stays.filter) n.fit;
-    room = subst (λ f. unknown row 5 f ≤ frees f) (sym a.shows.stays.filter) n.room;
+    room = subst (HasRoom source_of row) (sym a.shows.stays.filter) n.room;
+    peer_room = subst (λ os. unknown row 5 os ≤ frees os) (sym a.owners_are) n.peer_room;
     states_are = shows_states apart new peer k m state x e same a.shows;
     lasts_are = λ j l. a.lasts_are (row j) l ∙ n.lasts_are j l;
     seen_are = same_filter new a.shows.stays;
@@ -114,7 +117,8 @@ module _ {row : ℕ → ℕ} {g i : ℕ} {held : Transaction → Held} {last see
     id = s.stays.node ∙ n.id;
     places = s.places;
     fit = subst IsFit (sym s.stays.filter) n.fit;
-    room = subst (λ f. unknown row 5 f ≤ frees f) (sym s.stays.filter) n.room;
+    room = subst (HasRoom source_of row) (sym s.stays.filter) n.room;
+    peer_room = subst (λ os. unknown row 5 os ≤ frees os) (sym s.owners_are) n.peer_room;
     states_are = λ j l. ap shape (s.states_are (row j) l) ∙ n.states_are j l;
     lasts_are = λ j l. s.lasts_are (row j) l ∙ n.lasts_are j l;
     seen_are = same_filter new s.stays;
@@ -128,6 +132,7 @@ module _ {row : ℕ → ℕ} {g i : ℕ} {held : Transaction → Held} {last see
     places = n.places;
     fit = n.fit;
     room = n.room;
+    peer_room = n.peer_room;
     states_are = λ j l. n.states_are j l ∙ ap (λ b. shape_of (cond b x (held (transaction g i j l)))) (sym (other_requester (transaction g i j l) u d));
     lasts_are = λ j l. n.lasts_are j l ∙ ap (λ b. cond b y (last (transaction g i j l))) (sym (other_requester (transaction g i j l) u d));
     seen_are = n.seen_are;
@@ -140,6 +145,7 @@ module _ {row : ℕ → ℕ} {g i : ℕ} {held : Transaction → Held} {last see
     places = n.places;
     fit = n.fit;
     room = n.room;
+    peer_room = n.peer_room;
     states_are = λ j l. n.states_are j l ∙ ap (λ b. shape_of (cond b x (held (transaction g i j l)))) (sym (other_requester (transaction g i j l) u d));
     lasts_are = n.lasts_are;
     seen_are = n.seen_are;
@@ -157,12 +163,22 @@ node_judged {row} {g} {i} {seen = seen} {given = given} {layer = layer} n v byte
   places = n.places;
   fit = n.fit;
   room = n.room;
+  peer_room = n.peer_room;
   states_are = n.states_are;
   lasts_are = n.lasts_are;
   seen_are = λ j l e.
       n.seen_are j l refl
       ∙ ap (λ b. record { last = cond b bytes (seen (transaction g j i l)); rcode = given (transaction g j i l) }) (sym (same_sym (transaction g j i l) v ∙ e));
 }
+
+source_is : (place : SourcePlace) (s : ℕ) (b : List ℕ) (r : ℕ) → source_of (remembered place s b r) ≡ Some s
+unfolding remembered
+source_is place s b r = refl
+
+filter_room : (row : ℕ → ℕ) (f : List SourcePlace) (s k m : ℕ) (b : List ℕ) (r : ℕ) → row m ≡ s → m < 5 → HasRoom source_of row f → place_for s f ≡ Some k → HasRoom source_of row (remember_step f s b r)
+filter_room row f s k m b r is small room e =
+    subst (λ place. HasRoom source_of row (remember_at place f s b r)) (sym e)
+    (room_kept source_of row f s k m (remembered (source_at f k) s b r) is small room e (source_is (source_at f k) s b r))
 
 -- it is answered, and remembered
 module _ {row : ℕ → ℕ} {g i : ℕ} {held : Transaction → Held} {last seen : Transaction → Option (List ℕ)} {given : Transaction → ℕ} {v : Transaction} {layer : Node} (n : IsNode row g i held last seen given (Some v) layer) where
@@ -177,6 +193,7 @@ module _ {row : ℕ → ℕ} {g i : ℕ} {held : Transaction → Held} {last see
     places = n.places;
     fit = n.fit;
     room = n.room;
+    peer_room = n.peer_room;
     states_are = n.states_are;
     lasts_are = n.lasts_are;
     seen_are = λ j l e.
@@ -224,20 +241,22 @@ module _ {row : ℕ → ℕ} {g i : ℕ} {held : Transaction → Held} {last see
       id = n.id;
       places = n.places;
       fit = remembered_fit layer.filter source bytes rcode n.fit;
-      room = room_kept row layer.filter source k v.requester bytes rcode (sym is_source) small n.room room;
+      room = filter_room row layer.filter source k v.requester bytes rcode (sym is_source) small n.room room;
+      peer_room = n.peer_room;
       states_are = n.states_are;
       lasts_are = n.lasts_are;
       seen_are = λ j l e. in_row j l _ _ refl refl;
     }
 
 -- ---- a new generation
-pub node_seen : {row : ℕ → ℕ} {g i : ℕ} {held : Transaction → Held} {last seen : Transaction → Option (List ℕ)} {given : Transaction → ℕ} (layer : Node) (id : ℕ) → id ≡ row i → ((j l : ℕ) → held (transaction g i j l) ≡ free) → ((j l : ℕ) → last (transaction g i j l) ≡ None) → ((j l : ℕ) → seen (transaction g j i l) ≡ None) → ((j l : ℕ) → given (transaction g j i l) ≡ 0) → IsNode row g i held last seen given None (seen_in_generation layer g id)
-node_seen {row} {g} {i} {held} {last} {seen} {given} layer id is no_held no_last no_seen no_rcode = record {
+pub node_seen : {row : ℕ → ℕ} {g i : ℕ} {held : Transaction → Held} {last seen : Transaction → Option (List ℕ)} {given : Transaction → ℕ} (layer : Node) (id : ℕ) → length layer.peers ≡ 5 → id ≡ row i → ((j l : ℕ) → held (transaction g i j l) ≡ free) → ((j l : ℕ) → last (transaction g i j l) ≡ None) → ((j l : ℕ) → seen (transaction g j i l) ≡ None) → ((j l : ℕ) → given (transaction g j i l) ≡ 0) → IsNode row g i held last seen given None (seen_in_generation layer g id)
+node_seen {row} {g} {i} {held} {last} {seen} {given} layer id size is no_held no_last no_seen no_rcode = record {
   generation = refl;
   id = is;
-  places = cleared_places g layer.peers;
+  places = cleared_places g layer.peers size;
   fit = new_fit;
-  room = new_room row;
+  room = new_room row (map source_of new_filter) refl;
+  peer_room = new_room row (map peer_of (map (clear_place g) layer.peers)) (cleared_owners g layer.peers size);
   states_are = λ j l. ap shape (cleared_looked (λ place. place.state) states.Free g layer.peers refl (row j) l) ∙ ap shape_of (sym (no_held j l));
   lasts_are = λ j l. cleared_looked (λ place. place.last) None g layer.peers refl (row j) l ∙ sym (no_last j l);
   seen_are = λ j l e.
@@ -251,7 +270,8 @@ node_new row i = record {
   id = refl;
   places = new_places;
   fit = new_fit;
-  room = new_room row;
+  room = new_room row (map source_of new_filter) refl;
+  peer_room = new_room row (map peer_of (replicate 5 (no_peer {P = Unit {0}}))) refl;
   states_are = λ j l. ap shape (new_looked (λ place. place.state) states.Free refl (row j) l);
   lasts_are = λ j l. new_looked (λ place. place.last) None refl (row j) l;
   seen_are = λ j l e. new_unseen (row j) l;

@@ -18,12 +18,14 @@ place_in peers k = slice_index_or peers k no_peer
 
 -- the places of a layer in a generation
 pub record Places (generation : ℕ) (peers : Peers) : Type 0 where
+  pub size : length peers ≡ 5
   pub full : (k : ℕ) → length (place_in peers k).table.places ≡ 64
   pub current : (k : ℕ) → k < length peers → (place_in peers k).table.generation ≡ generation
   pub vacant : (k n : ℕ) → peer_of (place_in peers k) ≡ None → place_at (place_in peers k).table n ≡ unused
 
 pub places_set : (g s k : ℕ) (peers : Peers) (new : PeerPlace (Unit {0})) → Places g peers → k < length peers → new.peer ≡ Some s → length new.table.places ≡ 64 → new.table.generation ≡ g → Places g (slice_set peers k new)
 places_set g s k peers new p h o full gen = record {
+  size = length-set peers k new ∙ p.size;
   full = λ j. let e = set_at peers k j new no_peer h in let a = p.full j in grind arith;
   current = λ j b. let e = set_at peers k j new no_peer h in let l = length-set peers k new in let a = p.current j in grind arith;
   vacant = λ j n v. let e = set_at peers k j new no_peer h in let a = p.vacant j n in grind arith;
@@ -77,8 +79,9 @@ looked_cleared : {B : Type 0} (look : Place → B) (blank : B) (peers : Peers) �
 looked_cleared look blank peers b all n None = refl
 looked_cleared look blank peers b all n (Some k) = ap look ((all k).empty n) ∙ b
 
-pub cleared_places : (g : ℕ) (peers : Peers) → Places g (map (clear_place g) peers)
-cleared_places g peers = record {
+pub cleared_places : (g : ℕ) (peers : Peers) → length peers ≡ 5 → Places g (map (clear_place g) peers)
+cleared_places g peers size = record {
+  size = length-map peers (clear_place g) ∙ size;
   full = λ k. (cleared_at g peers k).full;
   current = λ k h. let l = length-map peers (clear_place g) in cleared_in g peers k (omega arith);
   vacant = λ k n v. (cleared_at g peers k).empty n;
@@ -93,6 +96,7 @@ new_at k = cleared_new (place_in (replicate 5 no_peer) k) (ap (λ (p : PeerPlace
 
 pub new_places : Places 0 (replicate 5 no_peer)
 new_places = record {
+  size = refl;
   full = λ k. (new_at k).full;
   current = λ k h. ap (λ (p : PeerPlace (Unit {0})). p.table.generation) (default_in 5 k no_peer);
   vacant = λ k n v. (new_at k).empty n;
@@ -100,3 +104,11 @@ new_places = record {
 
 pub new_looked : {B : Type 0} (look : Place → B) (blank : B) → look unused ≡ blank → (t m : ℕ) → looked look blank (replicate 5 no_peer) t m ≡ blank
 new_looked look blank b t m = looked_cleared look blank (replicate 5 no_peer) b new_at m (owned_place peer_of t (replicate 5 no_peer))
+
+-- no place of them has an owner
+owners_by : (g : ℕ) (peers : Peers) → map peer_of (map (clear_place g) peers) ≡ replicate (length peers) None
+owners_by g [] = refl
+owners_by g (p ∷ ps) = ap (λ os. None ∷ os) (owners_by g ps)
+
+pub cleared_owners : (g : ℕ) (peers : Peers) → length peers ≡ 5 → map peer_of (map (clear_place g) peers) ≡ replicate 5 None
+cleared_owners g peers size = owners_by g peers ∙ ap (λ n. replicate n None) size

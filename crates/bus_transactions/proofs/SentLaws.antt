@@ -1,4 +1,8 @@
 -- Each packet that was not injected is its sender's own.
+use Rattle.async_packet.specs.Canon.{canon}
+use Rattle.async_packet.proofs.RoundTrip.{canon_spells}
+use Rattle.label_table.specs.Owned.{owned_place}
+use Rattle.bus_transactions.proofs.Rooms.{has_room}
 use Rattle.std.specs.Prelude.{◌≡◌, ℕ, ◌&&◌, ◌||◌, not, Bool, true, false, cond, List, [], ◌∷◌, Option, Some, None, Result, Ok, Err, refl}
 use Rattle.std.proofs.Common.{sym, ◌∙◌, ap, subst}
 use Rattle.sbp_base.specs.Update.{upd}
@@ -8,8 +12,8 @@ use Rattle.label_table.specs.declared.judgement.Asked.{Asked}
 use Rattle.label_table.specs.declared.place.LabelState.{LabelState}
 use Rattle.label_table.specs.declared.place.LabelState.TheVariants as states
 use Rattle.label_table.specs.declared.reply.Stale.{Stale}
-use Rattle.label_table.specs.Bodies.{Body, header_to}
-use Rattle.label_table.specs.Peers.{state_for, last_for}
+use Rattle.label_table.specs.Bodies.{Body, header_to, request_with}
+use Rattle.label_table.specs.Peers.{state_for, last_for, peer_of}
 use Rattle.label_table.specs.Requests.{with_label, is_write, is_last}
 use Rattle.label_table.specs.Table as table
 use Rattle.label_table.specs.Layer.{Finding, of_generation, of_grammar, of_label, of_response, of_again, of_request, unlabelled, asking_step, answering_step, expiring_step, judging_step}
@@ -26,8 +30,8 @@ use Rattle.bus_transactions.specs.Wire.{Node, Wire, transaction, id_for, next_se
 use Rattle.bus_transactions.specs.Moves.{Move, ask, answer, inject, deliver, lose, expire, disown, reset, see, start, tell, asking, answering, expiring, moved, after}
 use Rattle.bus_transactions.specs.May.{May, MayAsk, MayAnswer, Always, is_plain}
 use Rattle.bus_transactions.specs.Rows.{Shape, idle, awaits, resting, shape, shape_of}
-use Rattle.bus_transactions.specs.Sent.{is_free, serves, HasLowest, IsOwn, AreSent, SentLaw}
-use Rattle.bus_transactions.proofs.Steps.{may_take, Asks, AskedAs, asks}
+use Rattle.bus_transactions.specs.Sent.{is_free, serves, HasLowest, IsOwn, AreSent, SentLaw, LabelsLaw, bare_request}
+use Rattle.bus_transactions.proofs.Steps.{may_take, Asks, AskedAs, asks, NoneTakes}
 use Rattle.bus_transactions.proofs.Facts.{nat_same}
 use Rattle.bus_transactions.proofs.Stands.{Stands}
 use Rattle.bus_transactions.proofs.MoveAsk.{asked_bytes}
@@ -102,6 +106,38 @@ module _ (w : Wire) (h : Stands w) (i j : ℕ) (body : Body) (may : MayAsk w i j
     where
       label_one : {n l : ℕ} {k m : Kind} → request n k ≡ request l m → n ≡ l
       label_one e = cc
+
+-- ---- where no label is found
+none_by : (layer : Node) (peer : ℕ) (bytes : List ℕ) (r : Option Asked × Node) → AskedAs layer peer bytes r → r.0 ≡ None → NoneTakes layer peer bytes
+none_by layer peer bytes (Some found, new) a e = cc
+none_by layer peer bytes (None, new) a e = a.1
+
+none_on : (w : Wire) → Stands w → LabelsLaw w
+none_on w h i j m body may e l =
+    let T : Terms = terms w.past in
+    let n = h.nodes i in
+    let u : Transaction = transaction (T.generation i) i j m in
+    let peer : id_for w i j ≡ T.ids (T.generation i) j = ap (λ g. T.ids g j) n.generation in
+    let bytes : List ℕ = unlabelled (w.layer i) (id_for w i j) body in
+    let p = request_with (header_to (w.layer i).node (id_for w i j) 0) body in
+    let least = least_spelled bytes p (canon_spells p may.valid) in
+    let place = has_room peer_of (T.ids (T.generation i)) j (w.layer i).peers may.peer_small n.peer_room in
+    let none = none_by (w.layer i) (id_for w i j) bytes (asking_step (w.layer i) (id_for w i j) body tt) (asks (w.layer i) (id_for w i j) body n.places) e in
+    let no_label : may_take (w.layer i) (id_for w i j) bytes m ≡ false = none place.0 m (ap (λ x. owned_place peer_of x (w.layer i).peers) peer ∙ place.1) l in
+    let state : table.is_free (state_for (w.layer i).peers (id_for w i j) m) ≡ is_free (T.held u) =
+    ap (λ x. table.is_free (state_for (w.layer i).peers x m)) peer ∙ free_table (state_for (w.layer i).peers (T.ids (T.generation i) j) m) ∙ ap is_idle (n.states_are j m) ∙ free_held (T.held u) in
+    let last : last_for (w.layer i).peers (id_for w i j) m ≡ T.last u = ap (λ x. last_for (w.layer i).peers x m) peer ∙ n.lasts_are j m in
+    let same : bytes ≡ bare_request T i j body =
+    ap (λ x. canon (request_with (header_to x (id_for w i j) 0) body)) n.id ∙ ap (λ x. canon (request_with (header_to (T.ids (T.generation i) i) x 0) body)) peer in
+    subst (λ b. serves T u (with_label m b) ≡ false) same (
+    sym (
+    ap (λ x. x && (not (is_write bytes) || not (is_last (last_for (w.layer i).peers (id_for w i j) m) (with_label m bytes)))) state
+    ∙ ap (λ x. is_free (T.held u) && (not x || not (is_last (last_for (w.layer i).peers (id_for w i j) m) (with_label m bytes)))) (sym (write_with m bytes least))
+    ∙ ap (λ x. is_free (T.held u) && (not (is_write (with_label m bytes)) || not (is_last x (with_label m bytes)))) last)
+    ∙ no_label)
+
+pub labels_always : Always LabelsLaw
+labels_always moves may = none_on (after moves) (all_stand moves may)
 
 -- ---- each move
 plain_sent : (note : Note) (past : List Moment) → is_plain note ≡ true → AreSent past → AreSent (said note ∷ past)

@@ -1,5 +1,7 @@
 -- What each call of a transaction layer shows of it: asking, closing, expiring, and leaving to nobody.
-use Rattle.std.specs.Prelude.{◌≡◌, ◌≢◌, ℕ, ◌<◌, ◌&&◌, ◌||◌, not, nat_eq, Bool, true, false, cond, List, slice_set, Option, Some, None, Result, Ok, Err, refl}
+use Rattle.std.proofs.Math.Seq.{map-set_same}
+use Rattle.bus_transactions.proofs.Rooms.{HasRoom, room_kept}
+use Rattle.std.specs.Prelude.{◌≡◌, ◌≢◌, ℕ, ◌<◌, ◌&&◌, ◌||◌, not, nat_eq, Bool, true, false, cond, List, slice_set, Option, Some, None, Result, Ok, Err, refl, map}
 use Rattle.std.proofs.Common.{arith, sym, ◌∙◌, ap, subst}
 use Rattle.std.proofs.Math.ListN.{length-set}
 use Rattle.std.proofs.lemmas.List.{set-get_or}
@@ -49,10 +51,15 @@ pub record Asks (layer new : Node) (peer : ℕ) (bytes : List ℕ) (asked : Aske
   pub serial : ℕ
   pub shows : Shows layer new peer asked.label.number (states.UnderWay (kind_of bytes) serial)
   pub lasts_are : (t m : ℕ) → last_for new.peers t m ≡ cond (nat_eq t peer && nat_eq m asked.label.number) (Some asked.bytes) (last_for layer.peers t m)
+  pub rooms : (row : ℕ → ℕ) (m : ℕ) → row m ≡ peer → m < 5 → HasRoom peer_of row layer.peers → HasRoom peer_of row new.peers
+
+-- where a peer has a place, no label may be taken
+abbrev pub NoneTakes : Node → ℕ → List ℕ → Type 0
+NoneTakes layer peer bytes = (k m : ℕ) → owned_place peer_of peer layer.peers ≡ Some k → m < 64 → may_take layer peer bytes m ≡ false
 
 abbrev pub AskedAs : Node → ℕ → List ℕ → Option Asked × Node → Type 0
 AskedAs layer peer bytes (Some asked, new) = Asks layer new peer bytes asked
-AskedAs layer peer bytes (None, new) = new ≡ layer
+AskedAs layer peer bytes (None, new) = (new ≡ layer) × NoneTakes layer peer bytes
 
 begin_shows : (layer : Node) (peer k n : ℕ) (bytes : List ℕ) → Places layer.generation layer.peers → owned_place peer_of peer layer.peers ≡ Some k → lowest_from 0 bytes (peer_at layer k).table.places ≡ Some n → AskedAs layer peer bytes (asked_at k layer (begun_for (peer_at layer k) peer tt (begin_at (Some n) (peer_at layer k).table bytes)))
 begin_shows layer peer k n bytes p e found =
@@ -74,15 +81,27 @@ begin_shows layer peer k n bytes p e found =
       };
       lasts_are = looked_set (λ place. place.last) None layer.generation peer k n layer.peers new (Some (with_label n bytes)) refl p e refl
           (λ m. let i = place_set place.table n m (record { state = states.UnderWay (kind_of bytes) place.table.calls; last = Some (with_label n bytes) }) least.0 in grind arith);
+      rooms = λ row m is small r. room_kept peer_of row layer.peers peer k m new is small r e refl;
     }
 
+none_takes : (layer : Node) (peer k : ℕ) (bytes : List ℕ) → Places layer.generation layer.peers → owned_place peer_of peer layer.peers ≡ Some k → lowest_from 0 bytes (peer_at layer k).table.places ≡ None → NoneTakes layer peer bytes
+none_takes layer peer k bytes p e found j m o h =
+    let least = subst (IsLowest bytes (peer_at layer k).table.places) found (lowest_law bytes (peer_at layer k).table.places) in
+    rw e (least m (let f = p.full k in omega (arith, f, h)))
+
+no_place : (layer : Node) (peer : ℕ) (bytes : List ℕ) → owned_place peer_of peer layer.peers ≡ None → NoneTakes layer peer bytes
+no_place layer peer bytes e k m o h = absurd (apart (sym e ∙ o))
+  where
+    apart : {k : ℕ} → None ≡ Some k → ⊥
+    apart e = cc
+
 found_shows : (layer : Node) (peer k : ℕ) (bytes : List ℕ) (found : Option ℕ) → Places layer.generation layer.peers → owned_place peer_of peer layer.peers ≡ Some k → lowest_from 0 bytes (peer_at layer k).table.places ≡ found → AskedAs layer peer bytes (asked_at k layer (begun_for (peer_at layer k) peer tt (begin_at found (peer_at layer k).table bytes)))
-found_shows layer peer k bytes None p e found = refl
+found_shows layer peer k bytes None p e found = (refl, none_takes layer peer k bytes p e found)
 found_shows layer peer k bytes (Some n) p e found = begin_shows layer peer k n bytes p e found
 
 ask_in : (layer : Node) (peer : ℕ) (bytes : List ℕ) (place : Option ℕ) → Places layer.generation layer.peers → owned_place peer_of peer layer.peers ≡ place → AskedAs layer peer bytes (asking_in place layer peer bytes tt)
 unfolding begin_step
-ask_in layer peer bytes None p e = refl
+ask_in layer peer bytes None p e = (refl, no_place layer peer bytes e)
 ask_in layer peer bytes (Some k) p e = found_shows layer peer k bytes _ p e refl
 
 pub asks : (layer : Node) (peer : ℕ) (body : Body) → Places layer.generation layer.peers → AskedAs layer peer (unlabelled layer peer body) (asking_step layer peer body tt)
@@ -95,6 +114,7 @@ pub record Frees (layer new : Node) (peer number : ℕ) (kind : ReplyKind) (stat
   pub was : state_for layer.peers peer number ≡ states.UnderWay kind serial
   pub shows : Shows layer new peer number state
   pub lasts_are : (t m : ℕ) → last_for new.peers t m ≡ last_for layer.peers t m
+  pub owners_are : map peer_of new.peers ≡ map peer_of layer.peers
 
 -- the layer once it is
 abbrev pub freed : Node → ℕ → ℕ → LabelState → Node
@@ -123,6 +143,7 @@ frees layer peer k n r kind state p e was =
       };
       lasts_are = looked_same (λ place. place.last) None layer.generation peer k layer.peers new refl p e own
           (λ m. let i = place_set place.table n m (record (place_at place.table n) { state = state }) small in grind arith);
+      owners_are = map-set_same peer_of layer.peers k new no_peer refl;
     }
 
 -- ---- closing
@@ -190,6 +211,7 @@ pub record Same (layer new : Node) : Type 0 where
   pub places : Places new.generation new.peers
   pub states_are : (t m : ℕ) → state_for new.peers t m ≡ state_for layer.peers t m
   pub lasts_are : (t m : ℕ) → last_for new.peers t m ≡ last_for layer.peers t m
+  pub owners_are : map peer_of new.peers ≡ map peer_of layer.peers
 
 pub same_layer : (layer : Node) → Places layer.generation layer.peers → Same layer layer
 same_layer layer p = record {
@@ -197,6 +219,7 @@ same_layer layer p = record {
   places = p;
   states_are = λ t m. refl;
   lasts_are = λ t m. refl;
+  owners_are = refl;
 }
 
 disown_here : (layer : Node) (peer k : ℕ) (label : LabelParts) → Places layer.generation layer.peers → owned_place peer_of peer layer.peers ≡ Some k → Current (peer_at layer k).table label → Same layer (record layer { peers = slice_set layer.peers k (with_purpose (peer_at layer k) (peer_at layer k).table label.number None) })
@@ -210,6 +233,7 @@ disown_here layer peer k label p e c =
       places = places_set layer.generation peer k layer.peers new p below own (p.full k) (p.current k below);
       states_are = looked_same (λ place. place.state) states.Free layer.generation peer k layer.peers new refl p e own (λ m. refl);
       lasts_are = looked_same (λ place. place.last) None layer.generation peer k layer.peers new refl p e own (λ m. refl);
+      owners_are = map-set_same peer_of layer.peers k new no_peer refl;
     }
 
 disown_by : (layer : Node) (peer k : ℕ) (label : LabelParts) (now : Bool) → Places layer.generation layer.peers → owned_place peer_of peer layer.peers ≡ Some k → is_current (peer_at layer k).table label ≡ now → Same layer (record layer { peers = slice_set layer.peers k (cond now (with_purpose (peer_at layer k) (peer_at layer k).table label.number None) (peer_at layer k)) })

@@ -7,7 +7,7 @@ ghost use Rattle.bus_transactions.specs.Rows.{RowsLaw};
 ghost use Rattle.bus_transactions.specs.Once.{OnceLaw, ServedLaw};
 ghost use Rattle.bus_transactions.specs.Judging.{JudgementLaw};
 ghost use Rattle.bus_transactions.specs.Answers.{AnswerLaw};
-ghost use Rattle.bus_transactions.specs.Sent.{SentLaw};
+ghost use Rattle.bus_transactions.specs.Sent.{LabelsLaw, SentLaw};
 
 /// The law of packets: serials count from 1, and the store has the packets and the states that the
 /// history tells, by the bus rule.
@@ -49,6 +49,12 @@ pub fn answered_next()
 /// generation, and a request has the lowest label that it may have.
 pub fn packets_are_own()
     ensures { Always SentLaw }
+{}
+
+/// The law of labels: a node that asks finds none only where each of the 64 is under way or rests, or, for
+/// a write, has an equal last request.
+pub fn labels_are_found()
+    ensures { Always LabelsLaw }
 {}
 
 /// The law that what a node's transactions are for changes no step of its layer: each call of a layer is
