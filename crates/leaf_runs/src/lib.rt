@@ -1,5 +1,5 @@
-//! Worked runs of the page tables, the configuration ROM, the logins, the sessions, an initiator's memory
-//! and its slots, as tests: where a crate has tests of its own it is proved twice, so these stand beside.
+//! Worked runs of the page tables, the configuration ROM, the logins, the sessions and an initiator's
+//! memory, as tests: where a crate has tests of its own it is proved twice, so these stand beside.
 #![tactic(auto)]
 
 #[cfg(test)]
@@ -12,5 +12,3 @@ mod page_table_tests;
 mod rom_tests;
 #[cfg(test)]
 mod session_tests;
-#[cfg(test)]
-mod slot_tests;

@@ -1,6 +1,6 @@
-use sbp_session::{Live, Out, Seat};
 use orb_layout::LoginResponse;
 use sbp_base::Offset;
+use sbp_session::{Live, Out, Seat};
 use std::test::Fail;
 
 /// The response of a login to place 0 with hold 3.

@@ -1,5 +1,5 @@
-use packet_listing::PacketLister;
 use line_session::{Status, serve_lines};
+use packet_listing::PacketLister;
 use sbp_base::{Bytes, MemorySink, MemorySource, NoMemory};
 use std::alloc::Global;
 

@@ -1,5 +1,5 @@
-use rom_listing::RomLister;
 use line_session::{Status, serve_lines};
+use rom_listing::RomLister;
 use sbp_base::{Bytes, MemorySink, MemorySource, NoMemory};
 use std::alloc::Global;
 
