@@ -1,6 +1,8 @@
 -- A course of moves that may be made, computed on its bytes: a write of a quadlet is asked, delivered and answered, its response closes it,
 -- and the request comes once more.
-use Rattle.std.specs.Prelude.{◌≡◌, ℕ, ◌<◌, ◌^◌, Bool, true, false, List, [], ◌∷◌, Some, None, refl}
+use Rattle.std.proofs.lemmas.List.Elements.{All-cons}
+use Rattle.std.specs.List.{All}
+use Rattle.std.specs.Prelude.{◌≡◌, ℕ, ◌<◌, ◌^◌, Bool, true, false, List, [], ◌∷◌, Some, None, refl, nat_lt, ◌&&◌}
 use Rattle.std.proofs.Common.{arith}
 use Rattle.async_packet.specs.Packet.{write_quadlet, write_response}
 use Rattle.async_packet.specs.Canon.{FitsHeader, canon, three, four}
@@ -20,10 +22,10 @@ use Rattle.packet_store.specs.Transactions as stored
 use Rattle.sbp_journal.specs.Transactions.{part_of, is_to, is_same, asked_by, begun_by, belongs}
 use Rattle.sbp_journal.specs.Wire.{terms}
 use Rattle.sbp_journal.specs.declared.event.Event.TheVariants as events
-use Rattle.bus_transactions.specs.Course.{CanHappen}
+use Rattle.bus_transactions.specs.Course.{CanHappen, ClosesUnjudged}
 use Rattle.bus_transactions.specs.Wire.{Reply, as_before, as_decided, Due}
-use Rattle.bus_transactions.specs.Moves.{Move, ask, answer, deliver, start, after}
-use Rattle.bus_transactions.specs.May.{MayAsk, MayAnswer, MayDeliver, MayStart}
+use Rattle.bus_transactions.specs.Moves.{Move, ask, answer, deliver, start, after, inject}
+use Rattle.bus_transactions.specs.May.{MayAsk, MayAnswer, MayDeliver, MayStart, MayInject}
 
 abbrev request : List ℕ
 request = canon (write_quadlet (header_to 65473 65472 0) 0 7)
@@ -122,3 +124,54 @@ happens = record {
   news = news_is;
   sent = sent_is;
 }
+
+-- ---- a response that the responder injects
+abbrev injected : List ℕ
+injected = 255 ∷ 193 ∷ 1 ∷ 32 ∷ 255 ∷ 192 ∷ 0 ∷ 0 ∷ 0 ∷ 0 ∷ 0 ∷ 0 ∷ []
+
+abbrev injected_kept : Kept
+injected_kept = record { serial = 2; in_flight = true; sent = record { generation = 0; from = 0; to = 1; bytes = injected; injected = true } }
+
+abbrev i2 : List Move
+i2 = inject 0 1 injected ∷ m1
+
+abbrev i3 : List Move
+i3 = deliver injected_kept None ∷ i2
+
+abbrev are_small : List ℕ → Bool
+are_small [] = true
+are_small (x ∷ xs) = nat_lt x 256 && are_small xs
+
+small_by : (xs : List ℕ) → are_small xs ≡ true → All (λ byte. byte < 256) xs
+small_by [] e = λ k d h. absurd (omega (arith, h))
+small_by (x ∷ xs) e = All-cons (λ byte. byte < 256) x xs (first_is (nat_lt x 256) (are_small xs) x refl e) (small_by xs (rest_is (nat_lt x 256) (are_small xs) e))
+  where
+    first_is : (a b : Bool) (x : ℕ) → nat_lt x 256 ≡ a → (a && b) ≡ true → x < 256
+    first_is true b x i e = grind arith
+    first_is false b x i e = cc
+
+    rest_is : (a b : Bool) → (a && b) ≡ true → b ≡ true
+    rest_is true b e = e
+    rest_is false b e = cc
+
+bytes_fit : All (λ byte. byte < 256) injected
+bytes_fit = small_by injected refl
+
+may_inject : MayInject (after m1) 0 1 injected
+unfolding three four tcode_of header_of offset_of rcode_of value_of length_of extended_of fault_of reading label_of with_label is_write kind_of begin_step lowest_from close_step is_current owned_place judged remembered asking_step judging_step answering_step closing_step role_of transaction_of stored.begun_by stored.belongs part_of is_to is_same asked_by begun_by belongs
+may_inject = record { free = refl; node_small = omega arith; peer_small = omega arith; bytes_fit = bytes_fit; source = refl; destination = refl }
+
+may_close : MayDeliver (after i2) injected_kept None
+unfolding three four tcode_of header_of offset_of rcode_of value_of length_of extended_of fault_of reading label_of with_label is_write kind_of begin_step lowest_from close_step is_current owned_place judged remembered asking_step judging_step answering_step closing_step role_of transaction_of stored.begun_by stored.belongs part_of is_to is_same asked_by begun_by belongs
+may_close = record { free = refl; kept_is = refl; flies = λ e. refl; known = refl }
+
+closed_by_it : (terms (after i3).past).closed 1 ≡ Some 0
+unfolding three four tcode_of header_of offset_of rcode_of value_of length_of extended_of fault_of reading label_of with_label is_write kind_of begin_step lowest_from close_step is_current owned_place judged remembered asking_step judging_step answering_step closing_step role_of transaction_of stored.begun_by stored.belongs part_of is_to is_same asked_by begun_by belongs
+closed_by_it = refl
+
+unjudged_still : (terms (after i3).past).judged 1 ≡ 0
+unfolding three four tcode_of header_of offset_of rcode_of value_of length_of extended_of fault_of reading label_of with_label is_write kind_of begin_step lowest_from close_step is_current owned_place judged remembered asking_step judging_step answering_step closing_step role_of transaction_of stored.begun_by stored.belongs part_of is_to is_same asked_by begun_by belongs
+unjudged_still = refl
+
+pub closes : ClosesUnjudged
+closes = record { moves = i3; may = (may_close, (may_inject, (may1, tt))); closed = closed_by_it; unjudged = unjudged_still }

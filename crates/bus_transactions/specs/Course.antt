@@ -11,3 +11,10 @@ pub record CanHappen : Type 0 where
   pub judged : (terms (after moves).past).judged 1 ≡ 2
   pub news : (terms (after moves).past).news 1 ≡ 1
   pub sent : (terms (after moves).past).count ≡ 3
+
+-- And why the once law asks that the responder has not injected packets: a response that it injects closes a write that it never judged.
+pub record ClosesUnjudged : Type 0 where
+  pub moves : List Move
+  pub may : MayAll moves
+  pub closed : (terms (after moves).past).closed 1 ≡ Some 0
+  pub unjudged : (terms (after moves).past).judged 1 ≡ 0

@@ -16,7 +16,7 @@ use Rattle.sbp_journal.specs.declared.event.Event.TheVariants as events
 use Rattle.sbp_journal.specs.declared.cause.Cause.{Cause}
 use Rattle.sbp_journal.specs.declared.note.Note.{Note}
 use Rattle.sbp_journal.specs.declared.note.Note.TheVariants as notes
-use Rattle.bus_transactions.specs.Wire.{Node, Due, Wire, beginning, transaction, id_for, outgoing, next_serial, sending, first_note, due_for}
+use Rattle.bus_transactions.specs.Wire.{Node, Due, Wire, beginning, transaction, id_for, outgoing, next_serial, sending, first_note, due_for, as_sending}
 
 -- A node asks another; answers the request that it has just judged; injects bytes; a packet is delivered, once or once more, and where
 -- it is a request its receiver decides on it; a packet is lost; a transaction times out, or is left to nobody; the bus is reset; a node
@@ -80,8 +80,7 @@ abbrev pub moved : Move → Wire → Wire
 moved (ask node peer body) w = asking (asking_step (w.layer node) (id_for w node peer) body tt) node peer w
 moved (answer rcode given) w = answering w.due rcode given w
 moved (inject node peer bytes) w = injecting (outgoing w node peer bytes true) w
-moved (deliver kept cause) w =
-    delivering kept.serial (record { generation = kept.sent.generation; from = kept.sent.from; to = kept.sent.to; bytes = kept.sent.bytes; injected = kept.sent.injected }) cause w
+moved (deliver kept cause) w = delivering kept.serial (as_sending kept.sent) cause w
 moved (lose s) w = record w { store = lose_step w.store s; past = said (notes.Lost s) ∷ w.past }
 moved (expire node peer label) w = expiring (expiring_step (w.layer node) (id_for w node peer) label) node peer label.number w
 moved (disown node peer label) w = with_layer node (disowning_step (w.layer node) (id_for w node peer) label) w

@@ -1,5 +1,5 @@
 ghost use Rattle.bus_transactions.specs.Bare.{TakesSteps};
-ghost use Rattle.bus_transactions.specs.Course.{CanHappen};
+ghost use Rattle.bus_transactions.specs.Course.{CanHappen, ClosesUnjudged};
 ghost use Rattle.bus_transactions.specs.May.{Always};
 ghost use Rattle.bus_transactions.specs.Packets.{PacketLaw};
 ghost use Rattle.bus_transactions.specs.Reached.{GoesOn};
@@ -67,6 +67,12 @@ pub fn purposes_change_nothing<P>()
 /// once more as a repeat.
 pub fn moves_can_be_made()
     ensures { CanHappen }
+{}
+
+/// That the once law needs its premise on the receiver: a response that it injects closes a write that it
+/// never judged.
+pub fn injected_response_closes()
+    ensures { ClosesUnjudged }
 {}
 
 /// How a world goes on by moves, and what it knows wherever it stands.
