@@ -155,6 +155,9 @@ pub record RunsTried : Type 0 where
   pub read_ahead : KeepsLaws journals.one_disk runs.read_ahead_told
   pub login : KeepsLaws journals.one_disk runs.login_told
   pub reconnect : KeepsLaws journals.one_disk runs.reconnect_told
+  pub table : KeepsLaws journals.one_disk runs.table_told
+  pub load : KeepsLaws journals.empty_bay runs.load_told
+  pub aborts : KeepsLaws journals.one_disk runs.abort_told
 
 -- The budget of a settle: 620 behind one append, whose pointer write is in flight, 622 where its command has a buffer of one chunk, 600 once
 -- its status was taken. Which runs are lossless.

@@ -8,17 +8,18 @@ use Rattle.orb_layout.specs.declared.management.ManagementOrb.{ManagementOrb}
 use Rattle.orb_layout.specs.declared.status.StatusKind.TheVariants as kinds
 use Rattle.orb_layout.specs.ManagementOrbs.{management_bytes}
 use Rattle.orb_layout.specs.Pointers.{quad_bytes}
+use Rattle.media_bay.specs.Unsolicited.{block}
 use Rattle.sbp_journal.specs.Run.{Moment, asked, said}
 use Rattle.sbp_journal.specs.declared.cause.CutCause.TheVariants as cuts
 use Rattle.sbp_journal.specs.declared.event.Event.TheVariants as events
 use Rattle.sbp_journal.specs.declared.event.Action.TheVariants as actions
 use Rattle.sbp_journal.specs.declared.event.Cmd.{Cmd}
-use Rattle.sbp_journal.specs.declared.note.NoteBuffer.TheVariants.{In}
+use Rattle.sbp_journal.specs.declared.note.NoteBuffer.TheVariants.{Nothing, In, Out}
 use Rattle.sbp_journal.specs.declared.operation.FunctionWord.TheVariants as functions
 use Rattle.sbp_journal.specs.declared.operation.Operation.TheVariants as operations
 use Rattle.sbp_journal.specs.declared.operation.OpWord.TheVariants as words
 use Rattle.sbp_journal.specs.declared.note.Note.TheVariants as notes
-use Rattle.sbp_laws.specs.Journals.{told, begins, settles, appends_first, appended, pointer_packet, points_agent, header, target_id, first_id, to_target, to_first, done_by_target, done_by_first, fetch_packet, orb_packet, status_packet, test_ready, ready_block, capacity_block, ran, ended, taken, till_status, takes_status, comes_to_rest, login_orb}
+use Rattle.sbp_laws.specs.Journals.{told, begins, settles, appends_first, appended, pointer_packet, points_agent, header, target_id, first_id, second_id, two_begin, load_block, to_target, to_first, done_by_target, done_by_first, fetch_packet, orb_packet, status_packet, test_ready, ready_block, capacity_block, ran, ended, taken, till_status, takes_status, comes_to_rest, login_orb}
 
 -- ---- every packet of one READ CAPACITY, whose answer the target writes into the buffer of slot 0
 abbrev pub read_capacity : Cmd
@@ -150,3 +151,80 @@ reconnect_told =
     ∷ said (notes.Sent 9 1 0 1 (canon (write_block to_new_first 0x12002000 (quad_bytes (0x01000000 ∷ 0x12000000 ∷ [])))))
     ∷ said (notes.Got 9) ∷ said (notes.Op 0 operations.Reconnect words.Done) ∷ said (notes.Sent 10 1 1 0 (canon (write_response to_new_target 0)))
     ∷ said (notes.Got 10) ∷ said notes.Settled ∷ [])
+
+-- ---- a WRITE of one block from two segments, by a page table
+abbrev pub write_block_0 : List ℕ
+write_block_0 = 0x2a ∷ 0 ∷ 0 ∷ 0 ∷ 0 ∷ 0 ∷ 0 ∷ 0 ∷ 1 ∷ 0 ∷ 0 ∷ 0 ∷ []
+
+abbrev pub write_segments : Cmd
+write_segments = record { cdb = write_block_0; to_initiator = false; length = 512; payload = replicate 512 0xaa; segments = 256 ∷ 256 ∷ []; max_payload = 7 }
+
+abbrev pub table_orb : List ℕ
+table_orb = quad_bytes (0x80000000 ∷ 0 ∷ 0xffc10000 ∷ 0x10100000 ∷ 0x82780002 ∷ 0x2a000000 ∷ 0 ∷ 0x01000000 ∷ [])
+
+abbrev pub page_table : List ℕ
+page_table = quad_bytes (0x01000000 ∷ 0x11000000 ∷ 0x01000000 ∷ 0x11000110 ∷ [])
+
+abbrev pub segment_packet : List ℕ
+segment_packet = canon (read_block_response (to_target 0) 0 (replicate 256 0xaa))
+
+abbrev pub table_told : List Moment
+table_told =
+    told (begins ++ asked 2 (events.Act 0 (actions.Append write_segments)) ∷ said (notes.Append 0 0 0 write_block_0 (Out (replicate 512 0xaa))) ∷ said (notes.Rung 0 0 0)
+    ∷ said (notes.Sent 1 0 1 0 pointer_packet) ∷ settles ∷ points_agent
+    ++ said (notes.Got 2) ∷ said (notes.Got 3) ∷ said (notes.Sent 4 0 1 0 (canon (read_block_response (to_target 0) 0 table_orb)))
+    ∷ said (notes.Got 4) ∷ said (notes.Sent 5 0 0 1 (canon (read_block (to_first 0) 0x10100000 16)))
+    ∷ said (notes.Got 5) ∷ said (notes.Sent 6 0 1 0 (canon (read_block_response (to_target 0) 0 page_table)))
+    ∷ said (notes.Got 6) ∷ said (notes.Sent 7 0 0 1 (canon (read_block (to_first 0) 0x11000000 256)))
+    ∷ said (notes.Got 7) ∷ said (notes.Sent 8 0 1 0 segment_packet)
+    ∷ said (notes.Got 8) ∷ said (notes.Sent 9 0 0 1 (canon (read_block (to_first 0) 0x11000110 256)))
+    ∷ said (notes.Got 9) ∷ said (notes.Sent 10 0 1 0 segment_packet)
+    ∷ said (notes.Got 10) ∷ said (notes.Ran 0 (Some 0) (Some 0) 0 write_block_0 (replicate 512 0xaa) None) ∷ ended kinds.Good ∷ said (notes.Sent 11 0 0 1 (status_packet 0x41000000))
+    ∷ said (notes.Got 11) ∷ taken kinds.Good ∷ said (notes.Sent 12 0 1 0 (done_by_first 0)) ∷ said (notes.Got 12) ∷ said notes.Settled ∷ [])
+
+-- ---- a load, of which another login that asked for it is told
+abbrev pub load_orb : List ℕ
+load_orb = quad_bytes (0x80000000 ∷ 0 ∷ 0 ∷ 0 ∷ 0x82900000 ∷ 0x1b000000 ∷ 0x03000000 ∷ 0 ∷ [])
+
+abbrev pub load_disc : Cmd
+load_disc = record { cdb = load_block; to_initiator = false; length = 0; payload = []; segments = []; max_payload = 9 }
+
+abbrev pub load_told : List Moment
+load_told =
+    told (two_begin ++ asked 2 (events.Act 1 actions.Enable) ∷ said (notes.Sent 1 0 2 0 (canon (write_quadlet (header target_id second_id 0) 0xfffff0040034 1)))
+    ∷ asked 3 events.Settle ∷ said (notes.Got 1) ∷ said (notes.Sent 2 0 0 2 (canon (write_response (header second_id target_id 0) 0)))
+    ∷ said (notes.Got 2) ∷ said (notes.Op 1 operations.Enable words.Done) ∷ said notes.Settled
+    ∷ asked 4 (events.Act 0 (actions.Append load_disc)) ∷ said (notes.Append 0 0 0 load_block Nothing) ∷ said (notes.Rung 0 0 0) ∷ said (notes.Sent 3 0 1 0 pointer_packet)
+    ∷ asked 5 events.Settle ∷ said (notes.Got 3) ∷ said (notes.Sent 4 0 0 1 (done_by_target 0 0)) ∷ said (notes.Sent 5 0 0 1 (fetch_packet 0 0x10000000))
+    ∷ said (notes.Got 4) ∷ said (notes.Got 5) ∷ said (notes.Sent 6 0 1 0 (canon (read_block_response (to_target 0) 0 load_orb)))
+    ∷ said (notes.Got 6) ∷ said (notes.Ran 0 (Some 0) (Some 0) 0 load_block [] None) ∷ ended kinds.Good ∷ said (notes.Unsolicited 1)
+    ∷ said (notes.Sent 7 0 0 1 (status_packet 0x41000000)) ∷ said (notes.Sent 8 0 0 2 (canon (write_block (header second_id target_id 0) 0x13000000 block)))
+    ∷ said (notes.Got 7) ∷ taken kinds.Good ∷ said (notes.Sent 9 0 1 0 (done_by_first 0))
+    ∷ said (notes.Got 8) ∷ said (notes.Told 1) ∷ said (notes.Sent 10 0 2 0 (canon (write_response (header target_id second_id 0) 0)))
+    ∷ said (notes.Got 9) ∷ said (notes.Got 10) ∷ said notes.Settled ∷ [])
+
+-- ---- a WRITE is aborted while its data are read
+abbrev pub write_whole : Cmd
+write_whole = record { cdb = write_block_0; to_initiator = false; length = 512; payload = replicate 512 0xaa; segments = []; max_payload = 9 }
+
+abbrev pub write_orb : List ℕ
+write_orb = quad_bytes (0x80000000 ∷ 0 ∷ 0xffc10000 ∷ 0x11000000 ∷ 0x82900200 ∷ 0x2a000000 ∷ 0 ∷ 0x01000000 ∷ [])
+
+abbrev pub abort_orb : ManagementOrb
+abort_orb = record logout_orb { function = 0xb; first = 0x10000000 }
+
+abbrev pub abort_told : List Moment
+abort_told =
+    told (begins ++ asked 2 (events.Act 0 (actions.Append write_whole)) ∷ said (notes.Append 0 0 0 write_block_0 (Out (replicate 512 0xaa))) ∷ said (notes.Rung 0 0 0)
+    ∷ said (notes.Sent 1 0 1 0 pointer_packet) ∷ asked 3 (events.Step 4) ∷ points_agent
+    ++ said (notes.Got 2) ∷ said (notes.Got 3) ∷ said (notes.Sent 4 0 1 0 (canon (read_block_response (to_target 0) 0 write_orb)))
+    ∷ said (notes.Got 4) ∷ said (notes.Sent 5 0 0 1 (canon (read_block (to_first 0) 0x11000000 512)))
+    ∷ asked 4 (events.Act 0 (actions.Abort 0)) ∷ said (notes.Sent 6 0 1 0 (canon (write_block (to_target 0) 0xfffff0010000 (quad_bytes (0 ∷ 0x12000000 ∷ [])))))
+    ∷ asked 5 (events.Deliver 6) ∷ said (notes.Got 6) ∷ said (notes.Sent 7 0 0 1 (done_by_target 0 0)) ∷ said (notes.Sent 8 0 0 1 (fetch_packet 1 0x12000000))
+    ∷ asked 6 (events.Deliver 8) ∷ said (notes.Got 8) ∷ said (notes.Sent 9 0 1 0 (canon (read_block_response (to_target 1) 0 (management_bytes abort_orb))))
+    ∷ asked 7 (events.Deliver 9) ∷ said (notes.Got 9) ∷ said (notes.Managed 0 functions.Abort 1 0 None)
+    ∷ said (notes.Sent 10 0 0 1 (canon (write_block (to_first 1) 0x12002000 (quad_bytes (0x01000000 ∷ 0x12000000 ∷ [])))))
+    ∷ asked 8 events.Settle ∷ said (notes.Got 5) ∷ said (notes.Sent 11 0 1 0 (canon (read_block_response (to_target 0) 0 (replicate 512 0xaa)))) ∷ said (notes.Got 7)
+    ∷ said (notes.Got 10) ∷ said (notes.Op 0 operations.Abort words.Done) ∷ said (notes.Sent 12 0 1 0 (done_by_first 1))
+    ∷ said (notes.Got 11) ∷ ended kinds.Aborted ∷ said (notes.Sent 13 0 0 1 (status_packet 0x410c0000)) ∷ said (notes.Got 12)
+    ∷ said (notes.Got 13) ∷ taken kinds.Aborted ∷ said (notes.Sent 14 0 1 0 (done_by_first 0)) ∷ said (notes.Got 14) ∷ said notes.Settled ∷ [])

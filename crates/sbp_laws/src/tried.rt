@@ -62,8 +62,8 @@ pub fn action_law_tried()
     ensures { ActionTried }
 {}
 
-/// Worked runs that each law of moments and turns accepts, whole: a READ CAPACITY, an agent reset, a
-/// read ahead, a logout, a login and a reconnect.
+/// Worked runs that each law of moments and turns accepts, whole: commands with and without data, a
+/// page table, a read ahead, an abort, an agent reset, a logout, a login, a reconnect, and a load.
 pub fn worked_runs_tried()
     ensures { RunsTried }
 {}
