@@ -1,0 +1,12 @@
+pub mod Sending
+pub mod Addresses
+pub mod Desks
+pub mod Nodes
+pub mod Telling
+pub mod Agents
+pub mod Units
+pub mod Replies
+pub mod Management
+pub mod Serving
+pub mod Receiving
+pub mod Targets
