@@ -4,7 +4,8 @@ use Rattle.sbp_journal.specs.declared.note.Note.{Note}
 use Rattle.sbp_journal.specs.declared.note.Note.TheVariants as notes
 use Rattle.sbp_laws.specs.Journals as journals
 use Rattle.sbp_laws.specs.Tried.{ActionTried}
-use Rattle.sbp_laws.specs.ActionLaw.{ActionLaw, Settles, EndsSettle, NoneFlies}
+use Rattle.sbp_laws.specs.ActionLaw.{ActionLaw}
+use Rattle.sbp_laws.specs.Deliveries.{Settles, EndsSettle, NoneFlies}
 use Rattle.sbp_laws.specs.Budget.{settle_deliveries}
 use Rattle.sbp_journal.specs.Run.{Moment}
 use Rattle.async_packet.specs.Reading.{reading}

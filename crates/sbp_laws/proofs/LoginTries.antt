@@ -7,7 +7,7 @@ use Rattle.sbp_journal.specs.declared.note.Note.TheVariants as notes
 use Rattle.sbp_laws.specs.Journals as journals
 use Rattle.sbp_laws.specs.Tried.{LoginTried}
 use Rattle.sbp_laws.specs.LoginLaw.{LoginLaw, HasLogins, is_decision_note}
-use Rattle.sbp_laws.specs.CauseLaw.{of_kind}
+use Rattle.sbp_laws.specs.NoteKinds.{of_kind}
 use Rattle.sbp_laws.specs.Agents.{target_before}
 use Rattle.sbp_laws.specs.Management.{decisions_due}
 use Rattle.sbp_laws.specs.Turns.{Turn, turn}

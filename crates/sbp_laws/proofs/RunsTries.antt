@@ -20,7 +20,10 @@ use Rattle.sbp_laws.specs.CauseLaw.{CauseLaw}
 use Rattle.sbp_laws.specs.JudgementLaw.{JudgementLaw}
 use Rattle.sbp_laws.specs.LoginLaw.{LoginLaw}
 use Rattle.sbp_laws.specs.MediaLaw.{MediaLaw}
-use Rattle.sbp_laws.specs.SentLaw.{SentAt, AnswersLaw, RequestsLaw, AfterTurn}
+use Rattle.sbp_laws.specs.SentPackets.{SentAt}
+use Rattle.sbp_laws.specs.SentAnswers.{AnswersLaw}
+use Rattle.sbp_laws.specs.SentRequests.{RequestsLaw}
+use Rattle.sbp_laws.specs.SentLaw.{AfterTurn}
 use Rattle.async_packet.specs.Reading.{reading}
 use Rattle.async_packet.specs.Faults.{fault_of}
 use Rattle.async_packet.specs.Fields.{tcode_of, header_of, offset_of, rcode_of, value_of, length_of, extended_of}

@@ -10,7 +10,10 @@ use Rattle.sbp_laws.specs.Turns.{EachMoment, EachTurn}
 use Rattle.sbp_laws.specs.Lawful.{nobody}
 use Rattle.sbp_laws.specs.Journals as journals
 use Rattle.sbp_laws.specs.Tried.{SentTried}
-use Rattle.sbp_laws.specs.SentLaw.{SentLaw, SentAt, AnswersLaw, RequestsLaw, AfterTurn}
+use Rattle.sbp_laws.specs.SentLaw.{SentLaw, AfterTurn}
+use Rattle.sbp_laws.specs.SentPackets.{SentAt}
+use Rattle.sbp_laws.specs.SentAnswers.{AnswersLaw}
+use Rattle.sbp_laws.specs.SentRequests.{RequestsLaw}
 use Rattle.sbp_laws.specs.Turns.{turn}
 use Rattle.orb_layout.specs.declared.status.StatusKind.TheVariants as kinds
 use Rattle.async_packet.specs.Reading.{reading}

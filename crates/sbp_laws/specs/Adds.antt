@@ -15,7 +15,10 @@ use Rattle.sbp_laws.specs.CarriedLaw.{CarriedAt, RunsWhereDue}
 use Rattle.sbp_laws.specs.CauseLaw.{HasCauses, AbortedAt}
 use Rattle.sbp_laws.specs.JudgementLaw.{Judges}
 use Rattle.sbp_laws.specs.LoginLaw.{HasLogins}
-use Rattle.sbp_laws.specs.SentLaw.{SentAt, AnswersLaw, RequestsLaw, AfterTurn}
+use Rattle.sbp_laws.specs.SentPackets.{SentAt}
+use Rattle.sbp_laws.specs.SentAnswers.{AnswersLaw}
+use Rattle.sbp_laws.specs.SentRequests.{RequestsLaw}
+use Rattle.sbp_laws.specs.SentLaw.{AfterTurn}
 use Rattle.sbp_laws.specs.MediaLaw.{HasPushes}
 use Rattle.sbp_laws.specs.ActionLaw.{Brings, Ordered}
 use Rattle.sbp_laws.specs.Lawful.{FormAt, LawfulBut}

@@ -10,7 +10,7 @@ use Rattle.sbp_journal.specs.declared.cause.Cause.TheVariants as causes
 use Rattle.sbp_journal.specs.declared.event.Cmd.{Cmd}
 use Rattle.sbp_journal.specs.declared.note.Note.TheVariants as notes
 use Rattle.sbp_laws.specs.Lists.{command_at, taken_at, is_none_taken}
-use Rattle.sbp_laws.specs.CarriedLaw.{pieces_of}
+use Rattle.sbp_laws.specs.CarriedBytes.{pieces_of}
 use Rattle.sbp_laws.specs.OrderLaw.{is_cut}
 
 abbrev pub flies : Flight → Bool

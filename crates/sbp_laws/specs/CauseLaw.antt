@@ -4,134 +4,22 @@
 -- refused or has a payload of another length, and where an ORB or its page table is illegal; the ORB that was present ends behind it as
 -- failed or illegal. A management operation fails by the same causes. An operation ends, a list is dropped and a session becomes stuck
 -- where the initiator's rules say. A unit is cleared by a unit reset and a target reset.
-use Rattle.std.specs.Prelude.{suc, ◌≡◌, ℕ, ◌==◌, ◌&&◌, ◌||◌, not, Bool, true, false, List, [], ◌∷◌, Option, Some, None}
-use Rattle.std.specs.List.{filter}
+use Rattle.std.specs.Prelude.{◌≡◌, ℕ, ◌==◌, ◌&&◌, ◌||◌, Bool, true, false, List, [], ◌∷◌, Option, Some, None}
 use Rattle.orb_layout.specs.declared.status.StatusKind.{StatusKind}
 use Rattle.orb_layout.specs.declared.status.StatusKind.TheVariants as kinds
-use Rattle.orb_layout.specs.declared.ask.FailCause.{FailCause}
-use Rattle.orb_layout.specs.declared.ask.FailCause.TheVariants as causes
-use Rattle.orb_layout.specs.Replies.{Answer, Payload, Done, Refused, Expired}
-use Rattle.label_table.specs.Bodies.{Body}
-use Rattle.command_agent.specs.declared.step.Which.{Which}
-use Rattle.command_agent.specs.declared.step.Which.TheVariants.{Main, Ahead}
 use Rattle.rbc_disk.specs.Disk.{Disk}
 use Rattle.sbp_journal.specs.Run.{Moment, said}
 use Rattle.sbp_journal.specs.declared.operation.FunctionWord.TheVariants as functions
-use Rattle.sbp_journal.specs.declared.note.Note.{Note}
 use Rattle.sbp_journal.specs.declared.note.Note.TheVariants as notes
 use Rattle.sbp_laws.specs.Terms.{runs, ended_status}
 use Rattle.sbp_laws.specs.Turns.{Turn, EachMoment, EachTurn}
 use Rattle.sbp_laws.specs.Lists.{Orb, pinned_orb}
-use Rattle.sbp_laws.specs.Targets.{Target, login_at}
-use Rattle.sbp_laws.specs.Packets.{finds_label}
-use Rattle.sbp_laws.specs.Agents.{Event, replies, AgentTurn, agent_turn, agent_event, agent_notes_for, body_of, initiator_at, fifo_in, target_before, wire_before, wire_after}
+use Rattle.sbp_laws.specs.Agents.{target_before}
 use Rattle.sbp_laws.specs.Management.{cuts_due, cleared_due, failures_due}
 use Rattle.sbp_laws.specs.Operations.{operation_notes}
-
--- ---- the notes of a kind
-abbrev pub is_cut_note : Note → Bool
-is_cut_note (notes.Cut i list cause) = true
-is_cut_note _ = false
-
-abbrev pub is_cleared_note : Note → Bool
-is_cleared_note (notes.Cleared unit) = true
-is_cleared_note _ = false
-
-abbrev pub is_failure_note : Note → Bool
-is_failure_note (notes.ManageFailed i cause) = true
-is_failure_note _ = false
-
-abbrev pub is_end_note : Note → Bool
-is_end_note (notes.Dead i list cause) = true
-is_end_note (notes.Ended i list number status) = true
-is_end_note _ = false
-
-abbrev pub is_operation_note : Note → Bool
-is_operation_note (notes.Op i operation word) = true
-is_operation_note (notes.Drop i n) = true
-is_operation_note (notes.Stuck i) = true
-is_operation_note _ = false
-
--- of an initiator that injected packets, the ends as failed and illegal, and the deaths; nothing of its operations
-abbrev pub is_fault : StatusKind → Bool
-is_fault kinds.Failed = true
-is_fault (kinds.Illegal meaning) = true
-is_fault _ = false
-
-abbrev pub counts : (ℕ → Bool) → Note → Bool
-counts wild (notes.Ended i list number status) = not (wild i) || is_fault status
-counts wild (notes.Op i operation word) = not (wild i)
-counts wild (notes.Drop i n) = not (wild i)
-counts wild (notes.Stuck i) = not (wild i)
-counts wild note = true
-
-abbrev pub of_kind : (Note → Bool) → List Note → List Note
-of_kind kind rest = filter kind rest
-
--- the deaths and ends that an agent's turn brings
-abbrev pub ends_by : Target → Turn → Option AgentTurn → List Note
-ends_by target t None = []
-ends_by target t (Some a) = agent_notes_for target t a
-
-abbrev pub ends_due : List Disk → Turn → List Note
-ends_due disks t = ends_by (target_before disks t) t (agent_turn (agent_event disks t) (target_before disks t) t.rest)
-
--- ---- the rows of `dead`
--- a reply to the main transaction of an agent
-abbrev pub main_answer : Event → Option Answer
-main_answer (replies reply) = by_which reply.which reply.answer
-  where
-    by_which : Which → Answer → Option Answer
-    by_which Main answer = Some answer
-    by_which Ahead answer = None
-main_answer event = None
-
--- the request that an agent has first in a turn finds no label to its initiator
-abbrev pub lacks_label : (Body → Bool) → Option Body → Bool
-lacks_label finds None = false
-lacks_label finds (Some body) = not (finds body)
-
-abbrev pub asks_in_vain : Target → Turn → Option AgentTurn → Bool
-asks_in_vain target t None = false
-asks_in_vain target t (Some a) =
-    lacks_label (finds_label (wire_after t) 0 (suc (initiator_at target (wire_before t) a.place))) (body_of a.step.ask a.machine a.step.ended (fifo_in (login_at target a.place)))
-
-abbrev pub is_expired : Option Answer → Bool
-is_expired (Some Expired) = true
-is_expired answer = false
-
-abbrev pub is_refused : Option Answer → Bool
-is_refused (Some (Refused rcode)) = true
-is_refused answer = false
-
-abbrev pub is_complete : Option Answer → Bool
-is_complete (Some (Payload bytes)) = true
-is_complete (Some Done) = true
-is_complete answer = false
-
--- `timeout`: a main transaction timed out; `label`: one finds no label; `refused`: one was answered by another rcode than 0; `grammar`:
--- the payload has another length, or the ORB or the page table that comes to be checked is illegal
-abbrev pub death_row : FailCause → List Disk → Turn → Bool
-death_row causes.Timeout disks t = is_expired (main_answer (agent_event disks t))
-death_row causes.Label disks t = asks_in_vain (target_before disks t) t (agent_turn (agent_event disks t) (target_before disks t) t.rest)
-death_row causes.Refused disks t = is_refused (main_answer (agent_event disks t))
-death_row causes.Grammar disks t = is_complete (main_answer (agent_event disks t))
-
-abbrev pub DeathsHaveRows : List Disk → Turn → List Note → Type 0
-DeathsHaveRows disks t [] = Unit {0}
-DeathsHaveRows disks t (notes.Dead i list cause ∷ rest) = (death_row cause disks t ≡ true) × DeathsHaveRows disks t rest
-DeathsHaveRows disks t (note ∷ rest) = DeathsHaveRows disks t rest
-
--- an end as failed or illegal stands directly behind a `dead` of its initiator
-abbrev pub FollowsDeath : Option Note → (i : ℕ) → Type 0
-FollowsDeath (Some (notes.Dead j list cause)) i = j ≡ i
-FollowsDeath before i = ⊥
-
-abbrev pub FaultsFollowDeaths : Option Note → List Note → Type 0
-FaultsFollowDeaths before [] = Unit {0}
-FaultsFollowDeaths before (notes.Ended i list number kinds.Failed ∷ rest) = FollowsDeath before i × FaultsFollowDeaths None rest
-FaultsFollowDeaths before (notes.Ended i list number (kinds.Illegal meaning) ∷ rest) = FollowsDeath before i × FaultsFollowDeaths None rest
-FaultsFollowDeaths before (note ∷ rest) = FaultsFollowDeaths (Some note) rest
+use Rattle.sbp_laws.specs.NoteKinds.{is_cut_note, is_cleared_note, is_failure_note, is_end_note, is_operation_note, counts, of_kind}
+use Rattle.sbp_laws.specs.Deaths.{ends_due}
+use Rattle.sbp_laws.specs.Deaths.{DeathsHaveRows, FaultsFollowDeaths}
 
 -- Row by row, the notes of a turn are those that have their cause in it.
 pub record HasCauses (wild : ℕ → Bool) (disks : List Disk) (t : Turn) : Type 0 where

@@ -14,7 +14,7 @@ use Rattle.sbp_laws.specs.Turns.{Turn, EachTurn}
 use Rattle.sbp_laws.specs.Targets.{Target, target_at, Decided}
 use Rattle.sbp_laws.specs.Agents.{target_before, wire_before}
 use Rattle.sbp_laws.specs.Management.{logins_due, decisions_due, effect_of}
-use Rattle.sbp_laws.specs.CauseLaw.{of_kind}
+use Rattle.sbp_laws.specs.NoteKinds.{of_kind}
 
 abbrev pub is_login_note : Note → Bool
 is_login_note (notes.Held id) = true

@@ -19,7 +19,7 @@ use Rattle.sbp_laws.specs.Packets.{id_for, finds_label, is_under_way, has_restin
 use Rattle.sbp_laws.specs.DiskFold.{moves_disc, unit_at}
 use Rattle.sbp_laws.specs.Targets.{Target, place_on, is_serial}
 use Rattle.sbp_laws.specs.Agents.{Request, requests_to, target_before, wire_before, wire_after, initiator_with}
-use Rattle.sbp_laws.specs.CauseLaw.{of_kind}
+use Rattle.sbp_laws.specs.NoteKinds.{of_kind}
 
 -- ---- the logins that are to be told
 -- a load: the unit, and the place of the login whose command it was

@@ -40,7 +40,7 @@ use Rattle.sbp_laws.specs.Packets.{access_at, id_of}
 use Rattle.sbp_laws.specs.Lists.{Orb, SlotState, vacant, used, resting, slots, slot_at, prepared_in, command_at, linked, lowered, is_dummy, present_list}
 use Rattle.sbp_laws.specs.Hosts.{Host, host_at, operation_of, is_management}
 use Rattle.sbp_laws.specs.Targets.{Target, Agent, agent_at, login_fifo}
-use Rattle.sbp_laws.specs.CarriedLaw.{laid_out}
+use Rattle.sbp_laws.specs.CarriedBytes.{laid_out}
 use Rattle.sbp_laws.specs.JudgementLaw.{rom_of, rom_size}
 
 -- an rcode, and the bytes that a read gives
