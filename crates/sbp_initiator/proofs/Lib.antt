@@ -4,3 +4,7 @@ pub mod Roms
 pub mod Asked
 pub mod Layers
 pub mod Again
+pub mod Moved
+pub mod Acted
+pub mod Delivered
+pub mod Runs

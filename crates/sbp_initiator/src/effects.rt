@@ -263,7 +263,7 @@ impl InitiatorState {
         ensures keeps { Keeps 1 0 self.old self.new }
     {
         match ending {
-            Ending::Complete { .. } => Ok(()),
+            Ending::Complete { value: _ } => Ok(()),
             Ending::Refused { rcode } if rcode == CONFLICT => self.conflict(act, outbox),
             Ending::Refused { .. } | Ending::Expired => self.fail(act, outbox),
         }
