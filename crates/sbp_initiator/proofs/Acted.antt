@@ -1,7 +1,7 @@
 -- An action as moves of an initiator's parts.
-use Rattle.std.proofs.Common.{arith, ◌≡◌, refl, sym, ap, subst, ◌∙◌, ℕ, ◌+◌, ◌<◌, ◌≤◌, ◌%◌, ◌==◌, nat_eq, is_some, Bool, true, false, cond, List, [], ◌∷◌, ◌++◌, Option, Some, None, Result, Ok, Err}
+use Rattle.std.proofs.Common.{arith, ◌≡◌, refl, ℕ, ◌+◌, nat_eq, is_some, Bool, true, false, cond, List, [], ◌∷◌, ◌++◌, Option, Some, None, Result, Ok, Err}
 use Rattle.label_table.specs.declared.judgement.Asked.{Asked}
-use Rattle.label_table.specs.Layer.{Layer, asking_step}
+use Rattle.label_table.specs.Layer.{Layer}
 use Rattle.bus_memory.specs.Memory.{Memory}
 use Rattle.orb_layout.specs.declared.management.ManagementOrb.{ManagementOrb}
 use Rattle.orb_list.specs.declared.fault.ListFault.{ListFault}
@@ -24,12 +24,12 @@ use Rattle.sbp_initiator.specs.declared.purpose.Demand.{Demand}
 use Rattle.sbp_initiator.specs.declared.purpose.Pointing.TheVariants as pointings
 use Rattle.sbp_initiator.specs.declared.state.InitiatorState.{InitiatorState}
 use Rattle.sbp_initiator.specs.Refusals.{refusal}
-use Rattle.sbp_initiator.specs.Lists.{IsCommand, ListState, asked_by, with_parts, with_slots, plan_of, prepared_as, put_lists, low_lists, high_lists, dummy_lists, pin_lists}
+use Rattle.sbp_initiator.specs.Lists.{IsCommand, ListState, asked_by, with_parts, plan_of, prepared_as, put_lists, low_lists, high_lists, dummy_lists, pin_lists}
 use Rattle.sbp_initiator.specs.States.{is_unwritten, last_linked, no_marks, place_of, wanted_body}
-use Rattle.sbp_initiator.specs.Effects.{Turn, told, with_request}
-use Rattle.sbp_initiator.specs.Acting.{IsAction, facts_with, demand_of, asked_for, login_id, login_orb, orb_by, begun, managed_by, with_sent, with_login, with_running, pinned_for, with_pin, with_first, put_as, put_step, low_as, low_step, link_as, link_step, with_ring, ring_for, ring_step, append_step, dummy_for, manage_start, register_start, done_step, counted, done_as, sent_with, asked_as, demanded_as, judged_as, act_step}
-use Rattle.sbp_initiator.specs.Moves.{Stage, stage, staged, with_state, by_call, by_orb, by_plan, Grow, outgoing, Move, Moves, tells, sits, relists, marks_as, works_at, reads_on, holds, counts_up, asks, fails, sends, stay, go_on}
-use Rattle.sbp_initiator.proofs.Moved.{pick, pick_state}
+use Rattle.sbp_initiator.specs.Effects.{told, with_request}
+use Rattle.sbp_initiator.specs.Acting.{IsAction, facts_with, demand_of, asked_for, login_id, login_orb, orb_by, begun, managed_by, with_sent, with_login, with_running, pinned_for, with_first, put_as, put_step, low_as, low_step, link_as, link_step, with_ring, ring_for, ring_step, append_step, dummy_for, manage_start, register_start, done_step, counted, asked_as, demanded_as, judged_as, act_step}
+use Rattle.sbp_initiator.specs.Moves.{Stage, stage, staged, by_call, by_orb, by_plan, outgoing, Moves, tells, sits, relists, marks_as, works_at, reads_on, holds, counts_up, asks, fails, sends, go_on}
+use Rattle.sbp_initiator.proofs.Moved.{pick_state}
 
 module _ (b : Bool) (z : Stage) (a : List Outgoing) where
   first_moves : (t : TicketParts) (o : OutboxState) (s : InitiatorState) → Moves b z (stage a o s) → Moves b z (stage a o (with_first t s))

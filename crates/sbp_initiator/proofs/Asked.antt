@@ -19,7 +19,7 @@ peered : (k : Option ℕ) (layer : Layer Purpose) (peer : ℕ) (bytes : List ℕ
 peered None layer peer bytes purpose = refl
 peered (Some k) layer peer bytes purpose = placed k layer (ask_place (peer_at layer k) peer bytes purpose)
 
-asking : (layer : Layer Purpose) (peer : ℕ) (body : Body) (purpose : Purpose) → IfNone (asking_step layer peer body purpose).0 ((asking_step layer peer body purpose).1 ≡ layer)
+pub asking : (layer : Layer Purpose) (peer : ℕ) (body : Body) (purpose : Purpose) → IfNone (asking_step layer peer body purpose).0 ((asking_step layer peer body purpose).1 ≡ layer)
 unfolding asking_step
 asking layer peer body purpose = peered (peer_place peer layer) layer peer (unlabelled layer peer body) purpose
 

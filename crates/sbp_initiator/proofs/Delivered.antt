@@ -1,5 +1,5 @@
 -- A delivery, a time-out and a reset that is seen, as moves of an initiator's parts.
-use Rattle.std.proofs.Common.{arith, ◌≡◌, refl, ℕ, ◌+◌, ◌≤◌, ◌==◌, ◌&&◌, nat_eq, nat_lt, is_some, Bool, true, false, cond, List, [], ◌∷◌, ◌++◌, replicate, Option, Some, None, Result, Ok, Err}
+use Rattle.std.proofs.Common.{arith, refl, ℕ, ◌+◌, ◌&&◌, nat_lt, Bool, true, false, cond, List, [], ◌∷◌, replicate, Option, Some, None, Result, Ok, Err}
 use Rattle.byteorder.specs.Endian.{big_bytes}
 use Rattle.async_packet.specs.Labels.{LabelParts}
 use Rattle.async_packet.specs.Packet.{Packet, header_in, write_quadlet, write_block, write_response, read_quadlet, read_block, read_quadlet_response, read_block_response, lock, lock_response}
@@ -13,8 +13,6 @@ use Rattle.orb_layout.specs.declared.status.StatusKind.{StatusKind}
 use Rattle.orb_layout.specs.declared.status.StatusKind.TheVariants as kinds
 use Rattle.orb_list.specs.Runs as slot_runs
 use Rattle.orb_list.specs.Tickets.{TicketParts}
-use Rattle.sbp_session.specs.Moves.{reset, goes}
-use Rattle.sbp_journal.specs.declared.cause.Cause.{Cause}
 use Rattle.sbp_journal.specs.declared.cause.Cause.TheVariants as causes
 use Rattle.sbp_journal.specs.declared.note.Note.TheVariants as notes
 use Rattle.sbp_journal.specs.declared.operation.Operation.{Operation}
@@ -30,10 +28,10 @@ use Rattle.sbp_initiator.specs.declared.state.InitiatorState.{InitiatorState}
 use Rattle.sbp_initiator.specs.Lists.{ListState, free_lists, take_lists, write_lists}
 use Rattle.sbp_initiator.specs.States.{ending_of, no_marks, status_in}
 use Rattle.sbp_initiator.specs.Effects.{Turn, told, with_dead, drop_list_step, managed_step}
-use Rattle.sbp_initiator.specs.Receiving.{called, type_error, address_error, data_error, responded_as, respond_step, ignored_step, got_step, answer_of, is_dead_kind, taken_by, taken_as, managed_for, present_for, block_by, block_step, status_step, read_as, written_as, serve_step, is_foreign, block_at, quadlet_at, fifo_of, addressed, request_step, ignored_as, received, receive_step, expired_as, expire_step}
+use Rattle.sbp_initiator.specs.Receiving.{called, type_error, address_error, data_error, responded_as, respond_step, ignored_step, got_step, answer_of, is_dead_kind, taken_by, taken_as, managed_for, present_for, block_by, block_step, status_step, read_as, written_as, serve_step, is_foreign, block_at, quadlet_at, fifo_of, addressed, received, receive_step, expired_as, expire_step}
 use Rattle.sbp_initiator.specs.Seeing.{reset_told, states_end, all_end, resets_told, interrupted, freed_step, reset_step, seen_as, see_step}
-use Rattle.sbp_initiator.specs.Moves.{Stage, stage, staged, answered_with, by_call, Grow, Move, Moves, tells, resets, relists, marks_as, works_at, reads_on, turns_to, counts_up, judges, answers, expires, sees, stay, go_on}
-use Rattle.sbp_initiator.proofs.Moved.{pick, pick_state, pick_outbox, drop_moves, managed_moves, ended_for_moves}
+use Rattle.sbp_initiator.specs.Moves.{Stage, stage, staged, answered_with, by_call, Moves, tells, resets, relists, marks_as, works_at, reads_on, turns_to, counts_up, judges, answers, expires, sees, go_on}
+use Rattle.sbp_initiator.proofs.Moved.{pick_state, pick_outbox, drop_moves, managed_moves, ended_for_moves}
 
 module _ (b : Bool) (z : Stage) where
   called_moves : (o : OutboxState) (s : InitiatorState) → Moves b z (stage [] o s) → Moves b z (stage [] o (called s))

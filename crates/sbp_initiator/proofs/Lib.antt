@@ -8,3 +8,5 @@ pub mod Moved
 pub mod Acted
 pub mod Delivered
 pub mod Runs
+pub mod Slotted
+pub mod Refused

@@ -1,14 +1,13 @@
 -- The steps of an initiator as moves of its parts: what ends a transaction, and what an action does.
-use Rattle.std.proofs.Common.{arith, ◌≡◌, refl, sym, ap, subst, ◌∙◌, ℕ, ◌+◌, ◌<◌, ◌≤◌, ◌==◌, ◌&&◌, nat_eq, is_some, Bool, true, false, cond, List, [], ◌∷◌, ◌++◌, length, Option, Some, None, Result, Ok, Err}
+use Rattle.std.proofs.Common.{◌≡◌, refl, ℕ, nat_eq, Bool, true, false, cond, List, [], length, Option, Some, None, Result, Ok, Err}
 use Rattle.label_table.specs.declared.judgement.Asked.{Asked}
-use Rattle.label_table.specs.Bodies.{Body}
 use Rattle.label_table.specs.Layer.{Layer, asking_step}
 use Rattle.config_rom.specs.declared.fault.RomFault.{RomFault}
 use Rattle.config_rom.specs.declared.unit.SbpUnit.{SbpUnit}
 use Rattle.config_rom.specs.Reading.{Tree, reading}
 use Rattle.config_rom.specs.Unit.{sbp_unit_of}
 use Rattle.orb_list.specs.Runs as slot_runs
-use Rattle.sbp_session.specs.Moves.{Event, sent, entered, good, bad, conflict, pointing, pointed, reset, failed, goes}
+use Rattle.sbp_session.specs.Moves.{Event, bad, conflict, pointed, failed, goes}
 use Rattle.sbp_journal.specs.declared.note.Note.TheVariants as notes
 use Rattle.sbp_journal.specs.declared.operation.Operation.{Operation}
 use Rattle.sbp_journal.specs.declared.operation.Operation.TheVariants as operations
@@ -27,8 +26,8 @@ use Rattle.sbp_initiator.specs.Refusals.{ends_list}
 use Rattle.sbp_initiator.specs.Lists.{ListState, drop_lists, unpin_lists}
 use Rattle.sbp_initiator.specs.Quads.{with_quad, without}
 use Rattle.sbp_initiator.specs.States.{counts_for, is_list, is_stuck_seat, management_at, no_marks}
-use Rattle.sbp_initiator.specs.Effects.{Turn, told, with_packet, with_request, stick_step, dropped_as, drop_list_step, end_step, end_own_for, end_own_step, then_step, pointed_step, pointer_ended, doorbell_ended, fail_step, reset_ended, enable_ended, moves_session, moved, conflict_for, conflict_step, is_conflict, management_ended, response_of, good_event, good_word, drop_where, good_end, managed_step, fault_number, with_unit, with_rom, finish_rom, next_quad, asked_quad, ask_quad, quad_got, is_address, rom_ended, with_dead, with_answered, known_step, known_where, state_told, state_ended, ended_step, ended_for}
-use Rattle.sbp_initiator.specs.Moves.{Stage, stage, staged, with_state, Change, by_call, by_orb, by_plan, is_reset, Move, Moves, tells, sits, resets, relists, marks_as, works_at, reads_on, holds, learns, turns_to, counts_up, judges, answers, asks, fails, sends, expires, sees, stay, go_on}
+use Rattle.sbp_initiator.specs.Effects.{Turn, told, stick_step, dropped_as, drop_list_step, end_step, end_own_for, end_own_step, pointer_ended, doorbell_ended, fail_step, reset_ended, enable_ended, moves_session, moved, conflict_for, is_conflict, management_ended, response_of, good_event, good_word, drop_where, good_end, managed_step, fault_number, with_unit, with_rom, next_quad, asked_quad, quad_got, is_address, rom_ended, with_dead, with_answered, known_step, known_where, state_told, state_ended, ended_step, ended_for}
+use Rattle.sbp_initiator.specs.Moves.{Stage, stage, staged, by_call, is_reset, Moves, tells, sits, relists, marks_as, works_at, reads_on, holds, learns, asks, fails, sends, go_on}
 
 module _ (b : Bool) (z : Stage) (a : List Outgoing) where
   -- one of two turns, and one of two states or outboxes

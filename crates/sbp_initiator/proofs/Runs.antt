@@ -1,21 +1,18 @@
 -- The laws of an initiator over every list of its calls, by its moves.
-use Rattle.std.proofs.Common.{arith, ◌≡◌, refl, sym, ap, subst, ◌∙◌, ℕ, zero, suc, ◌+◌, ◌-◌, ◌*◌, ◌/◌, ◌%◌, ◌^◌, ◌<◌, ◌≤◌, is_some, Bool, true, false, cond, List, [], ◌∷◌, ◌++◌, length, drop, get_or, append_assoc, append-nil, Option, Some, None}
-use Rattle.byteorder.specs.Endian.{big_bytes}
-use Rattle.sbp_base.specs.Quadlets.{quad}
+use Rattle.std.proofs.Common.{arith, ◌≡◌, refl, sym, ap, ◌∙◌, ℕ, ◌+◌, Bool, true, false, List, [], ◌∷◌, ◌++◌, append_assoc, append-nil, Option}
 use Rattle.label_table.specs.declared.judgement.Asked.{Asked}
-use Rattle.label_table.specs.Layer.{Layer, answering_step, asking_step, new_layer}
+use Rattle.label_table.specs.Layer.{Layer, answering_step, asking_step}
 use Rattle.label_table.specs.History as wire
 use Rattle.sbp_session.specs.declared.seat.Seat.{Seat}
 use Rattle.sbp_session.specs.declared.seat.Seat.TheVariants as seats
 use Rattle.sbp_session.specs.declared.seat.Origin.{Origin}
-use Rattle.sbp_session.specs.Moves.{Event, sent, entered, good, bad, conflict, pointing, pointed, reset, failed, goes, session_after}
+use Rattle.sbp_session.specs.Moves.{Event, sent, entered, good, bad, conflict, pointing, pointed, reset, failed, goes}
 use Rattle.sbp_journal.specs.declared.outbox.Outgoing.{Outgoing}
-use Rattle.sbp_journal.specs.Outgoings.{OutboxState, empty_outbox}
+use Rattle.sbp_journal.specs.Outgoings.{empty_outbox}
 use Rattle.sbp_initiator.specs.declared.purpose.Purpose.{Purpose}
 use Rattle.sbp_initiator.specs.declared.state.Counts.{Counts}
-use Rattle.sbp_initiator.specs.declared.state.InitiatorState.{InitiatorState}
 use Rattle.sbp_initiator.specs.Effects.{Turn}
-use Rattle.sbp_initiator.specs.Initiators.{first_seat, new_state, own_rom}
+use Rattle.sbp_initiator.specs.Initiators.{first_seat, new_state}
 use Rattle.sbp_initiator.specs.Moves.{Stage, stage, staged, is_reset, Grow, outgoing, response, Move, Moves, tells, sits, resets, relists, marks_as, works_at, reads_on, holds, learns, turns_to, counts_up, judges, answers, asks, fails, sends, expires, sees, stay, go_on}
 use Rattle.sbp_initiator.specs.Laws.{Call, acts, receives, lets_expire, IsCall, AreCalls, done, after, packets_of, with_asked, IsWireRun, WireLaw, IsSession, is_sight, SessionLaw, CountLaw}
 use Rattle.sbp_initiator.specs.Laws as laws

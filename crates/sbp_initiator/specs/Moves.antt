@@ -1,17 +1,14 @@
 -- What a call of an initiator does, taken apart into steps of its parts.
-use Rattle.std.specs.Prelude.{◌≡◌, ◌<◌, ◌≤◌, ℕ, ◌+◌, Bool, true, false, List, [], ◌∷◌, ◌++◌, slice_set, Option, Some, None}
+use Rattle.std.specs.Prelude.{◌≡◌, ◌<◌, ◌≤◌, ℕ, Bool, true, false, List, [], ◌∷◌, ◌++◌, slice_set, Option, Some, None}
 use Rattle.async_packet.specs.Labels.{LabelParts}
 use Rattle.async_packet.specs.Packet.{Packet, header_in}
 use Rattle.label_table.specs.declared.judgement.Asked.{Asked}
 use Rattle.label_table.specs.Bodies.{Body}
 use Rattle.label_table.specs.Layer.{Layer, answering_step, asking_step, expiring_step, judging_step, seeing_step}
-use Rattle.bus_memory.specs.Memory.{Memory}
 use Rattle.orb_layout.specs.declared.management.ManagementOrb.{ManagementOrb}
-use Rattle.orb_list.specs.Table.{SlotTable}
 use Rattle.orb_list.specs.Runs as slot_runs
 use Rattle.orb_list.specs.Runs.{left_by}
 use Rattle.orb_list.specs.Kept.{IsProper}
-use Rattle.sbp_session.specs.declared.seat.Seat.{Seat}
 use Rattle.sbp_session.specs.Moves.{Event, reset, goes}
 use Rattle.sbp_journal.specs.declared.note.Note.{Note}
 use Rattle.sbp_journal.specs.declared.outbox.Outgoing.{Outgoing}
