@@ -34,6 +34,9 @@ use Rattle.login_table.specs.Table.{fresh_id, left_for, enter_step, back_step, l
 one_of_one : 1 ≤ 1
 one_of_one = omega arith
 
+six_of_many : 6 ≤ 620
+six_of_many = omega arith
+
 none_of_many : 0 ≤ 600
 none_of_many = omega arith
 
@@ -64,6 +67,10 @@ stopped_at_once past s = stopped_by past (settle_deliveries past) s.before s.las
 abbrev number_told : List Note → ℕ
 number_told (notes.Refused line number ∷ rest) = number
 number_told _ = 0
+
+accepts : ActionLaw journals.one_disk journals.whole_entries
+unfolding reading fault_of tcode_of header_of offset_of rcode_of value_of length_of extended_of three four part_of is_to is_same asked_by begun_by belongs start_at lowest_from label_for free_from count_flying lowest_flying label_of with_label is_write kind_of slot_of window_at is_fifo point_step doorbell_step reset_step abort_step reply_step lost_step refusal verdict request_of check_of blank_bytes command_kind elements_from made block_head decide reads_eui live_login response_bytes start_step reply_step_of_manager decide_step fresh_id left_for enter_step back_step leave_step
+accepts = record { brings = (record { before = journals.settle_notes; last = notes.Settled; is = refl; delivers = record { begins = tt; lowest = (refl, (refl, (refl, (refl, (refl, (refl, (refl, (refl, (refl, (refl, (refl, (refl, (refl, (refl, tt)))))))))))))); few = six_of_many; all = inr refl }; ends = refl }, (record { effects = refl; first = refl }, (refl, tt))); ordered = (record { effects = refl; first = refl }, (record { effects = refl; first = refl }, (record { effects = refl; first = refl }, (record { effects = refl; first = refl }, (record { effects = refl; first = refl }, (record { effects = refl; first = refl }, (record { effects = refl; first = refl }, (tt, (tt, (tt, tt)))))))))) }
 
 steps_once : ActionLaw journals.one_disk journals.steps_once
 unfolding reading fault_of tcode_of header_of offset_of rcode_of value_of length_of extended_of three four part_of is_to is_same asked_by begun_by belongs start_at lowest_from label_for free_from count_flying lowest_flying label_of with_label is_write kind_of slot_of window_at is_fifo point_step doorbell_step reset_step abort_step reply_step lost_step refusal verdict request_of check_of blank_bytes command_kind elements_from made block_head decide reads_eui live_login response_bytes start_step reply_step_of_manager decide_step fresh_id left_for enter_step back_step leave_step
@@ -118,4 +125,4 @@ unfolding reading fault_of tcode_of header_of offset_of rcode_of value_of length
 other_number = λ law. let bad : 3 ≡ 2 = ap number_told law.brings.0 in omega (arith, bad)
 
 pub tried : ActionTried
-tried = record { steps_once = steps_once; settles_at_rest = settles_at_rest; refuses_login = refuses_login; steps_not = steps_not; injects = injects; other_source = other_source; sets_key = sets_key; no_unit = no_unit; inject_refused = inject_refused; stops_early = stops_early; settles_early = settles_early; refuses_append = refuses_append; other_number = other_number }
+tried = record { accepts = accepts; steps_once = steps_once; settles_at_rest = settles_at_rest; refuses_login = refuses_login; steps_not = steps_not; injects = injects; other_source = other_source; sets_key = sets_key; no_unit = no_unit; inject_refused = inject_refused; stops_early = stops_early; settles_early = settles_early; refuses_append = refuses_append; other_number = other_number }

@@ -497,6 +497,17 @@ steps_once =
 abbrev pub steps_not : List Entry
 steps_not = step_entry [] ∷ append_entry ∷ begin_entry ∷ []
 
+-- the whole run, as entries
+abbrev pub settle_notes : List Note
+settle_notes =
+    notes.Got 1 ∷ notes.Sent 2 0 0 1 (done_by_target 0 0) ∷ notes.Sent 3 0 0 1 (fetch_packet 0 0x10000000) ∷ notes.Got 2
+    ∷ notes.Got 3 ∷ notes.Sent 4 0 1 0 (orb_packet 0 0x80000000 0)
+    ∷ notes.Got 4 ∷ notes.Ran 0 (Some 0) (Some 0) 0 ready_block [] None ∷ notes.Ended 0 (Some 0) (Some 0) kinds.Good ∷ notes.Sent 5 0 0 1 (status_packet 0x41000000)
+    ∷ notes.Got 5 ∷ notes.Taken 0 0 0 kinds.Good [] ∷ notes.Sent 6 0 1 0 (done_by_first 0) ∷ notes.Got 6 ∷ []
+
+abbrev pub whole_entries : List Entry
+whole_entries = entry 3 events.Settle (settle_notes ++ notes.Settled ∷ []) ∷ append_entry ∷ begin_entry ∷ []
+
 abbrev pub settles_early : List Entry
 settles_early = entry 3 events.Settle (notes.Settled ∷ []) ∷ append_entry ∷ begin_entry ∷ []
 

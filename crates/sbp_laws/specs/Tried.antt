@@ -120,6 +120,7 @@ pub record MediaTried : Type 0 where
   pub unasked : MediaLaw nobody journals.empty_bay (journals.loads_disabled (said (notes.Unsolicited 1) ∷ [])) → ⊥
 
 pub record ActionTried : Type 0 where
+  pub accepts : ActionLaw journals.one_disk journals.whole_entries
   pub steps_once : ActionLaw journals.one_disk journals.steps_once
   pub settles_at_rest : ActionLaw journals.one_disk journals.settles_at_rest
   pub refuses_login : ActionLaw journals.one_disk (journals.refuses_login 2)
