@@ -3,3 +3,4 @@ pub mod Checks
 pub mod Steps
 pub mod Runs
 pub mod Lost
+pub mod Tasks

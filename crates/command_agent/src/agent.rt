@@ -12,6 +12,7 @@ use std::marker::Model;
 
 mod advance;
 mod serve;
+mod task;
 
 /// The bytes of an ORB.
 const ORB_SIZE: u16 = 32;
@@ -424,7 +425,7 @@ impl Agent {
 ghost use Rattle.command_agent.specs.Machine.{aligned};
 
 /// The address of an ORB: the two low bits of a pointer count as zero.
-fn aligned(pointer: Offset) -> Offset
+pub fn aligned(pointer: Offset) -> Offset
     ensures { result ≡ aligned pointer }
 {
     let value = pointer.value();

@@ -10,7 +10,7 @@ mod phase;
 mod room;
 mod step;
 
-pub use agent::Agent;
+pub use agent::{Agent, aligned};
 pub use laws::{failed_reply_is_a_loss, failing_reread_ends_nothing};
 pub use phase::{Phase, ReadAhead};
 pub use step::{AgentState, AgentStep, PointRefusal, Which};

@@ -67,7 +67,7 @@ impl Agent {
     }
 
     /// The bytes of the present ORB are checked, and its first request is made.
-    fn check(&mut self, unit: &mut Unit, medium: &mut dyn Medium, login: u8) -> AgentStep
+    pub(super) fn check(&mut self, unit: &mut Unit, medium: &mut dyn Medium, login: u8) -> AgentStep
         requires place { login < 8 }
         requires phase { self.old.phase ≡ Phase.Fetching }
         ensures step { (result, self.new) ≡ check_step self.old login (plain_disk unit.old (disk medium.old)) (told_or (told_in result.ran self.new.answer)) }
