@@ -37,7 +37,7 @@ at_map [] place = sym none_dropped
 at_map (task ∷ tasks) zero = refl
 at_map (task ∷ tasks) (suc place) = at_map tasks place
 
-left_dropped : (tasks : List Machine) (place : ℕ) → Left (agent_at (map dropped tasks) place) (agent_at tasks place)
+pub left_dropped : (tasks : List Machine) (place : ℕ) → Left (agent_at (map dropped tasks) place) (agent_at tasks place)
 left_dropped tasks place =
     subst (λ (m : Machine). Left m (agent_at tasks place)) (sym (at_map tasks place))
     (record { so = left_if (is_dead (machine.state_in (agent_at tasks place).phase)) (agent_at tasks place) })
