@@ -1,5 +1,5 @@
 -- The data and the answer of each ORB go through its own transactions alone.
-use Rattle.std.proofs.Common.{◌≡◌, ◌≢◌, ◌⊎◌, inl, inr, refl, ap, sym, subst, ◌∙◌, get_or-set_other, ℕ, zero, suc, ◌==◌, Bool, true, false, cond, List, [], ◌∷◌, map, slice_set, Option, Some, None, Result, Ok, Err}
+use Rattle.std.proofs.Common.{◌≡◌, ◌≢◌, ◌⊎◌, inl, inr, refl, sym, subst, ◌∙◌, get_or-set_other, ℕ, zero, suc, ◌==◌, Bool, true, false, cond, List, [], ◌∷◌, map, slice_set, Option, Some, None, Result, Ok, Err}
 use Rattle.orb_layout.specs.declared.ask.Ask.{Ask}
 use Rattle.orb_layout.specs.declared.ask.FailCause.{FailCause}
 use Rattle.orb_layout.specs.declared.pointer.OrbPointer.{OrbPointer}
@@ -20,12 +20,11 @@ use Rattle.command_agent.specs.Steps as agent
 use Rattle.command_agent.specs.Tasks.{begin_step, relinked, writes_status}
 use Rattle.unordered_agent.specs.declared.fetcher.FetchPhase.{FetchPhase}
 use Rattle.unordered_agent.specs.declared.fetcher.FetchPhase.TheVariants as phases
-use Rattle.unordered_agent.specs.declared.step.TaskStep.{TaskStep}
-use Rattle.unordered_agent.specs.Machine.{TaskMachine, both, agent_at, task_at, state_in, is_busy, lowest_free}
-use Rattle.unordered_agent.specs.Steps.{quiet, takes_pointer, pointed, doorbell_in, point_step, doorbell_step, reset_all_step, reply_step, dropped, die_step, settled, goes_on, placed, orb_read, pointer_read, next_read, fetch_replied, released, freed, status_written, worked, task_replied, or_none, place_of, with_task}
-use Rattle.unordered_agent.proofs.Kept.{Left, left_dropped}
-use Rattle.unordered_laws.specs.Calls.{Call, Point, Doorbell, Reset, Reply, after_call, replied}
-use Rattle.unordered_laws.specs.Apart.{SameOrb, IsOther, ApartLaw}
+use Rattle.unordered_agent.specs.Machine.{TaskMachine, agent_at, task_at, state_in, is_busy, lowest_free}
+use Rattle.unordered_agent.specs.Steps.{quiet, takes_pointer, pointed, doorbell_in, point_step, doorbell_step, reset_all_step, reply_step, dropped, settled, goes_on, placed, orb_read, next_read, fetch_replied, released, status_written, worked, task_replied, or_none, place_of, with_task}
+use Rattle.unordered_agent.proofs.Kept.{left_dropped}
+use Rattle.unordered_laws.specs.Calls.{Point, Doorbell, Reset, Reply}
+use Rattle.unordered_laws.specs.Apart.{SameOrb, ApartLaw}
 
 same : (a : Machine) → SameOrb a a
 same a = record { orb = refl; cdb = refl; buffer = refl; payload = refl; answer = refl; written = refl; outgoing = refl }

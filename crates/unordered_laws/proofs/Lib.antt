@@ -1,2 +1,4 @@
 pub mod Rules
 pub mod Apart
+pub mod Tells
+pub mod Runs

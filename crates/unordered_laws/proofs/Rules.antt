@@ -20,12 +20,11 @@ use Rattle.command_agent.specs.Tasks.{begin_step, writes_status}
 use Rattle.unordered_agent.specs.declared.fetcher.FetchPhase.{FetchPhase}
 use Rattle.unordered_agent.specs.declared.fetcher.FetchPhase.TheVariants as phases
 use Rattle.unordered_agent.specs.declared.fetcher.Fetcher.{Fetcher}
-use Rattle.unordered_agent.specs.declared.step.TaskStep.{TaskStep}
-use Rattle.unordered_agent.specs.Machine.{TaskMachine, both, new_agent, agent_at, task_at, state_in, is_free, is_busy, is_reading, lowest_free, has_free, FetchRule, IsSound}
+use Rattle.unordered_agent.specs.Machine.{TaskMachine, both, new_agent, agent_at, task_at, state_in, is_free, is_busy, is_reading, lowest_free, FetchRule, IsSound}
 use Rattle.unordered_agent.specs.Fetching.{seated}
-use Rattle.unordered_agent.specs.Steps.{quiet, takes_pointer, pointed, doorbell_in, point_step, doorbell_step, reset_all_step, reply_step, settled, goes_on, orb_read, next_read, fetch_replied, status_written, released, freed, worked, task_replied}
-use Rattle.unordered_agent.proofs.Places.{sound_pointed, sound_reset, sound_gone, sound_died, sound_begun, sound_relinked, sound_freed, sound_released, sound_worked}
-use Rattle.unordered_laws.specs.Calls.{Call, Point, Doorbell, Reset, Reply, after_call, after_calls, replied, FetchRuleLaw}
+use Rattle.unordered_agent.specs.Steps.{quiet, takes_pointer, pointed, doorbell_in, point_step, doorbell_step, reset_all_step, reply_step, settled, goes_on, orb_read, next_read, fetch_replied, status_written, worked, task_replied}
+use Rattle.unordered_agent.proofs.Places.{sound_pointed, sound_reset, sound_died, sound_begun, sound_relinked, sound_freed, sound_released, sound_worked}
+use Rattle.unordered_laws.specs.Calls.{Call, Point, Doorbell, Reset, Reply, after_call, after_calls, FetchRuleLaw}
 
 -- an agent that keeps what always holds
 pub record Sound (s : TaskMachine) : Type 0 where
@@ -39,7 +38,7 @@ taken_sound : (pointer : OrbPointer) (s : TaskMachine) → Sound s → takes_poi
 taken_sound Null s h e = h
 taken_sound (At first) s h e = record { so = sound_pointed s.fetcher s.tasks first h.so e }
 
-abbrev refused : TaskMachine → Result Ask PointRefusal × TaskMachine
+abbrev pub refused : TaskMachine → Result Ask PointRefusal × TaskMachine
 refused s = (Err refusals.Conflict, s)
 
 point_sound : (b : Bool) (pointer : OrbPointer) (s : TaskMachine) → takes_pointer (state_in s.fetcher.phase) s.tasks ≡ b → Sound s → Sound (cond b (pointed s pointer) (refused s)).1
@@ -114,11 +113,11 @@ task_sound true s place login plain told answer w h p e = status_sound s.fetcher
 task_sound false s place login plain told answer w h p e = worked_sound s place login plain told answer h p e w
 
 -- a reply
-record Task (place : ℕ) (task : Machine) : Type 0 where
-  below : place < 8
-  busy : is_free task ≡ false
+pub record Task (place : ℕ) (task : Machine) : Type 0 where
+  pub below : place < 8
+  pub busy : is_free task ≡ false
 
-task_at_by : (b : Bool) (place : ℕ) (task : Machine) → nat_lt place 8 ≡ b → cond b (is_under_way Main task) false ≡ true → Task place task
+pub task_at_by : (b : Bool) (place : ℕ) (task : Machine) → nat_lt place 8 ≡ b → cond b (is_under_way Main task) false ≡ true → Task place task
 task_at_by true place task e u = record { below = grind (arith, nat_tests); busy = ap not u }
 task_at_by false place task e u = cc u
 

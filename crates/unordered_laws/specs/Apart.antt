@@ -3,7 +3,7 @@ use Rattle.std.specs.Prelude.{◌≡◌, ◌≢◌, ℕ}
 use Rattle.command_agent.specs.Machine.{Machine}
 use Rattle.unordered_agent.specs.Machine.{TaskMachine, task_at}
 use Rattle.unordered_agent.specs.Steps.{place_of}
-use Rattle.unordered_laws.specs.Calls.{Call, Point, Doorbell, Reset, Reply, after_call}
+use Rattle.unordered_laws.specs.Calls.{Call, Reply, after_call}
 
 -- the address and the command of an ORB, its buffer, its data, its answer, and what was last written for it
 pub record SameOrb (a b : Machine) : Type 0 where

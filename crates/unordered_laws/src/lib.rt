@@ -3,4 +3,4 @@
 
 mod laws;
 
-pub use laws::{calls_keep_the_fetch_rule, tasks_are_apart};
+pub use laws::{calls_keep_the_fetch_rule, orbs_run_and_end_once, tasks_are_apart};
