@@ -1,6 +1,0 @@
-//! Worked runs of an initiator, as tests: where a crate has tests of its own it is proved twice, so these
-//! stand beside it.
-#![tactic(auto)]
-
-#[cfg(test)]
-mod action_tests;
