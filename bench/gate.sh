@@ -1,6 +1,7 @@
 #!/usr/bin/env bash
 # What the gate costs, crate by crate, as a Markdown table for docs/gate.md: the processor minutes, user and
-# system, that `rt ci --anew` spends on each crate's own proof, on its proof with its tests, and on its edits.
+# system, that `rt ci --anew` spends on each crate's own proof, on its proof with its tests, and on its edits
+# with the check of the crate that they begin from.
 #
 #   bench/gate.sh            the whole repository
 #   bench/gate.sh NAME..     these crates and those below them
@@ -8,7 +9,8 @@
 # It runs the gate on a copy of what is committed, proves everything from nothing, and reads four times a
 # second how much processor time each of its provers has used. So what a prover does in its last quarter of a
 # second is missed, and what is built and run is in the row of other work. Other work on the machine makes it
-# longer by the clock, and hardly by processor time. The whole repository takes as long as its gate.
+# longer by the clock, and by a half or more in processor time, so measure where nothing else runs. The whole
+# repository takes as long as its gate.
 top=$(cd "$(dirname "$0")/.." && pwd) || exit 1
 work=$(mktemp -d)
 trap 'rm -rf "$work"' EXIT
@@ -19,13 +21,15 @@ setsid rt ci --anew "$@" > "$work/log" 2>&1 &
 session=$!
 declare -A used row
 while kill -0 "$session" 2> /dev/null; do
-    for process in $(ps -o pid= -s "$session"); do
-        read -r stat 2> /dev/null < "/proc/$process/stat" || continue
+    for number in $(ps -o pid= -s "$session"); do
+        read -r stat 2> /dev/null < "/proc/$number/stat" || continue
         fields=(${stat##*) })
+        # the number of a process that ended is given again, so one is known by when it began too
+        process="$number/${fields[19]}"
         used[$process]=$((fields[11] + fields[12]))
         if [ -z "${row[$process]}" ]; then
-            words=$(tr '\0' ' ' 2> /dev/null < "/proc/$process/cmdline")
-            place=$(readlink "/proc/$process/cwd")
+            words=$(tr '\0' ' ' 2> /dev/null < "/proc/$number/cmdline")
+            place=$(readlink "/proc/$number/cwd")
             case "$words" in
                 */rattle\ *--crate-name*) name=${words#*--crate-name }; name=${name%% *} ;;
                 *) row[$process]="other 0"; continue ;;
