@@ -5,3 +5,4 @@ pub mod Again
 pub mod Concluding
 pub mod Received
 pub mod Making
+pub mod Leaving

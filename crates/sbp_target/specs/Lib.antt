@@ -10,3 +10,4 @@ pub mod Management
 pub mod Serving
 pub mod Receiving
 pub mod Targets
+pub mod Counting

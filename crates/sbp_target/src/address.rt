@@ -36,7 +36,7 @@ pub(crate) const TYPE: u8 = 6;
 pub(crate) const ADDRESS: u8 = 7;
 
 /// The registers of a command agent (NCITS 325-1998, command block agent registers).
-#[derive(Clone, Copy, Debug, PartialEq, Eq)]
+#[derive(Clone, Copy)]
 pub enum Register {
     AgentState,
     AgentReset,
@@ -46,14 +46,14 @@ pub enum Register {
 }
 
 /// A register of the agent of a place.
-#[derive(Clone, Copy, Debug, PartialEq, Eq)]
+#[derive(Clone, Copy)]
 pub struct AgentRegister {
     pub place: LoginPlace,
     pub register: Register,
 }
 
 /// What is asked of an agent.
-#[derive(Clone, Copy, Debug, PartialEq, Eq)]
+#[derive(Clone, Copy)]
 pub enum Access {
     /// A read of its state.
     State,
@@ -67,7 +67,7 @@ pub enum Access {
 }
 
 /// What a request that was got asks for.
-#[derive(Clone, Copy, Debug, PartialEq, Eq)]
+#[derive(Clone, Copy)]
 pub enum Demand {
     /// Nothing that is served: it is answered with this rcode.
     Refused(u8),

@@ -3,7 +3,7 @@ ghost use Rattle.std.specs.Prelude.{◌≡◌, ◌<◌};
 use std::marker::Model;
 
 /// One of the eight places of the table of logins, 0 to 7, which is also the number of its agent.
-#[derive(Clone, Copy, Debug, PartialEq, Eq)]
+#[derive(Clone, Copy)]
 pub struct LoginPlace {
     number: u8,
 }

@@ -6,7 +6,7 @@ use async_packet::Label;
 use sbp_base::NodeId;
 
 /// What a transaction of the target is for.
-#[derive(Clone, Copy, Debug, PartialEq, Eq)]
+#[derive(Clone, Copy)]
 pub enum Purpose {
     /// The agent of a place. Whether it is its main transaction or its read ahead the agent's desk
     /// tells, since a read ahead may become the main transaction while it is under way.
@@ -18,7 +18,7 @@ pub enum Purpose {
 }
 
 /// A transaction under way: the node that was asked, and the label.
-#[derive(Clone, Copy, Debug, PartialEq, Eq)]
+#[derive(Clone, Copy)]
 pub struct Sent {
     pub peer: NodeId,
     pub label: Label,

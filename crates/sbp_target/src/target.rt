@@ -1,4 +1,5 @@
 ghost use Rattle.std.specs.Prelude.{◌≡◌, ◌+◌, ◌*◌, ◌^◌, ◌<◌, ◌≤◌, length, map, IfOk, OnOk};
+ghost use Rattle.sbp_target.specs.Counting.{counted, counted_if};
 ghost use Rattle.sbp_target.specs.Nodes.{scene};
 ghost use Rattle.sbp_target.specs.Receiving.{Receives, seen, ticked, with_key};
 ghost use Rattle.sbp_target.specs.Replies.{whole};
@@ -67,10 +68,13 @@ impl Target {
         ensures size { length media.new.items ≡ length media.old.items }
         ensures units { length self.new.node.units ≡ length self.old.node.units }
         ensures step { IfOk result (λ judged. Receives generation bytes.now (whole (scene self.old.node outbox.old) (map disk media.old.items)) judged (whole (scene self.new.node outbox.new) (map disk media.new.items)) (map media_faults media.old.items) (map media_faults media.new.items)) }
-        ensures calls { self.new.calls ≡ self.old.calls + 1 }
+        ensures calls { self.new.calls ≤ self.old.calls + 1 }
+        ensures counts { IfOk result (λ judged. self.new.calls ≡ counted judged self.old.calls) }
     {
         let judged = self.node.receive(media, outbox, generation, bytes);
-        self.calls += 1;
+        if !matches!(judged, Ok(Judged::Ignored(_))) {
+            self.calls += 1;
+        }
         judged
     }
 
@@ -117,9 +121,12 @@ impl Target {
         ensures units { length self.new.node.units ≡ length self.old.node.units }
         ensures step { OnOk result (scene self.new.node outbox.new ≡ (seen generation id (scene self.old.node outbox.old)).1) }
         ensures calls { self.new.calls ≤ self.old.calls + 1 }
+        ensures counts { OnOk result (self.new.calls ≡ counted_if (seen generation id (scene self.old.node outbox.old)).0 self.old.calls) }
     {
         let later = self.node.see(outbox, generation, id);
-        self.calls += 1;
+        if !matches!(later, Ok(false)) {
+            self.calls += 1;
+        }
         later?;
         Ok(())
     }

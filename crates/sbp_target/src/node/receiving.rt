@@ -2,6 +2,7 @@ ghost use Rattle.std.specs.Prelude.{◌≡◌, ◌+◌, ◌^◌, ◌<◌, ◌≤
 ghost use Rattle.async_packet.specs.Packet.{view, header_in};
 ghost use Rattle.label_table.specs.Layer.{IsLent, finding_of, judging_step};
 ghost use Rattle.orb_layout.specs.Replies.{answer_of};
+ghost use Rattle.sbp_target.specs.Counting.{LeavesCount};
 ghost use Rattle.sbp_target.specs.Nodes.{scene};
 ghost use Rattle.sbp_target.specs.Replies.{whole};
 ghost use Rattle.sbp_target.specs.Receiving.{Concludes, Receives, answer_by, answer_in, IsNoQuadlet, settled};
@@ -66,6 +67,7 @@ impl Node {
         ensures size { length media.new.items ≡ length media.old.items }
         ensures step { IfOk result (λ judged. Receives generation bytes.now (whole (scene self.old outbox.old) (map disk media.old.items)) judged (whole (scene self.new outbox.new) (map disk media.new.items)) (map media_faults media.old.items) (map media_faults media.new.items)) }
         ensures count { self.new.layer.calls ≤ self.old.layer.calls + 12 }
+        ensures ignored { IfOk result (λ judged. LeavesCount judged self.old.layer.calls self.new.layer.calls) }
         ensures units { length self.new.units ≡ length self.old.units }
     {
         match self.judge(generation, bytes) {

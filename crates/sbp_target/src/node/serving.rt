@@ -3,6 +3,7 @@ ghost use Rattle.async_packet.specs.Packet.{view};
 ghost use Rattle.label_table.specs.Bodies.{Gives};
 ghost use Rattle.label_table.specs.Requests.{IsRequestOf};
 ghost use Rattle.sbp_target.specs.Addresses.{Suits, SuitsAccess, complete};
+ghost use Rattle.sbp_target.specs.Counting.{LeavesCount};
 ghost use Rattle.sbp_target.specs.Nodes.{desk_at, scene};
 ghost use Rattle.sbp_journal.specs.declared.side.Side.TheVariants as sides;
 ghost use Rattle.sbp_target.specs.Sending.{with_side};
@@ -79,6 +80,7 @@ impl Node {
         requires count { self.old.layer.calls + 3 ≤ 2 ^ 56 }
         ensures step { IfOk result (λ judged. (judged, scene self.new outbox.new) ≡ request_step (view request.now) bytes.now (scene self.old outbox.old)) }
         ensures count { self.new.layer.calls ≤ self.old.layer.calls + 3 }
+        ensures ignored { IfOk result (λ judged. LeavesCount judged self.old.layer.calls self.new.layer.calls) }
         ensures units { length self.new.units ≡ length self.old.units }
     {
         if self.is_barred(request) {

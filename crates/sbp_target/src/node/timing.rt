@@ -1,4 +1,5 @@
-ghost use Rattle.std.specs.Prelude.{◌≡◌, ◌+◌, ◌-◌, ◌^◌, ◌<◌, ◌≤◌, length, map, IfOk, OnErr, OnOk};
+ghost use Rattle.std.specs.Prelude.{◌≡◌, ◌+◌, ◌-◌, ◌^◌, ◌<◌, ◌≤◌, length, map, false, IfOk, OnErr, OnOk};
+ghost use Rattle.label_table.specs.Layer.{seeing_step};
 ghost use Rattle.login_table.specs.Table.{place_at};
 ghost use Rattle.sbp_target.specs.Desks.{disabled};
 ghost use Rattle.sbp_target.specs.Nodes.{scene};
@@ -9,7 +10,7 @@ use crate::desk::Desk;
 use crate::place::LoginPlace;
 use crate::purpose::Purpose;
 use async_packet::Label;
-use label_table::Stale;
+use label_table::{Stale, Transactions};
 use login_table::{Login, Logins};
 use orb_layout::Reply;
 use sbp_base::{Generation, NoMemory, NodeId};
@@ -45,6 +46,17 @@ fn tell_expired(outbox: &mut Outbox, logins: &[u16]) -> Result<(), NoMemory>
         outbox.tell(Side::Expired(logins[at]))?;
     }
     Ok(())
+}
+
+/// The transaction layer sees a generation; whether it is a later one.
+#[tactic(auto, unfolding(label_table::specs::Layer::seeing_step))]
+fn sees(layer: &mut Transactions<Purpose>, generation: Generation, id: NodeId) -> bool
+    requires { layer.old.calls < 2 ^ 56 }
+    ensures step { (result, layer.new) ≡ seeing_step layer.old generation id }
+    ensures same { result ≡ false → layer.new ≡ layer.old }
+    ensures count { layer.new.calls ≤ layer.old.calls + 1 }
+{
+    layer.see(generation, id)
 }
 
 /// Disables each register for unsolicited status.
@@ -138,9 +150,10 @@ impl Node {
         requires count { self.old.layer.calls < 2 ^ 56 }
         ensures step { IfOk result (λ later. (later, scene self.new outbox.new) ≡ seen generation id (scene self.old outbox.old)) }
         ensures count { self.new.layer.calls ≤ self.old.layer.calls + 1 }
+        ensures same { IfOk result (λ later. later ≡ false → self.new.layer.calls ≡ self.old.layer.calls) }
         ensures units { length self.new.units ≡ length self.old.units }
     {
-        if !self.layer.see(generation, id) {
+        if !sees(&mut self.layer, generation, id) {
             return Ok(false);
         }
         self.manager.clear();

@@ -1,5 +1,7 @@
 use Rattle.std.specs.Prelude.{[]}
+use Rattle.std.proofs.Common.{ap, ◌∙◌}
 use Rattle.sbp_target.proofs.Again.{again_gives}
+use Rattle.sbp_target.proofs.Leaving.{judged_leaves, leaves_from}
 use Rattle.sbp_target.proofs.Received.{if_ok, received_again, received_generation, received_grammar, received_label, received_request, received_response}
 use Rattle.sbp_target.proofs.node.Node.receive.Goals as goal
 
@@ -27,3 +29,21 @@ returns-in_ok-answer-in-Again-clause-step g c =
 pub returns-in-Request-clause-step : goal.returns-in-Request-clause-step
 returns-in-Request-clause-step g c =
     if_ok _ _ c.request.result (λ j r. received_request _ _ (record { node = c.args.self.now; outbox = c.args.outbox.now; disks = _ }) c.judge.new.self _ j _ _ c.judge.ensures.left c.in-Request.ensures.step r) c.request.ensures.step
+
+pub returns-in-Generation-clause-ignored : goal.returns-in-Generation-clause-ignored
+returns-in-Generation-clause-ignored g c = ap (λ l. l.calls) (judged_leaves _ _ _ _ _ c.in-Generation.ensures.step)
+
+pub returns-in-Grammar-clause-ignored : goal.returns-in-Grammar-clause-ignored
+returns-in-Grammar-clause-ignored g c = ap (λ l. l.calls) (judged_leaves _ _ _ _ _ c.in-Grammar.ensures.step)
+
+pub returns-in-Label-clause-ignored : goal.returns-in-Label-clause-ignored
+returns-in-Label-clause-ignored g c = ap (λ l. l.calls) (judged_leaves _ _ _ _ _ c.in-Label.ensures.step)
+
+pub returns-in_ok-answer-in-Again-clause-ignored :
+    goal.returns-in_ok-answer-in-Again-clause-ignored
+returns-in_ok-answer-in-Again-clause-ignored g c =
+    c.answer.ensures.count ∙ ap (λ l. l.calls) (judged_leaves _ _ _ _ _ c.in-Again.ensures.step)
+
+pub returns-in-Request-clause-ignored : goal.returns-in-Request-clause-ignored
+returns-in-Request-clause-ignored g c =
+    if_ok _ _ c.request.result (λ j r. leaves_from j _ _ _ (ap (λ l. l.calls) (judged_leaves _ _ _ _ _ c.in-Request.ensures.step)) r) c.request.ensures.ignored
