@@ -1,6 +1,7 @@
 -- The data and the answer of each ORB go through its own transactions alone.
-use Rattle.std.proofs.Common.{◌≡◌, ◌≢◌, ◌⊎◌, inl, inr, refl, sym, subst, ◌∙◌, get_or-set_other, ℕ, zero, suc, ◌==◌, Bool, true, false, cond, List, [], ◌∷◌, map, slice_set, Option, Some, None, Result, Ok, Err}
+use Rattle.std.proofs.Common.{◌≡◌, ◌≢◌, ◌⊎◌, inl, inr, refl, sym, subst, ◌∙◌, get_or-set_other, ℕ, zero, suc, ◌==◌, Bool, true, false, cond, List, [], ◌∷◌, ◌++◌, map, slice_set, Option, Some, None, Result, Ok, Err}
 use Rattle.orb_layout.specs.declared.ask.Ask.{Ask}
+use Rattle.orb_layout.specs.declared.ask.Ask.TheVariants.{Read, Write, Nothing}
 use Rattle.orb_layout.specs.declared.ask.FailCause.{FailCause}
 use Rattle.orb_layout.specs.declared.pointer.OrbPointer.{OrbPointer}
 use Rattle.orb_layout.specs.declared.pointer.OrbPointer.TheVariants.{Null, At}
@@ -21,10 +22,10 @@ use Rattle.command_agent.specs.Tasks.{begin_step, relinked, writes_status}
 use Rattle.unordered_agent.specs.declared.fetcher.FetchPhase.{FetchPhase}
 use Rattle.unordered_agent.specs.declared.fetcher.FetchPhase.TheVariants as phases
 use Rattle.unordered_agent.specs.Machine.{TaskMachine, agent_at, task_at, state_in, is_busy, lowest_free}
-use Rattle.unordered_agent.specs.Steps.{quiet, takes_pointer, pointed, doorbell_in, point_step, doorbell_step, reset_all_step, reply_step, dropped, settled, goes_on, placed, orb_read, next_read, fetch_replied, released, status_written, worked, task_replied, or_none, place_of, with_task}
+use Rattle.unordered_agent.specs.Steps.{asked, quiet, pointer_read, takes_pointer, pointed, doorbell_in, point_step, doorbell_step, reset_all_step, reply_step, dropped, settled, goes_on, placed, orb_read, next_read, fetch_replied, released, status_written, worked, task_replied, or_none, place_of, with_task}
 use Rattle.unordered_agent.proofs.Kept.{left_dropped}
 use Rattle.unordered_laws.specs.Calls.{Point, Doorbell, Reset, Reply}
-use Rattle.unordered_laws.specs.Apart.{SameOrb, ApartLaw}
+use Rattle.unordered_laws.specs.Apart.{SameOrb, ApartLaw, IsInTurn, AsksLaw}
 
 same : (a : Machine) → SameOrb a a
 same a = record { orb = refl; cdb = refl; buffer = refl; payload = refl; answer = refl; written = refl; outgoing = refl }
@@ -73,11 +74,11 @@ same_linked (task ∷ tasks) (suc place) next zero = same task
 same_linked (task ∷ tasks) (suc place) next (suc other) = same_linked tasks place next other
 
 -- what follows a step
-behind : (dead : Option FailCause) (s : TaskMachine) (other : ℕ) → SameOrb (task_at (goes_on dead s).1 other) (task_at s other)
+pub behind : (dead : Option FailCause) (s : TaskMachine) (other : ℕ) → SameOrb (task_at (goes_on dead s).1 other) (task_at s other)
 behind None s other = same (task_at s other)
 behind (Some cause) s other = same_dropped s.tasks other
 
-settles : (dead : Option FailCause) (s : TaskMachine) (other : ℕ) → SameOrb (task_at (settled dead s) other) (task_at s other)
+pub settles : (dead : Option FailCause) (s : TaskMachine) (other : ℕ) → SameOrb (task_at (settled dead s) other) (task_at s other)
 settles None s other = same (task_at s other)
 settles (Some cause) s other = same_dropped s.tasks other
 
@@ -154,3 +155,60 @@ apart (Point pointer) s other n = point_same (takes_pointer (state_in s.fetcher.
 apart Doorbell s other n = doorbell_same (state_in s.fetcher.phase) s other
 apart Reset s other n = same_resets s.tasks other
 apart (Reply login plain told place answer) s other n = reply_same (is_busy place s) s login plain told place answer other n
+
+-- the requests of a reply
+fetch_turn : (place : ℕ) (next : Ask) → IsInTurn place (asked 8 next)
+fetch_turn place Nothing = tt
+fetch_turn place (Read offset size) = inr refl
+fetch_turn place (Write offset size) = inr refl
+
+step_turn : (place : ℕ) (ask next : Ask) → IsInTurn place (asked place ask ++ asked 8 next)
+step_turn place Nothing next = fetch_turn place next
+step_turn place (Read offset size) Nothing = inl refl
+step_turn place (Read offset size) (Read from more) = (refl, refl)
+step_turn place (Read offset size) (Write from more) = (refl, refl)
+step_turn place (Write offset size) Nothing = inl refl
+step_turn place (Write offset size) (Read from more) = (refl, refl)
+step_turn place (Write offset size) (Write from more) = (refl, refl)
+
+orb_turn : (found : Option ℕ) (s : TaskMachine) (login : ℕ) (plain : PlainDisk) (told : Option Told) (answer : Answer) → IsInTurn (or_none found) (orb_read s login plain told answer found).0.asks
+orb_turn None s login plain told answer = tt
+orb_turn (Some place) s login plain told answer =
+    let begun : AgentStep × Machine = begin_step (task_at s place) login plain told s.fetcher.orb answer in
+    step_turn place begun.0.ask (goes_on begun.0.dead (placed s place begun)).0
+
+next_turn : (place : ℕ) (bytes : Result (List ℕ) FailCause) (s : TaskMachine) → IsInTurn place (next_read s bytes).0.asks
+next_turn place (Err cause) s = tt
+next_turn place (Ok bytes) s = fetch_turn place (goes_on None (pointer_read s (pointer_at bytes 0))).0
+
+fetcher_turn : (phase : FetchPhase) (s : TaskMachine) (login : ℕ) (plain : PlainDisk) (told : Option Told) (answer : Answer) → IsInTurn (or_none (lowest_free s.tasks)) (fetch_replied phase s login plain told answer).0.asks
+fetcher_turn phases.Fetching s login plain told answer = orb_turn (lowest_free s.tasks) s login plain told answer
+fetcher_turn phases.ReadingNext s login plain told answer = next_turn (or_none (lowest_free s.tasks)) (payload_of answer 8) s
+fetcher_turn _ s login plain told answer = tt
+
+status_turn : (phase : FetchPhase) (s : TaskMachine) (place : ℕ) (failure : Option FailCause) → IsInTurn place (status_written phase s place failure).0.asks
+status_turn phases.Dead s place failure = tt
+status_turn phase s place (Some cause) = tt
+status_turn phases.Waiting s place None = fetch_turn place (goes_on None (released s place)).0
+status_turn phases.Reset s place None = tt
+status_turn phases.Fetching s place None = tt
+status_turn phases.ReadingNext s place None = tt
+status_turn phases.AtEnd s place None = tt
+
+task_turn : (b : Bool) (s : TaskMachine) (place : ℕ) (failure : Option FailCause) (done : AgentStep × Machine) → IsInTurn place (cond b (status_written s.fetcher.phase s place failure) (worked s place done)).0.asks
+task_turn true s place failure done = status_turn s.fetcher.phase s place failure
+task_turn false s place failure done = step_turn place done.0.ask Nothing
+
+place_turn : (b : Bool) (s : TaskMachine) (login : ℕ) (plain : PlainDisk) (told : Option Told) (place : ℕ) (answer : Answer)
+    → IsInTurn (cond b (or_none (lowest_free s.tasks)) place) (cond b (fetch_replied s.fetcher.phase s login plain told answer) (task_replied s login plain told place answer)).0.asks
+place_turn true s login plain told place answer = fetcher_turn s.fetcher.phase s login plain told answer
+place_turn false s login plain told place answer =
+    task_turn (writes_status (task_at s place).phase) s place (write_failure answer) (agent.reply_step (task_at s place) login plain told Main answer)
+
+reply_turn : (b : Bool) (s : TaskMachine) (login : ℕ) (plain : PlainDisk) (told : Option Told) (place : ℕ) (answer : Answer) → IsInTurn (place_of s place) (cond b (reply_step s login plain told place answer) (quiet, s)).0.asks
+unfolding reply_step
+reply_turn true s login plain told place answer = place_turn (place == 8) s login plain told place answer
+reply_turn false s login plain told place answer = tt
+
+pub asks_in_turn : AsksLaw
+asks_in_turn login plain told place answer s = reply_turn (is_busy place s) s login plain told place answer
