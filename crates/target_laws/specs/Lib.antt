@@ -1,0 +1,5 @@
+pub mod Calls
+pub mod Layers
+pub mod Answers
+pub mod Labels
+pub mod Sides

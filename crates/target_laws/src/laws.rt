@@ -1,0 +1,34 @@
+ghost use Rattle.target_laws.specs.Answers.{AnswerLaw};
+ghost use Rattle.target_laws.specs.Labels.{LabelLaw};
+ghost use Rattle.target_laws.specs.Layers.{LayerLaw};
+ghost use Rattle.target_laws.specs.Sides.{SideLaw};
+
+/// Each call of a target changes its transaction layer by a list of the layer's own steps: one judging,
+/// expiry or sight of a generation first, then at most one answer, then requests; and the packets that it
+/// hands out are theirs, in order. So over every list of calls the layer is one of which the layer's own
+/// laws speak.
+#[tactic(auto, using(crate::proofs::Made::layer_law))]
+pub fn calls_are_steps_of_the_layer()
+    ensures { LayerLaw }
+{}
+
+/// A request that is got has exactly one response, the first packet of its delivery, to its source and
+/// under its label. An ignored packet has the answer of its cause alone, tells nothing and changes nothing
+/// but the last requests. No other call gives a response.
+#[tactic(auto, using(crate::proofs::Answered::answer_law))]
+pub fn requests_are_answered_first()
+    ensures { AnswerLaw }
+{}
+
+/// Over every list of calls of a target each request has the lowest label that it may take at its moment.
+#[tactic(auto, using(crate::proofs::Labelled::label_law))]
+pub fn labels_are_the_lowest()
+    ensures { LabelLaw }
+{}
+
+/// Cuts, holds, expiries, logins that come back or leave, cleared units, opened lists and unsolicited
+/// statuses are told where the rules have them, in their order, by what the target was before the call.
+#[tactic(auto, using(crate::proofs::Told::side_law))]
+pub fn changes_are_told_in_order()
+    ensures { SideLaw }
+{}
