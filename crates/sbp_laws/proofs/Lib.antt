@@ -14,3 +14,5 @@ mod MediaTries
 mod ActionTries
 mod RunsTries
 mod BudgetTries
+mod Forms
+mod OthersTries

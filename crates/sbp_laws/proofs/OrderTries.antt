@@ -26,6 +26,7 @@ use Rattle.media_bay.specs.Unsolicited.{block_head}
 use Rattle.mgmt_agent.specs.Decisions.{decide, reads_eui, live_login, response_bytes}
 use Rattle.mgmt_agent.specs.Machine.{start_step, reply_step as reply_step_of_manager, decide_step}
 use Rattle.login_table.specs.Table.{fresh_id, left_for, enter_step, back_step, leave_step}
+use Rattle.sbp_laws.specs.Refused as refused
 
 first_of_one : 0 < 1
 first_of_one = omega arith
@@ -58,5 +59,17 @@ number_left_out : OrderLaw nobody journals.number_left_out → ⊥
 unfolding reading fault_of tcode_of header_of offset_of rcode_of value_of length_of extended_of three four part_of is_to is_same asked_by begun_by belongs start_at lowest_from label_for free_from count_flying lowest_flying label_of with_label is_write kind_of slot_of window_at is_fifo point_step doorbell_step reset_step abort_step reply_step lost_step refusal verdict request_of check_of blank_bytes command_kind elements_from made block_head decide reads_eui live_login response_bytes start_step reply_step_of_manager decide_step fresh_id left_for enter_step back_step leave_step
 number_left_out = λ law. let bad : 3 ≡ 2 = law.0.number in omega (arith, bad)
 
+ends_twice : OrderLaw nobody refused.ends_twice → ⊥
+unfolding reading fault_of tcode_of header_of offset_of rcode_of value_of length_of extended_of three four part_of is_to is_same asked_by begun_by belongs start_at lowest_from label_for free_from count_flying lowest_flying label_of with_label is_write kind_of slot_of window_at is_fifo point_step doorbell_step reset_step abort_step reply_step lost_step refusal verdict request_of check_of blank_bytes command_kind elements_from made block_head decide reads_eui live_login response_bytes start_step reply_step_of_manager decide_step fresh_id left_for enter_step back_step leave_step
+ends_twice = λ law. let bad : 0 ≡ 1 = (law.0 refl).number in omega (arith, bad)
+
+ends_unappended : OrderLaw nobody refused.ends_unappended → ⊥
+unfolding reading fault_of tcode_of header_of offset_of rcode_of value_of length_of extended_of three four part_of is_to is_same asked_by begun_by belongs start_at lowest_from label_for free_from count_flying lowest_flying label_of with_label is_write kind_of slot_of window_at is_fifo point_step doorbell_step reset_step abort_step reply_step lost_step refusal verdict request_of check_of blank_bytes command_kind elements_from made block_head decide reads_eui live_login response_bytes start_step reply_step_of_manager decide_step fresh_id left_for enter_step back_step leave_step
+ends_unappended = λ law. let bad : 2 < 2 = (law.0 refl).appended in omega (arith, bad)
+
+runs_in_next_list : OrderLaw nobody refused.runs_in_next_list → ⊥
+unfolding reading fault_of tcode_of header_of offset_of rcode_of value_of length_of extended_of three four part_of is_to is_same asked_by begun_by belongs start_at lowest_from label_for free_from count_flying lowest_flying label_of with_label is_write kind_of slot_of window_at is_fifo point_step doorbell_step reset_step abort_step reply_step lost_step refusal verdict request_of check_of blank_bytes command_kind elements_from made block_head decide reads_eui live_login response_bytes start_step reply_step_of_manager decide_step fresh_id left_for enter_step back_step leave_step
+runs_in_next_list = λ law. let bad : 1 ≡ 2 = (law.0 refl).latest in omega (arith, bad)
+
 pub tried : OrderTried
-tried = record { accepts = accepts; second_ends_first = second_ends_first; ends_after_cut = ends_after_cut; runs_after_cut = runs_after_cut; ends_in_next_list = ends_in_next_list; list_left_out = list_left_out; number_left_out = number_left_out }
+tried = record { accepts = accepts; second_ends_first = second_ends_first; ends_after_cut = ends_after_cut; runs_after_cut = runs_after_cut; ends_in_next_list = ends_in_next_list; list_left_out = list_left_out; number_left_out = number_left_out; ends_twice = ends_twice; ends_unappended = ends_unappended; runs_in_next_list = runs_in_next_list }

@@ -9,6 +9,7 @@ use Rattle.sbp_laws.specs.Turns.{EachMoment, EachTurn}
 use Rattle.sbp_laws.specs.Lawful.{nobody}
 use Rattle.sbp_laws.specs.Journals as journals
 use Rattle.sbp_laws.specs.WorkedRuns as more
+use Rattle.sbp_laws.specs.RareRuns as rare
 use Rattle.sbp_laws.specs.Tried.{RunsTried}
 use Rattle.sbp_laws.specs.OnceLaw.{OnceLaw}
 use Rattle.sbp_laws.specs.OrderLaw.{OrderLaw}
@@ -108,7 +109,7 @@ capacity_execution = (tt, (tt, (tt, (tt, (tt, (tt, (λ e. refl, (tt, (tt, (tt, (
 
 capacity_carried : CarriedLaw nobody journals.one_disk more.capacity_told
 unfolding reading fault_of tcode_of header_of offset_of rcode_of value_of length_of extended_of three four part_of is_to is_same asked_by begun_by belongs start_at lowest_from label_for free_from count_flying lowest_flying label_of with_label is_write kind_of slot_of window_at is_fifo point_step doorbell_step reset_step abort_step reply_step lost_step refusal verdict request_of check_of blank_bytes command_kind elements_from made block_head decide reads_eui live_login response_bytes start_step reply_step_of_manager decide_step fresh_id left_for enter_step back_step leave_step
-capacity_carried = record { carried = (tt, (tt, (tt, (λ e. refl, (tt, (tt, (λ e. record { read = record { response = 4; request = 3; got = refl; answers = refl; of_target = refl; of_initiator = refl; asks = record { read = refl; block = refl; from = refl; size = refl }; appended = first_of_one; opened = refl }; matches = (λ e. let bad : 0 ≡ 3 = e in omega (arith, bad), record { command = refl; direction = refl }) }, (tt, (tt, (tt, (tt, (λ e. record { read = record { response = 4; request = 3; got = refl; answers = refl; of_target = refl; of_initiator = refl; asks = record { read = refl; block = refl; from = refl; size = refl }; appended = first_of_one; opened = refl }; not_dummy = λ e. let bad : 0 ≡ 3 = e in omega (arith, bad); as_appended = record { command = refl; direction = refl }; size = refl; payloads = refl }, (tt, (tt, (tt, (tt, (tt, (tt, (tt, (tt, (tt, (tt, (tt, (tt, (tt, (tt, tt)))))))))))))))))))))))))); due = (refl, (refl, (refl, (refl, (refl, (refl, (refl, (refl, (refl, (refl, (refl, (refl, tt)))))))))))) }
+capacity_carried = record { carried = (tt, (tt, (tt, (λ e. refl, (tt, (tt, (λ e. record { read = record { response = 4; request = 3; got = refl; whole = refl; answers = refl; of_target = refl; of_initiator = refl; asks = record { read = refl; block = refl; from = refl; size = refl }; appended = first_of_one; opened = refl }; matches = (λ e. let bad : 0 ≡ 3 = e in omega (arith, bad), record { command = refl; direction = refl }) }, (tt, (tt, (tt, (tt, (λ e. record { read = record { response = 4; request = 3; got = refl; whole = refl; answers = refl; of_target = refl; of_initiator = refl; asks = record { read = refl; block = refl; from = refl; size = refl }; appended = first_of_one; opened = refl }; not_dummy = λ e. let bad : 0 ≡ 3 = e in omega (arith, bad); as_appended = record { command = refl; direction = refl }; size = refl; payloads = refl }, (tt, (tt, (tt, (tt, (tt, (tt, (tt, (tt, (tt, (tt, (tt, (tt, (tt, (tt, tt)))))))))))))))))))))))))); due = (refl, (refl, (refl, (refl, (refl, (refl, (refl, (refl, (refl, (refl, (refl, (refl, tt)))))))))))) }
 
 capacity_status : StatusLaw nobody more.capacity_told
 unfolding reading fault_of tcode_of header_of offset_of rcode_of value_of length_of extended_of three four part_of is_to is_same asked_by begun_by belongs start_at lowest_from label_for free_from count_flying lowest_flying label_of with_label is_write kind_of slot_of window_at is_fifo point_step doorbell_step reset_step abort_step reply_step lost_step refusal verdict request_of check_of blank_bytes command_kind elements_from made block_head decide reads_eui live_login response_bytes start_step reply_step_of_manager decide_step fresh_id left_for enter_step back_step leave_step
@@ -164,7 +165,7 @@ agent_reset_execution = (tt, (tt, (tt, (tt, (tt, (tt, (tt, (tt, (tt, (tt, (tt, (
 
 agent_reset_carried : CarriedLaw nobody journals.one_disk more.agent_reset_told
 unfolding reading fault_of tcode_of header_of offset_of rcode_of value_of length_of extended_of three four part_of is_to is_same asked_by begun_by belongs start_at lowest_from label_for free_from count_flying lowest_flying label_of with_label is_write kind_of slot_of window_at is_fifo point_step doorbell_step reset_step abort_step reply_step lost_step refusal verdict request_of check_of blank_bytes command_kind elements_from made block_head decide reads_eui live_login response_bytes start_step reply_step_of_manager decide_step fresh_id left_for enter_step back_step leave_step
-agent_reset_carried = record { carried = (tt, (tt, (tt, (tt, (tt, (tt, (tt, (tt, (tt, (tt, (tt, (tt, (tt, (λ e. refl, (tt, (tt, (λ e. record { read = record { response = 4; request = 3; got = refl; answers = refl; of_target = refl; of_initiator = refl; asks = record { read = refl; block = refl; from = refl; size = refl }; appended = first_of_one; opened = refl }; matches = (λ e. let bad : 0 ≡ 3 = e in omega (arith, bad), record { command = refl; direction = refl }) }, (λ e. record { read = record { response = 4; request = 3; got = refl; answers = refl; of_target = refl; of_initiator = refl; asks = record { read = refl; block = refl; from = refl; size = refl }; appended = first_of_one; opened = refl }; not_dummy = λ e. let bad : 0 ≡ 3 = e in omega (arith, bad); as_appended = record { command = refl; direction = refl }; size = refl; payloads = refl }, (tt, (tt, (tt, (tt, (tt, (tt, (tt, (tt, (tt, (tt, (tt, (tt, (tt, (tt, tt)))))))))))))))))))))))))))))))); due = (refl, (refl, (refl, (refl, (refl, (refl, (refl, (refl, (refl, (refl, (refl, (refl, (refl, (refl, (refl, tt))))))))))))))) }
+agent_reset_carried = record { carried = (tt, (tt, (tt, (tt, (tt, (tt, (tt, (tt, (tt, (tt, (tt, (tt, (tt, (λ e. refl, (tt, (tt, (λ e. record { read = record { response = 4; request = 3; got = refl; whole = refl; answers = refl; of_target = refl; of_initiator = refl; asks = record { read = refl; block = refl; from = refl; size = refl }; appended = first_of_one; opened = refl }; matches = (λ e. let bad : 0 ≡ 3 = e in omega (arith, bad), record { command = refl; direction = refl }) }, (λ e. record { read = record { response = 4; request = 3; got = refl; whole = refl; answers = refl; of_target = refl; of_initiator = refl; asks = record { read = refl; block = refl; from = refl; size = refl }; appended = first_of_one; opened = refl }; not_dummy = λ e. let bad : 0 ≡ 3 = e in omega (arith, bad); as_appended = record { command = refl; direction = refl }; size = refl; payloads = refl }, (tt, (tt, (tt, (tt, (tt, (tt, (tt, (tt, (tt, (tt, (tt, (tt, (tt, (tt, tt)))))))))))))))))))))))))))))))); due = (refl, (refl, (refl, (refl, (refl, (refl, (refl, (refl, (refl, (refl, (refl, (refl, (refl, (refl, (refl, tt))))))))))))))) }
 
 agent_reset_status : StatusLaw nobody more.agent_reset_told
 unfolding reading fault_of tcode_of header_of offset_of rcode_of value_of length_of extended_of three four part_of is_to is_same asked_by begun_by belongs start_at lowest_from label_for free_from count_flying lowest_flying label_of with_label is_write kind_of slot_of window_at is_fifo point_step doorbell_step reset_step abort_step reply_step lost_step refusal verdict request_of check_of blank_bytes command_kind elements_from made block_head decide reads_eui live_login response_bytes start_step reply_step_of_manager decide_step fresh_id left_for enter_step back_step leave_step
@@ -276,7 +277,7 @@ read_ahead_execution = (tt, (tt, (tt, (tt, (tt, (tt, (λ e. refl, (λ e. (record
 
 read_ahead_carried : CarriedLaw nobody journals.one_disk more.read_ahead_told
 unfolding reading fault_of tcode_of header_of offset_of rcode_of value_of length_of extended_of three four part_of is_to is_same asked_by begun_by belongs start_at lowest_from label_for free_from count_flying lowest_flying label_of with_label is_write kind_of slot_of window_at is_fifo point_step doorbell_step reset_step abort_step reply_step lost_step refusal verdict request_of check_of blank_bytes command_kind elements_from made block_head decide reads_eui live_login response_bytes start_step reply_step_of_manager decide_step fresh_id left_for enter_step back_step leave_step
-read_ahead_carried = record { carried = (tt, (tt, (tt, (λ e. refl, (tt, (tt, (λ e. record { read = record { response = 10; request = 8; got = refl; answers = refl; of_target = refl; of_initiator = refl; asks = record { read = refl; block = refl; from = refl; size = refl }; appended = second_of_two; opened = refl }; matches = (λ e. let bad : 0 ≡ 3 = e in omega (arith, bad), record { command = refl; direction = refl }) }, (λ e. record { read = record { response = 10; request = 8; got = refl; answers = refl; of_target = refl; of_initiator = refl; asks = record { read = refl; block = refl; from = refl; size = refl }; appended = second_of_two; opened = refl }; not_dummy = λ e. let bad : 0 ≡ 3 = e in omega (arith, bad); as_appended = record { command = refl; direction = refl }; size = refl; payloads = refl }, (tt, (tt, (tt, (tt, (tt, (λ e. refl, (tt, (tt, (tt, (λ e. record { read = record { response = 6; request = 4; got = refl; answers = refl; of_target = refl; of_initiator = refl; asks = record { read = refl; block = refl; from = refl; size = refl }; appended = first_of_two; opened = refl }; matches = (λ e. let bad : 0 ≡ 3 = e in omega (arith, bad), record { command = refl; direction = refl }) }, (λ e. record { read = record { response = 6; request = 4; got = refl; answers = refl; of_target = refl; of_initiator = refl; asks = record { read = refl; block = refl; from = refl; size = refl }; appended = first_of_two; opened = refl }; not_dummy = λ e. let bad : 0 ≡ 3 = e in omega (arith, bad); as_appended = record { command = refl; direction = refl }; size = refl; payloads = refl }, (tt, (tt, (tt, (tt, (tt, (tt, (tt, (tt, (tt, (tt, (tt, (tt, (tt, (tt, (tt, (tt, (tt, (tt, (tt, (tt, (tt, (tt, (tt, tt)))))))))))))))))))))))))))))))))))))))))); due = (refl, (refl, (refl, (refl, (refl, (refl, (refl, (refl, (refl, (refl, (refl, (refl, (refl, (refl, (refl, (refl, (refl, tt))))))))))))))))) }
+read_ahead_carried = record { carried = (tt, (tt, (tt, (λ e. refl, (tt, (tt, (λ e. record { read = record { response = 10; request = 8; got = refl; whole = refl; answers = refl; of_target = refl; of_initiator = refl; asks = record { read = refl; block = refl; from = refl; size = refl }; appended = second_of_two; opened = refl }; matches = (λ e. let bad : 0 ≡ 3 = e in omega (arith, bad), record { command = refl; direction = refl }) }, (λ e. record { read = record { response = 10; request = 8; got = refl; whole = refl; answers = refl; of_target = refl; of_initiator = refl; asks = record { read = refl; block = refl; from = refl; size = refl }; appended = second_of_two; opened = refl }; not_dummy = λ e. let bad : 0 ≡ 3 = e in omega (arith, bad); as_appended = record { command = refl; direction = refl }; size = refl; payloads = refl }, (tt, (tt, (tt, (tt, (tt, (λ e. refl, (tt, (tt, (tt, (λ e. record { read = record { response = 6; request = 4; got = refl; whole = refl; answers = refl; of_target = refl; of_initiator = refl; asks = record { read = refl; block = refl; from = refl; size = refl }; appended = first_of_two; opened = refl }; matches = (λ e. let bad : 0 ≡ 3 = e in omega (arith, bad), record { command = refl; direction = refl }) }, (λ e. record { read = record { response = 6; request = 4; got = refl; whole = refl; answers = refl; of_target = refl; of_initiator = refl; asks = record { read = refl; block = refl; from = refl; size = refl }; appended = first_of_two; opened = refl }; not_dummy = λ e. let bad : 0 ≡ 3 = e in omega (arith, bad); as_appended = record { command = refl; direction = refl }; size = refl; payloads = refl }, (tt, (tt, (tt, (tt, (tt, (tt, (tt, (tt, (tt, (tt, (tt, (tt, (tt, (tt, (tt, (tt, (tt, (tt, (tt, (tt, (tt, (tt, (tt, tt)))))))))))))))))))))))))))))))))))))))))); due = (refl, (refl, (refl, (refl, (refl, (refl, (refl, (refl, (refl, (refl, (refl, (refl, (refl, (refl, (refl, (refl, (refl, tt))))))))))))))))) }
 
 read_ahead_status : StatusLaw nobody more.read_ahead_told
 unfolding reading fault_of tcode_of header_of offset_of rcode_of value_of length_of extended_of three four part_of is_to is_same asked_by begun_by belongs start_at lowest_from label_for free_from count_flying lowest_flying label_of with_label is_write kind_of slot_of window_at is_fifo point_step doorbell_step reset_step abort_step reply_step lost_step refusal verdict request_of check_of blank_bytes command_kind elements_from made block_head decide reads_eui live_login response_bytes start_step reply_step_of_manager decide_step fresh_id left_for enter_step back_step leave_step
@@ -444,7 +445,7 @@ table_execution = (tt, (tt, (tt, (tt, (tt, (tt, (λ e. refl, (λ e. (record { on
 
 table_carried : CarriedLaw nobody journals.one_disk more.table_told
 unfolding reading fault_of tcode_of header_of offset_of rcode_of value_of length_of extended_of three four part_of is_to is_same asked_by begun_by belongs start_at lowest_from label_for free_from count_flying lowest_flying label_of with_label is_write kind_of slot_of window_at is_fifo point_step doorbell_step reset_step abort_step reply_step lost_step refusal verdict request_of check_of blank_bytes command_kind elements_from made block_head decide reads_eui live_login response_bytes start_step reply_step_of_manager decide_step fresh_id left_for enter_step back_step leave_step
-table_carried = record { carried = (tt, (tt, (tt, (λ e. refl, (tt, (tt, (λ e. record { read = record { response = 4; request = 3; got = refl; answers = refl; of_target = refl; of_initiator = refl; asks = record { read = refl; block = refl; from = refl; size = refl }; appended = first_of_one; opened = refl }; matches = (λ e. let bad : 0 ≡ 3 = e in omega (arith, bad), record { command = refl; direction = refl }) }, (λ e. record { read = record { response = 4; request = 3; got = refl; answers = refl; of_target = refl; of_initiator = refl; asks = record { read = refl; block = refl; from = refl; size = refl }; appended = first_of_one; opened = refl }; not_dummy = λ e. let bad : 0 ≡ 3 = e in omega (arith, bad); as_appended = record { command = refl; direction = refl }; size = refl; payloads = refl }, (tt, (tt, (tt, (tt, (tt, (tt, (tt, (tt, (tt, (tt, (tt, (tt, (tt, (tt, (tt, (tt, (tt, (tt, (tt, (tt, (tt, (tt, (tt, (tt, (tt, (tt, tt)))))))))))))))))))))))))))))))))); due = (refl, (refl, (refl, (refl, (refl, (refl, (refl, (refl, (refl, (refl, (refl, (refl, (refl, (refl, (refl, (refl, tt)))))))))))))))) }
+table_carried = record { carried = (tt, (tt, (tt, (λ e. refl, (tt, (tt, (λ e. record { read = record { response = 4; request = 3; got = refl; whole = refl; answers = refl; of_target = refl; of_initiator = refl; asks = record { read = refl; block = refl; from = refl; size = refl }; appended = first_of_one; opened = refl }; matches = (λ e. let bad : 0 ≡ 3 = e in omega (arith, bad), record { command = refl; direction = refl }) }, (λ e. record { read = record { response = 4; request = 3; got = refl; whole = refl; answers = refl; of_target = refl; of_initiator = refl; asks = record { read = refl; block = refl; from = refl; size = refl }; appended = first_of_one; opened = refl }; not_dummy = λ e. let bad : 0 ≡ 3 = e in omega (arith, bad); as_appended = record { command = refl; direction = refl }; size = refl; payloads = refl }, (tt, (tt, (tt, (tt, (tt, (tt, (tt, (tt, (tt, (tt, (tt, (tt, (tt, (tt, (tt, (tt, (tt, (tt, (tt, (tt, (tt, (tt, (tt, (tt, (tt, (tt, tt)))))))))))))))))))))))))))))))))); due = (refl, (refl, (refl, (refl, (refl, (refl, (refl, (refl, (refl, (refl, (refl, (refl, (refl, (refl, (refl, (refl, tt)))))))))))))))) }
 
 table_status : StatusLaw nobody more.table_told
 unfolding reading fault_of tcode_of header_of offset_of rcode_of value_of length_of extended_of three four part_of is_to is_same asked_by begun_by belongs start_at lowest_from label_for free_from count_flying lowest_flying label_of with_label is_write kind_of slot_of window_at is_fifo point_step doorbell_step reset_step abort_step reply_step lost_step refusal verdict request_of check_of blank_bytes command_kind elements_from made block_head decide reads_eui live_login response_bytes start_step reply_step_of_manager decide_step fresh_id left_for enter_step back_step leave_step
@@ -500,7 +501,7 @@ load_execution = (tt, (tt, (tt, (tt, (tt, (tt, (tt, (tt, (tt, (tt, (tt, (tt, (λ
 
 load_carried : CarriedLaw nobody journals.empty_bay more.load_told
 unfolding reading fault_of tcode_of header_of offset_of rcode_of value_of length_of extended_of three four part_of is_to is_same asked_by begun_by belongs start_at lowest_from label_for free_from count_flying lowest_flying label_of with_label is_write kind_of slot_of window_at is_fifo point_step doorbell_step reset_step abort_step reply_step lost_step refusal verdict request_of check_of blank_bytes command_kind elements_from made block_head decide reads_eui live_login response_bytes start_step reply_step_of_manager decide_step fresh_id left_for enter_step back_step leave_step
-load_carried = record { carried = (tt, (tt, (tt, (tt, (tt, (tt, (tt, (λ e. refl, (tt, (tt, (tt, (tt, (λ e. record { read = record { response = 6; request = 5; got = refl; answers = refl; of_target = refl; of_initiator = refl; asks = record { read = refl; block = refl; from = refl; size = refl }; appended = first_of_one; opened = refl }; matches = (λ e. let bad : 0 ≡ 3 = e in omega (arith, bad), record { command = refl; direction = refl }) }, (λ e. record { read = record { response = 6; request = 5; got = refl; answers = refl; of_target = refl; of_initiator = refl; asks = record { read = refl; block = refl; from = refl; size = refl }; appended = first_of_one; opened = refl }; not_dummy = λ e. let bad : 0 ≡ 3 = e in omega (arith, bad); as_appended = record { command = refl; direction = refl }; size = refl; payloads = refl }, (tt, (tt, (tt, (tt, (tt, (tt, (tt, (tt, (tt, (tt, (tt, (tt, (tt, (tt, (tt, (tt, (tt, (tt, (tt, (tt, (tt, (tt, tt)))))))))))))))))))))))))))))))))))); due = (refl, (refl, (refl, (refl, (refl, (refl, (refl, (refl, (refl, (refl, (refl, (refl, (refl, (refl, (refl, (refl, (refl, tt))))))))))))))))) }
+load_carried = record { carried = (tt, (tt, (tt, (tt, (tt, (tt, (tt, (λ e. refl, (tt, (tt, (tt, (tt, (λ e. record { read = record { response = 6; request = 5; got = refl; whole = refl; answers = refl; of_target = refl; of_initiator = refl; asks = record { read = refl; block = refl; from = refl; size = refl }; appended = first_of_one; opened = refl }; matches = (λ e. let bad : 0 ≡ 3 = e in omega (arith, bad), record { command = refl; direction = refl }) }, (λ e. record { read = record { response = 6; request = 5; got = refl; whole = refl; answers = refl; of_target = refl; of_initiator = refl; asks = record { read = refl; block = refl; from = refl; size = refl }; appended = first_of_one; opened = refl }; not_dummy = λ e. let bad : 0 ≡ 3 = e in omega (arith, bad); as_appended = record { command = refl; direction = refl }; size = refl; payloads = refl }, (tt, (tt, (tt, (tt, (tt, (tt, (tt, (tt, (tt, (tt, (tt, (tt, (tt, (tt, (tt, (tt, (tt, (tt, (tt, (tt, (tt, (tt, tt)))))))))))))))))))))))))))))))))))); due = (refl, (refl, (refl, (refl, (refl, (refl, (refl, (refl, (refl, (refl, (refl, (refl, (refl, (refl, (refl, (refl, (refl, tt))))))))))))))))) }
 
 load_status : StatusLaw nobody more.load_told
 unfolding reading fault_of tcode_of header_of offset_of rcode_of value_of length_of extended_of three four part_of is_to is_same asked_by begun_by belongs start_at lowest_from label_for free_from count_flying lowest_flying label_of with_label is_write kind_of slot_of window_at is_fifo point_step doorbell_step reset_step abort_step reply_step lost_step refusal verdict request_of check_of blank_bytes command_kind elements_from made block_head decide reads_eui live_login response_bytes start_step reply_step_of_manager decide_step fresh_id left_for enter_step back_step leave_step
@@ -556,7 +557,7 @@ aborts_execution = (tt, (tt, (tt, (tt, (tt, (tt, (tt, (λ e. refl, (tt, (tt, (tt
 
 aborts_carried : CarriedLaw nobody journals.one_disk more.abort_told
 unfolding reading fault_of tcode_of header_of offset_of rcode_of value_of length_of extended_of three four part_of is_to is_same asked_by begun_by belongs start_at lowest_from label_for free_from count_flying lowest_flying label_of with_label is_write kind_of slot_of window_at is_fifo point_step doorbell_step reset_step abort_step reply_step lost_step refusal verdict request_of check_of blank_bytes command_kind elements_from made block_head decide reads_eui live_login response_bytes start_step reply_step_of_manager decide_step fresh_id left_for enter_step back_step leave_step
-aborts_carried = record { carried = (tt, (tt, (tt, (tt, (tt, (tt, (tt, (λ e. record { read = record { response = 4; request = 3; got = refl; answers = refl; of_target = refl; of_initiator = refl; asks = record { read = refl; block = refl; from = refl; size = refl }; appended = first_of_one; opened = refl }; matches = (λ e. let bad : 0 ≡ 3 = e in omega (arith, bad), record { command = refl; direction = refl }) }, (tt, (tt, (tt, (tt, (tt, (tt, (tt, (tt, (tt, (tt, (tt, (tt, (tt, (tt, (tt, (tt, (tt, (tt, (tt, (tt, (tt, (tt, (tt, (tt, (tt, (tt, (tt, (tt, (tt, (tt, (tt, (tt, (tt, (tt, (tt, (tt, tt)))))))))))))))))))))))))))))))))))))))))))); due = (refl, (refl, (refl, (refl, (refl, (refl, (refl, (refl, (refl, (refl, (refl, (refl, (refl, (refl, (refl, (refl, (refl, (refl, (refl, (refl, (refl, (refl, (refl, tt))))))))))))))))))))))) }
+aborts_carried = record { carried = (tt, (tt, (tt, (tt, (tt, (tt, (tt, (λ e. record { read = record { response = 4; request = 3; got = refl; whole = refl; answers = refl; of_target = refl; of_initiator = refl; asks = record { read = refl; block = refl; from = refl; size = refl }; appended = first_of_one; opened = refl }; matches = (λ e. let bad : 0 ≡ 3 = e in omega (arith, bad), record { command = refl; direction = refl }) }, (tt, (tt, (tt, (tt, (tt, (tt, (tt, (tt, (tt, (tt, (tt, (tt, (tt, (tt, (tt, (tt, (tt, (tt, (tt, (tt, (tt, (tt, (tt, (tt, (tt, (tt, (tt, (tt, (tt, (tt, (tt, (tt, (tt, (tt, (tt, (tt, tt)))))))))))))))))))))))))))))))))))))))))))); due = (refl, (refl, (refl, (refl, (refl, (refl, (refl, (refl, (refl, (refl, (refl, (refl, (refl, (refl, (refl, (refl, (refl, (refl, (refl, (refl, (refl, (refl, (refl, tt))))))))))))))))))))))) }
 
 aborts_status : StatusLaw nobody more.abort_told
 unfolding reading fault_of tcode_of header_of offset_of rcode_of value_of length_of extended_of three four part_of is_to is_same asked_by begun_by belongs start_at lowest_from label_for free_from count_flying lowest_flying label_of with_label is_write kind_of slot_of window_at is_fifo point_step doorbell_step reset_step abort_step reply_step lost_step refusal verdict request_of check_of blank_bytes command_kind elements_from made block_head decide reads_eui live_login response_bytes start_step reply_step_of_manager decide_step fresh_id left_for enter_step back_step leave_step
@@ -566,5 +567,117 @@ aborts_answer : AnswerLaw nobody journals.one_disk more.abort_told
 unfolding reading fault_of tcode_of header_of offset_of rcode_of value_of length_of extended_of three four part_of is_to is_same asked_by begun_by belongs start_at lowest_from label_for free_from count_flying lowest_flying label_of with_label is_write kind_of slot_of window_at is_fifo point_step doorbell_step reset_step abort_step reply_step lost_step refusal verdict request_of check_of blank_bytes command_kind elements_from made block_head decide reads_eui live_login response_bytes start_step reply_step_of_manager decide_step fresh_id left_for enter_step back_step leave_step
 aborts_answer = (tt, (tt, (tt, (tt, (tt, (tt, (tt, (tt, (tt, (tt, (tt, (tt, (tt, (tt, (tt, (tt, (tt, (tt, (tt, (tt, (tt, (tt, (tt, (tt, (tt, (tt, (tt, (tt, (tt, (tt, (tt, (tt, (tt, (tt, (tt, (tt, (tt, (tt, (tt, (tt, (tt, (tt, (tt, (tt, tt))))))))))))))))))))))))))))))))))))))))))))
 
+unit_reset_cause : CauseLaw nobody journals.one_disk (rare.unit_reset rare.unit_reset_notes)
+unfolding reading fault_of tcode_of header_of offset_of rcode_of value_of length_of extended_of three four part_of is_to is_same asked_by begun_by belongs start_at lowest_from label_for free_from count_flying lowest_flying label_of with_label is_write kind_of slot_of window_at is_fifo point_step doorbell_step reset_step abort_step reply_step lost_step refusal verdict request_of check_of blank_bytes command_kind elements_from made block_head decide reads_eui live_login response_bytes start_step reply_step_of_manager decide_step fresh_id left_for enter_step back_step leave_step
+unit_reset_cause = record { causes = (record { cuts = refl; cleared = refl; ends = refl; deaths = tt; faults = tt; failures = refl; operations = refl }, (record { cuts = refl; cleared = refl; ends = refl; deaths = tt; faults = tt; failures = refl; operations = refl }, (record { cuts = refl; cleared = refl; ends = refl; deaths = tt; faults = tt; failures = refl; operations = refl }, (record { cuts = refl; cleared = refl; ends = refl; deaths = tt; faults = tt; failures = refl; operations = refl }, (record { cuts = refl; cleared = refl; ends = refl; deaths = tt; faults = tt; failures = refl; operations = refl }, (record { cuts = refl; cleared = refl; ends = refl; deaths = tt; faults = tt; failures = refl; operations = refl }, (record { cuts = refl; cleared = refl; ends = refl; deaths = tt; faults = tt; failures = refl; operations = refl }, (record { cuts = refl; cleared = refl; ends = refl; deaths = tt; faults = tt; failures = refl; operations = refl }, (record { cuts = refl; cleared = refl; ends = refl; deaths = tt; faults = tt; failures = refl; operations = refl }, (record { cuts = refl; cleared = refl; ends = refl; deaths = tt; faults = tt; failures = refl; operations = refl }, (record { cuts = refl; cleared = refl; ends = refl; deaths = tt; faults = tt; failures = refl; operations = refl }, tt))))))))))); aborted = (tt, (tt, (tt, (tt, (tt, (tt, (tt, (tt, (tt, (tt, (tt, (tt, (tt, (tt, (tt, (tt, (tt, (tt, (tt, (tt, (tt, (tt, (tt, (tt, (tt, tt))))))))))))))))))))))))) }
+
+unit_reset_judged : JudgementLaw journals.one_disk (rare.unit_reset rare.unit_reset_notes)
+unfolding reading fault_of tcode_of header_of offset_of rcode_of value_of length_of extended_of three four part_of is_to is_same asked_by begun_by belongs start_at lowest_from label_for free_from count_flying lowest_flying label_of with_label is_write kind_of slot_of window_at is_fifo point_step doorbell_step reset_step abort_step reply_step lost_step refusal verdict request_of check_of blank_bytes command_kind elements_from made block_head decide reads_eui live_login response_bytes start_step reply_step_of_manager decide_step fresh_id left_for enter_step back_step leave_step
+unit_reset_judged = (refl, (tt, (refl, (tt, (refl, (tt, (tt, (refl, (tt, (tt, (tt, tt)))))))))))
+
+unit_reset_login : LoginLaw journals.one_disk (rare.unit_reset rare.unit_reset_notes)
+unfolding reading fault_of tcode_of header_of offset_of rcode_of value_of length_of extended_of three four part_of is_to is_same asked_by begun_by belongs start_at lowest_from label_for free_from count_flying lowest_flying label_of with_label is_write kind_of slot_of window_at is_fifo point_step doorbell_step reset_step abort_step reply_step lost_step refusal verdict request_of check_of blank_bytes command_kind elements_from made block_head decide reads_eui live_login response_bytes start_step reply_step_of_manager decide_step fresh_id left_for enter_step back_step leave_step
+unit_reset_login = (record { rows = (refl, tt); decisions = refl; logins = refl }, (record { rows = tt; decisions = refl; logins = refl }, (record { rows = tt; decisions = refl; logins = refl }, (record { rows = tt; decisions = refl; logins = refl }, (record { rows = tt; decisions = refl; logins = refl }, (record { rows = tt; decisions = refl; logins = refl }, (record { rows = tt; decisions = refl; logins = refl }, (record { rows = tt; decisions = refl; logins = refl }, (record { rows = tt; decisions = refl; logins = refl }, (record { rows = tt; decisions = refl; logins = refl }, (record { rows = tt; decisions = refl; logins = refl }, tt)))))))))))
+
+unit_reset_media : MediaLaw nobody journals.one_disk (rare.unit_reset rare.unit_reset_notes)
+unfolding reading fault_of tcode_of header_of offset_of rcode_of value_of length_of extended_of three four part_of is_to is_same asked_by begun_by belongs start_at lowest_from label_for free_from count_flying lowest_flying label_of with_label is_write kind_of slot_of window_at is_fifo point_step doorbell_step reset_step abort_step reply_step lost_step refusal verdict request_of check_of blank_bytes command_kind elements_from made block_head decide reads_eui live_login response_bytes start_step reply_step_of_manager decide_step fresh_id left_for enter_step back_step leave_step
+unit_reset_media = (record { pushes = refl; told = refl }, (record { pushes = refl; told = refl }, (record { pushes = refl; told = refl }, (record { pushes = refl; told = refl }, (record { pushes = refl; told = refl }, (record { pushes = refl; told = refl }, (record { pushes = refl; told = refl }, (record { pushes = refl; told = refl }, (record { pushes = refl; told = refl }, (record { pushes = refl; told = refl }, (record { pushes = refl; told = refl }, tt)))))))))))
+
+unit_reset_packets : EachMoment (SentAt nobody) (rare.unit_reset rare.unit_reset_notes)
+unfolding reading fault_of tcode_of header_of offset_of rcode_of value_of length_of extended_of three four part_of is_to is_same asked_by begun_by belongs start_at lowest_from label_for free_from count_flying lowest_flying label_of with_label is_write kind_of slot_of window_at is_fifo point_step doorbell_step reset_step abort_step reply_step lost_step refusal verdict request_of check_of blank_bytes command_kind elements_from made block_head decide reads_eui live_login response_bytes start_step reply_step_of_manager decide_step fresh_id left_for enter_step back_step leave_step
+unit_reset_packets = ((refl, λ e. record { in_generation = refl; spelled = record { packet = write_block (journals.to_first 0) 0x12002000 (quad_bytes (0x01000000 ∷ 0x12000000 ∷ [])); canonical = refl; retry = refl; priority = refl; source = refl; destination = refl }; label = refl }), (tt, (tt, (tt, (tt, (tt, ((refl, λ e. record { in_generation = refl; spelled = record { packet = read_block_response (journals.to_target 0) 0 (management_bytes (rare.orb_of 0xe)); canonical = refl; retry = refl; priority = refl; source = refl; destination = refl }; label = tt }), (tt, (tt, ((refl, λ e. record { in_generation = refl; spelled = record { packet = read_block (journals.to_first 0) 0x12000000 32; canonical = refl; retry = refl; priority = refl; source = refl; destination = refl }; label = refl }), ((refl, λ e. record { in_generation = refl; spelled = record { packet = write_response (journals.to_first 0) 0; canonical = refl; retry = refl; priority = refl; source = refl; destination = refl }; label = tt }), (tt, (tt, ((refl, λ e. record { in_generation = refl; spelled = record { packet = write_block (journals.to_target 0) 0xfffff0010000 (quad_bytes (0 ∷ 0x12000000 ∷ [])); canonical = refl; retry = refl; priority = refl; source = refl; destination = refl }; label = refl }), (tt, ((refl, λ e. record { in_generation = refl; spelled = record { packet = read_block (rare.to_second 0) 0x10000000 32; canonical = refl; retry = refl; priority = refl; source = refl; destination = refl }; label = refl }), ((refl, λ e. record { in_generation = refl; spelled = record { packet = write_response (rare.to_second 0) 0; canonical = refl; retry = refl; priority = refl; source = refl; destination = refl }; label = tt }), (tt, (tt, ((refl, λ e. record { in_generation = refl; spelled = record { packet = write_block (rare.from_second 0) 0xfffff0040028 (quad_bytes (0 ∷ 0x10000000 ∷ [])); canonical = refl; retry = refl; priority = refl; source = refl; destination = refl }; label = refl }), (tt, (tt, (tt, (tt, (tt, tt)))))))))))))))))))))))))
+
+unit_reset_answers : EachTurn (AnswersLaw nobody journals.one_disk) (rare.unit_reset rare.unit_reset_notes)
+unfolding reading fault_of tcode_of header_of offset_of rcode_of value_of length_of extended_of three four part_of is_to is_same asked_by begun_by belongs start_at lowest_from label_for free_from count_flying lowest_flying label_of with_label is_write kind_of slot_of window_at is_fifo point_step doorbell_step reset_step abort_step reply_step lost_step refusal verdict request_of check_of blank_bytes command_kind elements_from made block_head decide reads_eui live_login response_bytes start_step reply_step_of_manager decide_step fresh_id left_for enter_step back_step leave_step
+unit_reset_answers = (record { begins = λ e. tt }, (record { begins = λ e. tt }, (record { begins = λ e. (refl, tt) }, (record { begins = λ e. tt }, (record { begins = λ e. (refl, tt) }, (record { begins = λ e. tt }, (record { begins = λ e. tt }, (record { begins = λ e. (refl, tt) }, (record { begins = λ e. tt }, (record { begins = λ e. tt }, (record { begins = λ e. tt }, tt)))))))))))
+
+unit_reset_requests : EachTurn (RequestsLaw nobody journals.one_disk) (rare.unit_reset rare.unit_reset_notes)
+unfolding reading fault_of tcode_of header_of offset_of rcode_of value_of length_of extended_of three four part_of is_to is_same asked_by begun_by belongs start_at lowest_from label_for free_from count_flying lowest_flying label_of with_label is_write kind_of slot_of window_at is_fifo point_step doorbell_step reset_step abort_step reply_step lost_step refusal verdict request_of check_of blank_bytes command_kind elements_from made block_head decide reads_eui live_login response_bytes start_step reply_step_of_manager decide_step fresh_id left_for enter_step back_step leave_step
+unit_reset_requests = (λ e. (record { sender = refl; receiver = refl; spelled = refl }, tt), (λ e. tt, (λ e. tt, (λ e. tt, (λ e. (record { sender = refl; receiver = refl; spelled = refl }, tt), (λ e. tt, (λ e. (record { sender = refl; receiver = refl; spelled = refl }, tt), (λ e. (record { sender = refl; receiver = refl; spelled = refl }, tt), (λ e. tt, (λ e. (record { sender = refl; receiver = refl; spelled = refl }, tt), (λ e. tt, tt)))))))))))
+
+unit_reset_after : EachTurn (AfterTurn nobody journals.one_disk) (rare.unit_reset rare.unit_reset_notes)
+unfolding reading fault_of tcode_of header_of offset_of rcode_of value_of length_of extended_of three four part_of is_to is_same asked_by begun_by belongs start_at lowest_from label_for free_from count_flying lowest_flying label_of with_label is_write kind_of slot_of window_at is_fifo point_step doorbell_step reset_step abort_step reply_step lost_step refusal verdict request_of check_of blank_bytes command_kind elements_from made block_head decide reads_eui live_login response_bytes start_step reply_step_of_manager decide_step fresh_id left_for enter_step back_step leave_step
+unit_reset_after = (record { agents = (λ e. tt, (λ e. tt, (λ e. tt, (λ e. tt, (λ e. tt, (λ e. tt, (λ e. tt, (λ e. tt, tt)))))))); management = λ e. refl; roms = (λ e. tt, (λ e. tt, tt)) }, (record { agents = (λ e. tt, (λ e. refl, (λ e. tt, (λ e. tt, (λ e. tt, (λ e. tt, (λ e. tt, (λ e. tt, tt)))))))); management = λ e. refl; roms = (λ e. tt, (λ e. tt, tt)) }, (record { agents = (λ e. tt, (λ e. refl, (λ e. tt, (λ e. tt, (λ e. tt, (λ e. tt, (λ e. tt, (λ e. tt, tt)))))))); management = λ e. refl; roms = (λ e. tt, (λ e. tt, tt)) }, (record { agents = (λ e. tt, (λ e. refl, (λ e. tt, (λ e. tt, (λ e. tt, (λ e. tt, (λ e. tt, (λ e. tt, tt)))))))); management = λ e. refl; roms = (λ e. tt, (λ e. tt, tt)) }, (record { agents = (λ e. tt, (λ e. refl, (λ e. tt, (λ e. tt, (λ e. tt, (λ e. tt, (λ e. tt, (λ e. tt, tt)))))))); management = λ e. refl; roms = (λ e. tt, (λ e. tt, tt)) }, (record { agents = (λ e. tt, (λ e. refl, (λ e. tt, (λ e. tt, (λ e. tt, (λ e. tt, (λ e. tt, (λ e. tt, tt)))))))); management = tt; roms = (λ e. tt, (λ e. tt, tt)) }, (record { agents = (λ e. tt, (λ e. refl, (λ e. tt, (λ e. tt, (λ e. tt, (λ e. tt, (λ e. tt, (λ e. tt, tt)))))))); management = tt; roms = (λ e. tt, (λ e. tt, tt)) }, (record { agents = (λ e. tt, (λ e. refl, (λ e. tt, (λ e. tt, (λ e. tt, (λ e. tt, (λ e. tt, (λ e. tt, tt)))))))); management = tt; roms = (λ e. tt, (λ e. tt, tt)) }, (record { agents = (λ e. tt, (λ e. tt, (λ e. tt, (λ e. tt, (λ e. tt, (λ e. tt, (λ e. tt, (λ e. tt, tt)))))))); management = tt; roms = (λ e. tt, (λ e. tt, tt)) }, (record { agents = (λ e. tt, (λ e. tt, (λ e. tt, (λ e. tt, (λ e. tt, (λ e. tt, (λ e. tt, (λ e. tt, tt)))))))); management = tt; roms = (λ e. tt, (λ e. tt, tt)) }, (record { agents = (λ e. tt, (λ e. tt, (λ e. tt, (λ e. tt, (λ e. tt, (λ e. tt, (λ e. tt, (λ e. tt, tt)))))))); management = tt; roms = (λ e. tt, (λ e. tt, tt)) }, tt)))))))))))
+
+unit_reset_once : OnceLaw nobody (rare.unit_reset rare.unit_reset_notes)
+unfolding reading fault_of tcode_of header_of offset_of rcode_of value_of length_of extended_of three four part_of is_to is_same asked_by begun_by belongs start_at lowest_from label_for free_from count_flying lowest_flying label_of with_label is_write kind_of slot_of window_at is_fifo point_step doorbell_step reset_step abort_step reply_step lost_step refusal verdict request_of check_of blank_bytes command_kind elements_from made block_head decide reads_eui live_login response_bytes start_step reply_step_of_manager decide_step fresh_id left_for enter_step back_step leave_step
+unit_reset_once = (tt, (tt, (tt, (tt, ((λ e. refl, λ e. record { once = refl; served = refl }), (tt, (tt, ((λ e. refl, tt), (tt, (tt, (tt, ((λ e. refl, tt), (tt, (tt, (tt, (tt, (tt, ((λ e. refl, tt), (tt, (tt, (tt, (tt, (tt, (tt, (tt, tt)))))))))))))))))))))))))
+
+unit_reset_order : OrderLaw nobody (rare.unit_reset rare.unit_reset_notes)
+unfolding reading fault_of tcode_of header_of offset_of rcode_of value_of length_of extended_of three four part_of is_to is_same asked_by begun_by belongs start_at lowest_from label_for free_from count_flying lowest_flying label_of with_label is_write kind_of slot_of window_at is_fifo point_step doorbell_step reset_step abort_step reply_step lost_step refusal verdict request_of check_of blank_bytes command_kind elements_from made block_head decide reads_eui live_login response_bytes start_step reply_step_of_manager decide_step fresh_id left_for enter_step back_step leave_step
+unit_reset_order = (tt, (tt, (tt, (tt, (tt, (tt, (tt, (tt, (tt, (tt, (tt, (tt, (tt, (tt, (tt, (tt, (tt, (tt, (tt, (tt, (tt, (record { number = refl; list = refl }, (tt, (tt, (tt, tt)))))))))))))))))))))))))
+
+unit_reset_execution : ExecutionLaw nobody journals.one_disk (rare.unit_reset rare.unit_reset_notes)
+unfolding reading fault_of tcode_of header_of offset_of rcode_of value_of length_of extended_of three four part_of is_to is_same asked_by begun_by belongs start_at lowest_from label_for free_from count_flying lowest_flying label_of with_label is_write kind_of slot_of window_at is_fifo point_step doorbell_step reset_step abort_step reply_step lost_step refusal verdict request_of check_of blank_bytes command_kind elements_from made block_head decide reads_eui live_login response_bytes start_step reply_step_of_manager decide_step fresh_id left_for enter_step back_step leave_step
+unit_reset_execution = (tt, (tt, (tt, (tt, (tt, (tt, (tt, (tt, (tt, (tt, (tt, (tt, (tt, (tt, (tt, (tt, (tt, (tt, (tt, (tt, (tt, (tt, (tt, (tt, (tt, tt)))))))))))))))))))))))))
+
+unit_reset_carried : CarriedLaw nobody journals.one_disk (rare.unit_reset rare.unit_reset_notes)
+unfolding reading fault_of tcode_of header_of offset_of rcode_of value_of length_of extended_of three four part_of is_to is_same asked_by begun_by belongs start_at lowest_from label_for free_from count_flying lowest_flying label_of with_label is_write kind_of slot_of window_at is_fifo point_step doorbell_step reset_step abort_step reply_step lost_step refusal verdict request_of check_of blank_bytes command_kind elements_from made block_head decide reads_eui live_login response_bytes start_step reply_step_of_manager decide_step fresh_id left_for enter_step back_step leave_step
+unit_reset_carried = record { carried = (tt, (tt, (tt, (tt, (tt, (tt, (tt, (tt, (tt, (tt, (tt, (tt, (tt, (tt, (tt, (tt, (tt, (tt, (tt, (tt, (tt, (tt, (tt, (tt, (tt, tt))))))))))))))))))))))))); due = (refl, (refl, (refl, (refl, (refl, (refl, (refl, (refl, (refl, (refl, (refl, tt))))))))))) }
+
+unit_reset_status : StatusLaw nobody (rare.unit_reset rare.unit_reset_notes)
+unfolding reading fault_of tcode_of header_of offset_of rcode_of value_of length_of extended_of three four part_of is_to is_same asked_by begun_by belongs start_at lowest_from label_for free_from count_flying lowest_flying label_of with_label is_write kind_of slot_of window_at is_fifo point_step doorbell_step reset_step abort_step reply_step lost_step refusal verdict request_of check_of blank_bytes command_kind elements_from made block_head decide reads_eui live_login response_bytes start_step reply_step_of_manager decide_step fresh_id left_for enter_step back_step leave_step
+unit_reset_status = record { taken = (tt, (tt, (tt, (tt, (tt, (tt, (tt, (tt, (tt, (tt, (tt, (tt, (tt, (tt, (tt, (tt, (tt, (tt, (tt, (tt, (tt, (tt, (tt, (tt, (tt, tt))))))))))))))))))))))))); each = (refl, (refl, (refl, (refl, (refl, (refl, (refl, (refl, (refl, (refl, (refl, tt))))))))))) }
+
+unit_reset_answer : AnswerLaw nobody journals.one_disk (rare.unit_reset rare.unit_reset_notes)
+unfolding reading fault_of tcode_of header_of offset_of rcode_of value_of length_of extended_of three four part_of is_to is_same asked_by begun_by belongs start_at lowest_from label_for free_from count_flying lowest_flying label_of with_label is_write kind_of slot_of window_at is_fifo point_step doorbell_step reset_step abort_step reply_step lost_step refusal verdict request_of check_of blank_bytes command_kind elements_from made block_head decide reads_eui live_login response_bytes start_step reply_step_of_manager decide_step fresh_id left_for enter_step back_step leave_step
+unit_reset_answer = (tt, (tt, (tt, (tt, (tt, (tt, (tt, (tt, (tt, (tt, (tt, (tt, (tt, (tt, (tt, (tt, (tt, (tt, (tt, (tt, (tt, (tt, (tt, (tt, (tt, tt)))))))))))))))))))))))))
+
+untold_cause : CauseLaw nobody rare.untold_disk rare.untold_told
+unfolding reading fault_of tcode_of header_of offset_of rcode_of value_of length_of extended_of three four part_of is_to is_same asked_by begun_by belongs start_at lowest_from label_for free_from count_flying lowest_flying label_of with_label is_write kind_of slot_of window_at is_fifo point_step doorbell_step reset_step abort_step reply_step lost_step refusal verdict request_of check_of blank_bytes command_kind elements_from made block_head decide reads_eui live_login response_bytes start_step reply_step_of_manager decide_step fresh_id left_for enter_step back_step leave_step
+untold_cause = record { causes = (record { cuts = refl; cleared = refl; ends = refl; deaths = tt; faults = tt; failures = refl; operations = refl }, (record { cuts = refl; cleared = refl; ends = refl; deaths = tt; faults = tt; failures = refl; operations = refl }, (record { cuts = refl; cleared = refl; ends = refl; deaths = tt; faults = tt; failures = refl; operations = refl }, (record { cuts = refl; cleared = refl; ends = refl; deaths = tt; faults = tt; failures = refl; operations = refl }, (record { cuts = refl; cleared = refl; ends = refl; deaths = tt; faults = tt; failures = refl; operations = refl }, (record { cuts = refl; cleared = refl; ends = refl; deaths = tt; faults = tt; failures = refl; operations = refl }, (record { cuts = refl; cleared = refl; ends = refl; deaths = tt; faults = tt; failures = refl; operations = refl }, (record { cuts = refl; cleared = refl; ends = refl; deaths = tt; faults = tt; failures = refl; operations = refl }, (record { cuts = refl; cleared = refl; ends = refl; deaths = tt; faults = tt; failures = refl; operations = refl }, (record { cuts = refl; cleared = refl; ends = refl; deaths = tt; faults = tt; failures = refl; operations = refl }, (record { cuts = refl; cleared = refl; ends = refl; deaths = tt; faults = tt; failures = refl; operations = refl }, (record { cuts = refl; cleared = refl; ends = refl; deaths = tt; faults = tt; failures = refl; operations = refl }, tt)))))))))))); aborted = (tt, (tt, (tt, (tt, (tt, (tt, (tt, (tt, (tt, (tt, (tt, (tt, (tt, (tt, (tt, (tt, (tt, (tt, (tt, (tt, (tt, (tt, (tt, (tt, (tt, (tt, tt)))))))))))))))))))))))))) }
+
+untold_judged : JudgementLaw rare.untold_disk rare.untold_told
+unfolding reading fault_of tcode_of header_of offset_of rcode_of value_of length_of extended_of three four part_of is_to is_same asked_by begun_by belongs start_at lowest_from label_for free_from count_flying lowest_flying label_of with_label is_write kind_of slot_of window_at is_fifo point_step doorbell_step reset_step abort_step reply_step lost_step refusal verdict request_of check_of blank_bytes command_kind elements_from made block_head decide reads_eui live_login response_bytes start_step reply_step_of_manager decide_step fresh_id left_for enter_step back_step leave_step
+untold_judged = (tt, (refl, (refl, (refl, (refl, (refl, (refl, (refl, (refl, (tt, (tt, (tt, tt))))))))))))
+
+untold_login : LoginLaw rare.untold_disk rare.untold_told
+unfolding reading fault_of tcode_of header_of offset_of rcode_of value_of length_of extended_of three four part_of is_to is_same asked_by begun_by belongs start_at lowest_from label_for free_from count_flying lowest_flying label_of with_label is_write kind_of slot_of window_at is_fifo point_step doorbell_step reset_step abort_step reply_step lost_step refusal verdict request_of check_of blank_bytes command_kind elements_from made block_head decide reads_eui live_login response_bytes start_step reply_step_of_manager decide_step fresh_id left_for enter_step back_step leave_step
+untold_login = (record { rows = tt; decisions = refl; logins = refl }, (record { rows = tt; decisions = refl; logins = refl }, (record { rows = tt; decisions = refl; logins = refl }, (record { rows = tt; decisions = refl; logins = refl }, (record { rows = tt; decisions = refl; logins = refl }, (record { rows = tt; decisions = refl; logins = refl }, (record { rows = tt; decisions = refl; logins = refl }, (record { rows = tt; decisions = refl; logins = refl }, (record { rows = tt; decisions = refl; logins = refl }, (record { rows = tt; decisions = refl; logins = refl }, (record { rows = tt; decisions = refl; logins = refl }, (record { rows = tt; decisions = refl; logins = refl }, tt))))))))))))
+
+untold_media : MediaLaw nobody rare.untold_disk rare.untold_told
+unfolding reading fault_of tcode_of header_of offset_of rcode_of value_of length_of extended_of three four part_of is_to is_same asked_by begun_by belongs start_at lowest_from label_for free_from count_flying lowest_flying label_of with_label is_write kind_of slot_of window_at is_fifo point_step doorbell_step reset_step abort_step reply_step lost_step refusal verdict request_of check_of blank_bytes command_kind elements_from made block_head decide reads_eui live_login response_bytes start_step reply_step_of_manager decide_step fresh_id left_for enter_step back_step leave_step
+untold_media = (record { pushes = refl; told = refl }, (record { pushes = refl; told = refl }, (record { pushes = refl; told = refl }, (record { pushes = refl; told = refl }, (record { pushes = refl; told = refl }, (record { pushes = refl; told = refl }, (record { pushes = refl; told = refl }, (record { pushes = refl; told = refl }, (record { pushes = refl; told = refl }, (record { pushes = refl; told = refl }, (record { pushes = refl; told = refl }, (record { pushes = refl; told = refl }, tt))))))))))))
+
+untold_packets : EachMoment (SentAt nobody) rare.untold_told
+unfolding reading fault_of tcode_of header_of offset_of rcode_of value_of length_of extended_of three four part_of is_to is_same asked_by begun_by belongs start_at lowest_from label_for free_from count_flying lowest_flying label_of with_label is_write kind_of slot_of window_at is_fifo point_step doorbell_step reset_step abort_step reply_step lost_step refusal verdict request_of check_of blank_bytes command_kind elements_from made block_head decide reads_eui live_login response_bytes start_step reply_step_of_manager decide_step fresh_id left_for enter_step back_step leave_step
+untold_packets = (tt, (tt, ((refl, λ e. record { in_generation = refl; spelled = record { packet = write_response (journals.to_target 0) 0; canonical = refl; retry = refl; priority = refl; source = refl; destination = refl }; label = tt }), (tt, (tt, ((refl, λ e. record { in_generation = refl; spelled = record { packet = write_block (journals.to_first 0) 0x13000000 (quad_bytes (0x41000000 ∷ 0x10000000 ∷ [])); canonical = refl; retry = refl; priority = refl; source = refl; destination = refl }; label = refl }), (tt, (tt, ((refl, λ e. record { in_generation = refl; spelled = record { packet = write_response (journals.to_target 0) 0; canonical = refl; retry = refl; priority = refl; source = refl; destination = refl }; label = tt }), (tt, ((refl, λ e. record { in_generation = refl; spelled = record { packet = write_block (journals.to_first 0) 0x11000000 (rare.some_block); canonical = refl; retry = refl; priority = refl; source = refl; destination = refl }; label = refl }), (tt, (tt, ((refl, λ e. record { in_generation = refl; spelled = record { packet = read_block_response (journals.to_target 0) 0 (rare.read_orb); canonical = refl; retry = refl; priority = refl; source = refl; destination = refl }; label = tt }), (tt, (tt, ((refl, λ e. record { in_generation = refl; spelled = record { packet = read_block (journals.to_first 0) 0x10000000 32; canonical = refl; retry = refl; priority = refl; source = refl; destination = refl }; label = refl }), ((refl, λ e. record { in_generation = refl; spelled = record { packet = write_response (journals.to_first 0) 0; canonical = refl; retry = refl; priority = refl; source = refl; destination = refl }; label = tt }), (tt, (tt, ((refl, λ e. record { in_generation = refl; spelled = record { packet = write_block (journals.to_target 0) 0xfffff0040008 (quad_bytes (0 ∷ 0x10000000 ∷ [])); canonical = refl; retry = refl; priority = refl; source = refl; destination = refl }; label = refl }), (tt, (tt, (tt, (tt, (tt, tt))))))))))))))))))))))))))
+
+untold_answers : EachTurn (AnswersLaw nobody rare.untold_disk) rare.untold_told
+unfolding reading fault_of tcode_of header_of offset_of rcode_of value_of length_of extended_of three four part_of is_to is_same asked_by begun_by belongs start_at lowest_from label_for free_from count_flying lowest_flying label_of with_label is_write kind_of slot_of window_at is_fifo point_step doorbell_step reset_step abort_step reply_step lost_step refusal verdict request_of check_of blank_bytes command_kind elements_from made block_head decide reads_eui live_login response_bytes start_step reply_step_of_manager decide_step fresh_id left_for enter_step back_step leave_step
+untold_answers = (record { begins = λ e. tt }, (record { begins = λ e. tt }, (record { begins = λ e. (refl, tt) }, (record { begins = λ e. tt }, (record { begins = λ e. (refl, tt) }, (record { begins = λ e. tt }, (record { begins = λ e. (refl, tt) }, (record { begins = λ e. tt }, (record { begins = λ e. (refl, tt) }, (record { begins = λ e. tt }, (record { begins = λ e. tt }, (record { begins = λ e. tt }, tt))))))))))))
+
+untold_requests : EachTurn (RequestsLaw nobody rare.untold_disk) rare.untold_told
+unfolding reading fault_of tcode_of header_of offset_of rcode_of value_of length_of extended_of three four part_of is_to is_same asked_by begun_by belongs start_at lowest_from label_for free_from count_flying lowest_flying label_of with_label is_write kind_of slot_of window_at is_fifo point_step doorbell_step reset_step abort_step reply_step lost_step refusal verdict request_of check_of blank_bytes command_kind elements_from made block_head decide reads_eui live_login response_bytes start_step reply_step_of_manager decide_step fresh_id left_for enter_step back_step leave_step
+untold_requests = (λ e. tt, (λ e. tt, (λ e. tt, (λ e. (record { sender = refl; receiver = refl; spelled = refl }, tt), (λ e. tt, (λ e. (record { payload = rare.some_block; size = refl; is = record { sender = refl; receiver = refl; spelled = refl } }, tt), (λ e. tt, (λ e. tt, (λ e. (record { sender = refl; receiver = refl; spelled = refl }, tt), (λ e. tt, (λ e. (record { sender = refl; receiver = refl; spelled = refl }, tt), (λ e. tt, tt))))))))))))
+
+untold_after : EachTurn (AfterTurn nobody rare.untold_disk) rare.untold_told
+unfolding reading fault_of tcode_of header_of offset_of rcode_of value_of length_of extended_of three four part_of is_to is_same asked_by begun_by belongs start_at lowest_from label_for free_from count_flying lowest_flying label_of with_label is_write kind_of slot_of window_at is_fifo point_step doorbell_step reset_step abort_step reply_step lost_step refusal verdict request_of check_of blank_bytes command_kind elements_from made block_head decide reads_eui live_login response_bytes start_step reply_step_of_manager decide_step fresh_id left_for enter_step back_step leave_step
+untold_after = (record { agents = (λ e. record { answered = refl; ends = refl; unrung = refl }, (λ e. tt, (λ e. tt, (λ e. tt, (λ e. tt, (λ e. tt, (λ e. tt, (λ e. tt, tt)))))))); management = tt; roms = (λ e. tt, tt) }, (record { agents = (λ e. record { answered = refl; ends = refl; unrung = refl }, (λ e. tt, (λ e. tt, (λ e. tt, (λ e. tt, (λ e. tt, (λ e. tt, (λ e. tt, tt)))))))); management = tt; roms = (λ e. tt, tt) }, (record { agents = (λ e. refl, (λ e. tt, (λ e. tt, (λ e. tt, (λ e. tt, (λ e. tt, (λ e. tt, (λ e. tt, tt)))))))); management = tt; roms = (λ e. tt, tt) }, (record { agents = (λ e. refl, (λ e. tt, (λ e. tt, (λ e. tt, (λ e. tt, (λ e. tt, (λ e. tt, (λ e. tt, tt)))))))); management = tt; roms = (λ e. tt, tt) }, (record { agents = (λ e. refl, (λ e. tt, (λ e. tt, (λ e. tt, (λ e. tt, (λ e. tt, (λ e. tt, (λ e. tt, tt)))))))); management = tt; roms = (λ e. tt, tt) }, (record { agents = (λ e. refl, (λ e. tt, (λ e. tt, (λ e. tt, (λ e. tt, (λ e. tt, (λ e. tt, (λ e. tt, tt)))))))); management = tt; roms = (λ e. tt, tt) }, (record { agents = (λ e. refl, (λ e. tt, (λ e. tt, (λ e. tt, (λ e. tt, (λ e. tt, (λ e. tt, (λ e. tt, tt)))))))); management = tt; roms = (λ e. tt, tt) }, (record { agents = (λ e. refl, (λ e. tt, (λ e. tt, (λ e. tt, (λ e. tt, (λ e. tt, (λ e. tt, (λ e. tt, tt)))))))); management = tt; roms = (λ e. tt, tt) }, (record { agents = (λ e. refl, (λ e. tt, (λ e. tt, (λ e. tt, (λ e. tt, (λ e. tt, (λ e. tt, (λ e. tt, tt)))))))); management = tt; roms = (λ e. tt, tt) }, (record { agents = (λ e. tt, (λ e. tt, (λ e. tt, (λ e. tt, (λ e. tt, (λ e. tt, (λ e. tt, (λ e. tt, tt)))))))); management = tt; roms = (λ e. tt, tt) }, (record { agents = (λ e. tt, (λ e. tt, (λ e. tt, (λ e. tt, (λ e. tt, (λ e. tt, (λ e. tt, (λ e. tt, tt)))))))); management = tt; roms = (λ e. tt, tt) }, (record { agents = (λ e. tt, (λ e. tt, (λ e. tt, (λ e. tt, (λ e. tt, (λ e. tt, (λ e. tt, (λ e. tt, tt)))))))); management = tt; roms = (λ e. tt, tt) }, tt))))))))))))
+
+untold_once : OnceLaw nobody rare.untold_told
+unfolding reading fault_of tcode_of header_of offset_of rcode_of value_of length_of extended_of three four part_of is_to is_same asked_by begun_by belongs start_at lowest_from label_for free_from count_flying lowest_flying label_of with_label is_write kind_of slot_of window_at is_fifo point_step doorbell_step reset_step abort_step reply_step lost_step refusal verdict request_of check_of blank_bytes command_kind elements_from made block_head decide reads_eui live_login response_bytes start_step reply_step_of_manager decide_step fresh_id left_for enter_step back_step leave_step
+untold_once = (tt, ((λ e. refl, λ e. record { once = refl; served = refl }), (tt, (tt, ((λ e. refl, tt), (tt, (tt, ((λ e. refl, λ e. record { once = refl; served = refl }), (tt, ((λ e. refl, tt), (tt, (tt, ((λ e. refl, λ e. record { once = refl; served = refl }), (tt, ((λ e. refl, tt), ((λ e. refl, λ e. record { once = refl; served = refl }), (tt, (tt, ((λ e. refl, tt), (tt, (tt, (tt, (tt, (tt, (tt, (tt, tt))))))))))))))))))))))))))
+
+untold_order : OrderLaw nobody rare.untold_told
+unfolding reading fault_of tcode_of header_of offset_of rcode_of value_of length_of extended_of three four part_of is_to is_same asked_by begun_by belongs start_at lowest_from label_for free_from count_flying lowest_flying label_of with_label is_write kind_of slot_of window_at is_fifo point_step doorbell_step reset_step abort_step reply_step lost_step refusal verdict request_of check_of blank_bytes command_kind elements_from made block_head decide reads_eui live_login response_bytes start_step reply_step_of_manager decide_step fresh_id left_for enter_step back_step leave_step
+untold_order = (tt, (tt, (tt, (tt, (tt, (tt, (λ e. record { number = refl; appended = first_of_one; still = record { latest = refl; uncut = refl } }, (tt, (tt, (tt, (tt, (λ e. record { latest = refl; uncut = refl }, (tt, (tt, (tt, (tt, (tt, (tt, (tt, (tt, (tt, (tt, (record { number = refl; list = refl }, (tt, (tt, (tt, tt))))))))))))))))))))))))))
+
+untold_execution : ExecutionLaw nobody rare.untold_disk rare.untold_told
+unfolding reading fault_of tcode_of header_of offset_of rcode_of value_of length_of extended_of three four part_of is_to is_same asked_by begun_by belongs start_at lowest_from label_for free_from count_flying lowest_flying label_of with_label is_write kind_of slot_of window_at is_fifo point_step doorbell_step reset_step abort_step reply_step lost_step refusal verdict request_of check_of blank_bytes command_kind elements_from made block_head decide reads_eui live_login response_bytes start_step reply_step_of_manager decide_step fresh_id left_for enter_step back_step leave_step
+untold_execution = (tt, (tt, (tt, (tt, (tt, (tt, (λ e. refl, (tt, (tt, (tt, (tt, (λ e. (record { once = refl; order = refl; login = refl }, record { command = refl; carried = inl refl; needed = λ len need. absurd (cc need); ended = tt }), (tt, (tt, (tt, (tt, (tt, (tt, (tt, (tt, (tt, (tt, (tt, (tt, (tt, (tt, tt))))))))))))))))))))))))))
+
+untold_carried : CarriedLaw nobody rare.untold_disk rare.untold_told
+unfolding reading fault_of tcode_of header_of offset_of rcode_of value_of length_of extended_of three four part_of is_to is_same asked_by begun_by belongs start_at lowest_from label_for free_from count_flying lowest_flying label_of with_label is_write kind_of slot_of window_at is_fifo point_step doorbell_step reset_step abort_step reply_step lost_step refusal verdict request_of check_of blank_bytes command_kind elements_from made block_head decide reads_eui live_login response_bytes start_step reply_step_of_manager decide_step fresh_id left_for enter_step back_step leave_step
+untold_carried = record { carried = (tt, (tt, (tt, (λ e. refl, (tt, (tt, (λ e. record { read = record { response = 4; request = 3; got = refl; whole = refl; answers = refl; of_target = refl; of_initiator = refl; asks = record { read = refl; block = refl; from = refl; size = refl }; appended = first_of_one; opened = refl }; matches = (λ e. let bad : 0 ≡ 3 = e in omega (arith, bad), record { command = refl; direction = refl }) }, (tt, (tt, (tt, (tt, (λ e. record { read = record { response = 4; request = 3; got = refl; whole = refl; answers = refl; of_target = refl; of_initiator = refl; asks = record { read = refl; block = refl; from = refl; size = refl }; appended = first_of_one; opened = refl }; not_dummy = λ e. let bad : 0 ≡ 3 = e in omega (arith, bad); as_appended = record { command = refl; direction = refl }; size = refl; payloads = refl }, (tt, (tt, (tt, (tt, (tt, (tt, (tt, (tt, (tt, (tt, (tt, (tt, (tt, (tt, tt)))))))))))))))))))))))))); due = (refl, (refl, (refl, (refl, (refl, (refl, (refl, (refl, (refl, (refl, (refl, (refl, tt)))))))))))) }
+
+untold_status : StatusLaw nobody rare.untold_told
+unfolding reading fault_of tcode_of header_of offset_of rcode_of value_of length_of extended_of three four part_of is_to is_same asked_by begun_by belongs start_at lowest_from label_for free_from count_flying lowest_flying label_of with_label is_write kind_of slot_of window_at is_fifo point_step doorbell_step reset_step abort_step reply_step lost_step refusal verdict request_of check_of blank_bytes command_kind elements_from made block_head decide reads_eui live_login response_bytes start_step reply_step_of_manager decide_step fresh_id left_for enter_step back_step leave_step
+untold_status = record { taken = (tt, (tt, (tt, (λ e. record { once = refl; ended = refl; sent = refl; written = record { is_write = refl; goes = refl; src = 1; spells = refl } }, (tt, (tt, (tt, (tt, (tt, (tt, (tt, (tt, (tt, (tt, (tt, (tt, (tt, (tt, (tt, (tt, (tt, (tt, (tt, (tt, (tt, (tt, tt)))))))))))))))))))))))))); each = (refl, (refl, (refl, (refl, (refl, (refl, (refl, (refl, (refl, (refl, (refl, (refl, tt)))))))))))) }
+
+untold_answer : AnswerLaw nobody rare.untold_disk rare.untold_told
+unfolding reading fault_of tcode_of header_of offset_of rcode_of value_of length_of extended_of three four part_of is_to is_same asked_by begun_by belongs start_at lowest_from label_for free_from count_flying lowest_flying label_of with_label is_write kind_of slot_of window_at is_fifo point_step doorbell_step reset_step abort_step reply_step lost_step refusal verdict request_of check_of blank_bytes command_kind elements_from made block_head decide reads_eui live_login response_bytes start_step reply_step_of_manager decide_step fresh_id left_for enter_step back_step leave_step
+untold_answer = (tt, (tt, (tt, (λ e. record { len = refl; told = tt }, (tt, (tt, (tt, (tt, (tt, (tt, (tt, (tt, (tt, (tt, (tt, (tt, (tt, (tt, (tt, (tt, (tt, (tt, (tt, (tt, (tt, (tt, tt))))))))))))))))))))))))))
+
 pub tried : RunsTried
-tried = record { capacity = record { once = capacity_once; order = capacity_order; execution = capacity_execution; status = capacity_status; answer = capacity_answer; carried = capacity_carried; cause = capacity_cause; judgement = capacity_judged; login = capacity_login; media = capacity_media; sent = record { packets = capacity_packets; answers = capacity_answers; requests = capacity_requests; after = capacity_after } }; agent_reset = record { once = agent_reset_once; order = agent_reset_order; execution = agent_reset_execution; status = agent_reset_status; answer = agent_reset_answer; carried = agent_reset_carried; cause = agent_reset_cause; judgement = agent_reset_judged; login = agent_reset_login; media = agent_reset_media; sent = record { packets = agent_reset_packets; answers = agent_reset_answers; requests = agent_reset_requests; after = agent_reset_after } }; logout = record { once = logout_once; order = logout_order; execution = logout_execution; status = logout_status; answer = logout_answer; carried = logout_carried; cause = logout_cause; judgement = logout_judged; login = logout_login; media = logout_media; sent = record { packets = logout_packets; answers = logout_answers; requests = logout_requests; after = logout_after } }; read_ahead = record { once = read_ahead_once; order = read_ahead_order; execution = read_ahead_execution; status = read_ahead_status; answer = read_ahead_answer; carried = read_ahead_carried; cause = read_ahead_cause; judgement = read_ahead_judged; login = read_ahead_login; media = read_ahead_media; sent = record { packets = read_ahead_packets; answers = read_ahead_answers; requests = read_ahead_requests; after = read_ahead_after } }; login = record { once = login_once; order = login_order; execution = login_execution; status = login_status; answer = login_answer; carried = login_carried; cause = login_cause; judgement = login_judged; login = login_login; media = login_media; sent = record { packets = login_packets; answers = login_answers; requests = login_requests; after = login_after } }; reconnect = record { once = reconnect_once; order = reconnect_order; execution = reconnect_execution; status = reconnect_status; answer = reconnect_answer; carried = reconnect_carried; cause = reconnect_cause; judgement = reconnect_judged; login = reconnect_login; media = reconnect_media; sent = record { packets = reconnect_packets; answers = reconnect_answers; requests = reconnect_requests; after = reconnect_after } }; table = record { once = table_once; order = table_order; execution = table_execution; status = table_status; answer = table_answer; carried = table_carried; cause = table_cause; judgement = table_judged; login = table_login; media = table_media; sent = record { packets = table_packets; answers = table_answers; requests = table_requests; after = table_after } }; load = record { once = load_once; order = load_order; execution = load_execution; status = load_status; answer = load_answer; carried = load_carried; cause = load_cause; judgement = load_judged; login = load_login; media = load_media; sent = record { packets = load_packets; answers = load_answers; requests = load_requests; after = load_after } }; aborts = record { once = aborts_once; order = aborts_order; execution = aborts_execution; status = aborts_status; answer = aborts_answer; carried = aborts_carried; cause = aborts_cause; judgement = aborts_judged; login = aborts_login; media = aborts_media; sent = record { packets = aborts_packets; answers = aborts_answers; requests = aborts_requests; after = aborts_after } } }
+tried = record { capacity = record { once = capacity_once; order = capacity_order; execution = capacity_execution; status = capacity_status; answer = capacity_answer; carried = capacity_carried; cause = capacity_cause; judgement = capacity_judged; login = capacity_login; media = capacity_media; sent = record { packets = capacity_packets; answers = capacity_answers; requests = capacity_requests; after = capacity_after } }; agent_reset = record { once = agent_reset_once; order = agent_reset_order; execution = agent_reset_execution; status = agent_reset_status; answer = agent_reset_answer; carried = agent_reset_carried; cause = agent_reset_cause; judgement = agent_reset_judged; login = agent_reset_login; media = agent_reset_media; sent = record { packets = agent_reset_packets; answers = agent_reset_answers; requests = agent_reset_requests; after = agent_reset_after } }; logout = record { once = logout_once; order = logout_order; execution = logout_execution; status = logout_status; answer = logout_answer; carried = logout_carried; cause = logout_cause; judgement = logout_judged; login = logout_login; media = logout_media; sent = record { packets = logout_packets; answers = logout_answers; requests = logout_requests; after = logout_after } }; read_ahead = record { once = read_ahead_once; order = read_ahead_order; execution = read_ahead_execution; status = read_ahead_status; answer = read_ahead_answer; carried = read_ahead_carried; cause = read_ahead_cause; judgement = read_ahead_judged; login = read_ahead_login; media = read_ahead_media; sent = record { packets = read_ahead_packets; answers = read_ahead_answers; requests = read_ahead_requests; after = read_ahead_after } }; login = record { once = login_once; order = login_order; execution = login_execution; status = login_status; answer = login_answer; carried = login_carried; cause = login_cause; judgement = login_judged; login = login_login; media = login_media; sent = record { packets = login_packets; answers = login_answers; requests = login_requests; after = login_after } }; reconnect = record { once = reconnect_once; order = reconnect_order; execution = reconnect_execution; status = reconnect_status; answer = reconnect_answer; carried = reconnect_carried; cause = reconnect_cause; judgement = reconnect_judged; login = reconnect_login; media = reconnect_media; sent = record { packets = reconnect_packets; answers = reconnect_answers; requests = reconnect_requests; after = reconnect_after } }; table = record { once = table_once; order = table_order; execution = table_execution; status = table_status; answer = table_answer; carried = table_carried; cause = table_cause; judgement = table_judged; login = table_login; media = table_media; sent = record { packets = table_packets; answers = table_answers; requests = table_requests; after = table_after } }; load = record { once = load_once; order = load_order; execution = load_execution; status = load_status; answer = load_answer; carried = load_carried; cause = load_cause; judgement = load_judged; login = load_login; media = load_media; sent = record { packets = load_packets; answers = load_answers; requests = load_requests; after = load_after } }; aborts = record { once = aborts_once; order = aborts_order; execution = aborts_execution; status = aborts_status; answer = aborts_answer; carried = aborts_carried; cause = aborts_cause; judgement = aborts_judged; login = aborts_login; media = aborts_media; sent = record { packets = aborts_packets; answers = aborts_answers; requests = aborts_requests; after = aborts_after } }; unit_reset = record { once = unit_reset_once; order = unit_reset_order; execution = unit_reset_execution; status = unit_reset_status; answer = unit_reset_answer; carried = unit_reset_carried; cause = unit_reset_cause; judgement = unit_reset_judged; login = unit_reset_login; media = unit_reset_media; sent = record { packets = unit_reset_packets; answers = unit_reset_answers; requests = unit_reset_requests; after = unit_reset_after } }; untold = record { once = untold_once; order = untold_order; execution = untold_execution; status = untold_status; answer = untold_answer; carried = untold_carried; cause = untold_cause; judgement = untold_judged; login = untold_login; media = untold_media; sent = record { packets = untold_packets; answers = untold_answers; requests = untold_requests; after = untold_after } } }

@@ -1,6 +1,6 @@
 -- The journals that the sent law was tried on.
 use Rattle.std.proofs.Common.{◌≡◌, ℕ, List, [], ◌∷◌, ◌++◌, refl, ap, arith}
-use Rattle.std.specs.Prelude.{Some, None, slice_index}
+use Rattle.std.specs.Prelude.{Some, None, slice_index, replicate}
 use Rattle.orb_layout.specs.Pointers.{quad_bytes}
 use Rattle.async_packet.specs.Packet.{write_block, write_response, read_block, read_block_response}
 use Rattle.sbp_journal.specs.Run.{said}
@@ -19,7 +19,7 @@ use Rattle.orb_layout.specs.declared.status.StatusKind.TheVariants as kinds
 use Rattle.async_packet.specs.Reading.{reading}
 use Rattle.async_packet.specs.Faults.{fault_of}
 use Rattle.async_packet.specs.Fields.{tcode_of, header_of, offset_of, rcode_of, value_of, length_of, extended_of}
-use Rattle.async_packet.specs.Canon.{three, four}
+use Rattle.async_packet.specs.Canon.{three, four, canon}
 use Rattle.sbp_journal.specs.Transactions.{part_of, is_to, is_same, asked_by, begun_by, belongs}
 use Rattle.sbp_journal.specs.Addresses.{start_at}
 use Rattle.sbp_laws.specs.Packets.{lowest_from, label_for, free_from}
@@ -34,10 +34,15 @@ use Rattle.rbc_disk.specs.Disk.{blank_bytes}
 use Rattle.orb_layout.specs.StatusBlocks.{command_kind}
 use Rattle.page_table.specs.Elements.{elements_from}
 use Rattle.config_rom.specs.Make.{made}
+use Rattle.config_rom.specs.Sum.{sum_of, low_bits}
 use Rattle.media_bay.specs.Unsolicited.{block_head}
 use Rattle.mgmt_agent.specs.Decisions.{decide, reads_eui, live_login, response_bytes}
 use Rattle.mgmt_agent.specs.Machine.{start_step, reply_step as reply_step_of_manager, decide_step}
 use Rattle.login_table.specs.Table.{fresh_id, left_for, enter_step, back_step, leave_step}
+use Rattle.sbp_laws.specs.Refused as refused
+use Rattle.sbp_laws.specs.RareRuns as rare
+use Rattle.sbp_laws.specs.WorkedRuns as runs
+use Rattle.orb_layout.specs.ManagementOrbs.{management_bytes}
 
 -- the bytes of a packet
 abbrev first_bytes : Note → List ℕ
@@ -136,5 +141,109 @@ other_place : SentLaw nobody journals.one_disk (journals.responds 0xfffff0040020
 unfolding reading fault_of tcode_of header_of offset_of rcode_of value_of length_of extended_of three four part_of is_to is_same asked_by begun_by belongs start_at lowest_from label_for free_from count_flying lowest_flying label_of with_label is_write kind_of slot_of window_at is_fifo point_step doorbell_step reset_step abort_step reply_step lost_step refusal verdict request_of check_of blank_bytes command_kind elements_from made block_head decide reads_eui live_login response_bytes start_step reply_step_of_manager decide_step fresh_id left_for enter_step back_step leave_step
 other_place = λ law. let bad : 0x20 ≡ 0 = ap (λ xs. slice_index xs 27) ((law.requests.0 refl).0.spelled) in omega (arith, bad)
 
+serial_left_out : SentLaw nobody journals.one_disk (refused.appends_as 2 0 journals.pointer_packet) → ⊥
+unfolding reading fault_of tcode_of header_of offset_of rcode_of value_of length_of extended_of three four part_of is_to is_same asked_by begun_by belongs start_at lowest_from label_for free_from count_flying lowest_flying label_of with_label is_write kind_of slot_of window_at is_fifo point_step doorbell_step reset_step abort_step reply_step lost_step refusal verdict request_of check_of blank_bytes command_kind elements_from made block_head decide reads_eui live_login response_bytes start_step reply_step_of_manager decide_step fresh_id left_for enter_step back_step leave_step
+serial_left_out = λ law. let bad : 2 ≡ 1 = law.packets.0.0 in omega (arith, bad)
+
+other_generation : SentLaw nobody journals.one_disk (refused.appends_as 1 1 journals.pointer_packet) → ⊥
+unfolding reading fault_of tcode_of header_of offset_of rcode_of value_of length_of extended_of three four part_of is_to is_same asked_by begun_by belongs start_at lowest_from label_for free_from count_flying lowest_flying label_of with_label is_write kind_of slot_of window_at is_fifo point_step doorbell_step reset_step abort_step reply_step lost_step refusal verdict request_of check_of blank_bytes command_kind elements_from made block_head decide reads_eui live_login response_bytes start_step reply_step_of_manager decide_step fresh_id left_for enter_step back_step leave_step
+other_generation = λ law. let bad : 1 ≡ 0 = (law.packets.0.1 refl).in_generation in omega (arith, bad)
+
+other_retry : SentLaw nobody journals.one_disk (refused.appends_as 1 0 (refused.pointer_by 0 journals.first_id 0 0xfffff0040008)) → ⊥
+unfolding reading fault_of tcode_of header_of offset_of rcode_of value_of length_of extended_of three four part_of is_to is_same asked_by begun_by belongs start_at lowest_from label_for free_from count_flying lowest_flying label_of with_label is_write kind_of slot_of window_at is_fifo point_step doorbell_step reset_step abort_step reply_step lost_step refusal verdict request_of check_of blank_bytes command_kind elements_from made block_head decide reads_eui live_login response_bytes start_step reply_step_of_manager decide_step fresh_id left_for enter_step back_step leave_step
+other_retry = λ law. let bad : 0 ≡ 1 = ap (λ xs. slice_index xs 2) ((law.requests.0 refl).0.spelled) in omega (arith, bad)
+
+other_source : SentLaw nobody journals.one_disk (refused.appends_as 1 0 (refused.pointer_by 1 journals.second_id 0 0xfffff0040008)) → ⊥
+unfolding reading fault_of tcode_of header_of offset_of rcode_of value_of length_of extended_of three four part_of is_to is_same asked_by begun_by belongs start_at lowest_from label_for free_from count_flying lowest_flying label_of with_label is_write kind_of slot_of window_at is_fifo point_step doorbell_step reset_step abort_step reply_step lost_step refusal verdict request_of check_of blank_bytes command_kind elements_from made block_head decide reads_eui live_login response_bytes start_step reply_step_of_manager decide_step fresh_id left_for enter_step back_step leave_step
+other_source = λ law. let bad : 0xc2 ≡ 0xc1 = ap (λ xs. slice_index xs 5) ((law.requests.0 refl).0.spelled) in omega (arith, bad)
+
+higher_label : SentLaw nobody journals.one_disk (refused.appends_as 1 0 (refused.pointer_by 1 journals.first_id 1 0xfffff0040008)) → ⊥
+unfolding reading fault_of tcode_of header_of offset_of rcode_of value_of length_of extended_of three four part_of is_to is_same asked_by begun_by belongs start_at lowest_from label_for free_from count_flying lowest_flying label_of with_label is_write kind_of slot_of window_at is_fifo point_step doorbell_step reset_step abort_step reply_step lost_step refusal verdict request_of check_of blank_bytes command_kind elements_from made block_head decide reads_eui live_login response_bytes start_step reply_step_of_manager decide_step fresh_id left_for enter_step back_step leave_step
+higher_label = λ law. let bad : Some 0 ≡ Some 1 = (law.packets.0.1 refl).label in grind (arith, bad)
+
+other_register : SentLaw nobody journals.one_disk (refused.appends_as 1 0 (refused.pointer_by 1 journals.first_id 0 0xfffff0040010)) → ⊥
+unfolding reading fault_of tcode_of header_of offset_of rcode_of value_of length_of extended_of three four part_of is_to is_same asked_by begun_by belongs start_at lowest_from label_for free_from count_flying lowest_flying label_of with_label is_write kind_of slot_of window_at is_fifo point_step doorbell_step reset_step abort_step reply_step lost_step refusal verdict request_of check_of blank_bytes command_kind elements_from made block_head decide reads_eui live_login response_bytes start_step reply_step_of_manager decide_step fresh_id left_for enter_step back_step leave_step
+other_register = λ law. let bad : 0x10 ≡ 0x08 = ap (λ xs. slice_index xs 11) ((law.requests.0 refl).0.spelled) in omega (arith, bad)
+
+other_value : SentLaw nobody journals.one_disk (refused.appends_as 1 0 (refused.points_to 0x10000040)) → ⊥
+unfolding reading fault_of tcode_of header_of offset_of rcode_of value_of length_of extended_of three four part_of is_to is_same asked_by begun_by belongs start_at lowest_from label_for free_from count_flying lowest_flying label_of with_label is_write kind_of slot_of window_at is_fifo point_step doorbell_step reset_step abort_step reply_step lost_step refusal verdict request_of check_of blank_bytes command_kind elements_from made block_head decide reads_eui live_login response_bytes start_step reply_step_of_manager decide_step fresh_id left_for enter_step back_step leave_step
+other_value = λ law. let bad : 0x40 ≡ 0 = ap (λ xs. slice_index xs 23) ((law.requests.0 refl).0.spelled) in omega (arith, bad)
+
+other_number : SentLaw nobody journals.one_disk (refused.rings_with 2) → ⊥
+unfolding reading fault_of tcode_of header_of offset_of rcode_of value_of length_of extended_of three four part_of is_to is_same asked_by begun_by belongs start_at lowest_from label_for free_from count_flying lowest_flying label_of with_label is_write kind_of slot_of window_at is_fifo point_step doorbell_step reset_step abort_step reply_step lost_step refusal verdict request_of check_of blank_bytes command_kind elements_from made block_head decide reads_eui live_login response_bytes start_step reply_step_of_manager decide_step fresh_id left_for enter_step back_step leave_step
+other_number = λ law. let bad : 2 ≡ 1 = ap (λ xs. slice_index xs 15) ((law.requests.0 refl).0.spelled) in omega (arith, bad)
+
+other_state : SentLaw nobody journals.one_disk (refused.reads_state 1) → ⊥
+unfolding reading fault_of tcode_of header_of offset_of rcode_of value_of length_of extended_of three four part_of is_to is_same asked_by begun_by belongs start_at lowest_from label_for free_from count_flying lowest_flying label_of with_label is_write kind_of slot_of window_at is_fifo point_step doorbell_step reset_step abort_step reply_step lost_step refusal verdict request_of check_of blank_bytes command_kind elements_from made block_head decide reads_eui live_login response_bytes start_step reply_step_of_manager decide_step fresh_id left_for enter_step back_step leave_step
+other_state = λ law. let bad : 1 ≡ 0 = ap (λ xs. slice_index xs 15) (ap first_bytes (law.answers.0.begins refl).0) in omega (arith, bad)
+
+conflict_left_out : SentLaw nobody journals.one_disk (refused.second_manages 0) → ⊥
+unfolding reading fault_of tcode_of header_of offset_of rcode_of value_of length_of extended_of three four part_of is_to is_same asked_by begun_by belongs start_at lowest_from label_for free_from count_flying lowest_flying label_of with_label is_write kind_of slot_of window_at is_fifo point_step doorbell_step reset_step abort_step reply_step lost_step refusal verdict request_of check_of blank_bytes command_kind elements_from made block_head decide reads_eui live_login response_bytes start_step reply_step_of_manager decide_step fresh_id left_for enter_step back_step leave_step
+conflict_left_out = λ law. let bad : 0 ≡ 0x40 = ap (λ xs. slice_index xs 6) (ap first_bytes (law.answers.0.begins refl).0) in omega (arith, bad)
+
+dummy_served_plain : SentLaw nobody journals.one_disk (refused.serves_dummy (refused.plain_bytes 0x82900000)) → ⊥
+unfolding reading fault_of tcode_of header_of offset_of rcode_of value_of length_of extended_of three four part_of is_to is_same asked_by begun_by belongs start_at lowest_from label_for free_from count_flying lowest_flying label_of with_label is_write kind_of slot_of window_at is_fifo point_step doorbell_step reset_step abort_step reply_step lost_step refusal verdict request_of check_of blank_bytes command_kind elements_from made block_head decide reads_eui live_login response_bytes start_step reply_step_of_manager decide_step fresh_id left_for enter_step back_step leave_step
+dummy_served_plain = λ law. let bad : 0x82 ≡ 0xe2 = ap (λ xs. slice_index xs 32) (ap first_bytes (law.answers.0.begins refl).0) in omega (arith, bad)
+
+other_table : SentLaw nobody journals.one_disk (refused.instead 18 runs.table_told (notes.Sent 6 0 1 0 (canon (read_block_response (journals.to_target 0) 0 (quad_bytes (0x01000000 ∷ 0x11000000 ∷ 0x01000000 ∷ 0x11000100 ∷ [])))) ∷ [])) → ⊥
+unfolding reading fault_of tcode_of header_of offset_of rcode_of value_of length_of extended_of three four part_of is_to is_same asked_by begun_by belongs start_at lowest_from label_for free_from count_flying lowest_flying label_of with_label is_write kind_of slot_of window_at is_fifo point_step doorbell_step reset_step abort_step reply_step lost_step refusal verdict request_of check_of blank_bytes command_kind elements_from made block_head decide reads_eui live_login response_bytes start_step reply_step_of_manager decide_step fresh_id left_for enter_step back_step leave_step
+other_table = λ law. let bad : 0 ≡ 0x10 = ap (λ xs. slice_index xs 31) (ap first_bytes (law.answers.0.begins refl).0) in omega (arith, bad)
+
+other_data : SentLaw nobody journals.one_disk (refused.instead 14 runs.table_told (notes.Sent 8 0 1 0 (canon (read_block_response (journals.to_target 0) 0 (replicate 256 0xbb))) ∷ [])) → ⊥
+unfolding reading fault_of tcode_of header_of offset_of rcode_of value_of length_of extended_of three four part_of is_to is_same asked_by begun_by belongs start_at lowest_from label_for free_from count_flying lowest_flying label_of with_label is_write kind_of slot_of window_at is_fifo point_step doorbell_step reset_step abort_step reply_step lost_step refusal verdict request_of check_of blank_bytes command_kind elements_from made block_head decide reads_eui live_login response_bytes start_step reply_step_of_manager decide_step fresh_id left_for enter_step back_step leave_step
+other_data = λ law. let bad : 0xbb ≡ 0xaa = ap (λ xs. slice_index xs 16) (ap first_bytes (law.answers.0.begins refl).0) in omega (arith, bad)
+
+chunk_elsewhere : SentLaw nobody journals.one_disk (refused.instead 16 runs.table_told (notes.Sent 7 0 0 1 (canon (read_block (journals.to_first 0) 0x11000100 256)) ∷ [])) → ⊥
+unfolding reading fault_of tcode_of header_of offset_of rcode_of value_of length_of extended_of three four part_of is_to is_same asked_by begun_by belongs start_at lowest_from label_for free_from count_flying lowest_flying label_of with_label is_write kind_of slot_of window_at is_fifo point_step doorbell_step reset_step abort_step reply_step lost_step refusal verdict request_of check_of blank_bytes command_kind elements_from made block_head decide reads_eui live_login response_bytes start_step reply_step_of_manager decide_step fresh_id left_for enter_step back_step leave_step
+chunk_elsewhere = λ law. let bad : 1 ≡ 0 = ap (λ xs. slice_index xs 10) ((law.requests.0 refl).0.spelled) in omega (arith, bad)
+
+chunk_too_long : SentLaw nobody journals.one_disk (refused.instead 16 runs.table_told (notes.Sent 7 0 0 1 (canon (read_block (journals.to_first 0) 0x11000000 512)) ∷ [])) → ⊥
+unfolding reading fault_of tcode_of header_of offset_of rcode_of value_of length_of extended_of three four part_of is_to is_same asked_by begun_by belongs start_at lowest_from label_for free_from count_flying lowest_flying label_of with_label is_write kind_of slot_of window_at is_fifo point_step doorbell_step reset_step abort_step reply_step lost_step refusal verdict request_of check_of blank_bytes command_kind elements_from made block_head decide reads_eui live_login response_bytes start_step reply_step_of_manager decide_step fresh_id left_for enter_step back_step leave_step
+chunk_too_long = λ law. let bad : 2 ≡ 1 = ap (λ xs. slice_index xs 12) ((law.requests.0 refl).0.spelled) in omega (arith, bad)
+
+other_rom : SentLaw nobody journals.one_disk (refused.reads_rom 0) → ⊥
+unfolding reading fault_of tcode_of header_of offset_of rcode_of value_of length_of extended_of three four part_of is_to is_same asked_by begun_by belongs start_at lowest_from label_for free_from count_flying lowest_flying label_of with_label is_write kind_of slot_of window_at is_fifo point_step doorbell_step reset_step abort_step reply_step lost_step refusal verdict request_of check_of blank_bytes command_kind elements_from made block_head decide reads_eui live_login response_bytes start_step reply_step_of_manager decide_step fresh_id left_for enter_step back_step leave_step sum_of low_bits
+other_rom = λ law. let bad : 0 ≡ 4 = ap (λ xs. slice_index xs 12) (ap first_bytes (law.answers.0.begins refl).0) in omega (arith, bad)
+
+rom_not_read_on : SentLaw nobody journals.one_disk (said (notes.Got 2) ∷ refused.reads_rom 0) → ⊥
+unfolding reading fault_of tcode_of header_of offset_of rcode_of value_of length_of extended_of three four part_of is_to is_same asked_by begun_by belongs start_at lowest_from label_for free_from count_flying lowest_flying label_of with_label is_write kind_of slot_of window_at is_fifo point_step doorbell_step reset_step abort_step reply_step lost_step refusal verdict request_of check_of blank_bytes command_kind elements_from made block_head decide reads_eui live_login response_bytes start_step reply_step_of_manager decide_step fresh_id left_for enter_step back_step leave_step
+rom_not_read_on = λ law. law.requests.0 refl
+
+other_management_orb : SentLaw nobody journals.one_disk (refused.instead 10 runs.logout_told (notes.Sent 4 0 1 0 (canon (read_block_response (journals.to_target 0) 0 (management_bytes (rare.orb_of 3)))) ∷ [])) → ⊥
+unfolding reading fault_of tcode_of header_of offset_of rcode_of value_of length_of extended_of three four part_of is_to is_same asked_by begun_by belongs start_at lowest_from label_for free_from count_flying lowest_flying label_of with_label is_write kind_of slot_of window_at is_fifo point_step doorbell_step reset_step abort_step reply_step lost_step refusal verdict request_of check_of blank_bytes command_kind elements_from made block_head decide reads_eui live_login response_bytes start_step reply_step_of_manager decide_step fresh_id left_for enter_step back_step leave_step
+other_management_orb = λ law. let bad : 3 ≡ 7 = ap (λ xs. slice_index xs 33) (ap first_bytes (law.answers.0.begins refl).0) in omega (arith, bad)
+
+eui_not_read : SentLaw nobody journals.one_disk (said (notes.Got 4) ∷ journals.told journals.reads_login) → ⊥
+unfolding reading fault_of tcode_of header_of offset_of rcode_of value_of length_of extended_of three four part_of is_to is_same asked_by begun_by belongs start_at lowest_from label_for free_from count_flying lowest_flying label_of with_label is_write kind_of slot_of window_at is_fifo point_step doorbell_step reset_step abort_step reply_step lost_step refusal verdict request_of check_of blank_bytes command_kind elements_from made block_head decide reads_eui live_login response_bytes start_step reply_step_of_manager decide_step fresh_id left_for enter_step back_step leave_step
+eui_not_read = λ law. law.requests.0 refl
+
+management_status_elsewhere : SentLaw nobody journals.one_disk (refused.instead 6 runs.logout_told (notes.Sent 5 0 0 1 (canon (write_block (journals.to_first 0) 0x12002000 (quad_bytes (0x01000000 ∷ 0x12000020 ∷ [])))) ∷ [])) → ⊥
+unfolding reading fault_of tcode_of header_of offset_of rcode_of value_of length_of extended_of three four part_of is_to is_same asked_by begun_by belongs start_at lowest_from label_for free_from count_flying lowest_flying label_of with_label is_write kind_of slot_of window_at is_fifo point_step doorbell_step reset_step abort_step reply_step lost_step refusal verdict request_of check_of blank_bytes command_kind elements_from made block_head decide reads_eui live_login response_bytes start_step reply_step_of_manager decide_step fresh_id left_for enter_step back_step leave_step
+management_status_elsewhere = λ law. let bad : 0x20 ≡ 0 = ap (λ xs. slice_index xs 23) ((law.requests.0 refl).0.spelled) in omega (arith, bad)
+
+pointer_read_whole : SentLaw nobody journals.one_disk (refused.rereads_by 32) → ⊥
+unfolding reading fault_of tcode_of header_of offset_of rcode_of value_of length_of extended_of three four part_of is_to is_same asked_by begun_by belongs start_at lowest_from label_for free_from count_flying lowest_flying label_of with_label is_write kind_of slot_of window_at is_fifo point_step doorbell_step reset_step abort_step reply_step lost_step refusal verdict request_of check_of blank_bytes command_kind elements_from made block_head decide reads_eui live_login response_bytes start_step reply_step_of_manager decide_step fresh_id left_for enter_step back_step leave_step
+pointer_read_whole = λ law. let bad : 0x20 ≡ 8 = ap (λ xs. slice_index xs 13) ((law.requests.0 refl).0.spelled) in omega (arith, bad)
+
+status_unasked : SentLaw nobody journals.one_disk (refused.instead 0 (journals.told (journals.till_pointer ++ (journals.points_agent ++ said (notes.Got 2) ∷ []))) (notes.Sent 4 0 0 1 (journals.status_packet 0x41000000) ∷ [])) → ⊥
+unfolding reading fault_of tcode_of header_of offset_of rcode_of value_of length_of extended_of three four part_of is_to is_same asked_by begun_by belongs start_at lowest_from label_for free_from count_flying lowest_flying label_of with_label is_write kind_of slot_of window_at is_fifo point_step doorbell_step reset_step abort_step reply_step lost_step refusal verdict request_of check_of blank_bytes command_kind elements_from made block_head decide reads_eui live_login response_bytes start_step reply_step_of_manager decide_step fresh_id left_for enter_step back_step leave_step
+status_unasked = λ law. law.requests.0 refl
+
+status_elsewhere : SentLaw nobody journals.one_disk (refused.sends_behind_end (refused.block_packet 0x13000020 0x41000000 0x10000000) []) → ⊥
+unfolding reading fault_of tcode_of header_of offset_of rcode_of value_of length_of extended_of three four part_of is_to is_same asked_by begun_by belongs start_at lowest_from label_for free_from count_flying lowest_flying label_of with_label is_write kind_of slot_of window_at is_fifo point_step doorbell_step reset_step abort_step reply_step lost_step refusal verdict request_of check_of blank_bytes command_kind elements_from made block_head decide reads_eui live_login response_bytes start_step reply_step_of_manager decide_step fresh_id left_for enter_step back_step leave_step
+status_elsewhere = λ law. let bad : 0x20 ≡ 0 = ap (λ xs. slice_index xs 11) ((law.requests.0 refl).0.spelled) in omega (arith, bad)
+
+status_of_another : SentLaw nobody journals.one_disk (refused.sends_behind_end (refused.block_packet 0x13000000 0x41000000 0x10000040) []) → ⊥
+unfolding reading fault_of tcode_of header_of offset_of rcode_of value_of length_of extended_of three four part_of is_to is_same asked_by begun_by belongs start_at lowest_from label_for free_from count_flying lowest_flying label_of with_label is_write kind_of slot_of window_at is_fifo point_step doorbell_step reset_step abort_step reply_step lost_step refusal verdict request_of check_of blank_bytes command_kind elements_from made block_head decide reads_eui live_login response_bytes start_step reply_step_of_manager decide_step fresh_id left_for enter_step back_step leave_step
+status_of_another = λ law. let bad : 0x40 ≡ 0 = ap (λ xs. slice_index xs 23) ((law.requests.0 refl).0.spelled) in omega (arith, bad)
+
+reads_ahead_at_null : SentLaw nobody journals.one_disk (refused.sends_behind_end (journals.status_packet 0x41000000) (notes.Sent 6 0 0 1 (journals.fetch_packet 1 0) ∷ [])) → ⊥
+unfolding reading fault_of tcode_of header_of offset_of rcode_of value_of length_of extended_of three four part_of is_to is_same asked_by begun_by belongs start_at lowest_from label_for free_from count_flying lowest_flying label_of with_label is_write kind_of slot_of window_at is_fifo point_step doorbell_step reset_step abort_step reply_step lost_step refusal verdict request_of check_of blank_bytes command_kind elements_from made block_head decide reads_eui live_login response_bytes start_step reply_step_of_manager decide_step fresh_id left_for enter_step back_step leave_step
+reads_ahead_at_null = λ law. (law.requests.0 refl).1
+
+untold_elsewhere : SentLaw nobody rare.untold_disk (rare.untold (notes.Sent 5 0 0 1 (rare.block_packet 0x11000040 rare.some_block) ∷ [])) → ⊥
+unfolding reading fault_of tcode_of header_of offset_of rcode_of value_of length_of extended_of three four part_of is_to is_same asked_by begun_by belongs start_at lowest_from label_for free_from count_flying lowest_flying label_of with_label is_write kind_of slot_of window_at is_fifo point_step doorbell_step reset_step abort_step reply_step lost_step refusal verdict request_of check_of blank_bytes command_kind elements_from made block_head decide reads_eui live_login response_bytes start_step reply_step_of_manager decide_step fresh_id left_for enter_step back_step leave_step
+untold_elsewhere = λ law. let bad : 0x40 ≡ 0 = ap (λ xs. slice_index xs 11) ((law.requests.0 refl).0.is.spelled) in omega (arith, bad)
+
 pub tried : SentTried
-tried = record { accepts = accepts; unanswered = unanswered; answered_twice = answered_twice; answered_otherwise = answered_otherwise; not_fetched = not_fetched; fetched_elsewhere = fetched_elsewhere; linked_too_early = linked_too_early; resting_label = resting_label; other_src = other_src; status_unsent = status_unsent; nothing_read_ahead = nothing_read_ahead; doorbell_ignored = doorbell_ignored; other_place = other_place }
+tried = record { accepts = accepts; unanswered = unanswered; answered_twice = answered_twice; answered_otherwise = answered_otherwise; not_fetched = not_fetched; fetched_elsewhere = fetched_elsewhere; linked_too_early = linked_too_early; resting_label = resting_label; other_src = other_src; status_unsent = status_unsent; nothing_read_ahead = nothing_read_ahead; doorbell_ignored = doorbell_ignored; other_place = other_place; serial_left_out = serial_left_out; other_generation = other_generation; other_retry = other_retry; other_source = other_source; higher_label = higher_label; other_register = other_register; other_value = other_value; other_number = other_number; other_state = other_state; conflict_left_out = conflict_left_out; dummy_served_plain = dummy_served_plain; other_table = other_table; other_data = other_data; chunk_elsewhere = chunk_elsewhere; chunk_too_long = chunk_too_long; other_rom = other_rom; rom_not_read_on = rom_not_read_on; other_management_orb = other_management_orb; eui_not_read = eui_not_read; management_status_elsewhere = management_status_elsewhere; pointer_read_whole = pointer_read_whole; status_unasked = status_unasked; status_elsewhere = status_elsewhere; status_of_another = status_of_another; reads_ahead_at_null = reads_ahead_at_null; untold_elsewhere = untold_elsewhere }

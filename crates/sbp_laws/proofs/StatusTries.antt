@@ -1,10 +1,10 @@
 -- The journals that the status law was tried on.
-use Rattle.std.proofs.Common.{◌≡◌, refl, arith}
-use Rattle.std.specs.Prelude.{Some}
+use Rattle.std.proofs.Common.{◌≡◌, refl, arith, ap, ◌∷◌, []}
+use Rattle.std.specs.Prelude.{Some, None, List, ℕ}
 use Rattle.sbp_laws.specs.Lawful.{nobody}
 use Rattle.sbp_laws.specs.Journals as journals
 use Rattle.sbp_laws.specs.Tried.{StatusTried}
-use Rattle.sbp_laws.specs.StatusLaw.{StatusLaw}
+use Rattle.sbp_laws.specs.StatusLaw.{StatusLaw, Taking}
 use Rattle.async_packet.specs.Reading.{reading}
 use Rattle.async_packet.specs.Faults.{fault_of}
 use Rattle.async_packet.specs.Fields.{tcode_of, header_of, offset_of, rcode_of, value_of, length_of, extended_of}
@@ -27,6 +27,9 @@ use Rattle.media_bay.specs.Unsolicited.{block_head}
 use Rattle.mgmt_agent.specs.Decisions.{decide, reads_eui, live_login, response_bytes}
 use Rattle.mgmt_agent.specs.Machine.{start_step, reply_step as reply_step_of_manager, decide_step}
 use Rattle.login_table.specs.Table.{fresh_id, left_for, enter_step, back_step, leave_step}
+use Rattle.sbp_laws.specs.Refused as refused
+use Rattle.orb_layout.specs.declared.status.StatusKind.TheVariants as kinds
+use Rattle.orb_layout.specs.declared.status.StatusKind.{StatusKind}
 
 accepts : StatusLaw nobody journals.whole
 unfolding reading fault_of tcode_of header_of offset_of rcode_of value_of length_of extended_of three four part_of is_to is_same asked_by begun_by belongs start_at lowest_from label_for free_from count_flying lowest_flying label_of with_label is_write kind_of slot_of window_at is_fifo point_step doorbell_step reset_step abort_step reply_step lost_step refusal verdict request_of check_of blank_bytes command_kind elements_from made block_head decide reads_eui live_login response_bytes start_step reply_step_of_manager decide_step fresh_id left_for enter_step back_step leave_step
@@ -56,5 +59,30 @@ not_taken : StatusLaw nobody journals.not_taken → ⊥
 unfolding reading fault_of tcode_of header_of offset_of rcode_of value_of length_of extended_of three four part_of is_to is_same asked_by begun_by belongs start_at lowest_from label_for free_from count_flying lowest_flying label_of with_label is_write kind_of slot_of window_at is_fifo point_step doorbell_step reset_step abort_step reply_step lost_step refusal verdict request_of check_of blank_bytes command_kind elements_from made block_head decide reads_eui live_login response_bytes start_step reply_step_of_manager decide_step fresh_id left_for enter_step back_step leave_step
 not_taken = λ law. let bad = law.each.0 in cc bad
 
+-- the status of the first one that is taken
+abbrev first_code : List Taking → ℕ
+first_code [] = 0
+first_code (taking ∷ rest) = code_of taking.status
+  where
+    code_of : StatusKind → ℕ
+    code_of kinds.Dummy = 1
+    code_of status = 2
+
+other_fifo : StatusLaw nobody (refused.takes_block (refused.block_packet 0x13000020 0x41000000 0x10000000)) → ⊥
+unfolding reading fault_of tcode_of header_of offset_of rcode_of value_of length_of extended_of three four part_of is_to is_same asked_by begun_by belongs start_at lowest_from label_for free_from count_flying lowest_flying label_of with_label is_write kind_of slot_of window_at is_fifo point_step doorbell_step reset_step abort_step reply_step lost_step refusal verdict request_of check_of blank_bytes command_kind elements_from made block_head decide reads_eui live_login response_bytes start_step reply_step_of_manager decide_step fresh_id left_for enter_step back_step leave_step
+other_fifo = λ law. let bad : 0x13000020 ≡ 0x13000000 = (law.taken.0 refl).written.goes in omega (arith, bad)
+
+other_slot : StatusLaw nobody (refused.takes_block (refused.block_packet 0x13000000 0x41000000 0x10000040)) → ⊥
+unfolding reading fault_of tcode_of header_of offset_of rcode_of value_of length_of extended_of three four part_of is_to is_same asked_by begun_by belongs start_at lowest_from label_for free_from count_flying lowest_flying label_of with_label is_write kind_of slot_of window_at is_fifo point_step doorbell_step reset_step abort_step reply_step lost_step refusal verdict request_of check_of blank_bytes command_kind elements_from made block_head decide reads_eui live_login response_bytes start_step reply_step_of_manager decide_step fresh_id left_for enter_step back_step leave_step
+other_slot = λ law. let bad = law.each.0 in cc bad
+
+other_status : StatusLaw nobody (refused.takes_block (refused.block_packet 0x13000000 0x410b0000 0x10000000)) → ⊥
+unfolding reading fault_of tcode_of header_of offset_of rcode_of value_of length_of extended_of three four part_of is_to is_same asked_by begun_by belongs start_at lowest_from label_for free_from count_flying lowest_flying label_of with_label is_write kind_of slot_of window_at is_fifo point_step doorbell_step reset_step abort_step reply_step lost_step refusal verdict request_of check_of blank_bytes command_kind elements_from made block_head decide reads_eui live_login response_bytes start_step reply_step_of_manager decide_step fresh_id left_for enter_step back_step leave_step
+other_status = λ law. let bad : 2 ≡ 1 = ap first_code law.each.0 in omega (arith, bad)
+
+sent_late : StatusLaw nobody refused.sent_late → ⊥
+unfolding reading fault_of tcode_of header_of offset_of rcode_of value_of length_of extended_of three four part_of is_to is_same asked_by begun_by belongs start_at lowest_from label_for free_from count_flying lowest_flying label_of with_label is_write kind_of slot_of window_at is_fifo point_step doorbell_step reset_step abort_step reply_step lost_step refusal verdict request_of check_of blank_bytes command_kind elements_from made block_head decide reads_eui live_login response_bytes start_step reply_step_of_manager decide_step fresh_id left_for enter_step back_step leave_step
+sent_late = λ law. let bad : None ≡ Some 5 = (law.taken.0 refl).sent in grind (arith, bad)
+
 pub tried : StatusTried
-tried = record { accepts = accepts; taken_twice = taken_twice; taken_of_another = taken_of_another; taken_before_end = taken_before_end; taken_otherwise = taken_otherwise; taken_by_response = taken_by_response; not_taken = not_taken }
+tried = record { accepts = accepts; taken_twice = taken_twice; taken_of_another = taken_of_another; taken_before_end = taken_before_end; taken_otherwise = taken_otherwise; taken_by_response = taken_by_response; not_taken = not_taken; other_fifo = other_fifo; other_slot = other_slot; other_status = other_status; sent_late = sent_late }

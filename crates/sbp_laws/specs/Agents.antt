@@ -1,6 +1,7 @@
 -- What a turn brings of the target's agents: the run and the end of the present ORB, the death of an agent, and its requests (NCITS
 -- 325-1998, command block agents).
-use Rattle.std.specs.Prelude.{ℕ, zero, suc, ◌+◌, ◌==◌, ◌&&◌, nat_le, Bool, true, false, if◌then◌else◌, List, [], ◌∷◌, ◌++◌, Option, Some, None, is_none, Result, Ok, Err}
+use Rattle.std.specs.Prelude.{ℕ, zero, suc, ◌+◌, ◌==◌, ◌&&◌, ◌||◌, not, nat_le, is_none, is_some, Bool, true, false, if◌then◌else◌, List, [], ◌∷◌, ◌++◌, length, Option, Some, None, Result, Ok, Err}
+use Rattle.std.specs.List.{list_any}
 use Rattle.orb_layout.specs.declared.ask.Ask.{Ask}
 use Rattle.orb_layout.specs.declared.ask.Ask.TheVariants.{Read, Write, Nothing}
 use Rattle.orb_layout.specs.declared.ask.FailCause.{FailCause}
@@ -15,6 +16,8 @@ use Rattle.login_table.specs.declared.login.Login.{Login}
 use Rattle.label_table.specs.Bodies.{Body, block_write, block_read}
 use Rattle.command_agent.specs.Machine as agent
 use Rattle.command_agent.specs.Steps as steps
+use Rattle.command_agent.specs.declared.phase.Phase.{Phase}
+use Rattle.command_agent.specs.declared.phase.Phase.TheVariants as phases
 use Rattle.command_agent.specs.declared.step.AgentStep.{AgentStep}
 use Rattle.command_agent.specs.declared.step.AgentState.{AgentState}
 use Rattle.command_agent.specs.declared.step.AgentState.TheVariants as states
@@ -27,9 +30,9 @@ use Rattle.sbp_journal.specs.Wire.{Terms, terms}
 use Rattle.sbp_journal.specs.declared.note.Note.{Note}
 use Rattle.sbp_journal.specs.declared.note.Note.TheVariants as notes
 use Rattle.sbp_laws.specs.Turns.{Turn}
-use Rattle.sbp_laws.specs.Packets.{packet_at, access_at, answered_at, answer_in, sender_in, receiver_in, id_for, finds_label, free_labels}
+use Rattle.sbp_laws.specs.Packets.{packet_at, access_at, access_in_bytes, answered_at, answer_in, sender_in, receiver_in, id_for, to_peer, is_free, lowest_from, finds_label, free_labels}
 use Rattle.sbp_laws.specs.Lists.{Orb, named, list_in, number_in}
-use Rattle.sbp_laws.specs.Targets.{Target, Agent, Reply, Purpose, for_agent, for_manager, for_nobody, purpose_of, target_at, over, agent_at, login_at, reply_of, plain_for, told_by, is_serial}
+use Rattle.sbp_laws.specs.Targets.{Target, Agent, Reply, Purpose, for_agent, for_manager, for_nobody, purpose_of, target_at, over, agent_at, login_at, reply_of, plain_for, told_by, untold_by, is_serial}
 
 -- the target as a turn begins, and the wire before the turn and after its first moment
 abbrev pub target_before : List Disk → Turn → Target
@@ -101,9 +104,11 @@ event_by moment target wire = nothing
 abbrev pub agent_event : List Disk → Turn → Event
 agent_event start t = event_by t.start (target_before start t) (wire_before t)
 
--- ---- the step of an agent in a turn: which place, the pointer last taken, what it does, and what it then is
+-- ---- the step of an agent in a turn: which place, whether the medium told no answer of its command, the pointer last taken, what it does,
+-- and what it then is
 pub record AgentTurn : Type 0 where
   pub place : ℕ
+  pub untold : Bool
   pub pointer : Option ℕ
   pub which : Which
   pub step : AgentStep
@@ -115,18 +120,30 @@ told_among [] plain = None
 told_among (notes.Ran i n k unit cdb bytes check ∷ rest) plain = told_by (notes.Ran i n k unit cdb bytes check) plain
 told_among (note ∷ rest) plain = told_among rest plain
 
+abbrev pub untold_among : List Note → PlainDisk → (before : Bool) → Bool
+untold_among [] plain before = before
+untold_among (note ∷ rest) plain before = untold_among rest plain (untold_by note plain before)
+
 abbrev pub by_pointer : (place : ℕ) → Agent → Result Ask PointRefusal × agent.Machine → Option AgentTurn
 by_pointer place a (Err refusal, machine) = None
 by_pointer place a (Ok ask, machine) =
-    Some (record { place = place; pointer = Some machine.present; which = Main; step = steps.asks ask; machine = machine })
+    Some (record { place = place; untold = a.untold; pointer = Some machine.present; which = Main; step = steps.asks ask; machine = machine })
 
 abbrev pub by_doorbell : (place : ℕ) → Agent → Ask × agent.Machine → Option AgentTurn
-by_doorbell place a (ask, machine) = Some (record { place = place; pointer = a.pointer; which = Main; step = steps.asks ask; machine = machine })
+by_doorbell place a (ask, machine) = Some (record { place = place; untold = a.untold; pointer = a.pointer; which = Main; step = steps.asks ask; machine = machine })
 
 abbrev pub by_reply : Target → Reply → List Note → Option AgentTurn
 by_reply target reply rest =
     let s = reply_of target reply (told_among rest (plain_for target reply)) in
-    Some (record { place = reply.place; pointer = (agent_at target reply.place).pointer; which = reply.which; step = s.0; machine = s.1 })
+    let a = agent_at target reply.place in
+    Some (record {
+      place = reply.place;
+      untold = untold_among rest (plain_for target reply) a.untold;
+      pointer = a.pointer;
+      which = reply.which;
+      step = s.0;
+      machine = s.1;
+    })
 
 abbrev pub agent_turn : Event → Target → List Note → Option AgentTurn
 agent_turn (replies reply) target rest = by_reply target reply rest
@@ -170,19 +187,53 @@ unsent finds fifo step machine (Some kind) =
 unsent finds fifo step machine None =
     let lost = lost_main machine in last_try finds fifo lost (body_of lost.0.ask lost.1 lost.0.ended fifo)
 
-abbrev pub tried : (Body → Bool) → (fifo : ℕ) → AgentStep → agent.Machine → Option Body → Outcomes
-tried finds fifo step machine None = record { dead = step.dead; ended = step.ended; dead_behind = None; sent = None; machine = machine }
-tried finds fifo step machine (Some body) =
-    if finds body then record { dead = step.dead; ended = step.ended; dead_behind = None; sent = Some body; machine = machine }
+abbrev pub tried : (finds_first finds : Body → Bool) → (fifo : ℕ) → AgentStep → agent.Machine → Option Body → Outcomes
+tried finds_first finds fifo step machine None = record { dead = step.dead; ended = step.ended; dead_behind = None; sent = None; machine = machine }
+tried finds_first finds fifo step machine (Some body) =
+    if finds_first body then record { dead = step.dead; ended = step.ended; dead_behind = None; sent = Some body; machine = machine }
     else unsent finds fifo step machine step.ended
 
-abbrev pub outcomes_of : (Body → Bool) → (fifo : ℕ) → AgentTurn → Outcomes
-outcomes_of finds fifo a = tried finds fifo a.step a.machine (body_of a.step.ask a.machine a.step.ended fifo)
+abbrev pub outcomes_of : (finds_first finds : Body → Bool) → (fifo : ℕ) → AgentTurn → Outcomes
+outcomes_of finds_first finds fifo a = tried finds_first finds fifo a.step a.machine (body_of a.step.ask a.machine a.step.ended fifo)
+
+-- ---- whether the request that an agent has first in a turn finds a label
+-- Of an answer that its medium did not tell the bytes of a chunk are not known, and so not whether its write equals the last request of a
+-- label. A label serves it whatever the bytes are where it is free and its last request is no write of as many bytes at that address.
+abbrev pub is_alike : Option Access → (offset count : ℕ) → Bool
+is_alike None offset count = false
+is_alike (Some access) offset count = access.is_write && access.is_block && (access.offset == offset) && (access.count == count)
+
+abbrev pub access_of_last : Option (List ℕ) → Option Access
+access_of_last None = None
+access_of_last (Some bytes) = access_in_bytes bytes
+
+abbrev pub serves_any : Terms → (node offset count : ℕ) → ℕ → Bool
+serves_any wire node offset count label =
+    let t = to_peer wire 0 node label in is_free (wire.held t) && not (is_alike (access_of_last (wire.last t)) offset count)
+
+abbrev pub is_dead_label : Note → Bool
+is_dead_label (notes.Dead i list causes.Label) = true
+is_dead_label _ = false
+
+-- Such a write finds a label where one serves it whatever its bytes are, none where none is free, and else as the turn tells.
+abbrev pub finds_untold : Terms → (node : ℕ) → (dies : Bool) → Body → Bool
+finds_untold wire node dies (block_write offset payload) =
+    is_some (lowest_from 64 (serves_any wire node offset (length payload)) 0) || (not (free_labels wire 0 node == 0) && not dies)
+finds_untold wire node dies body = true
+
+abbrev pub is_answering : Phase → Bool
+is_answering phases.Answering = true
+is_answering _ = false
+
+abbrev pub finds_first : Target → Turn → AgentTurn → Body → Bool
+finds_first target t a =
+    let node = suc (initiator_at target (wire_before t) a.place) in
+    if a.untold && is_answering a.machine.phase then finds_untold (wire_after t) node (list_any is_dead_label t.rest) else finds_label (wire_after t) 0 node
 
 -- the outcomes of an agent's turn
 abbrev pub agent_outcomes : Target → Turn → AgentTurn → Outcomes
 agent_outcomes target t a =
-    outcomes_of (finds_label (wire_after t) 0 (suc (initiator_at target (wire_before t) a.place))) (fifo_in (login_at target a.place)) a
+    outcomes_of (finds_first target t a) (finds_label (wire_after t) 0 (suc (initiator_at target (wire_before t) a.place))) (fifo_in (login_at target a.place)) a
 
 -- ---- the read ahead: it needs 16 labels that are free behind the agent's other request, and an agent that is not dead
 abbrev pub ahead_reserve : ℕ

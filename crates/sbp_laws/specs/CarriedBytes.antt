@@ -1,6 +1,6 @@
 -- The bytes that packets carried: what the target read of an ORB and of its buffer, and what it wrote there (NCITS 325-1998, command block
 -- ORB and page tables).
-use Rattle.std.specs.Prelude.{◌≡◌, ℕ, suc, ◌+◌, ◌^◌, ◌<◌, ◌==◌, ◌&&◌, Bool, true, false, if◌then◌else◌, List, [], ◌∷◌, ◌++◌, Option, Some, None, IsSomeAnd}
+use Rattle.std.specs.Prelude.{◌≡◌, ℕ, suc, ◌+◌, ◌^◌, ◌<◌, ◌==◌, ◌&&◌, Bool, true, false, if◌then◌else◌, List, [], ◌∷◌, ◌++◌, length, Option, Some, None, IsSomeAnd}
 use Rattle.std.specs.List.{filter, list_any, flat_map}
 use Rattle.orb_layout.specs.declared.command.CommandOrb.{CommandOrb}
 use Rattle.orb_layout.specs.CommandOrbs.{command_orb}
@@ -64,11 +64,12 @@ pub record IsRead (access : Access) (address count : ℕ) : Type 0 where
 abbrev pub address_of : List Moment → (i n k : ℕ) → ℕ
 address_of past i n k = start (windows.Orb (slot_at past i n k))
 
--- The ORB was read: the response that the target got, and the request that this answers.
+-- The ORB was read: the response of 32 bytes that the target got, and the request that this answers.
 pub record WasRead (disks : List Disk) (past : List Moment) (i n k : ℕ) : Type 0 where
   pub response : ℕ
   pub request : ℕ
   pub got : was_got past response ≡ true
+  pub whole : length (payload_at (terms past) response) ≡ 32
   pub answers : (terms past).answers response ≡ Some request
   pub of_target : sender_in ((terms past).sent request) ≡ Some 0
   pub of_initiator : receiver_in ((terms past).sent request) ≡ Some (suc i)

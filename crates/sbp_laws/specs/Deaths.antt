@@ -1,6 +1,6 @@
 -- The rows of `dead` (NCITS 325-1998, agents): a main transaction timed out, finds no label, was answered by another rcode than 0, or brought
 -- a payload of another length; or an ORB or a page table is illegal. An ORB ends as failed or illegal directly behind a `dead`.
-use Rattle.std.specs.Prelude.{suc, ◌≡◌, ℕ, not, Bool, true, false, List, [], ◌∷◌, Option, Some, None}
+use Rattle.std.specs.Prelude.{◌≡◌, ℕ, not, Bool, true, false, List, [], ◌∷◌, Option, Some, None}
 use Rattle.orb_layout.specs.declared.status.StatusKind.TheVariants as kinds
 use Rattle.orb_layout.specs.declared.ask.FailCause.{FailCause}
 use Rattle.orb_layout.specs.declared.ask.FailCause.TheVariants as causes
@@ -13,8 +13,7 @@ use Rattle.sbp_journal.specs.declared.note.Note.{Note}
 use Rattle.sbp_journal.specs.declared.note.Note.TheVariants as notes
 use Rattle.sbp_laws.specs.Turns.{Turn}
 use Rattle.sbp_laws.specs.Targets.{Target, login_at}
-use Rattle.sbp_laws.specs.Packets.{finds_label}
-use Rattle.sbp_laws.specs.Agents.{agent_notes_for, Event, replies, AgentTurn, agent_turn, agent_event, body_of, initiator_at, fifo_in, target_before, wire_before, wire_after}
+use Rattle.sbp_laws.specs.Agents.{agent_notes_for, Event, replies, AgentTurn, agent_turn, agent_event, body_of, finds_first, fifo_in, target_before}
 
 -- ---- the rows of `dead`
 -- a reply to the main transaction of an agent
@@ -34,7 +33,7 @@ lacks_label finds (Some body) = not (finds body)
 abbrev pub asks_in_vain : Target → Turn → Option AgentTurn → Bool
 asks_in_vain target t None = false
 asks_in_vain target t (Some a) =
-    lacks_label (finds_label (wire_after t) 0 (suc (initiator_at target (wire_before t) a.place))) (body_of a.step.ask a.machine a.step.ended (fifo_in (login_at target a.place)))
+    lacks_label (finds_first target t a) (body_of a.step.ask a.machine a.step.ended (fifo_in (login_at target a.place)))
 
 abbrev pub is_expired : Option Answer → Bool
 is_expired (Some Expired) = true

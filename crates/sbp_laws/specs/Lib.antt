@@ -36,4 +36,6 @@ pub mod Adds
 pub mod Readings
 pub mod Journals
 pub mod WorkedRuns
+pub mod RareRuns
+pub mod Refused
 pub mod Tried

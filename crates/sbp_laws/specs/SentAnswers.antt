@@ -3,7 +3,7 @@
 use Rattle.std.specs.Prelude.{◌≡◌, ℕ, ◌&&◌, ◌||◌, Bool, true, false, if◌then◌else◌, List, [], ◌∷◌, Option, Some, None}
 use Rattle.rbc_disk.specs.Disk.{Disk}
 use Rattle.sbp_journal.specs.Run.{Moment, said}
-use Rattle.sbp_journal.specs.Addresses.{Access, agent_state, orb_pointer, Start, management_agent, register, start_at}
+use Rattle.sbp_journal.specs.Addresses.{Access, agent_state, orb_pointer, Start, management_agent, register, start_at, start_serves}
 use Rattle.sbp_journal.specs.Transactions.{Part, request, part_of, Sending}
 use Rattle.sbp_journal.specs.Wire.{Terms, terms}
 use Rattle.sbp_journal.specs.declared.note.Note.{Note}
@@ -20,11 +20,11 @@ abbrev pub is_answered : Part → Bool
 is_answered (request label kind) = true
 is_answered part = false
 
--- an answer that the state of an agent or a management operation under way decides
+-- an answer that the state of an agent or a management operation under way decides: that to an access which they serve
 abbrev pub is_by_state : Start → Access → Bool
-is_by_state management_agent access = true
-is_by_state (register place orb_pointer) access = true
-is_by_state (register place agent_state) access = true
+is_by_state management_agent access = start_serves management_agent access
+is_by_state (register place orb_pointer) access = start_serves (register place orb_pointer) access
+is_by_state (register place agent_state) access = start_serves (register place agent_state) access
 is_by_state start access = false
 
 abbrev pub reply_packet : Terms → Sending → Option Reply → List Note

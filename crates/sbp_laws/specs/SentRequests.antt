@@ -100,14 +100,18 @@ asks_nothing (said (notes.Ignored serial cause)) = true
 asks_nothing (asked line (events.Inject i bytes)) = true
 asks_nothing moment = false
 
--- the node whose turn it is, and, at the target, the one that it is about, injected no packets
-abbrev pub is_fair_sending : (ℕ → Bool) → Option Sending → Bool
-is_fair_sending wild None = true
-is_fair_sending wild (Some sending) = not (is_wild wild sending.from) && not (is_wild wild sending.to)
+-- The initiator that a turn is about injected no packets: the one whose turn it is, or, at the target, the one at the other end.
+abbrev pub about : (node peer : ℕ) → ℕ
+about zero peer = peer
+about (suc i) peer = suc i
+
+abbrev pub is_fair_at : (ℕ → Bool) → Option Sending → (Sending → ℕ) → Bool
+is_fair_at wild None node = true
+is_fair_at wild (Some sending) node = not (is_wild wild (node sending))
 
 abbrev pub is_fair : (ℕ → Bool) → Turn → Moment → Bool
-is_fair wild t (said (notes.Got serial)) = is_fair_sending wild ((terms t.past).sent serial)
-is_fair wild t (said (notes.TimedOut serial)) = is_fair_sending wild ((terms t.past).sent serial)
+is_fair wild t (said (notes.Got serial)) = is_fair_at wild ((terms t.past).sent serial) (λ sending. about sending.to sending.from)
+is_fair wild t (said (notes.TimedOut serial)) = is_fair_at wild ((terms t.past).sent serial) (λ sending. about sending.from sending.to)
 is_fair wild t (asked line (events.Act i action)) = not (wild i)
 is_fair wild t moment = true
 

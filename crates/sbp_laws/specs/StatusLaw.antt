@@ -37,6 +37,7 @@ abbrev pub status_due : List Moment → Option EndedOrb
 status_due [] = None
 status_due (asked line event ∷ past) = None
 status_due (said (notes.Got serial) ∷ past) = None
+status_due (said (notes.Ignored serial cause) ∷ past) = None
 status_due (said (notes.TimedOut serial) ∷ past) = None
 status_due (said (notes.Ended i (Some n) (Some k) status) ∷ past) = Some (record { initiator = i; one = orb n k })
 status_due (said note ∷ past) = status_due past

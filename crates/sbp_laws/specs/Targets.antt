@@ -2,7 +2,7 @@
 -- enabled registers and the units. Each term goes on by the rule of the crate that has it: a reply takes an agent on as
 -- `command_agent` says, and a management operation as `mgmt_agent` says. What the target asks for next is known from these; that it asks
 -- for it is the sent law's.
-use Rattle.std.specs.Prelude.{ℕ, zero, suc, ◌+◌, ◌-◌, ◌*◌, ◌^◌, ◌==◌, ◌||◌, not, is_none, Bool, true, false, if◌then◌else◌, List, [], ◌∷◌, ◌++◌, map, position, replicate, slice_set, slice_index_or, unwrap_or, Option, Some, None, Result, Ok, Err}
+use Rattle.std.specs.Prelude.{ℕ, zero, suc, ◌+◌, ◌-◌, ◌*◌, ◌^◌, ◌==◌, ◌&&◌, ◌||◌, not, is_none, Bool, true, false, if◌then◌else◌, List, [], ◌∷◌, ◌++◌, map, position, replicate, slice_set, slice_index_or, unwrap_or, Option, Some, None, Result, Ok, Err}
 use Rattle.orb_layout.specs.declared.ask.Ask.{Ask}
 use Rattle.orb_layout.specs.declared.ask.Ask.TheVariants.{Read, Write, Nothing}
 use Rattle.orb_layout.specs.declared.ask.FailCause.TheVariants as causes
@@ -47,10 +47,11 @@ use Rattle.sbp_laws.specs.Turns.{event_of}
 use Rattle.sbp_laws.specs.Packets.{packet_at, access_at, access_in_bytes, answered_at, answer_in, sender_in, receiver_in, id_for}
 use Rattle.sbp_laws.specs.DiskFold.{first_units, unit_at, left_by_run, left_by_reset}
 
--- The agent of a place: what it keeps; the pointer that was last taken; the serials of its main transaction and of its read ahead; and what
--- it still asks for in this turn.
+-- The agent of a place: what it keeps; whether the medium told no answer of the command that it ran last; the pointer that was last taken;
+-- the serials of its main transaction and of its read ahead; and what it still asks for in this turn.
 pub record Agent : Type 0 where
   pub machine : agent.Machine
+  pub untold : Bool
   pub pointer : Option ℕ
   pub main : Option ℕ
   pub ahead : Option ℕ
@@ -83,7 +84,7 @@ pub record Target : Type 0 where
   pub reply : Option Reply
 
 abbrev pub new_agent : Agent
-new_agent = record { machine = agent.new_machine; pointer = None; main = None; ahead = None; asks = Nothing; asks_ahead = Nothing }
+new_agent = record { machine = agent.new_machine; untold = false; pointer = None; main = None; ahead = None; asks = Nothing; asks_ahead = Nothing }
 
 abbrev pub new_target : List Disk → Target
 new_target start = record {
@@ -190,7 +191,8 @@ moved (step, machine) a = record a {
   asks_ahead = step.ahead;
 }
 
--- what a run tells of itself: its outcome, and the answer of the medium as it was
+-- What a run tells of itself: its outcome, and the answer of the medium as it was. Where the medium does not tell its bytes, zeros stand for
+-- the answer, of which the length alone counts.
 abbrev pub told_of : Option Sense → List ℕ → PlainDisk → Told
 told_of (Some check) cdb plain = record { outcome = outcomes.Check check; answer = [] }
 told_of None cdb plain = record {
@@ -201,6 +203,11 @@ told_of None cdb plain = record {
 abbrev pub told_by : Note → PlainDisk → Option Told
 told_by (notes.Ran i n k unit cdb bytes check) plain = Some (told_of check cdb plain)
 told_by _ plain = None
+
+-- a command ran well, and its medium told no answer
+abbrev pub untold_by : Note → PlainDisk → (before : Bool) → Bool
+untold_by (notes.Ran i n k unit cdb bytes check) plain before = is_none check && is_none (answer_of cdb plain.medium)
+untold_by _ plain before = before
 
 -- the step of the agent of a place at a reply, over its unit, with what a run told
 abbrev pub reply_of : Target → Reply → Option Told → AgentStep × agent.Machine
@@ -225,8 +232,13 @@ abbrev pub told_in : Option Reply → Note → Target → Option Told
 told_in None note target = None
 told_in (Some reply) note target = told_by note (plain_for target reply)
 
+abbrev pub with_untold : Note → Option Reply → Target → Target
+with_untold note None target = target
+with_untold note (Some reply) target =
+    with_agent target reply.place (record (agent_at target reply.place) { untold = untold_by note (plain_for target reply) (agent_at target reply.place).untold })
+
 abbrev pub going_on : Note → Target → Target
-going_on note target = taken_on (told_in target.reply note target) target.reply target
+going_on note target = taken_on (told_in target.reply note target) target.reply (with_untold note target.reply target)
 
 -- what an agent asked for and did not get a label for: it loses its main transaction, and forgets its read ahead
 abbrev pub is_nothing : Ask → Bool

@@ -1,10 +1,10 @@
 -- What the laws say of the journals of Journals.antt: of each law one that it accepts, and others that it refuses.
-use Rattle.std.specs.Prelude.{◌≡◌, [], ◌∷◌, None, Some, List}
+use Rattle.std.specs.Prelude.{◌≡◌, [], ◌∷◌, None, Some, List, replicate, true, false, ◌++◌}
 use Rattle.orb_layout.specs.Pointers.{quad_bytes}
 use Rattle.rbc_disk.specs.Disk.{Disk}
 use Rattle.sbp_journal.specs.Run.{Moment, said}
 use Rattle.sbp_journal.specs.declared.note.Note.TheVariants as notes
-use Rattle.sbp_laws.specs.Lawful.{nobody}
+use Rattle.sbp_laws.specs.Lawful.{nobody, LawfulForOthers, Lawful}
 use Rattle.sbp_laws.specs.OnceLaw.{OnceLaw}
 use Rattle.sbp_laws.specs.OrderLaw.{OrderLaw}
 use Rattle.sbp_laws.specs.ExecutionLaw.{ExecutionLaw}
@@ -20,12 +20,31 @@ use Rattle.sbp_laws.specs.ActionLaw.{ActionLaw}
 use Rattle.sbp_laws.specs.Budget.{budget, Lossless}
 use Rattle.sbp_laws.specs.Journals as journals
 use Rattle.sbp_laws.specs.WorkedRuns as runs
+use Rattle.sbp_laws.specs.Refused as refused
+use Rattle.sbp_laws.specs.RareRuns as rare
+use Rattle.orb_layout.specs.declared.status.StatusKind.TheVariants as kinds
+use Rattle.orb_layout.specs.declared.ask.FailCause.TheVariants as causes
+use Rattle.sbp_journal.specs.declared.cause.CutCause.TheVariants as cuts
+use Rattle.sbp_journal.specs.declared.cause.Cause.TheVariants as ignored
+use Rattle.sbp_journal.specs.declared.event.Event.TheVariants as events
+use Rattle.sbp_journal.specs.declared.event.Action.TheVariants as actions
+use Rattle.sbp_journal.specs.declared.operation.FunctionWord.TheVariants as functions
+use Rattle.sbp_journal.specs.declared.operation.Operation.TheVariants as operations
+use Rattle.sbp_journal.specs.declared.operation.OpWord.TheVariants as words
+use Rattle.orb_layout.specs.ManagementOrbs.{management_bytes}
+use Rattle.async_packet.specs.Canon.{canon}
+use Rattle.async_packet.specs.Packet.{read_block_response, read_block, write_block}
+use Rattle.rbc_command.specs.SenseData.{no_medium, was_reset, write_failed, read_failed, no_command}
+use Rattle.sbp_journal.specs.declared.note.NoteBuffer.TheVariants.{Nothing}
 
 pub record OnceTried : Type 0 where
   pub accepts : OnceLaw nobody journals.whole
   pub repeat_told : OnceLaw nobody journals.repeated
   pub judged_twice : OnceLaw nobody journals.judged_twice → ⊥
   pub closed_unserved : OnceLaw nobody journals.closed_unserved → ⊥
+  pub closes_in_vain : OnceLaw nobody refused.slot_and_closed
+  pub ignored_and_closed : OnceLaw nobody refused.ignored_and_closed → ⊥
+  pub ignored_twice : OnceLaw nobody refused.ignored_twice → ⊥
 
 pub record OrderTried : Type 0 where
   pub accepts : OrderLaw nobody journals.whole
@@ -35,6 +54,9 @@ pub record OrderTried : Type 0 where
   pub ends_in_next_list : OrderLaw nobody journals.ends_in_next_list → ⊥
   pub list_left_out : OrderLaw nobody journals.list_left_out → ⊥
   pub number_left_out : OrderLaw nobody journals.number_left_out → ⊥
+  pub ends_twice : OrderLaw nobody refused.ends_twice → ⊥
+  pub ends_unappended : OrderLaw nobody refused.ends_unappended → ⊥
+  pub runs_in_next_list : OrderLaw nobody refused.runs_in_next_list → ⊥
 
 pub record ExecutionTried : Type 0 where
   pub accepts : ExecutionLaw nobody journals.one_disk journals.whole
@@ -47,6 +69,18 @@ pub record ExecutionTried : Type 0 where
   pub checked_unasked : ExecutionLaw nobody journals.one_disk journals.checked_unasked → ⊥
   pub ends_unrun : ExecutionLaw nobody journals.one_disk journals.ends_unrun → ⊥
   pub aborted_after_run : ExecutionLaw nobody journals.one_disk journals.aborted_after_run → ⊥
+  pub runs_behind_end : ExecutionLaw nobody journals.one_disk refused.runs_behind_end → ⊥
+  pub runs_out_of_turn : ExecutionLaw nobody journals.one_disk refused.runs_out_of_turn → ⊥
+  pub check_told : ExecutionLaw nobody journals.empty_bay (refused.runs_with (Some no_medium))
+  pub check_left_out : ExecutionLaw nobody journals.empty_bay (refused.runs_with None) → ⊥
+  pub attention_told : ExecutionLaw nobody journals.one_disk (refused.runs_behind_reset (Some was_reset))
+  pub attention_left_out : ExecutionLaw nobody journals.one_disk (refused.runs_behind_reset None) → ⊥
+  pub write_fails : ExecutionLaw nobody journals.one_disk (journals.write_runs (journals.block_of 0xaa) (Some write_failed))
+  pub write_fails_as_read : ExecutionLaw nobody journals.one_disk (journals.write_runs (journals.block_of 0xaa) (Some read_failed)) → ⊥
+  pub ready_fails : ExecutionLaw nobody journals.one_disk (refused.runs_with (Some read_failed)) → ⊥
+  pub ends_otherwise : ExecutionLaw nobody journals.one_disk (refused.ends_behind_run (kinds.Check no_command)) → ⊥
+  pub dummy_after_run : ExecutionLaw nobody journals.one_disk (refused.ends_behind_run kinds.Dummy) → ⊥
+  pub illegal_after_run : ExecutionLaw nobody journals.one_disk (refused.ends_behind_run (kinds.Illegal 1)) → ⊥
 
 pub record StatusTried : Type 0 where
   pub accepts : StatusLaw nobody journals.whole
@@ -56,17 +90,32 @@ pub record StatusTried : Type 0 where
   pub taken_otherwise : StatusLaw nobody journals.taken_otherwise → ⊥
   pub taken_by_response : StatusLaw nobody journals.taken_by_response → ⊥
   pub not_taken : StatusLaw nobody journals.not_taken → ⊥
+  pub other_fifo : StatusLaw nobody (refused.takes_block (refused.block_packet 0x13000020 0x41000000 0x10000000)) → ⊥
+  pub other_slot : StatusLaw nobody (refused.takes_block (refused.block_packet 0x13000000 0x41000000 0x10000040)) → ⊥
+  pub other_status : StatusLaw nobody (refused.takes_block (refused.block_packet 0x13000000 0x410b0000 0x10000000)) → ⊥
+  pub sent_late : StatusLaw nobody refused.sent_late → ⊥
 
 pub record AnswerTried : Type 0 where
   pub accepts : AnswerLaw nobody journals.one_disk (journals.capacity_taken (quad_bytes (0 ∷ 512 ∷ [])))
   pub other_answer : AnswerLaw nobody journals.one_disk (journals.capacity_taken (quad_bytes (1 ∷ 512 ∷ []))) → ⊥
   pub no_answer : AnswerLaw nobody journals.one_disk (journals.capacity_taken []) → ⊥
+  pub answers_unasked : AnswerLaw nobody journals.one_disk refused.answers_unasked → ⊥
+  pub reads_back : AnswerLaw nobody journals.one_disk (refused.reads_back (journals.block_of 0xaa))
+  pub reads_what_was : AnswerLaw nobody journals.one_disk (refused.reads_back (journals.block_of 0)) → ⊥
 
 pub record CarriedTried : Type 0 where
   pub accepts : CarriedLaw nobody journals.one_disk journals.whole
   pub answer_uncarried : CarriedLaw nobody journals.one_disk (journals.capacity_taken (quad_bytes (0 ∷ 512 ∷ []))) → ⊥
   pub run_unread : CarriedLaw nobody journals.one_disk journals.run_unread → ⊥
   pub run_left_out : CarriedLaw nobody journals.one_disk journals.run_left_out → ⊥
+  pub answer_otherwise : CarriedLaw nobody journals.one_disk (refused.instead 4 runs.capacity_told (notes.Taken 0 0 0 kinds.Good (quad_bytes (1 ∷ 512 ∷ [])) ∷ [])) → ⊥
+  pub other_data : CarriedLaw nobody journals.one_disk (refused.instead 8 runs.table_told (notes.Ran 0 (Some 0) (Some 0) 0 runs.write_block_0 (replicate 512 0xbb) None ∷ [])) → ⊥
+  pub dummy_unmade : CarriedLaw nobody journals.one_disk (refused.orb_brought (refused.orb_of 0x82900000 0) (refused.ends_as_dummy 0)) → ⊥
+  pub good_of_dummy : CarriedLaw nobody journals.one_disk (refused.orb_brought (refused.orb_of 0xe2900000 0) refused.runs_ready) → ⊥
+  pub other_command : CarriedLaw nobody journals.one_disk (refused.orb_brought (refused.orb_of 0x82900000 0x25000000) refused.runs_ready) → ⊥
+  pub other_length : CarriedLaw nobody journals.one_disk (refused.orb_brought (refused.orb_of 0x82900008 0) refused.runs_ready) → ⊥
+  pub short_orb : CarriedLaw nobody journals.one_disk (refused.orb_brought (quad_bytes (0x80000000 ∷ 0 ∷ 0 ∷ 0x11000000 ∷ 0x82900000 ∷ 0 ∷ [])) refused.runs_ready) → ⊥
+  pub read_elsewhere : CarriedLaw nobody journals.one_disk (refused.runs_read_from 0x10000040) → ⊥
 
 pub record CauseTried : Type 0 where
   pub accepts : CauseLaw nobody journals.one_disk journals.whole
@@ -82,6 +131,47 @@ pub record CauseTried : Type 0 where
   pub state_ends_never : CauseLaw nobody journals.one_disk journals.state_ends_never → ⊥
   pub drops_at_reset : CauseLaw nobody journals.one_disk journals.drops_at_reset
   pub drop_left_out : CauseLaw nobody journals.one_disk journals.drop_left_out → ⊥
+  pub unit_is_reset : CauseLaw nobody journals.one_disk (rare.unit_reset rare.unit_reset_notes)
+  pub cut_of_other_left_out : CauseLaw nobody journals.one_disk (rare.unit_reset (notes.Cleared 0 ∷ notes.Managed 0 functions.UnitReset 1 0 None ∷ [])) → ⊥
+  pub own_list_cut : CauseLaw nobody journals.one_disk (rare.unit_reset (notes.Cut 0 (Some 0) cuts.UnitReset ∷ notes.Cleared 0 ∷ notes.Managed 0 functions.UnitReset 1 0 None ∷ [])) → ⊥
+  pub cleared_left_out : CauseLaw nobody journals.one_disk (rare.unit_reset (notes.Cut 1 (Some 0) cuts.UnitReset ∷ notes.Managed 0 functions.UnitReset 1 0 None ∷ [])) → ⊥
+  pub abort_set_cuts : CauseLaw nobody journals.one_disk (rare.abort_set (notes.Cut 0 (Some 0) cuts.AbortSet ∷ []))
+  pub abort_set_cuts_not : CauseLaw nobody journals.one_disk (rare.abort_set []) → ⊥
+  pub logout_cuts : CauseLaw nobody journals.one_disk (rare.log_out (notes.Cut 0 (Some 0) cuts.Logout ∷ []))
+  pub logout_cuts_otherwise : CauseLaw nobody journals.one_disk (rare.log_out (notes.Cut 0 (Some 0) cuts.AbortSet ∷ [])) → ⊥
+  pub target_is_reset : CauseLaw nobody journals.one_disk (rare.target_reset (notes.Cut 0 (Some 0) cuts.TargetReset ∷ notes.Cleared 0 ∷ []))
+  pub target_reset_clears_not : CauseLaw nobody journals.one_disk (rare.target_reset (notes.Cut 0 (Some 0) cuts.TargetReset ∷ [])) → ⊥
+  pub agent_reset_cuts_not : CauseLaw nobody journals.one_disk (refused.instead 6 runs.agent_reset_told []) → ⊥
+  pub agent_reset_drops_not : CauseLaw nobody journals.one_disk (refused.instead 3 runs.agent_reset_told (notes.Op 0 operations.AgentReset words.Done ∷ [])) → ⊥
+  pub operation_ends_otherwise : CauseLaw nobody journals.one_disk (refused.instead 2 runs.agent_reset_told (notes.Op 0 operations.AgentReset words.Error ∷ [])) → ⊥
+  pub reset_cuts_both : CauseLaw nobody journals.one_disk (rare.sees_reset (rare.cut_by_reset 0 ∷ rare.cut_by_reset 1 ∷ []))
+  pub reset_cuts_one : CauseLaw nobody journals.one_disk (rare.sees_reset (rare.cut_by_reset 0 ∷ [])) → ⊥
+  pub cuts_out_of_order : CauseLaw nobody journals.one_disk (rare.sees_reset (rare.cut_by_reset 1 ∷ rare.cut_by_reset 0 ∷ [])) → ⊥
+  pub dead_refused : CauseLaw nobody journals.one_disk (rare.orb_answered 7 [] (rare.dies_of causes.Refused kinds.Failed))
+  pub refusal_passes : CauseLaw nobody journals.one_disk (rare.orb_answered 7 [] []) → ⊥
+  pub refused_otherwise : CauseLaw nobody journals.one_disk (rare.orb_answered 7 [] (rare.dies_of causes.Grammar kinds.Failed)) → ⊥
+  pub dead_short : CauseLaw nobody journals.one_disk (rare.orb_answered 0 (quad_bytes (0 ∷ 0 ∷ 0 ∷ 0 ∷ 0 ∷ 0 ∷ [])) (rare.dies_of causes.Grammar kinds.Failed))
+  pub dead_short_otherwise : CauseLaw nobody journals.one_disk (rare.orb_answered 0 (quad_bytes (0 ∷ 0 ∷ 0 ∷ 0 ∷ 0 ∷ 0 ∷ [])) (rare.dies_of causes.Refused kinds.Failed)) → ⊥
+  pub dead_illegal : CauseLaw nobody journals.one_disk (rare.orb_answered 0 rare.format_1 (rare.dies_of causes.Grammar (kinds.Illegal 1)))
+  pub illegal_fails : CauseLaw nobody journals.one_disk (rare.orb_answered 0 rare.format_1 (rare.dies_of causes.Grammar kinds.Failed)) → ⊥
+  pub illegal_otherwise : CauseLaw nobody journals.one_disk (rare.orb_answered 0 rare.format_1 (rare.dies_of causes.Grammar (kinds.Illegal 3))) → ⊥
+  pub illegal_lives : CauseLaw nobody journals.one_disk (rare.orb_answered 0 rare.format_1 (notes.Ended 0 (Some 0) (Some 0) (kinds.Illegal 1) ∷ [])) → ⊥
+  pub dummy_lives : CauseLaw nobody journals.one_disk (rare.orb_answered 0 rare.dummy_bytes (notes.Ended 0 (Some 0) (Some 0) kinds.Dummy ∷ []))
+  pub dummy_dies : CauseLaw nobody journals.one_disk (rare.orb_answered 0 rare.dummy_bytes (rare.dies_of causes.Grammar kinds.Dummy)) → ⊥
+  pub management_times_out : CauseLaw nobody journals.one_disk (rare.management_times_out (rare.management_fails causes.Timeout))
+  pub management_goes_on : CauseLaw nobody journals.one_disk (rare.management_times_out []) → ⊥
+  pub management_fails_otherwise : CauseLaw nobody journals.one_disk (rare.management_times_out (rare.management_fails causes.Label)) → ⊥
+  pub management_refused : CauseLaw nobody journals.one_disk (rare.management_answered 7 [] (rare.management_fails causes.Refused))
+  pub management_refused_otherwise : CauseLaw nobody journals.one_disk (rare.management_answered 7 [] (rare.management_fails causes.Grammar)) → ⊥
+  pub management_short : CauseLaw nobody journals.one_disk (rare.management_answered 0 (quad_bytes (0 ∷ 0 ∷ 0 ∷ 0 ∷ 0 ∷ 0 ∷ [])) (rare.management_fails causes.Grammar))
+  pub management_short_otherwise : CauseLaw nobody journals.one_disk (rare.management_answered 0 (quad_bytes (0 ∷ 0 ∷ 0 ∷ 0 ∷ 0 ∷ 0 ∷ [])) (rare.management_fails causes.Refused)) → ⊥
+  pub aborted_left_out : CauseLaw nobody journals.one_disk (refused.instead 8 runs.abort_told []) → ⊥
+  pub dead_at_pointer : CauseLaw nobody journals.one_disk (refused.reread_times_out refused.dies_by)
+  pub pointer_ends_an_orb : CauseLaw nobody journals.one_disk (refused.reread_times_out (refused.dies_by ++ notes.Ended 0 (Some 0) (Some 0) kinds.Failed ∷ [])) → ⊥
+  pub status_ends_again : CauseLaw nobody journals.one_disk (refused.status_times_out (refused.dies_by ++ notes.Ended 0 (Some 0) (Some 0) kinds.Failed ∷ [])) → ⊥
+  pub untold_finds_no_label : CauseLaw nobody rare.untold_disk (rare.untold (rare.dies_of causes.Label kinds.Failed)) → ⊥
+  pub dead_label : CauseLaw nobody journals.one_disk (rare.labels_gone (rare.dies_of causes.Label kinds.Failed))
+  pub no_label_lives : CauseLaw nobody journals.one_disk (rare.labels_gone []) → ⊥
 
 pub record JudgementTried : Type 0 where
   pub accepts : JudgementLaw journals.one_disk journals.whole
@@ -89,6 +179,24 @@ pub record JudgementTried : Type 0 where
   pub old_is_acted_on : JudgementLaw journals.one_disk journals.old_is_acted_on → ⊥
   pub ignored_otherwise : JudgementLaw journals.one_disk journals.ignored_otherwise → ⊥
   pub ignored_with_answer : JudgementLaw journals.one_disk journals.ignored_with_answer → ⊥
+  pub repeat_unanswered : JudgementLaw journals.one_disk (refused.repeats_write []) → ⊥
+  pub repeat_answered_otherwise : JudgementLaw journals.one_disk (refused.repeats_write (notes.Sent 4 0 0 1 (journals.done_by_target 0 7) ∷ [])) → ⊥
+  pub repeat_has_effect : JudgementLaw journals.one_disk (refused.repeats_write (notes.Rung 0 0 0 ∷ notes.Sent 4 0 0 1 (journals.done_by_target 0 0) ∷ [])) → ⊥
+  pub unread_block : JudgementLaw journals.one_disk (refused.brings_block refused.unread_block (notes.Ignored 5 ignored.Grammar) (refused.answered_5 5))
+  pub unread_block_got : JudgementLaw journals.one_disk (refused.brings_block refused.unread_block (notes.Got 5) (refused.answered_5 0)) → ⊥
+  pub unread_block_unanswered : JudgementLaw journals.one_disk (refused.brings_block refused.unread_block (notes.Ignored 5 ignored.Grammar) []) → ⊥
+  pub unawaited_response : JudgementLaw journals.one_disk (refused.repeats_response (notes.Ignored 2 ignored.Label))
+  pub unawaited_response_got : JudgementLaw journals.one_disk (refused.repeats_response (notes.Got 2)) → ⊥
+  pub register_of_another : JudgementLaw journals.one_disk (refused.second_writes (notes.Ignored 1 ignored.Login) refused.answered_7)
+  pub register_of_another_got : JudgementLaw journals.one_disk (refused.second_writes (notes.Got 1) refused.answered_7) → ⊥
+  pub other_initiator : JudgementLaw journals.one_disk (refused.between_initiators (notes.Ignored 1 ignored.Source) refused.answered_source)
+  pub other_initiator_got : JudgementLaw journals.one_disk (refused.between_initiators (notes.Got 1) refused.answered_source) → ⊥
+  pub status_again : JudgementLaw journals.one_disk (refused.comes_as_new (notes.Ignored 7 ignored.Slot) 0)
+  pub status_again_got : JudgementLaw journals.one_disk (refused.comes_as_new (notes.Got 7) 0) → ⊥
+  pub status_again_refused : JudgementLaw journals.one_disk (refused.comes_as_new (notes.Ignored 7 ignored.Slot) 7) → ⊥
+  pub no_packet : JudgementLaw journals.one_disk (refused.brings_junk (notes.Ignored 1 ignored.Grammar) [])
+  pub no_packet_got : JudgementLaw journals.one_disk (refused.brings_junk (notes.Got 1) []) → ⊥
+  pub no_packet_answered : JudgementLaw journals.one_disk (refused.brings_junk (notes.Ignored 1 ignored.Grammar) (notes.Sent 2 0 0 1 (journals.done_by_target 0 5) ∷ [])) → ⊥
 
 pub record LoginTried : Type 0 where
   pub expires : LoginLaw journals.one_disk journals.expires
@@ -97,6 +205,18 @@ pub record LoginTried : Type 0 where
   pub decides : LoginLaw journals.one_disk (journals.decides 0 (Some 1))
   pub other_id : LoginLaw journals.one_disk (journals.decides 0 (Some 2)) → ⊥
   pub other_status : LoginLaw journals.one_disk (journals.decides 8 None) → ⊥
+  pub key_fits : LoginLaw journals.one_disk (rare.keyed 1 0 (Some 1))
+  pub key_fails : LoginLaw journals.one_disk (rare.keyed 2 4 None)
+  pub key_passed_over : LoginLaw journals.one_disk (rare.keyed 2 0 (Some 1)) → ⊥
+  pub key_refused : LoginLaw journals.one_disk (rare.keyed 1 4 None) → ⊥
+  pub exclusive_stands : LoginLaw journals.one_disk (rare.exclusive 4 None)
+  pub exclusive_passed_over : LoginLaw journals.one_disk (rare.exclusive 0 (Some 2)) → ⊥
+  pub expires_early : LoginLaw journals.one_disk (refused.expires_at (notes.Expired 1 ∷ [])) → ⊥
+  pub decides_early : LoginLaw journals.one_disk refused.decides_early → ⊥
+  pub left_left_out : LoginLaw journals.one_disk (refused.instead 8 runs.logout_told (notes.Managed 0 functions.Logout 1 0 None ∷ [])) → ⊥
+  pub left_unasked : LoginLaw journals.one_disk (refused.instead 7 runs.logout_told (notes.Left 2 ∷ notes.Managed 0 functions.Logout 1 0 None ∷ [])) → ⊥
+  pub back_left_out : LoginLaw journals.one_disk (refused.instead 8 runs.reconnect_told (notes.Managed 0 functions.Reconnect 1 0 None ∷ [])) → ⊥
+  pub other_function : LoginLaw journals.one_disk (refused.instead 7 runs.logout_told (notes.Managed 0 functions.AbortSet 1 0 None ∷ [])) → ⊥
 
 pub record SentTried : Type 0 where
   pub accepts : SentLaw nobody journals.one_disk journals.whole
@@ -112,12 +232,47 @@ pub record SentTried : Type 0 where
   pub nothing_read_ahead : SentLaw nobody journals.one_disk journals.reads_nothing_ahead → ⊥
   pub doorbell_ignored : SentLaw nobody journals.one_disk journals.doorbell_ignored → ⊥
   pub other_place : SentLaw nobody journals.one_disk (journals.responds 0xfffff0040020) → ⊥
+  pub serial_left_out : SentLaw nobody journals.one_disk (refused.appends_as 2 0 journals.pointer_packet) → ⊥
+  pub other_generation : SentLaw nobody journals.one_disk (refused.appends_as 1 1 journals.pointer_packet) → ⊥
+  pub other_retry : SentLaw nobody journals.one_disk (refused.appends_as 1 0 (refused.pointer_by 0 journals.first_id 0 0xfffff0040008)) → ⊥
+  pub other_source : SentLaw nobody journals.one_disk (refused.appends_as 1 0 (refused.pointer_by 1 journals.second_id 0 0xfffff0040008)) → ⊥
+  pub higher_label : SentLaw nobody journals.one_disk (refused.appends_as 1 0 (refused.pointer_by 1 journals.first_id 1 0xfffff0040008)) → ⊥
+  pub other_register : SentLaw nobody journals.one_disk (refused.appends_as 1 0 (refused.pointer_by 1 journals.first_id 0 0xfffff0040010)) → ⊥
+  pub other_value : SentLaw nobody journals.one_disk (refused.appends_as 1 0 (refused.points_to 0x10000040)) → ⊥
+  pub other_number : SentLaw nobody journals.one_disk (refused.rings_with 2) → ⊥
+  pub other_state : SentLaw nobody journals.one_disk (refused.reads_state 1) → ⊥
+  pub conflict_left_out : SentLaw nobody journals.one_disk (refused.second_manages 0) → ⊥
+  pub dummy_served_plain : SentLaw nobody journals.one_disk (refused.serves_dummy (refused.plain_bytes 0x82900000)) → ⊥
+  pub other_table : SentLaw nobody journals.one_disk (refused.instead 18 runs.table_told (notes.Sent 6 0 1 0 (canon (read_block_response (journals.to_target 0) 0 (quad_bytes (0x01000000 ∷ 0x11000000 ∷ 0x01000000 ∷ 0x11000100 ∷ [])))) ∷ [])) → ⊥
+  pub other_data : SentLaw nobody journals.one_disk (refused.instead 14 runs.table_told (notes.Sent 8 0 1 0 (canon (read_block_response (journals.to_target 0) 0 (replicate 256 0xbb))) ∷ [])) → ⊥
+  pub chunk_elsewhere : SentLaw nobody journals.one_disk (refused.instead 16 runs.table_told (notes.Sent 7 0 0 1 (canon (read_block (journals.to_first 0) 0x11000100 256)) ∷ [])) → ⊥
+  pub chunk_too_long : SentLaw nobody journals.one_disk (refused.instead 16 runs.table_told (notes.Sent 7 0 0 1 (canon (read_block (journals.to_first 0) 0x11000000 512)) ∷ [])) → ⊥
+  pub other_rom : SentLaw nobody journals.one_disk (refused.reads_rom 0) → ⊥
+  pub rom_not_read_on : SentLaw nobody journals.one_disk (said (notes.Got 2) ∷ refused.reads_rom 0) → ⊥
+  pub other_management_orb : SentLaw nobody journals.one_disk (refused.instead 10 runs.logout_told (notes.Sent 4 0 1 0 (canon (read_block_response (journals.to_target 0) 0 (management_bytes (rare.orb_of 3)))) ∷ [])) → ⊥
+  pub eui_not_read : SentLaw nobody journals.one_disk (said (notes.Got 4) ∷ journals.told journals.reads_login) → ⊥
+  pub management_status_elsewhere : SentLaw nobody journals.one_disk (refused.instead 6 runs.logout_told (notes.Sent 5 0 0 1 (canon (write_block (journals.to_first 0) 0x12002000 (quad_bytes (0x01000000 ∷ 0x12000020 ∷ [])))) ∷ [])) → ⊥
+  pub pointer_read_whole : SentLaw nobody journals.one_disk (refused.rereads_by 32) → ⊥
+  pub status_unasked : SentLaw nobody journals.one_disk (refused.instead 0 (journals.told (journals.till_pointer ++ (journals.points_agent ++ said (notes.Got 2) ∷ []))) (notes.Sent 4 0 0 1 (journals.status_packet 0x41000000) ∷ [])) → ⊥
+  pub status_elsewhere : SentLaw nobody journals.one_disk (refused.sends_behind_end (refused.block_packet 0x13000020 0x41000000 0x10000000) []) → ⊥
+  pub status_of_another : SentLaw nobody journals.one_disk (refused.sends_behind_end (refused.block_packet 0x13000000 0x41000000 0x10000040) []) → ⊥
+  pub reads_ahead_at_null : SentLaw nobody journals.one_disk (refused.sends_behind_end (journals.status_packet 0x41000000) (notes.Sent 6 0 0 1 (journals.fetch_packet 1 0) ∷ [])) → ⊥
+  pub untold_elsewhere : SentLaw nobody rare.untold_disk (rare.untold (notes.Sent 5 0 0 1 (rare.block_packet 0x11000040 rare.some_block) ∷ [])) → ⊥
 
 pub record MediaTried : Type 0 where
   pub unsolicited : MediaLaw nobody journals.empty_bay (journals.loads_enabled (notes.Unsolicited 1))
   pub none_enabled : MediaLaw nobody journals.empty_bay (journals.loads_disabled [])
   pub unsent : MediaLaw nobody journals.empty_bay (journals.loads_enabled (notes.Unsent 1)) → ⊥
   pub unasked : MediaLaw nobody journals.empty_bay (journals.loads_disabled (said (notes.Unsolicited 1) ∷ [])) → ⊥
+  pub push_left_out : MediaLaw nobody journals.empty_bay (journals.told (journals.two_begin ++ (journals.enables ++ journals.loads))) → ⊥
+  pub told_once : MediaLaw nobody rare.two_discs (refused.loads_again [])
+  pub told_once_more : MediaLaw nobody rare.two_discs (refused.loads_again (notes.Unsolicited 1 ∷ [])) → ⊥
+  pub one_under_way : MediaLaw nobody rare.two_discs (refused.loads_under_way (notes.Unsent 1 ∷ []))
+  pub two_under_way : MediaLaw nobody rare.two_discs (refused.loads_under_way (notes.Unsolicited 1 ∷ [])) → ⊥
+  pub both_told : MediaLaw nobody journals.empty_bay (refused.tells_both (notes.Unsolicited 1 ∷ notes.Unsolicited 2 ∷ []))
+  pub told_out_of_order : MediaLaw nobody journals.empty_bay (refused.tells_both (notes.Unsolicited 2 ∷ notes.Unsolicited 1 ∷ [])) → ⊥
+  pub told_left_out : MediaLaw nobody journals.empty_bay (refused.instead 5 runs.load_told []) → ⊥
+  pub told_of_a_status : MediaLaw nobody journals.one_disk (rare.behind journals.till_status (notes.Got 5 ∷ notes.Told 0 ∷ [])) → ⊥
 
 pub record ActionTried : Type 0 where
   pub accepts : ActionLaw journals.one_disk journals.whole_entries
@@ -134,6 +289,28 @@ pub record ActionTried : Type 0 where
   pub settles_early : ActionLaw journals.one_disk journals.settles_early → ⊥
   pub refuses_append : ActionLaw journals.one_disk journals.refuses_append → ⊥
   pub other_number : ActionLaw journals.one_disk (journals.refuses_login 3) → ⊥
+  pub begins_otherwise : ActionLaw journals.one_disk (journals.entry 1 (events.Begin 1 true) (notes.Begin 1 false ∷ []) ∷ []) → ⊥
+  pub refuses_and_more : ActionLaw journals.one_disk (refused.one_entry (events.Act 0 (actions.Login 0 0 false (replicate 8 0))) (notes.Refused 2 2 ∷ notes.Stuck 0 ∷ [])) → ⊥
+  pub rung_left_out : ActionLaw journals.one_disk (refused.one_entry refused.appends_with (notes.Append 0 0 0 journals.ready_block Nothing ∷ notes.Sent 1 0 1 0 journals.pointer_packet ∷ [])) → ⊥
+  pub appends_otherwise : ActionLaw journals.one_disk (refused.one_entry refused.appends_with (notes.Append 0 0 0 journals.capacity_block Nothing ∷ notes.Rung 0 0 0 ∷ notes.Sent 1 0 1 0 journals.pointer_packet ∷ [])) → ⊥
+  pub delivers_another : ActionLaw journals.one_disk (refused.third_entry (events.Deliver 1) (notes.Got 2 ∷ [])) → ⊥
+  pub delivers_nothing_sent : ActionLaw journals.one_disk (refused.third_entry (events.Deliver 2) (notes.Got 2 ∷ [])) → ⊥
+  pub refuses_delivery : ActionLaw journals.one_disk (refused.third_entry (events.Deliver 1) (notes.Refused 3 11 ∷ [])) → ⊥
+  pub repeats_nothing_sent : ActionLaw journals.one_disk (refused.third_entry (events.Repeat 2) (notes.Got 2 ∷ [])) → ⊥
+  pub loses_not : ActionLaw journals.one_disk (refused.third_entry (events.Lose 1) []) → ⊥
+  pub refuses_time_out : ActionLaw journals.one_disk (refused.third_entry (events.Timeout 1) (notes.Refused 3 11 ∷ [])) → ⊥
+  pub times_out_unasked : ActionLaw journals.one_disk (refused.third_entry (events.Timeout 2) (notes.TimedOut 2 ∷ [])) → ⊥
+  pub steps_twice : ActionLaw journals.one_disk (refused.third_entry (events.Step 1) (notes.Got 1 ∷ refused.answers_first ++ notes.Got 2 ∷ [])) → ⊥
+  pub steps_higher : ActionLaw journals.one_disk (journals.entry 4 (events.Step 1) (notes.Got 3 ∷ []) ∷ journals.steps_once) → ⊥
+  pub settles_untold : ActionLaw journals.one_disk (refused.one_entry events.Settle []) → ⊥
+  pub resets_twice : ActionLaw journals.one_disk (refused.one_entry (events.Reset (1 ∷ 0 ∷ [])) (notes.Reset 2 ∷ [])) → ⊥
+  pub sees_unborn : ActionLaw journals.one_disk (refused.one_entry (events.See 0) (notes.Seen 0 1 ∷ [])) → ⊥
+  pub tick_left_out : ActionLaw journals.one_disk (refused.one_entry events.Tick []) → ⊥
+  pub injected_unsent : ActionLaw journals.one_disk (journals.injects journals.first_id (notes.Injected 1 ∷ [])) → ⊥
+  pub key_refused : ActionLaw journals.one_disk (journals.sets_key 0 (notes.Refused 2 13 ∷ [])) → ⊥
+  pub no_unit_keyed : ActionLaw journals.one_disk (journals.sets_key 1 (notes.Key 1 ∷ [])) → ⊥
+  pub packets_first : ActionLaw journals.one_disk (refused.third_entry (events.Deliver 1) (notes.Got 1 ∷ refused.answers_first ++ notes.Cut 0 (Some 0) cuts.AgentReset ∷ [])) → ⊥
+  pub ends_before_run : ActionLaw journals.one_disk (refused.third_entry (events.Deliver 1) (notes.Got 1 ∷ notes.Ended 0 (Some 0) (Some 0) kinds.Good ∷ notes.Ran 0 (Some 0) (Some 0) 0 journals.ready_block [] None ∷ [])) → ⊥
 
 -- Worked runs that each law of moments and turns accepts, whole.
 pub record KeepsLaws (start : List Disk) (past : List Moment) : Type 0 where
@@ -159,6 +336,8 @@ pub record RunsTried : Type 0 where
   pub table : KeepsLaws journals.one_disk runs.table_told
   pub load : KeepsLaws journals.empty_bay runs.load_told
   pub aborts : KeepsLaws journals.one_disk runs.abort_told
+  pub unit_reset : KeepsLaws journals.one_disk (rare.unit_reset rare.unit_reset_notes)
+  pub untold : KeepsLaws rare.untold_disk rare.untold_told
 
 -- The budget of a settle: 620 behind one append, whose pointer write is in flight, 622 where its command has a buffer of one chunk, 600 once
 -- its status was taken. Which runs are lossless.
@@ -170,3 +349,13 @@ pub record BudgetTried : Type 0 where
   pub all_seen : Lossless runs.reconnect_told
   pub timed_out : Lossless journals.dead_at_time_out → ⊥
   pub unseen : Lossless journals.drops_at_reset → ⊥
+
+-- Runs of a wild initiator, whole, as the laws for the others accept or refuse them; the first is lawful for the others alone.
+pub record OthersTried : Type 0 where
+  pub dies : LawfulForOthers (rare.wild_run rare.wild_dies)
+  pub reset_is_ignored : LawfulForOthers (rare.wild_write (notes.Ignored 1 ignored.Login) (notes.Sent 2 0 0 1 (journals.done_by_target 0 7) ∷ []))
+  pub not_of_all : Lawful (rare.wild_run rare.wild_dies) → ⊥
+  pub death_left_out : LawfulForOthers (rare.wild_run []) → ⊥
+  pub reset_is_got : LawfulForOthers (rare.wild_write (notes.Got 1) (notes.Sent 2 0 0 1 (journals.done_by_target 0 0) ∷ [])) → ⊥
+  pub other_unanswered : LawfulForOthers rare.other_unanswered → ⊥
+  pub other_sends_more : LawfulForOthers rare.other_sends_more → ⊥

@@ -1,4 +1,4 @@
-ghost use Rattle.sbp_laws.specs.Tried.{RunsTried, ActionTried, AnswerTried, BudgetTried, CarriedTried, CauseTried, ExecutionTried, JudgementTried, LoginTried, MediaTried, OnceTried, OrderTried, SentTried, StatusTried};
+ghost use Rattle.sbp_laws.specs.Tried.{RunsTried, ActionTried, AnswerTried, BudgetTried, CarriedTried, CauseTried, ExecutionTried, JudgementTried, LoginTried, MediaTried, OnceTried, OrderTried, OthersTried, SentTried, StatusTried};
 
 // Each law accepts a journal and refuses others that differ from it in a note.
 
@@ -63,7 +63,8 @@ pub fn action_law_tried()
 {}
 
 /// Worked runs that each law of moments and turns accepts, whole: commands with and without data, a
-/// page table, a read ahead, an abort, an agent reset, a logout, a login, a reconnect, and a load.
+/// page table, a read ahead, an abort, an agent reset, a logout, a login, a reconnect, a load, the
+/// reset of a unit by another initiator, and a medium that does not tell its bytes.
 pub fn worked_runs_tried()
     ensures { RunsTried }
 {}
@@ -71,4 +72,10 @@ pub fn worked_runs_tried()
 /// How many deliveries a settle has behind some worked runs, and which of these are lossless.
 pub fn budget_tried()
     ensures { BudgetTried }
+{}
+
+/// Runs of an initiator that injects packets: what the laws for the others accept of it, and what
+/// they refuse.
+pub fn others_tried()
+    ensures { OthersTried }
 {}

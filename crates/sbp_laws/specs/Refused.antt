@@ -1,0 +1,275 @@
+-- Journals that are each refused by a law, since they differ in a note from a worked run or from a part of one.
+use Rattle.std.specs.Prelude.{ℕ, true, false, List, [], ◌∷◌, ◌++◌, map, drop, reverse, replicate, Option, None, Some}
+use Rattle.async_packet.specs.declared.packet.Header.{Header}
+use Rattle.async_packet.specs.Packet.{write_quadlet, write_block, write_response, read_quadlet, read_block, read_quadlet_response, read_block_response}
+use Rattle.async_packet.specs.Canon.{canon}
+use Rattle.orb_layout.specs.declared.status.StatusKind.{StatusKind}
+use Rattle.orb_layout.specs.declared.status.StatusKind.TheVariants as kinds
+use Rattle.orb_layout.specs.declared.ask.FailCause.TheVariants as causes
+use Rattle.orb_layout.specs.ManagementOrbs.{management_bytes}
+use Rattle.orb_layout.specs.Pointers.{quad_bytes}
+use Rattle.rbc_command.specs.declared.sense.Sense.{Sense}
+use Rattle.sbp_journal.specs.Run.{Entry, Moment, asked, said}
+use Rattle.sbp_journal.specs.declared.cause.Cause.{Cause}
+use Rattle.sbp_journal.specs.declared.cause.Cause.TheVariants as ignored
+use Rattle.sbp_journal.specs.declared.cause.CutCause.TheVariants as cuts
+use Rattle.sbp_journal.specs.declared.event.Event.{Event}
+use Rattle.sbp_journal.specs.declared.event.Event.TheVariants as events
+use Rattle.sbp_journal.specs.declared.event.Action.TheVariants as actions
+use Rattle.sbp_journal.specs.declared.event.Cmd.{Cmd}
+use Rattle.sbp_journal.specs.declared.note.NoteBuffer.TheVariants.{Nothing, In, Out}
+use Rattle.sbp_journal.specs.declared.note.Note.{Note}
+use Rattle.sbp_journal.specs.declared.note.Note.TheVariants as notes
+use Rattle.sbp_journal.specs.declared.operation.FunctionWord.TheVariants as functions
+use Rattle.sbp_journal.specs.declared.operation.Operation.TheVariants as operations
+use Rattle.sbp_journal.specs.declared.operation.OpWord.TheVariants as words
+use Rattle.sbp_laws.specs.Journals.{told, begins, appends_first, appended, settles, resets, till_pointer, till_orb, till_status, points_agent, takes_status, comes_to_rest, ran, ended, two_appended, comes_again, rings_suspended, four_ticks, first_sees, state_packet, target_id, first_id, second_id, header, to_target, to_first, done_by_target, done_by_first, fetch_packet, orb_bytes, orb_packet, pointer_packet, status_packet, test_ready, ready_block, block_of, write_block_0, two_begin, enables, loads, login_orb, reads_login, reads_eui, begin_entry, append_entry, entry, wild_bytes, first_sees, settle_notes}
+use Rattle.sbp_laws.specs.WorkedRuns as runs
+use Rattle.sbp_laws.specs.RareRuns.{behind, from_second, to_second, read_block_0, reads_block}
+
+-- a run without its latest moments, and with these notes instead
+abbrev pub instead : (count : ℕ) → List Moment → List Note → List Moment
+instead count run more = map said (reverse more) ++ drop count run
+
+-- ---- once: a write that closes with rcode 0 was ignored for its login; a write that was ignored so is judged anew; and one that is ignored
+-- with the cause slot, which the law accepts
+abbrev pub ignored_and_closed : List Moment
+ignored_and_closed = behind till_pointer (notes.Ignored 1 ignored.Login ∷ notes.Sent 2 0 0 1 (done_by_target 0 0) ∷ notes.Got 2 ∷ [])
+
+abbrev pub ignored_twice : List Moment
+ignored_twice = behind till_pointer (notes.Ignored 1 ignored.Login ∷ notes.Sent 2 0 0 1 (done_by_target 0 0) ∷ notes.Ignored 1 ignored.Login ∷ [])
+
+abbrev pub slot_and_closed : List Moment
+slot_and_closed = behind till_status (notes.Ignored 5 ignored.Slot ∷ notes.Sent 6 0 1 0 (done_by_first 0) ∷ notes.Got 6 ∷ [])
+
+-- ---- order
+abbrev pub ends_as_dummy : (k : ℕ) → Note
+ends_as_dummy k = notes.Ended 0 (Some 0) (Some k) kinds.Dummy
+
+abbrev pub ends_twice : List Moment
+ends_twice = behind two_appended (ends_as_dummy 0 ∷ ends_as_dummy 0 ∷ [])
+
+abbrev pub ends_unappended : List Moment
+ends_unappended = behind two_appended (ends_as_dummy 0 ∷ ends_as_dummy 1 ∷ ends_as_dummy 2 ∷ [])
+
+abbrev pub runs_in_next_list : List Moment
+runs_in_next_list = told (two_appended ++ said (notes.Append 0 1 0 ready_block Nothing) ∷ ran None ∷ [])
+
+-- ---- execution: an ORB runs behind its end, or before the one in front of it has ended; a check that holds, on an empty bay or behind a
+-- unit reset, or not; the checks of calls that failed
+abbrev pub runs_behind_end : List Moment
+runs_behind_end = told (till_orb ++ said (notes.Got 4) ∷ said (ends_as_dummy 0) ∷ ran None ∷ [])
+
+abbrev pub runs_out_of_turn : List Moment
+runs_out_of_turn = told (two_appended ++ said (notes.Ran 0 (Some 0) (Some 1) 0 ready_block [] None) ∷ [])
+
+abbrev pub runs_with : Option Sense → List Moment
+runs_with check = told (till_orb ++ said (notes.Got 4) ∷ ran check ∷ [])
+
+abbrev pub runs_behind_reset : Option Sense → List Moment
+runs_behind_reset check = told (begins ++ appended 0 ∷ said (notes.Cleared 0) ∷ ran check ∷ [])
+
+abbrev pub ends_behind_run : StatusKind → List Moment
+ends_behind_run status = told (till_orb ++ said (notes.Got 4) ∷ ran None ∷ ended status ∷ [])
+
+-- ---- status: the block goes to another FIFO, names another slot, tells another status, or was sent in another turn than that of the end
+abbrev pub takes_block : List ℕ → List Moment
+takes_block bytes =
+    told (till_orb ++ said (notes.Got 4) ∷ ran None ∷ ended kinds.Good ∷ said (notes.Sent 5 0 0 1 bytes)
+    ∷ said (notes.Got 5) ∷ said (notes.Taken 0 0 0 kinds.Good []) ∷ [])
+
+abbrev pub block_packet : (fifo head orb : ℕ) → List ℕ
+block_packet fifo head orb = canon (write_block (to_first 0) fifo (quad_bytes (head ∷ orb ∷ [])))
+
+abbrev pub sent_late : List Moment
+sent_late =
+    told (till_orb ++ said (notes.Got 4) ∷ ran None ∷ ended kinds.Good ∷ said (notes.Ignored 2 ignored.Label) ∷ said (notes.Sent 5 0 0 1 (status_packet 0x41000000))
+    ∷ said (notes.Got 5) ∷ said (notes.Taken 0 0 0 kinds.Good []) ∷ [])
+
+-- ---- answer: bytes where the command has none; and what a READ gives behind a WRITE
+abbrev pub answers_unasked : List Moment
+answers_unasked = behind till_status (notes.Got 5 ∷ notes.Taken 0 0 0 kinds.Good (0 ∷ []) ∷ [])
+
+abbrev pub reads_back : List ℕ → List Moment
+reads_back answer =
+    behind begins (notes.Append 0 0 0 write_block_0 (Out (block_of 0xaa)) ∷ notes.Ran 0 (Some 0) (Some 0) 0 write_block_0 (block_of 0xaa) None
+    ∷ notes.Ended 0 (Some 0) (Some 0) kinds.Good ∷ notes.Append 0 0 1 read_block_0 (In 512) ∷ notes.Ran 0 (Some 0) (Some 1) 0 read_block_0 [] None
+    ∷ notes.Ended 0 (Some 0) (Some 1) kinds.Good ∷ notes.Taken 0 0 1 kinds.Good answer ∷ [])
+
+-- ---- carried: an ORB was read elsewhere, with other bytes, or before it was appended; and a WRITE with data that no packet brought
+abbrev pub runs_read_from : (address : ℕ) → List Moment
+runs_read_from address =
+    behind till_pointer (notes.Got 1 ∷ notes.Sent 2 0 0 1 (done_by_target 0 0) ∷ notes.Sent 3 0 0 1 (fetch_packet 0 address)
+    ∷ notes.Got 3 ∷ notes.Sent 4 0 1 0 (orb_packet 0 0x80000000 0) ∷ notes.Got 4 ∷ notes.Ran 0 (Some 0) (Some 0) 0 ready_block [] None ∷ [])
+
+abbrev pub orb_brought : List ℕ → Note → List Moment
+orb_brought bytes note =
+    behind till_pointer (notes.Got 1 ∷ notes.Sent 2 0 0 1 (done_by_target 0 0) ∷ notes.Sent 3 0 0 1 (fetch_packet 0 0x10000000)
+    ∷ notes.Got 3 ∷ notes.Sent 4 0 1 0 (canon (read_block_response (to_target 0) 0 bytes)) ∷ notes.Got 4 ∷ note ∷ [])
+
+abbrev pub runs_ready : Note
+runs_ready = notes.Ran 0 (Some 0) (Some 0) 0 ready_block [] None
+
+abbrev pub orb_of : (fields command : ℕ) → List ℕ
+orb_of fields command = quad_bytes (0x80000000 ∷ 0 ∷ 0 ∷ 0x11000000 ∷ fields ∷ command ∷ 0 ∷ 0 ∷ [])
+
+-- ---- cause
+-- the read of the last next pointer times out, and the ORB that was taken ends once more; and a status write that times out
+abbrev pub reread_times_out : List Note → List Moment
+reread_times_out more =
+    told (rings_suspended ++ said (notes.Sent 9 0 0 1 (canon (read_block (to_first 0) 0x10000000 8))) ∷ asked 6 (events.Timeout 9) ∷ said (notes.TimedOut 9) ∷ map said more)
+
+abbrev pub status_times_out : List Note → List Moment
+status_times_out more = told (till_status ++ asked 4 (events.Timeout 5) ∷ said (notes.TimedOut 5) ∷ map said more)
+
+abbrev pub dies_by : List Note
+dies_by = notes.Dead 0 (Some 0) causes.Timeout ∷ []
+
+-- ---- judgement: a repeated write, a block that no row reads, a response that answers nothing, a request for another's register, a status
+-- block that comes once more as a new write, and a packet from another initiator
+abbrev pub repeats_write : List Note → List Moment
+repeats_write answer = told (comes_again ++ said (notes.Ignored 1 ignored.Again) ∷ map said answer)
+
+abbrev pub brings_block : List ℕ → Note → List Note → List Moment
+brings_block bytes note more =
+    told (till_orb ++ said (notes.Got 4) ∷ ran None ∷ ended kinds.Good ∷ said (notes.Sent 5 0 0 1 bytes) ∷ said note ∷ map said more)
+
+abbrev pub unread_block : List ℕ
+unread_block = canon (write_block (to_first 0) 0x13000000 (quad_bytes (0x4f000000 ∷ 0x10000000 ∷ [])))
+
+abbrev pub answered_5 : (rcode : ℕ) → List Note
+answered_5 rcode = notes.Sent 6 0 1 0 (canon (write_response (to_target 0) rcode)) ∷ []
+
+abbrev pub repeats_response : Note → List Moment
+repeats_response note = told (till_pointer ++ (points_agent ++ said (notes.Got 2) ∷ asked 4 (events.Repeat 2) ∷ said note ∷ []))
+
+abbrev pub second_writes : Note → List Note → List Moment
+second_writes note more =
+    told (two_begin ++ said (notes.Sent 1 0 2 0 (canon (write_quadlet (from_second 0) 0xfffff0040004 1))) ∷ said note ∷ map said more)
+
+abbrev pub answered_7 : List Note
+answered_7 = notes.Sent 2 0 0 2 (canon (write_response (to_second 0) 7)) ∷ []
+
+abbrev pub between_initiators : Note → List Note → List Moment
+between_initiators note more =
+    told (two_begin ++ said (notes.Injected 1) ∷ said (notes.Sent 1 0 2 1 (canon (write_quadlet (header first_id second_id 0) 0x10000000 1))) ∷ said note ∷ map said more)
+
+abbrev pub answered_source : List Note
+answered_source = notes.Sent 2 0 1 2 (canon (write_response (header second_id first_id 0) 7)) ∷ []
+
+abbrev pub comes_as_new : Note → (rcode : ℕ) → List Moment
+comes_as_new note rcode =
+    told (till_status ++ (takes_status ++ said (notes.Sent 7 0 0 1 (canon (write_block (to_first 1) 0x13000000 (quad_bytes (0x41000000 ∷ 0x10000000 ∷ [])))))
+    ∷ said note ∷ said (notes.Sent 8 0 1 0 (canon (write_response (to_target 1) rcode))) ∷ []))
+
+-- bytes that are no packet
+abbrev pub no_packet : List ℕ
+no_packet = quad_bytes (0xffc001f0 ∷ 0xffc10000 ∷ [])
+
+abbrev pub brings_junk : Note → List Note → List Moment
+brings_junk note more = told (begins ++ said (notes.Injected 1) ∷ said (notes.Sent 1 0 1 0 no_packet) ∷ said note ∷ map said more)
+
+-- ---- login
+abbrev pub expires_at : List Note → List Moment
+expires_at more = told (begins ++ (resets ++ asked 4 (events.See 0) ∷ said (notes.Seen 0 1) ∷ said (notes.Held 1) ∷ asked 5 events.Tick ∷ said notes.Tick ∷ map said more))
+
+-- the decision stands where the ORB was read, before the EUI-64 is
+abbrev pub decides_early : List Moment
+decides_early = told (reads_login ++ said (notes.Got 4) ∷ said (notes.Managed 0 functions.Login 0 0 (Some 1)) ∷ [])
+
+-- ---- sent, of packets
+abbrev pub appends_as : (serial generation : ℕ) → List ℕ → List Moment
+appends_as serial generation bytes =
+    told (begins ++ asked 2 (events.Act 0 (actions.Append test_ready)) ∷ appended 0 ∷ said (notes.Rung 0 0 0) ∷ said (notes.Sent serial generation 1 0 bytes) ∷ [])
+
+abbrev pub pointer_by : (retry source label offset : ℕ) → List ℕ
+pointer_by retry source label offset =
+    canon (write_block (record { destination = target_id; label = label; retry = retry; priority = 0; source = source }) offset (quad_bytes (0 ∷ 0x10000000 ∷ [])))
+
+abbrev pub points_to : (orb : ℕ) → List ℕ
+points_to orb = canon (write_block (to_target 0) 0xfffff0040008 (quad_bytes (0 ∷ orb ∷ [])))
+
+-- ---- sent, of answers
+abbrev pub reads_state : (state : ℕ) → List Moment
+reads_state state =
+    told (begins ++ asked 2 (events.Act 0 actions.State) ∷ said (notes.Sent 1 0 1 0 (state_packet 0)) ∷ asked 3 (events.Deliver 1) ∷ said (notes.Got 1)
+    ∷ said (notes.Sent 2 0 0 1 (canon (read_quadlet_response (to_first 0) 0 state))) ∷ [])
+
+-- a second management write comes while an operation is under way
+abbrev pub second_manages : (rcode : ℕ) → List Moment
+second_manages rcode =
+    told (two_begin ++ asked 2 (events.Act 0 actions.Logout) ∷ said (notes.Sent 1 0 1 0 (canon (write_block (to_target 0) 0xfffff0010000 (quad_bytes (0 ∷ 0x12000000 ∷ [])))))
+    ∷ asked 3 (events.Deliver 1) ∷ said (notes.Got 1) ∷ said (notes.Sent 2 0 0 1 (done_by_target 0 0)) ∷ said (notes.Sent 3 0 0 1 (fetch_packet 0 0x12000000))
+    ∷ asked 4 (events.Act 1 actions.Logout) ∷ said (notes.Sent 4 0 2 0 (canon (write_block (from_second 0) 0xfffff0010000 (quad_bytes (0 ∷ 0x12000000 ∷ [])))))
+    ∷ asked 5 (events.Deliver 4) ∷ said (notes.Got 4) ∷ said (notes.Sent 5 0 0 2 (canon (write_response (to_second 0) rcode))) ∷ [])
+
+-- the first ORB was made a dummy
+abbrev pub serves_dummy : List ℕ → List Moment
+serves_dummy bytes =
+    told (begins ++ (appends_first ++ asked 3 (events.Act 0 (actions.Dummy 0)) ∷ said (notes.Dummied 0 0 0) ∷ asked 4 events.Settle ∷ points_agent
+    ++ said (notes.Got 2) ∷ said (notes.Got 3) ∷ said (notes.Sent 4 0 1 0 (canon (read_block_response (to_target 0) 0 bytes))) ∷ []))
+
+abbrev pub plain_bytes : (fields : ℕ) → List ℕ
+plain_bytes fields = quad_bytes (0x80000000 ∷ 0 ∷ 0 ∷ 0 ∷ fields ∷ 0 ∷ 0 ∷ 0 ∷ [])
+
+-- the first quadlet of the target's ROM is read
+abbrev pub reads_rom : (quadlet : ℕ) → List Moment
+reads_rom quadlet =
+    told (begins ++ asked 2 (events.Act 0 actions.Rom) ∷ said (notes.Sent 1 0 1 0 (canon (read_quadlet (to_target 0) 0xfffff0000400)))
+    ∷ asked 3 (events.Deliver 1) ∷ said (notes.Got 1) ∷ said (notes.Sent 2 0 0 1 (canon (read_quadlet_response (to_first 0) 0 quadlet))) ∷ [])
+
+-- ---- media
+abbrev pub load_notes : Note → List Moment
+load_notes note = told (two_begin ++ (enables ++ (loads ++ said note ∷ [])))
+
+-- ---- action: entries
+abbrev pub one_entry : Event → List Note → List Entry
+one_entry event more = entry 2 event more ∷ begin_entry ∷ []
+
+abbrev pub third_entry : Event → List Note → List Entry
+third_entry event more = entry 3 event more ∷ append_entry ∷ begin_entry ∷ []
+
+abbrev pub appends_with : Event
+appends_with = events.Act 0 (actions.Append test_ready)
+
+abbrev pub answers_first : List Note
+answers_first = notes.Sent 2 0 0 1 (done_by_target 0 0) ∷ notes.Sent 3 0 0 1 (fetch_packet 0 0x10000000) ∷ []
+
+-- ---- more of sent, of requests
+abbrev pub sends_behind_end : List ℕ → List Note → List Moment
+sends_behind_end bytes more = told (till_orb ++ said (notes.Got 4) ∷ ran None ∷ ended kinds.Good ∷ said (notes.Sent 5 0 0 1 bytes) ∷ map said more)
+
+abbrev pub rings_with : (number : ℕ) → List Moment
+rings_with number =
+    told (begins ++ (appends_first ++ asked 3 (events.Act 0 (actions.Append test_ready)) ∷ appended 1 ∷ said (notes.Low 0 0 1) ∷ said (notes.Linked 0 0 1) ∷ said (notes.Rung 0 0 1)
+    ∷ said (notes.Sent 2 0 1 0 (canon (write_quadlet (to_target 1) 0xfffff0040010 number))) ∷ []))
+
+abbrev pub rereads_by : (count : ℕ) → List Moment
+rereads_by count = told (rings_suspended ++ said (notes.Sent 9 0 0 1 (canon (read_block (to_first 0) 0x10000000 count))) ∷ [])
+
+-- ---- more of media: two logins are told; and the tray is emptied and filled again
+abbrev pub third_enables : List Moment
+third_enables =
+    asked 1 (events.Begin 3 true) ∷ said (notes.Begin 3 true)
+    ∷ said (notes.Sent 1 0 2 0 (canon (write_quadlet (from_second 0) 0xfffff0040034 1))) ∷ said (notes.Got 1)
+    ∷ said (notes.Sent 2 0 3 0 (canon (write_quadlet (header target_id 0xffc3 0) 0xfffff0040054 1))) ∷ said (notes.Got 2) ∷ []
+
+abbrev pub tells_both : List Note → List Moment
+tells_both more = told (third_enables ++ (loads ++ map said more))
+
+abbrev pub tray_block : (byte : ℕ) → List ℕ
+tray_block byte = 0x1b ∷ 0 ∷ 0 ∷ 0 ∷ byte ∷ replicate 7 0
+
+abbrev pub fills_again : List Note
+fills_again =
+    notes.Got 4 ∷ notes.Ran 0 (Some 0) (Some 1) 0 (tray_block 2) [] None ∷ notes.Got 4 ∷ notes.Ran 0 (Some 0) (Some 2) 0 (tray_block 3) [] None ∷ []
+
+abbrev pub loads_again : List Note → List Moment
+loads_again more = told (two_begin ++ (enables ++ (loads ++ map said (notes.Unsolicited 1 ∷ fills_again ++ more))))
+
+-- the first unsolicited status is still under way, and the register is enabled anew
+abbrev pub loads_under_way : List Note → List Moment
+loads_under_way more =
+    told (two_begin ++ (enables ++ (loads ++ map said (notes.Unsolicited 1
+    ∷ notes.Sent 3 0 0 2 (canon (write_block (to_second 0) 0x13000000 (quad_bytes (0x85000000 ∷ 0 ∷ 0x02062800 ∷ 0 ∷ 0 ∷ 0 ∷ []))))
+    ∷ notes.Sent 4 0 2 0 (canon (write_quadlet (from_second 1) 0xfffff0040034 1)) ∷ notes.Got 4 ∷ fills_again ++ more))))
