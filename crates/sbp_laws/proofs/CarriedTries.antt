@@ -33,7 +33,8 @@ use Rattle.orb_layout.specs.declared.status.StatusKind.TheVariants as kinds
 use Rattle.sbp_journal.specs.declared.note.Note.TheVariants as notes
 use Rattle.std.specs.Prelude.{Some, None, slice_index, replicate, drop, length, true, false, IsSomeAnd, List, ℕ, ◌==◌, if◌then◌else◌}
 use Rattle.sbp_journal.specs.Run.{Moment}
-use Rattle.sbp_laws.specs.CarriedBytes.{WasRead, IsRead, orb_read, buffer_in, reads_since, payload_at}
+use Rattle.sbp_laws.specs.Terms.{appends}
+use Rattle.sbp_laws.specs.CarriedBytes.{before_sent, WasRead, IsRead, orb_read, buffer_in, reads_since, payload_at}
 use Rattle.sbp_journal.specs.Wire.{terms}
 use Rattle.page_table.specs.Buffer.{bytes_of}
 
@@ -161,5 +162,37 @@ read_elsewhere : CarriedLaw nobody journals.one_disk (refused.runs_read_from 0x1
 unfolding reading fault_of tcode_of header_of offset_of rcode_of value_of length_of extended_of three four part_of is_to is_same asked_by begun_by belongs start_at lowest_from label_for free_from count_flying lowest_flying label_of with_label is_write kind_of slot_of window_at is_fifo point_step doorbell_step reset_step abort_step reply_step lost_step refusal verdict request_of check_of blank_bytes command_kind elements_from made block_head decide reads_eui live_login response_bytes start_step reply_step_of_manager decide_step fresh_id left_for enter_step back_step leave_step
 read_elsewhere = λ law. not_elsewhere ((law.carried.0 refl).read)
 
+other_direction_reads_four : (w : WasRead journals.one_disk (past_of (refused.orb_of 0x8a900000 0)) 0 0 0) → w.response ≡ 4
+unfolding reading fault_of tcode_of header_of offset_of rcode_of value_of length_of extended_of three four part_of is_to is_same asked_by begun_by belongs start_at lowest_from label_for free_from count_flying lowest_flying label_of with_label is_write kind_of slot_of window_at is_fifo point_step doorbell_step reset_step abort_step reply_step lost_step refusal verdict request_of check_of blank_bytes command_kind elements_from made block_head decide reads_eui live_login response_bytes start_step reply_step_of_manager decide_step fresh_id left_for enter_step back_step leave_step
+other_direction_reads_four w = by (one_of_three w.response w.got)
+  where
+    by : (w.response ≡ 4) ⊎ ((w.response ≡ 3) ⊎ (w.response ≡ 1)) → w.response ≡ 4
+    by (inl e) = e
+    by (inr (inl e)) = let bad : None ≡ Some w.request = subst (λ r. (terms (past_of (refused.orb_of 0x8a900000 0))).answers r ≡ Some w.request) e w.answers in absurd (cc bad)
+    by (inr (inr e)) = let bad : None ≡ Some w.request = subst (λ r. (terms (past_of (refused.orb_of 0x8a900000 0))).answers r ≡ Some w.request) e w.answers in absurd (cc bad)
+
+abbrev past_early : List Moment
+past_early = drop 1 refused.read_too_early
+
+not_too_early : WasRead journals.one_disk past_early 0 0 0 → ⊥
+unfolding reading fault_of tcode_of header_of offset_of rcode_of value_of length_of extended_of three four part_of is_to is_same asked_by begun_by belongs start_at lowest_from label_for free_from count_flying lowest_flying label_of with_label is_write kind_of slot_of window_at is_fifo point_step doorbell_step reset_step abort_step reply_step lost_step refusal verdict request_of check_of blank_bytes command_kind elements_from made block_head decide reads_eui live_login response_bytes start_step reply_step_of_manager decide_step fresh_id left_for enter_step back_step leave_step
+not_too_early w = by (one_of_three w.response w.got)
+  where
+    asked_for : (q : ℕ) → Some 3 ≡ Some q → 0 < appends (before_sent past_early q) 0 0 → ⊥
+    asked_for q e below = let same : q ≡ 3 = grind arith in let bad : 0 < 0 = subst (λ q. 0 < appends (before_sent past_early q) 0 0) same below in omega (arith, bad)
+
+    by : (w.response ≡ 4) ⊎ ((w.response ≡ 3) ⊎ (w.response ≡ 1)) → ⊥
+    by (inl e) = asked_for w.request (subst (λ r. (terms past_early).answers r ≡ Some w.request) e w.answers) w.appended
+    by (inr (inl e)) = let bad : None ≡ Some w.request = subst (λ r. (terms past_early).answers r ≡ Some w.request) e w.answers in cc bad
+    by (inr (inr e)) = let bad : None ≡ Some w.request = subst (λ r. (terms past_early).answers r ≡ Some w.request) e w.answers in cc bad
+
+other_direction : CarriedLaw nobody journals.one_disk (refused.orb_brought (refused.orb_of 0x8a900000 0) refused.runs_ready) → ⊥
+unfolding reading fault_of tcode_of header_of offset_of rcode_of value_of length_of extended_of three four part_of is_to is_same asked_by begun_by belongs start_at lowest_from label_for free_from count_flying lowest_flying label_of with_label is_write kind_of slot_of window_at is_fifo point_step doorbell_step reset_step abort_step reply_step lost_step refusal verdict request_of check_of blank_bytes command_kind elements_from made block_head decide reads_eui live_login response_bytes start_step reply_step_of_manager decide_step fresh_id left_for enter_step back_step leave_step
+other_direction = λ law. let is : (law.carried.0 refl).read.response ≡ 4 = other_direction_reads_four (law.carried.0 refl).read in let bad : true ≡ false = subst (λ r. (orb_read (past_of (refused.orb_of 0x8a900000 0)) r).to_initiator ≡ false) is (law.carried.0 refl).as_appended.direction in cc bad
+
+read_too_early : CarriedLaw nobody journals.one_disk refused.read_too_early → ⊥
+unfolding reading fault_of tcode_of header_of offset_of rcode_of value_of length_of extended_of three four part_of is_to is_same asked_by begun_by belongs start_at lowest_from label_for free_from count_flying lowest_flying label_of with_label is_write kind_of slot_of window_at is_fifo point_step doorbell_step reset_step abort_step reply_step lost_step refusal verdict request_of check_of blank_bytes command_kind elements_from made block_head decide reads_eui live_login response_bytes start_step reply_step_of_manager decide_step fresh_id left_for enter_step back_step leave_step
+read_too_early = λ law. not_too_early ((law.carried.0 refl).read)
+
 pub tried : CarriedTried
-tried = record { accepts = accepts; answer_uncarried = answer_uncarried; run_unread = run_unread; run_left_out = run_left_out; answer_otherwise = answer_otherwise; other_data = other_data; dummy_unmade = dummy_unmade; good_of_dummy = good_of_dummy; other_command = other_command; other_length = other_length; short_orb = short_orb; read_elsewhere = read_elsewhere }
+tried = record { accepts = accepts; answer_uncarried = answer_uncarried; run_unread = run_unread; run_left_out = run_left_out; answer_otherwise = answer_otherwise; other_data = other_data; dummy_unmade = dummy_unmade; good_of_dummy = good_of_dummy; other_command = other_command; other_length = other_length; short_orb = short_orb; read_elsewhere = read_elsewhere; other_direction = other_direction; read_too_early = read_too_early }

@@ -162,6 +162,12 @@ labels_gone more =
     behind (begins ++ asked 2 (events.Act 0 (actions.Append test_ready)) ∷ said (notes.Append 0 0 0 ready_block Nothing) ∷ said (notes.Rung 0 0 0) ∷ map said (reads_under 64)
     ++ said (notes.Sent 65 0 1 0 pointer_packet) ∷ asked 3 (events.Deliver 65) ∷ said (notes.Got 65) ∷ []) more
 
+-- its ORB is to be read as an operation of initiator 0 begins
+abbrev pub labels_gone_to_manager : List Note → List Moment
+labels_gone_to_manager more =
+    behind (asked 1 (events.Begin 1 false) ∷ said (notes.Begin 1 false) ∷ asked 2 (events.Act 0 (actions.Login 0 0 false (replicate 8 0))) ∷ map said (reads_under 64)
+    ++ said (notes.Sent 65 0 1 0 (manage_packet (to_target 0))) ∷ asked 3 (events.Deliver 65) ∷ said (notes.Got 65) ∷ []) more
+
 -- ---- a unit with a key: a login with this password is decided
 abbrev pub keyed : (password : ℕ) → (status : ℕ) → Option ℕ → List Moment
 keyed password status login =

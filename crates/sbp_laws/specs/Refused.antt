@@ -1,5 +1,5 @@
 -- Journals that are each refused by a law, since they differ in a note from a worked run or from a part of one.
-use Rattle.std.specs.Prelude.{ℕ, true, false, List, [], ◌∷◌, ◌++◌, map, drop, reverse, replicate, Option, None, Some}
+use Rattle.std.specs.Prelude.{ℕ, zero, suc, ◌+◌, true, false, List, [], ◌∷◌, ◌++◌, map, drop, reverse, replicate, Option, None, Some}
 use Rattle.async_packet.specs.declared.packet.Header.{Header}
 use Rattle.async_packet.specs.Packet.{write_quadlet, write_block, write_response, read_quadlet, read_block, read_quadlet_response, read_block_response}
 use Rattle.async_packet.specs.Canon.{canon}
@@ -23,7 +23,7 @@ use Rattle.sbp_journal.specs.declared.note.Note.TheVariants as notes
 use Rattle.sbp_journal.specs.declared.operation.FunctionWord.TheVariants as functions
 use Rattle.sbp_journal.specs.declared.operation.Operation.TheVariants as operations
 use Rattle.sbp_journal.specs.declared.operation.OpWord.TheVariants as words
-use Rattle.sbp_laws.specs.Journals.{told, begins, appends_first, appended, settles, resets, till_pointer, till_orb, till_status, points_agent, takes_status, comes_to_rest, ran, ended, two_appended, comes_again, rings_suspended, four_ticks, first_sees, state_packet, target_id, first_id, second_id, header, to_target, to_first, done_by_target, done_by_first, fetch_packet, orb_bytes, orb_packet, pointer_packet, status_packet, test_ready, ready_block, block_of, write_block_0, two_begin, enables, loads, login_orb, reads_login, reads_eui, begin_entry, append_entry, entry, wild_bytes, first_sees, settle_notes}
+use Rattle.sbp_laws.specs.Journals.{told, begins, appends_first, appended, settles, resets, till_pointer, till_orb, till_status, points_agent, takes_status, comes_to_rest, ran, ended, two_appended, comes_again, rings_suspended, links_second, four_ticks, first_sees, state_packet, target_id, first_id, second_id, header, to_target, to_first, done_by_target, done_by_first, fetch_packet, orb_bytes, orb_packet, pointer_packet, status_packet, test_ready, ready_block, block_of, write_block_0, two_begin, enables, loads, login_orb, reads_login, reads_eui, begin_entry, append_entry, entry, wild_bytes, first_sees, settle_notes}
 use Rattle.sbp_laws.specs.WorkedRuns as runs
 use Rattle.sbp_laws.specs.RareRuns.{behind, from_second, to_second, read_block_0, reads_block}
 
@@ -112,6 +112,12 @@ runs_ready = notes.Ran 0 (Some 0) (Some 0) 0 ready_block [] None
 
 abbrev pub orb_of : (fields command : ℕ) → List ℕ
 orb_of fields command = quad_bytes (0x80000000 ∷ 0 ∷ 0 ∷ 0x11000000 ∷ fields ∷ command ∷ 0 ∷ 0 ∷ [])
+
+-- the ORB is read before it is appended
+abbrev pub read_too_early : List Moment
+read_too_early =
+    behind begins (notes.Sent 1 0 1 0 pointer_packet ∷ notes.Got 1 ∷ notes.Sent 2 0 0 1 (done_by_target 0 0) ∷ notes.Sent 3 0 0 1 (fetch_packet 0 0x10000000)
+    ∷ notes.Append 0 0 0 ready_block Nothing ∷ notes.Got 3 ∷ notes.Sent 4 0 1 0 (orb_packet 0 0x80000000 0) ∷ notes.Got 4 ∷ notes.Ran 0 (Some 0) (Some 0) 0 ready_block [] None ∷ [])
 
 -- ---- cause
 -- the read of the last next pointer times out, and the ORB that was taken ends once more; and a status write that times out
@@ -273,3 +279,19 @@ loads_under_way more =
     told (two_begin ++ (enables ++ (loads ++ map said (notes.Unsolicited 1
     ∷ notes.Sent 3 0 0 2 (canon (write_block (to_second 0) 0x13000000 (quad_bytes (0x85000000 ∷ 0 ∷ 0x02062800 ∷ 0 ∷ 0 ∷ 0 ∷ []))))
     ∷ notes.Sent 4 0 2 0 (canon (write_quadlet (from_second 1) 0xfffff0040034 1)) ∷ notes.Got 4 ∷ fills_again ++ more))))
+
+-- so many labels of the target to initiator 0, from label 8 on, are under way beside the agent's own
+abbrev pub others_under : (count : ℕ) → List Note
+others_under zero = []
+others_under (suc count) = others_under count ++ notes.Sent (100 + count) 0 0 1 (canon (read_quadlet (to_first (8 + count)) 0xfffff0000400)) ∷ []
+
+-- the ORB that another one is linked behind was checked, beside so many labels
+abbrev pub checked_beside : (count : ℕ) → List Note → List Moment
+checked_beside count more =
+    told (begins ++ (appends_first ++ (links_second ++ (map said (others_under count)
+    ++ said (notes.Got 1) ∷ said (notes.Sent 3 0 0 1 (done_by_target 0 0)) ∷ said (notes.Sent 4 0 0 1 (fetch_packet 0 0x10000000))
+    ∷ said (notes.Got 4) ∷ said (notes.Sent 5 0 1 0 (orb_packet 0 0 0x10000040))
+    ∷ said (notes.Got 5) ∷ ran None ∷ ended kinds.Good ∷ said (notes.Sent 6 0 0 1 (status_packet 0x01000000)) ∷ map said more))))
+
+abbrev pub fetches_ahead : Note
+fetches_ahead = notes.Sent 7 0 0 1 (fetch_packet 1 0x10000040)

@@ -116,6 +116,8 @@ pub record CarriedTried : Type 0 where
   pub other_length : CarriedLaw nobody journals.one_disk (refused.orb_brought (refused.orb_of 0x82900008 0) refused.runs_ready) → ⊥
   pub short_orb : CarriedLaw nobody journals.one_disk (refused.orb_brought (quad_bytes (0x80000000 ∷ 0 ∷ 0 ∷ 0x11000000 ∷ 0x82900000 ∷ 0 ∷ [])) refused.runs_ready) → ⊥
   pub read_elsewhere : CarriedLaw nobody journals.one_disk (refused.runs_read_from 0x10000040) → ⊥
+  pub other_direction : CarriedLaw nobody journals.one_disk (refused.orb_brought (refused.orb_of 0x8a900000 0) refused.runs_ready) → ⊥
+  pub read_too_early : CarriedLaw nobody journals.one_disk refused.read_too_early → ⊥
 
 pub record CauseTried : Type 0 where
   pub accepts : CauseLaw nobody journals.one_disk journals.whole
@@ -172,6 +174,8 @@ pub record CauseTried : Type 0 where
   pub untold_finds_no_label : CauseLaw nobody rare.untold_disk (rare.untold (rare.dies_of causes.Label kinds.Failed)) → ⊥
   pub dead_label : CauseLaw nobody journals.one_disk (rare.labels_gone (rare.dies_of causes.Label kinds.Failed))
   pub no_label_lives : CauseLaw nobody journals.one_disk (rare.labels_gone []) → ⊥
+  pub management_without_label : CauseLaw nobody journals.one_disk (rare.labels_gone_to_manager (rare.management_fails causes.Label))
+  pub management_waits_for_label : CauseLaw nobody journals.one_disk (rare.labels_gone_to_manager []) → ⊥
 
 pub record JudgementTried : Type 0 where
   pub accepts : JudgementLaw journals.one_disk journals.whole
@@ -258,6 +262,8 @@ pub record SentTried : Type 0 where
   pub status_of_another : SentLaw nobody journals.one_disk (refused.sends_behind_end (refused.block_packet 0x13000000 0x41000000 0x10000040) []) → ⊥
   pub reads_ahead_at_null : SentLaw nobody journals.one_disk (refused.sends_behind_end (journals.status_packet 0x41000000) (notes.Sent 6 0 0 1 (journals.fetch_packet 1 0) ∷ [])) → ⊥
   pub untold_elsewhere : SentLaw nobody rare.untold_disk (rare.untold (notes.Sent 5 0 0 1 (rare.block_packet 0x11000040 rare.some_block) ∷ [])) → ⊥
+  pub ahead_past_its_reserve : SentLaw nobody journals.one_disk (refused.checked_beside 48 (refused.fetches_ahead ∷ [])) → ⊥
+  pub ahead_within_reserve_left_out : SentLaw nobody journals.one_disk (refused.checked_beside 47 []) → ⊥
 
 pub record MediaTried : Type 0 where
   pub unsolicited : MediaLaw nobody journals.empty_bay (journals.loads_enabled (notes.Unsolicited 1))
