@@ -236,5 +236,29 @@ ends_before_run : ActionLaw journals.one_disk (refused.third_entry (events.Deliv
 unfolding reading fault_of tcode_of header_of offset_of rcode_of value_of length_of extended_of three four part_of is_to is_same asked_by begun_by belongs start_at lowest_from label_for free_from count_flying lowest_flying label_of with_label is_write kind_of slot_of window_at is_fifo point_step doorbell_step reset_step abort_step reply_step lost_step refusal verdict request_of check_of blank_bytes command_kind elements_from made block_head decide reads_eui live_login response_bytes start_step reply_step_of_manager decide_step fresh_id left_for enter_step back_step leave_step
 ends_before_run = λ law. let bad = law.ordered.0.effects in cc bad
 
+delivers : ActionLaw journals.one_disk (refused.third_entry (events.Deliver 1) (notes.Got 1 ∷ refused.answers_first))
+unfolding reading fault_of tcode_of header_of offset_of rcode_of value_of length_of extended_of three four part_of is_to is_same asked_by begun_by belongs start_at lowest_from label_for free_from count_flying lowest_flying label_of with_label is_write kind_of slot_of window_at is_fifo point_step doorbell_step reset_step abort_step reply_step lost_step refusal verdict request_of check_of blank_bytes command_kind elements_from made block_head decide reads_eui live_login response_bytes start_step reply_step_of_manager decide_step fresh_id left_for enter_step back_step leave_step
+delivers = record { brings = ((refl, (refl, (refl, tt))), (record { effects = refl; first = refl }, (refl, tt))); ordered = (record { effects = refl; first = refl }, (tt, (tt, (tt, tt)))) }
+
+loses : ActionLaw journals.one_disk (refused.third_entry (events.Lose 1) (notes.Lost 1 ∷ []))
+unfolding reading fault_of tcode_of header_of offset_of rcode_of value_of length_of extended_of three four part_of is_to is_same asked_by begun_by belongs start_at lowest_from label_for free_from count_flying lowest_flying label_of with_label is_write kind_of slot_of window_at is_fifo point_step doorbell_step reset_step abort_step reply_step lost_step refusal verdict request_of check_of blank_bytes command_kind elements_from made block_head decide reads_eui live_login response_bytes start_step reply_step_of_manager decide_step fresh_id left_for enter_step back_step leave_step
+loses = record { brings = (refl, (record { effects = refl; first = refl }, (refl, tt))); ordered = (tt, (tt, (tt, tt))) }
+
+times_out : ActionLaw journals.one_disk (refused.third_entry (events.Timeout 1) (notes.TimedOut 1 ∷ notes.Stuck 0 ∷ []))
+unfolding reading fault_of tcode_of header_of offset_of rcode_of value_of length_of extended_of three four part_of is_to is_same asked_by begun_by belongs start_at lowest_from label_for free_from count_flying lowest_flying label_of with_label is_write kind_of slot_of window_at is_fifo point_step doorbell_step reset_step abort_step reply_step lost_step refusal verdict request_of check_of blank_bytes command_kind elements_from made block_head decide reads_eui live_login response_bytes start_step reply_step_of_manager decide_step fresh_id left_for enter_step back_step leave_step
+times_out = record { brings = ((refl, (refl, tt)), (record { effects = refl; first = refl }, (refl, tt))); ordered = (record { effects = refl; first = refl }, (tt, (tt, (tt, tt)))) }
+
+resets : ActionLaw journals.one_disk (refused.one_entry (events.Reset (1 ∷ 0 ∷ [])) (notes.Reset 1 ∷ []))
+unfolding reading fault_of tcode_of header_of offset_of rcode_of value_of length_of extended_of three four part_of is_to is_same asked_by begun_by belongs start_at lowest_from label_for free_from count_flying lowest_flying label_of with_label is_write kind_of slot_of window_at is_fifo point_step doorbell_step reset_step abort_step reply_step lost_step refusal verdict request_of check_of blank_bytes command_kind elements_from made block_head decide reads_eui live_login response_bytes start_step reply_step_of_manager decide_step fresh_id left_for enter_step back_step leave_step
+resets = record { brings = (refl, (refl, tt)); ordered = (tt, (tt, tt)) }
+
+sees : ActionLaw journals.one_disk (refused.one_entry (events.See 0) (notes.Seen 0 0 ∷ []))
+unfolding reading fault_of tcode_of header_of offset_of rcode_of value_of length_of extended_of three four part_of is_to is_same asked_by begun_by belongs start_at lowest_from label_for free_from count_flying lowest_flying label_of with_label is_write kind_of slot_of window_at is_fifo point_step doorbell_step reset_step abort_step reply_step lost_step refusal verdict request_of check_of blank_bytes command_kind elements_from made block_head decide reads_eui live_login response_bytes start_step reply_step_of_manager decide_step fresh_id left_for enter_step back_step leave_step
+sees = record { brings = ((refl, tt), (refl, tt)); ordered = (record { effects = refl; first = refl }, (tt, (tt, tt))) }
+
+ticks : ActionLaw journals.one_disk (refused.one_entry events.Tick (notes.Tick ∷ []))
+unfolding reading fault_of tcode_of header_of offset_of rcode_of value_of length_of extended_of three four part_of is_to is_same asked_by begun_by belongs start_at lowest_from label_for free_from count_flying lowest_flying label_of with_label is_write kind_of slot_of window_at is_fifo point_step doorbell_step reset_step abort_step reply_step lost_step refusal verdict request_of check_of blank_bytes command_kind elements_from made block_head decide reads_eui live_login response_bytes start_step reply_step_of_manager decide_step fresh_id left_for enter_step back_step leave_step
+ticks = record { brings = ((refl, tt), (refl, tt)); ordered = (record { effects = refl; first = refl }, (tt, (tt, tt))) }
+
 pub tried : ActionTried
-tried = record { accepts = accepts; steps_once = steps_once; settles_at_rest = settles_at_rest; refuses_login = refuses_login; steps_not = steps_not; injects = injects; other_source = other_source; sets_key = sets_key; no_unit = no_unit; inject_refused = inject_refused; stops_early = stops_early; settles_early = settles_early; refuses_append = refuses_append; other_number = other_number; begins_otherwise = begins_otherwise; refuses_and_more = refuses_and_more; rung_left_out = rung_left_out; appends_otherwise = appends_otherwise; delivers_another = delivers_another; delivers_nothing_sent = delivers_nothing_sent; refuses_delivery = refuses_delivery; repeats_nothing_sent = repeats_nothing_sent; loses_not = loses_not; refuses_time_out = refuses_time_out; times_out_unasked = times_out_unasked; steps_twice = steps_twice; steps_higher = steps_higher; settles_untold = settles_untold; resets_twice = resets_twice; sees_unborn = sees_unborn; tick_left_out = tick_left_out; injected_unsent = injected_unsent; key_refused = key_refused; no_unit_keyed = no_unit_keyed; packets_first = packets_first; ends_before_run = ends_before_run }
+tried = record { accepts = accepts; steps_once = steps_once; settles_at_rest = settles_at_rest; refuses_login = refuses_login; steps_not = steps_not; injects = injects; other_source = other_source; sets_key = sets_key; no_unit = no_unit; inject_refused = inject_refused; stops_early = stops_early; settles_early = settles_early; refuses_append = refuses_append; other_number = other_number; begins_otherwise = begins_otherwise; refuses_and_more = refuses_and_more; rung_left_out = rung_left_out; appends_otherwise = appends_otherwise; delivers_another = delivers_another; delivers_nothing_sent = delivers_nothing_sent; refuses_delivery = refuses_delivery; repeats_nothing_sent = repeats_nothing_sent; loses_not = loses_not; refuses_time_out = refuses_time_out; times_out_unasked = times_out_unasked; steps_twice = steps_twice; steps_higher = steps_higher; settles_untold = settles_untold; resets_twice = resets_twice; sees_unborn = sees_unborn; tick_left_out = tick_left_out; injected_unsent = injected_unsent; key_refused = key_refused; no_unit_keyed = no_unit_keyed; packets_first = packets_first; ends_before_run = ends_before_run; delivers = delivers; loses = loses; times_out = times_out; resets = resets; sees = sees; ticks = ticks }

@@ -128,5 +128,9 @@ no_packet_answered : JudgementLaw journals.one_disk (refused.brings_junk (notes.
 unfolding reading fault_of tcode_of header_of offset_of rcode_of value_of length_of extended_of three four part_of is_to is_same asked_by begun_by belongs start_at lowest_from label_for free_from count_flying lowest_flying label_of with_label is_write kind_of slot_of window_at is_fifo point_step doorbell_step reset_step abort_step reply_step lost_step refusal verdict request_of check_of blank_bytes command_kind elements_from made block_head decide reads_eui live_login response_bytes start_step reply_step_of_manager decide_step fresh_id left_for enter_step back_step leave_step
 no_packet_answered = λ law. let bad = law.0.1 in cc bad
 
+repeat_is_ignored : JudgementLaw journals.one_disk (refused.repeats_write (notes.Sent 4 0 0 1 (journals.done_by_target 0 0) ∷ []))
+unfolding reading fault_of tcode_of header_of offset_of rcode_of value_of length_of extended_of three four part_of is_to is_same asked_by begun_by belongs start_at lowest_from label_for free_from count_flying lowest_flying label_of with_label is_write kind_of slot_of window_at is_fifo point_step doorbell_step reset_step abort_step reply_step lost_step refusal verdict request_of check_of blank_bytes command_kind elements_from made block_head decide reads_eui live_login response_bytes start_step reply_step_of_manager decide_step fresh_id left_for enter_step back_step leave_step
+repeat_is_ignored = ((refl, refl), (tt, (refl, (tt, (tt, (tt, tt))))))
+
 pub tried : JudgementTried
-tried = record { accepts = accepts; old_is_ignored = old_is_ignored; old_is_acted_on = old_is_acted_on; ignored_otherwise = ignored_otherwise; ignored_with_answer = ignored_with_answer; repeat_unanswered = repeat_unanswered; repeat_answered_otherwise = repeat_answered_otherwise; repeat_has_effect = repeat_has_effect; unread_block = unread_block; unread_block_got = unread_block_got; unread_block_unanswered = unread_block_unanswered; unawaited_response = unawaited_response; unawaited_response_got = unawaited_response_got; register_of_another = register_of_another; register_of_another_got = register_of_another_got; other_initiator = other_initiator; other_initiator_got = other_initiator_got; status_again = status_again; status_again_got = status_again_got; status_again_refused = status_again_refused; no_packet = no_packet; no_packet_got = no_packet_got; no_packet_answered = no_packet_answered }
+tried = record { accepts = accepts; old_is_ignored = old_is_ignored; old_is_acted_on = old_is_acted_on; ignored_otherwise = ignored_otherwise; ignored_with_answer = ignored_with_answer; repeat_unanswered = repeat_unanswered; repeat_answered_otherwise = repeat_answered_otherwise; repeat_has_effect = repeat_has_effect; unread_block = unread_block; unread_block_got = unread_block_got; unread_block_unanswered = unread_block_unanswered; unawaited_response = unawaited_response; unawaited_response_got = unawaited_response_got; register_of_another = register_of_another; register_of_another_got = register_of_another_got; other_initiator = other_initiator; other_initiator_got = other_initiator_got; status_again = status_again; status_again_got = status_again_got; status_again_refused = status_again_refused; no_packet = no_packet; no_packet_got = no_packet_got; no_packet_answered = no_packet_answered; repeat_is_ignored = repeat_is_ignored }

@@ -201,6 +201,7 @@ pub record JudgementTried : Type 0 where
   pub no_packet : JudgementLaw journals.one_disk (refused.brings_junk (notes.Ignored 1 ignored.Grammar) [])
   pub no_packet_got : JudgementLaw journals.one_disk (refused.brings_junk (notes.Got 1) []) → ⊥
   pub no_packet_answered : JudgementLaw journals.one_disk (refused.brings_junk (notes.Ignored 1 ignored.Grammar) (notes.Sent 2 0 0 1 (journals.done_by_target 0 5) ∷ [])) → ⊥
+  pub repeat_is_ignored : JudgementLaw journals.one_disk (refused.repeats_write (notes.Sent 4 0 0 1 (journals.done_by_target 0 0) ∷ []))
 
 pub record LoginTried : Type 0 where
   pub expires : LoginLaw journals.one_disk journals.expires
@@ -317,6 +318,12 @@ pub record ActionTried : Type 0 where
   pub no_unit_keyed : ActionLaw journals.one_disk (journals.sets_key 1 (notes.Key 1 ∷ [])) → ⊥
   pub packets_first : ActionLaw journals.one_disk (refused.third_entry (events.Deliver 1) (notes.Got 1 ∷ refused.answers_first ++ notes.Cut 0 (Some 0) cuts.AgentReset ∷ [])) → ⊥
   pub ends_before_run : ActionLaw journals.one_disk (refused.third_entry (events.Deliver 1) (notes.Got 1 ∷ notes.Ended 0 (Some 0) (Some 0) kinds.Good ∷ notes.Ran 0 (Some 0) (Some 0) 0 journals.ready_block [] None ∷ [])) → ⊥
+  pub delivers : ActionLaw journals.one_disk (refused.third_entry (events.Deliver 1) (notes.Got 1 ∷ refused.answers_first))
+  pub loses : ActionLaw journals.one_disk (refused.third_entry (events.Lose 1) (notes.Lost 1 ∷ []))
+  pub times_out : ActionLaw journals.one_disk (refused.third_entry (events.Timeout 1) (notes.TimedOut 1 ∷ notes.Stuck 0 ∷ []))
+  pub resets : ActionLaw journals.one_disk (refused.one_entry (events.Reset (1 ∷ 0 ∷ [])) (notes.Reset 1 ∷ []))
+  pub sees : ActionLaw journals.one_disk (refused.one_entry (events.See 0) (notes.Seen 0 0 ∷ []))
+  pub ticks : ActionLaw journals.one_disk (refused.one_entry events.Tick (notes.Tick ∷ []))
 
 -- Worked runs that each law of moments and turns accepts, whole.
 pub record KeepsLaws (start : List Disk) (past : List Moment) : Type 0 where
