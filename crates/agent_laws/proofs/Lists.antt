@@ -44,7 +44,7 @@ use Rattle.agent_laws.specs.Calls.{Call, Point, Doorbell, Reset, Abort, Reply, a
 use Rattle.agent_laws.specs.Buffers.{table_in, buffer_in, wanted_by, piece, plan_for, CallsFeed}
 use Rattle.agent_laws.specs.Answers.{outcome_in, answer_in, written_in, to_write, EndsWhole, CallsAnswer}
 use Rattle.agent_laws.specs.Transactions.{main_in, UnderWayLaw}
-use Rattle.agent_laws.specs.Wire.{is_dead, EndsBy, TakesPointer, CallsAreWired}
+use Rattle.agent_laws.specs.Wire.{is_dead, src_by, EndsBy, TakesPointer, CallsAreWired}
 use Rattle.agent_laws.specs.Deaths.{asked_in, cause_of, failure_by, failure_in, is_illegal, illegal_in, due_by, due_in, EndsFailed, CallsDieDuly, DeathLaw}
 use Rattle.agent_laws.specs.Bells.{reads_pointer, rung_since, IsAtEnd, SuspendedLaw, MarkLaw}
 use Rattle.agent_laws.proofs.Known.{Laws, Heard, Clear, AsksBy, Parts, parts, Seen, seen, WaitsBy, TablingBy, FillingBy, AnswersBy, OverBy, BegunBy, KeepsBy, Keeps, Steadily, Tied, After, AfterMove, Ready, Fresh, Judgeable, Runnable}
@@ -122,12 +122,20 @@ hushed : (phase : Phase) (p : Parts) (s : Seen) → KeepsBy phase p s → KeepsB
 hushed phases.Fetching p s k = record { still = k.still; alive = k.alive; here = k.here; none = k.none; unrun = k.unrun; joined = k.joined; empty = k.empty; untabled = k.untabled; unwritten = k.unwritten; alone = refl }
 hushed _ p s k = k
 
+-- its status block
+src_is : (next : OrbPointer) → src_of next ≡ src_by next
+src_is Null = refl
+src_is (At offset) = refl
+
+block_is : (kind : StatusKind) (orb : ℕ) (next now : OrbPointer) → now ≡ next → status_bytes (record { src = src_of next; kind = kind; orb = orb }) ≡ status_bytes (record { src = src_by now; kind = kind; orb = orb })
+block_is kind orb next now e = ap (λ (src : ℕ). status_bytes (record { src = src; kind = kind; orb = orb })) (src_is next ∙ sym (ap src_by e))
+
 -- the present ORB ends
 end_after : (m : Machine) (kind : StatusKind) (dead : Option FailCause) (place : ℕ) (plain : PlainDisk) (ns : List Note) → Laws ns → main_in ns ≡ false → Steadily m m.ahead ns → is_open ns ≡ true → is_dead ns ≡ false → present_in ns ≡ Some m.present
     → EndsBy kind (outcome_in ns) → EndsWhole kind (written_in ns) (outcome_in ns) (answer_in ns) → EndsFailed kind (failure_in ns) → due_by (failure_in ns) (is_illegal kind) ≡ dead → After place plain ns (end_step m kind dead)
 end_after m kind None place plain ns l free s o a h e w f d = record {
   tied = record {
-    laws = ((h, l.0), (free, e, refl, refl, ap (λ (next : OrbPointer). status_bytes (record { src = src_of next; kind = kind; orb = m.present })) (sym s.next_is), l.1), l.2, (w, l.3), (f, l.4));
+    laws = ((h, l.0), (free, e, refl, refl, block_is kind m.present m.orb.next (next_in ns) s.next_is, l.1), l.2, (w, l.3), (f, l.4));
     steady = s;
     main = refl;
     phase = record { still = o; alive = a; gone = refl };
@@ -138,7 +146,7 @@ end_after m kind None place plain ns l free s o a h e w f d = record {
 }
 end_after m kind (Some cause) place plain ns l free s o a h e w f d = record {
   tied = record {
-    laws = ((h, l.0), (free, e, refl, refl, ap (λ (next : OrbPointer). status_bytes (record { src = src_of next; kind = kind; orb = m.present })) (sym s.next_is), l.1), l.2, (w, l.3), (d, (f, l.4)));
+    laws = ((h, l.0), (free, e, refl, refl, block_is kind m.present m.orb.next (next_in ns) s.next_is, l.1), l.2, (w, l.3), (d, (f, l.4)));
     steady = record { next_is = s.next_is; last_is = s.last_is; kept = tt; behind_is = refl; bell = λ _ live _. cc };
     main = refl;
     phase = refl;

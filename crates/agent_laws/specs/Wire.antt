@@ -1,6 +1,8 @@
 -- What an agent asks for, and how its ORBs end, read off what calls tell.
 use Rattle.std.specs.Prelude.{◌≡◌, ℕ, ◌*◌, Bool, true, false, List, [], ◌∷◌, ◌⊎◌, length, Option, Some, None}
 use Rattle.orb_layout.specs.declared.command.CommandOrb.{CommandOrb}
+use Rattle.orb_layout.specs.declared.pointer.OrbPointer.{OrbPointer}
+use Rattle.orb_layout.specs.declared.pointer.OrbPointer.TheVariants.{Null, At}
 use Rattle.orb_layout.specs.declared.status.StatusKind.{StatusKind}
 use Rattle.orb_layout.specs.declared.status.StatusKind.TheVariants as kinds
 use Rattle.orb_layout.specs.StatusBlocks.{status_bytes}
@@ -12,7 +14,6 @@ use Rattle.command_agent.specs.declared.step.Which.{Which}
 use Rattle.command_agent.specs.declared.step.Which.TheVariants.{Main, Ahead}
 use Rattle.command_agent.specs.Machine.{named}
 use Rattle.command_agent.specs.Checks.{reads_table}
-use Rattle.command_agent.specs.Steps.{src_of}
 use Rattle.agent_laws.specs.Calls.{Call, notes, Note, Pointed, Cut, Turn, Reads, Writes, Promoted, Ended, Died, is_open, present_in, fetched_in, next_in}
 use Rattle.agent_laws.specs.Buffers.{table_in, data_in, buffer_in, wanted_in, piece_in}
 use Rattle.agent_laws.specs.Answers.{outcome_in, is_good}
@@ -56,9 +57,14 @@ EndsBy kinds.Failed outcome = Unit {0}
 EndsBy (kinds.Management meaning) outcome = ⊥
 EndsBy _ outcome = outcome ≡ None
 
+-- src is 0 where the next pointer last read is not null, and 1 where it is, or was not read
+abbrev pub src_by : OrbPointer → ℕ
+src_by Null = 1
+src_by (At offset) = 0
+
 -- Its status block: src by the next pointer last read, its kind and its address, written whole with 0 in the place of the FIFO's address.
 abbrev pub block_bytes : List Note → ℕ → StatusKind → List ℕ
-block_bytes ns at kind = status_bytes (record { src = src_of (next_in ns); kind = kind; orb = at })
+block_bytes ns at kind = status_bytes (record { src = src_by (next_in ns); kind = kind; orb = at })
 
 -- A pointer is taken where no list is open, and where the agent is not dead, has no present ORB and no main transaction.
 abbrev pub TakesPointer : List Note → Type 0

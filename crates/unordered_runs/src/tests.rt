@@ -19,14 +19,15 @@ enum Orb {
     Illegal,
 }
 
-/// What comes to an agent: the ORB or the next pointer that its fetcher read, or its read failed; a
-/// task's data of this byte, the answer to its write, or what it waits for failed; a pointer, a doorbell
-/// or a reset.
+/// What comes to an agent: the ORB or the next pointer that its fetcher read, or its read failed or found
+/// no label; a task's data of this byte, the answer to its write, or what it waits for failed; a pointer, a
+/// doorbell or a reset.
 #[derive(Clone, Copy)]
 enum Input {
     Orb(Orb),
     Next(u32),
     FetchFails,
+    NoLabel,
     Data(u8, u8),
     Done(u8),
     Fails(u8),
@@ -117,6 +118,7 @@ fn give(agent: &mut TaskAgent, unit: &mut Unit, medium: &mut dyn Medium, input: 
         Input::Orb(orb) => hear(agent, unit, medium, 8, Reply::Payload(&bytes(orb))),
         Input::Next(next) => hear(agent, unit, medium, 8, Reply::Payload(&pointer(next))),
         Input::FetchFails => hear(agent, unit, medium, 8, Reply::Expired),
+        Input::NoLabel => hear(agent, unit, medium, 8, Reply::NoLabel),
         Input::Data(place, byte) => {
             hear(agent, unit, medium, place, Reply::Payload(&[byte; 512]))
         }
@@ -384,7 +386,7 @@ const RUNG: [Row<'static>; 6] = [
 
 /// What makes an agent dead: a failing fetch, task, read of a next pointer and status write, and an
 /// illegal ORB; and that the other tasks are dropped then.
-const FAILING: [Row<'static>; 9] = [
+const FAILING: [Row<'static>; 11] = [
     (
         &[Input::FetchFails],
         [STATUS_0, Sent::No],
@@ -397,6 +399,20 @@ const FAILING: [Row<'static>; 9] = [
         [STATUS_1, Sent::No],
         FAILED,
         TIMEOUT,
+        AgentState::Dead,
+    ),
+    (
+        &[WRITE, MORE, Input::Done(1), Input::NoLabel],
+        [STATUS_1, Sent::No],
+        FAILED,
+        Some(FailCause::Label),
+        AgentState::Dead,
+    ),
+    (
+        &[MORE, LAST, Input::Fails(0), Input::Done(1)],
+        [Sent::No, Sent::No],
+        None,
+        None,
         AgentState::Dead,
     ),
     (
@@ -476,9 +492,15 @@ fn last_steps(rt: HostRuntime) -> Result<(), Fail> {
     Ok(())
 }
 
-/// What a place last wrote: of two tasks that write one block the later one, in either order; and a status
-/// whose src goes by the next pointer as the fetcher read it later.
-const WRITTEN: [(&[Input], u8, &[u8]); 3] = [
+/// What a place last wrote: an answer of the state before its own run, though a task before it then writes
+/// the block; of two tasks that write one block the later one, in either order; and a status whose src goes
+/// by the next pointer as the fetcher read it later.
+const WRITTEN: [(&[Input], u8, &[u8]); 4] = [
+    (
+        &[WRITE, Input::Orb(Orb::Read(0)), Input::Data(0, 0xaa)],
+        1,
+        &[0x5a; 512],
+    ),
     (
         &[
             WRITE,
