@@ -5,4 +5,5 @@ pub mod Found
 pub mod Answered
 pub mod Labelled
 pub mod Quiet
+pub mod Framed
 pub mod Told

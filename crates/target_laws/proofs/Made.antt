@@ -67,7 +67,7 @@ module _ (first : List (wire.Call Purpose)) (before : Layer Purpose) (others : L
         unsent = λ e. no_calm _ e;
       }
 
-  made_keeps : Keeps (Made false first before others)
+  pub made_keeps : Keeps (Made false first before others)
   made_keeps = record { leaves = made_disowns false; asks = made_asks }
 
   made_answers : (p : Packet) (bytes : List ℕ) → Answers (Made true first before others) (Made false first before others) p bytes
@@ -100,6 +100,11 @@ begun step before others e = record {
   packets_are = sym (ap (λ (ps : List Outgoing). others ++ ps) e ∙ append-nil others);
   unsent = λ c. refl;
 }
+
+-- a judging, of a call with an outbox of its own
+pub judged_made : (before : Layer Purpose) (generation : ℕ) (bytes : List ℕ) → Made false (wire.judges generation bytes ∷ []) before [] (judging_step before generation bytes).1 []
+judged_made before generation bytes =
+    calmed (wire.judges generation bytes ∷ []) before [] (judging_step before generation bytes).1 [] (begun (wire.judges generation bytes) before [] refl)
 
 -- ---- a delivery
 module _ (first : List (wire.Call Purpose)) (before : Layer Purpose) (others : List Outgoing) where

@@ -1,13 +1,16 @@
 -- What each call of a target tells.
-use Rattle.std.proofs.Common.{arith, ◌≡◌, refl, sym, ap, ◌∙◌, subst, ℕ, zero, suc, ◌+◌, ◌==◌, ◌<◌, ◌≤◌, nat_lt, is_some, not, Bool, true, false, cond, List, [], ◌∷◌, ◌++◌, length, map, take, drop, append_assoc, append-nil, slice_index_or, slice_set, Option, Some, None, Result, Ok, Err}
+use Rattle.std.proofs.Common.{arith, ◌≡◌, refl, sym, ap, ◌∙◌, subst, ℕ, zero, suc, ◌+◌, ◌==◌, ◌<◌, ◌≤◌, ◌&&◌, nat_eq, nat_lt, is_some, not, Bool, true, false, cond, List, [], ◌∷◌, ◌++◌, length, map, take, drop, append_assoc, append-nil, slice_index_or, slice_set, Option, Some, None, Result, Ok, Err}
 use Rattle.std.proofs.lemmas.Grind.{common_steps}
-use Rattle.std.proofs.lemmas.List.{set-get_or}
+use Rattle.std.proofs.lemmas.Bool.Decides.{nat_tests}
+use Rattle.std.proofs.lemmas.List.{set-get_or, set_past}
 use Rattle.byteorder.specs.Endian.{big_bytes}
 use Rattle.async_packet.specs.Labels.{LabelParts}
 use Rattle.async_packet.specs.Packet.{Packet, header_in}
 use Rattle.label_table.specs.declared.reply.Stale.{Stale}
 use Rattle.label_table.specs.Bodies.{block_write}
-use Rattle.label_table.specs.Layer.{Layer, Finding, of_generation, of_grammar, of_label, of_response, of_again, of_request, answering_step, judging_step, expiring_step, seeing_step, seen_in_generation}
+use Rattle.label_table.specs.declared.judgement.Asked.{Asked}
+use Rattle.label_table.specs.Layer.{Layer, Finding, of_generation, of_grammar, of_label, of_response, of_again, of_request, answering_step, asking_step, judging_step, expiring_step, seeing_step, seen_in_generation}
+use Rattle.label_table.specs.History as wire
 use Rattle.login_table.specs.declared.login.Login.{Login}
 use Rattle.login_table.specs.Table.{Table, is_live, place_at, expired_ids, tick_step}
 use Rattle.media_bay.specs.Unsolicited.{block}
@@ -22,8 +25,9 @@ use Rattle.command_agent.specs.declared.step.AgentState.{AgentState}
 use Rattle.command_agent.specs.declared.step.AgentState.TheVariants as states
 use Rattle.command_agent.specs.declared.step.PointRefusal.{PointRefusal}
 use Rattle.command_agent.specs.declared.step.Which.{Which}
+use Rattle.command_agent.specs.declared.step.Which.TheVariants.{Main, Ahead}
 use Rattle.command_agent.specs.Machine.{Machine, aligned, present_of, state_in}
-use Rattle.command_agent.specs.Steps.{asks, fetch_step, is_reset, point_in, point_step, doorbell_step}
+use Rattle.command_agent.specs.Steps.{asks, fetch_step, is_reset, point_in, point_step, doorbell_step, reply_step}
 use Rattle.mgmt_agent.specs.declared.decision.Decision.{Decision}
 use Rattle.mgmt_agent.specs.declared.decision.Effect.{Effect}
 use Rattle.mgmt_agent.specs.declared.decision.Effect.TheVariants as effects
@@ -38,6 +42,7 @@ use Rattle.sbp_journal.specs.declared.cause.CutCause.TheVariants as cuts
 use Rattle.sbp_journal.specs.declared.cause.Cause.TheVariants as ignored
 use Rattle.sbp_journal.specs.declared.cause.Judged.{Judged}
 use Rattle.sbp_journal.specs.declared.cause.Judged.TheVariants as judged
+use Rattle.sbp_journal.specs.declared.outbox.Outgoing.{Outgoing}
 use Rattle.sbp_journal.specs.declared.side.Side.{Side}
 use Rattle.sbp_journal.specs.declared.side.Side.TheVariants as sides
 use Rattle.sbp_journal.specs.Outgoings.{OutboxState, empty_outbox}
@@ -49,22 +54,27 @@ use Rattle.sbp_target.specs.declared.desk.Desk.{Desk}
 use Rattle.sbp_target.specs.declared.purpose.Purpose.{Purpose}
 use Rattle.sbp_target.specs.declared.purpose.Purpose.TheVariants as purposes
 use Rattle.sbp_target.specs.Addresses.{complete, conflict_error, data_error, address_error, demand_of}
-use Rattle.sbp_target.specs.Desks.{expired_desk, new_desk, point_desk, pointed_desk, reset_desk, which_in}
-use Rattle.sbp_target.specs.Sending.{answer_step, request_step, with_side}
+use Rattle.sbp_target.specs.Desks.{expired_desk, new_desk, point_desk, pointed_desk, reset_desk, taken, which_in}
+use Rattle.sbp_target.specs.Sending.{answer_step, request_step, sent_by, with_side}
 use Rattle.sbp_target.specs.Telling.{orb_of}
 use Rattle.sbp_target.specs.Nodes.{NodeState, Scene, scene, desk_at, login_at, with_desk, with_agent}
 use Rattle.sbp_target.specs.Agents.{told_cut, cut_node, cut, follow}
 use Rattle.sbp_target.specs.Units.{is_of_unit, is_cut, cut_at, cut_from, cut_all, clear_unit, clear_from, hears, is_pending, unsolicited_by, announce_to, announce_in, announce_at, announce_from}
-use Rattle.sbp_target.specs.Replies.{Stage, stage, Whole, whole, scene_of, came, changed_by, announced_by, follow_all, advanced_with, advance, replied, served_login, replied_by, replied_to}
+use Rattle.sbp_target.specs.Replies.{Stage, stage, Whole, whole, scene_of, plain_at, came, changed_by, announced_by, follow_all, advanced_with, advance, replied_with, replied, served_login, replied_by, replied_to}
 use Rattle.sbp_target.specs.Management.{place_in, cut_placed, cut_place, tell_left, tell_failed, clear_one, clear_units, effect_by, decided_by, told_of, with_manager, ask_manager, managed_with, managed_in, manage}
 use Rattle.sbp_target.specs.Serving.{answered, state_number, last_pointer, pointer_bytes, asked_in, asked_at, rcode_of, pointed_by, point, rung_by, ring, enabled, accessed_by, started_by, start, served_as, serve, is_barred}
 use Rattle.sbp_target.specs.Serving as serving
 use Rattle.sbp_target.specs.Receiving.{answer_in, concluded, judged_scene, with_layer, received_as, received, expired_with, expired_by, expire_agent, timed_out, expired_in, expired, tell_held, held_from, cleared_node, reset_by, seen, expired_from, ticked_by, ticked}
-use Rattle.target_laws.specs.Calls.{lets_expire, sees, ticks, sets_key, alone}
-use Rattle.target_laws.specs.Sides.{is_change, ArePlain, AreFirst, AreLast, told_from, by_place, cut_in, cut_of, of_unit, cut_for, held_login, held_of, reset_changes, left_for, of_place, cleared_of, effect_changes, decision_changes, step_tells, operation_tells, opened_at, opened_in, demand_changes, request_changes, is_announced, AreAnnounced, Announces, agent_tells, reply_tells, delivery_tells, SideLaw}
+use Rattle.target_laws.specs.Calls.{receives, lets_expire, sees, ticks, sets_key, alone}
+use Rattle.target_laws.specs.Layers.{InOrder, first_of, layer_after, packets_of, request}
+use Rattle.target_laws.specs.Sides.{is_change, ArePlain, AreFirst, AreLast, told_from, by_place, cut_in, cut_of, of_unit, cut_for, held_login, held_of, reset_changes, left_for, of_place, cleared_of, effect_changes, decision_changes, step_tells, operation_tells, opened_at, opened_in, demand_changes, request_changes, Announced, unsent_then, sent_then, announced_as, announced_to, announced_at, announced_from, announced_if, Announces, agent_tells, reply_tells, delivery_tells, SideLaw}
+use Rattle.label_table.proofs.Owned.{set_at}
 use Rattle.target_laws.proofs.Answered.{answer_untold}
+use Rattle.target_laws.proofs.Made.{Made, made_keeps, judged_made}
+use Rattle.target_laws.proofs.Pass.{follows}
+use Rattle.target_laws.proofs.Framed as framed
 use Rattle.target_laws.proofs.Found.{IsRead, IsFound, found}
-use Rattle.target_laws.proofs.Quiet.{Tells, requests_in, failed_in, follows_in, asks_manager_in}
+use Rattle.target_laws.proofs.Quiet.{Tells, failed_in, follows_in, asks_manager_in}
 
 -- ---- plain sides behind others
 plain_more : (told : List Side) (side : Side) → ArePlain told → is_change side ≡ false → ArePlain (told ++ side ∷ [])
@@ -377,105 +387,6 @@ module _ (p : Packet) (bytes : List ℕ) where
   unfolding serving.request_step
   request_tells s e = request_if (is_barred s.node p) (judged.Ignored ignored.Login) judged.Got s e
 
--- ---- a reply to an agent
-record Noted (told : List Side) : Type 0 where
-  notes : List Side
-  last : AreLast notes told
-  only : AreAnnounced notes
-
-announced_more : (notes : List Side) (side : Side) → AreAnnounced notes → is_announced side ≡ true → AreAnnounced (notes ++ side ∷ [])
-announced_more [] side a e = (e, tt)
-announced_more (first ∷ notes) side a e = (a.0, announced_more notes side a.1 e)
-
-noted_more : (told : List Side) (side : Side) → is_announced side ≡ true → Noted told → Noted (told ++ side ∷ [])
-noted_more told side e n = record {
-  notes = n.notes ++ side ∷ [];
-  last = record {
-    before = n.last.before;
-    plain = n.last.plain;
-    told_is = ap (λ (t : List Side). t ++ side ∷ []) n.last.told_is ∙ append_assoc n.last.before n.notes (side ∷ []);
-  };
-  only = announced_more n.notes side n.only e;
-}
-
-plain_noted : (told : List Side) → ArePlain told → Noted told
-plain_noted told p = record { notes = []; last = record { before = told; plain = p; told_is = sym (append-nil told) }; only = tt }
-
-sent_noted : (place peer : ℕ) (node : NodeState) (r : Option LabelParts × (Layer Purpose × OutboxState)) → Noted r.1.1.sides → Noted (unsolicited_by place peer node r).outbox.sides
-sent_noted place peer node (Some label, (layer, outbox)) n = noted_more outbox.sides (sides.Unsolicited place) refl n
-sent_noted place peer node (None, (layer, outbox)) n = noted_more outbox.sides (sides.Unsent place) refl n
-
-noted_if : (b : Bool) (x y : Scene) → Noted x.outbox.sides → Noted y.outbox.sides → Noted (cond b x y).outbox.sides
-noted_if true x y n m = n
-noted_if false x y n m = m
-
-to_noted : (place : ℕ) (login : Login) (s : Scene) → Noted s.outbox.sides → Noted (announce_to place login s).outbox.sides
-unfolding announce_to
-to_noted place login s n =
-    let r = request_step s.node.layer s.outbox login.node (block_write login.fifo block) purposes.Unsolicited in
-    noted_if (is_pending login.node s.node.pending) (scene s.node (with_side s.outbox (sides.Unsent place))) (unsolicited_by place login.node s.node r)
-    (noted_more s.outbox.sides (sides.Unsent place) refl n)
-    (sent_noted place login.node s.node r (requests_in Noted s.node.layer s.outbox login.node (block_write login.fifo block) purposes.Unsolicited n))
-
-in_noted : (unit from place : ℕ) (login : Option Login) (s : Scene) → Noted s.outbox.sides → Noted (announce_in unit from place login s).outbox.sides
-in_noted unit from place None s n = n
-in_noted unit from place (Some login) s n = noted_if (hears unit from place (desk_at s.node place) login) (announce_to place login s) s (to_noted place login s n) n
-
-at_noted : (unit from place : ℕ) (s : Scene) → Noted s.outbox.sides → Noted (announce_at unit from place s).outbox.sides
-unfolding announce_at
-at_noted unit from place s n = in_noted unit from place (login_at s.node place) s n
-
-from_noted : (left place unit from : ℕ) (s : Scene) → Noted s.outbox.sides → Noted (announce_from left place unit from s).outbox.sides
-unfolding announce_from
-from_noted zero place unit from s n = n
-from_noted (suc left) place unit from s n = from_noted left (place + 1) unit from (announce_at unit from place s) (at_noted unit from place s n)
-
-no_truth : (b : Bool) → b ≡ false → b ≡ true → ⊥
-no_truth true e f = cc
-no_truth false e f = cc
-
-announces_by : (b : Bool) (unit place : ℕ) (s : Scene) → ArePlain s.outbox.sides → Announces b (announced_by b unit place s).outbox.sides
-announces_by false unit place s p =
-    record { notes = []; last = record { before = s.outbox.sides; plain = p; told_is = sym (append-nil s.outbox.sides) }; only = tt; none = λ e. refl }
-announces_by true unit place s p =
-    let n = from_noted 8 0 unit place s (plain_noted s.outbox.sides p) in
-    record { notes = n.notes; last = n.last; only = n.only; none = λ e. absurd (no_truth true e refl) }
-
-follow_tells : (b : Bool) (place : ℕ) (login : Login) (step : AgentStep) (s : Scene) → ArePlain s.outbox.sides → Announces b (follow_all b place login step s).outbox.sides
-unfolding follow_all
-follow_tells b place login step s p =
-    let t = scene (changed_by b login.unit place s.node) s.outbox in
-    announces_by b login.unit place (follow place login step t) (follows_in ArePlain plain_tells place login step t p)
-
-plain_none : (told : List Side) → told ≡ [] → ArePlain told
-plain_none [] e = tt
-plain_none (side ∷ told) e = cc
-
-advanced_tells : (place : ℕ) (login : Login) (r : AgentStep × Stage) (w : Whole) → w.outbox.sides ≡ [] → agent_tells (Some login) w.disks (advanced_with place login r w).disks (advanced_with place login r w).outbox.sides
-advanced_tells place login (step, st) w e =
-    follow_tells (came (disk_at w.disks login.unit) (disk_at st.disks login.unit)) place login step (scene st.node w.outbox) (plain_none w.outbox.sides e)
-
-advance_tells : (told : Option Told) (place : ℕ) (login : Login) (which : Which) (answer : Answer) (w : Whole) → w.outbox.sides ≡ [] → agent_tells (Some login) w.disks (advance told place login which answer w).disks (advance told place login which answer w).outbox.sides
-unfolding advance
-advance_tells told place login which answer w e = advanced_tells place login (replied told place login.unit which answer (stage w.node w.disks)) w e
-
-replies_tell : (told : Option Told) (place : ℕ) (answer : Answer) (login : Option Login) (which : Option Which) (w : Whole) → w.outbox.sides ≡ [] → agent_tells login w.disks (replied_by told place answer login which w).disks (replied_by told place answer login which w).outbox.sides
-replies_tell told place answer (Some login) (Some which) w e = advance_tells told place login which answer w e
-replies_tell told place answer None which w e = e
-replies_tell told place answer (Some login) None w e =
-    record { notes = []; last = record { before = []; plain = tt; told_is = e }; only = tt; none = λ f. refl }
-
-reply_tells_to : (told : Option Told) (place peer : ℕ) (label : LabelParts) (answer : Answer) (w : Whole) → w.outbox.sides ≡ [] → agent_tells (served_login w.node place) w.disks (replied_to told place peer label answer w).disks (replied_to told place peer label answer w).outbox.sides
-unfolding replied_to
-reply_tells_to told place peer label answer w e = replies_tell told place answer (served_login w.node place) (which_in (desk_at w.node place) peer label) w e
-
-concluded_tells : (told : Option Told) (purpose : Option Purpose) (peer : ℕ) (label : LabelParts) (answer : Answer) (w : Whole) → w.outbox.sides ≡ [] → reply_tells purpose answer w.node w.disks (concluded told purpose peer label answer w).disks (concluded told purpose peer label answer w).outbox.sides
-unfolding concluded
-concluded_tells told None peer label answer w e = e
-concluded_tells told (Some (purposes.Agent place)) peer label answer w e = reply_tells_to told place peer label answer w e
-concluded_tells told (Some purposes.Management) peer label answer w e = operation_tells_all answer (scene_of w) e
-concluded_tells told (Some purposes.Unsolicited) peer label answer w e = e
-
 -- ---- a delivery: what it says is read off the target before its transaction was closed
 same_effect : (effect : Effect) (subject : ℕ) (node : NodeState) (layer : Layer Purpose) (r : management.Machine × Table) → effect_changes effect subject (with_manager (record node { layer = layer }) r) ≡ effect_changes effect subject (with_manager node r)
 same_effect effects.Nothing subject node layer (m, t) = refl
@@ -499,39 +410,253 @@ same_operation : (source : Option ℕ) (answer : Answer) (node : NodeState) (lay
 same_operation None answer node layer told h = h
 same_operation (Some source) answer node layer told h = same_step (management.reply_step node.manager node.logins node.keys answer) node layer told h
 
-same_reply : (purpose : Option Purpose) (answer : Answer) (node : NodeState) (layer : Layer Purpose) (disks left : List Disk) (told : List Side) → reply_tells purpose answer (record node { layer = layer }) disks left told → reply_tells purpose answer node disks left told
-same_reply None answer node layer disks left told h = h
-same_reply (Some (purposes.Agent place)) answer node layer disks left told h = h
-same_reply (Some purposes.Management) answer node layer disks left told h = same_operation (management.source_in node.manager.operation) answer node layer told h
-same_reply (Some purposes.Unsolicited) answer node layer disks left told h = h
+-- ---- a reply to an agent
+-- what a disc's announcement reads is as before
+record Apart (before now : NodeState) : Type 0 where
+  logins : now.logins ≡ before.logins
+  pending : now.pending ≡ before.pending
+  enabled : (place : ℕ) → (desk_at now place).is_enabled ≡ (desk_at before place).is_enabled
 
-abbrev TellsAs : Option Told → List ℕ → Finding Purpose → NodeState → List Disk → Layer Purpose → Type 0
-TellsAs told bytes f node disks layer =
-    delivery_tells f node disks (received_as told bytes f (with_layer layer (whole (scene node empty_outbox) disks))).1.disks (received_as told bytes f (with_layer layer (whole (scene node empty_outbox) disks))).1.outbox.sides
+picked : (b : Bool) (d e : Desk) (x : Bool) → d.is_enabled ≡ x → e.is_enabled ≡ x → (cond b d e).is_enabled ≡ x
+picked true d e x f g = f
+picked false d e x f g = g
 
-request_told : (told : Option Told) (bytes : List ℕ) (p : Packet) (node : NodeState) (disks : List Disk) → TellsAs told bytes (of_request p) node disks node.layer
-request_told told bytes p node disks =
+set_past_at : (desks : List Desk) (place other : ℕ) (d : Desk) → length desks ≤ place → slice_index_or (slice_set desks place d) other new_desk ≡ slice_index_or desks other new_desk
+set_past_at desks place other d h = ap (λ (ds : List Desk). slice_index_or ds other new_desk) (set_past desks place d h)
+
+desk_enabled_in : (b : Bool) (node : NodeState) (place other : ℕ) (d : Desk) → nat_lt place (length node.desks) ≡ b → d.is_enabled ≡ (desk_at node place).is_enabled → (desk_at (with_desk node place d) other).is_enabled ≡ (desk_at node other).is_enabled
+desk_enabled_in true node place other d i e =
+    let below : place < length node.desks = grind (arith, nat_tests) in
+    ap (λ (x : Desk). x.is_enabled) (set_at node.desks place other d new_desk below)
+    ∙ same_place (nat_eq other place) refl
+  where
+    same_place : (c : Bool) → nat_eq other place ≡ c → (cond c d (desk_at node other)).is_enabled ≡ (desk_at node other).is_enabled
+    same_place true f = let same : other ≡ place = grind (arith, nat_tests) in e ∙ ap (λ (k : ℕ). (desk_at node k).is_enabled) (sym same)
+    same_place false f = refl
+desk_enabled_in false node place other d i e =
+    let beyond : length node.desks ≤ place = grind (arith, nat_tests) in ap (λ (x : Desk). x.is_enabled) (set_past_at node.desks place other d beyond)
+
+desk_enabled : (node : NodeState) (place other : ℕ) (d : Desk) → d.is_enabled ≡ (desk_at node place).is_enabled → (desk_at (with_desk node place d) other).is_enabled ≡ (desk_at node other).is_enabled
+desk_enabled node place other d e = desk_enabled_in (nat_lt place (length node.desks)) node place other d refl e
+
+keeps_apart : (before : NodeState) → framed.Keeps (Apart before)
+keeps_apart before = record {
+  layers = λ node layer h. record { logins = h.logins; pending = h.pending; enabled = h.enabled };
+  desks = λ node place d e h. record { logins = h.logins; pending = h.pending; enabled = λ other. desk_enabled node place other d e ∙ h.enabled other };
+}
+
+-- ---- what is announced, place by place
+record Tells_on (before : NodeState) (s : Scene) (from : ℕ) : Type 0 where
+  logins : s.node.logins ≡ before.logins
+  enabled : (place : ℕ) → from ≤ place → (desk_at s.node place).is_enabled ≡ (desk_at before place).is_enabled
+
+-- the sides and packets behind those of a scene are these
+record Adds (s t : Scene) (more : Announced) : Type 0 where
+  told_is : t.outbox.sides ≡ s.outbox.sides ++ more.0
+  packets_are : t.outbox.packets ≡ s.outbox.packets ++ more.1
+
+-- what was announced of a place, and what is told behind it
+record Announces_at (before : NodeState) (s t : Scene) (place : ℕ) (at : (Layer Purpose → List ℕ → Announced) → Announced) : Type 0 where
+  on : Tells_on before t (place + 1)
+  more : (u : Scene) (rest : Layer Purpose → List ℕ → Announced) → Adds t u (rest t.node.layer t.node.pending) → Adds s u (at rest)
+
+unsent_adds : (before : NodeState) (s : Scene) (place : ℕ) (layer : Layer Purpose) → Tells_on before s place → Announces_at before s (scene (record s.node { layer = layer }) (with_side s.outbox (sides.Unsent place))) place (λ rest. unsent_then place (rest layer s.node.pending))
+unsent_adds before s place layer o = record {
+  on = record { logins = o.logins; enabled = λ p b. o.enabled p (omega arith) };
+  more = λ u rest a. record {
+    told_is = a.told_is ∙ append_assoc s.outbox.sides (sides.Unsent place ∷ []) (rest layer s.node.pending).0;
+    packets_are = a.packets_are;
+  };
+}
+
+beside_place : (node : NodeState) (layer : Layer Purpose) (pending : List ℕ) (place other : ℕ) (d : Desk) → place < other → desk_at (record (with_desk node place d) { layer = layer; pending = pending }) other ≡ desk_at node other
+beside_place node layer pending place other d h = grind (arith, common_steps, set-get_or)
+
+sent_adds : (before : NodeState) (s : Scene) (place peer : ℕ) (r : Option Asked × Layer Purpose) → Tells_on before s place → Announces_at before s (unsolicited_by place peer s.node (sent_by r s.outbox peer)) place (λ rest. announced_as place peer s.node.pending rest r)
+sent_adds before s place peer (None, layer) o = unsent_adds before s place layer o
+sent_adds before s place peer (Some asked, layer) o = record {
+  on = record {
+    logins = o.logins;
+    enabled = λ p b. ap (λ (x : Desk). x.is_enabled) (beside_place s.node layer (s.node.pending ++ peer ∷ []) place p (record (desk_at s.node place) { is_enabled = false }) (omega arith)) ∙ o.enabled p (omega arith);
+  };
+  more = λ u rest a. record {
+    told_is = a.told_is ∙ append_assoc s.outbox.sides (sides.Unsolicited place ∷ []) (rest layer (s.node.pending ++ peer ∷ [])).0;
+    packets_are = a.packets_are ∙ append_assoc s.outbox.packets (request peer asked ∷ []) (rest layer (s.node.pending ++ peer ∷ [])).1;
+  };
+}
+
+announces_if : (before : NodeState) (s : Scene) (place : ℕ) (b : Bool) (x y : Scene) (f g : (Layer Purpose → List ℕ → Announced) → Announced) → Announces_at before s x place f → Announces_at before s y place g → Announces_at before s (cond b x y) place (λ rest. cond b (f rest) (g rest))
+announces_if before s place true x y f g h i = h
+announces_if before s place false x y f g h i = i
+
+to_adds : (before : NodeState) (s : Scene) (place : ℕ) (login : Login) → Tells_on before s place → Announces_at before s (announce_to place login s) place (λ rest. announced_to place login s.node.layer s.node.pending rest)
+unfolding announce_to request_step
+to_adds before s place login o =
+    let r = asking_step s.node.layer login.node (block_write login.fifo block) purposes.Unsolicited in
+    announces_if before s place (is_pending login.node s.node.pending) (scene s.node (with_side s.outbox (sides.Unsent place))) (unsolicited_by place login.node s.node (sent_by r s.outbox login.node))
+    (λ rest. unsent_then place (rest s.node.layer s.node.pending)) (λ rest. announced_as place login.node s.node.pending rest r)
+    (unsent_adds before s place s.node.layer o) (sent_adds before s place login.node r o)
+
+none_adds : (before : NodeState) (s : Scene) (place : ℕ) → Tells_on before s place → Announces_at before s s place (λ rest. rest s.node.layer s.node.pending)
+none_adds before s place o = record {
+  on = record { logins = o.logins; enabled = λ p b. o.enabled p (omega arith) };
+  more = λ u rest a. a;
+}
+
+hears_by : (unit from place : ℕ) (login : Login) (d e : Desk) → d.is_enabled ≡ e.is_enabled → hears unit from place d login ≡ hears unit from place e login
+hears_by unit from place login d e h = ap (λ (x : Bool). login.unit == unit && (is_live login && (not (place == from) && x))) h
+
+in_adds : (unit from : ℕ) (before : NodeState) (s : Scene) (place : ℕ) (login : Option Login) → Tells_on before s place → Announces_at before s (announce_in unit from place login s) place (λ rest. announced_at unit from place (desk_at before place) login s.node.layer s.node.pending rest)
+in_adds unit from before s place None o = none_adds before s place o
+in_adds unit from before s place (Some login) o =
+    subst (λ (b : Bool). Announces_at before s (announce_in unit from place (Some login) s) place (λ rest. cond b (announced_to place login s.node.layer s.node.pending rest) (rest s.node.layer s.node.pending)))
+    (hears_by unit from place login (desk_at s.node place) (desk_at before place) (o.enabled place (omega arith)))
+    (announces_if before s place (hears unit from place (desk_at s.node place) login) (announce_to place login s) s
+    (λ rest. announced_to place login s.node.layer s.node.pending rest) (λ rest. rest s.node.layer s.node.pending)
+    (to_adds before s place login o) (none_adds before s place o))
+
+at_adds : (unit from : ℕ) (before : NodeState) (s : Scene) (place : ℕ) → Tells_on before s place → Announces_at before s (announce_at unit from place s) place (λ rest. announced_at unit from place (desk_at before place) (login_at before place) s.node.layer s.node.pending rest)
+unfolding announce_at
+at_adds unit from before s place o =
+    subst (λ (t : Table). Announces_at before s (announce_in unit from place (login_at s.node place) s) place (λ rest. announced_at unit from place (desk_at before place) (place_at t.places place) s.node.layer s.node.pending rest)) o.logins
+    (in_adds unit from before s place (login_at s.node place) o)
+
+from_adds : (left place unit from : ℕ) (before : NodeState) (s : Scene) → Tells_on before s place → Adds s (announce_from left place unit from s) (announced_from left place unit from before s.node.layer s.node.pending)
+unfolding announce_from
+from_adds zero place unit from before s o = record { told_is = sym (append-nil s.outbox.sides); packets_are = sym (append-nil s.outbox.packets) }
+from_adds (suc left) place unit from before s o =
+    let t = announce_at unit from place s in
+    let a = at_adds unit from before s place o in
+    a.more (announce_from left (place + 1) unit from t) (announced_from left (place + 1) unit from before) (from_adds left (place + 1) unit from before t a.on)
+
+-- behind a step of the agent, with the steps of the layer so far
+record Ready (node : NodeState) (first : List (wire.Call Purpose)) (s : Scene) : Type 0 where
+  made : Made false first node.layer [] s.node.layer s.outbox.packets
+  plain : ArePlain s.outbox.sides
+  apart : Apart node s.node
+
+announces_ready : (b : Bool) (unit place : ℕ) (node : NodeState) (first : List (wire.Call Purpose)) (s : Scene) → Ready node first s → Announces b unit place node first (announced_by b unit place s).outbox
+announces_ready false unit place node first s r = record {
+  steps = r.made.steps;
+  order = r.made.order;
+  told = record { before = s.outbox.sides; plain = r.plain; told_is = sym (append-nil s.outbox.sides) };
+  packets_are = r.made.packets_are ∙ sym (append-nil (packets_of node.layer (r.made.steps ++ first)));
+}
+announces_ready true unit place node first s r =
+    let a = from_adds 8 0 unit place node s (record { logins = r.apart.logins; enabled = λ p b. r.apart.enabled p }) in
+    let is : announced_from 8 0 unit place node s.node.layer s.node.pending ≡ announced_from 8 0 unit place node (layer_after node.layer (r.made.steps ++ first)) node.pending =
+    ap (λ (l : Layer Purpose). announced_from 8 0 unit place node l s.node.pending) (sym r.made.layer_is) ∙ ap (λ (p : List ℕ). announced_from 8 0 unit place node (layer_after node.layer (r.made.steps ++ first)) p) r.apart.pending in
+    record {
+      steps = r.made.steps;
+      order = r.made.order;
+      told = record { before = s.outbox.sides; plain = r.plain; told_is = a.told_is ∙ ap (λ (x : Announced). s.outbox.sides ++ x.0) is };
+      packets_are = a.packets_are ∙ ap (λ (x : Announced). s.outbox.packets ++ x.1) is
+          ∙ ap (λ (ps : List Outgoing). ps ++ (announced_from 8 0 unit place node (layer_after node.layer (r.made.steps ++ first)) node.pending).1) r.made.packets_are;
+    }
+
+plain_none : (told : List Side) → told ≡ [] → ArePlain told
+plain_none [] e = tt
+plain_none (side ∷ told) e = cc
+
+changed_ready : (b : Bool) (unit place : ℕ) (node : NodeState) (first : List (wire.Call Purpose)) (s : Scene) → Ready node first s → Ready node first (scene (changed_by b unit place s.node) s.outbox)
+changed_ready false unit place node first s r = r
+changed_ready true unit place node first s r = record {
+  made = r.made;
+  plain = r.plain;
+  apart = record { logins = r.apart.logins; pending = r.apart.pending; enabled = r.apart.enabled };
+}
+
+follow_ready : (place : ℕ) (login : Login) (step : AgentStep) (node : NodeState) (first : List (wire.Call Purpose)) (s : Scene) → Ready node first s → Ready node first (follow place login step s)
+follow_ready place login step node first s r = record {
+  made = follows (Made false first node.layer []) (made_keeps first node.layer []) place login step s r.made;
+  plain = follows_in ArePlain plain_tells place login step s r.plain;
+  apart = framed.follows_at (Apart node) (keeps_apart node) place login step s r.apart;
+}
+
+follow_tells : (b : Bool) (place : ℕ) (login : Login) (step : AgentStep) (node : NodeState) (first : List (wire.Call Purpose)) (s : Scene) → Ready node first s → Announces b login.unit place node first (follow_all b place login step s).outbox
+unfolding follow_all
+follow_tells b place login step node first s r =
+    let t = scene (changed_by b login.unit place s.node) s.outbox in
+    announces_ready b login.unit place node first (follow place login step t) (follow_ready place login step node first t (changed_ready b login.unit place node first s r))
+
+advanced_tells : (place : ℕ) (login : Login) (r : AgentStep × Stage) (node : NodeState) (first : List (wire.Call Purpose)) (w : Whole) → Ready node first (scene r.1.node w.outbox) → Announces (came (disk_at w.disks login.unit) (disk_at (advanced_with place login r w).disks login.unit)) login.unit place node first (advanced_with place login r w).outbox
+advanced_tells place login (step, st) node first w r =
+    follow_tells (came (disk_at w.disks login.unit) (disk_at st.disks login.unit)) place login step node first (scene st.node w.outbox) r
+
+replied_ready : (told : Option Told) (place unit : ℕ) (which : Which) (r : AgentStep × Machine) (node : NodeState) (first : List (wire.Call Purpose)) (w : Whole) → Ready node first (scene_of w) → Ready node first (scene (replied_with place unit which r (stage w.node w.disks)).1.node w.outbox)
+replied_ready told place unit which (step, m) node first w r = record {
+  made = r.made;
+  plain = r.plain;
+  apart =
+      let d = record (taken which (desk_at w.node place)) { agent = m } in
+      let h = (keeps_apart node).desks w.node place d (taken_enabled which (desk_at w.node place)) r.apart in
+      record { logins = h.logins; pending = h.pending; enabled = h.enabled };
+}
+  where
+    taken_enabled : (which : Which) (d : Desk) → (taken which d).is_enabled ≡ d.is_enabled
+    taken_enabled Main d = refl
+    taken_enabled Ahead d = refl
+
+advance_tells : (told : Option Told) (place : ℕ) (login : Login) (which : Which) (answer : Answer) (node : NodeState) (first : List (wire.Call Purpose)) (w : Whole) → Ready node first (scene_of w) → agent_tells (Some login) place node first w.disks (advance told place login which answer w).disks (advance told place login which answer w).outbox
+unfolding advance replied
+advance_tells told place login which answer node first w r =
+    let st = stage w.node w.disks in
+    let s = reply_step (desk_at w.node place).agent place (plain_at st login.unit) told which answer in
+    advanced_tells place login (replied_with place login.unit which s st) node first w (replied_ready told place login.unit which s node first w r)
+
+none_came : (d : Disk) → came d d ≡ false
+none_came d = by d.is_present
+  where
+    by : (b : Bool) → (not b && b) ≡ false
+    by true = refl
+    by false = refl
+
+replies_tell : (told : Option Told) (place : ℕ) (answer : Answer) (login : Option Login) (which : Option Which) (node : NodeState) (first : List (wire.Call Purpose)) (w : Whole) → w.outbox.sides ≡ [] → Ready node first (scene_of w) → agent_tells login place node first w.disks (replied_by told place answer login which w).disks (replied_by told place answer login which w).outbox
+replies_tell told place answer (Some login) (Some which) node first w e r = advance_tells told place login which answer node first w r
+replies_tell told place answer None which node first w e r = e
+replies_tell told place answer (Some login) None node first w e r =
+    subst (λ (b : Bool). Announces b login.unit place node first w.outbox) (sym (none_came (disk_at w.disks login.unit))) (announces_ready false login.unit place node first (scene_of w) r)
+
+reply_tells_to : (told : Option Told) (place peer : ℕ) (label : LabelParts) (answer : Answer) (node : NodeState) (first : List (wire.Call Purpose)) (w : Whole) → w.outbox.sides ≡ [] → Ready node first (scene_of w) → agent_tells (served_login w.node place) place node first w.disks (replied_to told place peer label answer w).disks (replied_to told place peer label answer w).outbox
+unfolding replied_to
+reply_tells_to told place peer label answer node first w e r = replies_tell told place answer (served_login w.node place) (which_in (desk_at w.node place) peer label) node first w e r
+
+concluded_tells : (told : Option Told) (purpose : Option Purpose) (peer : ℕ) (label : LabelParts) (answer : Answer) (node : NodeState) (first : List (wire.Call Purpose)) (disks : List Disk) (layer : Layer Purpose) → Made false first node.layer [] layer [] → let c = concluded told purpose peer label answer (whole (scene (record node { layer = layer }) empty_outbox) disks) in reply_tells purpose answer node first disks c.disks c.outbox
+unfolding concluded
+concluded_tells told None peer label answer node first disks layer m = refl
+concluded_tells told (Some (purposes.Agent place)) peer label answer node first disks layer m =
+    reply_tells_to told place peer label answer node first (whole (scene (record node { layer = layer }) empty_outbox) disks) refl
+    (record { made = m; plain = tt; apart = record { logins = refl; pending = refl; enabled = λ p. refl } })
+concluded_tells told (Some purposes.Management) peer label answer node first disks layer m =
+    let s = scene (record node { layer = layer }) empty_outbox in
+    same_operation (management.source_in node.manager.operation) answer node layer (manage answer s).outbox.sides (operation_tells_all answer s refl)
+concluded_tells told (Some purposes.Unsolicited) peer label answer node first disks layer m = refl
+
+abbrev TellsAs : Option Told → List ℕ → List (wire.Call Purpose) → Finding Purpose → NodeState → List Disk → Layer Purpose → Type 0
+TellsAs told bytes first f node disks layer =
+    delivery_tells f node first disks (received_as told bytes f (with_layer layer (whole (scene node empty_outbox) disks))).1.disks (received_as told bytes f (with_layer layer (whole (scene node empty_outbox) disks))).1.outbox
+
+request_told : (told : Option Told) (bytes : List ℕ) (first : List (wire.Call Purpose)) (p : Packet) (node : NodeState) (disks : List Disk) → TellsAs told bytes first (of_request p) node disks node.layer
+request_told told bytes first p node disks =
     judged_told (serving.request_step p bytes (scene node empty_outbox)) (request_tells p bytes (scene node empty_outbox) refl)
   where
     judged_told : (r : Judged × Scene) → AreFirst (request_changes (is_barred node p) p node) r.1.outbox.sides → AreFirst (request_changes (is_barred node p) p node) (judged_scene r (whole (scene node empty_outbox) disks)).1.outbox.sides
     judged_told (judged, s) h = h
 
-found_tells : (told : Option Told) (bytes : List ℕ) (f : Finding Purpose) (node : NodeState) (disks : List Disk) (layer : Layer Purpose) → IsFound f node.layer layer bytes → TellsAs told bytes f node disks layer
-found_tells told bytes of_generation node disks layer f = refl
-found_tells told bytes of_grammar node disks layer f = refl
-found_tells told bytes of_label node disks layer f = refl
-found_tells told bytes (of_response p label purpose) node disks layer f =
-    let w = with_layer layer (whole (scene node empty_outbox) disks) in
-    let c = concluded told purpose (header_in p).source label (answer_in p) w in
-    same_reply purpose (answer_in p) node layer disks c.disks c.outbox.sides (concluded_tells told purpose (header_in p).source label (answer_in p) w refl)
-found_tells told bytes (of_again p rcode) node disks layer f = answer_untold p bytes rcode [] (scene (record node { layer = layer }) empty_outbox)
-found_tells told bytes (of_request p) node disks layer f =
-    subst (λ (l : Layer Purpose). TellsAs told bytes (of_request p) node disks l) (sym f.0) (request_told told bytes p node disks)
+found_tells : (told : Option Told) (bytes : List ℕ) (first : List (wire.Call Purpose)) (f : Finding Purpose) (node : NodeState) (disks : List Disk) (layer : Layer Purpose) → Made false first node.layer [] layer [] → IsFound f node.layer layer bytes → TellsAs told bytes first f node disks layer
+found_tells told bytes first of_generation node disks layer m f = refl
+found_tells told bytes first of_grammar node disks layer m f = refl
+found_tells told bytes first of_label node disks layer m f = refl
+found_tells told bytes first (of_response p label purpose) node disks layer m f = concluded_tells told purpose (header_in p).source label (answer_in p) node first disks layer m
+found_tells told bytes first (of_again p rcode) node disks layer m f = answer_untold p bytes rcode [] (scene (record node { layer = layer }) empty_outbox)
+found_tells told bytes first (of_request p) node disks layer m f =
+    subst (λ (l : Layer Purpose). TellsAs told bytes first (of_request p) node disks l) (sym f.0) (request_told told bytes first p node disks)
 
-deliveries_tell : (told : Option Told) (disks : List Disk) (generation : ℕ) (bytes : List ℕ) (node : NodeState) → delivery_tells (judging_step node.layer generation bytes).0 node disks (received told generation bytes (whole (scene node empty_outbox) disks)).1.disks (received told generation bytes (whole (scene node empty_outbox) disks)).1.outbox.sides
+deliveries_tell : (told : Option Told) (disks : List Disk) (generation : ℕ) (bytes : List ℕ) (node : NodeState) → delivery_tells (judging_step node.layer generation bytes).0 node (first_of (receives told disks generation bytes)) disks (received told generation bytes (whole (scene node empty_outbox) disks)).1.disks (received told generation bytes (whole (scene node empty_outbox) disks)).1.outbox
 unfolding received
 deliveries_tell told disks generation bytes node =
-    found_tells told bytes (judging_step node.layer generation bytes).0 node disks (judging_step node.layer generation bytes).1 (found node.layer generation bytes)
+    found_tells told bytes (wire.judges generation bytes ∷ []) (judging_step node.layer generation bytes).0 node disks (judging_step node.layer generation bytes).1
+    (judged_made node.layer generation bytes) (found node.layer generation bytes)
 
 -- ---- a time-out: no operation is decided by one
 undecided_in : (operation : Option Operation) (m : management.Machine) (table : Table) (keys : List (List ℕ)) → (management.reply_to operation m table keys Expired).0.decided ≡ None

@@ -2,15 +2,20 @@
 -- agents, access, task management, unsolicited status), by what the target was before the call. A list is cut at a reset that is seen, at an
 -- AGENT_RESET, and by the functions of its login or its unit: one cut for each agent in question that is not in RESET, by rising
 -- place. A reset holds each live login, behind the cuts; a second ends each held login whose last it was, by rising place. A
--- decision has its effects before it: cuts, then `cleared`, `back` or `left`. A pointer that is taken opens a list. An unsolicited
--- status is told of in the delivery in which a disc came into a tray, behind all else that it tells. Nothing of this is told
--- anywhere else.
+-- decision has its effects before it: cuts, then `cleared`, `back` or `left`. A pointer that is taken opens a list. In the
+-- delivery in which a disc came into a tray each other live login of the unit whose register is enabled has one note, by rising
+-- place, behind all else that is told: it is sent an unsolicited status behind all other packets, or its write found no label,
+-- or an earlier one to its node is under way or its label rests. Nothing of this is told anywhere else.
 use Rattle.std.specs.Prelude.{◌≡◌, ℕ, zero, suc, ◌+◌, ◌==◌, nat_lt, Bool, true, false, if◌then◌else◌, List, [], ◌∷◌, ◌++◌, length, map, Option, Some, None}
 use Rattle.async_packet.specs.Labels.{LabelParts}
 use Rattle.async_packet.specs.Packet.{Packet}
-use Rattle.label_table.specs.Layer.{Finding, of_response, of_request, judging_step}
+use Rattle.label_table.specs.declared.judgement.Asked.{Asked}
+use Rattle.label_table.specs.Bodies.{block_write}
+use Rattle.label_table.specs.Layer.{Layer, Finding, of_response, of_request, asking_step, judging_step}
+use Rattle.label_table.specs.History as wire
 use Rattle.login_table.specs.declared.login.Login.{Login}
 use Rattle.login_table.specs.Table.{Table, is_live, place_at, expired_ids}
+use Rattle.media_bay.specs.Unsolicited.{block}
 use Rattle.orb_layout.specs.declared.pointer.OrbPointer.{OrbPointer}
 use Rattle.orb_layout.specs.declared.pointer.OrbPointer.TheVariants as pointers
 use Rattle.orb_layout.specs.Replies.{Answer}
@@ -28,10 +33,12 @@ use Rattle.sbp_journal.specs.declared.cause.CutCause.{CutCause}
 use Rattle.sbp_journal.specs.declared.cause.CutCause.TheVariants as cuts
 use Rattle.sbp_journal.specs.declared.side.Side.{Side}
 use Rattle.sbp_journal.specs.declared.side.Side.TheVariants as sides
-use Rattle.sbp_journal.specs.Outgoings.{empty_outbox}
+use Rattle.sbp_journal.specs.declared.outbox.Outgoing.{Outgoing}
+use Rattle.sbp_journal.specs.Outgoings.{OutboxState, empty_outbox}
 use Rattle.sbp_target.specs.declared.address.Access.TheVariants as accesses
 use Rattle.sbp_target.specs.declared.address.Demand.{Demand}
 use Rattle.sbp_target.specs.declared.address.Demand.TheVariants as demands
+use Rattle.sbp_target.specs.declared.desk.Desk.{Desk}
 use Rattle.sbp_target.specs.declared.purpose.Purpose.{Purpose}
 use Rattle.sbp_target.specs.declared.purpose.Purpose.TheVariants as purposes
 use Rattle.sbp_target.specs.Addresses.{demand_of}
@@ -39,8 +46,10 @@ use Rattle.sbp_target.specs.Nodes.{NodeState, scene, desk_at, login_at}
 use Rattle.sbp_target.specs.Management.{with_manager}
 use Rattle.sbp_target.specs.Replies.{whole, came, served_login}
 use Rattle.sbp_target.specs.Serving.{is_barred}
+use Rattle.sbp_target.specs.Units.{hears, is_pending}
 use Rattle.sbp_target.specs.Receiving.{answer_in, received}
-use Rattle.target_laws.specs.Calls.{lets_expire, sees, ticks, sets_key, alone}
+use Rattle.target_laws.specs.Calls.{receives, lets_expire, sees, ticks, sets_key, alone}
+use Rattle.target_laws.specs.Layers.{InOrder, first_of, layer_after, packets_of, request}
 
 -- what the law is of, and what it is not of
 abbrev pub is_change : Side → Bool
@@ -159,41 +168,72 @@ abbrev pub request_changes : Bool → Packet → NodeState → List Side
 request_changes true p node = []
 request_changes false p node = demand_changes (demand_of (length node.rom) p) node
 
--- notes of unsolicited statuses
-abbrev pub is_announced : Side → Bool
-is_announced (sides.Unsolicited place) = true
-is_announced (sides.Unsent place) = true
-is_announced _ = false
+-- ---- unsolicited statuses: what is told of them, and their packets
+abbrev pub Announced : Type 0
+Announced = List Side × List Outgoing
 
-abbrev pub AreAnnounced : List Side → Type 0
-AreAnnounced [] = Unit {0}
-AreAnnounced (side ∷ told) = (is_announced side ≡ true) × AreAnnounced told
+abbrev pub unsent_then : ℕ → Announced → Announced
+unsent_then place rest = (sides.Unsent place ∷ rest.0, rest.1)
 
--- they come last, and none where no disc came into the tray
-pub record Announces (disc_came : Bool) (told : List Side) : Type 0 where
-  pub notes : List Side
-  pub last : AreLast notes told
-  pub only : AreAnnounced notes
-  pub none : disc_came ≡ false → notes ≡ []
+abbrev pub sent_then : ℕ → ℕ → Asked → Announced → Announced
+sent_then place peer asked rest = (sides.Unsolicited place ∷ rest.0, request peer asked ∷ rest.1)
 
-abbrev pub agent_tells : Option Login → List Disk → List Disk → List Side → Type 0
-agent_tells None disks left told = told ≡ []
-agent_tells (Some login) disks left told = Announces (came (disk_at disks login.unit) (disk_at left login.unit)) told
+-- the write to the login's FIFO leaves where it finds a label; its node has one under way from then on
+abbrev pub announced_as : ℕ → ℕ → List ℕ → (Layer Purpose → List ℕ → Announced) → Option Asked × Layer Purpose → Announced
+announced_as place peer pending more (Some asked, layer) = sent_then place peer asked (more layer (pending ++ peer ∷ []))
+announced_as place peer pending more (None, layer) = unsent_then place (more layer pending)
 
-abbrev pub reply_tells : Option Purpose → Answer → NodeState → List Disk → List Disk → List Side → Type 0
-reply_tells (Some (purposes.Agent place)) answer node disks left told = agent_tells (served_login node place) disks left told
-reply_tells (Some purposes.Management) answer node disks left told = operation_tells (management.source_in node.manager.operation) answer node told
-reply_tells (Some purposes.Unsolicited) answer node disks left told = told ≡ []
-reply_tells None answer node disks left told = told ≡ []
+-- one that is under way to the node, or whose label rests, keeps another from being sent
+abbrev pub announced_to : ℕ → Login → Layer Purpose → List ℕ → (Layer Purpose → List ℕ → Announced) → Announced
+announced_to place login layer pending more =
+    if is_pending login.node pending
+    then unsent_then place (more layer pending)
+    else announced_as place login.node pending more (asking_step layer login.node (block_write login.fifo block) purposes.Unsolicited)
 
-abbrev pub delivery_tells : Finding Purpose → NodeState → List Disk → List Disk → List Side → Type 0
-delivery_tells (of_response p label purpose) node disks left told = reply_tells purpose (answer_in p) node disks left told
-delivery_tells (of_request p) node disks left told = AreFirst (request_changes (is_barred node p) p node) told
-delivery_tells _ node disks left told = told ≡ []
+-- another live login of the unit whose register is enabled hears of the disc
+abbrev pub announced_at : ℕ → ℕ → ℕ → Desk → Option Login → Layer Purpose → List ℕ → (Layer Purpose → List ℕ → Announced) → Announced
+announced_at unit from place desk None layer pending more = more layer pending
+announced_at unit from place desk (Some login) layer pending more =
+    if hears unit from place desk login then announced_to place login layer pending more else more layer pending
+
+-- so many places from one on, by rising place
+abbrev pub announced_from : ℕ → ℕ → ℕ → ℕ → NodeState → Layer Purpose → List ℕ → Announced
+announced_from zero place unit from node layer pending = ([], [])
+announced_from (suc left) place unit from node layer pending =
+    announced_at unit from place (desk_at node place) (login_at node place) layer pending (announced_from left (place + 1) unit from node)
+
+-- only where a disc came into the tray of the unit, in this delivery to the agent of a place
+abbrev pub announced_if : Bool → ℕ → ℕ → NodeState → Layer Purpose → Announced
+announced_if false unit from node layer = ([], [])
+announced_if true unit from node layer = announced_from 8 0 unit from node layer node.pending
+
+-- All else is told before, and sent before; the labels are those behind the delivery's other steps.
+pub record Announces (disc_came : Bool) (unit from : ℕ) (node : NodeState) (first : List (wire.Call Purpose)) (outbox : OutboxState) : Type 0 where
+  pub steps : List (wire.Call Purpose)
+  pub order : InOrder steps
+  pub told : AreLast (announced_if disc_came unit from node (layer_after node.layer (steps ++ first))).0 outbox.sides
+  pub packets_are : outbox.packets ≡ packets_of node.layer (steps ++ first) ++ (announced_if disc_came unit from node (layer_after node.layer (steps ++ first))).1
+
+abbrev pub agent_tells : Option Login → ℕ → NodeState → List (wire.Call Purpose) → List Disk → List Disk → OutboxState → Type 0
+agent_tells None place node first disks left outbox = outbox.sides ≡ []
+agent_tells (Some login) place node first disks left outbox =
+    Announces (came (disk_at disks login.unit) (disk_at left login.unit)) login.unit place node first outbox
+
+abbrev pub reply_tells : Option Purpose → Answer → NodeState → List (wire.Call Purpose) → List Disk → List Disk → OutboxState → Type 0
+reply_tells (Some (purposes.Agent place)) answer node first disks left outbox = agent_tells (served_login node place) place node first disks left outbox
+reply_tells (Some purposes.Management) answer node first disks left outbox =
+    operation_tells (management.source_in node.manager.operation) answer node outbox.sides
+reply_tells (Some purposes.Unsolicited) answer node first disks left outbox = outbox.sides ≡ []
+reply_tells None answer node first disks left outbox = outbox.sides ≡ []
+
+abbrev pub delivery_tells : Finding Purpose → NodeState → List (wire.Call Purpose) → List Disk → List Disk → OutboxState → Type 0
+delivery_tells (of_response p label purpose) node first disks left outbox = reply_tells purpose (answer_in p) node first disks left outbox
+delivery_tells (of_request p) node first disks left outbox = AreFirst (request_changes (is_barred node p) p node) outbox.sides
+delivery_tells _ node first disks left outbox = outbox.sides ≡ []
 
 -- of each call of any target, by what it is before
 pub record SideLaw : Type 0 where
-  pub deliveries : (told : Option Told) (disks : List Disk) (generation : ℕ) (bytes : List ℕ) (node : NodeState) → delivery_tells (judging_step node.layer generation bytes).0 node disks (received told generation bytes (whole (scene node empty_outbox) disks)).1.disks (received told generation bytes (whole (scene node empty_outbox) disks)).1.outbox.sides
+  pub deliveries : (told : Option Told) (disks : List Disk) (generation : ℕ) (bytes : List ℕ) (node : NodeState) → delivery_tells (judging_step node.layer generation bytes).0 node (first_of (receives told disks generation bytes)) disks (received told generation bytes (whole (scene node empty_outbox) disks)).1.disks (received told generation bytes (whole (scene node empty_outbox) disks)).1.outbox
   pub expiries : (peer : ℕ) (label : LabelParts) (node : NodeState) → ArePlain (alone (lets_expire peer label) node).outbox.sides
   pub sights : (generation id : ℕ) (node : NodeState) → (alone (sees generation id) node).outbox.sides ≡ (if nat_lt node.layer.generation generation then reset_changes node else [])
   pub seconds : (node : NodeState) → (alone ticks node).outbox.sides ≡ map (λ login. sides.Expired login) (expired_ids node.logins.places)

@@ -1,0 +1,133 @@
+-- What is kept by another layer and by another desk of a place with the same register for unsolicited status is kept by all
+-- that follows a step of an agent.
+use Rattle.std.proofs.Common.{◌≡◌, refl, ℕ, zero, suc, ◌+◌, ◌==◌, ◌&&◌, nat_lt, nat_le, is_some, Bool, true, false, cond, List, [], ◌∷◌, ◌++◌, length, slice_index_or, Option, Some, None, Result, Ok, Err}
+use Rattle.async_packet.specs.Labels.{LabelParts}
+use Rattle.async_packet.specs.Packet.{Packet, header_in}
+use Rattle.label_table.specs.declared.judgement.Asked.{Asked}
+use Rattle.label_table.specs.declared.reply.Stale.{Stale}
+use Rattle.label_table.specs.Bodies.{Body, block_write}
+use Rattle.label_table.specs.Layer.{Layer, asking_step, answering_step, disowning_step, free_labels}
+use Rattle.login_table.specs.declared.login.Login.{Login}
+use Rattle.login_table.specs.Table.{Table, is_live, place_at}
+use Rattle.media_bay.specs.Unsolicited.{block}
+use Rattle.orb_layout.specs.declared.ask.Ask.{Ask}
+use Rattle.orb_layout.specs.declared.ask.FailCause.{FailCause}
+use Rattle.orb_layout.specs.declared.ask.FailCause.TheVariants as causes
+use Rattle.orb_layout.specs.declared.status.StatusKind.{StatusKind}
+use Rattle.orb_layout.specs.Replies.{Answer, NoLabel, Expired}
+use Rattle.rbc_disk.specs.declared.command.Outcome.{Outcome}
+use Rattle.rbc_disk.specs.Disk.{disk_at}
+use Rattle.rbc_disk.specs.Runs.{Told}
+use Rattle.command_agent.specs.declared.step.AgentStep.{AgentStep}
+use Rattle.command_agent.specs.declared.step.Which.{Which}
+use Rattle.command_agent.specs.declared.step.Which.TheVariants.{Main, Ahead}
+use Rattle.command_agent.specs.Machine.{Machine, is_under_way, state_in}
+use Rattle.command_agent.specs.Steps.{lost_step, is_reset}
+use Rattle.mgmt_agent.specs.declared.decision.Decision.{Decision}
+use Rattle.mgmt_agent.specs.declared.decision.Effect.{Effect}
+use Rattle.mgmt_agent.specs.declared.decision.Effect.TheVariants as effects
+use Rattle.mgmt_agent.specs.declared.decision.ManagerStep.{ManagerStep}
+use Rattle.mgmt_agent.specs.Machine as management
+use Rattle.sbp_journal.specs.declared.cause.CutCause.{CutCause}
+use Rattle.sbp_journal.specs.declared.cause.CutCause.TheVariants as cuts
+use Rattle.sbp_journal.specs.declared.outbox.Outgoing.{Outgoing}
+use Rattle.sbp_journal.specs.declared.side.Side.{Side}
+use Rattle.sbp_journal.specs.declared.side.Side.TheVariants as sides
+use Rattle.sbp_journal.specs.Outgoings.{OutboxState}
+use Rattle.sbp_target.specs.declared.desk.Desk.{Desk}
+use Rattle.sbp_target.specs.declared.purpose.Purpose.{Purpose}
+use Rattle.sbp_target.specs.declared.purpose.Purpose.TheVariants as purposes
+use Rattle.sbp_target.specs.declared.purpose.Sent.{Sent}
+use Rattle.sbp_target.specs.Desks.{promoted_desk}
+use Rattle.sbp_target.specs.Sending.{request_step, sent_by, with_side}
+use Rattle.sbp_target.specs.Telling.{orb_of, tell_step, tell_ran, tell_dead, tell_ended}
+use Rattle.sbp_target.specs.Nodes.{NodeState, Scene, scene, desk_at, login_at, with_desk, with_agent, unit_at}
+use Rattle.sbp_target.specs.Agents.{agent_body, sent_to, disowned, without_ahead, dropped_by, promoted_by, noted, main_sent, main_asked, ask_main, lost_by, lose, ahead_sent, ahead_asked, after_ahead, send_ahead, ask_ahead, after_loss, lose_main, after_main, follow, told_cut, cut_node, cut}
+use Rattle.sbp_target.specs.Units.{is_pending, unsolicited_by, announce_to, announce_in, announce_at, announce_from, hears, is_cut, cut_at, cut_from, cut_all, clear_unit, clear_from}
+use Rattle.sbp_target.specs.Replies.{Stage, stage, Whole, whole, scene_of, came, changed_by, announced_by, follow_all, advanced_with, advance, replied, served_login, replied_by, replied_to}
+use Rattle.sbp_target.specs.Management.{manager_body, place_in, cut_placed, cut_place, tell_left, tell_failed, clear_one, effect_by, decided_by, with_manager, manager_lost, lost_in, lose_operation, manager_sent, manager_asked, ask_manager, managed_with, managed_in, manage}
+use Rattle.sbp_target.specs.Receiving.{concluded, expired_with, expired_by, expire_agent, timed_out, expired_in, tell_held, held_from, cleared_node, reset_by, expired_from, ticked_by}
+
+pub record Keeps (P : NodeState → Type 0) : Type 0 where
+  pub layers : (node : NodeState) (layer : Layer Purpose) → P node → P (record node { layer = layer })
+  pub desks : (node : NodeState) (place : ℕ) (d : Desk) → d.is_enabled ≡ (desk_at node place).is_enabled → P node → P (with_desk node place d)
+
+module _ (P : NodeState → Type 0) (k : Keeps P) where
+  drops : (dead : Option FailCause) (place : ℕ) (node : NodeState) → P node → P (dropped_by dead place node)
+  unfolding without_ahead
+  drops None place node h = h
+  drops (Some cause) place node h =
+      let layer = disowned (desk_at node place).ahead node.layer in
+      k.desks (record node { layer = layer }) place (record (desk_at node place) { ahead = None }) refl (k.layers node layer h)
+
+  promotes : (b : Bool) (place : ℕ) (node : NodeState) → P node → P (promoted_by b place node)
+  promotes false place node h = h
+  promotes true place node h = k.desks node place (promoted_desk (desk_at node place)) refl h
+
+  notes : (place : ℕ) (step : AgentStep) (s : Scene) → P s.node → P (noted place step s).node
+  unfolding noted
+  notes place step s h = promotes step.promoted place (dropped_by step.dead place s.node) (drops step.dead place s.node h)
+
+  main_left : (place peer : ℕ) (node : NodeState) (r : Option LabelParts × (Layer Purpose × OutboxState)) → P node → P (main_sent place peer node r).1.node
+  main_left place peer node (Some label, (layer, outbox)) h =
+      k.desks (record node { layer = layer }) place (record (desk_at node place) { main = Some (sent_to peer label) }) refl (k.layers node layer h)
+  main_left place peer node (None, (layer, outbox)) h = k.layers node layer h
+
+  main_asked_at : (body : Option Body) (place : ℕ) (login : Login) (s : Scene) → P s.node → P (main_asked body place login s).1.node
+  main_asked_at None place login s h = h
+  main_asked_at (Some body) place login s h = main_left place login.node s.node (request_step s.node.layer s.outbox login.node body (purposes.Agent place)) h
+
+  asks_main : (place : ℕ) (login : Login) (step : AgentStep) (s : Scene) → P s.node → P (ask_main place login step s).1.node
+  unfolding ask_main
+  asks_main place login step s h =
+      main_asked_at (agent_body step.ask (is_some step.ended) login.fifo (desk_at s.node place).agent.outgoing) place login s h
+
+  loses_if : (b : Bool) (place : ℕ) (login : Login) (which : Which) (s : Scene) → P s.node → P (lost_by b place login which s).1.node
+  loses_if false place login which s h = h
+  loses_if true place login which s h =
+      let l = lost_step (desk_at s.node place).agent which causes.Label in
+      let t = scene (with_agent s.node place l.1) s.outbox in
+      asks_main place login l.0 (noted place l.0 t) (notes place l.0 t (k.desks s.node place (record (desk_at s.node place) { agent = l.1 }) refl h))
+
+  loses : (place : ℕ) (login : Login) (which : Which) (s : Scene) → P s.node → P (lose place login which s).1.node
+  unfolding lose
+  loses place login which s h = loses_if (is_under_way which (desk_at s.node place).agent) place login which s h
+
+  ahead_left : (place peer : ℕ) (node : NodeState) (r : Option LabelParts × (Layer Purpose × OutboxState)) → P node → P (ahead_sent place peer node r).1.node
+  ahead_left place peer node (Some label, (layer, outbox)) h =
+      k.desks (record node { layer = layer }) place (record (desk_at node place) { ahead = Some (sent_to peer label) }) refl (k.layers node layer h)
+  ahead_left place peer node (None, (layer, outbox)) h = k.layers node layer h
+
+  ahead_if : (b : Bool) (body : Body) (place : ℕ) (login : Login) (s : Scene) → P s.node → P (cond b (false, s) (ahead_sent place login.node s.node (request_step s.node.layer s.outbox login.node body (purposes.Agent place)))).1.node
+  ahead_if true body place login s h = h
+  ahead_if false body place login s h = ahead_left place login.node s.node (request_step s.node.layer s.outbox login.node body (purposes.Agent place)) h
+
+  ahead_asked_at : (body : Option Body) (place : ℕ) (login : Login) (s : Scene) → P s.node → P (ahead_asked body place login s).1.node
+  ahead_asked_at None place login s h = h
+  ahead_asked_at (Some body) place login s h = ahead_if (nat_lt (free_labels s.node.layer login.node) 16) body place login s h
+
+  sends_ahead : (place : ℕ) (login : Login) (ask : Ask) (s : Scene) → P s.node → P (send_ahead place login ask s).1.node
+  unfolding send_ahead
+  sends_ahead place login ask s h = ahead_asked_at (agent_body ask false login.fifo (desk_at s.node place).agent.outgoing) place login s h
+
+  behind_ahead : (place : ℕ) (login : Login) (r : Bool × Scene) → P r.1.node → P (after_ahead place login r).node
+  behind_ahead place login (true, s) h = h
+  behind_ahead place login (false, s) h = loses place login Ahead s h
+
+  behind_loss : (place : ℕ) (login : Login) (r : Bool × Scene) → P r.1.node → P (after_loss place login r).node
+  behind_loss place login (true, s) h = h
+  behind_loss place login (false, s) h = loses place login Main s h
+
+  loses_main : (place : ℕ) (login : Login) (s : Scene) → P s.node → P (lose_main place login s).node
+  unfolding lose_main
+  loses_main place login s h = behind_loss place login (lose place login Main s) (loses place login Main s h)
+
+  behind_main : (place : ℕ) (login : Login) (step : AgentStep) (r : Bool × Scene) → P r.1.node → P (after_main place login step r).node
+  behind_main place login step (true, s) h = behind_ahead place login (send_ahead place login step.ahead s) (sends_ahead place login step.ahead s h)
+  behind_main place login step (false, s) h = loses_main place login s h
+
+  pub follows_at : (place : ℕ) (login : Login) (step : AgentStep) (s : Scene) → P s.node → P (follow place login step s).node
+  unfolding follow
+  follows_at place login step s h =
+      let t = noted place step s in
+      behind_main place login step (ask_main place login step t) (asks_main place login step t (notes place step s h))
