@@ -36,10 +36,10 @@ use Rattle.unordered_agent.specs.Steps as steps
 use Rattle.unordered_agent.proofs.Places.{all_at}
 use Rattle.unordered_agent.proofs.Works.{task_works, begin_works, reply_works, worked_busy}
 use Rattle.unordered_laws.specs.Calls.{Call, Point, Doorbell, Reset, Reply, after_call, after_calls}
-use Rattle.unordered_laws.specs.Notes.{Note, Pointed, Rung, Cut, Came, Got, Reread, Ran, Answered, Sent, Died, ask_of, reading_in, address_of, next_by, reread_notes, fetch_notes, ran_notes, end_notes, death_notes, answer_notes, step_notes, heard_at, heard, point_notes, notes, noted, is_open, is_dead}
-use Rattle.unordered_laws.specs.Stages.{Stage, Vacant, Waiting, Running, Ending, stage, is_working, newest_in, with_next, seat, block_for, AtWork, Lawful, CallsAreLawful}
+use Rattle.unordered_laws.specs.Notes.{Note, Pointed, Rung, Cut, Came, Got, Reread, Ran, Answered, Sent, Died, ask_of, reading_in, address_of, next_by, reread_notes, fetch_notes, ran_notes, end_notes, death_notes, answer_notes, step_notes, heard_at, heard, point_notes, notes, noted, is_open, is_dead, under_way}
+use Rattle.unordered_laws.specs.Stages.{Stage, Vacant, Waiting, Running, Ending, stage, is_working, newest_in, with_next, seat, block_for, MaySendAll, Lawful, CallsAreLawful}
 use Rattle.unordered_laws.specs.Stages as how
-use Rattle.unordered_laws.specs.Fetches.{under_way, unanswered, EightLaw}
+use Rattle.unordered_laws.specs.Fetches.{unanswered, EightLaw}
 use Rattle.unordered_laws.proofs.Apart.{behind, settles}
 use Rattle.unordered_laws.proofs.Busy.{busy, busy_taken, busy_same, busy_left, busy_few, busy_none}
 use Rattle.unordered_laws.proofs.Order.{Known, Fetching, KeepsBy, seen, calls_known}
@@ -91,9 +91,10 @@ record Rest : Type 0 where
   dead : Bool
   opened : Bool
   count : ℕ
+  reading : Option (ℕ × ℕ)
 
 abbrev rest : ℕ → List Note → Rest
-rest p ns = record { orb = seat p ns; way = under_way p ns; dead = is_dead ns; opened = is_open ns; count = unanswered ns }
+rest p ns = record { orb = seat p ns; way = under_way p ns; dead = is_dead ns; opened = is_open ns; count = unanswered ns; reading = reading_in ns }
 
 told_rest : (ran : Option Outcome) (ended : Option StatusKind) (q p : ℕ) (bytes : List ℕ) (ns : List Note) → rest p (end_notes q ended bytes (ran_notes q ran ns)) ≡ rest p ns
 told_rest None None q p bytes ns = refl
@@ -125,15 +126,15 @@ ask_other q p Nothing next n low = ask_fetched p next low
 ask_other q p (Read offset size) next n low = ap (λ (b : Bool). cond b (Some (Read offset size)) (ask_of p (asked 8 next))) (apart q p n) ∙ ask_fetched p next low
 ask_other q p (Write offset size) next n low = ap (λ (b : Bool). cond b (Some (Write offset size)) (ask_of p (asked 8 next))) (apart q p n) ∙ ask_fetched p next low
 
-fetch_works : (next : Ask) (ns : List Note) → AtWork (asked 8 next) ns
-fetch_works Nothing ns = tt
-fetch_works (Read offset size) ns = (inl refl, tt)
-fetch_works (Write offset size) ns = (inl refl, tt)
+fetch_works : (next : Ask) (ns : List Note) → (is_asked next ≡ true → reading_in ns ≡ None) → MaySendAll (asked 8 next) ns
+fetch_works Nothing ns h = tt
+fetch_works (Read offset size) ns h = (inl (refl, h refl), tt)
+fetch_works (Write offset size) ns h = (inl (refl, h refl), tt)
 
-asks_work : (q : ℕ) (ask next : Ask) (ns : List Note) → how.is_vacant (stage q ns) ≡ false → AtWork (asked q ask ++ asked 8 next) ns
-asks_work q Nothing next ns w = fetch_works next ns
-asks_work q (Read offset size) next ns w = (inr w, fetch_works next ns)
-asks_work q (Write offset size) next ns w = (inr w, fetch_works next ns)
+asks_work : (q : ℕ) (ask next : Ask) (ns : List Note) → how.is_vacant (stage q ns) ≡ false → under_way q ns ≡ false → (is_asked next ≡ true → reading_in ns ≡ None) → MaySendAll (asked q ask ++ asked 8 next) ns
+asks_work q Nothing next ns w idle h = fetch_works next ns h
+asks_work q (Read offset size) next ns w idle h = (inr (w, idle), fetch_works next ns h)
+asks_work q (Write offset size) next ns w idle h = (inr (w, idle), fetch_works next ns h)
 
 at_work : (ran : Option Outcome) (ended : Option StatusKind) (from : Stage) → is_working from ≡ true → how.is_vacant (staged ran ended from) ≡ false
 at_work ran (Some kind) from w = refl
@@ -144,9 +145,9 @@ at_work None None Vacant w = cc w
 at_work None None Ending w = cc w
 
 -- the fetcher asks
-asks_tied : (next : Ask) (tasks : List Machine) (ns : List Note) → Tied tasks ns → Tied tasks (Sent (asked 8 next) ∷ ns)
-asks_tied next tasks ns t = record {
-  lawful = (fetch_works next ns, t.lawful);
+asks_tied : (next : Ask) (tasks : List Machine) (ns : List Note) → (is_asked next ≡ true → reading_in ns ≡ None) → Tied tasks ns → Tied tasks (Sent (asked 8 next) ∷ ns)
+asks_tied next tasks ns h t = record {
+  lawful = (fetch_works next ns h, t.lawful);
   stages = t.stages;
   seats = t.seats;
   sent = λ alive p low. ap (λ (a : Option Ask). cond (is_some a) true (under_way p ns)) (ask_fetched p next low) ∙ t.sent alive p low;
@@ -160,6 +161,7 @@ record Ready (tasks : List Machine) (q : ℕ) (from : Stage) (orb : ℕ × OrbPo
   here : stage q ns ≡ from
   working : is_working from ≡ true
   named : seat q ns ≡ orb
+  idle : under_way q ns ≡ false
   others : (p : ℕ) → p < 8 → p ≢ q → Agrees (stage p ns) (agent_at tasks p).phase
   names : (p : ℕ) → p < 8 → p ≢ q → seat p ns ≡ orb_of (agent_at tasks p)
   ways : is_dead ns ≡ false → (p : ℕ) → p < 8 → p ≢ q → under_way p ns ≡ is_sent (agent_at tasks p).phase
@@ -169,20 +171,26 @@ is_busy_task : (b : Bool) → not b ≡ false → b ≡ true
 is_busy_task true e = refl
 is_busy_task false e = cc e
 
+is_idle_task : (b : Bool) → not b ≡ true → b ≡ false
+is_idle_task true e = cc e
+is_idle_task false e = refl
+
 orb_told : (t : AgentStep × Machine) (from : Stage) (orb : ℕ × OrbPointer) → Tells from orb t → orb_of t.1 ≡ orb
 orb_told t from orb told = ap (λ (at : ℕ). (at, t.1.orb.next)) told.address ∙ ap (λ (next : OrbPointer). (orb.0, next)) told.link
 
 set_tied : (tasks : List Machine) (q : ℕ) (t : AgentStep × Machine) (next : Ask) (bytes : List ℕ) (ns : List Note) (from : Stage) (orb : ℕ × OrbPointer) → length tasks ≡ 8 → q < 8 → Ready tasks q from orb ns → Tells from orb t → is_free t.1 ≡ false → bytes ≡ t.1.outgoing
+    → (is_asked next ≡ true → reading_in ns ≡ None)
     → (is_open ns ≡ true → is_dead ns ≡ false → unanswered ns ≡ busy (slice_set tasks q t.1))
     → Tied (slice_set tasks q t.1) (Sent (asked q t.0.ask ++ asked 8 next) ∷ end_notes q t.0.ended bytes (ran_notes q t.0.ran ns))
-set_tied tasks q t next bytes ns from orb size low r told busy_now same count =
+set_tied tasks q t next bytes ns from orb size low r told busy_now same reads count =
     let ts : List Machine = slice_set tasks q t.1 in
     let ms : List Note = end_notes q t.0.ended bytes (ran_notes q t.0.ran ns) in
     let mine : agent_at ts q ≡ t.1 = get_or-set_same tasks q t.1 new_machine (omega arith) in
     let at : stage q ms ≡ staged t.0.ran t.0.ended from = told_own t.0.ran t.0.ended q bytes ns ∙ ap (λ (s : Stage). staged t.0.ran t.0.ended s) r.here in
     record {
       lawful = (
-        asks_work q t.0.ask next ms (ap how.is_vacant at ∙ at_work t.0.ran t.0.ended from r.working),
+        asks_work q t.0.ask next ms (ap how.is_vacant at ∙ at_work t.0.ran t.0.ended from r.working) (ap (λ (x : Rest). x.way) (told_rest t.0.ran t.0.ended q q bytes ns) ∙ r.idle)
+            (λ more. ap (λ (x : Rest). x.reading) (told_rest t.0.ran t.0.ended q q bytes ns) ∙ reads more),
         told_lawful t.0.ran t.0.ended q bytes orb ns r.lawful (ap is_working r.here ∙ r.working) (subst (λ (s : Stage). RunsFrom t.0.ran s) (sym r.here) told.runs) r.named
             (subst (λ (b : List ℕ). Blocks t.0.ended b orb) (sym same) told.block),
       );
@@ -353,12 +361,13 @@ orb_tied (Some q) s login plain told answer ns e some h k r t =
             here = ap (λ (b : Bool). cond b Waiting (stage q ns)) (own q);
             working = refl;
             named = ap (λ (b : Bool). cond b (address_of (reading_in ns), next) (seat q ns)) (own q) ∙ ap (λ (a : ℕ). (a, next)) at;
+            idle = ap (λ (b : Bool). cond b false (under_way q ns)) (no_fetcher q small) ∙ t.sent r.live.dead q small ∙ is_idle_task (is_sent (task_at s q).phase) found.1;
             others = λ p low n. subst (λ (k : Stage). Agrees k (agent_at s.tasks p).phase) (sym (ap (λ (b : Bool). cond b Waiting (stage p ns)) (apart q p n))) (t.stages p low);
             names = λ p low n. ap (λ (b : Bool). cond b (address_of (reading_in ns), next) (seat p ns)) (apart q p n) ∙ t.seats p low;
             ways = λ alive p low n. ap (λ (b : Bool). cond b false (under_way p ns)) (no_fetcher p low) ∙ t.sent alive p low;
             few = room s.tasks q begun.1 (unanswered ns) size small found.1 busy_now (t.count r.live.opened r.live.dead);
           })
-          (begin_tells (task_at s q) login plain told s.fetcher.orb answer) busy_now same
+          (begin_tells (task_at s q) login plain told s.fetcher.orb answer) busy_now same (λ more. refl)
           (λ opened alive. ap (λ (n : ℕ). suc n) (t.count opened alive) ∙ sym (busy_taken s.tasks q begun.1 below found.1 busy_now)));
     }
 
@@ -378,7 +387,7 @@ linked_orb tasks n next p orb low e =
     e
 
 next_tied : (read : Result (List ℕ) FailCause) (s : TaskMachine) (place : ℕ) (ns : List Note) → Sound s → newest_in ns ≡ s.fetcher.newest → Tied s.tasks ns → After place (next_read s read) (reread_notes read (Came 8 ∷ ns))
-next_tied (Err cause) s place ns h e t = record { tied = died_tied s.tasks (Sent [] ∷ Came 8 ∷ ns) (asks_tied Nothing s.tasks (Came 8 ∷ ns) (came_tied s.tasks ns t)) }
+next_tied (Err cause) s place ns h e t = record { tied = died_tied s.tasks (Sent [] ∷ Came 8 ∷ ns) (asks_tied Nothing s.tasks (Came 8 ∷ ns) (λ more. cc more) (came_tied s.tasks ns t)) }
 next_tied (Ok bytes) s place ns h e t =
     let next : OrbPointer = pointer_at bytes 0 in
     let n : ℕ = s.fetcher.newest in
@@ -386,7 +395,7 @@ next_tied (Ok bytes) s place ns h e t =
     let size : length s.tasks ≡ 8 = h.so.size in
     let ts : List Machine = slice_set s.tasks n (relinked (agent_at s.tasks n) next) in
     record {
-      tied = asks_tied (goes_on None (pointer_read s next)).0 ts (Reread next ∷ Came 8 ∷ ns)
+      tied = asks_tied (goes_on None (pointer_read s next)).0 ts (Reread next ∷ Came 8 ∷ ns) (λ more. refl)
           (record {
             lawful = t.lawful;
             stages = λ p below. subst (λ (phase : Phase). Agrees (stage p ns) phase) (sym (linked_phase s.tasks n next p)) (t.stages p below);
@@ -447,14 +456,18 @@ ended_tied tasks q ns t = record {
   count = λ opened alive. cc alive;
 }
 
-status_tied : (phase : FetchPhase) (s : TaskMachine) (q : ℕ) (failure : Option FailCause) (ns : List Note) → length s.tasks ≡ 8 → q < 8 → is_free (task_at s q) ≡ false → Tied s.tasks ns → After q (status_written phase s q failure) (Answered q ∷ Came q ∷ ns)
-status_tied phases.Dead s q failure ns size h e t = record { tied = asks_tied Nothing (released s q).tasks (Answered q ∷ Came q ∷ ns) (released_tied s q ns size h e t) }
-status_tied phase s q (Some cause) ns size h e t = record { tied = ended_tied s.tasks q ns t }
-status_tied phases.Waiting s q None ns size h e t = record { tied = asks_tied (goes_on None (released s q)).0 (released s q).tasks (Answered q ∷ Came q ∷ ns) (released_tied s q ns size h e t) }
-status_tied phases.Reset s q None ns size h e t = record { tied = asks_tied Nothing (released s q).tasks (Answered q ∷ Came q ∷ ns) (released_tied s q ns size h e t) }
-status_tied phases.Fetching s q None ns size h e t = record { tied = asks_tied Nothing (released s q).tasks (Answered q ∷ Came q ∷ ns) (released_tied s q ns size h e t) }
-status_tied phases.ReadingNext s q None ns size h e t = record { tied = asks_tied Nothing (released s q).tasks (Answered q ∷ Came q ∷ ns) (released_tied s q ns size h e t) }
-status_tied phases.AtEnd s q None ns size h e t = record { tied = asks_tied Nothing (released s q).tasks (Answered q ∷ Came q ∷ ns) (released_tied s q ns size h e t) }
+none_either : (b : Bool) (reading : Option (ℕ × ℕ)) → reading ≡ None → cond b None reading ≡ None
+none_either true reading e = refl
+none_either false reading e = e
+
+status_tied : (phase : FetchPhase) (s : TaskMachine) (q : ℕ) (failure : Option FailCause) (ns : List Note) → length s.tasks ≡ 8 → q < 8 → is_free (task_at s q) ≡ false → KeepsBy phase s.fetcher (seen ns) → Tied s.tasks ns → After q (status_written phase s q failure) (Answered q ∷ Came q ∷ ns)
+status_tied phases.Dead s q failure ns size h e row t = record { tied = asks_tied Nothing (released s q).tasks (Answered q ∷ Came q ∷ ns) (λ more. cc more) (released_tied s q ns size h e t) }
+status_tied phase s q (Some cause) ns size h e row t = record { tied = ended_tied s.tasks q ns t }
+status_tied phases.Waiting s q None ns size h e row t = record { tied = asks_tied (goes_on None (released s q)).0 (released s q).tasks (Answered q ∷ Came q ∷ ns) (λ more. none_either (q == 8) (reading_in ns) row.reads) (released_tied s q ns size h e t) }
+status_tied phases.Reset s q None ns size h e row t = record { tied = asks_tied Nothing (released s q).tasks (Answered q ∷ Came q ∷ ns) (λ more. cc more) (released_tied s q ns size h e t) }
+status_tied phases.Fetching s q None ns size h e row t = record { tied = asks_tied Nothing (released s q).tasks (Answered q ∷ Came q ∷ ns) (λ more. cc more) (released_tied s q ns size h e t) }
+status_tied phases.ReadingNext s q None ns size h e row t = record { tied = asks_tied Nothing (released s q).tasks (Answered q ∷ Came q ∷ ns) (λ more. cc more) (released_tied s q ns size h e t) }
+status_tied phases.AtEnd s q None ns size h e row t = record { tied = asks_tied Nothing (released s q).tasks (Answered q ∷ Came q ∷ ns) (λ more. cc more) (released_tied s q ns size h e t) }
 
 -- another transaction of a task
 record Worked (s : Stage) (phase : Phase) : Type 0 where
@@ -492,19 +505,20 @@ worked_tied s q login plain told answer ns h low e n t =
             here = at.so;
             working = at.working;
             named = t.seats q low;
+            idle = ap (λ (b : Bool). cond b false (under_way q ns)) (own q);
             others = λ p below other. t.stages p below;
             names = λ p below other. t.seats p below;
             ways = λ alive p below other. ap (λ (b : Bool). cond b false (under_way p ns)) (apart q p other) ∙ t.sent alive p below;
             few = t.few;
           })
-          (reply_tells (task_at s q) login plain told answer works n) busy_now same
+          (reply_tells (task_at s q) login plain told answer works n) busy_now same (λ more. cc more)
           (λ opened alive. t.count opened alive ∙ sym (busy_same s.tasks q done.1 (busy_now ∙ sym e))));
     }
 
-task_tied : (b : Bool) (s : TaskMachine) (q login : ℕ) (plain : PlainDisk) (told : Option Told) (answer : Answer) (ns : List Note) → writes_status (task_at s q).phase ≡ b → Sound s → q < 8 → is_free (task_at s q) ≡ false → Tied s.tasks ns
+task_tied : (b : Bool) (s : TaskMachine) (q login : ℕ) (plain : PlainDisk) (told : Option Told) (answer : Answer) (ns : List Note) → writes_status (task_at s q).phase ≡ b → Sound s → q < 8 → is_free (task_at s q) ≡ false → Known s.fetcher (seen ns) → Tied s.tasks ns
     → After q (cond b (status_written s.fetcher.phase s q (write_failure answer)) (worked s q (agent.reply_step (task_at s q) login plain told Main answer))) (answer_notes b q (Came q ∷ ns))
-task_tied true s q login plain told answer ns w h low e t = status_tied s.fetcher.phase s q (write_failure answer) ns h.so.size low e t
-task_tied false s q login plain told answer ns w h low e t = worked_tied s q login plain told answer ns h low e w t
+task_tied true s q login plain told answer ns w h low e k t = status_tied s.fetcher.phase s q (write_failure answer) ns h.so.size low e k.row t
+task_tied false s q login plain told answer ns w h low e k t = worked_tied s q login plain told answer ns h low e w t
 
 -- a reply
 place_tied : (b : Bool) (s : TaskMachine) (login : ℕ) (plain : PlainDisk) (told : Option Told) (place : ℕ) (answer : Answer) (ns : List Note)
@@ -513,22 +527,23 @@ place_tied : (b : Bool) (s : TaskMachine) (login : ℕ) (plain : PlainDisk) (tol
 place_tied true s login plain told place answer ns u h k t = fetch_tied s.fetcher.phase s login plain told answer ns u h.so.rule h k k.row t
 place_tied false s login plain told place answer ns u h k t =
     let task : Task place (task_at s place) = task_at_by (nat_lt place 8) place (task_at s place) refl u in
-    task_tied (writes_status (task_at s place).phase) s place login plain told answer ns refl h task.below task.busy t
+    task_tied (writes_status (task_at s place).phase) s place login plain told answer ns refl h task.below task.busy k t
 
 replied_tied : (b : Bool) (s : TaskMachine) (login : ℕ) (plain : PlainDisk) (told : Option Told) (place : ℕ) (answer : Answer) (ns : List Note) → is_busy place s ≡ b → Sound s → Known s.fetcher (seen ns) → Tied s.tasks ns
     → After (place_of s place) (cond b (reply_step s login plain told place answer) (quiet, s)) (heard b s place answer ns)
 unfolding reply_step
 replied_tied true s login plain told place answer ns u h k t = place_tied (place == 8) s login plain told place answer ns u h k t
-replied_tied false s login plain told place answer ns u h k t = record { tied = asks_tied Nothing s.tasks ns t }
+replied_tied false s login plain told place answer ns u h k t = record { tied = asks_tied Nothing s.tasks ns (λ more. cc more) t }
 
 -- ORB_POINTER and DOORBELL
 record Takes (tasks : List Machine) (ns : List Note) : Type 0 where
   free : are_free tasks ≡ true
   alive : is_dead ns ≡ false
+  idle : reading_in ns ≡ None
 
 takes : (phase : FetchPhase) (f : Fetcher) (tasks : List Machine) (ns : List Note) → takes_pointer (state_in phase) tasks ≡ true → FetchRule phase f tasks → KeepsBy phase f (seen ns) → Takes tasks ns
-takes phases.Reset f tasks ns e r k = record { free = r; alive = k.dead }
-takes phases.AtEnd f tasks ns e r k = record { free = e; alive = k.live.dead }
+takes phases.Reset f tasks ns e r k = record { free = r; alive = k.dead; idle = k.idle }
+takes phases.AtEnd f tasks ns e r k = record { free = e; alive = k.live.dead; idle = k.reads }
 takes phases.Fetching f tasks ns e r k = cc e
 takes phases.ReadingNext f tasks ns e r k = cc e
 takes phases.Waiting f tasks ns e r k = cc e
@@ -548,22 +563,31 @@ point_tied : (b : Bool) (pointer : OrbPointer) (s : TaskMachine) (ns : List Note
     → Tied (cond b (pointed s pointer) (refused s)).1.tasks (point_notes pointer (cond b (pointed s pointer) (refused s)).0 ns)
 point_tied true Null s ns e h k t = t
 point_tied true (At first) s ns e h k t =
-    asks_tied (Read (aligned first) 32) s.tasks (Pointed (aligned first) ∷ ns) (pointed_tied (aligned first) s.tasks ns (takes s.fetcher.phase s.fetcher s.tasks ns e h.so.rule k.row) t)
+    let p : Takes s.tasks ns = takes s.fetcher.phase s.fetcher s.tasks ns e h.so.rule k.row in
+    asks_tied (Read (aligned first) 32) s.tasks (Pointed (aligned first) ∷ ns) (λ more. p.idle) (pointed_tied (aligned first) s.tasks ns p t)
 point_tied false pointer s ns e h k t = t
 
 rung_tied : (tasks : List Machine) (ns : List Note) → Tied tasks ns → Tied tasks (Rung ∷ ns)
 rung_tied tasks ns t = record { lawful = t.lawful; stages = t.stages; seats = t.seats; sent = t.sent; few = t.few; count = t.count }
 
-doorbell_tied : (state : AgentState) (s : TaskMachine) (ns : List Note) → Tied s.tasks ns → Tied (doorbell_in state s).1.tasks (Sent (asked 8 (doorbell_in state s).0) ∷ Rung ∷ ns)
-doorbell_tied states.Active s ns t = asks_tied Nothing s.tasks (Rung ∷ ns) (rung_tied s.tasks ns t)
-doorbell_tied states.Suspended s ns t = asks_tied (Read s.fetcher.orb 8) s.tasks (Rung ∷ ns) (rung_tied s.tasks ns t)
-doorbell_tied states.Reset s ns t = asks_tied Nothing s.tasks (Rung ∷ ns) (rung_tied s.tasks ns t)
-doorbell_tied states.Dead s ns t = asks_tied Nothing s.tasks (Rung ∷ ns) (rung_tied s.tasks ns t)
+at_rest : (phase : FetchPhase) (f : Fetcher) (ns : List Note) → KeepsBy phase f (seen ns) → state_in phase ≡ states.Suspended → reading_in ns ≡ None
+at_rest phases.AtEnd f ns k e = k.reads
+at_rest phases.Reset f ns k e = cc e
+at_rest phases.Fetching f ns k e = cc e
+at_rest phases.ReadingNext f ns k e = cc e
+at_rest phases.Waiting f ns k e = cc e
+at_rest phases.Dead f ns k e = cc e
+
+doorbell_tied : (state : AgentState) (s : TaskMachine) (ns : List Note) → (state ≡ states.Suspended → reading_in ns ≡ None) → Tied s.tasks ns → Tied (doorbell_in state s).1.tasks (Sent (asked 8 (doorbell_in state s).0) ∷ Rung ∷ ns)
+doorbell_tied states.Active s ns idle t = asks_tied Nothing s.tasks (Rung ∷ ns) (λ more. cc more) (rung_tied s.tasks ns t)
+doorbell_tied states.Suspended s ns idle t = asks_tied (Read s.fetcher.orb 8) s.tasks (Rung ∷ ns) (λ more. idle refl) (rung_tied s.tasks ns t)
+doorbell_tied states.Reset s ns idle t = asks_tied Nothing s.tasks (Rung ∷ ns) (λ more. cc more) (rung_tied s.tasks ns t)
+doorbell_tied states.Dead s ns idle t = asks_tied Nothing s.tasks (Rung ∷ ns) (λ more. cc more) (rung_tied s.tasks ns t)
 
 call_tied : (call : Call) (s : TaskMachine) (ns : List Note) → Sound s → Known s.fetcher (seen ns) → Tied s.tasks ns → Tied (after_call call s).tasks (noted call s ns)
 unfolding point_step doorbell_step reset_all_step
 call_tied (Point pointer) s ns h k t = point_tied (takes_pointer (state_in s.fetcher.phase) s.tasks) pointer s ns refl h k t
-call_tied Doorbell s ns h k t = doorbell_tied (state_in s.fetcher.phase) s ns t
+call_tied Doorbell s ns h k t = doorbell_tied (state_in s.fetcher.phase) s ns (at_rest s.fetcher.phase s.fetcher ns k.row) t
 call_tied Reset s ns h k t = cut_tied s.tasks ns t
 call_tied (Reply login plain told place answer) s ns h k t = (replied_tied (is_busy place s) s login plain told place answer ns refl h k t).tied
 

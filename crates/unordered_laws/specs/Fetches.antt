@@ -1,7 +1,7 @@
 -- The fetch rule, and how many ORBs are worked at once, read off what calls tell.
-use Rattle.std.specs.Prelude.{◌≡◌, ◌<◌, ◌≤◌, ◌-◌, ℕ, suc, ◌==◌, is_some, if◌then◌else◌, Bool, true, false, List, [], ◌∷◌, ◌⊎◌, Some, None}
+use Rattle.std.specs.Prelude.{◌≡◌, ◌<◌, ◌≤◌, ◌-◌, ℕ, suc, is_some, if◌then◌else◌, Bool, true, false, List, [], ◌∷◌, ◌⊎◌, Some, None}
 use Rattle.unordered_laws.specs.Calls.{Call}
-use Rattle.unordered_laws.specs.Notes.{Note, Pointed, Rung, Cut, Came, Got, Answered, Sent, Died, ask_of, notes, reading_in, is_open, is_dead}
+use Rattle.unordered_laws.specs.Notes.{Note, Pointed, Rung, Got, Answered, Sent, ask_of, notes, reading_in, under_way, is_open, is_dead}
 use Rattle.unordered_laws.specs.Order.{first_in, orbs_in, next_of, last_of}
 use Rattle.unordered_laws.specs.Stages.{stage, is_vacant}
 
@@ -11,15 +11,6 @@ rung_since [] = false
 rung_since (Rung ∷ ns) = true
 rung_since (Sent asks ∷ ns) = if is_some (ask_of 8 asks) then false else rung_since ns
 rung_since (_ ∷ ns) = rung_since ns
-
--- a request of a task place is under way
-abbrev pub under_way : ℕ → List Note → Bool
-under_way place [] = false
-under_way place (Sent asks ∷ ns) = if is_some (ask_of place asks) then true else under_way place ns
-under_way place (Came other ∷ ns) = if other == place then false else under_way place ns
-under_way place (Cut ∷ ns) = false
-under_way place (Died ∷ ns) = false
-under_way place (_ ∷ ns) = under_way place ns
 
 -- how many ORBs of the list were fetched whose status write was not answered
 abbrev pub unanswered : List Note → ℕ

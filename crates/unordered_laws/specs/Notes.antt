@@ -1,5 +1,5 @@
 -- What the calls of an agent of the unordered unit tell, the latest first.
-use Rattle.std.specs.Prelude.{ℕ, ◌==◌, if◌then◌else◌, Bool, true, false, List, [], ◌∷◌, Option, Some, None, Result, Ok, Err}
+use Rattle.std.specs.Prelude.{ℕ, ◌==◌, is_some, if◌then◌else◌, Bool, true, false, List, [], ◌∷◌, Option, Some, None, Result, Ok, Err}
 use Rattle.orb_layout.specs.declared.ask.Ask.{Ask}
 use Rattle.orb_layout.specs.declared.ask.Ask.TheVariants.{Read}
 use Rattle.orb_layout.specs.declared.ask.FailCause.{FailCause}
@@ -51,6 +51,15 @@ reading_in (Came place ∷ ns) = if place == 8 then None else reading_in ns
 reading_in (Cut ∷ ns) = None
 reading_in (Died ∷ ns) = None
 reading_in (_ ∷ ns) = reading_in ns
+
+-- a request of a task place is under way
+abbrev pub under_way : ℕ → List Note → Bool
+under_way place [] = false
+under_way place (Sent asks ∷ ns) = if is_some (ask_of place asks) then true else under_way place ns
+under_way place (Came other ∷ ns) = if other == place then false else under_way place ns
+under_way place (Cut ∷ ns) = false
+under_way place (Died ∷ ns) = false
+under_way place (_ ∷ ns) = under_way place ns
 
 abbrev pub address_of : Option (ℕ × ℕ) → ℕ
 address_of None = 0

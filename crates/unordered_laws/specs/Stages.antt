@@ -1,12 +1,12 @@
 -- How far the ORB in each task place is, read off what calls tell: it runs at most once, and then ends, once.
-use Rattle.std.specs.Prelude.{◌≡◌, ◌<◌, ℕ, ◌==◌, Bool, true, false, if◌then◌else◌, List, [], ◌∷◌, ◌⊎◌}
+use Rattle.std.specs.Prelude.{◌≡◌, ◌<◌, ℕ, ◌==◌, Bool, true, false, if◌then◌else◌, List, [], ◌∷◌, ◌⊎◌, None}
 use Rattle.orb_layout.specs.declared.ask.Ask.{Ask}
 use Rattle.orb_layout.specs.declared.pointer.OrbPointer.{OrbPointer}
 use Rattle.orb_layout.specs.declared.pointer.OrbPointer.TheVariants.{Null, At}
 use Rattle.orb_layout.specs.declared.status.StatusKind.{StatusKind}
 use Rattle.orb_layout.specs.StatusBlocks.{status_bytes}
 use Rattle.unordered_laws.specs.Calls.{Call}
-use Rattle.unordered_laws.specs.Notes.{Note, Cut, Got, Reread, Ran, Ended, Answered, Sent, Died, notes}
+use Rattle.unordered_laws.specs.Notes.{Note, Cut, Got, Reread, Ran, Ended, Answered, Sent, Died, notes, reading_in, under_way}
 
 -- how far the ORB in a place is
 pub data Stage : Type 0 where
@@ -60,18 +60,21 @@ src_by (At offset) = 0
 abbrev pub block_for : ℕ × OrbPointer → StatusKind → List ℕ
 block_for orb kind = status_bytes (record { src = src_by orb.1; kind = kind; orb = orb.0 })
 
--- A request is the fetcher's, or that of a place whose ORB is not yet answered.
-abbrev pub AtWork : List (ℕ × Ask) → List Note → Type 0
-AtWork [] ns = Unit {0}
-AtWork ((place, ask) ∷ asks) ns = ((place ≡ 8) ⊎ (is_vacant (stage place ns) ≡ false)) × AtWork asks ns
+-- A request is sent where none of its place is under way: by the fetcher, or for the ORB in a place, until it is answered.
+abbrev pub MaySend : ℕ → List Note → Type 0
+MaySend place ns = ((place ≡ 8) × (reading_in ns ≡ None)) ⊎ ((is_vacant (stage place ns) ≡ false) × (under_way place ns ≡ false))
 
--- An ORB takes a place below 8 that is vacant. It runs at most once, before it ends, and it ends once, by the status block that names it. For one whose agent became dead, or whose list was cut, neither comes after that, and nothing is sent.
+abbrev pub MaySendAll : List (ℕ × Ask) → List Note → Type 0
+MaySendAll [] ns = Unit {0}
+MaySendAll ((place, ask) ∷ asks) ns = MaySend place ns × MaySendAll asks ns
+
+-- An ORB takes a place below 8 that is vacant. It runs at most once, before it ends, and it ends once, by the status block that names it. One transaction of a place is under way at a time, and one of the fetcher. For an ORB whose agent became dead, or whose list was cut, nothing is sent, run or ended after that.
 abbrev pub Lawful : List Note → Type 0
 Lawful [] = Unit {0}
 Lawful (Got place at next ∷ ns) = (place < 8) × (stage place ns ≡ Vacant) × Lawful ns
 Lawful (Ran place ∷ ns) = (stage place ns ≡ Waiting) × Lawful ns
 Lawful (Ended place kind bytes ∷ ns) = (is_working (stage place ns) ≡ true) × (bytes ≡ block_for (seat place ns) kind) × Lawful ns
-Lawful (Sent asks ∷ ns) = AtWork asks ns × Lawful ns
+Lawful (Sent asks ∷ ns) = MaySendAll asks ns × Lawful ns
 Lawful (_ ∷ ns) = Lawful ns
 
 -- Over every list of calls.
