@@ -28,10 +28,7 @@ use Rattle.mgmt_agent.specs.Decisions.{decide, reads_eui, live_login, response_b
 use Rattle.mgmt_agent.specs.Machine.{start_step, reply_step as reply_step_of_manager, decide_step}
 use Rattle.login_table.specs.Table.{fresh_id, left_for, enter_step, back_step, leave_step}
 use Rattle.sbp_laws.specs.Refused as refused
-use Rattle.sbp_laws.specs.WorkedRuns as runs
-use Rattle.orb_layout.specs.declared.status.StatusKind.TheVariants as kinds
-use Rattle.sbp_journal.specs.declared.note.Note.TheVariants as notes
-use Rattle.std.specs.Prelude.{Some, None, slice_index, replicate, drop, length, true, false, IsSomeAnd, List, ℕ, ◌==◌, if◌then◌else◌}
+use Rattle.std.specs.Prelude.{Some, None, slice_index, drop, length, true, false, IsSomeAnd, List, ℕ, ◌==◌, if◌then◌else◌}
 use Rattle.sbp_journal.specs.Run.{Moment}
 use Rattle.sbp_laws.specs.Terms.{appends}
 use Rattle.sbp_laws.specs.CarriedBytes.{before_sent, WasRead, IsRead, orb_read, buffer_in, reads_since, payload_at}
@@ -130,11 +127,11 @@ not_elsewhere w = by (one_of_three w.response w.got)
     by (inr (inl e)) = let bad : None ≡ Some w.request = subst (λ r. (terms past_elsewhere).answers r ≡ Some w.request) e w.answers in cc bad
     by (inr (inr e)) = let bad : None ≡ Some w.request = subst (λ r. (terms past_elsewhere).answers r ≡ Some w.request) e w.answers in cc bad
 
-answer_otherwise : CarriedLaw nobody journals.one_disk (refused.instead 4 runs.capacity_told (notes.Taken 0 0 0 kinds.Good (quad_bytes (1 ∷ 512 ∷ [])) ∷ [])) → ⊥
+answer_otherwise : CarriedLaw nobody journals.one_disk refused.answer_otherwise → ⊥
 unfolding reading fault_of tcode_of header_of offset_of rcode_of value_of length_of extended_of three four part_of is_to is_same asked_by begun_by belongs start_at lowest_from label_for free_from count_flying lowest_flying label_of with_label is_write kind_of slot_of window_at is_fifo point_step doorbell_step reset_step abort_step reply_step lost_step refusal verdict request_of check_of blank_bytes command_kind elements_from made block_head decide reads_eui live_login response_bytes start_step reply_step_of_manager decide_step fresh_id left_for enter_step back_step leave_step
 answer_otherwise = λ law. let bad : 1 ≡ 0 = ap (λ xs. slice_index xs 3) (law.carried.0 refl) in omega (arith, bad)
 
-other_data : CarriedLaw nobody journals.one_disk (refused.instead 8 runs.table_told (notes.Ran 0 (Some 0) (Some 0) 0 runs.write_block_0 (replicate 512 0xbb) None ∷ [])) → ⊥
+other_data : CarriedLaw nobody journals.one_disk refused.other_data → ⊥
 unfolding reading fault_of tcode_of header_of offset_of rcode_of value_of length_of extended_of three four part_of is_to is_same asked_by begun_by belongs start_at lowest_from label_for free_from count_flying lowest_flying label_of with_label is_write kind_of slot_of window_at is_fifo point_step doorbell_step reset_step abort_step reply_step lost_step refusal verdict request_of check_of blank_bytes command_kind elements_from made block_head decide reads_eui live_login response_bytes start_step reply_step_of_manager decide_step fresh_id left_for enter_step back_step leave_step
 other_data = λ law. let bad : 0xbb ≡ 0xaa = ap (λ xs. slice_index xs 0) (ap first_data law.due.0) in omega (arith, bad)
 

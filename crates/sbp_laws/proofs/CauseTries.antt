@@ -28,13 +28,10 @@ use Rattle.mgmt_agent.specs.Machine.{start_step, reply_step as reply_step_of_man
 use Rattle.login_table.specs.Table.{fresh_id, left_for, enter_step, back_step, leave_step}
 use Rattle.sbp_laws.specs.Refused as refused
 use Rattle.sbp_laws.specs.RareRuns as rare
-use Rattle.sbp_laws.specs.WorkedRuns as runs
 use Rattle.orb_layout.specs.declared.status.StatusKind.TheVariants as kinds
 use Rattle.orb_layout.specs.declared.ask.FailCause.TheVariants as causes
 use Rattle.sbp_journal.specs.declared.cause.CutCause.TheVariants as cuts
 use Rattle.sbp_journal.specs.declared.operation.FunctionWord.TheVariants as functions
-use Rattle.sbp_journal.specs.declared.operation.Operation.TheVariants as operations
-use Rattle.sbp_journal.specs.declared.operation.OpWord.TheVariants as words
 use Rattle.sbp_journal.specs.declared.note.Note.TheVariants as notes
 use Rattle.std.specs.Prelude.{Some, None, List, ℕ}
 use Rattle.orb_layout.specs.Pointers.{quad_bytes}
@@ -146,15 +143,15 @@ target_reset_clears_not : CauseLaw nobody journals.one_disk (rare.target_reset (
 unfolding reading fault_of tcode_of header_of offset_of rcode_of value_of length_of extended_of three four part_of is_to is_same asked_by begun_by belongs start_at lowest_from label_for free_from count_flying lowest_flying label_of with_label is_write kind_of slot_of window_at is_fifo point_step doorbell_step reset_step abort_step reply_step lost_step refusal verdict request_of check_of blank_bytes command_kind elements_from made block_head decide reads_eui live_login response_bytes start_step reply_step_of_manager decide_step fresh_id left_for enter_step back_step leave_step
 target_reset_clears_not = λ law. let bad = law.causes.0.cleared in cc bad
 
-agent_reset_cuts_not : CauseLaw nobody journals.one_disk (refused.instead 6 runs.agent_reset_told []) → ⊥
+agent_reset_cuts_not : CauseLaw nobody journals.one_disk refused.agent_reset_cuts_not → ⊥
 unfolding reading fault_of tcode_of header_of offset_of rcode_of value_of length_of extended_of three four part_of is_to is_same asked_by begun_by belongs start_at lowest_from label_for free_from count_flying lowest_flying label_of with_label is_write kind_of slot_of window_at is_fifo point_step doorbell_step reset_step abort_step reply_step lost_step refusal verdict request_of check_of blank_bytes command_kind elements_from made block_head decide reads_eui live_login response_bytes start_step reply_step_of_manager decide_step fresh_id left_for enter_step back_step leave_step
 agent_reset_cuts_not = λ law. let bad = law.causes.0.cuts in cc bad
 
-agent_reset_drops_not : CauseLaw nobody journals.one_disk (refused.instead 3 runs.agent_reset_told (notes.Op 0 operations.AgentReset words.Done ∷ [])) → ⊥
+agent_reset_drops_not : CauseLaw nobody journals.one_disk refused.agent_reset_drops_not → ⊥
 unfolding reading fault_of tcode_of header_of offset_of rcode_of value_of length_of extended_of three four part_of is_to is_same asked_by begun_by belongs start_at lowest_from label_for free_from count_flying lowest_flying label_of with_label is_write kind_of slot_of window_at is_fifo point_step doorbell_step reset_step abort_step reply_step lost_step refusal verdict request_of check_of blank_bytes command_kind elements_from made block_head decide reads_eui live_login response_bytes start_step reply_step_of_manager decide_step fresh_id left_for enter_step back_step leave_step
 agent_reset_drops_not = λ law. let bad = law.causes.0.operations in cc bad
 
-operation_ends_otherwise : CauseLaw nobody journals.one_disk (refused.instead 2 runs.agent_reset_told (notes.Op 0 operations.AgentReset words.Error ∷ [])) → ⊥
+operation_ends_otherwise : CauseLaw nobody journals.one_disk refused.operation_ends_otherwise → ⊥
 unfolding reading fault_of tcode_of header_of offset_of rcode_of value_of length_of extended_of three four part_of is_to is_same asked_by begun_by belongs start_at lowest_from label_for free_from count_flying lowest_flying label_of with_label is_write kind_of slot_of window_at is_fifo point_step doorbell_step reset_step abort_step reply_step lost_step refusal verdict request_of check_of blank_bytes command_kind elements_from made block_head decide reads_eui live_login response_bytes start_step reply_step_of_manager decide_step fresh_id left_for enter_step back_step leave_step
 operation_ends_otherwise = λ law. let bad = law.causes.0.operations in cc bad
 
@@ -242,7 +239,7 @@ management_short_otherwise : CauseLaw nobody journals.one_disk (rare.management_
 unfolding reading fault_of tcode_of header_of offset_of rcode_of value_of length_of extended_of three four part_of is_to is_same asked_by begun_by belongs start_at lowest_from label_for free_from count_flying lowest_flying label_of with_label is_write kind_of slot_of window_at is_fifo point_step doorbell_step reset_step abort_step reply_step lost_step refusal verdict request_of check_of blank_bytes command_kind elements_from made block_head decide reads_eui live_login response_bytes start_step reply_step_of_manager decide_step fresh_id left_for enter_step back_step leave_step
 management_short_otherwise = λ law. let bad = law.causes.0.failures in cc bad
 
-aborted_left_out : CauseLaw nobody journals.one_disk (refused.instead 8 runs.abort_told []) → ⊥
+aborted_left_out : CauseLaw nobody journals.one_disk refused.aborted_left_out → ⊥
 unfolding reading fault_of tcode_of header_of offset_of rcode_of value_of length_of extended_of three four part_of is_to is_same asked_by begun_by belongs start_at lowest_from label_for free_from count_flying lowest_flying label_of with_label is_write kind_of slot_of window_at is_fifo point_step doorbell_step reset_step abort_step reply_step lost_step refusal verdict request_of check_of blank_bytes command_kind elements_from made block_head decide reads_eui live_login response_bytes start_step reply_step_of_manager decide_step fresh_id left_for enter_step back_step leave_step
 aborted_left_out = λ law. let bad = law.causes.0.ends in cc bad
 

@@ -1,5 +1,5 @@
 -- Whether the fields of a note are inside their types, by computing.
-use Rattle.std.proofs.Common.{◌≡◌, ℕ, ◌<◌, List, [], ◌∷◌, refl}
+use Rattle.std.proofs.Common.{◌≡◌, ℕ, List, [], ◌∷◌, refl}
 use Rattle.std.specs.Prelude.{◌^◌, ◌&&◌, Bool, true, false, length, Some, None}
 use Rattle.std.specs.List.{AllByRecursion}
 use Rattle.std.proofs.Math.Dec.{ltb}

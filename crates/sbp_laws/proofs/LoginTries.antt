@@ -36,7 +36,6 @@ use Rattle.mgmt_agent.specs.Machine.{start_step, reply_step as reply_step_of_man
 use Rattle.login_table.specs.Table.{fresh_id, left_for, enter_step, back_step, leave_step}
 use Rattle.sbp_laws.specs.Refused as refused
 use Rattle.sbp_laws.specs.RareRuns as rare
-use Rattle.sbp_laws.specs.WorkedRuns as runs
 
 -- the decisions of a turn are those that are due
 as_due : (t : Turn) (due : List Note) → decisions_due (target_before journals.one_disk t) t ≡ due → HasLogins journals.one_disk t → of_kind is_decision_note t.rest ≡ due
@@ -116,19 +115,19 @@ decides_early : LoginLaw journals.one_disk refused.decides_early → ⊥
 unfolding reading fault_of tcode_of header_of offset_of rcode_of value_of length_of extended_of three four part_of is_to is_same asked_by begun_by belongs start_at lowest_from label_for free_from count_flying lowest_flying label_of with_label is_write kind_of slot_of window_at is_fifo point_step doorbell_step reset_step abort_step reply_step lost_step refusal verdict request_of check_of blank_bytes command_kind elements_from made block_head decide reads_eui live_login response_bytes start_step reply_step_of_manager decide_step fresh_id left_for enter_step back_step leave_step
 decides_early = λ law. let bad = law.0.decisions in cc bad
 
-left_left_out : LoginLaw journals.one_disk (refused.instead 8 runs.logout_told (notes.Managed 0 functions.Logout 1 0 None ∷ [])) → ⊥
+left_left_out : LoginLaw journals.one_disk refused.left_left_out → ⊥
 unfolding reading fault_of tcode_of header_of offset_of rcode_of value_of length_of extended_of three four part_of is_to is_same asked_by begun_by belongs start_at lowest_from label_for free_from count_flying lowest_flying label_of with_label is_write kind_of slot_of window_at is_fifo point_step doorbell_step reset_step abort_step reply_step lost_step refusal verdict request_of check_of blank_bytes command_kind elements_from made block_head decide reads_eui live_login response_bytes start_step reply_step_of_manager decide_step fresh_id left_for enter_step back_step leave_step
 left_left_out = λ law. let bad = law.0.logins in cc bad
 
-left_unasked : LoginLaw journals.one_disk (refused.instead 7 runs.logout_told (notes.Left 2 ∷ notes.Managed 0 functions.Logout 1 0 None ∷ [])) → ⊥
+left_unasked : LoginLaw journals.one_disk refused.left_unasked → ⊥
 unfolding reading fault_of tcode_of header_of offset_of rcode_of value_of length_of extended_of three four part_of is_to is_same asked_by begun_by belongs start_at lowest_from label_for free_from count_flying lowest_flying label_of with_label is_write kind_of slot_of window_at is_fifo point_step doorbell_step reset_step abort_step reply_step lost_step refusal verdict request_of check_of blank_bytes command_kind elements_from made block_head decide reads_eui live_login response_bytes start_step reply_step_of_manager decide_step fresh_id left_for enter_step back_step leave_step
 left_unasked = λ law. let bad = law.0.logins in cc bad
 
-back_left_out : LoginLaw journals.one_disk (refused.instead 8 runs.reconnect_told (notes.Managed 0 functions.Reconnect 1 0 None ∷ [])) → ⊥
+back_left_out : LoginLaw journals.one_disk refused.back_left_out → ⊥
 unfolding reading fault_of tcode_of header_of offset_of rcode_of value_of length_of extended_of three four part_of is_to is_same asked_by begun_by belongs start_at lowest_from label_for free_from count_flying lowest_flying label_of with_label is_write kind_of slot_of window_at is_fifo point_step doorbell_step reset_step abort_step reply_step lost_step refusal verdict request_of check_of blank_bytes command_kind elements_from made block_head decide reads_eui live_login response_bytes start_step reply_step_of_manager decide_step fresh_id left_for enter_step back_step leave_step
 back_left_out = λ law. let bad = law.0.logins in cc bad
 
-other_function : LoginLaw journals.one_disk (refused.instead 7 runs.logout_told (notes.Managed 0 functions.AbortSet 1 0 None ∷ [])) → ⊥
+other_function : LoginLaw journals.one_disk refused.other_function → ⊥
 unfolding reading fault_of tcode_of header_of offset_of rcode_of value_of length_of extended_of three four part_of is_to is_same asked_by begun_by belongs start_at lowest_from label_for free_from count_flying lowest_flying label_of with_label is_write kind_of slot_of window_at is_fifo point_step doorbell_step reset_step abort_step reply_step lost_step refusal verdict request_of check_of blank_bytes command_kind elements_from made block_head decide reads_eui live_login response_bytes start_step reply_step_of_manager decide_step fresh_id left_for enter_step back_step leave_step
 other_function = λ law. let bad = law.0.decisions in cc bad
 

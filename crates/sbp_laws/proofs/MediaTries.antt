@@ -30,7 +30,6 @@ use Rattle.mgmt_agent.specs.Machine.{start_step, reply_step as reply_step_of_man
 use Rattle.login_table.specs.Table.{fresh_id, left_for, enter_step, back_step, leave_step}
 use Rattle.sbp_laws.specs.Refused as refused
 use Rattle.sbp_laws.specs.RareRuns as rare
-use Rattle.sbp_laws.specs.WorkedRuns as runs
 use Rattle.std.specs.Prelude.{List, ℕ}
 use Rattle.sbp_journal.specs.declared.note.Note.{Note}
 
@@ -83,7 +82,7 @@ told_out_of_order : MediaLaw nobody journals.empty_bay (refused.tells_both (note
 unfolding reading fault_of tcode_of header_of offset_of rcode_of value_of length_of extended_of three four part_of is_to is_same asked_by begun_by belongs start_at lowest_from label_for free_from count_flying lowest_flying label_of with_label is_write kind_of slot_of window_at is_fifo point_step doorbell_step reset_step abort_step reply_step lost_step refusal verdict request_of check_of blank_bytes command_kind elements_from made block_head decide reads_eui live_login response_bytes start_step reply_step_of_manager decide_step fresh_id left_for enter_step back_step leave_step
 told_out_of_order = λ law. let bad : 2 ≡ 1 = ap first_told law.0.pushes in omega (arith, bad)
 
-told_left_out : MediaLaw nobody journals.empty_bay (refused.instead 5 runs.load_told []) → ⊥
+told_left_out : MediaLaw nobody journals.empty_bay refused.told_left_out → ⊥
 unfolding reading fault_of tcode_of header_of offset_of rcode_of value_of length_of extended_of three four part_of is_to is_same asked_by begun_by belongs start_at lowest_from label_for free_from count_flying lowest_flying label_of with_label is_write kind_of slot_of window_at is_fifo point_step doorbell_step reset_step abort_step reply_step lost_step refusal verdict request_of check_of blank_bytes command_kind elements_from made block_head decide reads_eui live_login response_bytes start_step reply_step_of_manager decide_step fresh_id left_for enter_step back_step leave_step
 told_left_out = λ law. let bad = law.0.told in cc bad
 

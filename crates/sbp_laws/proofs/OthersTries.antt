@@ -1,12 +1,12 @@
 -- The runs of a wild initiator that the laws for the others were tried on.
-use Rattle.std.proofs.Common.{◌≡◌, ℕ, ◌≤◌, [], ◌∷◌, ◌++◌, refl, inr, arith}
-use Rattle.std.specs.Prelude.{None, Some, true}
+use Rattle.std.proofs.Common.{◌≤◌, [], ◌∷◌, ◌++◌, refl, inr, arith}
+use Rattle.std.specs.Prelude.{None, true}
 use Rattle.sbp_journal.specs.Run.{history}
 use Rattle.orb_layout.specs.StatusBlocks.{status_bytes}
 use Rattle.async_packet.specs.Packet.{write_block, write_response, read_block, read_block_response}
 use Rattle.async_packet.specs.Canon.{canon}
 use Rattle.sbp_laws.specs.Turns.{EachMoment, EachTurn}
-use Rattle.sbp_laws.specs.Lawful.{FormAt, Lawful, LawfulForOthers, injectors, nobody}
+use Rattle.sbp_laws.specs.Lawful.{FormAt, Lawful, LawfulForOthers, injectors}
 use Rattle.sbp_laws.specs.Journals as journals
 use Rattle.sbp_laws.specs.RareRuns as rare
 use Rattle.sbp_laws.specs.Tried.{OthersTried}

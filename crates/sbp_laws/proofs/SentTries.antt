@@ -1,6 +1,6 @@
 -- The journals that the sent law was tried on.
 use Rattle.std.proofs.Common.{◌≡◌, ℕ, List, [], ◌∷◌, ◌++◌, refl, ap, arith}
-use Rattle.std.specs.Prelude.{Some, None, slice_index, replicate}
+use Rattle.std.specs.Prelude.{Bool, true, false, not, Some, None, slice_index}
 use Rattle.orb_layout.specs.Pointers.{quad_bytes}
 use Rattle.async_packet.specs.Packet.{write_block, write_response, read_block, read_block_response}
 use Rattle.sbp_journal.specs.Run.{said}
@@ -10,6 +10,8 @@ use Rattle.sbp_laws.specs.Turns.{EachMoment, EachTurn}
 use Rattle.sbp_laws.specs.Lawful.{nobody}
 use Rattle.sbp_laws.specs.Journals as journals
 use Rattle.sbp_laws.specs.Tried.{SentTried}
+use Rattle.sbp_journal.specs.Wire.{terms}
+use Rattle.sbp_laws.specs.Agents.{finds_untold}
 use Rattle.sbp_laws.specs.SentLaw.{SentLaw, AfterTurn}
 use Rattle.sbp_laws.specs.SentPackets.{SentAt}
 use Rattle.sbp_laws.specs.SentAnswers.{AnswersLaw}
@@ -19,7 +21,7 @@ use Rattle.orb_layout.specs.declared.status.StatusKind.TheVariants as kinds
 use Rattle.async_packet.specs.Reading.{reading}
 use Rattle.async_packet.specs.Faults.{fault_of}
 use Rattle.async_packet.specs.Fields.{tcode_of, header_of, offset_of, rcode_of, value_of, length_of, extended_of}
-use Rattle.async_packet.specs.Canon.{three, four, canon}
+use Rattle.async_packet.specs.Canon.{three, four}
 use Rattle.sbp_journal.specs.Transactions.{part_of, is_to, is_same, asked_by, begun_by, belongs}
 use Rattle.sbp_journal.specs.Addresses.{start_at}
 use Rattle.sbp_laws.specs.Packets.{lowest_from, label_for, free_from}
@@ -41,8 +43,6 @@ use Rattle.mgmt_agent.specs.Machine.{start_step, reply_step as reply_step_of_man
 use Rattle.login_table.specs.Table.{fresh_id, left_for, enter_step, back_step, leave_step}
 use Rattle.sbp_laws.specs.Refused as refused
 use Rattle.sbp_laws.specs.RareRuns as rare
-use Rattle.sbp_laws.specs.WorkedRuns as runs
-use Rattle.orb_layout.specs.ManagementOrbs.{management_bytes}
 
 -- the bytes of a packet
 abbrev first_bytes : Note → List ℕ
@@ -185,19 +185,19 @@ dummy_served_plain : SentLaw nobody journals.one_disk (refused.serves_dummy (ref
 unfolding reading fault_of tcode_of header_of offset_of rcode_of value_of length_of extended_of three four part_of is_to is_same asked_by begun_by belongs start_at lowest_from label_for free_from count_flying lowest_flying label_of with_label is_write kind_of slot_of window_at is_fifo point_step doorbell_step reset_step abort_step reply_step lost_step refusal verdict request_of check_of blank_bytes command_kind elements_from made block_head decide reads_eui live_login response_bytes start_step reply_step_of_manager decide_step fresh_id left_for enter_step back_step leave_step
 dummy_served_plain = λ law. let bad : 0x82 ≡ 0xe2 = ap (λ xs. slice_index xs 32) (ap first_bytes (law.answers.0.begins refl).0) in omega (arith, bad)
 
-other_table : SentLaw nobody journals.one_disk (refused.instead 18 runs.table_told (notes.Sent 6 0 1 0 (canon (read_block_response (journals.to_target 0) 0 (quad_bytes (0x01000000 ∷ 0x11000000 ∷ 0x01000000 ∷ 0x11000100 ∷ [])))) ∷ [])) → ⊥
+other_table : SentLaw nobody journals.one_disk refused.other_table → ⊥
 unfolding reading fault_of tcode_of header_of offset_of rcode_of value_of length_of extended_of three four part_of is_to is_same asked_by begun_by belongs start_at lowest_from label_for free_from count_flying lowest_flying label_of with_label is_write kind_of slot_of window_at is_fifo point_step doorbell_step reset_step abort_step reply_step lost_step refusal verdict request_of check_of blank_bytes command_kind elements_from made block_head decide reads_eui live_login response_bytes start_step reply_step_of_manager decide_step fresh_id left_for enter_step back_step leave_step
 other_table = λ law. let bad : 0 ≡ 0x10 = ap (λ xs. slice_index xs 31) (ap first_bytes (law.answers.0.begins refl).0) in omega (arith, bad)
 
-other_data : SentLaw nobody journals.one_disk (refused.instead 14 runs.table_told (notes.Sent 8 0 1 0 (canon (read_block_response (journals.to_target 0) 0 (replicate 256 0xbb))) ∷ [])) → ⊥
+other_data : SentLaw nobody journals.one_disk refused.other_data_served → ⊥
 unfolding reading fault_of tcode_of header_of offset_of rcode_of value_of length_of extended_of three four part_of is_to is_same asked_by begun_by belongs start_at lowest_from label_for free_from count_flying lowest_flying label_of with_label is_write kind_of slot_of window_at is_fifo point_step doorbell_step reset_step abort_step reply_step lost_step refusal verdict request_of check_of blank_bytes command_kind elements_from made block_head decide reads_eui live_login response_bytes start_step reply_step_of_manager decide_step fresh_id left_for enter_step back_step leave_step
 other_data = λ law. let bad : 0xbb ≡ 0xaa = ap (λ xs. slice_index xs 16) (ap first_bytes (law.answers.0.begins refl).0) in omega (arith, bad)
 
-chunk_elsewhere : SentLaw nobody journals.one_disk (refused.instead 16 runs.table_told (notes.Sent 7 0 0 1 (canon (read_block (journals.to_first 0) 0x11000100 256)) ∷ [])) → ⊥
+chunk_elsewhere : SentLaw nobody journals.one_disk refused.chunk_elsewhere → ⊥
 unfolding reading fault_of tcode_of header_of offset_of rcode_of value_of length_of extended_of three four part_of is_to is_same asked_by begun_by belongs start_at lowest_from label_for free_from count_flying lowest_flying label_of with_label is_write kind_of slot_of window_at is_fifo point_step doorbell_step reset_step abort_step reply_step lost_step refusal verdict request_of check_of blank_bytes command_kind elements_from made block_head decide reads_eui live_login response_bytes start_step reply_step_of_manager decide_step fresh_id left_for enter_step back_step leave_step
 chunk_elsewhere = λ law. let bad : 1 ≡ 0 = ap (λ xs. slice_index xs 10) ((law.requests.0 refl).0.spelled) in omega (arith, bad)
 
-chunk_too_long : SentLaw nobody journals.one_disk (refused.instead 16 runs.table_told (notes.Sent 7 0 0 1 (canon (read_block (journals.to_first 0) 0x11000000 512)) ∷ [])) → ⊥
+chunk_too_long : SentLaw nobody journals.one_disk refused.chunk_too_long → ⊥
 unfolding reading fault_of tcode_of header_of offset_of rcode_of value_of length_of extended_of three four part_of is_to is_same asked_by begun_by belongs start_at lowest_from label_for free_from count_flying lowest_flying label_of with_label is_write kind_of slot_of window_at is_fifo point_step doorbell_step reset_step abort_step reply_step lost_step refusal verdict request_of check_of blank_bytes command_kind elements_from made block_head decide reads_eui live_login response_bytes start_step reply_step_of_manager decide_step fresh_id left_for enter_step back_step leave_step
 chunk_too_long = λ law. let bad : 2 ≡ 1 = ap (λ xs. slice_index xs 12) ((law.requests.0 refl).0.spelled) in omega (arith, bad)
 
@@ -209,7 +209,7 @@ rom_not_read_on : SentLaw nobody journals.one_disk (said (notes.Got 2) ∷ refus
 unfolding reading fault_of tcode_of header_of offset_of rcode_of value_of length_of extended_of three four part_of is_to is_same asked_by begun_by belongs start_at lowest_from label_for free_from count_flying lowest_flying label_of with_label is_write kind_of slot_of window_at is_fifo point_step doorbell_step reset_step abort_step reply_step lost_step refusal verdict request_of check_of blank_bytes command_kind elements_from made block_head decide reads_eui live_login response_bytes start_step reply_step_of_manager decide_step fresh_id left_for enter_step back_step leave_step
 rom_not_read_on = λ law. law.requests.0 refl
 
-other_management_orb : SentLaw nobody journals.one_disk (refused.instead 10 runs.logout_told (notes.Sent 4 0 1 0 (canon (read_block_response (journals.to_target 0) 0 (management_bytes (rare.orb_of 3)))) ∷ [])) → ⊥
+other_management_orb : SentLaw nobody journals.one_disk refused.other_management_orb → ⊥
 unfolding reading fault_of tcode_of header_of offset_of rcode_of value_of length_of extended_of three four part_of is_to is_same asked_by begun_by belongs start_at lowest_from label_for free_from count_flying lowest_flying label_of with_label is_write kind_of slot_of window_at is_fifo point_step doorbell_step reset_step abort_step reply_step lost_step refusal verdict request_of check_of blank_bytes command_kind elements_from made block_head decide reads_eui live_login response_bytes start_step reply_step_of_manager decide_step fresh_id left_for enter_step back_step leave_step
 other_management_orb = λ law. let bad : 3 ≡ 7 = ap (λ xs. slice_index xs 33) (ap first_bytes (law.answers.0.begins refl).0) in omega (arith, bad)
 
@@ -217,7 +217,7 @@ eui_not_read : SentLaw nobody journals.one_disk (said (notes.Got 4) ∷ journals
 unfolding reading fault_of tcode_of header_of offset_of rcode_of value_of length_of extended_of three four part_of is_to is_same asked_by begun_by belongs start_at lowest_from label_for free_from count_flying lowest_flying label_of with_label is_write kind_of slot_of window_at is_fifo point_step doorbell_step reset_step abort_step reply_step lost_step refusal verdict request_of check_of blank_bytes command_kind elements_from made block_head decide reads_eui live_login response_bytes start_step reply_step_of_manager decide_step fresh_id left_for enter_step back_step leave_step
 eui_not_read = λ law. law.requests.0 refl
 
-management_status_elsewhere : SentLaw nobody journals.one_disk (refused.instead 6 runs.logout_told (notes.Sent 5 0 0 1 (canon (write_block (journals.to_first 0) 0x12002000 (quad_bytes (0x01000000 ∷ 0x12000020 ∷ [])))) ∷ [])) → ⊥
+management_status_elsewhere : SentLaw nobody journals.one_disk refused.management_status_elsewhere → ⊥
 unfolding reading fault_of tcode_of header_of offset_of rcode_of value_of length_of extended_of three four part_of is_to is_same asked_by begun_by belongs start_at lowest_from label_for free_from count_flying lowest_flying label_of with_label is_write kind_of slot_of window_at is_fifo point_step doorbell_step reset_step abort_step reply_step lost_step refusal verdict request_of check_of blank_bytes command_kind elements_from made block_head decide reads_eui live_login response_bytes start_step reply_step_of_manager decide_step fresh_id left_for enter_step back_step leave_step
 management_status_elsewhere = λ law. let bad : 0x20 ≡ 0 = ap (λ xs. slice_index xs 23) ((law.requests.0 refl).0.spelled) in omega (arith, bad)
 
@@ -225,7 +225,7 @@ pointer_read_whole : SentLaw nobody journals.one_disk (refused.rereads_by 32) �
 unfolding reading fault_of tcode_of header_of offset_of rcode_of value_of length_of extended_of three four part_of is_to is_same asked_by begun_by belongs start_at lowest_from label_for free_from count_flying lowest_flying label_of with_label is_write kind_of slot_of window_at is_fifo point_step doorbell_step reset_step abort_step reply_step lost_step refusal verdict request_of check_of blank_bytes command_kind elements_from made block_head decide reads_eui live_login response_bytes start_step reply_step_of_manager decide_step fresh_id left_for enter_step back_step leave_step
 pointer_read_whole = λ law. let bad : 0x20 ≡ 8 = ap (λ xs. slice_index xs 13) ((law.requests.0 refl).0.spelled) in omega (arith, bad)
 
-status_unasked : SentLaw nobody journals.one_disk (refused.instead 0 (journals.told (journals.till_pointer ++ (journals.points_agent ++ said (notes.Got 2) ∷ []))) (notes.Sent 4 0 0 1 (journals.status_packet 0x41000000) ∷ [])) → ⊥
+status_unasked : SentLaw nobody journals.one_disk refused.status_unasked → ⊥
 unfolding reading fault_of tcode_of header_of offset_of rcode_of value_of length_of extended_of three four part_of is_to is_same asked_by begun_by belongs start_at lowest_from label_for free_from count_flying lowest_flying label_of with_label is_write kind_of slot_of window_at is_fifo point_step doorbell_step reset_step abort_step reply_step lost_step refusal verdict request_of check_of blank_bytes command_kind elements_from made block_head decide reads_eui live_login response_bytes start_step reply_step_of_manager decide_step fresh_id left_for enter_step back_step leave_step
 status_unasked = λ law. law.requests.0 refl
 
@@ -253,5 +253,17 @@ ahead_within_reserve_left_out : SentLaw nobody journals.one_disk (refused.checke
 unfolding reading fault_of tcode_of header_of offset_of rcode_of value_of length_of extended_of three four part_of is_to is_same asked_by begun_by belongs start_at lowest_from label_for free_from count_flying lowest_flying label_of with_label is_write kind_of slot_of window_at is_fifo point_step doorbell_step reset_step abort_step reply_step lost_step refusal verdict request_of check_of blank_bytes command_kind elements_from made block_head decide reads_eui live_login response_bytes start_step reply_step_of_manager decide_step fresh_id left_for enter_step back_step leave_step
 ahead_within_reserve_left_out = λ law. (law.requests.0 refl).1
 
+untold_finds : (dies : Bool) → finds_untold (terms (journals.told journals.begins)) 1 dies rare.some_chunk ≡ true
+unfolding reading fault_of tcode_of header_of offset_of rcode_of value_of length_of extended_of three four part_of is_to is_same asked_by begun_by belongs start_at lowest_from label_for free_from count_flying lowest_flying label_of with_label is_write kind_of slot_of window_at is_fifo point_step doorbell_step reset_step abort_step reply_step lost_step refusal verdict request_of check_of blank_bytes command_kind elements_from made block_head decide reads_eui live_login response_bytes start_step reply_step_of_manager decide_step fresh_id left_for enter_step back_step leave_step
+untold_finds dies = refl
+
+untold_finds_none : (dies : Bool) → finds_untold (terms (rare.labels_gone [])) 1 dies rare.some_chunk ≡ false
+unfolding reading fault_of tcode_of header_of offset_of rcode_of value_of length_of extended_of three four part_of is_to is_same asked_by begun_by belongs start_at lowest_from label_for free_from count_flying lowest_flying label_of with_label is_write kind_of slot_of window_at is_fifo point_step doorbell_step reset_step abort_step reply_step lost_step refusal verdict request_of check_of blank_bytes command_kind elements_from made block_head decide reads_eui live_login response_bytes start_step reply_step_of_manager decide_step fresh_id left_for enter_step back_step leave_step
+untold_finds_none dies = refl
+
+untold_may_find : (dies : Bool) → finds_untold (terms rare.one_label_left) 1 dies rare.some_chunk ≡ not dies
+unfolding reading fault_of tcode_of header_of offset_of rcode_of value_of length_of extended_of three four part_of is_to is_same asked_by begun_by belongs start_at lowest_from label_for free_from count_flying lowest_flying label_of with_label is_write kind_of slot_of window_at is_fifo point_step doorbell_step reset_step abort_step reply_step lost_step refusal verdict request_of check_of blank_bytes command_kind elements_from made block_head decide reads_eui live_login response_bytes start_step reply_step_of_manager decide_step fresh_id left_for enter_step back_step leave_step
+untold_may_find dies = refl
+
 pub tried : SentTried
-tried = record { accepts = accepts; unanswered = unanswered; answered_twice = answered_twice; answered_otherwise = answered_otherwise; not_fetched = not_fetched; fetched_elsewhere = fetched_elsewhere; linked_too_early = linked_too_early; resting_label = resting_label; other_src = other_src; status_unsent = status_unsent; nothing_read_ahead = nothing_read_ahead; doorbell_ignored = doorbell_ignored; other_place = other_place; serial_left_out = serial_left_out; other_generation = other_generation; other_retry = other_retry; other_source = other_source; higher_label = higher_label; other_register = other_register; other_value = other_value; other_number = other_number; other_state = other_state; conflict_left_out = conflict_left_out; dummy_served_plain = dummy_served_plain; other_table = other_table; other_data = other_data; chunk_elsewhere = chunk_elsewhere; chunk_too_long = chunk_too_long; other_rom = other_rom; rom_not_read_on = rom_not_read_on; other_management_orb = other_management_orb; eui_not_read = eui_not_read; management_status_elsewhere = management_status_elsewhere; pointer_read_whole = pointer_read_whole; status_unasked = status_unasked; status_elsewhere = status_elsewhere; status_of_another = status_of_another; reads_ahead_at_null = reads_ahead_at_null; untold_elsewhere = untold_elsewhere; ahead_past_its_reserve = ahead_past_its_reserve; ahead_within_reserve_left_out = ahead_within_reserve_left_out }
+tried = record { accepts = accepts; unanswered = unanswered; answered_twice = answered_twice; answered_otherwise = answered_otherwise; not_fetched = not_fetched; fetched_elsewhere = fetched_elsewhere; linked_too_early = linked_too_early; resting_label = resting_label; other_src = other_src; status_unsent = status_unsent; nothing_read_ahead = nothing_read_ahead; doorbell_ignored = doorbell_ignored; other_place = other_place; serial_left_out = serial_left_out; other_generation = other_generation; other_retry = other_retry; other_source = other_source; higher_label = higher_label; other_register = other_register; other_value = other_value; other_number = other_number; other_state = other_state; conflict_left_out = conflict_left_out; dummy_served_plain = dummy_served_plain; other_table = other_table; other_data = other_data; chunk_elsewhere = chunk_elsewhere; chunk_too_long = chunk_too_long; other_rom = other_rom; rom_not_read_on = rom_not_read_on; other_management_orb = other_management_orb; eui_not_read = eui_not_read; management_status_elsewhere = management_status_elsewhere; pointer_read_whole = pointer_read_whole; status_unasked = status_unasked; status_elsewhere = status_elsewhere; status_of_another = status_of_another; reads_ahead_at_null = reads_ahead_at_null; untold_elsewhere = untold_elsewhere; ahead_past_its_reserve = ahead_past_its_reserve; ahead_within_reserve_left_out = ahead_within_reserve_left_out; untold_finds = untold_finds; untold_finds_none = untold_finds_none; untold_may_find = untold_may_find }

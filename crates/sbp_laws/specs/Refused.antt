@@ -1,6 +1,5 @@
 -- Journals that are each refused by a law, since they differ in a note from a worked run or from a part of one.
-use Rattle.std.specs.Prelude.{ℕ, zero, suc, ◌+◌, true, false, List, [], ◌∷◌, ◌++◌, map, drop, reverse, replicate, Option, None, Some}
-use Rattle.async_packet.specs.declared.packet.Header.{Header}
+use Rattle.std.specs.Prelude.{ℕ, zero, suc, ◌+◌, true, List, [], ◌∷◌, ◌++◌, map, drop, reverse, replicate, Option, None, Some}
 use Rattle.async_packet.specs.Packet.{write_quadlet, write_block, write_response, read_quadlet, read_block, read_quadlet_response, read_block_response}
 use Rattle.async_packet.specs.Canon.{canon}
 use Rattle.orb_layout.specs.declared.status.StatusKind.{StatusKind}
@@ -10,21 +9,19 @@ use Rattle.orb_layout.specs.ManagementOrbs.{management_bytes}
 use Rattle.orb_layout.specs.Pointers.{quad_bytes}
 use Rattle.rbc_command.specs.declared.sense.Sense.{Sense}
 use Rattle.sbp_journal.specs.Run.{Entry, Moment, asked, said}
-use Rattle.sbp_journal.specs.declared.cause.Cause.{Cause}
 use Rattle.sbp_journal.specs.declared.cause.Cause.TheVariants as ignored
-use Rattle.sbp_journal.specs.declared.cause.CutCause.TheVariants as cuts
 use Rattle.sbp_journal.specs.declared.event.Event.{Event}
 use Rattle.sbp_journal.specs.declared.event.Event.TheVariants as events
 use Rattle.sbp_journal.specs.declared.event.Action.TheVariants as actions
-use Rattle.sbp_journal.specs.declared.event.Cmd.{Cmd}
 use Rattle.sbp_journal.specs.declared.note.NoteBuffer.TheVariants.{Nothing, In, Out}
 use Rattle.sbp_journal.specs.declared.note.Note.{Note}
 use Rattle.sbp_journal.specs.declared.note.Note.TheVariants as notes
 use Rattle.sbp_journal.specs.declared.operation.FunctionWord.TheVariants as functions
 use Rattle.sbp_journal.specs.declared.operation.Operation.TheVariants as operations
 use Rattle.sbp_journal.specs.declared.operation.OpWord.TheVariants as words
-use Rattle.sbp_laws.specs.Journals.{told, begins, appends_first, appended, settles, resets, till_pointer, till_orb, till_status, points_agent, takes_status, comes_to_rest, ran, ended, two_appended, comes_again, rings_suspended, links_second, four_ticks, first_sees, state_packet, target_id, first_id, second_id, header, to_target, to_first, done_by_target, done_by_first, fetch_packet, orb_bytes, orb_packet, pointer_packet, status_packet, test_ready, ready_block, block_of, write_block_0, two_begin, enables, loads, login_orb, reads_login, reads_eui, begin_entry, append_entry, entry, wild_bytes, first_sees, settle_notes}
+use Rattle.sbp_laws.specs.Journals.{told, begins, appends_first, appended, resets, till_pointer, till_orb, till_status, points_agent, takes_status, ran, ended, two_appended, comes_again, rings_suspended, links_second, state_packet, target_id, first_id, second_id, header, to_target, to_first, done_by_target, done_by_first, fetch_packet, orb_packet, pointer_packet, status_packet, test_ready, ready_block, block_of, write_block_0, two_begin, enables, loads, reads_login, begin_entry, append_entry, entry}
 use Rattle.sbp_laws.specs.WorkedRuns as runs
+use Rattle.sbp_laws.specs.RareRuns as rare
 use Rattle.sbp_laws.specs.RareRuns.{behind, from_second, to_second, read_block_0, reads_block}
 
 -- a run without its latest moments, and with these notes instead
@@ -295,3 +292,63 @@ checked_beside count more =
 
 abbrev pub fetches_ahead : Note
 fetches_ahead = notes.Sent 7 0 0 1 (fetch_packet 1 0x10000040)
+
+-- ---- worked runs that end otherwise, by the laws that refuse them
+-- carried
+abbrev pub answer_otherwise : List Moment
+answer_otherwise = instead 4 runs.capacity_told (notes.Taken 0 0 0 kinds.Good (quad_bytes (1 ∷ 512 ∷ [])) ∷ [])
+
+abbrev pub other_data : List Moment
+other_data = instead 8 runs.table_told (notes.Ran 0 (Some 0) (Some 0) 0 runs.write_block_0 (replicate 512 0xbb) None ∷ [])
+
+-- cause
+abbrev pub agent_reset_cuts_not : List Moment
+agent_reset_cuts_not = instead 6 runs.agent_reset_told []
+
+abbrev pub agent_reset_drops_not : List Moment
+agent_reset_drops_not = instead 3 runs.agent_reset_told (notes.Op 0 operations.AgentReset words.Done ∷ [])
+
+abbrev pub operation_ends_otherwise : List Moment
+operation_ends_otherwise = instead 2 runs.agent_reset_told (notes.Op 0 operations.AgentReset words.Error ∷ [])
+
+abbrev pub aborted_left_out : List Moment
+aborted_left_out = instead 8 runs.abort_told []
+
+-- login
+abbrev pub left_left_out : List Moment
+left_left_out = instead 8 runs.logout_told (notes.Managed 0 functions.Logout 1 0 None ∷ [])
+
+abbrev pub left_unasked : List Moment
+left_unasked = instead 7 runs.logout_told (notes.Left 2 ∷ notes.Managed 0 functions.Logout 1 0 None ∷ [])
+
+abbrev pub back_left_out : List Moment
+back_left_out = instead 8 runs.reconnect_told (notes.Managed 0 functions.Reconnect 1 0 None ∷ [])
+
+abbrev pub other_function : List Moment
+other_function = instead 7 runs.logout_told (notes.Managed 0 functions.AbortSet 1 0 None ∷ [])
+
+-- sent
+abbrev pub other_table : List Moment
+other_table = instead 18 runs.table_told (notes.Sent 6 0 1 0 (canon (read_block_response (to_target 0) 0 (quad_bytes (0x01000000 ∷ 0x11000000 ∷ 0x01000000 ∷ 0x11000100 ∷ [])))) ∷ [])
+
+abbrev pub other_data_served : List Moment
+other_data_served = instead 14 runs.table_told (notes.Sent 8 0 1 0 (canon (read_block_response (to_target 0) 0 (replicate 256 0xbb))) ∷ [])
+
+abbrev pub chunk_elsewhere : List Moment
+chunk_elsewhere = instead 16 runs.table_told (notes.Sent 7 0 0 1 (canon (read_block (to_first 0) 0x11000100 256)) ∷ [])
+
+abbrev pub chunk_too_long : List Moment
+chunk_too_long = instead 16 runs.table_told (notes.Sent 7 0 0 1 (canon (read_block (to_first 0) 0x11000000 512)) ∷ [])
+
+abbrev pub other_management_orb : List Moment
+other_management_orb = instead 10 runs.logout_told (notes.Sent 4 0 1 0 (canon (read_block_response (to_target 0) 0 (management_bytes (rare.orb_of 3)))) ∷ [])
+
+abbrev pub management_status_elsewhere : List Moment
+management_status_elsewhere = instead 6 runs.logout_told (notes.Sent 5 0 0 1 (canon (write_block (to_first 0) 0x12002000 (quad_bytes (0x01000000 ∷ 0x12000020 ∷ [])))) ∷ [])
+
+abbrev pub status_unasked : List Moment
+status_unasked = instead 0 (told (till_pointer ++ (points_agent ++ said (notes.Got 2) ∷ []))) (notes.Sent 4 0 0 1 (status_packet 0x41000000) ∷ [])
+
+-- media
+abbrev pub told_left_out : List Moment
+told_left_out = instead 5 runs.load_told []

@@ -1,9 +1,11 @@
 -- What the laws say of the journals of Journals.antt: of each law one that it accepts, and others that it refuses.
-use Rattle.std.specs.Prelude.{◌≡◌, [], ◌∷◌, None, Some, List, replicate, true, false, ◌++◌}
+use Rattle.std.specs.Prelude.{◌≡◌, [], ◌∷◌, None, Some, List, replicate, true, false, ◌++◌, not, Bool}
 use Rattle.orb_layout.specs.Pointers.{quad_bytes}
 use Rattle.rbc_disk.specs.Disk.{Disk}
 use Rattle.sbp_journal.specs.Run.{Moment, said}
 use Rattle.sbp_journal.specs.declared.note.Note.TheVariants as notes
+use Rattle.sbp_journal.specs.Wire.{terms}
+use Rattle.sbp_laws.specs.Agents.{finds_untold}
 use Rattle.sbp_laws.specs.Lawful.{nobody, LawfulForOthers, Lawful}
 use Rattle.sbp_laws.specs.OnceLaw.{OnceLaw}
 use Rattle.sbp_laws.specs.OrderLaw.{OrderLaw}
@@ -29,11 +31,6 @@ use Rattle.sbp_journal.specs.declared.cause.Cause.TheVariants as ignored
 use Rattle.sbp_journal.specs.declared.event.Event.TheVariants as events
 use Rattle.sbp_journal.specs.declared.event.Action.TheVariants as actions
 use Rattle.sbp_journal.specs.declared.operation.FunctionWord.TheVariants as functions
-use Rattle.sbp_journal.specs.declared.operation.Operation.TheVariants as operations
-use Rattle.sbp_journal.specs.declared.operation.OpWord.TheVariants as words
-use Rattle.orb_layout.specs.ManagementOrbs.{management_bytes}
-use Rattle.async_packet.specs.Canon.{canon}
-use Rattle.async_packet.specs.Packet.{read_block_response, read_block, write_block}
 use Rattle.rbc_command.specs.SenseData.{no_medium, was_reset, write_failed, read_failed, no_command}
 use Rattle.sbp_journal.specs.declared.note.NoteBuffer.TheVariants.{Nothing}
 
@@ -108,8 +105,8 @@ pub record CarriedTried : Type 0 where
   pub answer_uncarried : CarriedLaw nobody journals.one_disk (journals.capacity_taken (quad_bytes (0 ∷ 512 ∷ []))) → ⊥
   pub run_unread : CarriedLaw nobody journals.one_disk journals.run_unread → ⊥
   pub run_left_out : CarriedLaw nobody journals.one_disk journals.run_left_out → ⊥
-  pub answer_otherwise : CarriedLaw nobody journals.one_disk (refused.instead 4 runs.capacity_told (notes.Taken 0 0 0 kinds.Good (quad_bytes (1 ∷ 512 ∷ [])) ∷ [])) → ⊥
-  pub other_data : CarriedLaw nobody journals.one_disk (refused.instead 8 runs.table_told (notes.Ran 0 (Some 0) (Some 0) 0 runs.write_block_0 (replicate 512 0xbb) None ∷ [])) → ⊥
+  pub answer_otherwise : CarriedLaw nobody journals.one_disk refused.answer_otherwise → ⊥
+  pub other_data : CarriedLaw nobody journals.one_disk refused.other_data → ⊥
   pub dummy_unmade : CarriedLaw nobody journals.one_disk (refused.orb_brought (refused.orb_of 0x82900000 0) (refused.ends_as_dummy 0)) → ⊥
   pub good_of_dummy : CarriedLaw nobody journals.one_disk (refused.orb_brought (refused.orb_of 0xe2900000 0) refused.runs_ready) → ⊥
   pub other_command : CarriedLaw nobody journals.one_disk (refused.orb_brought (refused.orb_of 0x82900000 0x25000000) refused.runs_ready) → ⊥
@@ -143,9 +140,9 @@ pub record CauseTried : Type 0 where
   pub logout_cuts_otherwise : CauseLaw nobody journals.one_disk (rare.log_out (notes.Cut 0 (Some 0) cuts.AbortSet ∷ [])) → ⊥
   pub target_is_reset : CauseLaw nobody journals.one_disk (rare.target_reset (notes.Cut 0 (Some 0) cuts.TargetReset ∷ notes.Cleared 0 ∷ []))
   pub target_reset_clears_not : CauseLaw nobody journals.one_disk (rare.target_reset (notes.Cut 0 (Some 0) cuts.TargetReset ∷ [])) → ⊥
-  pub agent_reset_cuts_not : CauseLaw nobody journals.one_disk (refused.instead 6 runs.agent_reset_told []) → ⊥
-  pub agent_reset_drops_not : CauseLaw nobody journals.one_disk (refused.instead 3 runs.agent_reset_told (notes.Op 0 operations.AgentReset words.Done ∷ [])) → ⊥
-  pub operation_ends_otherwise : CauseLaw nobody journals.one_disk (refused.instead 2 runs.agent_reset_told (notes.Op 0 operations.AgentReset words.Error ∷ [])) → ⊥
+  pub agent_reset_cuts_not : CauseLaw nobody journals.one_disk refused.agent_reset_cuts_not → ⊥
+  pub agent_reset_drops_not : CauseLaw nobody journals.one_disk refused.agent_reset_drops_not → ⊥
+  pub operation_ends_otherwise : CauseLaw nobody journals.one_disk refused.operation_ends_otherwise → ⊥
   pub reset_cuts_both : CauseLaw nobody journals.one_disk (rare.sees_reset (rare.cut_by_reset 0 ∷ rare.cut_by_reset 1 ∷ []))
   pub reset_cuts_one : CauseLaw nobody journals.one_disk (rare.sees_reset (rare.cut_by_reset 0 ∷ [])) → ⊥
   pub cuts_out_of_order : CauseLaw nobody journals.one_disk (rare.sees_reset (rare.cut_by_reset 1 ∷ rare.cut_by_reset 0 ∷ [])) → ⊥
@@ -167,7 +164,7 @@ pub record CauseTried : Type 0 where
   pub management_refused_otherwise : CauseLaw nobody journals.one_disk (rare.management_answered 7 [] (rare.management_fails causes.Grammar)) → ⊥
   pub management_short : CauseLaw nobody journals.one_disk (rare.management_answered 0 (quad_bytes (0 ∷ 0 ∷ 0 ∷ 0 ∷ 0 ∷ 0 ∷ [])) (rare.management_fails causes.Grammar))
   pub management_short_otherwise : CauseLaw nobody journals.one_disk (rare.management_answered 0 (quad_bytes (0 ∷ 0 ∷ 0 ∷ 0 ∷ 0 ∷ 0 ∷ [])) (rare.management_fails causes.Refused)) → ⊥
-  pub aborted_left_out : CauseLaw nobody journals.one_disk (refused.instead 8 runs.abort_told []) → ⊥
+  pub aborted_left_out : CauseLaw nobody journals.one_disk refused.aborted_left_out → ⊥
   pub dead_at_pointer : CauseLaw nobody journals.one_disk (refused.reread_times_out refused.dies_by)
   pub pointer_ends_an_orb : CauseLaw nobody journals.one_disk (refused.reread_times_out (refused.dies_by ++ notes.Ended 0 (Some 0) (Some 0) kinds.Failed ∷ [])) → ⊥
   pub status_ends_again : CauseLaw nobody journals.one_disk (refused.status_times_out (refused.dies_by ++ notes.Ended 0 (Some 0) (Some 0) kinds.Failed ∷ [])) → ⊥
@@ -218,10 +215,10 @@ pub record LoginTried : Type 0 where
   pub exclusive_passed_over : LoginLaw journals.one_disk (rare.exclusive 0 (Some 2)) → ⊥
   pub expires_early : LoginLaw journals.one_disk (refused.expires_at (notes.Expired 1 ∷ [])) → ⊥
   pub decides_early : LoginLaw journals.one_disk refused.decides_early → ⊥
-  pub left_left_out : LoginLaw journals.one_disk (refused.instead 8 runs.logout_told (notes.Managed 0 functions.Logout 1 0 None ∷ [])) → ⊥
-  pub left_unasked : LoginLaw journals.one_disk (refused.instead 7 runs.logout_told (notes.Left 2 ∷ notes.Managed 0 functions.Logout 1 0 None ∷ [])) → ⊥
-  pub back_left_out : LoginLaw journals.one_disk (refused.instead 8 runs.reconnect_told (notes.Managed 0 functions.Reconnect 1 0 None ∷ [])) → ⊥
-  pub other_function : LoginLaw journals.one_disk (refused.instead 7 runs.logout_told (notes.Managed 0 functions.AbortSet 1 0 None ∷ [])) → ⊥
+  pub left_left_out : LoginLaw journals.one_disk refused.left_left_out → ⊥
+  pub left_unasked : LoginLaw journals.one_disk refused.left_unasked → ⊥
+  pub back_left_out : LoginLaw journals.one_disk refused.back_left_out → ⊥
+  pub other_function : LoginLaw journals.one_disk refused.other_function → ⊥
 
 pub record SentTried : Type 0 where
   pub accepts : SentLaw nobody journals.one_disk journals.whole
@@ -248,23 +245,26 @@ pub record SentTried : Type 0 where
   pub other_state : SentLaw nobody journals.one_disk (refused.reads_state 1) → ⊥
   pub conflict_left_out : SentLaw nobody journals.one_disk (refused.second_manages 0) → ⊥
   pub dummy_served_plain : SentLaw nobody journals.one_disk (refused.serves_dummy (refused.plain_bytes 0x82900000)) → ⊥
-  pub other_table : SentLaw nobody journals.one_disk (refused.instead 18 runs.table_told (notes.Sent 6 0 1 0 (canon (read_block_response (journals.to_target 0) 0 (quad_bytes (0x01000000 ∷ 0x11000000 ∷ 0x01000000 ∷ 0x11000100 ∷ [])))) ∷ [])) → ⊥
-  pub other_data : SentLaw nobody journals.one_disk (refused.instead 14 runs.table_told (notes.Sent 8 0 1 0 (canon (read_block_response (journals.to_target 0) 0 (replicate 256 0xbb))) ∷ [])) → ⊥
-  pub chunk_elsewhere : SentLaw nobody journals.one_disk (refused.instead 16 runs.table_told (notes.Sent 7 0 0 1 (canon (read_block (journals.to_first 0) 0x11000100 256)) ∷ [])) → ⊥
-  pub chunk_too_long : SentLaw nobody journals.one_disk (refused.instead 16 runs.table_told (notes.Sent 7 0 0 1 (canon (read_block (journals.to_first 0) 0x11000000 512)) ∷ [])) → ⊥
+  pub other_table : SentLaw nobody journals.one_disk refused.other_table → ⊥
+  pub other_data : SentLaw nobody journals.one_disk refused.other_data_served → ⊥
+  pub chunk_elsewhere : SentLaw nobody journals.one_disk refused.chunk_elsewhere → ⊥
+  pub chunk_too_long : SentLaw nobody journals.one_disk refused.chunk_too_long → ⊥
   pub other_rom : SentLaw nobody journals.one_disk (refused.reads_rom 0) → ⊥
   pub rom_not_read_on : SentLaw nobody journals.one_disk (said (notes.Got 2) ∷ refused.reads_rom 0) → ⊥
-  pub other_management_orb : SentLaw nobody journals.one_disk (refused.instead 10 runs.logout_told (notes.Sent 4 0 1 0 (canon (read_block_response (journals.to_target 0) 0 (management_bytes (rare.orb_of 3)))) ∷ [])) → ⊥
+  pub other_management_orb : SentLaw nobody journals.one_disk refused.other_management_orb → ⊥
   pub eui_not_read : SentLaw nobody journals.one_disk (said (notes.Got 4) ∷ journals.told journals.reads_login) → ⊥
-  pub management_status_elsewhere : SentLaw nobody journals.one_disk (refused.instead 6 runs.logout_told (notes.Sent 5 0 0 1 (canon (write_block (journals.to_first 0) 0x12002000 (quad_bytes (0x01000000 ∷ 0x12000020 ∷ [])))) ∷ [])) → ⊥
+  pub management_status_elsewhere : SentLaw nobody journals.one_disk refused.management_status_elsewhere → ⊥
   pub pointer_read_whole : SentLaw nobody journals.one_disk (refused.rereads_by 32) → ⊥
-  pub status_unasked : SentLaw nobody journals.one_disk (refused.instead 0 (journals.told (journals.till_pointer ++ (journals.points_agent ++ said (notes.Got 2) ∷ []))) (notes.Sent 4 0 0 1 (journals.status_packet 0x41000000) ∷ [])) → ⊥
+  pub status_unasked : SentLaw nobody journals.one_disk refused.status_unasked → ⊥
   pub status_elsewhere : SentLaw nobody journals.one_disk (refused.sends_behind_end (refused.block_packet 0x13000020 0x41000000 0x10000000) []) → ⊥
   pub status_of_another : SentLaw nobody journals.one_disk (refused.sends_behind_end (refused.block_packet 0x13000000 0x41000000 0x10000040) []) → ⊥
   pub reads_ahead_at_null : SentLaw nobody journals.one_disk (refused.sends_behind_end (journals.status_packet 0x41000000) (notes.Sent 6 0 0 1 (journals.fetch_packet 1 0) ∷ [])) → ⊥
   pub untold_elsewhere : SentLaw nobody rare.untold_disk (rare.untold (notes.Sent 5 0 0 1 (rare.block_packet 0x11000040 rare.some_block) ∷ [])) → ⊥
   pub ahead_past_its_reserve : SentLaw nobody journals.one_disk (refused.checked_beside 48 (refused.fetches_ahead ∷ [])) → ⊥
   pub ahead_within_reserve_left_out : SentLaw nobody journals.one_disk (refused.checked_beside 47 []) → ⊥
+  pub untold_finds : (dies : Bool) → finds_untold (terms (journals.told journals.begins)) 1 dies rare.some_chunk ≡ true
+  pub untold_finds_none : (dies : Bool) → finds_untold (terms (rare.labels_gone [])) 1 dies rare.some_chunk ≡ false
+  pub untold_may_find : (dies : Bool) → finds_untold (terms rare.one_label_left) 1 dies rare.some_chunk ≡ not dies
 
 pub record MediaTried : Type 0 where
   pub unsolicited : MediaLaw nobody journals.empty_bay (journals.loads_enabled (notes.Unsolicited 1))
@@ -278,7 +278,7 @@ pub record MediaTried : Type 0 where
   pub two_under_way : MediaLaw nobody rare.two_discs (refused.loads_under_way (notes.Unsolicited 1 ∷ [])) → ⊥
   pub both_told : MediaLaw nobody journals.empty_bay (refused.tells_both (notes.Unsolicited 1 ∷ notes.Unsolicited 2 ∷ []))
   pub told_out_of_order : MediaLaw nobody journals.empty_bay (refused.tells_both (notes.Unsolicited 2 ∷ notes.Unsolicited 1 ∷ [])) → ⊥
-  pub told_left_out : MediaLaw nobody journals.empty_bay (refused.instead 5 runs.load_told []) → ⊥
+  pub told_left_out : MediaLaw nobody journals.empty_bay refused.told_left_out → ⊥
   pub told_of_a_status : MediaLaw nobody journals.one_disk (rare.behind journals.till_status (notes.Got 5 ∷ notes.Told 0 ∷ [])) → ⊥
 
 pub record ActionTried : Type 0 where
