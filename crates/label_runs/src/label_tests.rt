@@ -4,7 +4,6 @@ ghost use Rattle.label_table.specs.Requests.{IsRequest};
 use async_packet::{Label, PacketRef, decode};
 use label_table::{Labels, NoLabel, Seen, Stale, Verdict};
 use sbp_base::{Generation, NodeId};
-use std::alloc::Global;
 use std::test::Fail;
 
 /// A write of the quadlet 1 from node FFC1h to a doorbell of node FFC0h, with label 0.
@@ -27,123 +26,82 @@ fn is_request(bytes: &[u8]) -> bool
     }
 }
 
-/// Labels that are all free.
-fn new_labels(alloc: Global) -> Result<Labels, &'static str> {
-    match Labels::new(alloc) {
-        Ok(labels) => Ok(labels),
-        Err(_) => Err("memory"),
-    }
-}
-
-/// `begin` of bytes that spell a request.
-fn begin(labels: &mut Labels, bytes: &mut [u8]) -> Result<Result<Label, NoLabel>, &'static str> {
-    if labels.calls() > 1000 || !is_request(bytes) {
-        return Err("condition");
-    }
-    Ok(labels.begin(bytes))
-}
-
-/// `begin` of the write to a doorbell, which finds a label.
-fn ring(labels: &mut Labels) -> Result<Label, &'static str> {
+/// `begin` of the write to a doorbell, while few calls were made.
+fn ring(labels: &mut Labels) -> Result<Label, NoLabel> {
     let mut bytes = DOORBELL;
-    match begin(labels, &mut bytes)? {
-        Ok(label) => Ok(label),
-        Err(_) => Err("label"),
+    if labels.calls() > 1000 || !is_request(&bytes) {
+        return Err(NoLabel);
     }
-}
-
-/// `expire` while few calls were made.
-fn expire(labels: &mut Labels, label: Label) -> Result<Result<(), Stale>, &'static str> {
-    if labels.calls() > 1000 {
-        return Err("condition");
-    }
-    Ok(labels.expire(label))
-}
-
-/// `clear` while few calls were made, in the same generation.
-fn clear(labels: &mut Labels) -> Result<(), &'static str> {
-    if labels.calls() > 1000 {
-        return Err("condition");
-    }
-    labels.clear(Generation::first());
-    Ok(())
-}
-
-/// A filter that remembers no request.
-fn new_filter(alloc: Global) -> Result<Seen, &'static str> {
-    match Seen::new(alloc) {
-        Ok(seen) => Ok(seen),
-        Err(_) => Err("memory"),
-    }
-}
-
-/// `judge` of bytes that spell a request, which finds this.
-fn judge(seen: &Seen, source: u16, bytes: &[u8], verdict: Verdict) -> Result<(), &'static str> {
-    if !is_request(bytes) {
-        return Err("request");
-    }
-    if seen.judge(NodeId::from_raw(source), bytes) != verdict {
-        return Err("verdict");
-    }
-    Ok(())
-}
-
-/// `remember` of a request that is not crowded.
-fn remember(seen: &mut Seen, source: u16, bytes: &[u8], rcode: u8) -> Result<(), &'static str> {
-    if !is_request(bytes) {
-        return Err("request");
-    }
-    let source = NodeId::from_raw(source);
-    match seen.judge(source, bytes) {
-        Verdict::Crowded => Err("crowded"),
-        _ => {
-            seen.remember(source, bytes, rcode);
-            Ok(())
-        }
-    }
+    labels.begin(&mut bytes)
 }
 
 /// A handle made before `clear`, which frees its resting label, is stale, also for the same number.
 #[test]
 fn stale_label(rt: HostRuntime) -> Result<(), Fail> {
-    let mut labels = new_labels(rt.alloc())?;
+    let mut labels = Labels::new(rt.alloc())?;
     let early = ring(&mut labels)?;
-    assert_eq!(rt; expire(&mut labels, early)?, Ok(()));
+    assert!(rt; labels.calls() < 1000);
+    assert_eq!(rt; labels.expire(early), Ok(()));
     assert_eq!(rt; labels.free(), 63);
-    clear(&mut labels)?;
+    assert!(rt; labels.calls() < 1000);
+    labels.clear(Generation::first());
     assert_eq!(rt; labels.free(), 64);
     let late = ring(&mut labels)?;
     assert_eq!(rt; late.number(), early.number());
-    assert_eq!(rt; expire(&mut labels, early)?, Err(Stale));
+    assert!(rt; labels.calls() < 1000);
+    assert_eq!(rt; labels.expire(early), Err(Stale));
     Ok(())
 }
 
 /// After 64 requests under way the next finds no label, and its bytes stay.
 #[test]
 fn no_label_left(rt: HostRuntime) -> Result<(), Fail> {
-    let mut labels = new_labels(rt.alloc())?;
+    let mut labels = Labels::new(rt.alloc())?;
     for number in 0..64 {
         assert_eq!(rt; ring(&mut labels)?.number(), number);
     }
     let mut bytes = READ;
-    assert_eq!(rt; begin(&mut labels, &mut bytes)?, Err(NoLabel));
+    assert!(rt; labels.calls() < 1000 && is_request(&bytes));
+    assert_eq!(rt; labels.begin(&mut bytes), Err(NoLabel));
     assert_eq!(rt; bytes, READ);
     Ok(())
+}
+
+/// Judges a request, and remembers it with an rcode unless it is crowded.
+fn deliver(seen: &mut Seen, source: u16, bytes: &[u8], rcode: u8) -> Option<Verdict> {
+    if !is_request(bytes) {
+        return None;
+    }
+    let source = NodeId::from_raw(source);
+    let verdict = seen.judge(source, bytes);
+    if verdict != Verdict::Crowded {
+        seen.remember(source, bytes, rcode);
+    }
+    Some(verdict)
 }
 
 /// A sixth source is crowded; of the five a repeated write comes again, with its rcode, until a read
 /// comes under its label.
 #[test]
 fn sixth_source(rt: HostRuntime) -> Result<(), Fail> {
-    let mut seen = new_filter(rt.alloc())?;
-    for source in 0xffc0..0xffc5 {
-        remember(&mut seen, source, &DOORBELL, 4)?;
+    let mut seen = Seen::new(rt.alloc())?;
+    for (source, bytes, rcode, verdict) in [
+        (0xffc0, &DOORBELL[..], 4, Verdict::Fresh),
+        (0xffc1, &DOORBELL[..], 4, Verdict::Fresh),
+        (0xffc2, &DOORBELL[..], 4, Verdict::Fresh),
+        (0xffc3, &DOORBELL[..], 4, Verdict::Fresh),
+        (0xffc4, &DOORBELL[..], 4, Verdict::Fresh),
+        (0xffc5, &DOORBELL[..], 4, Verdict::Crowded),
+        (0xffc0, &DOORBELL[..], 4, Verdict::Again { rcode: 4 }),
+        (0xffc0, &READ[..], 0, Verdict::Fresh),
+        (0xffc0, &DOORBELL[..], 4, Verdict::Fresh),
+    ] {
+        assert_eq!(rt; deliver(&mut seen, source, bytes, rcode), Some(verdict));
     }
-    judge(&seen, 0xffc5, &DOORBELL, Verdict::Crowded)?;
-    judge(&seen, 0xffc0, &DOORBELL, Verdict::Again { rcode: 4 })?;
-    remember(&mut seen, 0xffc0, &READ, 0)?;
-    judge(&seen, 0xffc0, &DOORBELL, Verdict::Fresh)?;
     seen.clear();
-    judge(&seen, 0xffc5, &DOORBELL, Verdict::Fresh)?;
+    assert_eq!(rt;
+        deliver(&mut seen, 0xffc5, &DOORBELL, 4),
+        Some(Verdict::Fresh)
+    );
     Ok(())
 }

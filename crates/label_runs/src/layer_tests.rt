@@ -1,15 +1,8 @@
-use async_packet::{Label, PacketRef};
+use async_packet::PacketRef;
 use label_table::{Asked, Judgement, RequestBody, Stale, Transactions};
 use sbp_base::{Bytes, Generation, NodeId, Offset};
 use std::alloc::Global;
 use std::test::Fail;
-
-/// What the transactions of these tests are for.
-#[derive(Clone, Copy, Debug, PartialEq, Eq)]
-enum Purpose {
-    Pointer,
-    Orb,
-}
 
 /// The target's node and the initiator's.
 const TARGET: u16 = 0xffc0;
@@ -34,21 +27,13 @@ const FETCHED: [u8; 48] = [
     0, 0, 0, 0, 0, 0, 0, 0, 0x82, 0x90, 0, 0, 0, 0, 0, 0, 0, 0, 0, 0, 0, 0, 0, 0,
 ];
 
-/// The layer of a node.
-fn layer(alloc: Global, node: u16) -> Result<Transactions<Purpose>, &'static str> {
-    match Transactions::new(alloc, NodeId::from_raw(node)) {
-        Ok(layer) => Ok(layer),
-        Err(_) => Err("memory"),
-    }
-}
-
-/// `ask` while few calls were made, which finds a label.
+/// `ask` while few calls were made, for something, which finds a label.
 fn ask(
-    layer: &mut Transactions<Purpose>,
+    layer: &mut Transactions<u8>,
     alloc: Global,
     peer: u16,
     body: &RequestBody<'_>,
-    purpose: Purpose,
+    purpose: u8,
 ) -> Result<Asked, &'static str> {
     let fits = match body {
         RequestBody::WriteBlock { payload, .. } => payload.len() <= 2048,
@@ -65,88 +50,28 @@ fn ask(
     }
 }
 
-/// `ask` of the target to write the pointer, in these bytes.
-fn point(layer: &mut Transactions<Purpose>, alloc: Global) -> Result<Label, &'static str> {
-    let Some(offset) = Offset::new(0xffff_f004_0008) else {
-        return Err("offset");
-    };
-    let body = RequestBody::WriteBlock {
-        offset,
-        payload: &POINTER[16..24],
-    };
-    let sent = ask(layer, alloc, TARGET, &body, Purpose::Pointer)?;
-    if sent.bytes.as_slice() != POINTER.as_slice() {
-        return Err("bytes");
-    }
-    Ok(sent.label)
-}
-
-/// `ask` of the initiator for the ORB at the address 1000_0000h, in these bytes.
-fn fetch(layer: &mut Transactions<Purpose>, alloc: Global) -> Result<Label, &'static str> {
-    let Some(offset) = Offset::new(0x1000_0000) else {
-        return Err("offset");
-    };
-    let body = RequestBody::ReadBlock { offset, length: 32 };
-    let sent = ask(layer, alloc, INITIATOR, &body, Purpose::Orb)?;
-    if sent.bytes.as_slice() != FETCH.as_slice() {
-        return Err("bytes");
-    }
-    Ok(sent.label)
-}
-
-/// `see` of the generation after the first while few calls were made.
-fn see_next(layer: &mut Transactions<Purpose>) -> Result<bool, &'static str> {
-    if layer.calls() > 1000 {
-        return Err("condition");
-    }
-    Ok(layer.see(Generation::first().next(), NodeId::from_raw(TARGET)))
-}
-
-/// `expire` of a transaction with the initiator while few calls were made.
-fn expire(
-    layer: &mut Transactions<Purpose>,
-    label: Label,
-) -> Result<Result<Option<Purpose>, Stale>, &'static str> {
-    if layer.calls() > 1000 {
-        return Err("condition");
-    }
-    Ok(layer.expire(NodeId::from_raw(INITIATOR), label))
-}
-
-/// `judge` while few calls were made: the row by which a packet is ignored.
-fn ignored(
-    layer: &mut Transactions<Purpose>,
+/// `judge` while few calls were made: the row by which a packet is ignored, or else what a response was
+/// for.
+fn row(
+    layer: &mut Transactions<u8>,
     generation: Generation,
     bytes: &[u8],
-) -> Result<&'static str, &'static str> {
+) -> (&'static str, Option<u8>) {
     if layer.calls() > 1000 {
-        return Err("condition");
+        return ("condition", None);
     }
     match layer.judge(generation, bytes) {
-        Judgement::Generation => Ok("generation"),
-        Judgement::Grammar => Ok("grammar"),
-        Judgement::Label => Ok("label"),
-        _ => Err("row"),
-    }
-}
-
-/// `judge` while few calls were made: what the transaction was for that a response closes.
-fn closed(
-    layer: &mut Transactions<Purpose>,
-    bytes: &[u8],
-) -> Result<Option<Purpose>, &'static str> {
-    if layer.calls() > 1000 {
-        return Err("condition");
-    }
-    match layer.judge(Generation::first(), bytes) {
-        Judgement::Response { purpose, .. } => Ok(purpose),
-        _ => Err("row"),
+        Judgement::Generation => ("generation", None),
+        Judgement::Grammar => ("grammar", None),
+        Judgement::Label => ("label", None),
+        Judgement::Response { purpose, .. } => ("response", purpose),
+        _ => ("served", None),
     }
 }
 
 /// Judges a write, and answers it with an rcode, or with that of the first time.
 fn serve_write(
-    layer: &mut Transactions<Purpose>,
+    layer: &mut Transactions<u8>,
     alloc: Global,
     bytes: &[u8],
     rcode: u8,
@@ -168,31 +93,40 @@ fn serve_write(
     }
 }
 
-/// A pointer is written and answered; the write comes again, and its first answer closes nothing more.
+/// A pointer is written and answered; the write comes again, and is answered as the first time.
 #[test]
 fn pointer_written(rt: HostRuntime) -> Result<(), Fail> {
-    let mut target = layer(rt.alloc(), TARGET)?;
-    let first = serve_write(&mut target, rt.alloc(), &POINTER, 0)?;
-    assert_eq!(rt; first.as_slice(), WRITTEN.as_slice());
-    let again = serve_write(&mut target, rt.alloc(), &POINTER, 7)?;
-    assert_eq!(rt; again.as_slice(), WRITTEN.as_slice());
+    let mut target = Transactions::new(rt.alloc(), NodeId::from_raw(TARGET))?;
+    for rcode in [0, 7] {
+        let response = serve_write(&mut target, rt.alloc(), &POINTER, rcode)?;
+        assert_eq!(rt; response.as_slice(), WRITTEN.as_slice());
+    }
     Ok(())
 }
 
 /// The request that an initiator sends for it, and what its response tells, once.
 #[test]
 fn pointer_asked(rt: HostRuntime) -> Result<(), Fail> {
-    let mut initiator = layer(rt.alloc(), INITIATOR)?;
-    point(&mut initiator, rt.alloc())?;
-    assert_eq!(rt; closed(&mut initiator, &WRITTEN)?, Some(Purpose::Pointer));
-    assert!(rt; closed(&mut initiator, &WRITTEN).is_err());
+    let mut initiator = Transactions::new(rt.alloc(), NodeId::from_raw(INITIATOR))?;
+    let Some(offset) = Offset::new(0xffff_f004_0008) else {
+        return Err(Fail::new("offset"));
+    };
+    let body = RequestBody::WriteBlock {
+        offset,
+        payload: &POINTER[16..24],
+    };
+    let asked = ask(&mut initiator, rt.alloc(), TARGET, &body, 1)?;
+    assert_eq!(rt; asked.bytes.as_slice(), POINTER.as_slice());
+    for found in [("response", Some(1)), ("label", None)] {
+        assert_eq!(rt; row(&mut initiator, Generation::first(), &WRITTEN), found);
+    }
     Ok(())
 }
 
 /// The rows by which a packet is ignored, each where the ones before it do not hold.
 #[test]
 fn rows_in_order(rt: HostRuntime) -> Result<(), Fail> {
-    let mut target = layer(rt.alloc(), TARGET)?;
+    let mut target = Transactions::new(rt.alloc(), NodeId::from_raw(TARGET))?;
     let first = Generation::first();
     for (generation, bytes, word) in [
         (first.next(), &POINTER[0..3], "generation"),
@@ -200,7 +134,7 @@ fn rows_in_order(rt: HostRuntime) -> Result<(), Fail> {
         (first, &WRITTEN[..], "grammar"),
         (first, &FETCHED[..], "label"),
     ] {
-        assert_eq!(rt; ignored(&mut target, generation, bytes)?, word);
+        assert_eq!(rt; row(&mut target, generation, bytes), (word, None));
     }
     Ok(())
 }
@@ -208,12 +142,23 @@ fn rows_in_order(rt: HostRuntime) -> Result<(), Fail> {
 /// A transaction that was left to nobody tells nothing, and one from before a reset is stale.
 #[test]
 fn nobody_and_resets(rt: HostRuntime) -> Result<(), Fail> {
-    let mut target = layer(rt.alloc(), TARGET)?;
-    let label = fetch(&mut target, rt.alloc())?;
-    target.disown(NodeId::from_raw(INITIATOR), label);
-    assert_eq!(rt; closed(&mut target, &FETCHED)?, None);
-    let label = fetch(&mut target, rt.alloc())?;
-    assert!(rt; see_next(&mut target)?);
-    assert_eq!(rt; expire(&mut target, label)?, Err(Stale));
+    let mut target = Transactions::new(rt.alloc(), NodeId::from_raw(TARGET))?;
+    let initiator = NodeId::from_raw(INITIATOR);
+    let Some(offset) = Offset::new(0x1000_0000) else {
+        return Err(Fail::new("offset"));
+    };
+    let body = RequestBody::ReadBlock { offset, length: 32 };
+    let asked = ask(&mut target, rt.alloc(), INITIATOR, &body, 2)?;
+    assert_eq!(rt; asked.bytes.as_slice(), FETCH.as_slice());
+    target.disown(initiator, asked.label);
+    assert_eq!(rt;
+        row(&mut target, Generation::first(), &FETCHED),
+        ("response", None)
+    );
+    let asked = ask(&mut target, rt.alloc(), INITIATOR, &body, 2)?;
+    assert!(rt; target.calls() < 1000);
+    assert!(rt; target.see(Generation::first().next(), NodeId::from_raw(TARGET)));
+    assert!(rt; target.calls() < 1000);
+    assert_eq!(rt; target.expire(initiator, asked.label), Err(Stale));
     Ok(())
 }
