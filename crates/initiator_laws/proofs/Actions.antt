@@ -1,0 +1,565 @@
+-- What an action that is done tells, begins and counts.
+use Rattle.std.proofs.Common.{arith, ◌≡◌, refl, sym, ap, subst, ◌∙◌, ℕ, ◌+◌, ◌++◌, append-nil, nat_eq, ◌&&◌, ◌||◌, not, is_some, Bool, true, false, cond, List, [], ◌∷◌, Option, Some, None, Result, Ok, Err}
+use Rattle.bus_memory.specs.Memory.{Memory}
+use Rattle.orb_layout.specs.declared.management.ManagementOrb.{ManagementOrb}
+use Rattle.orb_list.specs.declared.fault.ListFault.{ListFault}
+use Rattle.orb_list.specs.declared.fault.ListFault.TheVariants as list_faults
+use Rattle.orb_list.specs.declared.list.Link.{Link}
+use Rattle.orb_list.specs.declared.list.Linking.{Linking}
+use Rattle.orb_list.specs.declared.list.PresentList.{PresentList}
+use Rattle.orb_list.specs.Tickets.{TicketParts}
+use Rattle.orb_list.specs.Requests.{Asked}
+use Rattle.orb_list.specs.Table.{SlotTable, checked, dummy_at, dummy_step, find_in, free_slot, high_for, high_step, is_mid_link, link_set, low_for, low_step as slot_low, lowest, may_prepare, next_ticket, orb_number, pin_at, pin_step, prepare_at, prepare_step, waits_high, waits_low}
+use Rattle.sbp_session.specs.Moves.{sent, pointing, goes}
+use Rattle.sbp_journal.specs.declared.event.Action.{Action}
+use Rattle.sbp_journal.specs.declared.event.Action.TheVariants as actions
+use Rattle.sbp_journal.specs.declared.event.Cmd.{Cmd}
+use Rattle.sbp_journal.specs.declared.note.Note.{Note}
+use Rattle.sbp_journal.specs.declared.note.Note.TheVariants as notes
+use Rattle.sbp_journal.specs.declared.operation.Operation.{Operation}
+use Rattle.sbp_journal.specs.declared.operation.Operation.TheVariants as operations
+use Rattle.sbp_journal.specs.declared.side.Side.{Side}
+use Rattle.sbp_journal.specs.Buffers.{buffer_of}
+use Rattle.sbp_journal.specs.Outgoings.{OutboxState}
+use Rattle.sbp_journal.specs.Rows.{Refusals, refusal_of}
+use Rattle.sbp_initiator.specs.declared.purpose.Demand.{Demand}
+use Rattle.sbp_initiator.specs.declared.purpose.Pointing.{Pointing}
+use Rattle.sbp_initiator.specs.declared.purpose.Pointing.TheVariants as pointings
+use Rattle.sbp_initiator.specs.declared.purpose.Purpose.{Purpose}
+use Rattle.sbp_initiator.specs.declared.purpose.Running.{Running}
+use Rattle.sbp_initiator.specs.declared.state.InitiatorState.{InitiatorState}
+use Rattle.sbp_initiator.specs.declared.purpose.ListMarks.{ListMarks}
+use Rattle.sbp_initiator.specs.declared.state.Counts.{Counts}
+use Rattle.sbp_initiator.specs.Refusals.{ActionFacts, ends_list, is_list_step, lacks_orb, operation_of, prepares, refusal, rows_of}
+use Rattle.sbp_initiator.specs.Lists.{ListState, asked_by, dummy_lists, high_lists, low_lists, manage_lists, pin_lists, prepared_as, put_lists, stepped}
+use Rattle.sbp_initiator.specs.States.{is_unwritten, last_linked, no_marks, operation_in, place_of}
+use Rattle.sbp_initiator.specs.Effects.{Turn, told, then_step}
+use Rattle.sbp_initiator.specs.Acting.{begun, demand_of, facts_with, dummy_for, done_step, link_as, link_step, login_id, login_orb, low_as, low_step, manage_start, managed_by, orb_by, pinned_for, put_as, put_step, register_start, ring_demand, ring_for, ring_step, append_step, with_first, with_login, with_pin, with_ring, with_running, with_sent}
+use Rattle.initiator_laws.specs.Begins.{is_step, AreSteps, begun_as, after_by, IsFree}
+use Rattle.initiator_laws.specs.Ends.{own, is_managed}
+use Rattle.initiator_laws.specs.Numbers.{is_numbered}
+use Rattle.initiator_laws.proofs.Effects.{HasMarks, KeepsMarks, told_twice}
+
+steps_append : (xs ys : List Note) → AreSteps xs → AreSteps ys → AreSteps (xs ++ ys)
+steps_append [] ys a b = b
+steps_append (x ∷ xs) ys a b = (a.0, steps_append xs ys a.1 b)
+
+-- a step of a list: what it tells, and what it leaves as it was
+record Steps (o : OutboxState) (s : InitiatorState) (t : Turn) : Type 0 where
+  news : List Note
+  sides : t.0.sides ≡ o.sides ++ own news
+  steps : AreSteps news
+  operation : t.1.operation ≡ s.operation
+  layer : t.1.layer ≡ s.layer
+  packets : t.0.packets ≡ o.packets
+  counts : t.1.counts ≡ s.counts
+  number : t.1.number ≡ s.number
+  target : t.1.target ≡ s.target
+  unwritten : is_unwritten t.1.marks.pointing ≡ is_unwritten s.marks.pointing
+  present : is_some s.lists.slots.present ≡ true → is_some t.1.lists.slots.present ≡ true
+  marks : KeepsMarks s t.1
+
+step_then : (o : OutboxState) (s : InitiatorState) (t u : Turn) → Steps o s t → Steps t.0 t.1 u → Steps o s u
+step_then o s t u a b = record {
+  news = a.news ++ b.news;
+  sides = told_twice o.sides t.0.sides u.0.sides a.news b.news a.sides b.sides;
+  steps = steps_append a.news b.news a.steps b.steps;
+  operation = b.operation ∙ a.operation;
+  layer = b.layer ∙ a.layer;
+  packets = b.packets ∙ a.packets;
+  counts = b.counts ∙ a.counts;
+  number = b.number ∙ a.number;
+  target = b.target ∙ a.target;
+  unwritten = b.unwritten ∙ a.unwritten;
+  present = λ h. b.present (a.present h);
+  marks = λ h. b.marks (a.marks h);
+}
+
+-- ---- an ORB is prepared
+
+abbrev pub is_ok : {A B : Type 0} → Result A B → Bool
+is_ok (Ok x) = true
+is_ok (Err e) = false
+
+untrue : false ≡ true → ⊥
+untrue e = cc
+
+some_marks : (present : Option PresentList) (x : Pointing) → is_some present ≡ true → HasMarks present x
+some_marks None x e = absurd (untrue e)
+some_marks (Some list) x e = tt
+
+-- the first ORB of a list has number 0, and only it
+first_unwritten : (present : Option PresentList) (x : Pointing) → HasMarks present x → nat_eq (orb_number present) 0 ≡ true → true ≡ is_unwritten x
+first_unwritten None x h e = sym h
+first_unwritten (Some list) x h e = absurd (above list.tail.number e)
+  where
+    above : (n : ℕ) → nat_eq (n + 1) 0 ≡ true → ⊥
+    above n e = grind arith
+
+first_as : (c : Bool) (note : Note) (first : ℕ) (o : OutboxState) (s : InitiatorState) (lists : ListState) → is_step note ≡ true → is_some lists.slots.present ≡ true → KeepsMarks s (record s { lists = lists }) → (c ≡ true → true ≡ is_unwritten s.marks.pointing) → Steps o s (told o note, cond c (record s { lists = lists; marks = record no_marks { first = first } }) (record s { lists = lists }))
+first_as true note first o s lists w p k f = record {
+  news = note ∷ [];
+  sides = refl;
+  steps = (w, tt);
+  operation = refl;
+  layer = refl;
+  packets = refl;
+  counts = refl;
+  number = refl;
+  target = refl;
+  unwritten = f refl;
+  present = λ h. p;
+  marks = λ h. some_marks lists.slots.present pointings.Unwritten p;
+}
+first_as false note first o s lists w p k f = record {
+  news = note ∷ [];
+  sides = refl;
+  steps = (w, tt);
+  operation = refl;
+  layer = refl;
+  packets = refl;
+  counts = refl;
+  number = refl;
+  target = refl;
+  unwritten = refl;
+  present = λ h. p;
+  marks = k;
+}
+
+put_as_does : (r : Result ℕ ListFault) (cmd : Cmd) (o : OutboxState) (s : InitiatorState) → is_ok r ≡ true → HasMarks s.lists.slots.present s.marks.pointing → Steps o s (put_as (prepared_as (prepare_at r s.lists.slots s.lists.memory (asked_by cmd s.layer.node (login_id s))) s.lists cmd) cmd o s)
+put_as_does (Err fault) cmd o s e h = absurd (untrue e)
+put_as_does (Ok slot) cmd o s e h =
+    let t = next_ticket s.lists.slots slot (login_id s) in
+    first_as (nat_eq t.number 0) (notes.Append s.number t.list t.number cmd.cdb (buffer_of cmd)) t.slot o s
+    (prepared_as (prepare_at (Ok slot) s.lists.slots s.lists.memory (asked_by cmd s.layer.node (login_id s))) s.lists cmd).1
+    refl refl (λ k. tt) (first_unwritten s.lists.slots.present s.marks.pointing h)
+
+put_does : (cmd : Cmd) (o : OutboxState) (s : InitiatorState) → is_ok (may_prepare s.lists.slots) ≡ true → HasMarks s.lists.slots.present s.marks.pointing → Steps o s (put_step cmd o s)
+unfolding put_lists prepare_step
+put_does cmd o s e h = put_as_does (may_prepare s.lists.slots) cmd o s e h
+
+-- ---- an ORB is linked
+
+link_set_marks : (present : Option PresentList) (link : Link) (x : Pointing) → HasMarks present x → HasMarks (link_set present link) x
+link_set_marks None link x h = h
+link_set_marks (Some list) link x h = tt
+
+link_set_some : (present : Option PresentList) (link : Link) → is_some present ≡ true → is_some (link_set present link) ≡ true
+link_set_some None link e = e
+link_set_some (Some list) link e = refl
+
+-- nothing is done
+still : (o : OutboxState) (s : InitiatorState) → Steps o s (o, s)
+still o s = record {
+  news = [];
+  sides = sym (append-nil o.sides);
+  steps = tt;
+  operation = refl;
+  layer = refl;
+  packets = refl;
+  counts = refl;
+  number = refl;
+  target = refl;
+  unwritten = refl;
+  present = λ h. h;
+  marks = λ h. h;
+}
+
+-- a note is told, and the lists change
+noted : (note : Note) (o : OutboxState) (s : InitiatorState) (lists : ListState) → is_step note ≡ true → (is_some s.lists.slots.present ≡ true → is_some lists.slots.present ≡ true) → KeepsMarks s (record s { lists = lists }) → Steps o s (told o note, record s { lists = lists })
+noted note o s lists w p k = record {
+  news = note ∷ [];
+  sides = refl;
+  steps = (w, tt);
+  operation = refl;
+  layer = refl;
+  packets = refl;
+  counts = refl;
+  number = refl;
+  target = refl;
+  unwritten = refl;
+  present = p;
+  marks = k;
+}
+
+low_for_does : (linking : Option Linking) (o : OutboxState) (s : InitiatorState) → Steps o s (low_as (stepped (low_for linking s.lists.slots s.lists.memory) s.lists) o s)
+low_for_does None o s = still o s
+low_for_does (Some linking) o s =
+    noted (notes.Low s.number linking.tail.list linking.tail.number) o s (stepped (low_for (Some linking) s.lists.slots s.lists.memory) s.lists).1 refl
+    (link_set_some s.lists.slots.present _) (link_set_marks s.lists.slots.present _ s.marks.pointing)
+
+low_does : (o : OutboxState) (s : InitiatorState) → Steps o s (low_step o s)
+unfolding low_lists slot_low
+low_does o s = low_for_does (waits_low s.lists.slots.present) o s
+
+high_for_does : (linking : Option Linking) (o : OutboxState) (s : InitiatorState) → Steps o s (link_as (stepped (high_for linking s.lists.slots s.lists.memory) s.lists) o s)
+high_for_does None o s = still o s
+high_for_does (Some linking) o s =
+    noted (notes.Linked s.number linking.tail.list linking.tail.number) o s (stepped (high_for (Some linking) s.lists.slots s.lists.memory) s.lists).1 refl
+    (link_set_some s.lists.slots.present _) (link_set_marks s.lists.slots.present _ s.marks.pointing)
+
+link_does : (o : OutboxState) (s : InitiatorState) → Steps o s (link_step o s)
+unfolding high_lists high_step
+link_does o s = high_for_does (waits_high s.lists.slots.present) o s
+
+-- ---- an action that is done
+
+-- the running number after a request: one more where the request carried it
+abbrev pub used : Option Demand → ℕ → ℕ
+used None running = running
+used (Some demand) running = cond (is_numbered demand.purpose) (running + 1) running
+
+-- What an action that is done tells, begins and counts, and what it leaves.
+pub record Done (demand : Option Demand) (begins : Option Operation) (o : OutboxState) (s : InitiatorState) (t : Turn) : Type 0 where
+  pub news : List Note
+  pub sides : t.0.sides ≡ o.sides ++ own news
+  pub steps : AreSteps news
+  pub operation : t.1.operation ≡ after_by begins s
+  pub layer : t.1.layer ≡ s.layer
+  pub packets : t.0.packets ≡ o.packets
+  pub acts : t.1.counts.acts ≡ s.counts.acts
+  pub running : t.1.counts.running ≡ used demand s.counts.running
+  pub number : t.1.number ≡ s.number
+  pub target : t.1.target ≡ s.target
+  pub marks : KeepsMarks s t.1
+
+step_done : (o : OutboxState) (s : InitiatorState) (t : Turn) → Steps o s t → Done None None o s t
+step_done o s t a = record {
+  news = a.news;
+  sides = a.sides;
+  steps = a.steps;
+  operation = a.operation;
+  layer = a.layer;
+  packets = a.packets;
+  acts = ap (λ (c : Counts). c.acts) a.counts;
+  running = ap (λ (c : Counts). c.running) a.counts;
+  number = a.number;
+  target = a.target;
+  marks = a.marks;
+}
+
+ring_as : (c : Bool) (demand : Demand) (list : PresentList) (o : OutboxState) (s : InitiatorState) → is_unwritten s.marks.pointing ≡ c → is_numbered demand.purpose ≡ not c → s.lists.slots.present ≡ Some list → Done (Some demand) None o s (told o (notes.Rung s.number list.tail.list (last_linked list)), cond c (record s { marks = record s.marks { pointing = pointings.Written }; seat = goes pointing s.seat }) (with_running s))
+ring_as true demand list o s e d p = record {
+  news = notes.Rung s.number list.tail.list (last_linked list) ∷ [];
+  sides = refl;
+  steps = (refl, tt);
+  operation = refl;
+  layer = refl;
+  packets = refl;
+  acts = refl;
+  running = ap (λ (b : Bool). cond b (s.counts.running + 1) s.counts.running) (sym d);
+  number = refl;
+  target = refl;
+  marks = λ h. some_marks s.lists.slots.present pointings.Written (ap is_some p);
+}
+ring_as false demand list o s e d p = record {
+  news = notes.Rung s.number list.tail.list (last_linked list) ∷ [];
+  sides = refl;
+  steps = (refl, tt);
+  operation = refl;
+  layer = refl;
+  packets = refl;
+  acts = refl;
+  running = ap (λ (b : Bool). cond b (s.counts.running + 1) s.counts.running) (sym d);
+  number = refl;
+  target = refl;
+  marks = λ h. h;
+}
+
+ring_for_does : (present : Option PresentList) (demand : Demand) (o : OutboxState) (s : InitiatorState) → s.lists.slots.present ≡ present → is_some present ≡ true → is_numbered demand.purpose ≡ not (is_unwritten s.marks.pointing) → Done (Some demand) None o s (ring_for present o s)
+ring_for_does None demand o s e p d = absurd (untrue p)
+ring_for_does (Some list) demand o s e p d = ring_as (is_unwritten s.marks.pointing) demand list o s refl d e
+
+ring_number : (c : Bool) (x y : Demand) → is_numbered x.purpose ≡ false → is_numbered y.purpose ≡ true → is_numbered (cond c x y).purpose ≡ not c
+ring_number true x y e f = e
+ring_number false x y e f = f
+
+demand_number : (s : InitiatorState) → is_numbered (ring_demand s).purpose ≡ not (is_unwritten s.marks.pointing)
+demand_number s = ring_number (is_unwritten s.marks.pointing) _ _ refl refl
+
+ring_does : (demand : Demand) (o : OutboxState) (s : InitiatorState) → is_some s.lists.slots.present ≡ true → is_numbered demand.purpose ≡ not (is_unwritten s.marks.pointing) → Done (Some demand) None o s (ring_step o s)
+ring_does demand o s p d = ring_for_does s.lists.slots.present demand o s refl p d
+
+-- steps of a list and then a ring
+steps_ring : (demand : Demand) (o : OutboxState) (s : InitiatorState) (t u : Turn) → Steps o s t → Done (Some demand) None t.0 t.1 u → Done (Some demand) None o s u
+steps_ring demand o s t u a b = record {
+  news = a.news ++ b.news;
+  sides = told_twice o.sides t.0.sides u.0.sides a.news b.news a.sides b.sides;
+  steps = steps_append a.news b.news a.steps b.steps;
+  operation = b.operation ∙ a.operation;
+  layer = b.layer ∙ a.layer;
+  packets = b.packets ∙ a.packets;
+  acts = b.acts ∙ ap (λ (c : Counts). c.acts) a.counts;
+  running = b.running ∙ ap (λ (c : Counts). used (Some demand) c.running) a.counts;
+  number = b.number ∙ a.number;
+  target = b.target ∙ a.target;
+  marks = λ h. b.marks (a.marks h);
+}
+
+put_present : (r : Result ℕ ListFault) (cmd : Cmd) (o : OutboxState) (s : InitiatorState) → is_ok r ≡ true → is_some (put_as (prepared_as (prepare_at r s.lists.slots s.lists.memory (asked_by cmd s.layer.node (login_id s))) s.lists cmd) cmd o s).1.lists.slots.present ≡ true
+put_present (Err fault) cmd o s e = absurd (untrue e)
+put_present (Ok slot) cmd o s e = first_present (nat_eq (next_ticket s.lists.slots slot (login_id s)).number 0) (next_ticket s.lists.slots slot (login_id s)).slot s (prepared_as (prepare_at (Ok slot) s.lists.slots s.lists.memory (asked_by cmd s.layer.node (login_id s))) s.lists cmd).1 refl
+  where
+    first_present : (c : Bool) (first : ℕ) (s : InitiatorState) (lists : ListState) → is_some lists.slots.present ≡ true → is_some (cond c (record s { lists = lists; marks = record no_marks { first = first } }) (record s { lists = lists })).lists.slots.present ≡ true
+    first_present true first s lists e = e
+    first_present false first s lists e = e
+
+put_some : (cmd : Cmd) (o : OutboxState) (s : InitiatorState) → is_ok (may_prepare s.lists.slots) ≡ true → is_some (put_step cmd o s).1.lists.slots.present ≡ true
+unfolding put_lists prepare_step
+put_some cmd o s e = put_present (may_prepare s.lists.slots) cmd o s e
+
+append_does : (cmd : Cmd) (o : OutboxState) (s : InitiatorState) → is_ok (may_prepare s.lists.slots) ≡ true → HasMarks s.lists.slots.present s.marks.pointing → Done (Some (ring_demand s)) None o s (append_step cmd o s)
+append_does cmd o s e h =
+    let x = put_step cmd o s in
+    let y = low_step x.0 x.1 in
+    let w = link_step y.0 y.1 in
+    let a : Steps o s x = put_does cmd o s e h in
+    let b : Steps o s y = step_then o s x y a (low_does x.0 x.1) in
+    let c : Steps o s w = step_then o s y w b (link_does y.0 y.1) in
+    let p : is_some w.1.lists.slots.present ≡ true = (link_does y.0 y.1).present ((low_does x.0 x.1).present (put_some cmd o s e)) in
+    steps_ring (ring_demand s) o s w (ring_step w.0 w.1) c
+    (ring_does (ring_demand s) w.0 w.1 p (demand_number s ∙ ap not (sym c.unwritten)))
+
+-- ---- a dummy, and a pin
+
+dummied_present : (r : Result (Unit {0}) ListFault) (slots : SlotTable) (m : Memory) (t : TicketParts) → (dummy_at r slots m t).1.0.present ≡ slots.present
+dummied_present (Err fault) slots m t = refl
+dummied_present (Ok done) slots m t = refl
+
+dummy_present : (lists : ListState) (t : TicketParts) → (dummy_lists lists t).slots.present ≡ lists.slots.present
+unfolding dummy_lists dummy_step
+dummy_present lists t = dummied_present (checked lists.slots t) lists.slots lists.memory t
+
+same_marks : (p q : Option PresentList) (x : Pointing) → q ≡ p → HasMarks p x → HasMarks q x
+same_marks p q x e h = subst (λ (r : Option PresentList). HasMarks r x) (sym e) h
+
+dummy_does : (t : Option TicketParts) (o : OutboxState) (s : InitiatorState) → Steps o s (dummy_for t o s)
+dummy_does None o s = still o s
+dummy_does (Some t) o s =
+    noted (notes.Dummied s.number t.list t.number) o s (dummy_lists s.lists t) refl (λ h. ap is_some (dummy_present s.lists t) ∙ h)
+    (same_marks s.lists.slots.present (dummy_lists s.lists t).slots.present s.marks.pointing (dummy_present s.lists t))
+
+pinned_present : (r : Result (Unit {0}) ListFault) (slots : SlotTable) (t : TicketParts) → (pin_at r slots t).1.present ≡ slots.present
+pinned_present (Err fault) slots t = refl
+pinned_present (Ok done) slots t = refl
+
+pin_present : (slots : SlotTable) (t : TicketParts) → (pin_step slots t).1.present ≡ slots.present
+unfolding pin_step
+pin_present slots t = pinned_present (checked slots t) slots t
+
+pick_present : (c : Bool) (k l : ListState) → l.slots.present ≡ k.slots.present → (cond c k l).slots.present ≡ k.slots.present
+pick_present true k l e = refl
+pick_present false k l e = e
+
+pins_present : (lists : ListState) (t : TicketParts) → (pin_lists lists t).slots.present ≡ lists.slots.present
+unfolding pin_lists
+pins_present lists t = pick_present (is_some lists.slots.pinned) lists (record lists { slots = (pin_step lists.slots t).1 }) (pin_present lists.slots t)
+
+manage_present : (lists : ListState) (place : ℕ) (orb : ManagementOrb) → (manage_lists lists place orb).slots.present ≡ lists.slots.present
+unfolding manage_lists
+manage_present lists place orb = refl
+
+-- ---- operations
+
+-- an operation begins, and nothing is told
+begins_does : (begins : Option Operation) (demand : Demand) (o : OutboxState) (s t : InitiatorState) → t.operation ≡ after_by begins s → t.layer ≡ s.layer → t.counts.acts ≡ s.counts.acts → t.counts.running ≡ used (Some demand) s.counts.running → t.number ≡ s.number → t.target ≡ s.target → KeepsMarks s t → Done (Some demand) begins o s (o, t)
+begins_does begins demand o s t operation layer acts running number target marks = record {
+  news = [];
+  sides = sym (append-nil o.sides);
+  steps = tt;
+  operation = operation;
+  layer = layer;
+  packets = refl;
+  acts = acts;
+  running = running;
+  number = number;
+  target = target;
+  marks = marks;
+}
+
+managed_marks : (s : InitiatorState) (place : ℕ) (orb : ManagementOrb) → KeepsMarks s (record s { lists = manage_lists s.lists place orb })
+managed_marks s place orb h = same_marks s.lists.slots.present (manage_lists s.lists place orb).slots.present s.marks.pointing (manage_present s.lists place orb) h
+
+-- what an abort pins
+pinned_does : (t : Option TicketParts) (demand : Demand) (o : OutboxState) (s u : InitiatorState) → Done (Some demand) (Some operations.Abort) o s (o, u) → Done (Some demand) (Some operations.Abort) o s (o, pinned_for t u)
+pinned_does None demand o s u d = d
+pinned_does (Some t) demand o s u d = record {
+  news = d.news;
+  sides = d.sides;
+  steps = d.steps;
+  operation = d.operation;
+  layer = d.layer;
+  packets = d.packets;
+  acts = d.acts;
+  running = d.running;
+  number = d.number;
+  target = d.target;
+  marks = λ h. same_marks u.lists.slots.present (pin_lists u.lists t).slots.present u.marks.pointing (pins_present u.lists t) (d.marks h);
+}
+
+-- the action that rings alone
+abbrev pub is_ring : Action → Bool
+is_ring actions.Ring = true
+is_ring _ = false
+
+abbrev mid_link : Result ℕ ListFault
+mid_link = Err list_faults.MidLink
+
+-- what an action needs of the slots, as no row stands against it
+pub record Ready (action : Action) (s : InitiatorState) : Type 0 where
+  pub prepares : prepares action ≡ true → is_ok (may_prepare s.lists.slots) ≡ true
+  pub rings : is_ring action ≡ true → is_some s.lists.slots.present ≡ true
+  pub marks : HasMarks s.lists.slots.present s.marks.pointing
+
+manage_does : (begins : Operation) (orb : ManagementOrb) (demand : Demand) (o : OutboxState) (s t : InitiatorState) → is_managed begins ≡ true → is_numbered demand.purpose ≡ false → t.operation ≡ (managed_by orb begins s).operation → t.layer ≡ s.layer → t.counts.acts ≡ s.counts.acts → t.counts.running ≡ s.counts.running → t.number ≡ s.number → t.target ≡ s.target → t.lists ≡ manage_lists s.lists (place_of s.counts.managed) orb → t.marks ≡ s.marks → Done (Some demand) (Some begins) o s (o, t)
+manage_does begins orb demand o s t m d operation layer acts running number target lists marks =
+    begins_does (Some begins) demand o s t
+    (operation ∙ ap (λ (b : Bool). Some (begun_as b begins s)) (sym m))
+    layer acts
+    (running ∙ ap (λ (b : Bool). cond b (s.counts.running + 1) s.counts.running) (sym d))
+    number target
+    (λ h. subst (λ (l : ListState). HasMarks l.slots.present t.marks.pointing) (sym lists) (subst (λ (k : ListMarks). HasMarks (manage_lists s.lists (place_of s.counts.managed) orb).slots.present k.pointing) (sym marks) (managed_marks s (place_of s.counts.managed) orb h)))
+
+pub done_does : (action : Action) (o : OutboxState) (s : InitiatorState) → Ready action s → Done (demand_of action s) (operation_of action) o s (done_step action o s)
+unfolding done_step
+done_does (actions.Put cmd) o s r = step_done o s (put_step cmd o s) (put_does cmd o s (r.prepares refl) r.marks)
+done_does (actions.Append cmd) o s r = append_does cmd o s (r.prepares refl) r.marks
+done_does actions.Low o s r = step_done o s (low_step o s) (low_does o s)
+done_does actions.Link o s r = step_done o s (link_step o s) (link_does o s)
+done_does actions.Ring o s r = ring_does (ring_demand s) o s (r.rings refl) (demand_number s)
+done_does (actions.Dummy orb) o s r = step_done o s _ (dummy_does (find_in s.lists.slots.slots orb) o s)
+done_does actions.Rom o s r = begins_does (Some operations.Rom) _ o s (register_start actions.Rom s) refl refl refl refl refl refl (λ h. h)
+done_does actions.AgentReset o s r =
+    begins_does (Some operations.AgentReset) _ o s (register_start actions.AgentReset s) refl refl refl refl refl refl (λ h. h)
+done_does actions.State o s r = begins_does None _ o s (register_start actions.State s) refl refl refl refl refl refl (λ h. h)
+done_does actions.Enable o s r =
+    begins_does (Some operations.Enable) _ o s (register_start actions.Enable s) refl refl refl refl refl refl (λ h. h)
+done_does (actions.Login unit reconnect exclusive password) o s r =
+    manage_does operations.Login (login_orb s unit reconnect exclusive password) _ o s (manage_start (actions.Login unit reconnect exclusive password) s) refl refl refl refl refl refl refl refl refl refl
+done_does (actions.Query unit) o s r =
+    manage_does operations.Query (orb_by (actions.Query unit) s) _ o s (manage_start (actions.Query unit) s) refl refl refl refl refl refl refl refl refl refl
+done_does actions.Reconnect o s r =
+    manage_does operations.Reconnect (orb_by actions.Reconnect s) _ o s (manage_start actions.Reconnect s) refl refl refl refl refl refl refl refl refl refl
+done_does actions.Logout o s r =
+    manage_does operations.Logout (orb_by actions.Logout s) _ o s (manage_start actions.Logout s) refl refl refl refl refl refl refl refl refl refl
+done_does (actions.Abort orb) o s r =
+    let t = managed_by (orb_by (actions.Abort orb) s) operations.Abort s in
+    pinned_does (find_in t.lists.slots.slots orb) _ o s t
+    (manage_does operations.Abort (orb_by (actions.Abort orb) s) _ o s t refl refl refl refl refl refl refl refl refl refl)
+done_does actions.AbortSet o s r =
+    manage_does operations.AbortSet (orb_by actions.AbortSet s) _ o s (manage_start actions.AbortSet s) refl refl refl refl refl refl refl refl refl refl
+done_does actions.UnitReset o s r =
+    manage_does operations.UnitReset (orb_by actions.UnitReset s) _ o s (manage_start actions.UnitReset s) refl refl refl refl refl refl refl refl refl refl
+done_does actions.TargetReset o s r =
+    manage_does operations.TargetReset (orb_by actions.TargetReset s) _ o s (manage_start actions.TargetReset s) refl refl refl refl refl refl refl refl refl refl
+
+-- ---- what the rows of refusals leave open
+
+some_is_none : (n : ℕ) → Some n ≡ None → ⊥
+some_is_none n e = cc
+
+-- the first of some rows does not hold, and none of the others
+row_free : (b : Bool) (n : ℕ) (rest : Option ℕ) → cond b (Some n) rest ≡ None → (b ≡ false) × (rest ≡ None)
+row_free true n rest e = absurd (some_is_none n e)
+row_free false n rest e = (refl, e)
+
+and_free : (a b : Bool) → (a && b) ≡ false → a ≡ true → b ≡ false
+and_free true b e f = e
+and_free false b e f = cc
+
+or_free : (a b : Bool) → (a || b) ≡ false → (a ≡ false) × (b ≡ false)
+or_free true b e = absurd (not_both e)
+  where
+    not_both : true ≡ false → ⊥
+    not_both e = cc
+or_free false b e = (refl, e)
+
+not_free : (b : Bool) → not b ≡ false → b ≡ true
+not_free true e = refl
+not_free false e = cc
+
+prepare_free : (mid : Bool) (slot : Option ℕ) → mid ≡ false → is_some slot ≡ true → is_ok (cond mid mid_link (free_slot slot)) ≡ true
+prepare_free false None e f = absurd (untrue f)
+prepare_free false (Some k) e f = refl
+prepare_free true slot e f = cc
+
+ring_row : (action : Action) (facts : ActionFacts) → is_ring action ≡ true → lacks_orb action facts ≡ not facts.has_list
+ring_row actions.Ring facts e = refl
+ring_row _ facts e = absurd (untrue e)
+
+-- an action that no row refuses
+pub record Allowed (action : Action) (s : InitiatorState) : Type 0 where
+  pub free : IsFree (operation_of action) s
+  pub prepares : prepares action ≡ true → is_ok (may_prepare s.lists.slots) ≡ true
+  pub rings : is_ring action ≡ true → is_some s.lists.slots.present ≡ true
+
+free_as : (begins : Option Operation) (s : InitiatorState) → (is_some begins && is_some (operation_in s.operation)) ≡ false → IsFree begins s
+free_as None s e = tt
+free_as (Some operation) s e = no_operation s.operation e
+  where
+    no_operation : (r : Option Running) → is_some (operation_in r) ≡ false → r ≡ None
+    no_operation None e = refl
+    no_operation (Some running) e = cc
+
+-- the rows from each one on
+abbrev from_10 : Refusals → Option ℕ
+from_10 r = cond r.no_label (Some 10) None
+
+abbrev from_9 : Refusals → Option ℕ
+from_9 r = cond r.no_slot (Some 9) (from_10 r)
+
+abbrev from_8 : Refusals → Option ℕ
+from_8 r = cond r.no_orb (Some 8) (from_9 r)
+
+abbrev from_7 : Refusals → Option ℕ
+from_7 r = cond r.dead_seen (Some 7) (from_8 r)
+
+abbrev from_6 : Refusals → Option ℕ
+from_6 r = cond r.not_linking (Some 6) (from_7 r)
+
+abbrev from_5 : Refusals → Option ℕ
+from_5 r = cond r.mid_link (Some 5) (from_6 r)
+
+abbrev from_4 : Refusals → Option ℕ
+from_4 r = cond r.waiting (Some 4) (from_5 r)
+
+abbrev from_3 : Refusals → Option ℕ
+from_3 r = cond r.no_rom (Some 3) (from_4 r)
+
+abbrev from_2 : Refusals → Option ℕ
+from_2 r = cond r.wrong_state (Some 2) (from_3 r)
+
+abbrev from_1 : Refusals → Option ℕ
+from_1 r = cond r.stuck (Some 1) (from_2 r)
+
+-- no row holds
+record NoRow (r : Refusals) : Type 0 where
+  waits : r.waiting ≡ false
+  mid : r.mid_link ≡ false
+  orb : r.no_orb ≡ false
+  slot : r.no_slot ≡ false
+
+no_row : (r : Refusals) → refusal_of r ≡ None → NoRow r
+no_row r e =
+    let e2 : from_2 r ≡ None = (row_free r.stuck 1 (from_2 r) e).1 in
+    let e3 : from_3 r ≡ None = (row_free r.wrong_state 2 (from_3 r) e2).1 in
+    let e4 : from_4 r ≡ None = (row_free r.no_rom 3 (from_4 r) e3).1 in
+    let w = row_free r.waiting 4 (from_5 r) e4 in
+    let m = row_free r.mid_link 5 (from_6 r) w.1 in
+    let e7 : from_7 r ≡ None = (row_free r.not_linking 6 (from_7 r) m.1).1 in
+    let e8 : from_8 r ≡ None = (row_free r.dead_seen 7 (from_8 r) e7).1 in
+    let o = row_free r.no_orb 8 (from_9 r) e8 in
+    let s = row_free r.no_slot 9 (from_10 r) o.1 in
+    record { waits = w.0; mid = m.0; orb = o.0; slot = s.0 }
+
+pub allowed : (action : Action) (s : InitiatorState) → refusal action (facts_with true s action) ≡ None → Allowed action s
+unfolding refusal
+allowed action s e =
+    let facts = facts_with true s action in
+    let n = no_row (rows_of action facts) e in
+    let own_wait : (is_some (operation_of action) && is_some facts.under_way) || (ends_list (operation_of action) && facts.is_pointing) ≡ false = (or_free ((is_some (operation_of action) && is_some facts.under_way) || (ends_list (operation_of action) && facts.is_pointing)) (is_list_step action && ends_list facts.under_way) n.waits).0 in
+    record {
+      free = free_as (operation_of action) s (or_free (is_some (operation_of action) && is_some facts.under_way) (ends_list (operation_of action) && facts.is_pointing) own_wait).0;
+      prepares = λ p. prepare_free (is_mid_link s.lists.slots.present) (lowest s.lists.slots.slots) (and_free (prepares action) (is_mid_link s.lists.slots.present) n.mid p) (not_free (is_some (lowest s.lists.slots.slots)) (and_free (prepares action) (not (is_some (lowest s.lists.slots.slots))) n.slot p));
+      rings = λ r. not_free (is_some s.lists.slots.present) (sym (ring_row action facts r) ∙ n.orb);
+    }

@@ -1,0 +1,335 @@
+-- What holds after an action, and what it tells.
+use Rattle.std.proofs.Common.{arith, ◌≡◌, refl, sym, ap, subst, ◌∙◌, ℕ, ◌+◌, ◌<◌, ◌≤◌, ◌++◌, is_some, Bool, true, false, cond, List, [], ◌∷◌, Option, Some, None}
+use Rattle.label_table.specs.declared.judgement.Asked.{Asked}
+use Rattle.label_table.specs.Bodies.{Body}
+use Rattle.label_table.specs.Layer.{Layer, asking_step}
+use Rattle.bus_memory.specs.Windows.{start}
+use Rattle.bus_memory.specs.declared.window.Window.TheVariants as windows
+use Rattle.orb_list.specs.declared.list.PresentList.{PresentList}
+use Rattle.orb_list.specs.Table.{list_number}
+use Rattle.sbp_journal.specs.declared.event.Action.{Action}
+use Rattle.sbp_journal.specs.declared.event.Action.TheVariants as actions
+use Rattle.sbp_journal.specs.declared.operation.Operation.{Operation}
+use Rattle.sbp_journal.specs.declared.operation.Operation.TheVariants as operations
+use Rattle.sbp_journal.specs.declared.outbox.Outgoing.{Outgoing}
+use Rattle.sbp_journal.specs.Outgoings.{OutboxState}
+use Rattle.sbp_initiator.specs.declared.purpose.Demand.{Demand}
+use Rattle.sbp_initiator.specs.declared.purpose.Purpose.{Purpose}
+use Rattle.sbp_initiator.specs.declared.purpose.Purpose.TheVariants as purposes
+use Rattle.sbp_initiator.specs.declared.purpose.Running.{Running}
+use Rattle.sbp_initiator.specs.declared.purpose.Wanted.TheVariants as wants
+use Rattle.sbp_initiator.specs.declared.state.InitiatorState.{InitiatorState}
+use Rattle.sbp_initiator.specs.Refusals.{operation_of, refusal}
+use Rattle.sbp_initiator.specs.States.{is_unwritten, wanted_body}
+use Rattle.sbp_initiator.specs.Effects.{Turn}
+use Rattle.sbp_initiator.specs.Acting.{act_step, asked_as, asked_for, counted_list, demand_of, demanded_as, done_step, facts_with, first_in, judged_as, manage_demand, register_of, ring_demand}
+use Rattle.sbp_initiator.specs.Moves.{outgoing}
+use Rattle.sbp_initiator.proofs.Asked.{none_asked}
+use Rattle.initiator_laws.specs.Begins.{AreSteps, Begins, IsFree, after_by, begun_as}
+use Rattle.initiator_laws.specs.Ends.{own, is_managed}
+use Rattle.initiator_laws.specs.Numbers.{is_numbered, value_of, carried, RisesTo}
+use Rattle.initiator_laws.proofs.Actions.{Allowed, Done, Ready, allowed, done_does, used}
+use Rattle.initiator_laws.proofs.Effects.{Fits, HasMarks, IsFor, IsForOrb}
+use Rattle.initiator_laws.proofs.Purposes.{AllAsk, all_ask}
+use Rattle.initiator_laws.proofs.Requests.{HasOrb}
+use Rattle.initiator_laws.proofs.Runs.{FitsNow, IsBegun, IsEarlier, Sound, act_in, none_some}
+use Rattle.initiator_laws.proofs.Wires.{Wire, ask_wire, number_wire}
+
+-- ---- the request of an action
+
+abbrev state_demand : Option ℕ → InitiatorState → Option Demand
+state_demand list s =
+    Some (record { wanted = wants.Read (register_of s 0x00); purpose = purposes.State s.counts.acts list })
+
+counted_same : (present : Option PresentList) (s : InitiatorState) (layer : Layer Purpose) → counted_list present (record s { layer = layer }) ≡ counted_list present s
+counted_same None s layer = refl
+counted_same (Some list) s layer = refl
+
+first_same : (present : Option PresentList) (s : InitiatorState) (layer : Layer Purpose) → first_in present (record s { layer = layer }) ≡ first_in present s
+first_same None s layer = refl
+first_same (Some list) s layer = refl
+
+abbrev ring_with : ℕ → InitiatorState → Option Demand
+ring_with first s =
+    Some (cond (is_unwritten s.marks.pointing) (record { wanted = wants.Point (register_of s 0x08) (start (windows.Orb first)); purpose = purposes.Pointer (list_number s.lists.slots.present s.lists.slots.lists) }) (record { wanted = wants.Write (register_of s 0x10) s.counts.running; purpose = purposes.Doorbell }))
+
+ring_same : (s : InitiatorState) (layer : Layer Purpose) → Some (ring_demand (record s { layer = layer })) ≡ Some (ring_demand s)
+ring_same s layer = ap (λ (first : ℕ). ring_with first s) (first_same s.lists.slots.present s layer)
+
+-- it does not read the transaction layer
+demand_same : (action : Action) (s : InitiatorState) (layer : Layer Purpose) → demand_of action (record s { layer = layer }) ≡ demand_of action s
+demand_same actions.Rom s layer = refl
+demand_same (actions.Login unit reconnect exclusive password) s layer = refl
+demand_same (actions.Query unit) s layer = refl
+demand_same actions.Reconnect s layer = refl
+demand_same actions.Logout s layer = refl
+demand_same (actions.Abort orb) s layer = refl
+demand_same actions.AbortSet s layer = refl
+demand_same actions.UnitReset s layer = refl
+demand_same actions.TargetReset s layer = refl
+demand_same actions.AgentReset s layer = refl
+demand_same actions.State s layer = ap (λ (list : Option ℕ). state_demand list s) (counted_same s.lists.slots.present s layer)
+demand_same (actions.Dummy orb) s layer = refl
+demand_same (actions.Put cmd) s layer = refl
+demand_same (actions.Append cmd) s layer = ring_same s layer
+demand_same actions.Low s layer = refl
+demand_same actions.Link s layer = refl
+demand_same actions.Ring s layer = ring_same s layer
+demand_same actions.Enable s layer = refl
+
+after_same : (begins : Option Operation) (s : InitiatorState) (layer : Layer Purpose) → after_by begins (record s { layer = layer }) ≡ after_by begins s
+after_same None s layer = refl
+after_same (Some operation) s layer = begun_same (is_managed operation) operation s layer
+  where
+    begun_same : (b : Bool) (operation : Operation) (s : InitiatorState) (layer : Layer Purpose) → Some (begun_as b operation (record s { layer = layer })) ≡ Some (begun_as b operation s)
+    begun_same true operation s layer = refl
+    begun_same false operation s layer = refl
+
+-- what a demand is for fits the operation that begins with it; and one that carries the running number carries this one
+record Apt (operation : Option Running) (acts running : ℕ) (demand : Demand) : Type 0 where
+  fits : FitsNow operation (acts + 1) demand.purpose
+  value : is_numbered demand.purpose ≡ true → value_of (wanted_body demand.wanted) ≡ Some running
+
+some_is : {A : Type 0} (a b : A) → Some a ≡ Some b → a ≡ b
+some_is a b e = cc
+
+untrue : {A : Type 0} → false ≡ true → A
+untrue e = absurd (differ e)
+  where
+    differ : false ≡ true → ⊥
+    differ e = cc
+
+now_earlier : (act : ℕ) → act < act + 1
+now_earlier act = omega arith
+
+-- the operation that begins is the one that its request is for
+for_own : (operation : Operation) (r : Running) → r.operation ≡ operation → IsFor operation r.act (Some r)
+for_own operation r e = record { same = λ running f g. ap (λ (x : Running). x.operation) (sym (some_is r running f)) ∙ e }
+
+for_orb : (r : Running) → is_managed r.operation ≡ true → IsForOrb r.act (Some r)
+for_orb r e = record { managed = λ running f g. ap (λ (x : Running). is_managed x.operation) (sym (some_is r running f)) ∙ e }
+
+pick_apt : (c : Bool) (operation : Option Running) (acts running : ℕ) (x y : Demand) → Apt operation acts running x → Apt operation acts running y → Apt operation acts running (cond c x y)
+pick_apt true operation acts running x y a b = a
+pick_apt false operation acts running x y a b = b
+
+ring_apt : (s : InitiatorState) → Apt s.operation s.counts.acts s.counts.running (ring_demand s)
+ring_apt s =
+    pick_apt (is_unwritten s.marks.pointing) s.operation s.counts.acts s.counts.running _ _
+    (record { fits = record { fits = tt; earlier = tt }; value = λ e. untrue e })
+    (record { fits = record { fits = tt; earlier = tt }; value = λ e. refl })
+
+orb_apt : (b : Bool) (operation : Operation) (s : InitiatorState) → is_managed operation ≡ true → IsForOrb s.counts.acts (Some (begun_as b operation s))
+orb_apt true operation s m = for_orb (begun_as true operation s) m
+orb_apt false operation s m = for_orb (begun_as false operation s) m
+
+managed_apt : (operation : Operation) (s : InitiatorState) → is_managed operation ≡ true → Apt (after_by (Some operation) s) s.counts.acts s.counts.running (manage_demand s)
+managed_apt operation s m = record {
+  fits = record { fits = orb_apt (is_managed operation) operation s m; earlier = now_earlier s.counts.acts };
+  value = λ e. untrue e;
+}
+
+module _ {operation : Option Running} {acts running : ℕ} where
+  demand_is : (x y : Demand) → Some x ≡ Some y → Apt operation acts running x → Apt operation acts running y
+  demand_is x y e a = subst (λ (d : Demand). Apt operation acts running d) (some_is x y e) a
+
+apt : (action : Action) (s : InitiatorState) (demand : Demand) → demand_of action s ≡ Some demand → Apt (after_by (operation_of action) s) s.counts.acts s.counts.running demand
+apt actions.Rom s demand e =
+    demand_is _ demand e (record { fits = record { fits = for_own operations.Rom (begun_as false operations.Rom s) refl; earlier = now_earlier s.counts.acts }; value = λ f. untrue f })
+apt (actions.Login unit reconnect exclusive password) s demand e = demand_is _ demand e (managed_apt operations.Login s refl)
+apt (actions.Query unit) s demand e = demand_is _ demand e (managed_apt operations.Query s refl)
+apt actions.Reconnect s demand e = demand_is _ demand e (managed_apt operations.Reconnect s refl)
+apt actions.Logout s demand e = demand_is _ demand e (managed_apt operations.Logout s refl)
+apt (actions.Abort orb) s demand e = demand_is _ demand e (managed_apt operations.Abort s refl)
+apt actions.AbortSet s demand e = demand_is _ demand e (managed_apt operations.AbortSet s refl)
+apt actions.UnitReset s demand e = demand_is _ demand e (managed_apt operations.UnitReset s refl)
+apt actions.TargetReset s demand e = demand_is _ demand e (managed_apt operations.TargetReset s refl)
+apt actions.AgentReset s demand e =
+    demand_is _ demand e (record { fits = record { fits = for_own operations.AgentReset (begun_as false operations.AgentReset s) refl; earlier = now_earlier s.counts.acts }; value = λ f. refl })
+apt actions.State s demand e =
+    demand_is _ demand e (record { fits = record { fits = tt; earlier = now_earlier s.counts.acts }; value = λ f. untrue f })
+apt (actions.Dummy orb) s demand e = none_some e
+apt (actions.Put cmd) s demand e = none_some e
+apt (actions.Append cmd) s demand e = demand_is _ demand e (ring_apt s)
+apt actions.Low s demand e = none_some e
+apt actions.Link s demand e = none_some e
+apt actions.Ring s demand e = demand_is _ demand e (ring_apt s)
+apt actions.Enable s demand e =
+    demand_is _ demand e (record { fits = record { fits = for_own operations.Enable (begun_as false operations.Enable s) refl; earlier = now_earlier s.counts.acts }; value = λ f. untrue f })
+
+-- ---- the transactions of earlier actions
+
+clash : {A : Type 0} (a b c : ℕ) → a < b → b ≡ c → c ≡ a → A
+clash a b c h e g = absurd (both a b c h e g)
+  where
+    both : (a b c : ℕ) → a < b → b ≡ c → c ≡ a → ⊥
+    both a b c h e g = omega arith
+
+other_for : (operation : Operation) (act : ℕ) (r : Running) → act < r.act → IsFor operation act (Some r)
+other_for operation act r h =
+    record { same = λ running f g. clash act r.act running.act h (ap (λ (x : Running). x.act) (some_is r running f)) g }
+
+other_orb : (act : ℕ) (r : Running) → act < r.act → IsForOrb act (Some r)
+other_orb act r h =
+    record { managed = λ running f g. clash act r.act running.act h (ap (λ (x : Running). x.act) (some_is r running f)) g }
+
+earlier_fits : (purpose : Purpose) (r : Running) → IsEarlier (act_in purpose) r.act → Fits purpose (Some r)
+earlier_fits (purposes.AgentReset act) r h = other_for operations.AgentReset act r h
+earlier_fits (purposes.Enable act) r h = other_for operations.Enable act r h
+earlier_fits (purposes.Rom act) r h = other_for operations.Rom act r h
+earlier_fits (purposes.Management act) r h = other_orb act r h
+earlier_fits (purposes.Pointer list) r h = tt
+earlier_fits purposes.Doorbell r h = tt
+earlier_fits (purposes.State act list) r h = tt
+
+earlier_on : (act : Option ℕ) (n : ℕ) → IsEarlier act n → IsEarlier act (n + 1)
+earlier_on None n h = tt
+earlier_on (Some act) n h = step act n h
+  where
+    step : (a n : ℕ) → a < n → a < n + 1
+    step a n h = omega arith
+
+begun_act : (b : Bool) (operation : Operation) (s : InitiatorState) → (begun_as b operation s).act ≡ s.counts.acts
+begun_act true operation s = refl
+begun_act false operation s = refl
+
+still_fits : (begins : Option Operation) (s : InitiatorState) (purpose : Purpose) → FitsNow s.operation s.counts.acts purpose → FitsNow (after_by begins s) (s.counts.acts + 1) purpose
+still_fits None s purpose f = record { fits = f.fits; earlier = earlier_on (act_in purpose) s.counts.acts f.earlier }
+still_fits (Some operation) s purpose f =
+    let r = begun_as (is_managed operation) operation s in
+    record {
+      fits = earlier_fits purpose r (subst (λ (n : ℕ). IsEarlier (act_in purpose) n) (sym (begun_act (is_managed operation) operation s)) f.earlier);
+      earlier = earlier_on (act_in purpose) s.counts.acts f.earlier;
+    }
+
+-- ---- what holds of the operation that begins
+
+orb_as : (b : Bool) (operation : Operation) (s : InitiatorState) → is_managed operation ≡ b → HasOrb (Some (begun_as b operation s))
+orb_as true operation s m =
+    record { managed = λ running e f. ap (λ (x : Running). is_managed x.operation) (sym (some_is (begun_as true operation s) running e)) ∙ m }
+orb_as false operation s m =
+    record { managed = λ running e f. untrue (ap (λ (x : Running). is_some x.managed) (some_is (begun_as false operation s) running e) ∙ f) }
+
+orb_after : (begins : Option Operation) (s : InitiatorState) → HasOrb s.operation → HasOrb (after_by begins s)
+orb_after None s h = h
+orb_after (Some operation) s h = orb_as (is_managed operation) operation s refl
+
+begun_after : (begins : Option Operation) (s : InitiatorState) → IsBegun s.operation s.counts.acts → IsBegun (after_by begins s) (s.counts.acts + 1)
+begun_after None s h = record { before = λ r e. step r.act s.counts.acts (h.before r e) }
+  where
+    step : (a n : ℕ) → a < n → a < n + 1
+    step a n h = omega arith
+begun_after (Some operation) s h =
+    record { before = λ r e. last r.act s.counts.acts (ap (λ (x : Running). x.act) (sym (some_is (begun_as (is_managed operation) operation s) r e)) ∙ begun_act (is_managed operation) operation s) }
+  where
+    last : (a n : ℕ) → a ≡ n → a < n + 1
+    last a n h = omega arith
+
+-- ---- an action as a whole
+
+-- what holds where a step left this
+record Left (node : ℕ) (demand : Option Demand) (begins : Option Operation) (o : OutboxState) (s : InitiatorState) (t : Turn) : Type 0 where
+  operation : t.1.operation ≡ after_by begins s
+  acts : t.1.counts.acts ≡ s.counts.acts + 1
+  running : t.1.counts.running ≡ used demand s.counts.running
+  marks : HasMarks t.1.lists.slots.present t.1.marks.pointing
+  wires : Wire (FitsNow (after_by begins s) (s.counts.acts + 1)) node (used demand s.counts.running) t.1.layer t.0.packets
+
+left_sound : (node : ℕ) (demand : Option Demand) (begins : Option Operation) (o : OutboxState) (s : InitiatorState) (t : Turn) → Sound node (o, s) → Left node demand begins o s t → Sound node t
+left_sound node demand begins o s t k l = record {
+  wires = record {
+    calls = l.wires.calls;
+    layer_is = l.wires.layer_is;
+    packets_are = l.wires.packets_are;
+    rises = subst (λ (n : ℕ). RisesTo n (carried node l.wires.calls)) (sym l.running) l.wires.rises;
+    asks = subst (λ (r : Option Running). AllAsk (FitsNow r t.1.counts.acts) l.wires.calls) (sym l.operation) (subst (λ (n : ℕ). AllAsk (FitsNow (after_by begins s) n) l.wires.calls) (sym l.acts) l.wires.asks);
+  };
+  marks = l.marks;
+  orb = subst (λ (r : Option Running). HasOrb r) (sym l.operation) (orb_after begins s k.orb);
+  begun = subst (λ (r : Option Running). IsBegun r t.1.counts.acts) (sym l.operation) (subst (λ (n : ℕ). IsBegun (after_by begins s) n) (sym l.acts) (begun_after begins s k.begun));
+}
+
+-- the layer as it was, by transactions that fit still
+kept_wire : (node : ℕ) (begins : Option Operation) (o : OutboxState) (s : InitiatorState) → Wire (FitsNow s.operation s.counts.acts) node s.counts.running s.layer o.packets → Wire (FitsNow (after_by begins s) (s.counts.acts + 1)) node s.counts.running s.layer o.packets
+kept_wire node begins o s w = record {
+  calls = w.calls;
+  layer_is = w.layer_is;
+  packets_are = w.packets_are;
+  rises = w.rises;
+  asks = all_ask (FitsNow s.operation s.counts.acts) (FitsNow (after_by begins s) (s.counts.acts + 1)) (still_fits begins s) w.calls w.asks;
+}
+
+-- with the request of an action
+asked_as_wire : (c : Bool) (node : ℕ) (begins : Option Operation) (demand : Demand) (asked : Asked) (layer : Layer Purpose) (o : OutboxState) (s : InitiatorState) → is_numbered demand.purpose ≡ c → asked_for demand s ≡ (Some asked, layer) → Apt (after_by begins s) s.counts.acts s.counts.running demand → Wire (FitsNow s.operation s.counts.acts) node s.counts.running s.layer o.packets → Wire (FitsNow (after_by begins s) (s.counts.acts + 1)) node (cond c (s.counts.running + 1) s.counts.running) layer (o.packets ++ outgoing s.target asked ∷ [])
+asked_as_wire true node begins demand asked layer o s n e a w =
+    number_wire s.target (wanted_body demand.wanted) demand.purpose asked layer e n (a.value n) a.fits (kept_wire node begins o s w)
+asked_as_wire false node begins demand asked layer o s n e a w =
+    ask_wire s.target (wanted_body demand.wanted) demand.purpose asked layer e n a.fits (kept_wire node begins o s w)
+
+-- what an action is refused for, or what it tells, and what holds afterwards
+pub record Acted (node : ℕ) (action : Action) (o : OutboxState) (s : InitiatorState) (r : Option ℕ × Turn) : Type 0 where
+  pub begins : r.0 ≡ None → Begins action o s r.1
+  pub sound : Sound node r.1
+
+some_none : {A : Type 0} {n : ℕ} → Some n ≡ None → A
+some_none e = absurd (differ e)
+  where
+    differ : {n : ℕ} → Some n ≡ None → ⊥
+    differ e = cc
+
+sent_acted : (node : ℕ) (action : Action) (demand : Demand) (asked : Asked) (layer : Layer Purpose) (o : OutboxState) (s : InitiatorState) → Sound node (o, s) → Allowed action s → demand_of action s ≡ Some demand → asked_for demand s ≡ (Some asked, layer) → Acted node action o s (asked_as (Some asked, layer) action o s)
+sent_acted node action demand asked layer o s k a e f =
+    let u = record s { layer = layer } in
+    let d0 = done_does action o u (record { prepares = a.prepares; rings = a.rings; marks = k.marks }) in
+    let d : Done (Some demand) (operation_of action) o u (done_step action o u) = subst (λ (x : Option Demand). Done x (operation_of action) o u (done_step action o u)) (demand_same action s layer ∙ e) d0 in
+    record {
+      begins = λ g. record { news = d.news; sides = d.sides; steps = d.steps; free = a.free; operation = d.operation ∙ after_same (operation_of action) s layer };
+      sound = left_sound node (Some demand) (operation_of action) o s (asked_as (Some asked, layer) action o s).1 k
+          (record {
+            operation = d.operation ∙ after_same (operation_of action) s layer;
+            acts = ap (λ (n : ℕ). n + 1) d.acts;
+            running = d.running;
+            marks = d.marks k.marks;
+            wires = subst (λ (l : Layer Purpose). Wire (FitsNow (after_by (operation_of action) s) (s.counts.acts + 1)) node (used (Some demand) s.counts.running) l ((done_step action o u).0.packets ++ outgoing s.target asked ∷ [])) (sym d.layer)
+                (subst (λ (ps : List Outgoing). Wire (FitsNow (after_by (operation_of action) s) (s.counts.acts + 1)) node (used (Some demand) s.counts.running) layer (ps ++ outgoing s.target asked ∷ [])) (sym d.packets)
+                (asked_as_wire (is_numbered demand.purpose) node (operation_of action) demand asked layer o s refl f (apt action s demand e) k.wires));
+          });
+    }
+
+none_acted : (node : ℕ) (action : Action) (demand : Demand) (layer : Layer Purpose) (o : OutboxState) (s : InitiatorState) → Sound node (o, s) → layer ≡ s.layer → Acted node action o s (asked_as (None, layer) action o s)
+none_acted node action demand layer o s k e = record {
+  begins = λ g. some_none g;
+  sound = subst (λ (l : Layer Purpose). Sound node (o, record s { layer = l })) (sym e) k;
+}
+
+asked_acted : (r : Option Asked × Layer Purpose) (node : ℕ) (action : Action) (demand : Demand) (o : OutboxState) (s : InitiatorState) → Sound node (o, s) → Allowed action s → demand_of action s ≡ Some demand → asked_for demand s ≡ r → Acted node action o s (asked_as r action o s)
+asked_acted (None, layer) node action demand o s k a e f =
+    none_acted node action demand layer o s k (none_asked s.layer layer s.target (wanted_body demand.wanted) demand.purpose (sym f))
+asked_acted (Some asked, layer) node action demand o s k a e f = sent_acted node action demand asked layer o s k a e f
+
+demanded_acted : (demand : Option Demand) (node : ℕ) (action : Action) (o : OutboxState) (s : InitiatorState) → Sound node (o, s) → Allowed action s → demand_of action s ≡ demand → Acted node action o s (demanded_as demand action o s)
+demanded_acted None node action o s k a e =
+    let d0 = done_does action o s (record { prepares = a.prepares; rings = a.rings; marks = k.marks }) in
+    let d : Done None (operation_of action) o s (done_step action o s) = subst (λ (x : Option Demand). Done x (operation_of action) o s (done_step action o s)) e d0 in
+    record {
+      begins = λ g. record { news = d.news; sides = d.sides; steps = d.steps; free = a.free; operation = d.operation };
+      sound = left_sound node None (operation_of action) o s (demanded_as None action o s).1 k
+          (record {
+            operation = d.operation;
+            acts = ap (λ (n : ℕ). n + 1) d.acts;
+            running = d.running;
+            marks = d.marks k.marks;
+            wires = subst (λ (l : Layer Purpose). Wire (FitsNow (after_by (operation_of action) s) (s.counts.acts + 1)) node s.counts.running l (done_step action o s).0.packets) (sym d.layer)
+                (subst (λ (ps : List Outgoing). Wire (FitsNow (after_by (operation_of action) s) (s.counts.acts + 1)) node s.counts.running s.layer ps) (sym d.packets)
+                (kept_wire node (operation_of action) o s k.wires));
+          });
+    }
+demanded_acted (Some demand) node action o s k a e = asked_acted (asked_for demand s) node action demand o s k a e refl
+
+judged_acted : (r : Option ℕ) (node : ℕ) (action : Action) (o : OutboxState) (s : InitiatorState) → Sound node (o, s) → refusal action (facts_with true s action) ≡ r → Acted node action o s (judged_as r action o s)
+judged_acted (Some number) node action o s k e = record { begins = λ g. some_none g; sound = k }
+judged_acted None node action o s k e = demanded_acted (demand_of action s) node action o s k (allowed action s e) refl
+
+pub act_acted : (node : ℕ) (action : Action) (o : OutboxState) (s : InitiatorState) → Sound node (o, s) → Acted node action o s (act_step action o s)
+unfolding act_step
+act_acted node action o s k = judged_acted (refusal action (facts_with true s action)) node action o s k refl

@@ -1,0 +1,12 @@
+pub mod Judging
+pub mod Effects
+pub mod Requests
+pub mod Purposes
+pub mod Wires
+pub mod Actions
+pub mod Runs
+pub mod Sights
+pub mod Acts
+pub mod Over
+pub mod Takes
+pub mod Served

@@ -1,0 +1,52 @@
+-- The laws over every list of calls.
+use Rattle.std.proofs.Common.{◌≡◌, refl, sym, ap, subst, ◌∙◌, ℕ, ◌+◌, Bool, true, false, List, [], ◌∷◌, Option, Some, None}
+use Rattle.label_table.specs.History as wire
+use Rattle.sbp_journal.specs.declared.event.Action.{Action}
+use Rattle.sbp_journal.specs.Outgoings.{empty_outbox}
+use Rattle.sbp_initiator.specs.Effects.{Turn}
+use Rattle.sbp_initiator.specs.Initiators.{new_state}
+use Rattle.sbp_initiator.specs.Laws.{Call, acts, receives, lets_expire, AreCalls, IsCall, after, done}
+use Rattle.sbp_initiator.specs.Laws as laws
+use Rattle.initiator_laws.specs.Numbers.{NumberLaw}
+use Rattle.initiator_laws.specs.Tells.{TellsAfter, TellsLaw}
+use Rattle.initiator_laws.proofs.Acts.{act_acted}
+use Rattle.initiator_laws.proofs.Runs.{Sound, call_soundly, call_tells, none_some}
+use Rattle.initiator_laws.proofs.Sights.{sees_so, sees_soundly}
+
+first_sound : (number : ℕ) (ready : Bool) → Sound (0xffc1 + number) (empty_outbox, new_state number ready)
+unfolding new_state
+first_sound number ready = record {
+  wires = record { calls = []; layer_is = refl; packets_are = refl; rises = tt; asks = tt };
+  marks = refl;
+  orb = record { managed = λ r e. none_some e };
+  begun = record { before = λ r e. none_some e };
+}
+
+call_sound : (node : ℕ) (call : Call) (t : Turn) → Sound node t → Sound node (done call t)
+call_sound node (acts action) t k = (act_acted node action t.0 t.1 k).sound
+call_sound node (receives generation bytes) t k = call_soundly node (receives generation bytes) t k refl
+call_sound node (lets_expire label) t k = call_soundly node (lets_expire label) t k refl
+call_sound node (laws.sees generation id target) t k = sees_soundly node generation id target t.0 t.1 k
+
+pub sound : (number : ℕ) (ready : Bool) (calls : List Call) → Sound (0xffc1 + number) (after number ready calls)
+sound number ready [] = first_sound number ready
+sound number ready (call ∷ calls) = call_sound (0xffc1 + number) call (after number ready calls) (sound number ready calls)
+
+none_first : (number : ℕ) (ready : Bool) → (new_state number ready).operation ≡ None
+unfolding new_state
+none_first number ready = refl
+
+pub tells_law : TellsLaw
+tells_law = record {
+  first = λ number ready. none_first number ready;
+  tells = λ number ready calls h. record {
+    action = λ act p e. (act_acted (0xffc1 + number) act (after number ready calls).0 (after number ready calls).1 (sound number ready calls)).begins e;
+    heard = λ call e. call_tells (0xffc1 + number) call (after number ready calls) (sound number ready calls) e;
+    seen = λ generation id target. sees_so (0xffc1 + number) generation id target (after number ready calls).0 (after number ready calls).1 (sound number ready calls);
+  };
+}
+
+pub number_law : NumberLaw
+number_law number ready calls h =
+    let w = (sound number ready calls).wires in
+    record { calls = w.calls; layer_is = w.layer_is; packets_are = w.packets_are; rises = w.rises }

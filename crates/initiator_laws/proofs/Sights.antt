@@ -1,0 +1,110 @@
+-- What an initiator tells as it sees a generation.
+use Rattle.std.proofs.Common.{◌≡◌, refl, sym, ap, subst, ◌∙◌, ℕ, ◌++◌, append-nil, append_assoc, nat_lt, Bool, true, false, cond, List, [], ◌∷◌, Option, Some, None}
+use Rattle.label_table.specs.Layer.{Layer, seeing_step, seen_in_generation}
+use Rattle.orb_list.specs.declared.list.PresentList.{PresentList}
+use Rattle.orb_list.specs.Table.{free_all_step}
+use Rattle.sbp_journal.specs.declared.note.Note.{Note}
+use Rattle.sbp_journal.specs.declared.note.Note.TheVariants as notes
+use Rattle.sbp_journal.specs.declared.operation.Operation.TheVariants as operations
+use Rattle.sbp_journal.specs.declared.operation.OpWord.TheVariants as words
+use Rattle.sbp_journal.specs.declared.outbox.Outgoing.{Outgoing}
+use Rattle.sbp_journal.specs.declared.side.Side.{Side}
+use Rattle.sbp_journal.specs.Outgoings.{OutboxState}
+use Rattle.sbp_initiator.specs.declared.purpose.Pointing.TheVariants as pointings
+use Rattle.sbp_initiator.specs.declared.purpose.Purpose.{Purpose}
+use Rattle.sbp_initiator.specs.declared.purpose.Running.{Running}
+use Rattle.sbp_initiator.specs.declared.state.Counts.{Counts}
+use Rattle.sbp_initiator.specs.declared.state.InitiatorState.{InitiatorState}
+use Rattle.sbp_initiator.specs.Lists.{ListState, free_lists}
+use Rattle.sbp_initiator.specs.Effects.{Turn, drop_list_step}
+use Rattle.sbp_initiator.specs.Seeing.{all_end, interrupted, reset_step, reset_told, resets_told, seen_as, see_step, states_end}
+use Rattle.initiator_laws.specs.Drops.{present_list}
+use Rattle.initiator_laws.specs.Ends.{own, drops}
+use Rattle.initiator_laws.specs.Numbers.{carried, RisesTo}
+use Rattle.initiator_laws.specs.Tells.{state_resets, resets_with, resets, Sees}
+use Rattle.initiator_laws.proofs.Effects.{HasMarks, list_drops, told_twice}
+use Rattle.initiator_laws.proofs.Purposes.{all_ask}
+use Rattle.initiator_laws.proofs.Requests.{HasOrb}
+use Rattle.initiator_laws.proofs.Runs.{FitsNow, IsBegun, Sound, fits_none, none_some}
+use Rattle.initiator_laws.proofs.Wires.{Wire, see_wire}
+
+-- an outbox that tells some notes more, and has the same packets
+record TellsMore (o : OutboxState) (ns : List Note) (after : OutboxState) : Type 0 where
+  sides : after.sides ≡ o.sides ++ own ns
+  packets : after.packets ≡ o.packets
+
+more : (o : OutboxState) (note : Note) (ns : List Note) (after : OutboxState) → TellsMore (record o { sides = o.sides ++ own (note ∷ []) }) ns after → TellsMore o (note ∷ ns) after
+more o note ns after t =
+    record { sides = told_twice o.sides (o.sides ++ own (note ∷ [])) after.sides (note ∷ []) ns refl t.sides; packets = t.packets }
+
+states_more : (number : ℕ) (acts : List ℕ) (o : OutboxState) → TellsMore o (state_resets number acts) (states_end number acts o)
+states_more number [] o = record { sides = sym (append-nil o.sides); packets = refl }
+states_more number (act ∷ acts) o =
+    more o (notes.Op number operations.State words.Reset) (state_resets number acts) _ (states_more number acts (reset_told number operations.State o))
+
+pick_more : (c : Bool) (o : OutboxState) (ns ms : List Note) (x y : OutboxState) → TellsMore o ns x → TellsMore o ms y → TellsMore o (cond c ns ms) (cond c x y)
+pick_more true o ns ms x y s t = s
+pick_more false o ns ms x y s t = t
+
+all_more : (number : ℕ) (running : Running) (acts : List ℕ) (o : OutboxState) → TellsMore o (resets_with number running acts) (all_end number running acts o)
+all_more number running [] o = record { sides = refl; packets = refl }
+all_more number running (act ∷ acts) o =
+    pick_more (nat_lt running.act act) o _ _ _ _
+    (more o (notes.Op number running.operation words.Reset) (state_resets number (act ∷ acts)) _ (states_more number (act ∷ acts) (reset_told number running.operation o)))
+    (more o (notes.Op number operations.State words.Reset) (resets_with number running acts) _ (all_more number running acts (reset_told number operations.State o)))
+
+resets_more : (number : ℕ) (operation : Option Running) (acts : List ℕ) (o : OutboxState) → TellsMore o (resets number operation acts) (resets_told number operation acts o)
+resets_more number None acts o = states_more number acts o
+resets_more number (Some running) acts o = all_more number running acts o
+
+-- ---- all slots are free
+
+free_marks : (lists : ListState) → HasMarks (free_lists lists).slots.present pointings.Unwritten
+unfolding free_lists free_all_step
+free_marks lists = refl
+
+-- ---- as a whole
+
+record Saw (node : ℕ) (seen : Bool) (old new : Turn) : Type 0 where
+  tells : Sees seen old new
+  sound : Sound node new
+
+abbrev seeing_as : Bool → Layer Purpose → Layer Purpose → Bool × Layer Purpose
+seeing_as c new old = cond c (true, new) (false, old)
+
+saw_as : (c : Bool) (node generation id target : ℕ) (o : OutboxState) (s : InitiatorState) → Sound node (o, s) → Wire (FitsNow s.operation s.counts.acts) node s.counts.running (seeing_as c (seen_in_generation s.layer generation id) s.layer).1 o.packets → Saw node c (o, s) (seen_as (seeing_as c (seen_in_generation s.layer generation id) s.layer) target o s)
+saw_as false node generation id target o s k w = record { tells = (refl, refl); sound = k }
+saw_as true node generation id target o s k w =
+    let u = record s { layer = seen_in_generation s.layer generation id } in
+    let x = resets_told s.number s.operation s.states o in
+    let m = resets_more s.number s.operation s.states o in
+    let v = interrupted u target in
+    let d = list_drops x v in
+    let t = drop_list_step x v in
+    record {
+      tells = (told_twice o.sides x.sides t.0.sides (resets s.number s.operation s.states) (drops s.number (present_list s.lists.slots.present)) m.sides d.sides, d.operation);
+      sound = record {
+        wires = record {
+          calls = w.calls;
+          layer_is = w.layer_is ∙ sym d.layer;
+          packets_are = w.packets_are ∙ sym (d.packets ∙ m.packets);
+          rises = subst (λ (c : Counts). RisesTo c.running (carried node w.calls)) (sym d.counts) w.rises;
+          asks = all_ask (FitsNow s.operation s.counts.acts) (FitsNow t.1.operation t.1.counts.acts)
+              (λ p f. subst (λ (r : Option Running). FitsNow r t.1.counts.acts p) (sym d.operation) (subst (λ (c : Counts). FitsNow None c.acts p) (sym d.counts) (record { fits = fits_none p; earlier = f.earlier })))
+              w.calls w.asks;
+        };
+        marks = free_marks t.1.lists;
+        orb = subst (λ (r : Option Running). HasOrb r) (sym d.operation) (record { managed = λ r e. none_some e });
+        begun = subst (λ (r : Option Running). IsBegun r t.1.counts.acts) (sym d.operation) (record { before = λ r e. none_some e });
+      };
+    }
+
+saw : (node generation id target : ℕ) (o : OutboxState) (s : InitiatorState) → Sound node (o, s) → Saw node (nat_lt s.layer.generation generation) (o, s) (see_step generation id target o s)
+unfolding see_step seeing_step
+saw node generation id target o s k = saw_as (nat_lt s.layer.generation generation) node generation id target o s k (see_wire generation id k.wires)
+
+pub sees_so : (node generation id target : ℕ) (o : OutboxState) (s : InitiatorState) → Sound node (o, s) → Sees (nat_lt s.layer.generation generation) (o, s) (see_step generation id target o s)
+sees_so node generation id target o s k = (saw node generation id target o s k).tells
+
+pub sees_soundly : (node generation id target : ℕ) (o : OutboxState) (s : InitiatorState) → Sound node (o, s) → Sound node (see_step generation id target o s)
+sees_soundly node generation id target o s k = (saw node generation id target o s k).sound

@@ -1,0 +1,8 @@
+pub mod Judging
+pub mod Ends
+pub mod Drops
+pub mod Taking
+pub mod Numbers
+pub mod Begins
+pub mod Tells
+pub mod Served
