@@ -347,6 +347,8 @@ orb_tied (Some q) s login plain told answer ns e some h k r t =
     let below : q < length s.tasks = found.0 in
     let small : q < 8 = omega arith in
     let empty : stage q ns ≡ Vacant = vacant (stage q ns) (task_at s q).phase found.1 (all_at s.tasks q h.so.worked) (t.stages q small) in
+    let lower : (p : ℕ) → p < q → under_way p (Came 8 ∷ ns) ≡ true =
+    λ p low. ap (λ (b : Bool). cond b false (under_way p ns)) (no_fetcher p (omega arith)) ∙ t.sent r.live.dead p (omega arith) ∙ is_busy_task (is_sent (task_at s p).phase) ((position-Some is_free s.tasks q new_machine e).2 p low) in
     let at : address_of (reading_in ns) ≡ aligned s.fetcher.orb = ap address_of r.reading ∙ sym r.even in
     let busy_now : is_free begun.1 ≡ false = worked_busy begun.1 (begin_works (task_at s q) login plain told s.fetcher.orb answer) in
     let left : TaskMachine = (goes_on begun.0.dead (placed s q begun)).1 in
@@ -357,7 +359,7 @@ orb_tied (Some q) s login plain told answer ns e some h k r t =
       tied = behind_tied begun.0.dead (placed s q begun) (Sent (asked q begun.0.ask ++ asked 8 (goes_on begun.0.dead (placed s q begun)).0) ∷ end_notes q begun.0.ended (task_at left q).outgoing (ran_notes q begun.0.ran ms))
           (set_tied s.tasks q begun (goes_on begun.0.dead (placed s q begun)).0 (task_at left q).outgoing ms Waiting (aligned s.fetcher.orb, next) size small
           (record {
-            lawful = (small, empty, t.lawful);
+            lawful = (small, empty, lower, t.lawful);
             here = ap (λ (b : Bool). cond b Waiting (stage q ns)) (own q);
             working = refl;
             named = ap (λ (b : Bool). cond b (address_of (reading_in ns), next) (seat q ns)) (own q) ∙ ap (λ (a : ℕ). (a, next)) at;

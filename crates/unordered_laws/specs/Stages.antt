@@ -68,10 +68,10 @@ abbrev pub MaySendAll : List (ℕ × Ask) → List Note → Type 0
 MaySendAll [] ns = Unit {0}
 MaySendAll ((place, ask) ∷ asks) ns = MaySend place ns × MaySendAll asks ns
 
--- An ORB takes a place below 8 that is vacant. It runs at most once, before it ends, and it ends once, by the status block that names it. One transaction of a place is under way at a time, and one of the fetcher. For an ORB whose agent became dead, or whose list was cut, nothing is sent, run or ended after that.
+-- An ORB takes a place below 8 that is vacant, the lowest: of each lower one a transaction is under way. It runs at most once, before it ends, and it ends once, by the status block that names it. One transaction of a place is under way at a time, and one of the fetcher. For an ORB whose agent became dead, or whose list was cut, nothing is sent, run or ended after that.
 abbrev pub Lawful : List Note → Type 0
 Lawful [] = Unit {0}
-Lawful (Got place at next ∷ ns) = (place < 8) × (stage place ns ≡ Vacant) × Lawful ns
+Lawful (Got place at next ∷ ns) = (place < 8) × (stage place ns ≡ Vacant) × ((lower : ℕ) → lower < place → under_way lower ns ≡ true) × Lawful ns
 Lawful (Ran place ∷ ns) = (stage place ns ≡ Waiting) × Lawful ns
 Lawful (Ended place kind bytes ∷ ns) = (is_working (stage place ns) ≡ true) × (bytes ≡ block_for (seat place ns) kind) × Lawful ns
 Lawful (Sent asks ∷ ns) = MaySendAll asks ns × Lawful ns
