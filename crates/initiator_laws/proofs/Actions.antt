@@ -1,6 +1,11 @@
 -- What an action that is done tells, begins and counts.
-use Rattle.std.proofs.Common.{arith, ◌≡◌, refl, sym, ap, subst, ◌∙◌, ℕ, ◌+◌, ◌++◌, append-nil, nat_eq, ◌&&◌, ◌||◌, not, is_some, Bool, true, false, cond, List, [], ◌∷◌, Option, Some, None, Result, Ok, Err}
-use Rattle.bus_memory.specs.Memory.{Memory}
+use Rattle.std.proofs.Common.{arith, ◌≡◌, refl, sym, ap, subst, ◌∙◌, ℕ, zero, suc, ◌+◌, ◌%◌, ◌<◌, ◌≤◌, ◌++◌, append-nil, nat_eq, ◌&&◌, ◌||◌, not, is_some, Bool, true, false, cond, List, [], ◌∷◌, length, take, drop, slice_index_or, slice_set, Option, Some, None, Result, Ok, Err}
+use Rattle.std.proofs.lemmas.List.{drop_all}
+use Rattle.bus_memory.specs.declared.slot.PlaceMemory.{PlaceMemory}
+use Rattle.bus_memory.specs.declared.window.Window.TheVariants as windows
+use Rattle.bus_memory.specs.Memory.{Memory, empty_place, patch, place_at, with_bytes}
+use Rattle.orb_layout.specs.ManagementOrbs.{management_bytes}
+use Rattle.orb_list.specs.Layout.{behind, data_in_segments, data_written, written}
 use Rattle.orb_layout.specs.declared.management.ManagementOrb.{ManagementOrb}
 use Rattle.orb_list.specs.declared.fault.ListFault.{ListFault}
 use Rattle.orb_list.specs.declared.fault.ListFault.TheVariants as list_faults
@@ -9,7 +14,7 @@ use Rattle.orb_list.specs.declared.list.Linking.{Linking}
 use Rattle.orb_list.specs.declared.list.PresentList.{PresentList}
 use Rattle.orb_list.specs.Tickets.{TicketParts}
 use Rattle.orb_list.specs.Requests.{Asked}
-use Rattle.orb_list.specs.Table.{SlotTable, checked, dummy_at, dummy_step, find_in, free_slot, high_for, high_step, is_mid_link, link_set, low_for, low_step as slot_low, lowest, may_prepare, next_ticket, orb_number, pin_at, pin_step, prepare_at, prepare_step, waits_high, waits_low}
+use Rattle.orb_list.specs.Table.{SlotTable, checked, closed, dummy_at, dummy_step, find_in, free_slot, high_for, high_step, is_mid_link, link_set, low_for, low_step as slot_low, lowest, may_prepare, next_ticket, orb_number, pin_at, pin_step, prepare_at, prepare_step, waits_high, waits_low}
 use Rattle.sbp_session.specs.Moves.{sent, pointing, goes}
 use Rattle.sbp_journal.specs.declared.event.Action.{Action}
 use Rattle.sbp_journal.specs.declared.event.Action.TheVariants as actions
@@ -38,7 +43,20 @@ use Rattle.sbp_initiator.specs.Acting.{begun, demand_of, facts_with, dummy_for, 
 use Rattle.initiator_laws.specs.Begins.{is_step, AreSteps, begun_as, after_by, IsFree}
 use Rattle.initiator_laws.specs.Ends.{own, is_managed}
 use Rattle.initiator_laws.specs.Numbers.{is_numbered}
-use Rattle.initiator_laws.proofs.Effects.{HasMarks, KeepsMarks, told_twice}
+use Rattle.initiator_laws.specs.Served.{orb_in, with_orb}
+use Rattle.initiator_laws.proofs.Effects.{HasMarks, Holds, KeepsMarks, relisted, told_twice}
+
+none_below : (p : ℕ) → p < 0 → ⊥
+none_below p h = omega arith
+
+below_next : (p n : ℕ) → suc p < suc n → p < n
+below_next p n h = omega arith
+
+eq_next : (p m : ℕ) → nat_eq p m ≡ nat_eq (suc p) (suc m)
+eq_next p m = grind arith
+
+within : (a b : ℕ) → a ≡ 32 → b ≡ 32 → a ≤ 0 + b
+within a b e f = omega arith
 
 steps_append : (xs ys : List Note) → AreSteps xs → AreSteps ys → AreSteps (xs ++ ys)
 steps_append [] ys a b = b
@@ -72,7 +90,7 @@ step_then o s t u a b = record {
   target = b.target ∙ a.target;
   unwritten = b.unwritten ∙ a.unwritten;
   present = λ h. b.present (a.present h);
-  marks = λ h. b.marks (a.marks h);
+  marks = λ x h. b.marks x (a.marks x h);
 }
 
 -- ---- an ORB is prepared
@@ -109,7 +127,7 @@ first_as true note first o s lists w p k f = record {
   target = refl;
   unwritten = f refl;
   present = λ h. p;
-  marks = λ h. some_marks lists.slots.present pointings.Unwritten p;
+  marks = λ x h. record { marks = some_marks lists.slots.present pointings.Unwritten p; orbs = (k x h).orbs; places = (k x h).places };
 }
 first_as false note first o s lists w p k f = record {
   news = note ∷ [];
@@ -126,13 +144,34 @@ first_as false note first o s lists w p k f = record {
   marks = k;
 }
 
+segments_places : (m : Memory) (slot at : ℕ) (counts data_left : List ℕ) → (data_in_segments m slot at counts data_left).places ≡ m.places
+segments_places m slot at [] data_left = refl
+segments_places m slot at (count ∷ rest) data_left =
+    segments_places (with_bytes m (windows.Buffer slot) at (take count data_left)) slot (behind at count) rest (drop count data_left)
+
+data_places : (m : Memory) (slot : ℕ) (segments payload : List ℕ) → (data_written m slot segments payload).places ≡ m.places
+data_places m slot [] payload = refl
+data_places m slot (first ∷ rest) payload = segments_places m slot 0 (first ∷ rest) payload
+
+written_places : (m : Memory) (slot : ℕ) (asked : Asked) → (written m slot asked).places ≡ m.places
+written_places m slot asked = data_places _ slot asked.segments asked.payload
+
+put_keeps : (slot : ℕ) (cmd : Cmd) (s : InitiatorState) → KeepsMarks s (record s { lists = (prepared_as (prepare_at (Ok slot) s.lists.slots s.lists.memory (asked_by cmd s.layer.node (login_id s))) s.lists cmd).1 })
+put_keeps slot cmd s x h =
+    let e = written_places s.lists.memory slot (asked_by cmd s.layer.node (login_id s)) in
+    record {
+      marks = tt;
+      orbs = λ m. ap (λ (l : List PlaceMemory). (slice_index_or l m empty_place).orb) e ∙ h.orbs m;
+      places = ap length e ∙ h.places;
+    }
+
 put_as_does : (r : Result ℕ ListFault) (cmd : Cmd) (o : OutboxState) (s : InitiatorState) → is_ok r ≡ true → HasMarks s.lists.slots.present s.marks.pointing → Steps o s (put_as (prepared_as (prepare_at r s.lists.slots s.lists.memory (asked_by cmd s.layer.node (login_id s))) s.lists cmd) cmd o s)
 put_as_does (Err fault) cmd o s e h = absurd (untrue e)
 put_as_does (Ok slot) cmd o s e h =
     let t = next_ticket s.lists.slots slot (login_id s) in
     first_as (nat_eq t.number 0) (notes.Append s.number t.list t.number cmd.cdb (buffer_of cmd)) t.slot o s
     (prepared_as (prepare_at (Ok slot) s.lists.slots s.lists.memory (asked_by cmd s.layer.node (login_id s))) s.lists cmd).1
-    refl refl (λ k. tt) (first_unwritten s.lists.slots.present s.marks.pointing h)
+    refl refl (put_keeps slot cmd s) (first_unwritten s.lists.slots.present s.marks.pointing h)
 
 put_does : (cmd : Cmd) (o : OutboxState) (s : InitiatorState) → is_ok (may_prepare s.lists.slots) ≡ true → HasMarks s.lists.slots.present s.marks.pointing → Steps o s (put_step cmd o s)
 unfolding put_lists prepare_step
@@ -162,7 +201,7 @@ still o s = record {
   target = refl;
   unwritten = refl;
   present = λ h. h;
-  marks = λ h. h;
+  marks = λ x h. h;
 }
 
 -- a note is told, and the lists change
@@ -186,17 +225,18 @@ low_for_does : (linking : Option Linking) (o : OutboxState) (s : InitiatorState)
 low_for_does None o s = still o s
 low_for_does (Some linking) o s =
     noted (notes.Low s.number linking.tail.list linking.tail.number) o s (stepped (low_for (Some linking) s.lists.slots s.lists.memory) s.lists).1 refl
-    (link_set_some s.lists.slots.present _) (link_set_marks s.lists.slots.present _ s.marks.pointing)
+    (link_set_some s.lists.slots.present _) (λ x h. record { marks = link_set_marks s.lists.slots.present _ s.marks.pointing h.marks; orbs = h.orbs; places = h.places })
 
 low_does : (o : OutboxState) (s : InitiatorState) → Steps o s (low_step o s)
 unfolding low_lists slot_low
 low_does o s = low_for_does (waits_low s.lists.slots.present) o s
 
 high_for_does : (linking : Option Linking) (o : OutboxState) (s : InitiatorState) → Steps o s (link_as (stepped (high_for linking s.lists.slots s.lists.memory) s.lists) o s)
+unfolding closed
 high_for_does None o s = still o s
 high_for_does (Some linking) o s =
     noted (notes.Linked s.number linking.tail.list linking.tail.number) o s (stepped (high_for (Some linking) s.lists.slots s.lists.memory) s.lists).1 refl
-    (link_set_some s.lists.slots.present _) (link_set_marks s.lists.slots.present _ s.marks.pointing)
+    (link_set_some s.lists.slots.present _) (λ x h. record { marks = link_set_marks s.lists.slots.present _ s.marks.pointing h.marks; orbs = h.orbs; places = h.places })
 
 link_does : (o : OutboxState) (s : InitiatorState) → Steps o s (link_step o s)
 unfolding high_lists high_step
@@ -210,7 +250,7 @@ used None running = running
 used (Some demand) running = cond (is_numbered demand.purpose) (running + 1) running
 
 -- What an action that is done tells, begins and counts, and what it leaves.
-pub record Done (demand : Option Demand) (begins : Option Operation) (o : OutboxState) (s : InitiatorState) (t : Turn) : Type 0 where
+pub record Done (demand : Option Demand) (begins : Option Operation) (orb : Option ManagementOrb) (o : OutboxState) (s : InitiatorState) (t : Turn) : Type 0 where
   pub news : List Note
   pub sides : t.0.sides ≡ o.sides ++ own news
   pub steps : AreSteps news
@@ -221,9 +261,9 @@ pub record Done (demand : Option Demand) (begins : Option Operation) (o : Outbox
   pub running : t.1.counts.running ≡ used demand s.counts.running
   pub number : t.1.number ≡ s.number
   pub target : t.1.target ≡ s.target
-  pub marks : KeepsMarks s t.1
+  pub marks : (held : ℕ → List ℕ) → ((m : ℕ) → length (held m) ≡ 32) → Holds held s.lists s.marks.pointing → Holds (with_orb orb (place_of s.counts.managed) held) t.1.lists t.1.marks.pointing
 
-step_done : (o : OutboxState) (s : InitiatorState) (t : Turn) → Steps o s t → Done None None o s t
+step_done : (o : OutboxState) (s : InitiatorState) (t : Turn) → Steps o s t → Done None None None o s t
 step_done o s t a = record {
   news = a.news;
   sides = a.sides;
@@ -235,10 +275,10 @@ step_done o s t a = record {
   running = ap (λ (c : Counts). c.running) a.counts;
   number = a.number;
   target = a.target;
-  marks = a.marks;
+  marks = λ held z h. a.marks held h;
 }
 
-ring_as : (c : Bool) (demand : Demand) (list : PresentList) (o : OutboxState) (s : InitiatorState) → is_unwritten s.marks.pointing ≡ c → is_numbered demand.purpose ≡ not c → s.lists.slots.present ≡ Some list → Done (Some demand) None o s (told o (notes.Rung s.number list.tail.list (last_linked list)), cond c (record s { marks = record s.marks { pointing = pointings.Written }; seat = goes pointing s.seat }) (with_running s))
+ring_as : (c : Bool) (demand : Demand) (list : PresentList) (o : OutboxState) (s : InitiatorState) → is_unwritten s.marks.pointing ≡ c → is_numbered demand.purpose ≡ not c → s.lists.slots.present ≡ Some list → Done (Some demand) None None o s (told o (notes.Rung s.number list.tail.list (last_linked list)), cond c (record s { marks = record s.marks { pointing = pointings.Written }; seat = goes pointing s.seat }) (with_running s))
 ring_as true demand list o s e d p = record {
   news = notes.Rung s.number list.tail.list (last_linked list) ∷ [];
   sides = refl;
@@ -250,7 +290,7 @@ ring_as true demand list o s e d p = record {
   running = ap (λ (b : Bool). cond b (s.counts.running + 1) s.counts.running) (sym d);
   number = refl;
   target = refl;
-  marks = λ h. some_marks s.lists.slots.present pointings.Written (ap is_some p);
+  marks = λ held z h. record { marks = some_marks s.lists.slots.present pointings.Written (ap is_some p); orbs = h.orbs; places = h.places };
 }
 ring_as false demand list o s e d p = record {
   news = notes.Rung s.number list.tail.list (last_linked list) ∷ [];
@@ -263,10 +303,10 @@ ring_as false demand list o s e d p = record {
   running = ap (λ (b : Bool). cond b (s.counts.running + 1) s.counts.running) (sym d);
   number = refl;
   target = refl;
-  marks = λ h. h;
+  marks = λ held z h. h;
 }
 
-ring_for_does : (present : Option PresentList) (demand : Demand) (o : OutboxState) (s : InitiatorState) → s.lists.slots.present ≡ present → is_some present ≡ true → is_numbered demand.purpose ≡ not (is_unwritten s.marks.pointing) → Done (Some demand) None o s (ring_for present o s)
+ring_for_does : (present : Option PresentList) (demand : Demand) (o : OutboxState) (s : InitiatorState) → s.lists.slots.present ≡ present → is_some present ≡ true → is_numbered demand.purpose ≡ not (is_unwritten s.marks.pointing) → Done (Some demand) None None o s (ring_for present o s)
 ring_for_does None demand o s e p d = absurd (untrue p)
 ring_for_does (Some list) demand o s e p d = ring_as (is_unwritten s.marks.pointing) demand list o s refl d e
 
@@ -277,11 +317,11 @@ ring_number false x y e f = f
 demand_number : (s : InitiatorState) → is_numbered (ring_demand s).purpose ≡ not (is_unwritten s.marks.pointing)
 demand_number s = ring_number (is_unwritten s.marks.pointing) _ _ refl refl
 
-ring_does : (demand : Demand) (o : OutboxState) (s : InitiatorState) → is_some s.lists.slots.present ≡ true → is_numbered demand.purpose ≡ not (is_unwritten s.marks.pointing) → Done (Some demand) None o s (ring_step o s)
+ring_does : (demand : Demand) (o : OutboxState) (s : InitiatorState) → is_some s.lists.slots.present ≡ true → is_numbered demand.purpose ≡ not (is_unwritten s.marks.pointing) → Done (Some demand) None None o s (ring_step o s)
 ring_does demand o s p d = ring_for_does s.lists.slots.present demand o s refl p d
 
 -- steps of a list and then a ring
-steps_ring : (demand : Demand) (o : OutboxState) (s : InitiatorState) (t u : Turn) → Steps o s t → Done (Some demand) None t.0 t.1 u → Done (Some demand) None o s u
+steps_ring : (demand : Demand) (o : OutboxState) (s : InitiatorState) (t u : Turn) → Steps o s t → Done (Some demand) None None t.0 t.1 u → Done (Some demand) None None o s u
 steps_ring demand o s t u a b = record {
   news = a.news ++ b.news;
   sides = told_twice o.sides t.0.sides u.0.sides a.news b.news a.sides b.sides;
@@ -293,7 +333,7 @@ steps_ring demand o s t u a b = record {
   running = b.running ∙ ap (λ (c : Counts). used (Some demand) c.running) a.counts;
   number = b.number ∙ a.number;
   target = b.target ∙ a.target;
-  marks = λ h. b.marks (a.marks h);
+  marks = λ held z h. b.marks held z (a.marks held h);
 }
 
 put_present : (r : Result ℕ ListFault) (cmd : Cmd) (o : OutboxState) (s : InitiatorState) → is_ok r ≡ true → is_some (put_as (prepared_as (prepare_at r s.lists.slots s.lists.memory (asked_by cmd s.layer.node (login_id s))) s.lists cmd) cmd o s).1.lists.slots.present ≡ true
@@ -308,7 +348,7 @@ put_some : (cmd : Cmd) (o : OutboxState) (s : InitiatorState) → is_ok (may_pre
 unfolding put_lists prepare_step
 put_some cmd o s e = put_present (may_prepare s.lists.slots) cmd o s e
 
-append_does : (cmd : Cmd) (o : OutboxState) (s : InitiatorState) → is_ok (may_prepare s.lists.slots) ≡ true → HasMarks s.lists.slots.present s.marks.pointing → Done (Some (ring_demand s)) None o s (append_step cmd o s)
+append_does : (cmd : Cmd) (o : OutboxState) (s : InitiatorState) → is_ok (may_prepare s.lists.slots) ≡ true → HasMarks s.lists.slots.present s.marks.pointing → Done (Some (ring_demand s)) None None o s (append_step cmd o s)
 append_does cmd o s e h =
     let x = put_step cmd o s in
     let y = low_step x.0 x.1 in
@@ -330,14 +370,27 @@ dummy_present : (lists : ListState) (t : TicketParts) → (dummy_lists lists t).
 unfolding dummy_lists dummy_step
 dummy_present lists t = dummied_present (checked lists.slots t) lists.slots lists.memory t
 
-same_marks : (p q : Option PresentList) (x : Pointing) → q ≡ p → HasMarks p x → HasMarks q x
-same_marks p q x e h = subst (λ (r : Option PresentList). HasMarks r x) (sym e) h
+dummied_memory : (r : Result (Unit {0}) ListFault) (slots : SlotTable) (m : Memory) (t : TicketParts) → (dummy_at r slots m t).1.1.places ≡ m.places
+dummied_memory (Err fault) slots m t = refl
+dummied_memory (Ok done) slots m t = refl
+
+dummy_memory : (lists : ListState) (t : TicketParts) → (dummy_lists lists t).memory.places ≡ lists.memory.places
+unfolding dummy_lists dummy_step
+dummy_memory lists t = dummied_memory (checked lists.slots t) lists.slots lists.memory t
+
+pick_memory : (c : Bool) (k l : ListState) → l.memory ≡ k.memory → (cond c k l).memory ≡ k.memory
+pick_memory true k l e = refl
+pick_memory false k l e = e
+
+pin_memory : (lists : ListState) (t : TicketParts) → (pin_lists lists t).memory ≡ lists.memory
+unfolding pin_lists
+pin_memory lists t = pick_memory (is_some lists.slots.pinned) lists (record lists { slots = (pin_step lists.slots t).1 }) refl
 
 dummy_does : (t : Option TicketParts) (o : OutboxState) (s : InitiatorState) → Steps o s (dummy_for t o s)
 dummy_does None o s = still o s
 dummy_does (Some t) o s =
     noted (notes.Dummied s.number t.list t.number) o s (dummy_lists s.lists t) refl (λ h. ap is_some (dummy_present s.lists t) ∙ h)
-    (same_marks s.lists.slots.present (dummy_lists s.lists t).slots.present s.marks.pointing (dummy_present s.lists t))
+    (relisted s.lists (dummy_lists s.lists t) s.marks.pointing (dummy_present s.lists t) (λ m. ap (λ (l : List PlaceMemory). (slice_index_or l m empty_place).orb) (dummy_memory s.lists t)) (ap length (dummy_memory s.lists t)))
 
 pinned_present : (r : Result (Unit {0}) ListFault) (slots : SlotTable) (t : TicketParts) → (pin_at r slots t).1.present ≡ slots.present
 pinned_present (Err fault) slots t = refl
@@ -362,8 +415,8 @@ manage_present lists place orb = refl
 -- ---- operations
 
 -- an operation begins, and nothing is told
-begins_does : (begins : Option Operation) (demand : Demand) (o : OutboxState) (s t : InitiatorState) → t.operation ≡ after_by begins s → t.layer ≡ s.layer → t.counts.acts ≡ s.counts.acts → t.counts.running ≡ used (Some demand) s.counts.running → t.number ≡ s.number → t.target ≡ s.target → KeepsMarks s t → Done (Some demand) begins o s (o, t)
-begins_does begins demand o s t operation layer acts running number target marks = record {
+begins_does : (begins : Option Operation) (orb : Option ManagementOrb) (demand : Demand) (o : OutboxState) (s t : InitiatorState) → t.operation ≡ after_by begins s → t.layer ≡ s.layer → t.counts.acts ≡ s.counts.acts → t.counts.running ≡ used (Some demand) s.counts.running → t.number ≡ s.number → t.target ≡ s.target → ((held : ℕ → List ℕ) → ((m : ℕ) → length (held m) ≡ 32) → Holds held s.lists s.marks.pointing → Holds (with_orb orb (place_of s.counts.managed) held) t.lists t.marks.pointing) → Done (Some demand) begins orb o s (o, t)
+begins_does begins orb demand o s t operation layer acts running number target marks = record {
   news = [];
   sides = sym (append-nil o.sides);
   steps = tt;
@@ -377,13 +430,63 @@ begins_does begins demand o s t operation layer acts running number target marks
   marks = marks;
 }
 
-managed_marks : (s : InitiatorState) (place : ℕ) (orb : ManagementOrb) → KeepsMarks s (record s { lists = manage_lists s.lists place orb })
-managed_marks s place orb h = same_marks s.lists.slots.present (manage_lists s.lists place orb).slots.present s.marks.pointing (manage_present s.lists place orb) h
+zero_next : (m : ℕ) → nat_eq 0 (suc m) ≡ false
+zero_next m = grind arith
+
+next_zero : (p : ℕ) → nat_eq (suc p) 0 ≡ false
+next_zero p = grind arith
+
+place_set : (l : List PlaceMemory) (p m : ℕ) (y : PlaceMemory) → p < length l → (slice_index_or (slice_set l p y) m empty_place).orb ≡ cond (nat_eq p m) y.orb (slice_index_or l m empty_place).orb
+place_set [] p m y h = absurd (none_below p h)
+place_set (z ∷ l) zero zero y h = refl
+place_set (z ∷ l) zero (suc m) y h = ap (λ (b : Bool). cond b y.orb (slice_index_or l m empty_place).orb) (sym (zero_next m))
+place_set (z ∷ l) (suc p) zero y h = ap (λ (b : Bool). cond b y.orb z.orb) (sym (next_zero p))
+place_set (z ∷ l) (suc p) (suc m) y h =
+    place_set l p m y (below_next p (length l) h) ∙ ap (λ (b : Bool). cond b y.orb (slice_index_or l m empty_place).orb) (eq_next p m)
+
+set_length : (l : List PlaceMemory) (p : ℕ) (y : PlaceMemory) → length (slice_set l p y) ≡ length l
+set_length [] p y = refl
+set_length (z ∷ l) zero y = refl
+set_length (z ∷ l) (suc p) y = ap suc (set_length l p y)
+
+take_none : (xs : List ℕ) → take 0 xs ≡ []
+take_none [] = refl
+take_none (x ∷ xs) = refl
+
+-- bytes over all the old ones
+patch_whole : (old bytes : List ℕ) → length old ≡ 32 → length bytes ≡ 32 → patch old 0 bytes ≡ bytes
+patch_whole old bytes e f =
+    ap (λ (first : List ℕ). first ++ (bytes ++ drop (0 + length bytes) old)) (take_none old)
+    ∙ ap (λ (rest : List ℕ). bytes ++ rest) (drop_all (0 + length bytes) old (within (length old) (length bytes) e f)) ∙ append-nil bytes
+
+place_below : (n size : ℕ) → size ≡ 2 → n % 2 < size
+place_below n size e = omega arith
+
+manage_orbs : (lists : ListState) (place : ℕ) (orb : ManagementOrb) (m : ℕ) → place < length lists.memory.places → length (place_at lists.memory place).orb ≡ 32 → (place_at (manage_lists lists place orb).memory m).orb ≡ cond (nat_eq place m) (management_bytes orb) (place_at lists.memory m).orb
+unfolding manage_lists
+manage_orbs lists place orb m h e =
+    let old = place_at lists.memory place in
+    place_set lists.memory.places place m (record old { orb = patch old.orb 0 (management_bytes orb) }) h
+    ∙ ap (λ (b : List ℕ). cond (nat_eq place m) b (place_at lists.memory m).orb) (patch_whole old.orb (management_bytes orb) e refl)
+
+manage_places : (lists : ListState) (place : ℕ) (orb : ManagementOrb) → length (manage_lists lists place orb).memory.places ≡ length lists.memory.places
+unfolding manage_lists
+manage_places lists place orb = set_length lists.memory.places place _
+
+managed_holds : (orb : ManagementOrb) (s : InitiatorState) (held : ℕ → List ℕ) → ((m : ℕ) → length (held m) ≡ 32) → Holds held s.lists s.marks.pointing → Holds (with_orb (Some orb) (place_of s.counts.managed) held) (manage_lists s.lists (place_of s.counts.managed) orb) s.marks.pointing
+managed_holds orb s held z h =
+    let place = place_of s.counts.managed in
+    record {
+      marks = subst (λ (p : Option PresentList). HasMarks p s.marks.pointing) (sym (manage_present s.lists place orb)) h.marks;
+      orbs = λ m. manage_orbs s.lists place orb m (place_below s.counts.managed (length s.lists.memory.places) h.places) (ap length (h.orbs place) ∙ z place)
+          ∙ ap (λ (b : List ℕ). cond (nat_eq place m) (management_bytes orb) b) (h.orbs m);
+      places = manage_places s.lists place orb ∙ h.places;
+    }
 
 -- what an abort pins
-pinned_does : (t : Option TicketParts) (demand : Demand) (o : OutboxState) (s u : InitiatorState) → Done (Some demand) (Some operations.Abort) o s (o, u) → Done (Some demand) (Some operations.Abort) o s (o, pinned_for t u)
-pinned_does None demand o s u d = d
-pinned_does (Some t) demand o s u d = record {
+pinned_does : (t : Option TicketParts) (orb : Option ManagementOrb) (demand : Demand) (o : OutboxState) (s u : InitiatorState) → Done (Some demand) (Some operations.Abort) orb o s (o, u) → Done (Some demand) (Some operations.Abort) orb o s (o, pinned_for t u)
+pinned_does None orb demand o s u d = d
+pinned_does (Some t) orb demand o s u d = record {
   news = d.news;
   sides = d.sides;
   steps = d.steps;
@@ -394,7 +497,7 @@ pinned_does (Some t) demand o s u d = record {
   running = d.running;
   number = d.number;
   target = d.target;
-  marks = λ h. same_marks u.lists.slots.present (pin_lists u.lists t).slots.present u.marks.pointing (pins_present u.lists t) (d.marks h);
+  marks = λ held z h. relisted u.lists (pin_lists u.lists t) u.marks.pointing (pins_present u.lists t) (λ m. ap (λ (x : Memory). (place_at x m).orb) (pin_memory u.lists t)) (ap (λ (x : Memory). length x.places) (pin_memory u.lists t)) _ (d.marks held z h);
 }
 
 -- the action that rings alone
@@ -411,16 +514,17 @@ pub record Ready (action : Action) (s : InitiatorState) : Type 0 where
   pub rings : is_ring action ≡ true → is_some s.lists.slots.present ≡ true
   pub marks : HasMarks s.lists.slots.present s.marks.pointing
 
-manage_does : (begins : Operation) (orb : ManagementOrb) (demand : Demand) (o : OutboxState) (s t : InitiatorState) → is_managed begins ≡ true → is_numbered demand.purpose ≡ false → t.operation ≡ (managed_by orb begins s).operation → t.layer ≡ s.layer → t.counts.acts ≡ s.counts.acts → t.counts.running ≡ s.counts.running → t.number ≡ s.number → t.target ≡ s.target → t.lists ≡ manage_lists s.lists (place_of s.counts.managed) orb → t.marks ≡ s.marks → Done (Some demand) (Some begins) o s (o, t)
+manage_does : (begins : Operation) (orb : ManagementOrb) (demand : Demand) (o : OutboxState) (s t : InitiatorState) → is_managed begins ≡ true → is_numbered demand.purpose ≡ false → t.operation ≡ (managed_by orb begins s).operation → t.layer ≡ s.layer → t.counts.acts ≡ s.counts.acts → t.counts.running ≡ s.counts.running → t.number ≡ s.number → t.target ≡ s.target → t.lists ≡ manage_lists s.lists (place_of s.counts.managed) orb → t.marks ≡ s.marks → Done (Some demand) (Some begins) (Some orb) o s (o, t)
 manage_does begins orb demand o s t m d operation layer acts running number target lists marks =
-    begins_does (Some begins) demand o s t
+    begins_does (Some begins) (Some orb) demand o s t
     (operation ∙ ap (λ (b : Bool). Some (begun_as b begins s)) (sym m))
     layer acts
     (running ∙ ap (λ (b : Bool). cond b (s.counts.running + 1) s.counts.running) (sym d))
     number target
-    (λ h. subst (λ (l : ListState). HasMarks l.slots.present t.marks.pointing) (sym lists) (subst (λ (k : ListMarks). HasMarks (manage_lists s.lists (place_of s.counts.managed) orb).slots.present k.pointing) (sym marks) (managed_marks s (place_of s.counts.managed) orb h)))
+    (λ held z h. subst (λ (l : ListState). Holds (with_orb (Some orb) (place_of s.counts.managed) held) l t.marks.pointing) (sym lists)
+    (subst (λ (k : ListMarks). Holds (with_orb (Some orb) (place_of s.counts.managed) held) (manage_lists s.lists (place_of s.counts.managed) orb) k.pointing) (sym marks) (managed_holds orb s held z h)))
 
-pub done_does : (action : Action) (o : OutboxState) (s : InitiatorState) → Ready action s → Done (demand_of action s) (operation_of action) o s (done_step action o s)
+pub done_does : (action : Action) (o : OutboxState) (s : InitiatorState) → Ready action s → Done (demand_of action s) (operation_of action) (orb_in (operation_of action) action s) o s (done_step action o s)
 unfolding done_step
 done_does (actions.Put cmd) o s r = step_done o s (put_step cmd o s) (put_does cmd o s (r.prepares refl) r.marks)
 done_does (actions.Append cmd) o s r = append_does cmd o s (r.prepares refl) r.marks
@@ -428,12 +532,12 @@ done_does actions.Low o s r = step_done o s (low_step o s) (low_does o s)
 done_does actions.Link o s r = step_done o s (link_step o s) (link_does o s)
 done_does actions.Ring o s r = ring_does (ring_demand s) o s (r.rings refl) (demand_number s)
 done_does (actions.Dummy orb) o s r = step_done o s _ (dummy_does (find_in s.lists.slots.slots orb) o s)
-done_does actions.Rom o s r = begins_does (Some operations.Rom) _ o s (register_start actions.Rom s) refl refl refl refl refl refl (λ h. h)
+done_does actions.Rom o s r = begins_does (Some operations.Rom) None _ o s (register_start actions.Rom s) refl refl refl refl refl refl (λ held z h. h)
 done_does actions.AgentReset o s r =
-    begins_does (Some operations.AgentReset) _ o s (register_start actions.AgentReset s) refl refl refl refl refl refl (λ h. h)
-done_does actions.State o s r = begins_does None _ o s (register_start actions.State s) refl refl refl refl refl refl (λ h. h)
+    begins_does (Some operations.AgentReset) None _ o s (register_start actions.AgentReset s) refl refl refl refl refl refl (λ held z h. h)
+done_does actions.State o s r = begins_does None None _ o s (register_start actions.State s) refl refl refl refl refl refl (λ held z h. h)
 done_does actions.Enable o s r =
-    begins_does (Some operations.Enable) _ o s (register_start actions.Enable s) refl refl refl refl refl refl (λ h. h)
+    begins_does (Some operations.Enable) None _ o s (register_start actions.Enable s) refl refl refl refl refl refl (λ held z h. h)
 done_does (actions.Login unit reconnect exclusive password) o s r =
     manage_does operations.Login (login_orb s unit reconnect exclusive password) _ o s (manage_start (actions.Login unit reconnect exclusive password) s) refl refl refl refl refl refl refl refl refl refl
 done_does (actions.Query unit) o s r =
@@ -444,7 +548,7 @@ done_does actions.Logout o s r =
     manage_does operations.Logout (orb_by actions.Logout s) _ o s (manage_start actions.Logout s) refl refl refl refl refl refl refl refl refl refl
 done_does (actions.Abort orb) o s r =
     let t = managed_by (orb_by (actions.Abort orb) s) operations.Abort s in
-    pinned_does (find_in t.lists.slots.slots orb) _ o s t
+    pinned_does (find_in t.lists.slots.slots orb) _ _ o s t
     (manage_does operations.Abort (orb_by (actions.Abort orb) s) _ o s t refl refl refl refl refl refl refl refl refl refl)
 done_does actions.AbortSet o s r =
     manage_does operations.AbortSet (orb_by actions.AbortSet s) _ o s (manage_start actions.AbortSet s) refl refl refl refl refl refl refl refl refl refl

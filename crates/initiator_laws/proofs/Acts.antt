@@ -1,10 +1,12 @@
 -- What holds after an action, and what it tells.
-use Rattle.std.proofs.Common.{arith, ◌≡◌, refl, sym, ap, subst, ◌∙◌, ℕ, ◌+◌, ◌<◌, ◌≤◌, ◌++◌, is_some, Bool, true, false, cond, List, [], ◌∷◌, Option, Some, None}
+use Rattle.std.proofs.Common.{arith, ◌≡◌, refl, sym, ap, subst, ◌∙◌, ℕ, ◌+◌, ◌<◌, ◌≤◌, ◌++◌, nat_eq, is_some, Bool, true, false, cond, List, [], ◌∷◌, length, Option, Some, None}
 use Rattle.label_table.specs.declared.judgement.Asked.{Asked}
 use Rattle.label_table.specs.Bodies.{Body}
 use Rattle.label_table.specs.Layer.{Layer, asking_step}
 use Rattle.bus_memory.specs.Windows.{start}
 use Rattle.bus_memory.specs.declared.window.Window.TheVariants as windows
+use Rattle.orb_layout.specs.declared.management.ManagementOrb.{ManagementOrb}
+use Rattle.orb_layout.specs.ManagementOrbs.{management_bytes}
 use Rattle.orb_list.specs.declared.list.PresentList.{PresentList}
 use Rattle.orb_list.specs.Table.{list_number}
 use Rattle.sbp_journal.specs.declared.event.Action.{Action}
@@ -20,16 +22,17 @@ use Rattle.sbp_initiator.specs.declared.purpose.Running.{Running}
 use Rattle.sbp_initiator.specs.declared.purpose.Wanted.TheVariants as wants
 use Rattle.sbp_initiator.specs.declared.state.InitiatorState.{InitiatorState}
 use Rattle.sbp_initiator.specs.Refusals.{operation_of, refusal}
-use Rattle.sbp_initiator.specs.States.{is_unwritten, wanted_body}
+use Rattle.sbp_initiator.specs.States.{is_unwritten, place_of, wanted_body}
 use Rattle.sbp_initiator.specs.Effects.{Turn}
 use Rattle.sbp_initiator.specs.Acting.{act_step, asked_as, asked_for, counted_list, demand_of, demanded_as, done_step, facts_with, first_in, judged_as, manage_demand, register_of, ring_demand}
 use Rattle.sbp_initiator.specs.Moves.{outgoing}
 use Rattle.sbp_initiator.proofs.Asked.{none_asked}
 use Rattle.initiator_laws.specs.Begins.{AreSteps, Begins, IsFree, after_by, begun_as}
 use Rattle.initiator_laws.specs.Ends.{own, is_managed}
+use Rattle.initiator_laws.specs.Served.{orb_in, with_orb, held_if}
 use Rattle.initiator_laws.specs.Numbers.{is_numbered, value_of, carried, RisesTo}
 use Rattle.initiator_laws.proofs.Actions.{Allowed, Done, Ready, allowed, done_does, used}
-use Rattle.initiator_laws.proofs.Effects.{Fits, HasMarks, IsFor, IsForOrb}
+use Rattle.initiator_laws.proofs.Effects.{Fits, Holds, IsFor, IsForOrb}
 use Rattle.initiator_laws.proofs.Purposes.{AllAsk, all_ask}
 use Rattle.initiator_laws.proofs.Requests.{HasOrb}
 use Rattle.initiator_laws.proofs.Runs.{FitsNow, IsBegun, IsEarlier, Sound, act_in, none_some}
@@ -225,18 +228,49 @@ begun_after (Some operation) s h =
     last : (a n : ℕ) → a ≡ n → a < n + 1
     last a n h = omega arith
 
+-- ---- what the places of management hold
+
+orb_same : (action : Action) (s : InitiatorState) (layer : Layer Purpose) → orb_in (operation_of action) action (record s { layer = layer }) ≡ orb_in (operation_of action) action s
+orb_same actions.Rom s layer = refl
+orb_same (actions.Login unit reconnect exclusive password) s layer = refl
+orb_same (actions.Query unit) s layer = refl
+orb_same actions.Reconnect s layer = refl
+orb_same actions.Logout s layer = refl
+orb_same (actions.Abort orb) s layer = refl
+orb_same actions.AbortSet s layer = refl
+orb_same actions.UnitReset s layer = refl
+orb_same actions.TargetReset s layer = refl
+orb_same actions.AgentReset s layer = refl
+orb_same actions.State s layer = refl
+orb_same (actions.Dummy orb) s layer = refl
+orb_same (actions.Put cmd) s layer = refl
+orb_same (actions.Append cmd) s layer = refl
+orb_same actions.Low s layer = refl
+orb_same actions.Link s layer = refl
+orb_same actions.Ring s layer = refl
+orb_same actions.Enable s layer = refl
+
+pick_sized : (c : Bool) (x y : List ℕ) → length x ≡ 32 → length y ≡ 32 → length (cond c x y) ≡ 32
+pick_sized true x y a b = a
+pick_sized false x y a b = b
+
+with_orb_sized : (orb : Option ManagementOrb) (place : ℕ) (held : ℕ → List ℕ) → ((m : ℕ) → length (held m) ≡ 32) → (m : ℕ) → length (with_orb orb place held m) ≡ 32
+with_orb_sized None place held h m = h m
+with_orb_sized (Some orb) place held h m = pick_sized (nat_eq place m) (management_bytes orb) (held m) refl (h m)
+
 -- ---- an action as a whole
 
 -- what holds where a step left this
-record Left (node : ℕ) (demand : Option Demand) (begins : Option Operation) (o : OutboxState) (s : InitiatorState) (t : Turn) : Type 0 where
+record Left (node : ℕ) (held : ℕ → List ℕ) (demand : Option Demand) (begins : Option Operation) (o : OutboxState) (s : InitiatorState) (t : Turn) : Type 0 where
   operation : t.1.operation ≡ after_by begins s
   acts : t.1.counts.acts ≡ s.counts.acts + 1
   running : t.1.counts.running ≡ used demand s.counts.running
-  marks : HasMarks t.1.lists.slots.present t.1.marks.pointing
+  marks : Holds held t.1.lists t.1.marks.pointing
+  sized : (m : ℕ) → length (held m) ≡ 32
   wires : Wire (FitsNow (after_by begins s) (s.counts.acts + 1)) node (used demand s.counts.running) t.1.layer t.0.packets
 
-left_sound : (node : ℕ) (demand : Option Demand) (begins : Option Operation) (o : OutboxState) (s : InitiatorState) (t : Turn) → Sound node (o, s) → Left node demand begins o s t → Sound node t
-left_sound node demand begins o s t k l = record {
+left_sound : (node : ℕ) (held new : ℕ → List ℕ) (demand : Option Demand) (begins : Option Operation) (o : OutboxState) (s : InitiatorState) (t : Turn) → Sound node held (o, s) → Left node new demand begins o s t → Sound node new t
+left_sound node held new demand begins o s t k l = record {
   wires = record {
     calls = l.wires.calls;
     layer_is = l.wires.layer_is;
@@ -245,6 +279,7 @@ left_sound node demand begins o s t k l = record {
     asks = subst (λ (r : Option Running). AllAsk (FitsNow r t.1.counts.acts) l.wires.calls) (sym l.operation) (subst (λ (n : ℕ). AllAsk (FitsNow (after_by begins s) n) l.wires.calls) (sym l.acts) l.wires.asks);
   };
   marks = l.marks;
+  sized = l.sized;
   orb = subst (λ (r : Option Running). HasOrb r) (sym l.operation) (orb_after begins s k.orb);
   begun = subst (λ (r : Option Running). IsBegun r t.1.counts.acts) (sym l.operation) (subst (λ (n : ℕ). IsBegun (after_by begins s) n) (sym l.acts) (begun_after begins s k.begun));
 }
@@ -267,9 +302,9 @@ asked_as_wire false node begins demand asked layer o s n e a w =
     ask_wire s.target (wanted_body demand.wanted) demand.purpose asked layer e n a.fits (kept_wire node begins o s w)
 
 -- what an action is refused for, or what it tells, and what holds afterwards
-pub record Acted (node : ℕ) (action : Action) (o : OutboxState) (s : InitiatorState) (r : Option ℕ × Turn) : Type 0 where
+pub record Acted (node : ℕ) (held : ℕ → List ℕ) (action : Action) (o : OutboxState) (s : InitiatorState) (r : Option ℕ × Turn) : Type 0 where
   pub begins : r.0 ≡ None → Begins action o s r.1
-  pub sound : Sound node r.1
+  pub sound : Sound node (held_if r.0 action s held) r.1
 
 some_none : {A : Type 0} {n : ℕ} → Some n ≡ None → A
 some_none e = absurd (differ e)
@@ -277,59 +312,62 @@ some_none e = absurd (differ e)
     differ : {n : ℕ} → Some n ≡ None → ⊥
     differ e = cc
 
-sent_acted : (node : ℕ) (action : Action) (demand : Demand) (asked : Asked) (layer : Layer Purpose) (o : OutboxState) (s : InitiatorState) → Sound node (o, s) → Allowed action s → demand_of action s ≡ Some demand → asked_for demand s ≡ (Some asked, layer) → Acted node action o s (asked_as (Some asked, layer) action o s)
-sent_acted node action demand asked layer o s k a e f =
+sent_acted : (node : ℕ) (held : ℕ → List ℕ) (action : Action) (demand : Demand) (asked : Asked) (layer : Layer Purpose) (o : OutboxState) (s : InitiatorState) → Sound node held (o, s) → Allowed action s → demand_of action s ≡ Some demand → asked_for demand s ≡ (Some asked, layer) → Acted node held action o s (asked_as (Some asked, layer) action o s)
+sent_acted node held action demand asked layer o s k a e f =
     let u = record s { layer = layer } in
-    let d0 = done_does action o u (record { prepares = a.prepares; rings = a.rings; marks = k.marks }) in
-    let d : Done (Some demand) (operation_of action) o u (done_step action o u) = subst (λ (x : Option Demand). Done x (operation_of action) o u (done_step action o u)) (demand_same action s layer ∙ e) d0 in
+    let d0 = done_does action o u (record { prepares = a.prepares; rings = a.rings; marks = k.marks.marks }) in
+    let d : Done (Some demand) (operation_of action) (orb_in (operation_of action) action s) o u (done_step action o u) = subst (λ (x : Option Demand). Done x (operation_of action) (orb_in (operation_of action) action s) o u (done_step action o u)) (demand_same action s layer ∙ e)
+    (subst (λ (x : Option ManagementOrb). Done (demand_of action u) (operation_of action) x o u (done_step action o u)) (orb_same action s layer) d0) in
     record {
       begins = λ g. record { news = d.news; sides = d.sides; steps = d.steps; free = a.free; operation = d.operation ∙ after_same (operation_of action) s layer };
-      sound = left_sound node (Some demand) (operation_of action) o s (asked_as (Some asked, layer) action o s).1 k
+      sound = left_sound node held (with_orb (orb_in (operation_of action) action s) (place_of s.counts.managed) held) (Some demand) (operation_of action) o s (asked_as (Some asked, layer) action o s).1 k
           (record {
             operation = d.operation ∙ after_same (operation_of action) s layer;
             acts = ap (λ (n : ℕ). n + 1) d.acts;
             running = d.running;
-            marks = d.marks k.marks;
+            marks = d.marks held k.sized k.marks;
+            sized = with_orb_sized (orb_in (operation_of action) action s) (place_of s.counts.managed) held k.sized;
             wires = subst (λ (l : Layer Purpose). Wire (FitsNow (after_by (operation_of action) s) (s.counts.acts + 1)) node (used (Some demand) s.counts.running) l ((done_step action o u).0.packets ++ outgoing s.target asked ∷ [])) (sym d.layer)
                 (subst (λ (ps : List Outgoing). Wire (FitsNow (after_by (operation_of action) s) (s.counts.acts + 1)) node (used (Some demand) s.counts.running) layer (ps ++ outgoing s.target asked ∷ [])) (sym d.packets)
                 (asked_as_wire (is_numbered demand.purpose) node (operation_of action) demand asked layer o s refl f (apt action s demand e) k.wires));
           });
     }
 
-none_acted : (node : ℕ) (action : Action) (demand : Demand) (layer : Layer Purpose) (o : OutboxState) (s : InitiatorState) → Sound node (o, s) → layer ≡ s.layer → Acted node action o s (asked_as (None, layer) action o s)
-none_acted node action demand layer o s k e = record {
+none_acted : (node : ℕ) (held : ℕ → List ℕ) (action : Action) (demand : Demand) (layer : Layer Purpose) (o : OutboxState) (s : InitiatorState) → Sound node held (o, s) → layer ≡ s.layer → Acted node held action o s (asked_as (None, layer) action o s)
+none_acted node held action demand layer o s k e = record {
   begins = λ g. some_none g;
-  sound = subst (λ (l : Layer Purpose). Sound node (o, record s { layer = l })) (sym e) k;
+  sound = subst (λ (l : Layer Purpose). Sound node held (o, record s { layer = l })) (sym e) k;
 }
 
-asked_acted : (r : Option Asked × Layer Purpose) (node : ℕ) (action : Action) (demand : Demand) (o : OutboxState) (s : InitiatorState) → Sound node (o, s) → Allowed action s → demand_of action s ≡ Some demand → asked_for demand s ≡ r → Acted node action o s (asked_as r action o s)
-asked_acted (None, layer) node action demand o s k a e f =
-    none_acted node action demand layer o s k (none_asked s.layer layer s.target (wanted_body demand.wanted) demand.purpose (sym f))
-asked_acted (Some asked, layer) node action demand o s k a e f = sent_acted node action demand asked layer o s k a e f
+asked_acted : (r : Option Asked × Layer Purpose) (node : ℕ) (held : ℕ → List ℕ) (action : Action) (demand : Demand) (o : OutboxState) (s : InitiatorState) → Sound node held (o, s) → Allowed action s → demand_of action s ≡ Some demand → asked_for demand s ≡ r → Acted node held action o s (asked_as r action o s)
+asked_acted (None, layer) node held action demand o s k a e f =
+    none_acted node held action demand layer o s k (none_asked s.layer layer s.target (wanted_body demand.wanted) demand.purpose (sym f))
+asked_acted (Some asked, layer) node held action demand o s k a e f = sent_acted node held action demand asked layer o s k a e f
 
-demanded_acted : (demand : Option Demand) (node : ℕ) (action : Action) (o : OutboxState) (s : InitiatorState) → Sound node (o, s) → Allowed action s → demand_of action s ≡ demand → Acted node action o s (demanded_as demand action o s)
-demanded_acted None node action o s k a e =
-    let d0 = done_does action o s (record { prepares = a.prepares; rings = a.rings; marks = k.marks }) in
-    let d : Done None (operation_of action) o s (done_step action o s) = subst (λ (x : Option Demand). Done x (operation_of action) o s (done_step action o s)) e d0 in
+demanded_acted : (demand : Option Demand) (node : ℕ) (held : ℕ → List ℕ) (action : Action) (o : OutboxState) (s : InitiatorState) → Sound node held (o, s) → Allowed action s → demand_of action s ≡ demand → Acted node held action o s (demanded_as demand action o s)
+demanded_acted None node held action o s k a e =
+    let d0 = done_does action o s (record { prepares = a.prepares; rings = a.rings; marks = k.marks.marks }) in
+    let d : Done None (operation_of action) (orb_in (operation_of action) action s) o s (done_step action o s) = subst (λ (x : Option Demand). Done x (operation_of action) (orb_in (operation_of action) action s) o s (done_step action o s)) e d0 in
     record {
       begins = λ g. record { news = d.news; sides = d.sides; steps = d.steps; free = a.free; operation = d.operation };
-      sound = left_sound node None (operation_of action) o s (demanded_as None action o s).1 k
+      sound = left_sound node held (with_orb (orb_in (operation_of action) action s) (place_of s.counts.managed) held) None (operation_of action) o s (demanded_as None action o s).1 k
           (record {
             operation = d.operation;
             acts = ap (λ (n : ℕ). n + 1) d.acts;
             running = d.running;
-            marks = d.marks k.marks;
+            marks = d.marks held k.sized k.marks;
+            sized = with_orb_sized (orb_in (operation_of action) action s) (place_of s.counts.managed) held k.sized;
             wires = subst (λ (l : Layer Purpose). Wire (FitsNow (after_by (operation_of action) s) (s.counts.acts + 1)) node s.counts.running l (done_step action o s).0.packets) (sym d.layer)
                 (subst (λ (ps : List Outgoing). Wire (FitsNow (after_by (operation_of action) s) (s.counts.acts + 1)) node s.counts.running s.layer ps) (sym d.packets)
                 (kept_wire node (operation_of action) o s k.wires));
           });
     }
-demanded_acted (Some demand) node action o s k a e = asked_acted (asked_for demand s) node action demand o s k a e refl
+demanded_acted (Some demand) node held action o s k a e = asked_acted (asked_for demand s) node held action demand o s k a e refl
 
-judged_acted : (r : Option ℕ) (node : ℕ) (action : Action) (o : OutboxState) (s : InitiatorState) → Sound node (o, s) → refusal action (facts_with true s action) ≡ r → Acted node action o s (judged_as r action o s)
-judged_acted (Some number) node action o s k e = record { begins = λ g. some_none g; sound = k }
-judged_acted None node action o s k e = demanded_acted (demand_of action s) node action o s k (allowed action s e) refl
+judged_acted : (r : Option ℕ) (node : ℕ) (held : ℕ → List ℕ) (action : Action) (o : OutboxState) (s : InitiatorState) → Sound node held (o, s) → refusal action (facts_with true s action) ≡ r → Acted node held action o s (judged_as r action o s)
+judged_acted (Some number) node held action o s k e = record { begins = λ g. some_none g; sound = k }
+judged_acted None node held action o s k e = demanded_acted (demand_of action s) node held action o s k (allowed action s e) refl
 
-pub act_acted : (node : ℕ) (action : Action) (o : OutboxState) (s : InitiatorState) → Sound node (o, s) → Acted node action o s (act_step action o s)
+pub act_acted : (node : ℕ) (held : ℕ → List ℕ) (action : Action) (o : OutboxState) (s : InitiatorState) → Sound node held (o, s) → Acted node held action o s (act_step action o s)
 unfolding act_step
-act_acted node action o s k = judged_acted (refusal action (facts_with true s action)) node action o s k refl
+act_acted node held action o s k = judged_acted (refusal action (facts_with true s action)) node held action o s k refl

@@ -1,5 +1,5 @@
 -- What the end of a transaction tells, and what it makes of the operation under way.
-use Rattle.std.proofs.Common.{arith, ◌≡◌, refl, sym, ap, subst, ◌∙◌, ℕ, ◌++◌, append_assoc, append-nil, nat_eq, ◌&&◌, not, Bool, true, false, cond, List, [], ◌∷◌, length, Option, Some, None, Result, Ok, Err}
+use Rattle.std.proofs.Common.{arith, ◌≡◌, refl, sym, ap, subst, ◌∙◌, ℕ, ◌++◌, append_assoc, append-nil, nat_eq, ◌&&◌, not, Bool, true, false, cond, List, [], ◌∷◌, length, slice_index_or, Option, Some, None, Result, Ok, Err}
 use Rattle.label_table.specs.declared.judgement.Asked.{Asked}
 use Rattle.label_table.specs.Bodies.{Body}
 use Rattle.label_table.specs.Layer.{Layer, asking_step}
@@ -8,9 +8,10 @@ use Rattle.config_rom.specs.declared.unit.SbpUnit.{SbpUnit}
 use Rattle.config_rom.specs.Reading.{Tree, reading}
 use Rattle.config_rom.specs.Unit.{sbp_unit_of}
 use Rattle.orb_list.specs.declared.list.PresentList.{PresentList}
-use Rattle.bus_memory.specs.Memory.{Memory}
+use Rattle.bus_memory.specs.declared.slot.PlaceMemory.{PlaceMemory}
+use Rattle.bus_memory.specs.Memory.{Memory, empty_place, place_at}
 use Rattle.orb_list.specs.Tickets.{TicketParts}
-use Rattle.orb_list.specs.Table.{SlotTable, drop_for, drop_step, unpin_for, unpin_step}
+use Rattle.orb_list.specs.Table.{SlotTable, closed, drop_for, drop_step, unpin_for, unpin_step}
 use Rattle.sbp_session.specs.Moves.{Event, bad, conflict, pointed, failed, goes}
 use Rattle.sbp_journal.specs.declared.note.Note.{Note}
 use Rattle.sbp_journal.specs.declared.note.Note.TheVariants as notes
@@ -78,8 +79,22 @@ abbrev pub HasMarks : Option PresentList → Pointing → Type 0
 HasMarks None pointing = is_unwritten pointing ≡ true
 HasMarks (Some list) pointing = Unit {0}
 
+-- And what the two places of management hold.
+pub record Holds (x : ℕ → List ℕ) (lists : ListState) (pointing : Pointing) : Type 0 where
+  pub marks : HasMarks lists.slots.present pointing
+  pub orbs : (m : ℕ) → (place_at lists.memory m).orb ≡ x m
+  pub places : length lists.memory.places ≡ 2
+
 abbrev pub KeepsMarks : InitiatorState → InitiatorState → Type 0
-KeepsMarks s t = HasMarks s.lists.slots.present s.marks.pointing → HasMarks t.lists.slots.present t.marks.pointing
+KeepsMarks s t = (x : ℕ → List ℕ) → Holds x s.lists s.marks.pointing → Holds x t.lists t.marks.pointing
+
+-- the lists change, and with them neither this nor that
+pub relisted : (lists new : ListState) (pointing : Pointing) → new.slots.present ≡ lists.slots.present → ((m : ℕ) → (place_at new.memory m).orb ≡ (place_at lists.memory m).orb) → length new.memory.places ≡ length lists.memory.places → (x : ℕ → List ℕ) → Holds x lists pointing → Holds x new pointing
+relisted lists new pointing e f g x h = record {
+  marks = subst (λ (p : Option PresentList). HasMarks p pointing) (sym e) h.marks;
+  orbs = λ m. f m ∙ h.orbs m;
+  places = g ∙ h.places;
+}
 
 -- What a step tells, with the list that it drops; what it makes of the operation under way; and what it leaves as it was.
 pub record Does (o : OutboxState) (s : InitiatorState) (drop : Option ℕ) (asking : Option Asking) (t : Turn) : Type 0 where
@@ -117,10 +132,10 @@ module _ (o : OutboxState) (s : InitiatorState) where
   }
 
   pub stays : Does o s None None (o, s)
-  stays = idle s refl refl refl refl refl (λ h. h)
+  stays = idle s refl refl refl refl refl (λ x h. h)
 
   stuck_as : (c : Bool) → Does o s None None (cond c o (told o (notes.Stuck s.number)), record s { seat = goes failed s.seat })
-  stuck_as true = idle (record s { seat = goes failed s.seat }) refl refl refl refl refl (λ h. h)
+  stuck_as true = idle (record s { seat = goes failed s.seat }) refl refl refl refl refl (λ x h. h)
   stuck_as false = record {
     op = None;
     state = None;
@@ -132,7 +147,7 @@ module _ (o : OutboxState) (s : InitiatorState) where
     counts = refl;
     number = refl;
     target = refl;
-    marks = λ h. h;
+    marks = λ x h. h;
   }
 
   pub sticks_does : Does o s None None (stick_step o s)
@@ -147,6 +162,21 @@ unpin_present : (lists : ListState) → (unpin_lists lists).slots.present ≡ li
 unfolding unpin_lists unpin_step
 unpin_present lists = unpin_for_present lists.slots.pinned lists.slots lists.memory
 
+unpin_for_memory : (t : Option TicketParts) (slots : SlotTable) (m : Memory) → (unpin_for t slots m).1.places ≡ m.places
+unfolding closed
+unpin_for_memory None slots m = refl
+unpin_for_memory (Some t) slots m = refl
+
+unpin_memory : (lists : ListState) → (unpin_lists lists).memory.places ≡ lists.memory.places
+unfolding unpin_lists unpin_step
+unpin_memory lists = unpin_for_memory lists.slots.pinned lists.slots lists.memory
+
+unpin_orbs : (lists : ListState) (m : ℕ) → (place_at (unpin_lists lists).memory m).orb ≡ (place_at lists.memory m).orb
+unpin_orbs lists m = ap (λ (l : List PlaceMemory). (slice_index_or l m empty_place).orb) (unpin_memory lists)
+
+unpin_places : (lists : ListState) → length (unpin_lists lists).memory.places ≡ length lists.memory.places
+unpin_places lists = ap length (unpin_memory lists)
+
 -- the operation under way ends
 pub end_does : (running : Running) (word : OpWord) (o : OutboxState) (s t : InitiatorState) → s.operation ≡ Some running → is_word_of running.operation word ≡ true → t.layer ≡ s.layer → t.counts ≡ s.counts → t.number ≡ s.number → t.target ≡ s.target → KeepsMarks s t → Does o s None None (end_step running.operation word o t)
 end_does running word o s t e w layer counts number target marks = record {
@@ -160,7 +190,7 @@ end_does running word o s t e w layer counts number target marks = record {
   counts = counts;
   number = number;
   target = target;
-  marks = λ h. subst (λ (p : Option PresentList). HasMarks p t.marks.pointing) (sym (unpin_present t.lists)) (marks h);
+  marks = λ x h. relisted t.lists (unpin_lists t.lists) t.marks.pointing (unpin_present t.lists) (unpin_orbs t.lists) (unpin_places t.lists) x (marks x h);
 }
 
 own_as : (c : Bool) (running : Running) (word : OpWord) (o : OutboxState) (s t : InitiatorState) → t.operation ≡ s.operation → s.operation ≡ Some running → (c ≡ true → is_word_of running.operation word ≡ true) → t.layer ≡ s.layer → t.counts ≡ s.counts → t.number ≡ s.number → t.target ≡ s.target → KeepsMarks s t → Does o s None None (cond c (end_step running.operation word o t) (o, t))
@@ -195,11 +225,11 @@ pub record Drops (o : OutboxState) (s : InitiatorState) (drop : Option ℕ) (t :
   pub marks : KeepsMarks s t.1
 
 none_drops : (o : OutboxState) (s : InitiatorState) → Drops o s None (o, s)
-none_drops o s = record { sides = sym (append-nil o.sides); operation = refl; layer = refl; packets = refl; counts = refl; number = refl; target = refl; marks = λ h. h }
+none_drops o s = record { sides = sym (append-nil o.sides); operation = refl; layer = refl; packets = refl; counts = refl; number = refl; target = refl; marks = λ x h. h }
 
 drops_as : (present : Option PresentList) (o : OutboxState) (s : InitiatorState) → Drops o s (present_list present) (dropped_as ((drop_for present s.lists.slots).0, record s.lists { slots = (drop_for present s.lists.slots).1 }) o s)
-drops_as None o s = record { sides = sym (append-nil o.sides); operation = refl; layer = refl; packets = refl; counts = refl; number = refl; target = refl; marks = λ h. h }
-drops_as (Some list) o s = record { sides = refl; operation = refl; layer = refl; packets = refl; counts = refl; number = refl; target = refl; marks = λ h. refl }
+drops_as None o s = record { sides = sym (append-nil o.sides); operation = refl; layer = refl; packets = refl; counts = refl; number = refl; target = refl; marks = λ x h. h }
+drops_as (Some list) o s = record { sides = refl; operation = refl; layer = refl; packets = refl; counts = refl; number = refl; target = refl; marks = λ x h. record { marks = refl; orbs = h.orbs; places = h.places } }
 
 pub list_drops : (o : OutboxState) (s : InitiatorState) → Drops o s (present_list s.lists.slots.present) (drop_list_step o s)
 unfolding drop_lists drop_step
@@ -218,7 +248,7 @@ behind o s drop t u k d = record {
   counts = d.counts ∙ k.counts;
   number = d.number ∙ k.number;
   target = d.target ∙ k.target;
-  marks = λ h. d.marks (k.marks h);
+  marks = λ x h. d.marks x (k.marks x h);
 }
 
 -- ---- an operation ends, and the session becomes Stuck
@@ -254,7 +284,7 @@ stuck_end false running o s lists e marks = record {
 fail_as : (c : Bool) (running : Running) (o : OutboxState) (s : InitiatorState) → s.operation ≡ Some running → Does o s None None (then_step stick_step (cond c (end_step running.operation words.Error o s) (o, s)))
 fail_as true running o s e =
     stuck_end (is_stuck_seat s.seat) running o s (unpin_lists s.lists) e
-    (λ h. subst (λ (p : Option PresentList). HasMarks p s.marks.pointing) (sym (unpin_present s.lists)) h)
+    (relisted s.lists (unpin_lists s.lists) s.marks.pointing (unpin_present s.lists) (unpin_orbs s.lists) (unpin_places s.lists))
 fail_as false running o s e = sticks_does o s
 
 fail_for : (r : Option Running) (act : ℕ) (o : OutboxState) (s : InitiatorState) → s.operation ≡ r → Does o s None None (then_step stick_step (end_own_for r act words.Error o s))
@@ -299,8 +329,8 @@ answered_marks (Some known) list e = tt
 
 pointed_as : (c : Bool) (list : ℕ) (o : OutboxState) (s : InitiatorState) → is_list s.lists.slots.present list ≡ c → Does o s None None (o, cond c (with_answered (record s { seat = goes pointed s.seat })) (record s { seat = goes pointed s.seat }))
 pointed_as true list o s e =
-    idle o s (with_answered (record s { seat = goes pointed s.seat })) refl refl refl refl refl (λ h. answered_marks s.lists.slots.present list e)
-pointed_as false list o s e = idle o s (record s { seat = goes pointed s.seat }) refl refl refl refl refl (λ h. h)
+    idle o s (with_answered (record s { seat = goes pointed s.seat })) refl refl refl refl refl (λ x h. record { marks = answered_marks s.lists.slots.present list e; orbs = h.orbs; places = h.places })
+pointed_as false list o s e = idle o s (record s { seat = goes pointed s.seat }) refl refl refl refl refl (λ x h. h)
 
 pointer_does : (list : ℕ) (ending : Ending) (o : OutboxState) (s : InitiatorState) → Does o s None None (pointer_ended list ending o s)
 pointer_does list (endings.Complete value) o s = pointed_as (is_list s.lists.slots.present list) list o s refl
@@ -317,17 +347,17 @@ reset_does act value o s f =
     let k = list_drops o s in
     let t = drop_list_step o s in
     behind o s (present_list s.lists.slots.present) t (end_own_step act words.Done t.0 t.1) k
-    (own_does act words.Done t.0 t.1 t.1 refl (subst (λ (r : Option Running). IsOwn (λ (op : Operation). is_word_of op words.Done) act r) (sym k.operation) (own_word operations.AgentReset act words.Done s.operation refl f)) refl refl refl refl (λ h. h))
+    (own_does act words.Done t.0 t.1 t.1 refl (subst (λ (r : Option Running). IsOwn (λ (op : Operation). is_word_of op words.Done) act r) (sym k.operation) (own_word operations.AgentReset act words.Done s.operation refl f)) refl refl refl refl (λ x h. h))
 
 enable_does : (act : ℕ) (ending : Ending) (o : OutboxState) (s : InitiatorState) → IsFor operations.Enable act s.operation → Does o s None None (enable_ended act ending o s)
-enable_does act (endings.Complete value) o s f = own_does act words.Done o s s refl (own_word operations.Enable act words.Done s.operation refl f) refl refl refl refl (λ h. h)
+enable_does act (endings.Complete value) o s f = own_does act words.Done o s s refl (own_word operations.Enable act words.Done s.operation refl f) refl refl refl refl (λ x h. h)
 enable_does act (endings.Refused rcode) o s f = fail_does act o s
 enable_does act endings.Expired o s f = fail_does act o s
 
 -- an operation ends, as the session moves or not
 pub moved_does : (c : Bool) (event : Event) (running : Running) (word : OpWord) (o : OutboxState) (s : InitiatorState) → s.operation ≡ Some running → is_word_of running.operation word ≡ true → Does o s None None (end_step running.operation word o (cond c (record s { seat = goes event s.seat }) s))
-moved_does true event running word o s e w = end_does running word o s (record s { seat = goes event s.seat }) e w refl refl refl refl (λ h. h)
-moved_does false event running word o s e w = end_does running word o s s e w refl refl refl refl (λ h. h)
+moved_does true event running word o s e w = end_does running word o s (record s { seat = goes event s.seat }) e w refl refl refl refl (λ x h. h)
+moved_does false event running word o s e w = end_does running word o s s e w refl refl refl refl (λ x h. h)
 
 conflict_as : (c : Bool) (running : Running) (o : OutboxState) (s : InitiatorState) → s.operation ≡ Some running → (c ≡ true → is_managed running.operation ≡ true) → Does o s None None (cond c (end_step running.operation words.Conflict o (moved running.operation conflict s)) (o, s))
 conflict_as true running o s e w = moved_does (moves_session running.operation) conflict running words.Conflict o s e (w refl)
@@ -457,16 +487,16 @@ quad_as true act o s t f op layer counts number target marks =
 quad_as false act o s t f op layer counts number target marks = asks_does act o s t f op layer counts number target marks
 
 refused_rom : (c : Bool) (act : ℕ) (o : OutboxState) (s : InitiatorState) → IsFor operations.Rom act s.operation → Does o s None None (cond c (finish_rom act o s) (end_own_step act words.Error o s))
-refused_rom true act o s f = rom_does (reading s.quads) act o s s refl f refl refl refl refl (λ h. h)
-refused_rom false act o s f = own_does act words.Error o s s refl (fails_own act s.operation) refl refl refl refl (λ h. h)
+refused_rom true act o s f = rom_does (reading s.quads) act o s s refl f refl refl refl refl (λ x h. h)
+refused_rom false act o s f = own_does act words.Error o s s refl (fails_own act s.operation) refl refl refl refl (λ x h. h)
 
 rom_ends : (act : ℕ) (ending : Ending) (o : OutboxState) (s : InitiatorState) → IsFor operations.Rom act s.operation → Ends (purposes.Rom act) o s None (rom_ended act ending o s)
 rom_ends act (endings.Complete value) o s f =
     let t = record s { quads = with_quad s.quads value } in
-    quad_as (nat_eq (length t.quads) 256) act o s t f refl refl refl refl refl (λ h. h)
+    quad_as (nat_eq (length t.quads) 256) act o s t f refl refl refl refl refl (λ x h. h)
 rom_ends act (endings.Refused rcode) o s f = ends_plainly (purposes.Rom act) o s None _ (refused_rom (is_address rcode) act o s f)
 rom_ends act endings.Expired o s f =
-    ends_plainly (purposes.Rom act) o s None _ (own_does act words.Error o s s refl (fails_own act s.operation) refl refl refl refl (λ h. h))
+    ends_plainly (purposes.Rom act) o s None _ (own_does act words.Error o s s refl (fails_own act s.operation) refl refl refl refl (λ x h. h))
 
 -- ---- the state of the agent
 
@@ -482,11 +512,11 @@ state_told_does act word o s w = record {
   counts = refl;
   number = refl;
   target = refl;
-  marks = λ h. h;
+  marks = λ x h. h;
 }
 
 marked_drops : (c : Bool) (o : OutboxState) (s : InitiatorState) → Drops o s None (o, cond c (with_dead s) s)
-marked_drops true o s = record { sides = sym (append-nil o.sides); operation = refl; layer = refl; packets = refl; counts = refl; number = refl; target = refl; marks = λ h. h }
+marked_drops true o s = record { sides = sym (append-nil o.sides); operation = refl; layer = refl; packets = refl; counts = refl; number = refl; target = refl; marks = λ x h. h }
 marked_drops false o s = none_drops o s
 
 known_drops : (is_zero : Bool) (value : ℕ) (o : OutboxState) (s : InitiatorState) → Drops o s (drop_if is_zero s.lists.slots.present) (cond is_zero (drop_list_step o s) (o, cond (nat_eq value 3) (with_dead s) s))

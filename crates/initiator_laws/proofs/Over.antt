@@ -1,6 +1,7 @@
 -- The laws over every list of calls.
-use Rattle.std.proofs.Common.{◌≡◌, refl, sym, ap, subst, ◌∙◌, ℕ, ◌+◌, Bool, true, false, List, [], ◌∷◌, Option, Some, None}
+use Rattle.std.proofs.Common.{◌≡◌, refl, sym, ap, subst, ◌∙◌, ℕ, zero, suc, ◌+◌, Bool, true, false, List, [], ◌∷◌, replicate, slice_index_or, Option, Some, None}
 use Rattle.label_table.specs.History as wire
+use Rattle.bus_memory.specs.Memory.{empty_place, new_memory}
 use Rattle.sbp_journal.specs.declared.event.Action.{Action}
 use Rattle.sbp_journal.specs.Outgoings.{empty_outbox}
 use Rattle.sbp_initiator.specs.Effects.{Turn}
@@ -8,29 +9,43 @@ use Rattle.sbp_initiator.specs.Initiators.{new_state}
 use Rattle.sbp_initiator.specs.Laws.{Call, acts, receives, lets_expire, AreCalls, IsCall, after, done}
 use Rattle.sbp_initiator.specs.Laws as laws
 use Rattle.initiator_laws.specs.Numbers.{NumberLaw}
+use Rattle.initiator_laws.specs.Served.{held_by, held_after}
 use Rattle.initiator_laws.specs.Tells.{TellsAfter, TellsLaw}
 use Rattle.initiator_laws.proofs.Acts.{act_acted}
+use Rattle.initiator_laws.proofs.Effects.{Holds}
 use Rattle.initiator_laws.proofs.Runs.{Sound, call_soundly, call_tells, none_some}
 use Rattle.initiator_laws.proofs.Sights.{sees_so, sees_soundly}
 
-first_sound : (number : ℕ) (ready : Bool) → Sound (0xffc1 + number) (empty_outbox, new_state number ready)
+first_place : (m : ℕ) → (slice_index_or (replicate 2 empty_place) m empty_place).orb ≡ replicate 32 0
+unfolding empty_place
+first_place zero = refl
+first_place (suc zero) = refl
+first_place (suc (suc m)) = refl
+
+first_holds : (number : ℕ) (ready : Bool) → Holds (λ m. replicate 32 0) (new_state number ready).lists (new_state number ready).marks.pointing
+unfolding new_state new_memory
+first_holds number ready = record { marks = refl; orbs = first_place; places = refl }
+
+first_sound : (number : ℕ) (ready : Bool) → Sound (0xffc1 + number) (λ m. replicate 32 0) (empty_outbox, new_state number ready)
 unfolding new_state
 first_sound number ready = record {
   wires = record { calls = []; layer_is = refl; packets_are = refl; rises = tt; asks = tt };
-  marks = refl;
+  marks = first_holds number ready;
+  sized = λ m. refl;
   orb = record { managed = λ r e. none_some e };
   begun = record { before = λ r e. none_some e };
 }
 
-call_sound : (node : ℕ) (call : Call) (t : Turn) → Sound node t → Sound node (done call t)
-call_sound node (acts action) t k = (act_acted node action t.0 t.1 k).sound
-call_sound node (receives generation bytes) t k = call_soundly node (receives generation bytes) t k refl
-call_sound node (lets_expire label) t k = call_soundly node (lets_expire label) t k refl
-call_sound node (laws.sees generation id target) t k = sees_soundly node generation id target t.0 t.1 k
+call_sound : (node : ℕ) (held : ℕ → List ℕ) (call : Call) (t : Turn) → Sound node held t → Sound node (held_by call t held) (done call t)
+call_sound node held (acts action) t k = (act_acted node held action t.0 t.1 k).sound
+call_sound node held (receives generation bytes) t k = call_soundly node held (receives generation bytes) t k refl
+call_sound node held (lets_expire label) t k = call_soundly node held (lets_expire label) t k refl
+call_sound node held (laws.sees generation id target) t k = sees_soundly node held generation id target t.0 t.1 k
 
-pub sound : (number : ℕ) (ready : Bool) (calls : List Call) → Sound (0xffc1 + number) (after number ready calls)
+pub sound : (number : ℕ) (ready : Bool) (calls : List Call) → Sound (0xffc1 + number) (held_after number ready calls) (after number ready calls)
 sound number ready [] = first_sound number ready
-sound number ready (call ∷ calls) = call_sound (0xffc1 + number) call (after number ready calls) (sound number ready calls)
+sound number ready (call ∷ calls) =
+    call_sound (0xffc1 + number) (held_after number ready calls) call (after number ready calls) (sound number ready calls)
 
 none_first : (number : ℕ) (ready : Bool) → (new_state number ready).operation ≡ None
 unfolding new_state
@@ -40,9 +55,9 @@ pub tells_law : TellsLaw
 tells_law = record {
   first = λ number ready. none_first number ready;
   tells = λ number ready calls h. record {
-    action = λ act p e. (act_acted (0xffc1 + number) act (after number ready calls).0 (after number ready calls).1 (sound number ready calls)).begins e;
-    heard = λ call e. call_tells (0xffc1 + number) call (after number ready calls) (sound number ready calls) e;
-    seen = λ generation id target. sees_so (0xffc1 + number) generation id target (after number ready calls).0 (after number ready calls).1 (sound number ready calls);
+    action = λ act p e. (act_acted (0xffc1 + number) (held_after number ready calls) act (after number ready calls).0 (after number ready calls).1 (sound number ready calls)).begins e;
+    heard = λ call e. call_tells (0xffc1 + number) (held_after number ready calls) call (after number ready calls) (sound number ready calls) e;
+    seen = λ generation id target. sees_so (0xffc1 + number) (held_after number ready calls) generation id target (after number ready calls).0 (after number ready calls).1 (sound number ready calls);
   };
 }
 

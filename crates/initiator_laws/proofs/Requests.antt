@@ -1,11 +1,18 @@
 -- What a request tells that is delivered.
-use Rattle.std.proofs.Common.{◌≡◌, refl, sym, ap, subst, ◌∙◌, ℕ, ◌++◌, append-nil, nat_eq, ◌&&◌, ◌||◌, not, is_some, Bool, true, false, cond, List, [], ◌∷◌, length, replicate, Option, Some, None, Result, Ok, Err}
+use Rattle.std.proofs.Common.{◌≡◌, refl, sym, ap, subst, ◌∙◌, ℕ, zero, suc, ◌++◌, append-nil, nat_eq, ◌&&◌, ◌||◌, not, is_some, Bool, true, false, cond, List, [], ◌∷◌, length, replicate, slice_index_or, slice_set, Option, Some, None, Result, Ok, Err}
 use Rattle.byteorder.specs.Endian.{big_bytes}
 use Rattle.async_packet.specs.declared.packet.Header.{Header}
 use Rattle.async_packet.specs.Packet.{Packet, header_in, write_quadlet, write_block, write_response, read_quadlet, read_block, read_quadlet_response, read_block_response, lock, lock_response}
 use Rattle.label_table.specs.Layer.{Layer, answering_step}
-use Rattle.bus_memory.specs.Access.{read_step}
-use Rattle.bus_memory.specs.Windows.{slot_of}
+use Rattle.bus_memory.specs.declared.access.Access.TheVariants.{Write}
+use Rattle.bus_memory.specs.declared.access.Rcode.TheVariants.{TypeError}
+use Rattle.bus_memory.specs.declared.access.Spot.{Spot}
+use Rattle.bus_memory.specs.declared.slot.PlaceMemory.{PlaceMemory}
+use Rattle.bus_memory.specs.declared.window.Window.{Window}
+use Rattle.bus_memory.specs.declared.window.Window.TheVariants as windows
+use Rattle.bus_memory.specs.Memory.{Memory, empty_place, patch, place_at, with_bytes}
+use Rattle.bus_memory.specs.Access.{judged, judged_at, read_step, spot_of, takes_writes, write_at, write_step}
+use Rattle.bus_memory.specs.Windows.{is_fifo, slot_of}
 use Rattle.media_bay.specs.Unsolicited.{is_block}
 use Rattle.orb_list.specs.declared.slot.Slot.{Slot}
 use Rattle.orb_layout.specs.declared.fault.OrbFault.{OrbFault}
@@ -14,7 +21,7 @@ use Rattle.orb_layout.specs.declared.status.StatusKind.{StatusKind}
 use Rattle.orb_layout.specs.declared.status.StatusKind.TheVariants as kinds
 use Rattle.orb_list.specs.declared.list.PresentList.{PresentList}
 use Rattle.orb_list.specs.Tickets.{TicketParts}
-use Rattle.orb_list.specs.Table.{passed_for, slot_in, status_at, status_for, status_step as slot_step, waiting}
+use Rattle.orb_list.specs.Table.{SlotTable, closed, passed_for, slot_in, status_at, status_for, status_step as slot_step, waiting}
 use Rattle.sbp_journal.specs.declared.cause.Cause.TheVariants as causes
 use Rattle.sbp_journal.specs.declared.cause.Judged.{Judged}
 use Rattle.sbp_journal.specs.declared.note.Note.{Note}
@@ -41,7 +48,7 @@ use Rattle.initiator_laws.specs.Drops.{drop_if}
 use Rattle.initiator_laws.specs.Ends.{own, OpEnd, notes_of, is_managed, IsStateWord, OpMove}
 use Rattle.initiator_laws.specs.Judging.{facts_at, fifo_for}
 use Rattle.initiator_laws.specs.Taking.{Brought, nothing, unsolicited, status, read_as, brought, waiting_at, taken_of, taken_by, block_note, good_drops, kind_drops, block_drops, block_notes}
-use Rattle.initiator_laws.proofs.Effects.{Does, HasMarks, KeepsMarks, managed_does}
+use Rattle.initiator_laws.proofs.Effects.{Does, HasMarks, Holds, KeepsMarks, managed_does}
 
 -- ---- small facts
 
@@ -75,9 +82,82 @@ take_marks : (pointing : Pointing) (lists : ListState) (block : StatusBlock) →
 unfolding take_lists slot_step
 take_marks pointing lists block h = for_marks (slot_of block.orb) block pointing lists h
 
-write_marks : (pointing : Pointing) (lists : ListState) (offset : ℕ) (bytes : List ℕ) → HasMarks lists.slots.present pointing → HasMarks (write_lists lists offset bytes).1.slots.present pointing
+taken_memory : (t : Option TicketParts) (slot : ℕ) (block : StatusBlock) (s : SlotTable) (m : Memory) → (status_at t slot s m block).1.1.places ≡ m.places
+unfolding closed
+taken_memory None slot block s m = refl
+taken_memory (Some t) slot block s m = refl
+
+for_memory : (slot : Option ℕ) (block : StatusBlock) (s : SlotTable) (m : Memory) → (status_for slot s m block).1.1.places ≡ m.places
+for_memory None block s m = refl
+for_memory (Some slot) block s m = taken_memory (waiting (slot_in s.slots slot)) slot block s m
+
+take_memory : (lists : ListState) (block : StatusBlock) → (take_lists lists block).1.memory.places ≡ lists.memory.places
+unfolding take_lists slot_step
+take_memory lists block = for_memory (slot_of block.orb) block lists.slots lists.memory
+
+take_keeps : (pointing : Pointing) (lists : ListState) (block : StatusBlock) (x : ℕ → List ℕ) → Holds x lists pointing → Holds x (take_lists lists block).1 pointing
+take_keeps pointing lists block x h = record {
+  marks = take_marks pointing lists block h.marks;
+  orbs = λ m. ap (λ (l : List PlaceMemory). (slice_index_or l m empty_place).orb) (take_memory lists block) ∙ h.orbs m;
+  places = ap length (take_memory lists block) ∙ h.places;
+}
+
+-- a response that is written leaves the ORB of each place
+response_orb : (l : List PlaceMemory) (p k : ℕ) (r : List ℕ) → (slice_index_or (slice_set l p (record (slice_index_or l p empty_place) { response = r })) k empty_place).orb ≡ (slice_index_or l k empty_place).orb
+response_orb [] p k r = refl
+response_orb (y ∷ l) zero zero r = refl
+response_orb (y ∷ l) zero (suc k) r = refl
+response_orb (y ∷ l) (suc p) zero r = refl
+response_orb (y ∷ l) (suc p) (suc k) r = response_orb l p k r
+
+set_length : (l : List PlaceMemory) (p : ℕ) (y : PlaceMemory) → length (slice_set l p y) ≡ length l
+set_length [] p y = refl
+set_length (z ∷ l) zero y = refl
+set_length (z ∷ l) (suc p) y = ap suc (set_length l p y)
+
+-- a memory whose places have the same ORBs
+record SameOrbs (m new : Memory) : Type 0 where
+  orbs : (k : ℕ) → (place_at new k).orb ≡ (place_at m k).orb
+  places : length new.places ≡ length m.places
+
+not_taken : false ≡ true → ⊥
+not_taken e = cc
+
+into_orbs : (window : Window) (m : Memory) (at : ℕ) (bytes : List ℕ) → takes_writes m window ≡ true → SameOrbs m (with_bytes m window at bytes)
+into_orbs windows.Rom m at bytes e = record { orbs = λ k. refl; places = refl }
+into_orbs (windows.Orb slot) m at bytes e = record { orbs = λ k. refl; places = refl }
+into_orbs (windows.Table slot) m at bytes e = record { orbs = λ k. refl; places = refl }
+into_orbs (windows.Buffer slot) m at bytes e = record { orbs = λ k. refl; places = refl }
+into_orbs (windows.Management place) m at bytes e = absurd (not_taken e)
+into_orbs (windows.Response place) m at bytes e = record {
+  orbs = λ k. response_orb m.places place k (patch (place_at m place).response at bytes);
+  places = set_length m.places place _;
+}
+
+same_orbs : (m : Memory) → SameOrbs m m
+same_orbs m = record { orbs = λ k. refl; places = refl }
+
+spot_orbs : (c : Bool) (spot : Spot) (m : Memory) (bytes : List ℕ) → takes_writes m spot.window ≡ c → SameOrbs m (write_at m bytes (cond c (Ok spot) (Err TypeError))).1
+spot_orbs true spot m bytes e = into_orbs spot.window m spot.at bytes e
+spot_orbs false spot m bytes e = same_orbs m
+
+found_orbs : (spot : Option Spot) (m : Memory) (bytes : List ℕ) → SameOrbs m (write_at m bytes (judged_at m Write spot)).1
+found_orbs None m bytes = same_orbs m
+found_orbs (Some spot) m bytes = spot_orbs (takes_writes m spot.window) spot m bytes refl
+
+row_orbs : (c : Bool) (spot : Option Spot) (m : Memory) (bytes : List ℕ) → SameOrbs m (write_at m bytes (cond c (Err TypeError) (judged_at m Write spot))).1
+row_orbs true spot m bytes = same_orbs m
+row_orbs false spot m bytes = found_orbs spot m bytes
+
+write_orbs : (m : Memory) (offset : ℕ) (bytes : List ℕ) → SameOrbs m (write_step m offset bytes).1
+unfolding judged
+write_orbs m offset bytes = row_orbs (nat_eq (length bytes) 0 || is_fifo offset) (spot_of m offset (length bytes)) m bytes
+
+write_keeps : (pointing : Pointing) (lists : ListState) (offset : ℕ) (bytes : List ℕ) (x : ℕ → List ℕ) → Holds x lists pointing → Holds x (write_lists lists offset bytes).1 pointing
 unfolding write_lists
-write_marks pointing lists offset bytes h = h
+write_keeps pointing lists offset bytes x h =
+    let k = write_orbs lists.memory offset bytes in
+    record { marks = h.marks; orbs = λ m. k.orbs m ∙ h.orbs m; places = k.places ∙ h.places }
 
 -- a write of a block, and of a quadlet
 abbrev block_write_of : ℕ → List ℕ → Access
@@ -185,11 +265,11 @@ module _ (o : OutboxState) (s : InitiatorState) where
   }
 
 pub ignored_again : (p : Packet) (bytes : List ℕ) (o : OutboxState) (s : InitiatorState) (rcode : ℕ) → Answers p bytes o s None None (respond_step p bytes rcode [] (o, s))
-ignored_again p bytes o s rcode = answered p bytes o s rcode [] None None (o, s) (quiet o s s refl refl refl refl refl (λ h. h))
+ignored_again p bytes o s rcode = answered p bytes o s rcode [] None None (o, s) (quiet o s s refl refl refl refl refl (λ x h. h))
 
 module _ (p : Packet) (bytes : List ℕ) (o : OutboxState) (s : InitiatorState) (has : HasOrb s.operation) where
   ignored_answers : (rcode : ℕ) → Answers p bytes o s None None (respond_step p bytes rcode [] (o, s))
-  ignored_answers rcode = answered p bytes o s rcode [] None None (o, s) (quiet o s s refl refl refl refl refl (λ h. h))
+  ignored_answers rcode = answered p bytes o s rcode [] None None (o, s) (quiet o s s refl refl refl refl refl (λ x h. h))
 
   -- ---- a status block
 
@@ -239,7 +319,7 @@ module _ (p : Packet) (bytes : List ℕ) (o : OutboxState) (s : InitiatorState) 
   taken_answers : (kind : StatusKind) (block : StatusBlock) → Answers p bytes o s (taken_of (waiting_at s.lists.slots.slots (slot_of block.orb)) kind (take_lists s.lists block).1 s.number) None (taken_as (take_lists s.lists block) kind p bytes o s).1
   taken_answers kind block =
       subst (λ (t : Option TicketParts). Answers p bytes o s (taken_of t kind (take_lists s.lists block).1 s.number) None (taken_as (take_lists s.lists block) kind p bytes o s).1) (take_found s.lists block)
-      (takes_answers (take_lists s.lists block).0 (take_lists s.lists block).1 kind (take_marks s.marks.pointing s.lists block))
+      (takes_answers (take_lists s.lists block).0 (take_lists s.lists block).1 kind (take_keeps s.marks.pointing s.lists block))
 
   kind_answers : (kind : StatusKind) (block : StatusBlock) → Answers p bytes o s (taken_by kind block s) (drop_if (kind_drops kind block.orb s) s.lists.slots.present) (block_by kind block p bytes o s).1
   kind_answers (kinds.Management code) block = operation_answers s.operation code block.orb refl
@@ -260,7 +340,7 @@ module _ (p : Packet) (bytes : List ℕ) (o : OutboxState) (s : InitiatorState) 
 
   told_answers : (c : Bool) (r : Result StatusBlock OrbFault) → Does1 (cond c unsolicited (read_as r)) (cond c (got_step p bytes (told o (notes.Told s.number), called s)) (block_step r p bytes o s)).1
   told_answers true r =
-      answered p bytes o s 0 [] (Some (notes.Told s.number)) None (told o (notes.Told s.number), called s) (tells o s (notes.Told s.number) (called s) refl refl refl refl refl (λ h. h))
+      answered p bytes o s 0 [] (Some (notes.Told s.number)) None (told o (notes.Told s.number), called s) (tells o s (notes.Told s.number) (called s) refl refl refl refl refl (λ x h. h))
   told_answers false r = block_answers r
 
   source_answers : (c : Bool) (b : Brought) → Does1 b (addressed p bytes o s).1 → Does1 (cond c nothing b) (cond c (ignored_step causes.Source address_error p bytes (o, s)) (addressed p bytes o s)).1
@@ -274,21 +354,21 @@ module _ (p : Packet) (bytes : List ℕ) (o : OutboxState) (s : InitiatorState) 
   -- ---- the memory
 
   read_answers : (r : ℕ × List ℕ) → Does1 nothing (served_as r p bytes o s).1
-  read_answers (rcode, out) = answered p bytes o s rcode out None None (o, called s) (quiet o s (called s) refl refl refl refl refl (λ h. h))
+  read_answers (rcode, out) = answered p bytes o s rcode out None None (o, called s) (quiet o s (called s) refl refl refl refl refl (λ x h. h))
 
   written_answers : (r : ℕ × ListState) → KeepsMarks s (record s { lists = r.1 }) → Does1 nothing (written_as r p bytes o s).1
   written_answers (rcode, lists) k =
       answered p bytes o s rcode [] None None (o, record (called s) { lists = lists }) (quiet o s (record (called s) { lists = lists }) refl refl refl refl refl k)
 
   refused_answers : Does1 nothing (respond_step p bytes type_error [] (o, called s))
-  refused_answers = answered p bytes o s type_error [] None None (o, called s) (quiet o s (called s) refl refl refl refl refl (λ h. h))
+  refused_answers = answered p bytes o s type_error [] None None (o, called s) (quiet o s (called s) refl refl refl refl refl (λ x h. h))
 
 module _ (bytes : List ℕ) (o : OutboxState) (s : InitiatorState) (has : HasOrb s.operation) where
   serve_answers : (p : Packet) → Answers p bytes o s None None (serve_step p bytes o s).1
   serve_answers (read_quadlet header offset) = read_answers (read_quadlet header offset) bytes o s has (read_step s.lists.memory offset (replicate 4 0))
   serve_answers (read_block header offset asked) = read_answers (read_block header offset asked) bytes o s has (read_step s.lists.memory offset (replicate asked 0))
-  serve_answers (write_quadlet header offset value) = written_answers (write_quadlet header offset value) bytes o s has (write_lists s.lists offset (big_bytes 4 value)) (write_marks s.marks.pointing s.lists offset (big_bytes 4 value))
-  serve_answers (write_block header offset payload) = written_answers (write_block header offset payload) bytes o s has (write_lists s.lists offset payload) (write_marks s.marks.pointing s.lists offset payload)
+  serve_answers (write_quadlet header offset value) = written_answers (write_quadlet header offset value) bytes o s has (write_lists s.lists offset (big_bytes 4 value)) (write_keeps s.marks.pointing s.lists offset (big_bytes 4 value))
+  serve_answers (write_block header offset payload) = written_answers (write_block header offset payload) bytes o s has (write_lists s.lists offset payload) (write_keeps s.marks.pointing s.lists offset payload)
   serve_answers (write_response header rcode) = refused_answers (write_response header rcode) bytes o s has
   serve_answers (read_quadlet_response header rcode value) = refused_answers (read_quadlet_response header rcode value) bytes o s has
   serve_answers (read_block_response header rcode payload) = refused_answers (read_block_response header rcode payload) bytes o s has

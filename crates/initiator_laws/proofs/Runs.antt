@@ -1,5 +1,5 @@
 -- What the calls of an initiator tell, over every list of them.
-use Rattle.std.proofs.Common.{arith, ◌≡◌, refl, sym, ap, subst, ◌∙◌, ℕ, ◌+◌, ◌<◌, ◌≤◌, ◌++◌, append_assoc, append-nil, nat_lt, is_some, Bool, true, false, cond, List, [], ◌∷◌, Option, Some, None, Result, Ok, Err}
+use Rattle.std.proofs.Common.{arith, ◌≡◌, refl, sym, ap, subst, ◌∙◌, ℕ, ◌+◌, ◌<◌, ◌≤◌, ◌++◌, append_assoc, append-nil, nat_lt, is_some, Bool, true, false, cond, List, [], ◌∷◌, length, Option, Some, None, Result, Ok, Err}
 use Rattle.async_packet.specs.Labels.{LabelParts}
 use Rattle.async_packet.specs.Packet.{Packet, header_in}
 use Rattle.label_table.specs.declared.judgement.Asked.{Asked}
@@ -41,7 +41,7 @@ use Rattle.initiator_laws.specs.Ends.{own, OpEnd, drops, notes_of, is_managed, I
 use Rattle.initiator_laws.specs.Numbers.{is_numbered, carried, RisesTo}
 use Rattle.initiator_laws.specs.Taking.{block_notes, brought, call_drops, call_note, finding_drops, finding_note, purpose_drops}
 use Rattle.initiator_laws.specs.Tells.{is_heard, Tells}
-use Rattle.initiator_laws.proofs.Effects.{Asking, Does, Ends, Fits, HasMarks, IsFor, IsForOrb, KeepsMarks, Wired, ended_does}
+use Rattle.initiator_laws.proofs.Effects.{Asking, Does, Ends, Fits, Holds, IsFor, IsForOrb, KeepsMarks, Wired, ended_does}
 use Rattle.initiator_laws.proofs.Purposes.{AllAsk, IfFor, all_ask, closes_asked, expires_asked}
 use Rattle.initiator_laws.proofs.Requests.{Answers, HasOrb, ignored_again, request_answers}
 use Rattle.initiator_laws.proofs.Wires.{Wire, judge_wire, expire_wire, see_wire, answer_wire, ask_wire}
@@ -71,9 +71,10 @@ pub record FitsNow (operation : Option Running) (acts : ℕ) (purpose : Purpose)
 pub record IsBegun (operation : Option Running) (acts : ℕ) : Type 0 where
   pub before : (running : Running) → operation ≡ Some running → running.act < acts
 
-pub record Sound (node : ℕ) (t : Turn) : Type 0 where
+pub record Sound (node : ℕ) (held : ℕ → List ℕ) (t : Turn) : Type 0 where
   pub wires : Wire (FitsNow t.1.operation t.1.counts.acts) node t.1.counts.running t.1.layer t.0.packets
-  pub marks : HasMarks t.1.lists.slots.present t.1.marks.pointing
+  pub marks : Holds held t.1.lists t.1.marks.pointing
+  pub sized : (m : ℕ) → length (held m) ≡ 32
   pub orb : HasOrb t.1.operation
   pub begun : IsBegun t.1.operation t.1.counts.acts
 
@@ -108,7 +109,7 @@ begun_move before None after n m h = subst (λ (r : Option Running). IsBegun r n
 begun_move before (Some end) after n m h = subst (λ (r : Option Running). IsBegun r n) (sym m.1) (record { before = λ r e. none_some e })
 
 -- what is kept by a call that no action is
-module _ (node : ℕ) (s : InitiatorState) (op : Option OpEnd) (t : Turn) where
+module _ (node : ℕ) (held : ℕ → List ℕ) (s : InitiatorState) (op : Option OpEnd) (t : Turn) where
   kept_wire : OpMove s.operation op t.1.operation → t.1.counts.acts ≡ s.counts.acts → t.1.counts.running ≡ s.counts.running → Wire (FitsNow s.operation s.counts.acts) node s.counts.running t.1.layer t.0.packets → Wire (FitsNow t.1.operation t.1.counts.acts) node t.1.counts.running t.1.layer t.0.packets
   kept_wire m a r w = record {
     calls = w.calls;
@@ -120,10 +121,11 @@ module _ (node : ℕ) (s : InitiatorState) (op : Option OpEnd) (t : Turn) where
         w.calls w.asks;
   }
 
-  kept_sound : (old : Turn) → Sound node old → old.1.operation ≡ s.operation → old.1.counts.acts ≡ s.counts.acts → OpMove s.operation op t.1.operation → t.1.counts.acts ≡ s.counts.acts → t.1.counts.running ≡ s.counts.running → HasMarks t.1.lists.slots.present t.1.marks.pointing → Wire (FitsNow s.operation s.counts.acts) node s.counts.running t.1.layer t.0.packets → Sound node t
+  kept_sound : (old : Turn) → Sound node held old → old.1.operation ≡ s.operation → old.1.counts.acts ≡ s.counts.acts → OpMove s.operation op t.1.operation → t.1.counts.acts ≡ s.counts.acts → t.1.counts.running ≡ s.counts.running → Holds held t.1.lists t.1.marks.pointing → Wire (FitsNow s.operation s.counts.acts) node s.counts.running t.1.layer t.0.packets → Sound node held t
   kept_sound old k e f m a r h w = record {
     wires = kept_wire m a r w;
     marks = h;
+    sized = k.sized;
     orb = orb_move s.operation op t.1.operation m (subst (λ (x : Option Running). HasOrb x) e k.orb);
     begun = subst (λ (n : ℕ). IsBegun t.1.operation n) (sym a)
         (begun_move s.operation op t.1.operation s.counts.acts m (subst (λ (n : ℕ). IsBegun s.operation n) f (subst (λ (x : Option Running). IsBegun x old.1.counts.acts) e k.begun)));
@@ -145,14 +147,14 @@ expired_drops (purposes.Pointer list) present = refl
 expired_drops purposes.Doorbell present = refl
 
 -- what is told, and what holds afterwards
-pub record Heard (node : ℕ) (first : Option Note) (drop : Option ℕ) (old new : Turn) : Type 0 where
+pub record Heard (node : ℕ) (held : ℕ → List ℕ) (first : Option Note) (drop : Option ℕ) (old new : Turn) : Type 0 where
   pub op : Option OpEnd
   pub state : Option OpWord
   pub stuck : Bool
   pub sides : new.0.sides ≡ old.0.sides ++ own (block_notes first ++ notes_of old.1.number drop op state stuck)
   pub move : OpMove old.1.operation op new.1.operation
   pub word : IsStateWord state
-  pub sound : Sound node new
+  pub sound : Sound node held new
 
 wired_on : (node : ℕ) (P : Purpose → Type 0) (purpose : Purpose) (o : OutboxState) (s : InitiatorState) (t : Turn) (asking : Option Asking) → Wired asking s.layer o.packets s.target t.1.layer t.0.packets → ((a : Asking) → asking ≡ Some a → a.purpose ≡ purpose) → ((a : Asking) → asking ≡ Some a → is_numbered a.purpose ≡ false) → P purpose → Wire P node s.counts.running s.layer o.packets → Wire P node s.counts.running t.1.layer t.0.packets
 wired_on node P purpose o s t None wired same plain p w =
@@ -167,17 +169,17 @@ drop_for_purpose None ending s = None
 drop_for_purpose (Some purpose) ending s = drop_if (ends_the_list purpose ending s.lists.slots.present) s.lists.slots.present
 
 -- the layer of a state is another, by a call that closed a transaction
-ended_heard : (node : ℕ) (old : Turn) (u : InitiatorState) (purpose : Option Purpose) (ending : Ending) → Sound node old → u.operation ≡ old.1.operation → u.number ≡ old.1.number → u.counts.acts ≡ old.1.counts.acts → u.counts.running ≡ old.1.counts.running → HasMarks u.lists.slots.present u.marks.pointing → Wire (FitsNow u.operation u.counts.acts) node u.counts.running u.layer old.0.packets → IfFor (FitsNow u.operation u.counts.acts) purpose → Heard node None (drop_for_purpose purpose ending u) old (ended_for purpose ending old.0 u)
-ended_heard node old u None ending k op number acts running marks w f = record {
+ended_heard : (node : ℕ) (held : ℕ → List ℕ) (old : Turn) (u : InitiatorState) (purpose : Option Purpose) (ending : Ending) → Sound node held old → u.operation ≡ old.1.operation → u.number ≡ old.1.number → u.counts.acts ≡ old.1.counts.acts → u.counts.running ≡ old.1.counts.running → Holds held u.lists u.marks.pointing → Wire (FitsNow u.operation u.counts.acts) node u.counts.running u.layer old.0.packets → IfFor (FitsNow u.operation u.counts.acts) purpose → Heard node held None (drop_for_purpose purpose ending u) old (ended_for purpose ending old.0 u)
+ended_heard node held old u None ending k op number acts running marks w f = record {
   op = None;
   state = None;
   stuck = false;
   sides = sym (append-nil old.0.sides);
   move = op;
   word = tt;
-  sound = kept_sound node u None (old.0, u) old k (sym op) (sym acts) refl refl refl marks w;
+  sound = kept_sound node held u None (old.0, u) old k (sym op) (sym acts) refl refl refl marks w;
 }
-ended_heard node old u (Some purpose) ending k op number acts running marks w f =
+ended_heard node held old u (Some purpose) ending k op number acts running marks w f =
     let d = ended_does purpose ending old.0 u f.fits in
     let t = ended_step purpose ending old.0 u in
     record {
@@ -187,7 +189,7 @@ ended_heard node old u (Some purpose) ending k op number acts running marks w f 
       sides = subst (λ (n : ℕ). t.0.sides ≡ old.0.sides ++ own (notes_of n (drop_if (ends_the_list purpose ending u.lists.slots.present) u.lists.slots.present) d.does.op d.does.state d.does.stuck)) number d.does.sides;
       move = subst (λ (r : Option Running). OpMove r d.does.op t.1.operation) op d.does.move;
       word = d.does.word;
-      sound = kept_sound node u d.does.op t old k (sym op) (sym acts) d.does.move (ap (λ (c : Counts). c.acts) d.does.counts) (ap (λ (c : Counts). c.running) d.does.counts) (d.does.marks marks)
+      sound = kept_sound node held u d.does.op t old k (sym op) (sym acts) d.does.move (ap (λ (c : Counts). c.acts) d.does.counts) (ap (λ (c : Counts). c.running) d.does.counts) (d.does.marks held marks)
           (wired_on node (FitsNow u.operation u.counts.acts) purpose old.0 u t d.asking d.does.wire d.same d.plain f w);
     }
 
@@ -202,23 +204,23 @@ expired_for node P running layer packets peer label purpose w e =
     expires_asked P node w.calls peer label purpose w.asks (ap (λ (l : Layer Purpose). (expiring_step l peer label).0) w.layer_is ∙ e)
 
 -- a request is answered
-request_heard : (node : ℕ) (p : Packet) (bytes : List ℕ) (old : Turn) (u : InitiatorState) (first : Option Note) (drop : Option ℕ) (t : Turn) → Sound node old → u.operation ≡ old.1.operation → u.number ≡ old.1.number → u.counts ≡ old.1.counts → HasMarks u.lists.slots.present u.marks.pointing → Wire (FitsNow u.operation u.counts.acts) node u.counts.running u.layer old.0.packets → Answers p bytes old.0 u first drop t → Heard node first drop old t
-request_heard node p bytes old u first drop t k op number counts marks w a = record {
+request_heard : (node : ℕ) (held : ℕ → List ℕ) (p : Packet) (bytes : List ℕ) (old : Turn) (u : InitiatorState) (first : Option Note) (drop : Option ℕ) (t : Turn) → Sound node held old → u.operation ≡ old.1.operation → u.number ≡ old.1.number → u.counts ≡ old.1.counts → Holds held u.lists u.marks.pointing → Wire (FitsNow u.operation u.counts.acts) node u.counts.running u.layer old.0.packets → Answers p bytes old.0 u first drop t → Heard node held first drop old t
+request_heard node held p bytes old u first drop t k op number counts marks w a = record {
   op = a.op;
   state = a.state;
   stuck = a.stuck;
   sides = subst (λ (n : ℕ). t.0.sides ≡ old.0.sides ++ own (block_notes first ++ notes_of n drop a.op a.state a.stuck)) number a.sides;
   move = subst (λ (r : Option Running). OpMove r a.op t.1.operation) op a.move;
   word = a.word;
-  sound = kept_sound node u a.op t old k (sym op) (ap (λ (c : Counts). c.acts) (sym counts)) a.move a.acts a.running (a.marks marks)
+  sound = kept_sound node held u a.op t old k (sym op) (ap (λ (c : Counts). c.acts) (sym counts)) a.move a.acts a.running (a.marks held marks)
       (subst (λ (ps : List Outgoing). Wire (FitsNow u.operation u.counts.acts) node u.counts.running t.1.layer ps) (sym a.packets)
       (subst (λ (l : Layer Purpose). Wire (FitsNow u.operation u.counts.acts) node u.counts.running l (old.0.packets ++ response p (answering_step u.layer p bytes a.rcode a.given).0 ∷ [])) (sym a.layer)
       (answer_wire p bytes a.rcode a.given w)));
 }
 
-module _ (node : ℕ) (o : OutboxState) (s : InitiatorState) (k : Sound node (o, s)) where
+module _ (node : ℕ) (held : ℕ → List ℕ) (o : OutboxState) (s : InitiatorState) (k : Sound node held (o, s)) where
   -- nothing is told
-  nothing_heard : (u : InitiatorState) → u.operation ≡ s.operation → u.counts.acts ≡ s.counts.acts → u.counts.running ≡ s.counts.running → HasMarks u.lists.slots.present u.marks.pointing → Wire (FitsNow s.operation s.counts.acts) node s.counts.running u.layer o.packets → Heard node None None (o, s) (o, u)
+  nothing_heard : (u : InitiatorState) → u.operation ≡ s.operation → u.counts.acts ≡ s.counts.acts → u.counts.running ≡ s.counts.running → Holds held u.lists u.marks.pointing → Wire (FitsNow s.operation s.counts.acts) node s.counts.running u.layer o.packets → Heard node held None None (o, s) (o, u)
   nothing_heard u op acts running marks w = record {
     op = None;
     state = None;
@@ -226,24 +228,24 @@ module _ (node : ℕ) (o : OutboxState) (s : InitiatorState) (k : Sound node (o,
     sides = sym (append-nil o.sides);
     move = op;
     word = tt;
-    sound = kept_sound node s None (o, u) (o, s) k refl refl op acts running marks w;
+    sound = kept_sound node held s None (o, u) (o, s) k refl refl op acts running marks w;
   }
 
-  received_heard : (finding : Finding Purpose) (layer : Layer Purpose) (bytes : List ℕ) → IsSame finding s.layer layer → Wire (FitsNow s.operation s.counts.acts) node s.counts.running layer o.packets → ((p : Packet) (label : LabelParts) (purpose : Option Purpose) → finding ≡ of_response p label purpose → IfFor (FitsNow s.operation s.counts.acts) purpose) → Heard node (finding_note finding s) (drop_if (finding_drops finding s) s.lists.slots.present) (o, s) (received (finding, layer) bytes o s).1
+  received_heard : (finding : Finding Purpose) (layer : Layer Purpose) (bytes : List ℕ) → IsSame finding s.layer layer → Wire (FitsNow s.operation s.counts.acts) node s.counts.running layer o.packets → ((p : Packet) (label : LabelParts) (purpose : Option Purpose) → finding ≡ of_response p label purpose → IfFor (FitsNow s.operation s.counts.acts) purpose) → Heard node held (finding_note finding s) (drop_if (finding_drops finding s) s.lists.slots.present) (o, s) (received (finding, layer) bytes o s).1
   received_heard of_generation layer bytes same w f = nothing_heard (record s { layer = layer }) refl refl refl k.marks w
   received_heard of_grammar layer bytes same w f = nothing_heard (record s { layer = layer }) refl refl refl k.marks w
   received_heard of_label layer bytes same w f = nothing_heard (record s { layer = layer }) refl refl refl k.marks w
   received_heard (of_response p label None) layer bytes same w f =
-      ended_heard node (o, s) (called (record s { layer = layer })) None (ending_of p) k refl refl refl refl k.marks w tt
+      ended_heard node held (o, s) (called (record s { layer = layer })) None (ending_of p) k refl refl refl refl k.marks w tt
   received_heard (of_response p label (Some purpose)) layer bytes same w f =
-      ended_heard node (o, s) (called (record s { layer = layer })) (Some purpose) (ending_of p) k refl refl refl refl k.marks w (f p label (Some purpose) refl)
+      ended_heard node held (o, s) (called (record s { layer = layer })) (Some purpose) (ending_of p) k refl refl refl refl k.marks w (f p label (Some purpose) refl)
   received_heard (of_again p rcode) layer bytes same w f =
-      request_heard node p bytes (o, s) (record s { layer = layer }) None None _ k refl refl refl k.marks w (ignored_again p bytes o (record s { layer = layer }) rcode)
+      request_heard node held p bytes (o, s) (record s { layer = layer }) None None _ k refl refl refl k.marks w (ignored_again p bytes o (record s { layer = layer }) rcode)
   received_heard (of_request p) layer bytes same w f =
-      subst (λ (l : Layer Purpose). Heard node (finding_note (of_request p) s) (drop_if (finding_drops (of_request p) s) s.lists.slots.present) (o, s) (received (of_request p, l) bytes o s).1) (sym same)
-      (request_heard node p bytes (o, s) s _ _ _ k refl refl refl k.marks k.wires (request_answers bytes o s k.orb p))
+      subst (λ (l : Layer Purpose). Heard node held (finding_note (of_request p) s) (drop_if (finding_drops (of_request p) s) s.lists.slots.present) (o, s) (received (of_request p, l) bytes o s).1) (sym same)
+      (request_heard node held p bytes (o, s) s _ _ _ k refl refl refl k.marks k.wires (request_answers bytes o s k.orb p))
 
-  receive_heard : (generation : ℕ) (bytes : List ℕ) → Heard node (call_note (receives generation bytes) s) (drop_if (call_drops (receives generation bytes) s) s.lists.slots.present) (o, s) (done (receives generation bytes) (o, s))
+  receive_heard : (generation : ℕ) (bytes : List ℕ) → Heard node held (call_note (receives generation bytes) s) (drop_if (call_drops (receives generation bytes) s) s.lists.slots.present) (o, s) (done (receives generation bytes) (o, s))
   unfolding receive_step
   receive_heard generation bytes =
       received_heard (judging_step s.layer generation bytes).0 (judging_step s.layer generation bytes).1 bytes (judged_same (judging_step s.layer generation bytes).0 s.layer (judging_step s.layer generation bytes).1 generation bytes refl) (judge_wire generation bytes k.wires)
@@ -251,32 +253,32 @@ module _ (node : ℕ) (o : OutboxState) (s : InitiatorState) (k : Sound node (o,
 
   -- ---- a time-out
 
-  expired_heard : (r : Result (Option Purpose) Stale) (layer : Layer Purpose) → Wire (FitsNow s.operation s.counts.acts) node s.counts.running layer o.packets → ((purpose : Option Purpose) → r ≡ Ok purpose → IfFor (FitsNow s.operation s.counts.acts) purpose) → Heard node None None (o, s) (expired_as (r, layer) o s).1
+  expired_heard : (r : Result (Option Purpose) Stale) (layer : Layer Purpose) → Wire (FitsNow s.operation s.counts.acts) node s.counts.running layer o.packets → ((purpose : Option Purpose) → r ≡ Ok purpose → IfFor (FitsNow s.operation s.counts.acts) purpose) → Heard node held None None (o, s) (expired_as (r, layer) o s).1
   expired_heard (Err stale) layer w f = nothing_heard (record s { layer = layer }) refl refl refl k.marks w
   expired_heard (Ok None) layer w f =
-      ended_heard node (o, s) (called (record s { layer = layer })) None endings.Expired k refl refl refl refl k.marks w tt
+      ended_heard node held (o, s) (called (record s { layer = layer })) None endings.Expired k refl refl refl refl k.marks w tt
   expired_heard (Ok (Some purpose)) layer w f =
-      subst (λ (c : Bool). Heard node None (drop_if c s.lists.slots.present) (o, s) (expired_as (Ok (Some purpose), layer) o s).1) (expired_drops purpose s.lists.slots.present)
-      (ended_heard node (o, s) (called (record s { layer = layer })) (Some purpose) endings.Expired k refl refl refl refl k.marks w (f (Some purpose) refl))
+      subst (λ (c : Bool). Heard node held None (drop_if c s.lists.slots.present) (o, s) (expired_as (Ok (Some purpose), layer) o s).1) (expired_drops purpose s.lists.slots.present)
+      (ended_heard node held (o, s) (called (record s { layer = layer })) (Some purpose) endings.Expired k refl refl refl refl k.marks w (f (Some purpose) refl))
 
-  expire_heard : (label : LabelParts) → Heard node None None (o, s) (done (lets_expire label) (o, s))
+  expire_heard : (label : LabelParts) → Heard node held None None (o, s) (done (lets_expire label) (o, s))
   unfolding expire_step
   expire_heard label =
       expired_heard (expiring_step s.layer s.target label).0 (expiring_step s.layer s.target label).1 (expire_wire s.target label k.wires)
       (λ purpose e. expired_for node (FitsNow s.operation s.counts.acts) s.counts.running s.layer o.packets s.target label purpose k.wires e)
 
 -- what is told, as the law says it
-heard_tells : (node : ℕ) (call : Call) (old new : Turn) → Heard node (call_note call old.1) (drop_if (call_drops call old.1) old.1.lists.slots.present) old new → Tells call old new
-heard_tells node call old new h = record { op = h.op; state = h.state; stuck = h.stuck; sides = h.sides; move = h.move; word = h.word }
+heard_tells : (node : ℕ) (held : ℕ → List ℕ) (call : Call) (old new : Turn) → Heard node held (call_note call old.1) (drop_if (call_drops call old.1) old.1.lists.slots.present) old new → Tells call old new
+heard_tells node held call old new h = record { op = h.op; state = h.state; stuck = h.stuck; sides = h.sides; move = h.move; word = h.word }
 
-pub call_tells : (node : ℕ) (call : Call) (old : Turn) → Sound node old → is_heard call ≡ true → Tells call old (done call old)
-call_tells node (receives generation bytes) old k e = heard_tells node (receives generation bytes) old _ (receive_heard node old.0 old.1 k generation bytes)
-call_tells node (lets_expire label) old k e = heard_tells node (lets_expire label) old _ (expire_heard node old.0 old.1 k label)
-call_tells node (laws.acts action) old k e = absurd (untrue e)
-call_tells node (laws.sees generation id target) old k e = absurd (untrue e)
+pub call_tells : (node : ℕ) (held : ℕ → List ℕ) (call : Call) (old : Turn) → Sound node held old → is_heard call ≡ true → Tells call old (done call old)
+call_tells node held (receives generation bytes) old k e = heard_tells node held (receives generation bytes) old _ (receive_heard node held old.0 old.1 k generation bytes)
+call_tells node held (lets_expire label) old k e = heard_tells node held (lets_expire label) old _ (expire_heard node held old.0 old.1 k label)
+call_tells node held (laws.acts action) old k e = absurd (untrue e)
+call_tells node held (laws.sees generation id target) old k e = absurd (untrue e)
 
-pub call_soundly : (node : ℕ) (call : Call) (old : Turn) → Sound node old → is_heard call ≡ true → Sound node (done call old)
-call_soundly node (receives generation bytes) old k e = (receive_heard node old.0 old.1 k generation bytes).sound
-call_soundly node (lets_expire label) old k e = (expire_heard node old.0 old.1 k label).sound
-call_soundly node (laws.acts action) old k e = absurd (untrue e)
-call_soundly node (laws.sees generation id target) old k e = absurd (untrue e)
+pub call_soundly : (node : ℕ) (held : ℕ → List ℕ) (call : Call) (old : Turn) → Sound node held old → is_heard call ≡ true → Sound node held (done call old)
+call_soundly node held (receives generation bytes) old k e = (receive_heard node held old.0 old.1 k generation bytes).sound
+call_soundly node held (lets_expire label) old k e = (expire_heard node held old.0 old.1 k label).sound
+call_soundly node held (laws.acts action) old k e = absurd (untrue e)
+call_soundly node held (laws.sees generation id target) old k e = absurd (untrue e)

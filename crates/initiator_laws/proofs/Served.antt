@@ -28,6 +28,7 @@ use Rattle.sbp_initiator.specs.Initiators.{own_rom}
 use Rattle.sbp_initiator.specs.Laws.{IsSlotRun, after}
 use Rattle.sbp_initiator.proofs.Slotted.{slot_law}
 use Rattle.initiator_laws.specs.Served.{ReadsAfter, ReadsLaw}
+use Rattle.initiator_laws.proofs.Over.{sound}
 
 -- ---- each call of the slots leaves the ROM
 
@@ -162,5 +163,6 @@ reads_law number ready calls h =
       slots = w;
       orb = λ k b. subst (λ (x : Memory). IfHoldsOrb (kept_in (run w.calls (own_rom number)).notes k) (slot_at x k)) w.memory (served_law.served w.calls (own_rom number) k w.proper b);
       read = λ k out b e. own_law.read m k out b e;
+      place = (sound number ready calls).marks.orbs;
       rom = sym (ap (λ (x : Memory). x.rom) w.memory) ∙ run_rom w.calls (own_rom number) w.proper;
     }

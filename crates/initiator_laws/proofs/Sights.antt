@@ -1,8 +1,9 @@
 -- What an initiator tells as it sees a generation.
-use Rattle.std.proofs.Common.{◌≡◌, refl, sym, ap, subst, ◌∙◌, ℕ, ◌++◌, append-nil, append_assoc, nat_lt, Bool, true, false, cond, List, [], ◌∷◌, Option, Some, None}
+use Rattle.std.proofs.Common.{◌≡◌, refl, sym, ap, subst, ◌∙◌, ℕ, ◌++◌, append-nil, append_assoc, nat_lt, Bool, true, false, cond, List, [], ◌∷◌, length, slice_index_or, Option, Some, None}
 use Rattle.label_table.specs.Layer.{Layer, seeing_step, seen_in_generation}
-use Rattle.orb_list.specs.declared.list.PresentList.{PresentList}
-use Rattle.orb_list.specs.Table.{free_all_step}
+use Rattle.bus_memory.specs.declared.slot.PlaceMemory.{PlaceMemory}
+use Rattle.bus_memory.specs.Memory.{empty_place}
+use Rattle.orb_list.specs.Table.{closed, free_all_step}
 use Rattle.sbp_journal.specs.declared.note.Note.{Note}
 use Rattle.sbp_journal.specs.declared.note.Note.TheVariants as notes
 use Rattle.sbp_journal.specs.declared.operation.Operation.TheVariants as operations
@@ -10,6 +11,7 @@ use Rattle.sbp_journal.specs.declared.operation.OpWord.TheVariants as words
 use Rattle.sbp_journal.specs.declared.outbox.Outgoing.{Outgoing}
 use Rattle.sbp_journal.specs.declared.side.Side.{Side}
 use Rattle.sbp_journal.specs.Outgoings.{OutboxState}
+use Rattle.sbp_initiator.specs.declared.purpose.Pointing.{Pointing}
 use Rattle.sbp_initiator.specs.declared.purpose.Pointing.TheVariants as pointings
 use Rattle.sbp_initiator.specs.declared.purpose.Purpose.{Purpose}
 use Rattle.sbp_initiator.specs.declared.purpose.Running.{Running}
@@ -22,7 +24,7 @@ use Rattle.initiator_laws.specs.Drops.{present_list}
 use Rattle.initiator_laws.specs.Ends.{own, drops}
 use Rattle.initiator_laws.specs.Numbers.{carried, RisesTo}
 use Rattle.initiator_laws.specs.Tells.{state_resets, resets_with, resets, Sees}
-use Rattle.initiator_laws.proofs.Effects.{HasMarks, list_drops, told_twice}
+use Rattle.initiator_laws.proofs.Effects.{HasMarks, Holds, list_drops, told_twice}
 use Rattle.initiator_laws.proofs.Purposes.{all_ask}
 use Rattle.initiator_laws.proofs.Requests.{HasOrb}
 use Rattle.initiator_laws.proofs.Runs.{FitsNow, IsBegun, Sound, fits_none, none_some}
@@ -63,18 +65,29 @@ free_marks : (lists : ListState) → HasMarks (free_lists lists).slots.present p
 unfolding free_lists free_all_step
 free_marks lists = refl
 
+free_memory : (lists : ListState) → (free_lists lists).memory.places ≡ lists.memory.places
+unfolding free_lists free_all_step closed
+free_memory lists = refl
+
+free_holds : (held : ℕ → List ℕ) (lists : ListState) (pointing : Pointing) → Holds held lists pointing → Holds held (free_lists lists) pointings.Unwritten
+free_holds held lists pointing h = record {
+  marks = free_marks lists;
+  orbs = λ m. ap (λ (l : List PlaceMemory). (slice_index_or l m empty_place).orb) (free_memory lists) ∙ h.orbs m;
+  places = ap length (free_memory lists) ∙ h.places;
+}
+
 -- ---- as a whole
 
-record Saw (node : ℕ) (seen : Bool) (old new : Turn) : Type 0 where
+record Saw (node : ℕ) (held : ℕ → List ℕ) (seen : Bool) (old new : Turn) : Type 0 where
   tells : Sees seen old new
-  sound : Sound node new
+  sound : Sound node held new
 
 abbrev seeing_as : Bool → Layer Purpose → Layer Purpose → Bool × Layer Purpose
 seeing_as c new old = cond c (true, new) (false, old)
 
-saw_as : (c : Bool) (node generation id target : ℕ) (o : OutboxState) (s : InitiatorState) → Sound node (o, s) → Wire (FitsNow s.operation s.counts.acts) node s.counts.running (seeing_as c (seen_in_generation s.layer generation id) s.layer).1 o.packets → Saw node c (o, s) (seen_as (seeing_as c (seen_in_generation s.layer generation id) s.layer) target o s)
-saw_as false node generation id target o s k w = record { tells = (refl, refl); sound = k }
-saw_as true node generation id target o s k w =
+saw_as : (c : Bool) (node : ℕ) (held : ℕ → List ℕ) (generation id target : ℕ) (o : OutboxState) (s : InitiatorState) → Sound node held (o, s) → Wire (FitsNow s.operation s.counts.acts) node s.counts.running (seeing_as c (seen_in_generation s.layer generation id) s.layer).1 o.packets → Saw node held c (o, s) (seen_as (seeing_as c (seen_in_generation s.layer generation id) s.layer) target o s)
+saw_as false node held generation id target o s k w = record { tells = (refl, refl); sound = k }
+saw_as true node held generation id target o s k w =
     let u = record s { layer = seen_in_generation s.layer generation id } in
     let x = resets_told s.number s.operation s.states o in
     let m = resets_more s.number s.operation s.states o in
@@ -93,18 +106,19 @@ saw_as true node generation id target o s k w =
               (λ p f. subst (λ (r : Option Running). FitsNow r t.1.counts.acts p) (sym d.operation) (subst (λ (c : Counts). FitsNow None c.acts p) (sym d.counts) (record { fits = fits_none p; earlier = f.earlier })))
               w.calls w.asks;
         };
-        marks = free_marks t.1.lists;
+        marks = free_holds held t.1.lists t.1.marks.pointing (d.marks held k.marks);
+        sized = k.sized;
         orb = subst (λ (r : Option Running). HasOrb r) (sym d.operation) (record { managed = λ r e. none_some e });
         begun = subst (λ (r : Option Running). IsBegun r t.1.counts.acts) (sym d.operation) (record { before = λ r e. none_some e });
       };
     }
 
-saw : (node generation id target : ℕ) (o : OutboxState) (s : InitiatorState) → Sound node (o, s) → Saw node (nat_lt s.layer.generation generation) (o, s) (see_step generation id target o s)
+saw : (node : ℕ) (held : ℕ → List ℕ) (generation id target : ℕ) (o : OutboxState) (s : InitiatorState) → Sound node held (o, s) → Saw node held (nat_lt s.layer.generation generation) (o, s) (see_step generation id target o s)
 unfolding see_step seeing_step
-saw node generation id target o s k = saw_as (nat_lt s.layer.generation generation) node generation id target o s k (see_wire generation id k.wires)
+saw node held generation id target o s k = saw_as (nat_lt s.layer.generation generation) node held generation id target o s k (see_wire generation id k.wires)
 
-pub sees_so : (node generation id target : ℕ) (o : OutboxState) (s : InitiatorState) → Sound node (o, s) → Sees (nat_lt s.layer.generation generation) (o, s) (see_step generation id target o s)
-sees_so node generation id target o s k = (saw node generation id target o s k).tells
+pub sees_so : (node : ℕ) (held : ℕ → List ℕ) (generation id target : ℕ) (o : OutboxState) (s : InitiatorState) → Sound node held (o, s) → Sees (nat_lt s.layer.generation generation) (o, s) (see_step generation id target o s)
+sees_so node held generation id target o s k = (saw node held generation id target o s k).tells
 
-pub sees_soundly : (node generation id target : ℕ) (o : OutboxState) (s : InitiatorState) → Sound node (o, s) → Sound node (see_step generation id target o s)
-sees_soundly node generation id target o s k = (saw node generation id target o s k).sound
+pub sees_soundly : (node : ℕ) (held : ℕ → List ℕ) (generation id target : ℕ) (o : OutboxState) (s : InitiatorState) → Sound node held (o, s) → Sound node held (see_step generation id target o s)
+sees_soundly node held generation id target o s k = (saw node held generation id target o s k).sound

@@ -32,8 +32,7 @@ pub fn waiting_orbs_are_taken()
 {}
 
 /// The law that over every list of calls a slot holds the ORB that was prepared last in it, with what was
-/// written since, and that the ROM is this node's.
-#[tactic(auto, using(crate::proofs::Served::reads_law))]
+/// written since, a place of management that of the latest operation that used it, and the ROM is this node's.
 pub fn slots_and_rom_are_read()
     ensures { ReadsLaw }
 {}
