@@ -36,11 +36,11 @@ use Rattle.command_agent.specs.declared.step.Move.{Move}
 use Rattle.command_agent.specs.declared.step.Move.TheVariants as moves
 use Rattle.command_agent.specs.declared.step.Which.{Which}
 use Rattle.command_agent.specs.declared.step.Which.TheVariants.{Main, Ahead}
-use Rattle.command_agent.specs.Machine.{Machine, aligned, named, is_sent, is_ahead, plan_of, chunk_of, cut_to}
+use Rattle.command_agent.specs.Machine.{Machine, aligned, is_sent, is_ahead, plan_of, chunk_of, cut_to}
 use Rattle.command_agent.specs.Checks.{verdict, refusal, death_by, reads_table}
 use Rattle.command_agent.specs.Steps.{quiet, asks, sent, told_or, ahead_read, ahead_step, dead_step, reread_step, end_step, answer_step, with_outcome, ran_as, run_step, judged, judge_step, checked, check_step, ahead_of, advanced, orb_read, table_read, elements_read, data_read, data_grown, chunk_written, status_written, next_read, follow_step, turn_step, pointed, point_step, doorbell_step, data_step, src_of, reset_step, abort_step, reply_step, unread_buffer, answer_chunk, turned}
 use Rattle.command_agent.proofs.Fits.{data_needed, feeds_all, feeds_none}
-use Rattle.agent_laws.specs.Calls.{Call, Point, Doorbell, Reset, Abort, Reply, after_call, after_calls, Note, Pointed, Rung, Came, Turn, Fetched, Table, Data, Reread, AheadUsed, Ran, asked, death_notes, ask_notes, run_notes, promotion_notes, turn_notes, fetch_notes, table_notes, data_notes, reread_notes, status_notes, ahead_notes, main_notes, heard, point_notes, step_notes, noted, notes, is_open, present_in, fetched_in, next_in, CallsAreLawful}
+use Rattle.agent_laws.specs.Calls.{Call, Point, Doorbell, Reset, Abort, Reply, after_call, after_calls, Note, Pointed, Rung, Came, Turn, Fetched, Table, Data, Reread, AheadUsed, Ran, named, asked, death_notes, ask_notes, run_notes, promotion_notes, turn_notes, fetch_notes, table_notes, data_notes, reread_notes, status_notes, ahead_notes, main_notes, heard, point_notes, step_notes, noted, notes, is_open, present_in, fetched_in, next_in, CallsAreLawful}
 use Rattle.agent_laws.specs.Buffers.{table_in, buffer_in, wanted_by, piece, plan_for, CallsFeed}
 use Rattle.agent_laws.specs.Answers.{outcome_in, answer_in, written_in, to_write, EndsWhole, CallsAnswer}
 use Rattle.agent_laws.specs.Transactions.{main_in, UnderWayLaw}

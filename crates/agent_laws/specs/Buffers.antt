@@ -1,5 +1,5 @@
 -- Which buffer and which data the command of an ORB runs on (NCITS 325-1998, data buffers and page tables), read off what calls tell.
-use Rattle.std.specs.Prelude.{◌≡◌, ℕ, ◌+◌, ◌-◌, false, ◌^◌, if◌then◌else◌, List, [], ◌∷◌, ◌++◌, ◌⊎◌, length, Option, Some, None}
+use Rattle.std.specs.Prelude.{◌≡◌, ℕ, ◌+◌, ◌-◌, ◌==◌, ◌&&◌, not, Bool, false, ◌^◌, if◌then◌else◌, List, [], ◌∷◌, ◌++◌, ◌⊎◌, length, Option, Some, None}
 use Rattle.std.specs.Option.{option_map}
 use Rattle.orb_layout.specs.declared.command.CommandOrb.{CommandOrb}
 use Rattle.page_table.specs.declared.segment.Segment.{Segment}
@@ -9,7 +9,6 @@ use Rattle.page_table.specs.Elements.{elements_of}
 use Rattle.rbc_disk.specs.declared.command.BufferPlan.{BufferPlan}
 use Rattle.rbc_disk.specs.Runs.{data_length_of}
 use Rattle.command_agent.specs.Machine.{cut_to}
-use Rattle.command_agent.specs.Checks.{reads_table}
 use Rattle.agent_laws.specs.Calls.{Call, notes, Note, Pointed, Turn, Table, Data, Ran, fetched_in}
 
 -- the page table of the present or last ORB, as it was read
@@ -31,6 +30,10 @@ data_in (_ ∷ ns) = data_in ns
 -- the buffer of an ORB without elements of a page table: the one segment that it names, or none
 abbrev pub own_buffer : CommandOrb → List Segment
 own_buffer orb = if orb.has_table then [] else single orb.descriptor orb.data_size
+
+-- a page table is read where it has elements
+abbrev pub reads_table : CommandOrb → Bool
+reads_table orb = orb.has_table && not (orb.data_size == 0)
 
 -- the buffer of an ORB: its own, or where its page table has elements these, as they were read
 abbrev pub buffer_by : Option CommandOrb → Option (List ℕ) → Option (List Segment)

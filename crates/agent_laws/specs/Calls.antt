@@ -1,5 +1,5 @@
 -- Lists of the calls of an agent, and what they tell, the latest first.
-use Rattle.std.specs.Prelude.{◌≡◌, ℕ, suc, ◌*◌, length, Bool, true, false, if◌then◌else◌, List, [], ◌∷◌, Option, Some, None, Result, Ok, Err}
+use Rattle.std.specs.Prelude.{◌≡◌, ℕ, suc, ◌-◌, ◌*◌, ◌%◌, length, Bool, true, false, if◌then◌else◌, List, [], ◌∷◌, Option, Some, None, Result, Ok, Err}
 use Rattle.orb_layout.specs.declared.ask.Ask.{Ask}
 use Rattle.orb_layout.specs.declared.ask.Ask.TheVariants.{Read, Write, Nothing}
 use Rattle.orb_layout.specs.declared.ask.FailCause.{FailCause}
@@ -22,8 +22,17 @@ use Rattle.command_agent.specs.declared.step.PointRefusal.{PointRefusal}
 use Rattle.command_agent.specs.declared.step.Which.{Which}
 use Rattle.command_agent.specs.declared.step.Which.TheVariants.{Main, Ahead}
 use Rattle.orb_layout.specs.Replies.{Answer, payload_of, write_failure}
-use Rattle.command_agent.specs.Machine.{Machine, new_machine, aligned, named, is_ahead, plan_of, chunk_of}
+use Rattle.command_agent.specs.Machine.{Machine, new_machine, is_ahead, plan_of, chunk_of}
 use Rattle.command_agent.specs.Steps.{point_step, doorbell_step, reset_step, abort_step, reply_step}
+
+-- the address of an ORB: the two low bits of a pointer count as zero
+abbrev pub aligned : ℕ → ℕ
+aligned offset = offset - offset % 4
+
+-- the ORB that a pointer names
+abbrev pub named : OrbPointer → Option ℕ
+named Null = None
+named (At offset) = Some (aligned offset)
 
 -- a call; a reply with what the unit and its medium hold, and what a run tells where there is one
 pub data Call : Type 0 where

@@ -12,10 +12,8 @@ use Rattle.rbc_disk.specs.declared.command.Outcome.{Outcome}
 use Rattle.rbc_disk.specs.declared.command.Outcome.TheVariants as outcomes
 use Rattle.command_agent.specs.declared.step.Which.{Which}
 use Rattle.command_agent.specs.declared.step.Which.TheVariants.{Main, Ahead}
-use Rattle.command_agent.specs.Machine.{named}
-use Rattle.command_agent.specs.Checks.{reads_table}
-use Rattle.agent_laws.specs.Calls.{Call, notes, Note, Pointed, Cut, Turn, Reads, Writes, Promoted, Ended, Died, is_open, present_in, fetched_in, next_in}
-use Rattle.agent_laws.specs.Buffers.{table_in, data_in, buffer_in, wanted_in, piece_in}
+use Rattle.agent_laws.specs.Calls.{Call, notes, Note, Pointed, Cut, Turn, Reads, Writes, Promoted, Ended, Died, named, is_open, present_in, fetched_in, next_in}
+use Rattle.agent_laws.specs.Buffers.{reads_table, table_in, data_in, buffer_in, wanted_in, piece_in}
 use Rattle.agent_laws.specs.Answers.{outcome_in, is_good}
 use Rattle.agent_laws.specs.Transactions.{main_in, behind_in}
 
