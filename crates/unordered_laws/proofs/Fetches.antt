@@ -4,14 +4,14 @@ use Rattle.orb_layout.specs.declared.pointer.OrbPointer.{OrbPointer}
 use Rattle.orb_layout.specs.declared.pointer.OrbPointer.TheVariants.{Null, At}
 use Rattle.command_agent.specs.declared.phase.Phase.{Phase}
 use Rattle.command_agent.specs.declared.phase.Phase.TheVariants as agents
-use Rattle.command_agent.specs.Machine.{Machine, is_sent, named}
+use Rattle.command_agent.specs.Machine.{Machine, is_sent}
 use Rattle.unordered_agent.specs.declared.fetcher.FetchPhase.{FetchPhase}
 use Rattle.unordered_agent.specs.declared.fetcher.FetchPhase.TheVariants as phases
 use Rattle.unordered_agent.specs.declared.fetcher.Fetcher.{Fetcher}
 use Rattle.unordered_agent.specs.Machine.{TaskMachine, agent_at, is_null, FetchRule}
 use Rattle.unordered_laws.specs.Calls.{Call, after_calls}
 use Rattle.unordered_laws.specs.Notes.{notes, is_open, is_dead}
-use Rattle.unordered_laws.specs.Order.{next_of, last_of}
+use Rattle.unordered_laws.specs.Order.{named, next_of, last_of}
 use Rattle.unordered_laws.specs.Stages.{Stage, stage, is_vacant}
 use Rattle.unordered_laws.specs.Fetches.{unanswered, FetchesOn, CallsFetchOn}
 use Rattle.unordered_laws.proofs.Rules.{Sound, calls_sound}

@@ -15,7 +15,7 @@ use Rattle.rbc_disk.specs.Units.{PlainDisk}
 use Rattle.rbc_disk.specs.Runs.{Told}
 use Rattle.command_agent.specs.declared.step.AgentStep.{AgentStep}
 use Rattle.command_agent.specs.declared.step.Which.TheVariants.{Main}
-use Rattle.command_agent.specs.Machine.{Machine, new_machine, is_under_way, aligned, named}
+use Rattle.command_agent.specs.Machine.{Machine, new_machine, is_under_way, aligned}
 use Rattle.command_agent.specs.Steps as agent
 use Rattle.command_agent.specs.Tasks.{begin_step, writes_status}
 use Rattle.unordered_agent.specs.declared.fetcher.FetchPhase.{FetchPhase}
@@ -27,7 +27,7 @@ use Rattle.unordered_agent.specs.Fetching.{reread, followed, seated, died}
 use Rattle.unordered_agent.specs.Steps.{asked, quiet, takes_pointer, pointed, doorbell_in, point_step, doorbell_step, reset_all_step, reply_step, settled, goes_on, orb_read, pointer_read, next_read, fetch_replied, released, status_written, worked, task_replied, or_none, place_of, with_task}
 use Rattle.unordered_laws.specs.Calls.{Call, Point, Doorbell, Reset, Reply, after_call, after_calls, replied}
 use Rattle.unordered_laws.specs.Notes.{Note, Rung, Came, Got, Reread, Sent, ask_of, read_by, reading_in, address_of, next_by, reread_notes, fetch_notes, answer_notes, heard_at, heard, ran_notes, end_notes, death_notes, step_notes, point_notes, noted, notes, is_open, is_dead}
-use Rattle.unordered_laws.specs.Order.{first_in, relinked, orbs_in, next_of, last_of, IsChain, Reads, CallsKeepOrder, CallsReadInOrder}
+use Rattle.unordered_laws.specs.Order.{named, first_in, relinked, orbs_in, next_of, last_of, IsChain, Reads, CallsKeepOrder, CallsReadInOrder}
 use Rattle.unordered_laws.specs.Stages.{newest_in}
 use Rattle.unordered_laws.specs.Fetches.{rung_since}
 use Rattle.unordered_laws.proofs.Rules.{Sound, refused, calls_sound}

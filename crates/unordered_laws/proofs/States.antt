@@ -4,7 +4,7 @@ use Rattle.orb_layout.specs.declared.ask.Ask.{Ask}
 use Rattle.orb_layout.specs.declared.pointer.OrbPointer.{OrbPointer}
 use Rattle.orb_layout.specs.declared.pointer.OrbPointer.TheVariants.{Null, At}
 use Rattle.command_agent.specs.declared.step.AgentState.{AgentState}
-use Rattle.command_agent.specs.Machine.{Machine, aligned, named}
+use Rattle.command_agent.specs.Machine.{Machine, aligned}
 use Rattle.unordered_agent.specs.declared.fetcher.FetchPhase.{FetchPhase}
 use Rattle.unordered_agent.specs.declared.fetcher.FetchPhase.TheVariants as phases
 use Rattle.unordered_agent.specs.declared.fetcher.Fetcher.{Fetcher}
@@ -12,7 +12,7 @@ use Rattle.unordered_agent.specs.Machine.{TaskMachine, state_in, is_null, FetchR
 use Rattle.unordered_agent.specs.Steps.{takes_pointer, pointed, point_step}
 use Rattle.unordered_laws.specs.Calls.{Call, after_calls}
 use Rattle.unordered_laws.specs.Notes.{notes, is_open, is_dead}
-use Rattle.unordered_laws.specs.Order.{next_of}
+use Rattle.unordered_laws.specs.Order.{named, next_of}
 use Rattle.unordered_laws.specs.Fetches.{unanswered}
 use Rattle.unordered_laws.specs.States.{state_by, StateLaw, IsOver, PointLaw}
 use Rattle.unordered_laws.proofs.Rules.{refused, calls_sound}

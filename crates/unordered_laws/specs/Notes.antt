@@ -1,5 +1,5 @@
 -- What the calls of an agent of the unordered unit tell, the latest first.
-use Rattle.std.specs.Prelude.{ℕ, ◌==◌, is_some, if◌then◌else◌, Bool, true, false, List, [], ◌∷◌, Option, Some, None, Result, Ok, Err}
+use Rattle.std.specs.Prelude.{ℕ, ◌-◌, ◌%◌, ◌==◌, is_some, if◌then◌else◌, Bool, true, false, List, [], ◌∷◌, Option, Some, None, Result, Ok, Err}
 use Rattle.orb_layout.specs.declared.ask.Ask.{Ask}
 use Rattle.orb_layout.specs.declared.ask.Ask.TheVariants.{Read}
 use Rattle.orb_layout.specs.declared.ask.FailCause.{FailCause}
@@ -11,7 +11,6 @@ use Rattle.orb_layout.specs.Pointers.{pointer_at}
 use Rattle.orb_layout.specs.Replies.{Answer, payload_of}
 use Rattle.rbc_disk.specs.declared.command.Outcome.{Outcome}
 use Rattle.command_agent.specs.declared.step.PointRefusal.{PointRefusal}
-use Rattle.command_agent.specs.Machine.{aligned}
 use Rattle.command_agent.specs.Tasks.{writes_status}
 use Rattle.unordered_agent.specs.declared.fetcher.FetchPhase.{FetchPhase}
 use Rattle.unordered_agent.specs.declared.fetcher.FetchPhase.TheVariants as phases
@@ -19,6 +18,10 @@ use Rattle.unordered_agent.specs.declared.step.TaskStep.{TaskStep}
 use Rattle.unordered_agent.specs.Machine.{TaskMachine, task_at, is_busy}
 use Rattle.unordered_agent.specs.Steps.{asked, point_step, doorbell_step, place_of}
 use Rattle.unordered_laws.specs.Calls.{Call, Point, Doorbell, Reset, Reply, after_calls, replied}
+
+-- the address of an ORB: the two low bits of a pointer count as zero
+abbrev pub aligned : ℕ → ℕ
+aligned offset = offset - offset % 4
 
 -- From the initiator: a pointer was taken; a doorbell; the list was cut; the transaction of a place, 8 that of the fetcher, was answered or failed. The ORB that the fetcher read, or whose read failed, took a task place, with its address and its next pointer; the next pointer of the last ORB was read again. Of the ORB in a task place: its command ran; it ended, and these bytes are its status block; its status write was answered or failed. What a call asks for, with the places, in the order of sending. The agent became dead, so that no other task goes on.
 pub data Note : Type 0 where

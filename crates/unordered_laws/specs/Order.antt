@@ -1,9 +1,14 @@
 -- In which order the ORBs of a list are read (NCITS 325-1998, command block agents), read off what calls tell.
 use Rattle.std.specs.Prelude.{◌≡◌, ℕ, List, [], ◌∷◌, ◌⊎◌, Option, Some, None}
 use Rattle.orb_layout.specs.declared.pointer.OrbPointer.{OrbPointer}
-use Rattle.command_agent.specs.Machine.{named}
+use Rattle.orb_layout.specs.declared.pointer.OrbPointer.TheVariants.{Null, At}
 use Rattle.unordered_laws.specs.Calls.{Call}
-use Rattle.unordered_laws.specs.Notes.{Note, Pointed, Got, Reread, notes, reading_in}
+use Rattle.unordered_laws.specs.Notes.{Note, Pointed, Got, Reread, aligned, notes, reading_in}
+
+-- the ORB that a pointer names
+abbrev pub named : OrbPointer → Option ℕ
+named Null = None
+named (At offset) = Some (aligned offset)
 
 -- the ORB that the pointer taken last names
 abbrev pub first_in : List Note → Option ℕ

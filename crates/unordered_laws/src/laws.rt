@@ -36,9 +36,9 @@ pub fn tasks_are_apart()
 {}
 
 /// Over every list of calls of an agent: an ORB that was read takes the lowest task place of which no
-/// transaction is under way; it runs at most once, and then ends, once, by the status block that names it and the next pointer last read of it; one
-/// transaction of each place is under way at a time; and for a task that was dropped, or whose list was cut,
-/// nothing more is sent, runs or ends.
+/// transaction is under way; it runs at most once, and then ends, once, by the status block that names it
+/// and the next pointer last read of it; one transaction of each place is under way at a time; and for a
+/// task that was dropped, or whose list was cut, nothing more is sent, runs or ends.
 pub fn orbs_run_and_end_once()
     ensures { CallsAreLawful }
 {}
