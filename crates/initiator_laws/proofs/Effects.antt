@@ -38,7 +38,7 @@ use Rattle.sbp_initiator.specs.Quads.{with_quad, without}
 use Rattle.sbp_initiator.specs.States.{counts_for, is_list, is_stuck_seat, is_unwritten, management_at}
 use Rattle.sbp_initiator.specs.Effects.{Turn, told, stick_step, dropped_as, drop_list_step, end_step, end_own_for, end_own_step, then_step, with_answered, pointed_step, pointer_ended, doorbell_ended, fail_step, reset_ended, enable_ended, moves_session, moved, conflict_for, conflict_step, is_conflict, management_ended, response_of, good_event, good_word, drop_where, good_end, managed_step, fault_number, with_unit, with_rom, finish_rom, next_quad, asked_quad, ask_quad, quad_got, is_address, rom_ended, with_dead, known_step, known_where, state_told, state_ended, ended_step, ended_for}
 use Rattle.sbp_initiator.proofs.Asked.{none_asked}
-use Rattle.initiator_laws.specs.Drops.{present_list, drop_if, state_drops, ends_the_list}
+use Rattle.initiator_laws.specs.Drops.{IfGone, present_list, drop_if, state_drops, ends_the_list}
 use Rattle.initiator_laws.specs.Numbers.{is_numbered}
 use Rattle.initiator_laws.specs.Ends.{own, OpEnd, drops, ops, state_ops, sticks, notes_of, is_rom, is_query, is_managed, is_word_of, is_state_word, IsStateWord, IsEnd, OpMove}
 
@@ -109,6 +109,7 @@ pub record Does (o : OutboxState) (s : InitiatorState) (drop : Option ℕ) (aski
   pub number : t.1.number ≡ s.number
   pub target : t.1.target ≡ s.target
   pub marks : KeepsMarks s t.1
+  pub gone : IfGone drop t.1.lists.slots.present
 
 -- the operation that an action began, where it is under way, is one of these
 pub record IsOwn (is_kind : Operation → Bool) (act : ℕ) (operation : Option Running) : Type 0 where
@@ -129,6 +130,7 @@ module _ (o : OutboxState) (s : InitiatorState) where
     number = number;
     target = target;
     marks = marks;
+    gone = tt;
   }
 
   pub stays : Does o s None None (o, s)
@@ -148,6 +150,7 @@ module _ (o : OutboxState) (s : InitiatorState) where
     number = refl;
     target = refl;
     marks = λ x h. h;
+    gone = tt;
   }
 
   pub sticks_does : Does o s None None (stick_step o s)
@@ -191,6 +194,7 @@ end_does running word o s t e w layer counts number target marks = record {
   number = number;
   target = target;
   marks = λ x h. relisted t.lists (unpin_lists t.lists) t.marks.pointing (unpin_present t.lists) (unpin_orbs t.lists) (unpin_places t.lists) x (marks x h);
+  gone = tt;
 }
 
 own_as : (c : Bool) (running : Running) (word : OpWord) (o : OutboxState) (s t : InitiatorState) → t.operation ≡ s.operation → s.operation ≡ Some running → (c ≡ true → is_word_of running.operation word ≡ true) → t.layer ≡ s.layer → t.counts ≡ s.counts → t.number ≡ s.number → t.target ≡ s.target → KeepsMarks s t → Does o s None None (cond c (end_step running.operation word o t) (o, t))
@@ -223,20 +227,25 @@ pub record Drops (o : OutboxState) (s : InitiatorState) (drop : Option ℕ) (t :
   pub number : t.1.number ≡ s.number
   pub target : t.1.target ≡ s.target
   pub marks : KeepsMarks s t.1
+  pub gone : IfGone drop t.1.lists.slots.present
 
 none_drops : (o : OutboxState) (s : InitiatorState) → Drops o s None (o, s)
-none_drops o s = record { sides = sym (append-nil o.sides); operation = refl; layer = refl; packets = refl; counts = refl; number = refl; target = refl; marks = λ x h. h }
+none_drops o s = record { sides = sym (append-nil o.sides); operation = refl; layer = refl; packets = refl; counts = refl; number = refl; target = refl; marks = λ x h. h; gone = tt }
 
 drops_as : (present : Option PresentList) (o : OutboxState) (s : InitiatorState) → Drops o s (present_list present) (dropped_as ((drop_for present s.lists.slots).0, record s.lists { slots = (drop_for present s.lists.slots).1 }) o s)
-drops_as None o s = record { sides = sym (append-nil o.sides); operation = refl; layer = refl; packets = refl; counts = refl; number = refl; target = refl; marks = λ x h. h }
-drops_as (Some list) o s = record { sides = refl; operation = refl; layer = refl; packets = refl; counts = refl; number = refl; target = refl; marks = λ x h. record { marks = refl; orbs = h.orbs; places = h.places } }
+drops_as None o s = record { sides = sym (append-nil o.sides); operation = refl; layer = refl; packets = refl; counts = refl; number = refl; target = refl; marks = λ x h. h; gone = tt }
+drops_as (Some list) o s = record { sides = refl; operation = refl; layer = refl; packets = refl; counts = refl; number = refl; target = refl; marks = λ x h. record { marks = refl; orbs = h.orbs; places = h.places }; gone = refl }
 
 pub list_drops : (o : OutboxState) (s : InitiatorState) → Drops o s (present_list s.lists.slots.present) (drop_list_step o s)
 unfolding drop_lists drop_step
 list_drops o s = drops_as s.lists.slots.present o s
 
-pub behind : (o : OutboxState) (s : InitiatorState) (drop : Option ℕ) (t u : Turn) → Drops o s drop t → Does t.0 t.1 None None u → Does o s drop None u
-behind o s drop t u k d = record {
+gone_on : (drop : Option ℕ) (present new : Option PresentList) → new ≡ present → IfGone drop present → IfGone drop new
+gone_on None present new e h = tt
+gone_on (Some list) present new e h = e ∙ h
+
+pub behind : (o : OutboxState) (s : InitiatorState) (drop : Option ℕ) (t u : Turn) → Drops o s drop t → u.1.lists.slots.present ≡ t.1.lists.slots.present → Does t.0 t.1 None None u → Does o s drop None u
+behind o s drop t u k e d = record {
   op = d.op;
   state = d.state;
   stuck = d.stuck;
@@ -249,6 +258,7 @@ behind o s drop t u k d = record {
   number = d.number ∙ k.number;
   target = d.target ∙ k.target;
   marks = λ x h. d.marks x (k.marks x h);
+  gone = gone_on drop t.1.lists.slots.present u.1.lists.slots.present e k.gone;
 }
 
 -- ---- an operation ends, and the session becomes Stuck
@@ -266,6 +276,7 @@ stuck_end true running o s lists e marks = record {
   number = refl;
   target = refl;
   marks = marks;
+  gone = tt;
 }
 stuck_end false running o s lists e marks = record {
   op = Some (record { operation = running.operation; word = words.Error });
@@ -279,6 +290,7 @@ stuck_end false running o s lists e marks = record {
   number = refl;
   target = refl;
   marks = marks;
+  gone = tt;
 }
 
 fail_as : (c : Bool) (running : Running) (o : OutboxState) (s : InitiatorState) → s.operation ≡ Some running → Does o s None None (then_step stick_step (cond c (end_step running.operation words.Error o s) (o, s)))
@@ -293,6 +305,19 @@ fail_for (Some running) act o s e = fail_as (nat_eq running.act act) running o s
 
 fail_does : (act : ℕ) (o : OutboxState) (s : InitiatorState) → Does o s None None (fail_step act o s)
 fail_does act o s = fail_for s.operation act o s refl
+
+-- an operation that ends leaves the list
+own_present_as : (c : Bool) (operation : Operation) (word : OpWord) (o : OutboxState) (t : InitiatorState) → (cond c (end_step operation word o t) (o, t)).1.lists.slots.present ≡ t.lists.slots.present
+own_present_as true operation word o t = unpin_present t.lists
+own_present_as false operation word o t = refl
+
+own_present : (r : Option Running) (act : ℕ) (word : OpWord) (o : OutboxState) (t : InitiatorState) → (end_own_for r act word o t).1.lists.slots.present ≡ t.lists.slots.present
+own_present None act word o t = refl
+own_present (Some running) act word o t = own_present_as (nat_eq running.act act) running.operation word o t
+
+good_present : (c : Bool) (event : Event) (operation : Operation) (word : OpWord) (o : OutboxState) (t : InitiatorState) → (end_step operation word o (cond c (record t { seat = goes event t.seat }) t)).1.lists.slots.present ≡ t.lists.slots.present
+good_present true event operation word o t = unpin_present t.lists
+good_present false event operation word o t = unpin_present t.lists
 
 -- ---- what a transaction was for, and the operation under way
 
@@ -346,7 +371,7 @@ reset_does : (act value : ℕ) (o : OutboxState) (s : InitiatorState) → IsFor 
 reset_does act value o s f =
     let k = list_drops o s in
     let t = drop_list_step o s in
-    behind o s (present_list s.lists.slots.present) t (end_own_step act words.Done t.0 t.1) k
+    behind o s (present_list s.lists.slots.present) t (end_own_step act words.Done t.0 t.1) k (own_present t.1.operation act words.Done t.0 t.1)
     (own_does act words.Done t.0 t.1 t.1 refl (subst (λ (r : Option Running). IsOwn (λ (op : Operation). is_word_of op words.Done) act r) (sym k.operation) (own_word operations.AgentReset act words.Done s.operation refl f)) refl refl refl refl (λ x h. h))
 
 enable_does : (act : ℕ) (ending : Ending) (o : OutboxState) (s : InitiatorState) → IsFor operations.Enable act s.operation → Does o s None None (enable_ended act ending o s)
@@ -402,7 +427,7 @@ good_does running o s e =
     let c = ends_list (Some running.operation) in
     let t = drop_where c o s in
     let k = where_drops c o s in
-    behind o s (drop_if c s.lists.slots.present) t (good_end running t.0 t.1) k
+    behind o s (drop_if c s.lists.slots.present) t (good_end running t.0 t.1) k (good_present (moves_session running.operation) (good_event running.operation (response_of running t.1)) running.operation (good_word running.operation (response_of running t.1)) t.0 t.1)
     (moved_does (moves_session running.operation) (good_event running.operation (response_of running t.1)) running (good_word running.operation (response_of running t.1)) t.0 t.1 (k.operation ∙ e) (good_is_word running.operation (response_of running t.1)))
 
 refused_word : (managed is_zero : Bool) → managed ≡ true → is_zero ≡ false → (managed && not is_zero) ≡ true
@@ -472,6 +497,7 @@ asked_does (Some asked, layer) act o s t e f op same_layer counts number target 
         number = number;
         target = target;
         marks = marks;
+        gone = tt;
       };
     }
 
@@ -513,10 +539,11 @@ state_told_does act word o s w = record {
   number = refl;
   target = refl;
   marks = λ x h. h;
+  gone = tt;
 }
 
 marked_drops : (c : Bool) (o : OutboxState) (s : InitiatorState) → Drops o s None (o, cond c (with_dead s) s)
-marked_drops true o s = record { sides = sym (append-nil o.sides); operation = refl; layer = refl; packets = refl; counts = refl; number = refl; target = refl; marks = λ x h. h }
+marked_drops true o s = record { sides = sym (append-nil o.sides); operation = refl; layer = refl; packets = refl; counts = refl; number = refl; target = refl; marks = λ x h. h; gone = tt }
 marked_drops false o s = none_drops o s
 
 known_drops : (is_zero : Bool) (value : ℕ) (o : OutboxState) (s : InitiatorState) → Drops o s (drop_if is_zero s.lists.slots.present) (cond is_zero (drop_list_step o s) (o, cond (nat_eq value 3) (with_dead s) s))
@@ -531,7 +558,7 @@ state_does : (act : ℕ) (list : Option ℕ) (ending : Ending) (o : OutboxState)
 state_does act list (endings.Complete value) o s =
     let c = counts_for s.lists.slots.present list in
     let t = known_where c value o s in
-    behind o s (drop_if (c && nat_eq value 0) s.lists.slots.present) t (state_told act (words.State value) t.0 t.1) (counted_drops c value o s) (state_told_does act (words.State value) t.0 t.1 refl)
+    behind o s (drop_if (c && nat_eq value 0) s.lists.slots.present) t (state_told act (words.State value) t.0 t.1) (counted_drops c value o s) refl (state_told_does act (words.State value) t.0 t.1 refl)
 state_does act list (endings.Refused rcode) o s = state_told_does act words.Error o s refl
 state_does act list endings.Expired o s = state_told_does act words.Error o s refl
 

@@ -44,7 +44,7 @@ use Rattle.sbp_initiator.specs.Moves.{response}
 use Rattle.sbp_initiator.specs.States.{is_orb_of, is_present_orb, status_in}
 use Rattle.sbp_initiator.specs.Effects.{Turn, managed_step, told, with_dead}
 use Rattle.sbp_initiator.specs.Receiving.{address_error, addressed, answer_of, block_at, block_by, block_step, called, fifo_of, got_step, ignored_step, is_dead_kind, is_foreign, managed_for, present_for, quadlet_at, read_as as served_as, request_step, respond_step, serve_step, taken_as, taken_by as takes_by, type_error, written_as}
-use Rattle.initiator_laws.specs.Drops.{drop_if}
+use Rattle.initiator_laws.specs.Drops.{IfGone, drop_if}
 use Rattle.initiator_laws.specs.Ends.{own, OpEnd, notes_of, is_managed, IsStateWord, OpMove}
 use Rattle.initiator_laws.specs.Judging.{facts_at, fifo_for}
 use Rattle.initiator_laws.specs.Taking.{Brought, nothing, unsolicited, status, read_as, brought, waiting_at, taken_of, taken_by, block_note, good_drops, kind_drops, block_drops, block_notes}
@@ -191,6 +191,7 @@ pub record Handles (o : OutboxState) (s : InitiatorState) (first : Option Note) 
   pub acts : t.1.counts.acts ≡ s.counts.acts
   pub number : t.1.number ≡ s.number
   pub marks : KeepsMarks s t.1
+  pub gone : IfGone drop t.1.lists.slots.present
 
 -- And with its answer.
 pub record Answers (p : Packet) (bytes : List ℕ) (o : OutboxState) (s : InitiatorState) (first : Option Note) (drop : Option ℕ) (t : Turn) : Type 0 where
@@ -208,6 +209,7 @@ pub record Answers (p : Packet) (bytes : List ℕ) (o : OutboxState) (s : Initia
   pub acts : t.1.counts.acts ≡ s.counts.acts
   pub number : t.1.number ≡ s.number
   pub marks : KeepsMarks s t.1
+  pub gone : IfGone drop t.1.lists.slots.present
 
 module _ (p : Packet) (bytes : List ℕ) (o : OutboxState) (s : InitiatorState) where
   answered : (rcode : ℕ) (given : List ℕ) (first : Option Note) (drop : Option ℕ) (t : Turn) → Handles o s first drop t → Answers p bytes o s first drop (respond_step p bytes rcode given t)
@@ -227,6 +229,7 @@ module _ (p : Packet) (bytes : List ℕ) (o : OutboxState) (s : InitiatorState) 
     acts = h.acts;
     number = h.number;
     marks = h.marks;
+    gone = h.gone;
   }
 
 module _ (o : OutboxState) (s : InitiatorState) where
@@ -245,6 +248,7 @@ module _ (o : OutboxState) (s : InitiatorState) where
     acts = acts;
     number = number;
     marks = marks;
+    gone = tt;
   }
 
   -- a block alone is told
@@ -262,6 +266,7 @@ module _ (o : OutboxState) (s : InitiatorState) where
     acts = acts;
     number = number;
     marks = marks;
+    gone = tt;
   }
 
 pub ignored_again : (p : Packet) (bytes : List ℕ) (o : OutboxState) (s : InitiatorState) (rcode : ℕ) → Answers p bytes o s None None (respond_step p bytes rcode [] (o, s))
@@ -291,6 +296,7 @@ module _ (p : Packet) (bytes : List ℕ) (o : OutboxState) (s : InitiatorState) 
         acts = ap (λ (c : Counts). c.acts) d.counts;
         number = d.number;
         marks = d.marks;
+        gone = d.gone;
       })
 
   present_answers : (c : Bool) (running : Running) (code : ℕ) → s.operation ≡ Some running → (c ≡ true → is_managed running.operation ≡ true) → Answers p bytes o s None (drop_if (good_drops (cond c (Some running) None) code) s.lists.slots.present) (managed_for (cond c (Some running) None) code p bytes o s).1

@@ -36,7 +36,7 @@ use Rattle.sbp_initiator.specs.Moves.{outgoing, response}
 use Rattle.sbp_initiator.specs.Receiving.{called, expire_step, expired_as, receive_step, received, request_step, respond_step}
 use Rattle.sbp_initiator.specs.Judged.{IsSame}
 use Rattle.sbp_initiator.proofs.Layers.{judged_same}
-use Rattle.initiator_laws.specs.Drops.{drop_if, ends_the_list, present_list}
+use Rattle.initiator_laws.specs.Drops.{IfGone, drop_if, ends_the_list, present_list}
 use Rattle.initiator_laws.specs.Ends.{own, OpEnd, drops, notes_of, is_managed, IsStateWord, IsEnd, OpMove}
 use Rattle.initiator_laws.specs.Numbers.{is_numbered, carried, RisesTo}
 use Rattle.initiator_laws.specs.Taking.{block_notes, brought, call_drops, call_note, finding_drops, finding_note, purpose_drops}
@@ -154,6 +154,7 @@ pub record Heard (node : ℕ) (held : ℕ → List ℕ) (first : Option Note) (d
   pub sides : new.0.sides ≡ old.0.sides ++ own (block_notes first ++ notes_of old.1.number drop op state stuck)
   pub move : OpMove old.1.operation op new.1.operation
   pub word : IsStateWord state
+  pub gone : IfGone drop new.1.lists.slots.present
   pub sound : Sound node held new
 
 wired_on : (node : ℕ) (P : Purpose → Type 0) (purpose : Purpose) (o : OutboxState) (s : InitiatorState) (t : Turn) (asking : Option Asking) → Wired asking s.layer o.packets s.target t.1.layer t.0.packets → ((a : Asking) → asking ≡ Some a → a.purpose ≡ purpose) → ((a : Asking) → asking ≡ Some a → is_numbered a.purpose ≡ false) → P purpose → Wire P node s.counts.running s.layer o.packets → Wire P node s.counts.running t.1.layer t.0.packets
@@ -177,6 +178,7 @@ ended_heard node held old u None ending k op number acts running marks w f = rec
   sides = sym (append-nil old.0.sides);
   move = op;
   word = tt;
+  gone = tt;
   sound = kept_sound node held u None (old.0, u) old k (sym op) (sym acts) refl refl refl marks w;
 }
 ended_heard node held old u (Some purpose) ending k op number acts running marks w f =
@@ -189,6 +191,7 @@ ended_heard node held old u (Some purpose) ending k op number acts running marks
       sides = subst (λ (n : ℕ). t.0.sides ≡ old.0.sides ++ own (notes_of n (drop_if (ends_the_list purpose ending u.lists.slots.present) u.lists.slots.present) d.does.op d.does.state d.does.stuck)) number d.does.sides;
       move = subst (λ (r : Option Running). OpMove r d.does.op t.1.operation) op d.does.move;
       word = d.does.word;
+      gone = d.does.gone;
       sound = kept_sound node held u d.does.op t old k (sym op) (sym acts) d.does.move (ap (λ (c : Counts). c.acts) d.does.counts) (ap (λ (c : Counts). c.running) d.does.counts) (d.does.marks held marks)
           (wired_on node (FitsNow u.operation u.counts.acts) purpose old.0 u t d.asking d.does.wire d.same d.plain f w);
     }
@@ -212,6 +215,7 @@ request_heard node held p bytes old u first drop t k op number counts marks w a 
   sides = subst (λ (n : ℕ). t.0.sides ≡ old.0.sides ++ own (block_notes first ++ notes_of n drop a.op a.state a.stuck)) number a.sides;
   move = subst (λ (r : Option Running). OpMove r a.op t.1.operation) op a.move;
   word = a.word;
+  gone = a.gone;
   sound = kept_sound node held u a.op t old k (sym op) (ap (λ (c : Counts). c.acts) (sym counts)) a.move a.acts a.running (a.marks held marks)
       (subst (λ (ps : List Outgoing). Wire (FitsNow u.operation u.counts.acts) node u.counts.running t.1.layer ps) (sym a.packets)
       (subst (λ (l : Layer Purpose). Wire (FitsNow u.operation u.counts.acts) node u.counts.running l (old.0.packets ++ response p (answering_step u.layer p bytes a.rcode a.given).0 ∷ [])) (sym a.layer)
@@ -228,6 +232,7 @@ module _ (node : ℕ) (held : ℕ → List ℕ) (o : OutboxState) (s : Initiator
     sides = sym (append-nil o.sides);
     move = op;
     word = tt;
+    gone = tt;
     sound = kept_sound node held s None (o, u) (o, s) k refl refl op acts running marks w;
   }
 
@@ -269,7 +274,7 @@ module _ (node : ℕ) (held : ℕ → List ℕ) (o : OutboxState) (s : Initiator
 
 -- what is told, as the law says it
 heard_tells : (node : ℕ) (held : ℕ → List ℕ) (call : Call) (old new : Turn) → Heard node held (call_note call old.1) (drop_if (call_drops call old.1) old.1.lists.slots.present) old new → Tells call old new
-heard_tells node held call old new h = record { op = h.op; state = h.state; stuck = h.stuck; sides = h.sides; move = h.move; word = h.word }
+heard_tells node held call old new h = record { op = h.op; state = h.state; stuck = h.stuck; sides = h.sides; move = h.move; word = h.word; gone = h.gone }
 
 pub call_tells : (node : ℕ) (held : ℕ → List ℕ) (call : Call) (old : Turn) → Sound node held old → is_heard call ≡ true → Tells call old (done call old)
 call_tells node held (receives generation bytes) old k e = heard_tells node held (receives generation bytes) old _ (receive_heard node held old.0 old.1 k generation bytes)

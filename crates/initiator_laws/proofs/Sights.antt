@@ -65,6 +65,10 @@ free_marks : (lists : ListState) → HasMarks (free_lists lists).slots.present p
 unfolding free_lists free_all_step
 free_marks lists = refl
 
+free_present : (lists : ListState) → (free_lists lists).slots.present ≡ None
+unfolding free_lists free_all_step
+free_present lists = refl
+
 free_memory : (lists : ListState) → (free_lists lists).memory.places ≡ lists.memory.places
 unfolding free_lists free_all_step closed
 free_memory lists = refl
@@ -95,7 +99,7 @@ saw_as true node held generation id target o s k w =
     let d = list_drops x v in
     let t = drop_list_step x v in
     record {
-      tells = (told_twice o.sides x.sides t.0.sides (resets s.number s.operation s.states) (drops s.number (present_list s.lists.slots.present)) m.sides d.sides, d.operation);
+      tells = (told_twice o.sides x.sides t.0.sides (resets s.number s.operation s.states) (drops s.number (present_list s.lists.slots.present)) m.sides d.sides, d.operation, free_present t.1.lists);
       sound = record {
         wires = record {
           calls = w.calls;

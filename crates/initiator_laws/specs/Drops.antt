@@ -16,9 +16,15 @@ abbrev pub present_list : Option PresentList → Option ℕ
 present_list None = None
 present_list (Some list) = Some list.tail.list
 
+-- the list that is dropped, where one is
 abbrev pub drop_if : Bool → Option PresentList → Option ℕ
 drop_if true present = present_list present
 drop_if false present = None
+
+-- a list that is dropped is no longer the present one, and none is
+abbrev pub IfGone : Option ℕ → Option PresentList → Type 0
+IfGone None present = Unit {0}
+IfGone (Some list) present = present ≡ None
 
 -- a read of AGENT_STATE gives 0 and counts for the present list
 abbrev pub state_drops : Option ℕ → Ending → Option PresentList → Bool

@@ -1,7 +1,7 @@
 -- What the calls of an initiator tell (NCITS 325-1998, tasks, task management and status blocks). Over every list of calls: an action
 -- that is done tells of the steps of its list, and begins an operation only while none is under way. A delivery and a time-out tell at
 -- most one block, then `drop`, `op` and `stuck`, at most once each and in this order: the block and the drop are where the rules of
--- statuses and of lists say so, and with the `op` of an operation this operation ends. A generation that is seen ends the operation and
+-- statuses and of lists say so, no list is present after a drop, and with the `op` of an operation this operation ends. A generation that is seen ends the operation and
 -- the reads of AGENT_STATE, in the order of the actions that began them, and then drops the list.
 use Rattle.std.specs.Prelude.{◌≡◌, ◌↔◌, ℕ, nat_lt, Bool, true, false, if◌then◌else◌, List, [], ◌∷◌, ◌++◌, Option, Some, None}
 use Rattle.bus_memory.specs.declared.window.Window.TheVariants as windows
@@ -22,7 +22,7 @@ use Rattle.sbp_initiator.specs.Acting.{act_step}
 use Rattle.sbp_initiator.specs.Initiators.{own_rom}
 use Rattle.sbp_initiator.specs.Laws.{Call, acts, receives, lets_expire, sees, AreCalls, IsCall, IsSlotRun, after, done}
 use Rattle.initiator_laws.specs.Begins.{Begins}
-use Rattle.initiator_laws.specs.Drops.{drop_if, present_list}
+use Rattle.initiator_laws.specs.Drops.{IfGone, drop_if, present_list}
 use Rattle.initiator_laws.specs.Ends.{own, OpEnd, OpMove, IsStateWord, drops, notes_of}
 use Rattle.initiator_laws.specs.Taking.{block_notes, call_drops, call_note, waiting_at}
 
@@ -40,6 +40,7 @@ pub record Tells (call : Call) (old new : Turn) : Type 0 where
   pub sides : new.0.sides ≡ old.0.sides ++ own (block_notes (call_note call old.1) ++ notes_of old.1.number (drop_if (call_drops call old.1) old.1.lists.slots.present) op state stuck)
   pub move : OpMove old.1.operation op new.1.operation
   pub word : IsStateWord state
+  pub gone : IfGone (drop_if (call_drops call old.1) old.1.lists.slots.present) new.1.lists.slots.present
 
 -- ---- a generation is seen
 
@@ -64,6 +65,7 @@ abbrev pub Sees : Bool → Turn → Turn → Type 0
 Sees false old new = (new.0.sides ≡ old.0.sides) × (new.1.operation ≡ old.1.operation)
 Sees true old new =
     (new.0.sides ≡ old.0.sides ++ own (resets old.1.number old.1.operation old.1.states ++ drops old.1.number (present_list old.1.lists.slots.present))) × (new.1.operation ≡ None)
+    × (new.1.lists.slots.present ≡ None)
 
 -- ---- the law
 
