@@ -7,3 +7,15 @@ pub mod Labelled
 pub mod Quiet
 pub mod Framed
 pub mod Told
+pub mod Stepped
+pub mod Seats
+pub mod Primitives
+pub mod Following
+pub mod Calling
+pub mod Rested
+pub mod Answering
+pub mod Managing
+pub mod Effecting
+pub mod Managed
+pub mod Settled
+pub mod Under

@@ -3,3 +3,4 @@ pub mod Layers
 pub mod Answers
 pub mod Labels
 pub mod Sides
+pub mod Transactions

@@ -2,6 +2,7 @@ ghost use Rattle.target_laws.specs.Answers.{AnswerLaw};
 ghost use Rattle.target_laws.specs.Labels.{LabelLaw};
 ghost use Rattle.target_laws.specs.Layers.{LayerLaw};
 ghost use Rattle.target_laws.specs.Sides.{SideLaw};
+ghost use Rattle.target_laws.specs.Transactions.{UnderWayLaw};
 
 /// Each call of a target changes its transaction layer by a list of the layer's own steps: one judging,
 /// expiry or sight of a generation first, then at most one answer, then requests; and the packets that it
@@ -31,4 +32,13 @@ pub fn labels_are_the_lowest()
 #[tactic(auto, using(crate::proofs::Told::side_law))]
 pub fn changes_are_told_in_order()
     ensures { SideLaw }
+{}
+
+/// After every list of calls of a target an agent that is ACTIVE has one main transaction under way, to its
+/// login's node, and one read ahead at most; an agent in another state has none, but for the status write of
+/// the ORB that made it dead; a management operation has one; and each label under way is for one of these,
+/// an unsolicited status, or nobody.
+#[tactic(auto, using(crate::proofs::Under::under_way_law))]
+pub fn transactions_are_waited_for()
+    ensures { UnderWayLaw }
 {}
