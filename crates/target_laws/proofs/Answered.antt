@@ -1,13 +1,11 @@
 -- What leaves in each call.
-use Rattle.std.proofs.Common.{◌≡◌, refl, sym, ap, ◌∙◌, subst, ℕ, is_some, Bool, true, false, cond, List, [], ◌∷◌, ◌++◌, length, Option, Some, None, Result, Ok, Err}
+use Rattle.std.proofs.Common.{◌≡◌, refl, sym, ap, ◌∙◌, subst, ℕ, is_some, Bool, true, false, cond, List, [], ◌∷◌, ◌++◌, Option, Some, None, Ok}
 use Rattle.std.specs.Option.{IsSome}
 use Rattle.async_packet.specs.Labels.{LabelParts}
 use Rattle.async_packet.specs.Packet.{Packet, header_in}
-use Rattle.async_packet.specs.Canon.{canon}
 use Rattle.async_packet.specs.Reading.{reading}
 use Rattle.label_table.specs.declared.reply.ReplyKind.{ReplyKind}
 use Rattle.label_table.specs.declared.judgement.Asked.{Asked}
-use Rattle.label_table.specs.Bodies.{Body, response_to}
 use Rattle.label_table.specs.Requests.{reply_kind}
 use Rattle.label_table.specs.Filter.{remember_step}
 use Rattle.label_table.specs.Layer.{Layer, Finding, of_generation, of_grammar, of_label, of_response, of_again, of_request, answering_step, asking_step, disowning_in, disowning_step, peer_place, judging_step, expiring_step, seeing_step}
@@ -22,13 +20,13 @@ use Rattle.sbp_journal.specs.Outgoings.{empty_outbox}
 use Rattle.sbp_target.specs.declared.purpose.Purpose.{Purpose}
 use Rattle.sbp_target.specs.Addresses.{address_error}
 use Rattle.sbp_target.specs.Nodes.{NodeState, Scene, scene}
-use Rattle.sbp_target.specs.Replies.{Whole, whole, scene_of}
+use Rattle.sbp_target.specs.Replies.{whole}
 use Rattle.sbp_target.specs.Sending.{answer_step}
 use Rattle.sbp_target.specs.Serving.{answered, serve, is_barred, request_step}
 use Rattle.sbp_target.specs.Receiving.{answer_in, with_layer, judged_scene, received_as, received, expired, seen, ticked}
 use Rattle.target_laws.specs.Calls.{Call, receives, lets_expire, sees, ticks, sets_key, alone}
 use Rattle.target_laws.specs.Layers.{with_asked, request, response}
-use Rattle.target_laws.specs.Answers.{AreRequests, response_of, IsAnswered, IsGotAs, IsGot, IsSameBut, IsAnsweredAlone, IsJudged, IsDelivery, AnswerLaw}
+use Rattle.target_laws.specs.Answers.{AreRequests, response_of, IsAnswered, IsGotAs, IsGot, IsAnsweredAlone, IsJudged, IsDelivery, AnswerLaw}
 use Rattle.target_laws.proofs.Pass.{Said, Leaves, Keeps, concludes, sees_by, expires_in, ticks_by}
 use Rattle.target_laws.proofs.Served.{Answers, serves}
 use Rattle.target_laws.proofs.Found.{IsRead, IsRemembered, IsFound, found}

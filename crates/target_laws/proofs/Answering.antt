@@ -1,11 +1,9 @@
 -- A time-out of an agent's transaction, and what is asked of its registers, leave all agents at rest.
-use Rattle.std.proofs.Common.{arith, ◌≡◌, ◌≢◌, refl, sym, ap, ◌∙◌, subst, ℕ, zero, suc, ◌+◌, ◌-◌, ◌*◌, ◌/◌, ◌%◌, ◌==◌, ◌<◌, ◌≤◌, ◌&&◌, ◌||◌, not, nat_eq, nat_lt, nat_le, is_some, is_none, Bool, true, false, cond, List, [], ◌∷◌, length, Option, Some, None, Result, Ok, Err}
-use Rattle.std.proofs.lemmas.Bool.Decides.{nat_tests}
-use Rattle.async_packet.specs.Labels.{LabelParts}
-use Rattle.async_packet.specs.Packet.{Packet, header_in}
+use Rattle.std.proofs.Common.{◌≡◌, refl, sym, ap, ◌∙◌, subst, ℕ, ◌<◌, ◌≤◌, is_some, Bool, true, false, List, [], Option, Some, None, Ok}
+use Rattle.async_packet.specs.Packet.{Packet}
 use Rattle.label_table.specs.Layer.{Layer, answering_step}
 use Rattle.login_table.specs.declared.login.Login.{Login}
-use Rattle.login_table.specs.Table.{Table, is_live, place_at, by_agent}
+use Rattle.login_table.specs.Table.{Table, place_at}
 use Rattle.orb_layout.specs.declared.ask.Ask.{Ask}
 use Rattle.orb_layout.specs.declared.ask.Ask.TheVariants.{Nothing}
 use Rattle.orb_layout.specs.declared.ask.FailCause.TheVariants as causes
@@ -17,12 +15,10 @@ use Rattle.command_agent.specs.declared.phase.Phase.TheVariants as phases
 use Rattle.command_agent.specs.declared.phase.ReadAhead.{ReadAhead}
 use Rattle.command_agent.specs.declared.step.AgentState.{AgentState}
 use Rattle.command_agent.specs.declared.step.AgentState.TheVariants as states
-use Rattle.command_agent.specs.declared.step.AgentStep.{AgentStep}
-use Rattle.command_agent.specs.declared.step.PointRefusal.{PointRefusal}
 use Rattle.command_agent.specs.declared.step.Which.{Which}
 use Rattle.command_agent.specs.declared.step.Which.TheVariants.{Main, Ahead}
 use Rattle.command_agent.specs.Machine.{Machine, present_of, state_in, is_sent, is_ahead}
-use Rattle.command_agent.specs.Steps.{quiet, asks, is_reset, fetch_step, reread_step, point_in, point_step, doorbell_in, doorbell_step, lost_step}
+use Rattle.command_agent.specs.Steps.{asks, fetch_step, reread_step, point_in, point_step, doorbell_in, doorbell_step, lost_step}
 use Rattle.sbp_journal.specs.declared.side.Side.TheVariants as sides
 use Rattle.sbp_journal.specs.Outgoings.{OutboxState}
 use Rattle.sbp_target.specs.declared.desk.Desk.{Desk}
@@ -30,18 +26,18 @@ use Rattle.sbp_target.specs.declared.purpose.Purpose.{Purpose}
 use Rattle.sbp_target.specs.declared.purpose.Purpose.TheVariants as purposes
 use Rattle.sbp_target.specs.declared.purpose.Sent.{Sent}
 use Rattle.sbp_target.specs.Addresses.{complete, conflict_error, data_error}
-use Rattle.sbp_target.specs.Desks.{taken, which_in, expired_desk, pointed_desk, point_desk}
+use Rattle.sbp_target.specs.Desks.{taken, which_in, expired_desk, pointed_desk}
 use Rattle.sbp_target.specs.Sending.{answer_step, with_side}
 use Rattle.sbp_target.specs.Telling.{orb_of}
 use Rattle.sbp_target.specs.Nodes.{NodeState, Scene, scene, desk_at, login_at, with_desk, with_agent}
 use Rattle.sbp_target.specs.Agents.{follow}
-use Rattle.sbp_target.specs.Serving.{answered, asked_in, asked_at, rcode_of, pointed_by, point, rung_by, ring}
+use Rattle.sbp_target.specs.Serving.{answered, asked_in, asked_at, pointed_by, point, rung_by, ring}
 use Rattle.sbp_target.specs.Receiving.{expired_with, expired_by, expire_agent}
-use Rattle.target_laws.proofs.Stepped.{is_bare, is_next, moves_data, Fit, Behind, Over, behind_fetch, behind_reread, main_loses, ahead_loses}
+use Rattle.target_laws.proofs.Stepped.{is_bare, is_next, moves_data, Fit, Behind, behind_fetch, behind_reread, main_loses, ahead_loses}
 use Rattle.target_laws.proofs.Seats.{Lives, IsFor, Seat}
 use Rattle.target_laws.proofs.Primitives.{Known}
-use Rattle.target_laws.proofs.Following.{node_of, IsServed, Fits, Mid, Frame, Place, Rest, Spares, spares_self, mid_step, desk_here, as_flags, follow_rest}
-use Rattle.target_laws.proofs.Calling.{not_eight, Good, Beside, beside, leave_out, take_in, rest_good, with_layer_good, answer_known, answered_good}
+use Rattle.target_laws.proofs.Following.{node_of, IsServed, Fits, Place, spares_self, mid_step, desk_here, as_flags, follow_rest}
+use Rattle.target_laws.proofs.Calling.{not_eight, Good, beside, leave_out, rest_good, answer_known, answered_good}
 use Rattle.target_laws.proofs.Rested.{Ends, Came, for_main, for_ahead, came_for, main_over, ahead_over, over_rest, quiet_follow, enabled_good}
 
 -- ---- a time-out

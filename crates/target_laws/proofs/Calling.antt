@@ -1,36 +1,28 @@
 -- Each call of a target leaves its agents and its management operation with what they wait for.
-use Rattle.std.proofs.Common.{arith, ◌≡◌, ◌≢◌, refl, sym, ap, ◌∙◌, subst, ℕ, zero, suc, ◌+◌, ◌==◌, ◌<◌, ◌≤◌, ◌&&◌, ◌||◌, not, nat_eq, nat_lt, is_some, Bool, true, false, cond, List, [], ◌∷◌, length, slice_set, slice_index_or, Option, Some, None, Result, Ok, Err}
-use Rattle.std.proofs.lemmas.Bool.Decides.{nat_tests}
-use Rattle.std.proofs.Math.ListN.{length-set}
-use Rattle.async_packet.specs.Labels.{LabelParts}
-use Rattle.async_packet.specs.Packet.{Packet, header_in}
+use Rattle.std.proofs.Common.{arith, ◌≡◌, ◌≢◌, refl, sym, ap, ◌∙◌, subst, ℕ, zero, suc, ◌+◌, ◌<◌, ◌≤◌, nat_eq, Bool, true, false, cond, List, ◌∷◌, length, Option, Some, None}
+use Rattle.async_packet.specs.Packet.{Packet}
 use Rattle.label_table.specs.Layer.{Layer, answering_step}
 use Rattle.label_table.specs.History as wire
-use Rattle.login_table.specs.declared.login.Login.{Login}
 use Rattle.login_table.specs.Sound.{IsTable}
 use Rattle.login_table.specs.Laws.{UnitsBelow}
-use Rattle.login_table.specs.Table.{Table, is_live, place_at}
-use Rattle.command_agent.specs.declared.phase.Phase.{Phase}
-use Rattle.command_agent.specs.declared.phase.Phase.TheVariants as phases
+use Rattle.login_table.specs.Table.{Table, place_at}
 use Rattle.command_agent.specs.Machine.{Machine, state_in, is_sent, is_ahead}
 use Rattle.command_agent.specs.Steps.{is_reset, reset_step}
 use Rattle.mgmt_agent.specs.Machine as management
 use Rattle.sbp_journal.specs.declared.cause.CutCause.{CutCause}
-use Rattle.sbp_journal.specs.Outgoings.{OutboxState}
 use Rattle.sbp_target.specs.declared.desk.Desk.{Desk}
 use Rattle.sbp_target.specs.declared.purpose.Purpose.{Purpose}
-use Rattle.sbp_target.specs.declared.purpose.Purpose.TheVariants as purposes
 use Rattle.sbp_target.specs.declared.purpose.Sent.{Sent}
 use Rattle.sbp_target.specs.Desks.{reset_desk}
 use Rattle.sbp_target.specs.Sending.{answer_step}
-use Rattle.sbp_target.specs.Nodes.{NodeState, Scene, scene, desk_at, login_at, with_desk}
+use Rattle.sbp_target.specs.Nodes.{NodeState, Scene, desk_at, login_at}
 use Rattle.sbp_target.specs.Agents.{disowned as given_up, cut_node, cut}
 use Rattle.sbp_target.specs.Serving.{answered}
-use Rattle.sbp_target.specs.Units.{is_cut, cut_at, cut_from, cut_all}
+use Rattle.sbp_target.specs.Units.{is_cut, cut_at, cut_from}
 use Rattle.target_laws.proofs.Stepped.{Fit}
-use Rattle.target_laws.proofs.Seats.{Lives, Seat, Hand, split, seat_moved}
+use Rattle.target_laws.proofs.Seats.{Lives, split}
 use Rattle.target_laws.proofs.Primitives.{Known}
-use Rattle.target_laws.proofs.Following.{node_of, IsServed, Fits, Mid, Frame, Place, Rest, Spares, spares_both, GivesUp, gives_main, gives_ahead, mid_step, desk_here, some_true, same_place, other_place}
+use Rattle.target_laws.proofs.Following.{node_of, IsServed, Fits, Mid, Frame, Rest, spares_both, gives_main, gives_ahead, mid_step, desk_here, same_place, other_place}
 
 abbrev pub peer_of : Option Sent → Option ℕ
 peer_of None = None

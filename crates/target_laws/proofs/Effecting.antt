@@ -1,16 +1,11 @@
 -- A decision and its effects leave all agents at rest: a login that leaves has its list cut, and every other live login stays.
-use Rattle.std.proofs.Common.{arith, ◌≡◌, ◌≢◌, refl, sym, ap, ◌∙◌, subst, ℕ, zero, suc, ◌+◌, ◌*◌, ◌^◌, ◌==◌, ◌<◌, ◌≤◌, ◌&&◌, ◌||◌, not, nat_eq, nat_lt, is_some, is_none, position, Bool, true, false, cond, List, [], ◌∷◌, length, slice_set, slice_index_or, Option, Some, None, Result, Ok, Err}
+use Rattle.std.proofs.Common.{arith, ◌≡◌, ◌≢◌, ◌∙◌, ℕ, ◌+◌, ◌*◌, ◌^◌, ◌==◌, not, nat_eq, Bool, true, false, cond, List, [], ◌∷◌, slice_set, Option, Some, None, Result, Ok, Err}
 use Rattle.std.proofs.lemmas.Bool.Decides.{nat_tests}
 use Rattle.std.proofs.lemmas.Grind.{common_steps}
-use Rattle.std.proofs.Math.ListN.{length-set}
 use Rattle.sbp_base.specs.Quadlets.{quad}
-use Rattle.async_packet.specs.Labels.{LabelParts}
-use Rattle.label_table.specs.Layer.{Layer}
 use Rattle.login_table.specs.declared.login.Login.{Login}
-use Rattle.login_table.specs.declared.login.LoginRefusal.{LoginRefusal}
-use Rattle.login_table.specs.Sound.{IsTable}
-use Rattle.login_table.specs.Laws.{enter, back, leave, UnitsBelow}
-use Rattle.login_table.specs.Table.{Table, place_at, is_live, find, is_live_of, enter_step, back_step, leave_at, leave_step}
+use Rattle.login_table.specs.Laws.{enter, back}
+use Rattle.login_table.specs.Table.{Table, place_at, is_live, find, is_live_of, enter_step, leave_at, leave_step}
 use Rattle.login_table.proofs.Holding.{live_until_it_leaves}
 use Rattle.orb_layout.specs.declared.ask.FailCause.{FailCause}
 use Rattle.orb_layout.specs.declared.management.ManagementOrb.{ManagementOrb}
@@ -28,7 +23,7 @@ use Rattle.mgmt_agent.specs.declared.operation.Phase.{Phase}
 use Rattle.mgmt_agent.specs.declared.operation.Phase.TheVariants as phases
 use Rattle.mgmt_agent.specs.declared.status.Status.TheVariants as statuses
 use Rattle.mgmt_agent.specs.Statuses.{function_of}
-use Rattle.mgmt_agent.specs.Decisions.{decide, decide_function, decide_login, key_at, lacks_key, unit_exists, asked_by, login_decided, left_decided, reads_eui, with_status}
+use Rattle.mgmt_agent.specs.Decisions.{decide, decide_function, key_at, lacks_key, unit_exists, asked_by, login_decided, left_decided, reads_eui, with_status}
 use Rattle.mgmt_agent.specs.Machine.{Machine, high_eui_at, decided_as, decide_step, beside, eui_step, orb_got, high_got, low_got, response_written, status_written, reply_in, reply_to, reply_step}
 
 -- what a step does

@@ -1,5 +1,5 @@
 -- What follows a step of an agent leaves it with the transactions that it waits for, and all other agents as they were.
-use Rattle.std.proofs.Common.{arith, ◌≡◌, ◌≢◌, refl, sym, ap, ◌∙◌, subst, ℕ, ◌<◌, ◌≤◌, ◌&&◌, ◌||◌, not, nat_eq, nat_lt, nat_le, is_some, Bool, true, false, cond, List, [], ◌∷◌, length, slice_set, slice_index_or, Option, Some, None, Result, Ok, Err}
+use Rattle.std.proofs.Common.{arith, ◌≡◌, ◌≢◌, refl, sym, ap, ◌∙◌, subst, ℕ, ◌<◌, ◌≤◌, ◌&&◌, ◌||◌, not, nat_eq, nat_lt, nat_le, is_some, Bool, true, false, cond, List, length, Option, Some, None}
 use Rattle.std.proofs.lemmas.Bool.Decides.{nat_tests}
 use Rattle.std.proofs.Math.ListN.{length-set}
 use Rattle.async_packet.specs.Fields.{largest}
@@ -7,7 +7,7 @@ use Rattle.async_packet.specs.Labels.{LabelParts}
 use Rattle.label_table.specs.declared.judgement.Asked.{Asked}
 use Rattle.label_table.specs.declared.reply.ReplyKind.{ReplyKind}
 use Rattle.label_table.specs.Bodies.{Body, block_read, block_write}
-use Rattle.label_table.specs.Layer.{Layer, asking_step, disowning_step, free_labels}
+use Rattle.label_table.specs.Layer.{Layer, asking_step, free_labels}
 use Rattle.label_table.specs.History.{not_begun, under_way, began, disowned}
 use Rattle.label_table.proofs.Owned.{set_at}
 use Rattle.login_table.specs.declared.login.Login.{Login}
@@ -16,8 +16,6 @@ use Rattle.orb_layout.specs.declared.ask.Ask.{Ask}
 use Rattle.orb_layout.specs.declared.ask.Ask.TheVariants.{Read, Write, Nothing}
 use Rattle.orb_layout.specs.declared.ask.FailCause.{FailCause}
 use Rattle.orb_layout.specs.declared.ask.FailCause.TheVariants as causes
-use Rattle.rbc_disk.specs.Units.{UnitState}
-use Rattle.mgmt_agent.specs.Machine as management
 use Rattle.command_agent.specs.declared.phase.Phase.{Phase}
 use Rattle.command_agent.specs.declared.phase.Phase.TheVariants as phases
 use Rattle.command_agent.specs.declared.step.AgentStep.{AgentStep}
@@ -33,9 +31,9 @@ use Rattle.sbp_target.specs.Desks.{new_desk, promoted_desk}
 use Rattle.sbp_target.specs.Sending.{request_step, sent_by}
 use Rattle.sbp_target.specs.Nodes.{NodeState, Scene, scene, desk_at, login_at, with_desk, with_agent}
 use Rattle.sbp_target.specs.Agents.{agent_body, sent_to, disowned as given_up, without_ahead, dropped_by, promoted, promoted_by, noted, main_sent, main_asked, ask_main, lost_by, lose, ahead_sent, ahead_asked, after_ahead, send_ahead, ask_ahead, after_loss, lose_main, after_main, follow}
-use Rattle.target_laws.proofs.Stepped.{is_asked, Carries, Fit, Behind, Lost, Over, main_loses, last_loses, ahead_loses}
-use Rattle.target_laws.proofs.Seats.{was as changed, Lives, IsFor, IsNot, OffOne, Seat, Hand, seat_kept, seat_promoted, main_begins, ahead_begins, main_ends, ahead_ends, hand_kept}
-use Rattle.target_laws.proofs.Primitives.{Known, live_on, began_off, began_at, disowned_off, disowned_at, Begun, asks_known, none_known, disowns_known}
+use Rattle.target_laws.proofs.Stepped.{is_asked, Carries, Fit, Behind, main_loses, last_loses, ahead_loses}
+use Rattle.target_laws.proofs.Seats.{was as changed, Lives, IsNot, OffOne, Seat, Hand, seat_kept, seat_promoted, main_begins, ahead_begins, main_ends, ahead_ends, hand_kept}
+use Rattle.target_laws.proofs.Primitives.{Known, live_on, began_off, began_at, disowned_off, disowned_at, asks_known, none_known, disowns_known}
 
 abbrev pub node_of : Option Login → Option ℕ
 node_of None = None

@@ -1,22 +1,20 @@
 -- Each request has the lowest label that it may take.
-use Rattle.std.proofs.Common.{arith, ◌≡◌, refl, sym, ap, ◌∙◌, ℕ, ◌<◌, ◌&&◌, ◌||◌, not, Bool, true, false, List, [], ◌∷◌, length, slice_index_or, Option, Some, None, Result, Ok, Err}
+use Rattle.std.proofs.Common.{arith, ◌≡◌, refl, sym, ap, ◌∙◌, ℕ, ◌&&◌, ◌||◌, not, Bool, List, [], ◌∷◌, length, Option, Some, None}
 use Rattle.std.specs.Option.{IsSome}
-use Rattle.label_table.specs.declared.judgement.Asked.{Asked}
 use Rattle.label_table.specs.declared.place.LabelState.TheVariants as states
 use Rattle.label_table.specs.Bodies.{Body}
 use Rattle.label_table.specs.Laws.{IsLowest}
 use Rattle.label_table.specs.Layer.{Layer, asked_at, asking_in, asking_step, unlabelled, peer_at, peer_place, new_layer}
 use Rattle.label_table.specs.Owned.{shown_in}
-use Rattle.label_table.specs.Peers.{no_peer, begun_for, ask_place}
+use Rattle.label_table.specs.Peers.{no_peer, begun_for}
 use Rattle.label_table.specs.Requests.{with_label, is_write, is_last}
 use Rattle.label_table.specs.Table.{is_free, place_at, lowest_from, begin_at, begin_step}
 use Rattle.label_table.specs.History as wire
 use Rattle.label_table.proofs.Laws.{lowest_law}
 use Rattle.label_table.proofs.Calls.{after_kept}
 use Rattle.sbp_target.specs.declared.purpose.Purpose.{Purpose}
-use Rattle.target_laws.specs.Calls.{Call, after, packets_after}
 use Rattle.target_laws.specs.Layers.{layer_after}
-use Rattle.target_laws.specs.Labels.{may_take, HasLowest, IsLabelled, AreLabelled, IsLabelledRun, LabelLaw}
+use Rattle.target_laws.specs.Labels.{may_take, IsLabelled, AreLabelled, LabelLaw}
 use Rattle.target_laws.proofs.Made.{same_after, layer_law}
 
 -- by the place of the peer

@@ -1,27 +1,20 @@
 -- Each call of a target is steps of its transaction layer.
-use Rattle.std.proofs.Common.{arith, ◌≡◌, refl, sym, ap, ◌∙◌, subst, ℕ, zero, suc, ◌+◌, Bool, true, false, cond, List, [], ◌∷◌, ◌++◌, length, append_assoc, append-nil, Option, Some, None, Result, Ok, Err}
+use Rattle.std.proofs.Common.{◌≡◌, refl, sym, ap, ◌∙◌, ℕ, Bool, true, false, List, [], ◌∷◌, ◌++◌, append_assoc, append-nil, Option, Some, None}
 use Rattle.async_packet.specs.Labels.{LabelParts}
 use Rattle.async_packet.specs.Packet.{Packet, header_in}
 use Rattle.label_table.specs.declared.judgement.Asked.{Asked}
-use Rattle.label_table.specs.declared.reply.Stale.{Stale}
 use Rattle.label_table.specs.Bodies.{Body}
 use Rattle.label_table.specs.Layer.{Layer, Finding, of_generation, of_grammar, of_label, of_response, of_again, of_request, answering_step, asking_step, judging_step, expiring_step, seeing_step, new_layer}
 use Rattle.label_table.specs.History as wire
-use Rattle.login_table.specs.declared.login.Login.{Login}
-use Rattle.login_table.specs.Table.{is_live, place_at, Table, tick_step}
+use Rattle.login_table.specs.Table.{tick_step}
 use Rattle.rbc_disk.specs.Disk.{Disk}
 use Rattle.rbc_disk.specs.Runs.{Told}
-use Rattle.sbp_journal.specs.declared.cause.CutCause.TheVariants as cuts
 use Rattle.sbp_journal.specs.declared.outbox.Outgoing.{Outgoing}
-use Rattle.sbp_journal.specs.declared.side.Side.TheVariants as sides
-use Rattle.sbp_journal.specs.Outgoings.{OutboxState, empty_outbox}
+use Rattle.sbp_journal.specs.Outgoings.{empty_outbox}
 use Rattle.sbp_target.specs.declared.purpose.Purpose.{Purpose}
-use Rattle.sbp_target.specs.Sending.{with_side}
-use Rattle.sbp_target.specs.Nodes.{NodeState, Scene, scene}
+use Rattle.sbp_target.specs.Nodes.{Scene, scene}
 use Rattle.sbp_target.specs.Replies.{Whole, whole, scene_of}
-use Rattle.sbp_target.specs.Units.{cut_all}
-use Rattle.sbp_target.specs.Serving.{request_step}
-use Rattle.sbp_target.specs.Receiving.{answer_in, with_layer, judged_scene, received_as, received, expired_in, expired, timed_out, tell_held, held_from, held_all, cleared_node, reset_by, seen, expired_from, ticked_by, ticked, new_node}
+use Rattle.sbp_target.specs.Receiving.{answer_in, with_layer, received_as, received, expired, seen, ticked}
 use Rattle.target_laws.specs.Calls.{Call, receives, lets_expire, sees, ticks, sets_key, done, alone, after, packets_after}
 use Rattle.target_laws.specs.Layers.{response, request, layer_after, with_asked, packets_of, first_of, has_sent, InOrder, IsMade, IsRun, LayerLaw}
 use Rattle.target_laws.proofs.Pass.{Said, At, Leaves, Keeps, concludes, sees_by, expires_in, ticks_by}

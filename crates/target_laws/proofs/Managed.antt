@@ -1,19 +1,17 @@
 -- A reply to the management operation leaves all at rest.
-use Rattle.std.proofs.Common.{arith, ◌≡◌, ◌≢◌, refl, sym, ap, ◌∙◌, subst, ℕ, zero, suc, ◌+◌, ◌==◌, ◌<◌, ◌≤◌, ◌&&◌, ◌||◌, not, nat_eq, nat_lt, is_some, Bool, true, false, cond, List, [], ◌∷◌, length, slice_set, Option, Some, None, Result, Ok, Err}
+use Rattle.std.proofs.Common.{arith, ◌≡◌, refl, sym, ap, ◌∙◌, subst, ℕ, zero, suc, ◌+◌, ◌<◌, ◌≤◌, nat_eq, nat_lt, Bool, true, false, cond, List, length, Option, Some, None}
 use Rattle.std.proofs.lemmas.Bool.Decides.{nat_tests}
 use Rattle.std.proofs.Math.ListN.{length-set}
-use Rattle.label_table.specs.Layer.{Layer}
 use Rattle.login_table.specs.declared.login.Login.{Login}
 use Rattle.login_table.specs.Sound.{IsTable}
 use Rattle.login_table.specs.Laws.{UnitsBelow}
 use Rattle.login_table.specs.Table.{Table, place_at, is_live}
 use Rattle.orb_layout.specs.declared.ask.Ask.{Ask}
 use Rattle.orb_layout.specs.declared.ask.Ask.TheVariants.{Read, Write, Nothing}
-use Rattle.orb_layout.specs.Replies.{Answer}
 use Rattle.rbc_disk.specs.Units.{UnitState}
 use Rattle.command_agent.specs.declared.phase.Phase.{Phase}
 use Rattle.command_agent.specs.declared.phase.Phase.TheVariants as phases
-use Rattle.command_agent.specs.Machine.{Machine, state_in, is_sent, is_ahead}
+use Rattle.command_agent.specs.Machine.{state_in, is_sent}
 use Rattle.command_agent.specs.Steps.{is_reset, abort_step, reset_step}
 use Rattle.mgmt_agent.specs.declared.decision.Decision.{Decision}
 use Rattle.mgmt_agent.specs.declared.decision.Effect.{Effect}
@@ -32,10 +30,10 @@ use Rattle.sbp_target.specs.Nodes.{NodeState, Scene, scene, desk_at, login_at, w
 use Rattle.sbp_target.specs.Agents.{disowned as given_up, cut, cut_node}
 use Rattle.sbp_target.specs.Desks.{reset_desk}
 use Rattle.sbp_target.specs.Units.{is_cut, cut_at, cut_from, cut_all, clear_unit, clear_from}
-use Rattle.sbp_target.specs.Management.{place_in, cut_placed, fresh_desk, left_desk, tell_left, tell_failed, clear_one, effect_by, decided_by, with_manager, ask_manager, managed_with}
-use Rattle.target_laws.proofs.Stepped.{is_asked, is_bare, Carries, Fit}
+use Rattle.sbp_target.specs.Management.{place_in, cut_placed, left_desk, tell_failed, effect_by, decided_by, with_manager, ask_manager, managed_with}
+use Rattle.target_laws.proofs.Stepped.{is_asked, is_bare, Carries}
 use Rattle.target_laws.proofs.Seats.{Lives, Seat, split, seat_moved}
-use Rattle.target_laws.proofs.Following.{node_of, IsServed, Fits, Mid, spares_self, mid_step, desk_here, some_true, same_place}
+use Rattle.target_laws.proofs.Following.{node_of, Fits, Mid, spares_self, mid_step, desk_here, some_true, same_place}
 use Rattle.target_laws.proofs.Calling.{not_eight, Good, peer_of, leave_out, take_in, cut_good}
 use Rattle.target_laws.proofs.Managing.{IsOf, Stays, Due, with_rest, asks_good, unasked_good}
 use Rattle.target_laws.proofs.Effecting.{effect_in, leaves, Moves}

@@ -1,10 +1,9 @@
 -- The management operation has its request where one is under way, and its effects leave all agents at rest.
-use Rattle.std.proofs.Common.{arith, ◌≡◌, ◌≢◌, refl, sym, ap, ◌∙◌, subst, ℕ, zero, suc, ◌+◌, ◌*◌, ◌^◌, ◌==◌, ◌<◌, ◌≤◌, ◌&&◌, ◌||◌, not, nat_eq, nat_lt, nat_le, is_some, Bool, true, false, cond, List, [], ◌∷◌, ◌++◌, length, take, Option, Some, None, Result, Ok, Err}
+use Rattle.std.proofs.Common.{arith, ◌≡◌, refl, sym, ap, ◌∙◌, subst, ℕ, ◌+◌, ◌*◌, ◌^◌, ◌==◌, ◌≤◌, nat_le, is_some, Bool, true, false, cond, List, [], ◌∷◌, length, Option, Some, None, Result, Ok, Err}
 use Rattle.std.proofs.lemmas.Bool.Decides.{nat_tests}
 use Rattle.std.proofs.lemmas.Grind.{common_steps}
 use Rattle.std.specs.List.{filter_map}
 use Rattle.async_packet.specs.Fields.{largest}
-use Rattle.async_packet.specs.Labels.{LabelParts}
 use Rattle.label_table.specs.declared.judgement.Asked.{Asked}
 use Rattle.label_table.specs.declared.reply.ReplyKind.{ReplyKind}
 use Rattle.label_table.specs.Bodies.{Body, block_read, block_write, quadlet_read}
@@ -18,10 +17,8 @@ use Rattle.orb_layout.specs.declared.ask.FailCause.{FailCause}
 use Rattle.orb_layout.specs.declared.management.ManagementOrb.{ManagementOrb}
 use Rattle.orb_layout.specs.declared.query.QueryEntry.{QueryEntry}
 use Rattle.orb_layout.specs.ManagementOrbs.{management_orb}
-use Rattle.orb_layout.specs.QueryResponses.{entries_bytes, query_bytes}
+use Rattle.orb_layout.specs.QueryResponses.{entries_bytes}
 use Rattle.orb_layout.specs.Replies.{Answer, NoLabel, payload_of, write_failure}
-use Rattle.orb_layout.specs.StatusBlocks.{status_bytes}
-use Rattle.mgmt_agent.specs.declared.decision.Decision.{Decision}
 use Rattle.mgmt_agent.specs.declared.decision.ManagerStep.{ManagerStep}
 use Rattle.mgmt_agent.specs.declared.decision.Outcome.{Outcome}
 use Rattle.mgmt_agent.specs.declared.decision.Response.{Response}
@@ -32,7 +29,7 @@ use Rattle.mgmt_agent.specs.declared.operation.Phase.TheVariants as phases
 use Rattle.mgmt_agent.specs.declared.status.Status.{Status}
 use Rattle.mgmt_agent.specs.declared.status.Status.TheVariants as statuses
 use Rattle.mgmt_agent.specs.Decisions.{decide, entry_of, entries_of, reads_eui, response_bytes}
-use Rattle.mgmt_agent.specs.Machine.{Machine, source_in, high_eui_at, quiet, in_phase, end_step, fail_step, status_block, status_step, respond_step, eui_step, cut_response, telling, decided_as, decide_step, beside, orb_read, orb_got, high_got, low_got, response_written, status_written, reply_in, reply_to, reply_step}
+use Rattle.mgmt_agent.specs.Machine.{Machine, source_in, high_eui_at, quiet, in_phase, fail_step, status_block, status_step, respond_step, eui_step, cut_response, telling, decided_as, decide_step, beside, orb_got, high_got, low_got, response_written, status_written, reply_in, reply_to, reply_step}
 use Rattle.sbp_journal.specs.Outgoings.{OutboxState}
 use Rattle.sbp_base.specs.Quadlets.{quad}
 use Rattle.sbp_target.specs.declared.purpose.Purpose.{Purpose}
@@ -40,15 +37,15 @@ use Rattle.sbp_target.specs.declared.purpose.Purpose.TheVariants as purposes
 use Rattle.sbp_target.specs.declared.purpose.Sent.{Sent}
 use Rattle.sbp_target.specs.Sending.{request_step, sent_by}
 use Rattle.sbp_target.specs.Nodes.{NodeState, Scene, scene, desk_at, login_at}
-use Rattle.sbp_target.specs.Agents.{agent_body, sent_to}
-use Rattle.sbp_target.specs.Management.{manager_body, with_manager, manager_lost, lost_in, lose_operation, manager_sent, manager_asked, ask_manager}
+use Rattle.sbp_target.specs.Agents.{sent_to}
+use Rattle.sbp_target.specs.Management.{manager_body, manager_lost, lost_in, lose_operation, manager_sent, manager_asked, ask_manager}
 use Rattle.login_table.specs.Sound.{IsTable}
 use Rattle.login_table.specs.Laws.{UnitsBelow}
 use Rattle.target_laws.proofs.Stepped.{is_asked, Carries}
-use Rattle.target_laws.proofs.Seats.{was as changed, Lives, Seat, Hand, seat_kept, hand_begins}
+use Rattle.target_laws.proofs.Seats.{was as changed, Lives, Seat, seat_kept, hand_begins}
 use Rattle.target_laws.proofs.Primitives.{Known, live_on, began_off, began_at, asks_known, none_known}
-use Rattle.target_laws.proofs.Following.{node_of, IsServed, Mid}
-use Rattle.target_laws.proofs.Calling.{peer_of, Good}
+use Rattle.target_laws.proofs.Following.{node_of, Mid}
+use Rattle.target_laws.proofs.Calling.{Good}
 
 -- ---- what a reply leaves: the same source while an operation is under way, and a request that a packet can carry
 abbrev pub IsOf : ℕ → Option Operation → Type 0

@@ -1,14 +1,13 @@
 -- What the steps of a transaction layer make of the lives of its transactions.
-use Rattle.std.proofs.Common.{◌≡◌, ◌≢◌, refl, sym, ap, ◌∙◌, subst, ℕ, nat_lt, is_some, Bool, true, false, cond, List, [], ◌∷◌, Option, Some, None, Result, Ok, Err}
+use Rattle.std.proofs.Common.{◌≡◌, refl, sym, ap, ◌∙◌, subst, ℕ, nat_lt, is_some, Bool, true, false, cond, List, [], ◌∷◌, Option, Some, None, Result, Ok, Err}
 use Rattle.async_packet.specs.Labels.{LabelParts}
 use Rattle.async_packet.specs.Packet.{Packet, header_in}
-use Rattle.async_packet.specs.Reading.{reading}
 use Rattle.label_table.specs.declared.judgement.Asked.{Asked}
 use Rattle.label_table.specs.declared.reply.ReplyKind.{ReplyKind}
 use Rattle.label_table.specs.declared.reply.Stale.{Stale}
 use Rattle.label_table.specs.Bodies.{Body}
 use Rattle.label_table.specs.Requests.{reply_kind, kind_of}
-use Rattle.label_table.specs.Layer.{Layer, Finding, of_response, asking_step, disowning_step, judging_step, expiring_step, seeing_step, seen_in_generation, unlabelled}
+use Rattle.label_table.specs.Layer.{Layer, Finding, of_response, asking_step, disowning_step, judging_step, expiring_step, seeing_step, unlabelled}
 use Rattle.label_table.specs.History as wire
 use Rattle.label_table.specs.History.{Life, not_begun, under_way, over, is_same, for_nobody, ended, lived, began, closed, expired, disowned, forgotten, told_by_asking, told_by_finding, told_by_expiring, told_closed, and_before, AreTold, IsTold}
 use Rattle.label_table.proofs.Calls.{told_law}

@@ -1,52 +1,35 @@
 -- What is kept by telling of a run, an end, a death, a decision or a failed operation is kept by all that follows a step
 -- of an agent, and by what a management operation asks.
-use Rattle.std.proofs.Common.{◌≡◌, refl, ℕ, zero, suc, ◌+◌, ◌==◌, ◌&&◌, nat_lt, nat_le, is_some, Bool, true, false, cond, List, [], ◌∷◌, ◌++◌, length, slice_index_or, Option, Some, None, Result, Ok, Err}
+use Rattle.std.proofs.Common.{◌≡◌, refl, ℕ, nat_lt, is_some, Bool, true, false, cond, List, [], ◌∷◌, ◌++◌, Option, Some, None}
 use Rattle.async_packet.specs.Labels.{LabelParts}
-use Rattle.async_packet.specs.Packet.{Packet, header_in}
 use Rattle.label_table.specs.declared.judgement.Asked.{Asked}
-use Rattle.label_table.specs.declared.reply.Stale.{Stale}
-use Rattle.label_table.specs.Bodies.{Body, block_write}
-use Rattle.label_table.specs.Layer.{Layer, asking_step, answering_step, disowning_step, free_labels}
+use Rattle.label_table.specs.Bodies.{Body}
+use Rattle.label_table.specs.Layer.{Layer, asking_step, free_labels}
 use Rattle.login_table.specs.declared.login.Login.{Login}
-use Rattle.login_table.specs.Table.{Table, is_live, place_at}
-use Rattle.media_bay.specs.Unsolicited.{block}
+use Rattle.login_table.specs.Table.{Table}
 use Rattle.orb_layout.specs.declared.ask.Ask.{Ask}
 use Rattle.orb_layout.specs.declared.ask.FailCause.{FailCause}
 use Rattle.orb_layout.specs.declared.ask.FailCause.TheVariants as causes
 use Rattle.orb_layout.specs.declared.status.StatusKind.{StatusKind}
-use Rattle.orb_layout.specs.Replies.{Answer, NoLabel, Expired}
+use Rattle.orb_layout.specs.Replies.{NoLabel}
 use Rattle.rbc_disk.specs.declared.command.Outcome.{Outcome}
-use Rattle.rbc_disk.specs.Disk.{disk_at}
-use Rattle.rbc_disk.specs.Runs.{Told}
 use Rattle.command_agent.specs.declared.step.AgentStep.{AgentStep}
 use Rattle.command_agent.specs.declared.step.Which.{Which}
 use Rattle.command_agent.specs.declared.step.Which.TheVariants.{Main, Ahead}
-use Rattle.command_agent.specs.Machine.{Machine, is_under_way, state_in}
-use Rattle.command_agent.specs.Steps.{lost_step, is_reset}
-use Rattle.mgmt_agent.specs.declared.decision.Decision.{Decision}
-use Rattle.mgmt_agent.specs.declared.decision.Effect.{Effect}
-use Rattle.mgmt_agent.specs.declared.decision.Effect.TheVariants as effects
+use Rattle.command_agent.specs.Machine.{Machine, is_under_way}
+use Rattle.command_agent.specs.Steps.{lost_step}
 use Rattle.mgmt_agent.specs.declared.decision.ManagerStep.{ManagerStep}
 use Rattle.mgmt_agent.specs.Machine as management
-use Rattle.sbp_journal.specs.declared.cause.CutCause.{CutCause}
-use Rattle.sbp_journal.specs.declared.cause.CutCause.TheVariants as cuts
-use Rattle.sbp_journal.specs.declared.outbox.Outgoing.{Outgoing}
 use Rattle.sbp_journal.specs.declared.side.Side.{Side}
 use Rattle.sbp_journal.specs.declared.side.Side.TheVariants as sides
 use Rattle.sbp_journal.specs.Outgoings.{OutboxState}
-use Rattle.sbp_target.specs.declared.desk.Desk.{Desk}
 use Rattle.sbp_target.specs.declared.purpose.Purpose.{Purpose}
 use Rattle.sbp_target.specs.declared.purpose.Purpose.TheVariants as purposes
-use Rattle.sbp_target.specs.declared.purpose.Sent.{Sent}
-use Rattle.sbp_target.specs.Desks.{expired_desk, which_in}
-use Rattle.sbp_target.specs.Sending.{request_step, sent_by, with_side}
+use Rattle.sbp_target.specs.Sending.{request_step, sent_by}
 use Rattle.sbp_target.specs.Telling.{orb_of, tell_step, tell_ran, tell_dead, tell_ended}
-use Rattle.sbp_target.specs.Nodes.{NodeState, Scene, scene, desk_at, login_at, with_desk, with_agent, unit_at}
-use Rattle.sbp_target.specs.Agents.{agent_body, disowned, without_ahead, dropped_by, promoted_by, noted, main_sent, main_asked, ask_main, lost_by, lose, ahead_sent, ahead_asked, after_ahead, send_ahead, ask_ahead, after_loss, lose_main, after_main, follow, told_cut, cut_node, cut}
-use Rattle.sbp_target.specs.Units.{is_pending, unsolicited_by, announce_to, announce_in, announce_at, announce_from, hears, is_cut, cut_at, cut_from, cut_all, clear_unit, clear_from}
-use Rattle.sbp_target.specs.Replies.{Stage, stage, Whole, whole, scene_of, came, changed_by, announced_by, follow_all, advanced_with, advance, replied, served_login, replied_by, replied_to}
-use Rattle.sbp_target.specs.Management.{manager_body, place_in, cut_placed, cut_place, tell_left, tell_failed, clear_one, effect_by, decided_by, with_manager, manager_lost, lost_in, lose_operation, manager_sent, manager_asked, ask_manager, managed_with, managed_in, manage}
-use Rattle.sbp_target.specs.Receiving.{concluded, expired_with, expired_by, expire_agent, timed_out, expired_in, tell_held, held_from, cleared_node, reset_by, expired_from, ticked_by}
+use Rattle.sbp_target.specs.Nodes.{NodeState, Scene, scene, desk_at, with_agent}
+use Rattle.sbp_target.specs.Agents.{agent_body, noted, main_sent, main_asked, ask_main, lost_by, lose, ahead_sent, ahead_asked, after_ahead, send_ahead, after_loss, lose_main, after_main, follow}
+use Rattle.sbp_target.specs.Management.{manager_body, tell_failed, manager_lost, lost_in, lose_operation, manager_sent, manager_asked, ask_manager}
 use Rattle.target_laws.specs.Sides.{is_change}
 
 pub record Tells (P : List Side → Type 0) : Type 0 where

@@ -1,5 +1,5 @@
 -- A reply to an agent, a time-out of its transaction, and what is asked of it leave all agents at rest.
-use Rattle.std.proofs.Common.{arith, ◌≡◌, ◌≢◌, refl, sym, ap, ◌∙◌, subst, ℕ, zero, suc, ◌+◌, ◌==◌, ◌<◌, ◌≤◌, ◌&&◌, ◌||◌, not, nat_eq, nat_lt, is_some, Bool, true, false, cond, List, [], ◌∷◌, ◌++◌, length, slice_set, slice_index_or, Option, Some, None, Result, Ok, Err}
+use Rattle.std.proofs.Common.{arith, ◌≡◌, ◌≢◌, refl, sym, ap, ◌∙◌, subst, ℕ, zero, suc, ◌+◌, ◌<◌, ◌≤◌, ◌&&◌, nat_lt, is_some, Bool, true, false, cond, List, [], ◌∷◌, ◌++◌, length, Option, Some, None}
 use Rattle.std.proofs.lemmas.Bool.Decides.{nat_tests}
 use Rattle.std.proofs.Math.ListN.{length-set}
 use Rattle.async_packet.specs.Labels.{LabelParts}
@@ -9,12 +9,9 @@ use Rattle.label_table.specs.Bodies.{Body, block_write}
 use Rattle.label_table.specs.Layer.{Layer, asking_step}
 use Rattle.label_table.specs.History.{not_begun, under_way, began}
 use Rattle.login_table.specs.declared.login.Login.{Login}
-use Rattle.login_table.specs.Table.{Table, is_live, place_at}
 use Rattle.media_bay.specs.Unsolicited.{block}
-use Rattle.orb_layout.specs.declared.ask.Ask.TheVariants.{Nothing}
-use Rattle.orb_layout.specs.declared.ask.FailCause.TheVariants as causes
 use Rattle.orb_layout.specs.Replies.{Answer}
-use Rattle.rbc_disk.specs.Disk.{Disk, disk_at}
+use Rattle.rbc_disk.specs.Disk.{Disk}
 use Rattle.rbc_disk.specs.Units.{UnitState}
 use Rattle.rbc_disk.specs.Runs.{Told}
 use Rattle.command_agent.specs.declared.phase.Phase.{Phase}
@@ -23,24 +20,24 @@ use Rattle.command_agent.specs.declared.step.AgentStep.{AgentStep}
 use Rattle.command_agent.specs.declared.step.Which.{Which}
 use Rattle.command_agent.specs.declared.step.Which.TheVariants.{Main, Ahead}
 use Rattle.command_agent.specs.Machine.{Machine, state_in, is_sent, is_ahead, is_under_way}
-use Rattle.command_agent.specs.Steps.{quiet, is_reset, reply_step, lost_step}
+use Rattle.command_agent.specs.Steps.{quiet, is_reset, reply_step}
 use Rattle.sbp_journal.specs.declared.side.Side.TheVariants as sides
 use Rattle.sbp_journal.specs.Outgoings.{OutboxState}
 use Rattle.sbp_target.specs.declared.desk.Desk.{Desk}
 use Rattle.sbp_target.specs.declared.purpose.Purpose.{Purpose}
 use Rattle.sbp_target.specs.declared.purpose.Purpose.TheVariants as purposes
 use Rattle.sbp_target.specs.declared.purpose.Sent.{Sent}
-use Rattle.sbp_target.specs.Desks.{is_that, taken, which_in, expired_desk}
+use Rattle.sbp_target.specs.Desks.{is_that, taken, which_in}
 use Rattle.sbp_target.specs.Sending.{request_step, sent_by, with_side}
 use Rattle.sbp_target.specs.Nodes.{NodeState, Scene, scene, desk_at, login_at, with_desk}
 use Rattle.sbp_target.specs.Agents.{sent_to, noted, ask_main, send_ahead, follow}
-use Rattle.sbp_target.specs.Units.{is_pending, unsolicited_from, unsolicited_by, announce_to, announce_in, announce_at, announce_from, hears}
-use Rattle.sbp_target.specs.Replies.{Stage, stage, Whole, whole, scene_of, plain_at, came, changed_by, announced_by, follow_all, replied_with, replied, advanced_with, advance, if_served, served_login, replied_by, replied_to}
-use Rattle.target_laws.proofs.Stepped.{is_bare, Fit, Behind, Over, main_replied, ahead_replied, main_loses, ahead_loses}
-use Rattle.target_laws.proofs.Seats.{behind_that, sent_same, Lives, IsFor, IsNot, OffOne, Seat, Hand, was as changed, split, seat_kept, hand_kept, main_ends, ahead_ends}
+use Rattle.sbp_target.specs.Units.{is_pending, unsolicited_by, announce_to, announce_in, announce_at, announce_from, hears}
+use Rattle.sbp_target.specs.Replies.{stage, whole, plain_at, changed_by, announced_by, follow_all, replied_with, replied, advanced_with, advance, if_served, served_login, replied_by, replied_to}
+use Rattle.target_laws.proofs.Stepped.{is_bare, Fit, Behind, Over, main_replied, ahead_replied}
+use Rattle.target_laws.proofs.Seats.{behind_that, sent_same, Lives, IsFor, IsNot, OffOne, Seat, was as changed, split, seat_kept, hand_kept, main_ends, ahead_ends}
 use Rattle.target_laws.proofs.Primitives.{Known, live_on, began_off, began_at, asks_known, none_known}
-use Rattle.target_laws.proofs.Following.{node_of, IsServed, Fits, Mid, Frame, Place, Rest, Spares, spares_one, our_under, our_none, mid_step, desk_here, some_true, as_flags, follow_rest}
-use Rattle.target_laws.proofs.Calling.{not_eight, Good, Beside, beside, leave_out, take_in, rest_good, with_layer_good, peer_of}
+use Rattle.target_laws.proofs.Following.{node_of, IsServed, Fits, Place, Rest, Spares, spares_one, our_under, our_none, mid_step, desk_here, as_flags, follow_rest}
+use Rattle.target_laws.proofs.Calling.{not_eight, Good, Beside, leave_out, take_in, rest_good, with_layer_good}
 
 -- ---- a transaction that is over
 pub record Ends (x : Sent) (old new : Lives) (layer : Layer Purpose) : Type 0 where

@@ -1,9 +1,9 @@
 -- Which transactions are an agent's, and which the management operation's, as transactions begin, end, and are given up.
-use Rattle.std.proofs.Common.{arith, ◌≡◌, ◌≢◌, refl, sym, ap, ◌∙◌, subst, ℕ, ◌==◌, ◌&&◌, ◌||◌, Bool, true, false, cond, Option, Some, None}
+use Rattle.std.proofs.Common.{arith, ◌≡◌, ◌≢◌, refl, sym, ap, ◌∙◌, subst, ℕ, ◌||◌, Bool, true, false, cond, Option, Some, None}
 use Rattle.std.proofs.lemmas.Bool.Decides.{nat_tests}
 use Rattle.async_packet.specs.Labels.{LabelParts}
 use Rattle.label_table.specs.declared.reply.ReplyKind.{ReplyKind}
-use Rattle.label_table.specs.History.{Life, not_begun, under_way, over, is_same, for_nobody, ended, lived, began, closed, expired, disowned, forgotten}
+use Rattle.label_table.specs.History.{Life, not_begun, under_way, is_same}
 use Rattle.sbp_target.specs.declared.purpose.Purpose.{Purpose}
 use Rattle.sbp_target.specs.declared.purpose.Purpose.TheVariants as purposes
 use Rattle.sbp_target.specs.declared.purpose.Sent.{Sent}

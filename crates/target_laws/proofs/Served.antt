@@ -1,6 +1,6 @@
 -- What holds before an answer and is kept by giving up, and what holds behind it and is kept by giving up and
 -- asking: a request that is served takes the one to the other.
-use Rattle.std.proofs.Common.{refl, ℕ, Bool, true, false, cond, List, [], ◌∷◌, ◌++◌, length, take, drop, Option, Some, None, Result, Ok, Err}
+use Rattle.std.proofs.Common.{ℕ, Bool, true, false, cond, List, [], ◌∷◌, ◌++◌, length, take, drop, Option, Some, None, Result, Ok, Err}
 use Rattle.byteorder.specs.Endian.{big_bytes}
 use Rattle.async_packet.specs.Packet.{Packet, header_in}
 use Rattle.label_table.specs.Layer.{Layer, answering_step}
@@ -28,11 +28,10 @@ use Rattle.sbp_target.specs.declared.purpose.Purpose.{Purpose}
 use Rattle.sbp_target.specs.Addresses.{complete, conflict_error, address_error, demand_of}
 use Rattle.sbp_target.specs.Desks.{point_desk}
 use Rattle.sbp_target.specs.Sending.{answer_step, answered_by, with_side}
-use Rattle.sbp_target.specs.Nodes.{NodeState, Scene, scene, desk_at, login_at, with_desk, with_agent}
-use Rattle.sbp_target.specs.Agents.{cut, follow}
-use Rattle.sbp_target.specs.Management.{ask_manager}
+use Rattle.sbp_target.specs.Nodes.{Scene, scene, desk_at, login_at, with_desk, with_agent}
+use Rattle.sbp_target.specs.Agents.{cut}
 use Rattle.sbp_target.specs.Telling.{orb_of}
-use Rattle.sbp_target.specs.Serving.{answered, state_number, last_pointer, pointer_bytes, asked_in, asked_at, rcode_of, pointed_by, point, rung_by, ring, enabled, accessed_by, started_by, start, served_as, serve, is_barred, request_step}
+use Rattle.sbp_target.specs.Serving.{answered, state_number, last_pointer, pointer_bytes, asked_in, rcode_of, pointed_by, point, rung_by, ring, enabled, accessed_by, started_by, start, served_as, serve, is_barred, request_step}
 use Rattle.target_laws.specs.Layers.{response}
 use Rattle.target_laws.proofs.Pass.{Said, At, Leaves, Keeps, cuts_at, follows, asks_manager}
 

@@ -1,5 +1,5 @@
 -- After each call of a target all is at rest.
-use Rattle.std.proofs.Common.{arith, ◌≡◌, ◌≢◌, refl, sym, ap, ◌∙◌, subst, ℕ, zero, suc, ◌+◌, ◌-◌, ◌*◌, ◌/◌, ◌%◌, ◌==◌, ◌<◌, ◌≤◌, ◌&&◌, ◌||◌, not, nat_eq, nat_lt, nat_le, is_some, is_none, Bool, true, false, cond, List, [], ◌∷◌, length, map, replicate, slice_set, slice_index_or, Option, Some, None, Result, Ok, Err}
+use Rattle.std.proofs.Common.{arith, ◌≡◌, ◌≢◌, refl, sym, ap, ◌∙◌, subst, ℕ, zero, suc, ◌+◌, ◌-◌, ◌*◌, ◌/◌, ◌%◌, ◌==◌, ◌<◌, ◌≤◌, ◌&&◌, ◌||◌, not, nat_eq, nat_lt, nat_le, is_some, is_none, Bool, true, false, cond, List, [], ◌∷◌, length, replicate, Option, Some, None, Result, Ok, Err}
 use Rattle.std.proofs.lemmas.Bool.Decides.{nat_tests}
 use Rattle.std.proofs.lemmas.Grind.{common_steps}
 use Rattle.std.proofs.Math.ListN.{length-set}
@@ -10,7 +10,6 @@ use Rattle.async_packet.specs.Labels.{LabelParts}
 use Rattle.async_packet.specs.Packet.{Packet, header_in, write_quadlet, write_block, write_response, read_quadlet, read_block, read_quadlet_response, read_block_response, lock, lock_response}
 use Rattle.label_table.specs.declared.reply.ReplyKind.{ReplyKind}
 use Rattle.label_table.specs.declared.reply.Stale.{Stale}
-use Rattle.label_table.specs.Requests.{reply_kind}
 use Rattle.label_table.specs.Layer.{Layer, Finding, of_generation, of_grammar, of_label, of_response, of_again, of_request, answering_step, judging_step, expiring_step, seeing_step, seen_in_generation}
 use Rattle.label_table.specs.History as wire
 use Rattle.label_table.specs.History.{under_way, closed, expired as timed, forgotten}
@@ -20,11 +19,10 @@ use Rattle.login_table.specs.Laws.{UnitsBelow}
 use Rattle.login_table.specs.Laws as logins
 use Rattle.label_table.proofs.Owned.{set_at}
 use Rattle.label_table.proofs.Sources.{default_in}
-use Rattle.login_table.specs.Table.{Table, new_table, place_at, is_live, if_of_node, by_agent, hold_step, tick_step}
+use Rattle.login_table.specs.Table.{Table, new_table, is_live, if_of_node, tick_step}
 use Rattle.login_table.proofs.Kept.{after_kept, always}
 use Rattle.login_table.proofs.Units.{own_unit, units_stay_below}
 use Rattle.login_table.proofs.Holding.{live_until_it_leaves}
-use Rattle.orb_layout.specs.declared.ask.Ask.{Ask}
 use Rattle.orb_layout.specs.declared.ask.Ask.TheVariants.{Read}
 use Rattle.orb_layout.specs.Pointers.{offset_at}
 use Rattle.orb_layout.specs.declared.management.ManagementOrb.{ManagementOrb}
@@ -63,25 +61,25 @@ use Rattle.sbp_target.specs.Addresses.{complete, conflict_error, address_error, 
 use Rattle.sbp_target.specs.declared.desk.Desk.{Desk}
 use Rattle.sbp_target.specs.Desks.{disabled, new_desk, reset_desk}
 use Rattle.sbp_target.specs.Sending.{answer_step}
-use Rattle.sbp_target.specs.Nodes.{NodeState, Scene, scene, desk_at, login_at, with_desk}
+use Rattle.sbp_target.specs.Nodes.{NodeState, Scene, scene, desk_at, login_at}
 use Rattle.sbp_target.specs.Agents.{disowned as given_up, sent_to, cut, cut_node}
 use Rattle.sbp_target.specs.Units.{cut_at, cut_from, cut_all}
-use Rattle.sbp_target.specs.Replies.{Whole, whole, scene_of}
+use Rattle.sbp_target.specs.Replies.{Whole, whole}
 use Rattle.sbp_target.specs.Management.{managed_with, managed_in, manage}
 use Rattle.sbp_target.specs.Serving.{answered, enabled, accessed_by, started_by, start, served_as, serve, is_barred_at, is_barred, state_number, last_pointer, pointer_bytes}
 use Rattle.sbp_target.specs.Serving as serving
-use Rattle.sbp_target.specs.Receiving.{answer_in, concluded, judged_scene, with_layer, received_as, received, timed_out, expired_in, expired, held_from, after_reset, held_all, cleared_node, reset_by, seen, ticked_by, ticked, with_key, ready_login, ready_from, new_node}
+use Rattle.sbp_target.specs.Receiving.{answer_in, concluded, judged_scene, with_layer, received_as, received, timed_out, expired_in, expired, after_reset, cleared_node, reset_by, seen, ticked, with_key, ready_login, ready_from, new_node}
 use Rattle.target_laws.specs.Calls.{Call, receives, lets_expire, sees, ticks, sets_key, done, after}
-use Rattle.target_laws.proofs.Found.{IsRead, IsFound, found}
-use Rattle.target_laws.proofs.Seats.{was as changed, Lives, IsFor, IsNot, OffOne, Seat, Hand, split, seat_kept, seat_empty, hand_ends, hand_empty}
-use Rattle.target_laws.proofs.Primitives.{Known, live_on, closed_off, closed_at, expired_off, expired_at, forgotten_at, nobody_is, disowns_known, seeing_known, new_known, Closing, closing_known, Expiring, expiring_known, stale_known}
+use Rattle.target_laws.proofs.Found.{IsFound, found}
+use Rattle.target_laws.proofs.Seats.{was as changed, Lives, IsFor, IsNot, Seat, Hand, split, seat_kept, seat_empty, hand_ends, hand_empty}
+use Rattle.target_laws.proofs.Primitives.{Known, live_on, closed_off, closed_at, expired_off, expired_at, forgotten_at, nobody_is, disowns_known, seeing_known, new_known, Closing, closing_known, expiring_known, stale_known}
 use Rattle.target_laws.proofs.Following.{node_of, IsServed, Fits, Mid}
 use Rattle.target_laws.proofs.Calling.{Good, peer_of, with_layer_good, answer_known, answered_good, cut_scene}
 use Rattle.target_laws.proofs.Rested.{Ends, some_that, enabled_good, pending_good, foreign_good, replied_good}
 use Rattle.target_laws.proofs.Answering.{late_good, point_good, ring_good}
-use Rattle.target_laws.proofs.Managing.{Due, Stays, with_rest, asks_good, reply_stays}
+use Rattle.target_laws.proofs.Managing.{Stays, with_rest, asks_good, reply_stays}
 use Rattle.target_laws.proofs.Effecting.{effect_in, reply_moves}
-use Rattle.target_laws.proofs.Managed.{no_request, relogin, Calm, Decided, managed_good}
+use Rattle.target_laws.proofs.Managed.{no_request, relogin, Calm, managed_good}
 
 -- ---- a reply to the management operation
 table_kept : (calls : List logins.Call) (table : Table) → IsTable table → IsTable (logins.all_after calls table)

@@ -1,5 +1,5 @@
 -- What a step of an agent asks for, and what it has under way behind it.
-use Rattle.std.proofs.Common.{arith, ◌≡◌, ◌≢◌, refl, sym, ap, ◌∙◌, subst, ℕ, ◌+◌, ◌-◌, ◌*◌, ◌^◌, ◌==◌, ◌<◌, ◌≤◌, ◌&&◌, ◌||◌, not, is_some, nat_lt, Bool, true, false, cond, List, [], ◌∷◌, ◌++◌, length, take, drop, min, Option, Some, None, Result, Ok, Err}
+use Rattle.std.proofs.Common.{arith, ◌≡◌, ◌≢◌, refl, sym, ap, ◌∙◌, subst, ℕ, ◌+◌, ◌-◌, ◌*◌, ◌^◌, ◌==◌, ◌≤◌, ◌&&◌, ◌||◌, not, is_some, nat_lt, Bool, true, false, cond, List, [], ◌∷◌, ◌++◌, length, take, drop, min, Option, Some, None, Result, Ok, Err}
 use Rattle.std.proofs.lemmas.Bool.Decides.{nat_tests}
 use Rattle.std.proofs.lemmas.Grind.{common_steps}
 use Rattle.orb_layout.specs.declared.ask.Ask.{Ask}
@@ -37,7 +37,7 @@ use Rattle.command_agent.specs.declared.step.Move.TheVariants as moves
 use Rattle.command_agent.specs.declared.step.Which.TheVariants.{Main, Ahead}
 use Rattle.command_agent.specs.Machine.{Machine, is_sent, is_ahead, plan_of, chunk_of, cut_to, limit_of}
 use Rattle.command_agent.specs.Checks.{verdict, refusal, death_by, reads_table}
-use Rattle.command_agent.specs.Steps.{quiet, asks, sent, told_or, end_step, fail_step, dead_step, turned, fetch_step, reread_step, turn_step, wait_step, follow_step, status_written, next_read, orb_read, elements_read, table_read, data_step, data_grown, data_read, answer_chunk, answer_step, answer_grown, chunk_written, advanced, with_outcome, ran_as, run_step, judged, judge_step, unread_buffer, passed_step, checked, check_step, ahead_of, with_ahead, served, ahead_lost, ahead_read, ahead_step, replied, reply_step, main_lost, lost, lost_step, block_of}
+use Rattle.command_agent.specs.Steps.{quiet, asks, sent, told_or, end_step, fail_step, dead_step, turned, fetch_step, reread_step, turn_step, wait_step, follow_step, status_written, next_read, orb_read, elements_read, table_read, data_step, data_grown, data_read, answer_chunk, answer_step, chunk_written, advanced, with_outcome, ran_as, run_step, judged, judge_step, unread_buffer, checked, check_step, ahead_of, with_ahead, served, ahead_lost, ahead_read, ahead_step, reply_step, main_lost, lost_step, block_of}
 use Rattle.command_agent.proofs.Limits.{limit_few}
 
 abbrev pub is_asked : Ask → Bool

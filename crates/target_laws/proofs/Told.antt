@@ -1,5 +1,5 @@
 -- What each call of a target tells.
-use Rattle.std.proofs.Common.{arith, ◌≡◌, refl, sym, ap, ◌∙◌, subst, ℕ, zero, suc, ◌+◌, ◌==◌, ◌<◌, ◌≤◌, ◌&&◌, nat_eq, nat_lt, is_some, not, Bool, true, false, cond, List, [], ◌∷◌, ◌++◌, length, map, take, drop, append_assoc, append-nil, slice_index_or, slice_set, Option, Some, None, Result, Ok, Err}
+use Rattle.std.proofs.Common.{arith, ◌≡◌, refl, sym, ap, ◌∙◌, subst, ℕ, zero, suc, ◌+◌, ◌==◌, ◌<◌, ◌≤◌, ◌&&◌, nat_eq, nat_lt, not, Bool, true, false, cond, List, [], ◌∷◌, ◌++◌, length, map, take, drop, append_assoc, append-nil, slice_index_or, slice_set, Option, Some, None, Result, Ok, Err}
 use Rattle.std.proofs.lemmas.Grind.{common_steps}
 use Rattle.std.proofs.lemmas.Bool.Decides.{nat_tests}
 use Rattle.std.proofs.lemmas.List.{set-get_or, set_past}
@@ -9,10 +9,10 @@ use Rattle.async_packet.specs.Packet.{Packet, header_in}
 use Rattle.label_table.specs.declared.reply.Stale.{Stale}
 use Rattle.label_table.specs.Bodies.{block_write}
 use Rattle.label_table.specs.declared.judgement.Asked.{Asked}
-use Rattle.label_table.specs.Layer.{Layer, Finding, of_generation, of_grammar, of_label, of_response, of_again, of_request, answering_step, asking_step, judging_step, expiring_step, seeing_step, seen_in_generation}
+use Rattle.label_table.specs.Layer.{Layer, Finding, of_generation, of_grammar, of_label, of_response, of_again, of_request, asking_step, judging_step, expiring_step, seeing_step, seen_in_generation}
 use Rattle.label_table.specs.History as wire
 use Rattle.login_table.specs.declared.login.Login.{Login}
-use Rattle.login_table.specs.Table.{Table, is_live, place_at, expired_ids, tick_step}
+use Rattle.login_table.specs.Table.{Table, is_live, place_at, expired_ids}
 use Rattle.media_bay.specs.Unsolicited.{block}
 use Rattle.orb_layout.specs.declared.ask.Ask.{Ask}
 use Rattle.orb_layout.specs.declared.pointer.OrbPointer.{OrbPointer}
@@ -23,7 +23,6 @@ use Rattle.rbc_disk.specs.Runs.{Told}
 use Rattle.command_agent.specs.declared.step.AgentStep.{AgentStep}
 use Rattle.command_agent.specs.declared.step.AgentState.{AgentState}
 use Rattle.command_agent.specs.declared.step.AgentState.TheVariants as states
-use Rattle.command_agent.specs.declared.step.PointRefusal.{PointRefusal}
 use Rattle.command_agent.specs.declared.step.Which.{Which}
 use Rattle.command_agent.specs.declared.step.Which.TheVariants.{Main, Ahead}
 use Rattle.command_agent.specs.Machine.{Machine, aligned, present_of, state_in}
@@ -54,26 +53,26 @@ use Rattle.sbp_target.specs.declared.desk.Desk.{Desk}
 use Rattle.sbp_target.specs.declared.purpose.Purpose.{Purpose}
 use Rattle.sbp_target.specs.declared.purpose.Purpose.TheVariants as purposes
 use Rattle.sbp_target.specs.Addresses.{complete, conflict_error, data_error, address_error, demand_of}
-use Rattle.sbp_target.specs.Desks.{expired_desk, new_desk, point_desk, pointed_desk, reset_desk, taken, which_in}
-use Rattle.sbp_target.specs.Sending.{answer_step, request_step, sent_by, with_side}
+use Rattle.sbp_target.specs.Desks.{expired_desk, new_desk, pointed_desk, taken, which_in}
+use Rattle.sbp_target.specs.Sending.{request_step, sent_by, with_side}
 use Rattle.sbp_target.specs.Telling.{orb_of}
 use Rattle.sbp_target.specs.Nodes.{NodeState, Scene, scene, desk_at, login_at, with_desk, with_agent}
-use Rattle.sbp_target.specs.Agents.{told_cut, cut_node, cut, follow}
-use Rattle.sbp_target.specs.Units.{is_of_unit, is_cut, cut_at, cut_from, cut_all, clear_unit, clear_from, hears, is_pending, unsolicited_by, announce_to, announce_in, announce_at, announce_from}
+use Rattle.sbp_target.specs.Agents.{told_cut, cut, follow}
+use Rattle.sbp_target.specs.Units.{is_cut, cut_at, cut_from, cut_all, clear_unit, clear_from, hears, is_pending, unsolicited_by, announce_to, announce_in, announce_at, announce_from}
 use Rattle.sbp_target.specs.Replies.{Stage, stage, Whole, whole, scene_of, plain_at, came, changed_by, announced_by, follow_all, advanced_with, advance, replied_with, replied, served_login, replied_by, replied_to}
-use Rattle.sbp_target.specs.Management.{place_in, cut_placed, cut_place, tell_left, tell_failed, clear_one, clear_units, effect_by, decided_by, told_of, with_manager, ask_manager, managed_with, managed_in, manage}
+use Rattle.sbp_target.specs.Management.{cut_placed, cut_place, tell_left, tell_failed, effect_by, decided_by, with_manager, managed_with, managed_in, manage}
 use Rattle.sbp_target.specs.Serving.{answered, state_number, last_pointer, pointer_bytes, asked_in, asked_at, rcode_of, pointed_by, point, rung_by, ring, enabled, accessed_by, started_by, start, served_as, serve, is_barred}
 use Rattle.sbp_target.specs.Serving as serving
-use Rattle.sbp_target.specs.Receiving.{answer_in, concluded, judged_scene, with_layer, received_as, received, expired_with, expired_by, expire_agent, timed_out, expired_in, expired, tell_held, held_from, cleared_node, reset_by, seen, expired_from, ticked_by, ticked}
-use Rattle.target_laws.specs.Calls.{receives, lets_expire, sees, ticks, sets_key, alone}
-use Rattle.target_laws.specs.Layers.{InOrder, first_of, layer_after, packets_of, request}
-use Rattle.target_laws.specs.Sides.{is_change, ArePlain, AreFirst, AreLast, told_from, by_place, cut_in, cut_of, of_unit, cut_for, held_login, held_of, reset_changes, left_for, of_place, cleared_of, effect_changes, decision_changes, step_tells, operation_tells, opened_at, opened_in, demand_changes, request_changes, Announced, unsent_then, sent_then, announced_as, announced_to, announced_at, announced_from, announced_if, Announces, agent_tells, reply_tells, delivery_tells, SideLaw}
+use Rattle.sbp_target.specs.Receiving.{answer_in, concluded, judged_scene, with_layer, received_as, received, expired_with, expired_by, expire_agent, timed_out, expired_in, expired, tell_held, held_from, cleared_node, reset_by, seen, expired_from, ticked}
+use Rattle.target_laws.specs.Calls.{receives, lets_expire, sees, ticks, alone}
+use Rattle.target_laws.specs.Layers.{first_of, layer_after, packets_of, request}
+use Rattle.target_laws.specs.Sides.{is_change, ArePlain, AreFirst, told_from, by_place, cut_in, cut_of, of_unit, cut_for, held_login, reset_changes, left_for, of_place, cleared_of, effect_changes, decision_changes, step_tells, operation_tells, opened_in, demand_changes, request_changes, Announced, unsent_then, announced_as, announced_to, announced_at, announced_from, Announces, agent_tells, reply_tells, delivery_tells, SideLaw}
 use Rattle.label_table.proofs.Owned.{set_at}
 use Rattle.target_laws.proofs.Answered.{answer_untold}
 use Rattle.target_laws.proofs.Made.{Made, made_keeps, judged_made}
 use Rattle.target_laws.proofs.Pass.{follows}
 use Rattle.target_laws.proofs.Framed as framed
-use Rattle.target_laws.proofs.Found.{IsRead, IsFound, found}
+use Rattle.target_laws.proofs.Found.{IsFound, found}
 use Rattle.target_laws.proofs.Quiet.{Tells, failed_in, follows_in, asks_manager_in}
 
 -- ---- plain sides behind others

@@ -1,9 +1,8 @@
 -- What is under way after each call.
-use Rattle.std.proofs.Common.{arith, ◌≡◌, ◌≢◌, ◌⊎◌, inl, inr, refl, sym, ap, ◌∙◌, subst, ℕ, ◌<◌, ◌≤◌, ◌||◌, nat_lt, is_some, Bool, true, false, List, Option, Some, None}
+use Rattle.std.proofs.Common.{arith, ◌≡◌, ◌≢◌, ◌⊎◌, inl, inr, refl, sym, ap, ◌∙◌, subst, ℕ, ◌<◌, nat_lt, is_some, true, false, Option, Some, None}
 use Rattle.std.proofs.lemmas.Bool.Decides.{nat_tests}
 use Rattle.async_packet.specs.Labels.{LabelParts}
 use Rattle.label_table.specs.declared.reply.ReplyKind.{ReplyKind}
-use Rattle.label_table.specs.declared.place.LabelState.TheVariants as states
 use Rattle.label_table.specs.Layer.{Layer}
 use Rattle.label_table.specs.Peers.{state_for, purpose_for}
 use Rattle.label_table.specs.History as wire
@@ -13,21 +12,20 @@ use Rattle.login_table.specs.declared.login.Login.{Login}
 use Rattle.mgmt_agent.specs.Machine.{source_in}
 use Rattle.command_agent.specs.declared.phase.Phase.{Phase}
 use Rattle.command_agent.specs.declared.phase.Phase.TheVariants as phases
-use Rattle.command_agent.specs.declared.step.AgentState.{AgentState}
 use Rattle.command_agent.specs.declared.step.AgentState.TheVariants as agents
-use Rattle.command_agent.specs.Machine.{state_in, is_sent, is_ahead}
+use Rattle.command_agent.specs.Machine.{state_in, is_sent}
 use Rattle.sbp_target.specs.declared.purpose.Purpose.{Purpose}
 use Rattle.sbp_target.specs.declared.purpose.Purpose.TheVariants as purposes
 use Rattle.sbp_target.specs.declared.purpose.Sent.{Sent}
 use Rattle.sbp_target.specs.Agents.{sent_to}
 use Rattle.sbp_target.specs.Desks.{is_that}
 use Rattle.sbp_target.specs.Nodes.{NodeState, desk_at, login_at}
-use Rattle.target_laws.specs.Calls.{Call, after}
+use Rattle.target_laws.specs.Calls.{after}
 use Rattle.target_laws.specs.Transactions.{IsUnderWay, IsOwn, HasMain, IsThat, AgentLaw, HasOne, TransactionLaw, UnderWayLaw}
 use Rattle.target_laws.proofs.Stepped.{is_bare}
-use Rattle.target_laws.proofs.Seats.{Lives, IsFor, Seat, split, behind_that}
+use Rattle.target_laws.proofs.Seats.{Lives, IsFor, split, behind_that}
 use Rattle.target_laws.proofs.Primitives.{Known}
-use Rattle.target_laws.proofs.Following.{node_of, Fits, some_true}
+use Rattle.target_laws.proofs.Following.{node_of, some_true}
 use Rattle.target_laws.proofs.Calling.{not_eight, Good, peer_of}
 use Rattle.target_laws.proofs.Rested.{some_that}
 use Rattle.target_laws.proofs.Settled.{all_good}

@@ -14,7 +14,7 @@ use Rattle.label_table.specs.Bodies.{block_write}
 use Rattle.label_table.specs.Layer.{Layer, Finding, of_response, of_request, asking_step, judging_step}
 use Rattle.label_table.specs.History as wire
 use Rattle.login_table.specs.declared.login.Login.{Login}
-use Rattle.login_table.specs.Table.{Table, is_live, place_at, expired_ids}
+use Rattle.login_table.specs.Table.{Table, is_live, expired_ids}
 use Rattle.media_bay.specs.Unsolicited.{block}
 use Rattle.orb_layout.specs.declared.pointer.OrbPointer.{OrbPointer}
 use Rattle.orb_layout.specs.declared.pointer.OrbPointer.TheVariants as pointers

@@ -2,14 +2,13 @@
 -- ACTIVE has one main transaction under way, to its login's node, and one read ahead at most. An agent in another state has none,
 -- but for the write of the status block of the ORB that made it DEAD. A management operation has one transaction under way, to the
 -- node that began it. Each label under way is for one of these, for an unsolicited status, or for nobody.
-use Rattle.std.specs.Prelude.{◌≡◌, ◌≢◌, ◌⊎◌, ◌<◌, ◌≤◌, ℕ, Bool, true, false, List, Option, Some, None}
+use Rattle.std.specs.Prelude.{◌≡◌, ◌≢◌, ◌⊎◌, ◌<◌, ℕ, List, Option, Some, None}
 use Rattle.label_table.specs.declared.reply.ReplyKind.{ReplyKind}
 use Rattle.label_table.specs.declared.place.LabelState.TheVariants as states
 use Rattle.label_table.specs.Layer.{Layer}
 use Rattle.label_table.specs.Peers.{state_for, purpose_for}
 use Rattle.login_table.specs.declared.login.Login.{Login}
 use Rattle.mgmt_agent.specs.Machine.{source_in}
-use Rattle.command_agent.specs.declared.phase.Phase.{Phase}
 use Rattle.command_agent.specs.declared.phase.Phase.TheVariants as phases
 use Rattle.command_agent.specs.declared.step.AgentState.TheVariants as agents
 use Rattle.command_agent.specs.Machine.{state_in}
