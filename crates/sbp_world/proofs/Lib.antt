@@ -1,0 +1,10 @@
+pub mod Making
+pub mod Weights
+pub mod Settled
+pub mod Received
+pub mod Delivered
+pub mod Standing
+pub mod Nodes
+pub mod Expired
+pub mod Events
+pub mod Handed

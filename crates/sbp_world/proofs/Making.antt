@@ -1,0 +1,37 @@
+-- The nodes at the start, one after the other.
+use Rattle.std.specs.Prelude.{◌≡◌, ℕ, zero, suc, ◌+◌, Bool, List, [], ◌∷◌, ◌++◌, length, refl}
+use Rattle.std.proofs.Common.{◌∙◌, ap, arith}
+use Rattle.std.proofs.lemmas.Grind.{common_steps}
+use Rattle.sbp_initiator.specs.Initiators.{new_state}
+use Rattle.sbp_world.specs.Generations.{first_ids}
+use Rattle.sbp_world.specs.Making.{new_initiators}
+
+pub ids_none : (n : ℕ) → n ≡ zero → first_ids n ≡ []
+unfolding first_ids
+ids_none zero e = refl
+ids_none (suc n) e = absurd (omega arith)
+
+pub ids_more : (m n : ℕ) → m ≡ suc n → first_ids m ≡ first_ids n ++ n ∷ []
+unfolding first_ids
+ids_more zero n e = absurd (omega arith)
+ids_more (suc k) n e = let same : k ≡ n = omega arith in rw same
+
+pub ids_size : (n : ℕ) → length (first_ids n) ≡ n
+unfolding first_ids
+ids_size zero = refl
+ids_size (suc n) = let s = ids_size n in grind (arith, common_steps)
+
+pub initiators_none : (n : ℕ) (ready : Bool) → n ≡ zero → new_initiators n ready ≡ []
+unfolding new_initiators
+initiators_none zero ready e = refl
+initiators_none (suc n) ready e = absurd (omega arith)
+
+pub initiators_more : (m n : ℕ) (ready : Bool) → m ≡ suc n → new_initiators m ready ≡ new_initiators n ready ++ new_state n ready ∷ []
+unfolding new_initiators
+initiators_more zero n ready e = absurd (omega arith)
+initiators_more (suc k) n ready e = let same : k ≡ n = omega arith in rw same
+
+pub initiators_size : (n : ℕ) (ready : Bool) → length (new_initiators n ready) ≡ n
+unfolding new_initiators
+initiators_size zero ready = refl
+initiators_size (suc n) ready = let s = initiators_size n ready in grind (arith, common_steps)

@@ -1,0 +1,40 @@
+-- A world goes on with a run.
+use Rattle.std.specs.Prelude.{◌≡◌, ℕ, Bool, List, Option, refl}
+use Rattle.std.proofs.Common.{◌∙◌, ap, subst}
+use Rattle.rbc_disk.specs.Runs.{Told}
+use Rattle.sbp_journal.specs.declared.event.Event.{Event}
+use Rattle.sbp_journal.specs.declared.event.Event.TheVariants as events
+use Rattle.sbp_world.specs.Lines.{Happens, MayHappen, happens}
+use Rattle.sbp_world.specs.Runs.{BeginsLaw, GoesOnLaw, Run, SettlesLaw, StandsFor, after, beginning, entry, with_entry}
+use Rattle.sbp_world.specs.Settling.{AreUpTo, HasSettled, budget, settled}
+use Rattle.sbp_world.specs.Worlds.{Scene, begun}
+
+pub begins : BeginsLaw
+begins initiators ready units start = record { state = refl; lines = tt }
+
+stands_by : (run : Run) (line : ℕ) (event : Event) (told : List (Option Told)) (old new : Scene) → StandsFor run old → new ≡ happens line event told old → MayHappen event told old → StandsFor (with_entry run (entry line event told new.world.fresh)) new
+stands_by run line event told old new s e m = record {
+  state = e ∙ ap (happens line event told) s.state;
+  lines = (
+    record {
+      may = subst (λ x. MayHappen event told x) s.state m;
+      notes_are = ap (λ x. x.world.fresh) (e ∙ ap (happens line event told) s.state);
+    },
+    s.lines,
+  );
+}
+
+pub goes_on : GoesOnLaw
+goes_on run line event old new s h = stands_by run line event h.told old new s h.is h.may
+
+settled_is : (line : ℕ) (told : List (Option Told)) (old new : Scene) → new ≡ settled told (begun old) → new ≡ happens line events.Settle told old
+unfolding happens
+settled_is line told old new e = e
+
+settled_may : (told : List (Option Told)) (old : Scene) → AreUpTo (budget (begun old).world) told (begun old) → MayHappen events.Settle told old
+unfolding MayHappen
+settled_may told old m = m
+
+pub settles : SettlesLaw
+settles run line done old new s h =
+    stands_by run line events.Settle h.told old new s (settled_is line h.told old new h.is) (settled_may h.told old h.may)

@@ -1,0 +1,15 @@
+use Rattle.std.specs.Prelude.{◌≡◌, true, false}
+use Rattle.std.proofs.Common.{rules}
+use Rattle.sbp_world.specs.Packets.{is_in_flight}
+use Rattle.sbp_world.proofs.Delivered.{line_delivers, line_refused, on_ok}
+use Rattle.sbp_world.proofs.parts.Parts.deliver_line.Goals as goal
+
+pub returns-then-is_in_flight-clause-delivered : goal.returns-then-is_in_flight-clause-delivered
+returns-then-is_in_flight-clause-delivered g c =
+    let t : is_in_flight c.args.serial c.args.self.now ≡ true = search rules in
+    on_ok c.deliver.result _ _ (λ d. line_delivers _ _ _ _ t d) c.deliver.ensures.delivers
+
+pub returns-else-is_in_flight-clause-delivered : goal.returns-else-is_in_flight-clause-delivered
+returns-else-is_in_flight-clause-delivered g c =
+    let t : is_in_flight c.args.serial c.args.self.now ≡ false = search rules in
+    on_ok c.refuse.result _ _ (λ e. line_refused _ _ _ _ _ _ t e) c.refuse.ensures.step

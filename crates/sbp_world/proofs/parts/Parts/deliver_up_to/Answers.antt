@@ -1,0 +1,24 @@
+use Rattle.std.specs.Prelude.{◌≡◌, ◌≤◌, refl}
+use Rattle.std.proofs.Common.{◌∙◌, arith, rules}
+use Rattle.sbp_world.proofs.Settled.{all_ended, all_more, all_none, all_spent}
+use Rattle.sbp_world.proofs.parts.Parts.deliver_up_to.Goals as goal
+
+pub loop-init : goal.loop-init
+loop-init g c = record { size = refl; units = refl; so_far = all_none _ }
+
+pub loop-preserved : goal.loop-preserved
+loop-preserved g c = record {
+  size = c.deliver.ensures.size ∙ c.loop.invariant.size;
+  units = c.deliver.ensures.units ∙ c.loop.invariant.units;
+  so_far = all_more _ _ _ _ _ c.loop.invariant.so_far c.in-Some.ensures c.in_ok-deliver.ensures.delivers;
+}
+
+pub returns-in_default-clause-delivers : goal.returns-in_default-clause-delivers
+returns-in_default-clause-delivers g c =
+    let few : c.loop.counter ≤ c.args.most = search rules in
+    all_ended _ _ _ _ c.loop.invariant.so_far few c.in_default.ensures
+
+pub returns-clause-delivers : goal.returns-clause-delivers
+returns-clause-delivers g c =
+    let spent : c.loop.counter ≡ c.args.most = search rules in
+    all_spent _ _ _ _ spent c.loop.invariant.so_far

@@ -1,0 +1,26 @@
+use Rattle.std.specs.Prelude.{◌≡◌, ◌-◌, ◌==◌, nat_lt, true, false, length}
+use Rattle.std.proofs.Common.{rules}
+use Rattle.sbp_world.proofs.Received.{initiator_receives, nobody_receives, node_receives, none_receives}
+use Rattle.sbp_world.proofs.parts.Parts.receive.Goals as goal
+
+pub returns-in_default-clause-received : goal.returns-in_default-clause-received
+returns-in_default-clause-received g c =
+    rw (← c.self.view_is) (none_receives _ _ _ c.requires.outbox c.in_default.ensures)
+
+pub returns-then-node-eq0-clause-received : goal.returns-then-node-eq0-clause-received
+returns-then-node-eq0-clause-received g c =
+    let z : (c.in-Some.sent.now.to == 0) ≡ true = search rules in
+    rw (← c.self.view_is) (node_receives _ _ c.in-Some.sent.now _ _ _ _ c.in-Some.ensures z c.in_ok-judged.ensures.received)
+
+pub returns-then-index-len-clause-received : goal.returns-then-index-len-clause-received
+returns-then-index-len-clause-received g c =
+    let z : (c.in-Some.sent.now.to == 0) ≡ false = search rules in
+    let out : nat_lt (c.in-Some.sent.now.to - 1) (length c.self.inside.initiators.items) ≡ false = search rules in
+    rw (← c.self.view_is) (nobody_receives _ _ c.in-Some.sent.now _ c.requires.outbox c.in-Some.ensures z out)
+
+pub returns-clause-received : goal.returns-clause-received
+returns-clause-received g c =
+    let z : (c.in-Some.sent.now.to == 0) ≡ false = search rules in
+    let inside : nat_lt (c.in-Some.sent.now.to - 1) (length c.self.inside.initiators.items) ≡ true = search rules in
+    let i : c.from-index.result - 1 ≡ c.in-Some.sent.now.to - 1 = search rules in
+    rw (← c.self.view_is) (initiator_receives _ _ _ c.in-Some.sent.now _ _ _ i c.in-Some.ensures z inside c.in_ok-judged-2.ensures.received)

@@ -1,0 +1,15 @@
+use Rattle.std.specs.Prelude.{◌≡◌, true, false}
+use Rattle.std.proofs.Common.{rules}
+use Rattle.sbp_world.specs.Packets.{may_repeat}
+use Rattle.sbp_world.proofs.Delivered.{line_repeats, on_ok, repeat_refused}
+use Rattle.sbp_world.proofs.parts.Parts.repeat_line.Goals as goal
+
+pub returns-then-may_repeat-clause-repeated : goal.returns-then-may_repeat-clause-repeated
+returns-then-may_repeat-clause-repeated g c =
+    let t : may_repeat c.args.serial c.args.self.now ≡ true = search rules in
+    on_ok c.deliver.result _ _ (λ d. line_repeats _ _ _ _ t d) c.deliver.ensures.delivers
+
+pub returns-else-may_repeat-clause-repeated : goal.returns-else-may_repeat-clause-repeated
+returns-else-may_repeat-clause-repeated g c =
+    let t : may_repeat c.args.serial c.args.self.now ≡ false = search rules in
+    on_ok c.refuse.result _ _ (λ e. repeat_refused _ _ _ _ _ _ t e) c.refuse.ensures.step

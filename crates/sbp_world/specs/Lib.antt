@@ -1,0 +1,16 @@
+pub mod Generations
+pub mod Requests
+pub mod Places
+pub mod Loads
+pub mod Words
+pub mod Worlds
+pub mod Telling
+pub mod Sending
+pub mod Handing
+pub mod Delivering
+pub mod Settling
+pub mod Nodes
+pub mod Packets
+pub mod Lines
+pub mod Making
+pub mod Runs

@@ -1,0 +1,102 @@
+ghost use Rattle.packet_store.specs.Kept.{flying, recent};
+ghost use Rattle.std.specs.Prelude.{◌≡◌, ◌+◌, ◌-◌, ◌≤◌, ◌∷◌, [], length, IfOk};
+ghost use Rattle.sbp_world.specs.Making.{new_initiators, new_world};
+
+use super::Parts;
+use crate::generations::Generations;
+use crate::loads::Loads;
+use crate::places::Places;
+use crate::requests::Requests;
+use packet_store::Store;
+use sbp_base::NoMemory;
+use sbp_initiator::Initiator;
+use sbp_journal::{Journal, Note};
+use sbp_target::Target;
+use std::alloc::Global;
+
+/// Initiators 0 and so on.
+#[tactic(auto, using(crate::proofs::Making::initiators_none, crate::proofs::Making::initiators_more, crate::proofs::Making::initiators_size))]
+fn new_initiators(alloc: Global, initiators: u8, ready: bool) -> Result<Vec<Initiator>, NoMemory>
+    requires { initiators ≤ 4 }
+    ensures made { IfOk result (λ list. list.items ≡ new_initiators initiators ready) }
+    ensures size { IfOk result (λ list. length list.items ≡ initiators) }
+{
+    let mut list = Vec::new(alloc);
+    for number in 0..usize::from(initiators) {
+        list.push(Initiator::new(alloc, number as u8, ready)?)?;
+    }
+    Ok(list)
+}
+
+/// The note of the line that begins the run.
+fn first_notes(alloc: Global, initiators: u8, ready: bool) -> Result<Journal, NoMemory>
+    ensures { IfOk result (λ notes. notes ≡ notes_begin initiators ready ∷ []) }
+{
+    let mut fresh = Journal::new(alloc);
+    fresh.push(Note::Begin { initiators, ready })?;
+    Ok(fresh)
+}
+
+ghost use Rattle.sbp_world.specs.Making.{notes_begin, ready_logins};
+
+/// How many initiators have a login from the start.
+fn ready_logins(initiators: u8, ready: bool) -> u8
+    ensures result { result ≡ ready_logins initiators ready }
+    ensures few { result ≤ initiators }
+{
+    if ready { initiators } else { 0 }
+}
+
+impl Parts {
+    /// A run begins.
+    #[tactic(auto, unfolding(crate::specs::Making::new_world))]
+    pub(crate) fn new(
+        alloc: Global,
+        initiators: u8,
+        ready: bool,
+        units: u8,
+    ) -> Result<Parts, NoMemory>
+        requires initiators { initiators ≤ 4 }
+        requires some { 1 ≤ units }
+        requires units { units ≤ 4 }
+        ensures { IfOk result (λ parts. parts ≡ new_world initiators ready units) }
+    {
+        let logins = ready_logins(initiators, ready);
+        Ok(Parts {
+            alloc,
+            generations: Generations::new(alloc, initiators + 1)?,
+            target: Target::new(alloc, units, logins)?,
+            initiators: new_initiators(alloc, initiators, ready)?,
+            store: Store::new(alloc),
+            last: 0,
+            requests: Requests::new(alloc)?,
+            places: Places::new(alloc, logins)?,
+            loads: Loads::new(alloc, initiators)?,
+            fresh: first_notes(alloc, initiators, ready)?,
+        })
+    }
+
+    /// The notes of the last line.
+    pub(crate) fn fresh(&self) -> &Journal
+        ensures { result.now ≡ self.now.fresh }
+    {
+        &self.fresh
+    }
+
+    /// How many packets are kept.
+    pub(crate) fn kept(&self) -> usize
+        ensures all { result ≡ length self.now.store.kept }
+        ensures shares { result ≡ length (flying self.now.store.kept) + length (recent (self.now.store.last - 1024) self.now.store.kept) }
+    {
+        self.store.kept()
+    }
+
+    /// A line begins without notes.
+    pub(crate) fn clear(&mut self)
+        ensures { self.new ≡ without_notes self.old }
+    {
+        self.fresh.clear();
+    }
+}
+
+ghost use Rattle.sbp_world.specs.Worlds.{without_notes};

@@ -1,0 +1,90 @@
+ghost use Rattle.std.specs.Prelude.{◌≡◌, ◌+◌, ◌≤◌, length, map, IfOk, OnOk};
+ghost use Rattle.packet_store.specs.Kept.{flying, recent};
+ghost use Rattle.sbp_world.specs.Lines.{Happens, IsEvent};
+ghost use Rattle.sbp_world.specs.Making.{new_world};
+ghost use Rattle.sbp_world.specs.Settling.{HasSettled};
+ghost use Rattle.sbp_world.specs.Worlds.{scene};
+
+use crate::parts::Parts;
+use rbc_disk::Medium;
+use sbp_base::NoMemory;
+use sbp_journal::{Event, Journal, Outbox};
+use std::alloc::Global;
+use std::marker::Model;
+
+/// The bus with its nodes, and the notes of the last line. After want of memory it must not be used again.
+#[derive(Drop)]
+pub struct World {
+    parts: Parts,
+    outbox: Outbox,
+}
+
+impl Model for World {
+    ghost use Rattle.sbp_world.specs.Worlds.{WorldState};
+
+    ghost Value = { WorldState };
+
+    ghost view = { λ world. world.parts };
+}
+
+impl World {
+    /// A run begins: with 1 to 4 initiators, each logged in on unit 0 where they are ready, and 1 to 4
+    /// units.
+    pub fn begin(alloc: Global, initiators: u8, ready: bool, units: u8) -> Result<World, NoMemory>
+        requires some { 1 ≤ initiators }
+        requires few { initiators ≤ 4 }
+        requires one { 1 ≤ units }
+        requires units { units ≤ 4 }
+        ensures { IfOk result (λ world. world ≡ new_world initiators ready units) }
+    {
+        Ok(World {
+            parts: Parts::new(alloc, initiators, ready, units)?,
+            outbox: Outbox::new(alloc),
+        })
+    }
+
+    /// Runs the event of the line with this number; its notes are then [`World::fresh`]. A refused action
+    /// is a note.
+    pub fn step(
+        &mut self,
+        media: &mut Vec<Box<dyn Medium>>,
+        line: u32,
+        event: &Event,
+    ) -> Result<(), NoMemory>
+        requires event { IsEvent event.now (length self.old.initiators) }
+        requires media { length media.old.items ≡ length self.old.target.units }
+        ensures size { length media.new.items ≡ length media.old.items }
+        ensures units { length self.new.target.units ≡ length self.old.target.units }
+        ensures happens { OnOk result (Happens line event.now (scene self.old (map disk media.old.items) (map media_faults media.old.items)) (scene self.new (map disk media.new.items) (map media_faults media.new.items))) }
+    {
+        self.parts.step(media, &mut self.outbox, line, event)
+    }
+
+    /// Runs a `settle`; true exactly where nothing is in flight at the end.
+    pub fn settle(&mut self, media: &mut Vec<Box<dyn Medium>>, _line: u32) -> Result<bool, NoMemory>
+        requires media { length media.old.items ≡ length self.old.target.units }
+        ensures size { length media.new.items ≡ length media.old.items }
+        ensures units { length self.new.target.units ≡ length self.old.target.units }
+        ensures settles { IfOk result (λ settled. HasSettled settled (scene self.old (map disk media.old.items) (map media_faults media.old.items)) (scene self.new (map disk media.new.items) (map media_faults media.new.items))) }
+    {
+        self.parts.clear();
+        self.parts.settle(media, &mut self.outbox)
+    }
+
+    /// The notes of the last line alone; after `begin` that of its line.
+    pub fn fresh(&self) -> &Journal
+        ensures { result.now ≡ self.now.fresh }
+    {
+        self.parts.fresh()
+    }
+
+    /// How many packets are kept: those in flight, and the delivered ones among the last 1,024 serials.
+    pub fn kept(&self) -> usize
+        ensures all { result ≡ length self.now.store.kept }
+        ensures shares { result ≡ length (flying self.now.store.kept) + length (recent (self.now.store.last - 1024) self.now.store.kept) }
+    {
+        self.parts.kept()
+    }
+}
+
+ghost use Rattle.std.specs.Prelude.{◌-◌};
