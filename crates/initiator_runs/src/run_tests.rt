@@ -1,0 +1,82 @@
+use crate::texts::{
+    DEAD_LIST, FOREIGN_SOURCE, HALF_A_LINK, NO_ROM, OPERATION_WHILE_POINTING, OTHER_MEDIA,
+    PINNED_SLOT, QUERY_TWO, REPEATS_AND_REFUSALS, SEEN_RESET, STUCK_SESSION, USUAL_SESSION,
+    WHOLE_PACKETS,
+};
+use crate::trial::Trial;
+use sbp_base::NoMemory;
+use script_words::parts_of;
+use std::alloc::Global;
+use std::test::Fail;
+
+/// Whether an initiator tells a text where the lines of it are done that say what is done.
+fn is_told(alloc: Global, ready: bool, text: &str) -> Result<bool, NoMemory> {
+    let mut trial = Trial::new(alloc, ready)?;
+    let lines = parts_of(alloc, text.as_bytes(), b'\n')?;
+    for line in &lines {
+        trial.step(line)?;
+    }
+    Ok(trial.told() == text.as_bytes())
+}
+
+/// The runs of an initiator that is logged in as they begin.
+#[test]
+fn ready_runs(rt: HostRuntime) -> Result<(), Fail> {
+    for text in [
+        WHOLE_PACKETS,
+        HALF_A_LINK,
+        QUERY_TWO,
+        PINNED_SLOT,
+        OPERATION_WHILE_POINTING,
+        FOREIGN_SOURCE,
+        SEEN_RESET,
+        REPEATS_AND_REFUSALS,
+        STUCK_SESSION,
+        DEAD_LIST,
+    ] {
+        assert!(rt; is_told(rt.alloc(), true, text)?, "{text}");
+    }
+    Ok(())
+}
+
+/// Those of one that has not read the target's ROM.
+#[test]
+fn cold_runs(rt: HostRuntime) -> Result<(), Fail> {
+    for text in [USUAL_SESSION, OTHER_MEDIA, NO_ROM] {
+        assert!(rt; is_told(rt.alloc(), false, text)?, "{text}");
+    }
+    Ok(())
+}
+
+/// The 33rd ORB finds no slot; that is told before the want of a label, and a ring wants only that.
+#[test]
+fn slots_run_out(rt: HostRuntime) -> Result<(), Fail> {
+    let mut trial = Trial::new(rt.alloc(), true)?;
+    trial.repeat("append 0 tur", 32)?;
+    assert!(rt; trial.ends_with("sent FFC07D00FFC1FFFFF00400100000001F\n"));
+    trial.repeat("append 0 tur", 1)?;
+    assert!(rt; trial.ends_with("refused 0 9\n"));
+    trial.repeat("state 0", 32)?;
+    trial.repeat("put 0 tur", 1)?;
+    trial.repeat("append 0 tur", 1)?;
+    trial.repeat("ring 0", 1)?;
+    assert!(rt; trial.ends_with("refused 0 9\nrefused 0 9\nrefused 0 10\n"));
+    Ok(())
+}
+
+/// 64 requests take all labels; those that timed out rest until a reset is seen.
+#[test]
+fn labels_run_out(rt: HostRuntime) -> Result<(), Fail> {
+    let mut trial = Trial::new(rt.alloc(), true)?;
+    trial.repeat("state 0", 64)?;
+    assert!(rt; trial.ends_with("sent FFC0FD40FFC1FFFFF0040000\n"));
+    trial.expire_all()?;
+    assert!(rt; trial.ends_with("op 0 state error\n"));
+    trial.repeat("state 0", 1)?;
+    trial.repeat("ring 0", 1)?;
+    assert!(rt; trial.ends_with("refused 0 10\nrefused 0 8\n"));
+    trial.repeat("see 1 1 0", 1)?;
+    trial.repeat("reconnect 0", 1)?;
+    assert!(rt; trial.ends_with("sent FFC00110FFC1FFFFF0010000000800000000000012000000\n"));
+    Ok(())
+}
