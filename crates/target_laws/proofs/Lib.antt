@@ -19,3 +19,4 @@ pub mod Effecting
 pub mod Managed
 pub mod Settled
 pub mod Under
+pub mod Rowed

@@ -1,5 +1,6 @@
 ghost use Rattle.target_laws.specs.Answers.{AnswerLaw};
 ghost use Rattle.target_laws.specs.Labels.{LabelLaw};
+ghost use Rattle.target_laws.specs.Judgements.{RowLaw};
 ghost use Rattle.target_laws.specs.Layers.{LayerLaw};
 ghost use Rattle.target_laws.specs.Sides.{SideLaw};
 ghost use Rattle.target_laws.specs.Transactions.{UnderWayLaw};
@@ -41,4 +42,11 @@ pub fn changes_are_told_in_order()
 #[tactic(auto, using(crate::proofs::Under::under_way_law))]
 pub fn transactions_are_waited_for()
     ensures { UnderWayLaw }
+{}
+
+/// What a target serves has the rcode of the first row that holds of the table that nodes and laws share,
+/// and it ignores a request exactly by the first row of the table of judging.
+#[tactic(auto, using(crate::proofs::Rowed::row_law))]
+pub fn first_row_has_its_rcode()
+    ensures { RowLaw }
 {}
