@@ -5,7 +5,7 @@ use Rattle.std.specs.List.{join_with_byte, flat_map, AllByRecursion}
 use Rattle.std.proofs.Common.{None, subst}
 use Rattle.std.specs.Fmt.{decimal}
 use Rattle.hex.specs.Hex.{encode_upper, decode_pairs, hex_digit_value}
-use Rattle.sbp_journal.specs.Canonical.{Run, runs_of, run_bytes, AreMaximal, Piece, plain, repeated, onto_pieces, pieces_of, piece_text, canonical}
+use Rattle.line_text.specs.Canonical.{Run, runs_of, run_bytes, AreMaximal, Piece, plain, repeated, onto_pieces, pieces_of, piece_text, canonical}
 use Rattle.sbp_journal.specs.Written.{AreBytes}
 use Rattle.sbp_journal.proofs.Each.{all_append, all_front, all_back}
 use Rattle.journal_text.proofs.MaximalRuns.{are_runs}

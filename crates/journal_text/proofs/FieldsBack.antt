@@ -12,7 +12,7 @@ use Rattle.hex.specs.Hex.{encode_upper, encode_with, upper_digits, decode_of, he
 use Rattle.hex.specs.declared.error.FromHexError.{FromHexError}
 use Rattle.hex.proofs.HexLemmas.{decode_of-encode_upper, IsDigits-upper_digits}
 use Rattle.rbc_command.specs.declared.sense.Sense.{Sense}
-use Rattle.sbp_journal.specs.Text.{sense_word}
+use Rattle.line_text.specs.Fields.{sense_word}
 use Rattle.sbp_journal.specs.Written.{AreBytes}
 use Rattle.journal_text.proofs.WordsBack.{Lacks, split, split-join, lacks-append}
 

@@ -3,7 +3,7 @@ use Rattle.std.proofs.Common.{◌≡◌, ℕ, zero, suc, ◌+◌, ◌<◌, ◌==
 use Rattle.std.specs.List.{flat_map}
 use Rattle.std.proofs.lemmas.Bool.{eqb-true, eq-eqb}
 use Rattle.std.proofs.lemmas.Bool.Decides.{nat_tests}
-use Rattle.sbp_journal.specs.Canonical.{Run, onto_runs, runs_of, run_bytes, BeginsOtherwise, AreMaximal, AreRunsOf}
+use Rattle.line_text.specs.Canonical.{Run, onto_runs, runs_of, run_bytes, BeginsOtherwise, AreMaximal, AreRunsOf}
 
 -- a byte that differs from the first run begins a run of its own; one that does not lengthens it
 onto_runs-apart : (byte : ℕ) (runs : List Run) → BeginsOtherwise byte runs → onto_runs byte runs ≡ record { byte = byte; count = 1 } ∷ runs

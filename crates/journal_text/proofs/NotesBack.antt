@@ -24,7 +24,8 @@ use Rattle.sbp_journal.specs.declared.operation.Operation.TheVariants as operati
 use Rattle.sbp_journal.specs.declared.operation.OpWord.{OpWord}
 use Rattle.sbp_journal.specs.declared.operation.OpWord.TheVariants as op_words
 use Rattle.sbp_journal.specs.Form.{IsStatus, IsAnswer, IsCheck}
-use Rattle.sbp_journal.specs.Text.{Field, maybe, node_name, word, mode, cause_word, cut_word, fail_word, function_word, operation_word, status_fields, check_fields, end_fields, answer_fields, buffer_fields, login_fields, words_of}
+use Rattle.line_text.specs.Fields.{Field, maybe, node_name, word}
+use Rattle.sbp_journal.specs.Text.{mode, cause_word, cut_word, fail_word, function_word, operation_word, status_fields, check_fields, end_fields, answer_fields, buffer_fields, login_fields, words_of}
 use Rattle.sbp_journal.specs.Written.{Fits, IsWritten}
 use Rattle.sbp_journal.proofs.LineWords.{answer_status}
 use Rattle.journal_text.proofs.FieldsBack.{number_of, number_back, decimal_digits, unhex, unhex_back, byte_in, byte_back, sense_of, sense_back}

@@ -20,7 +20,8 @@ use Rattle.sbp_journal.specs.declared.operation.Operation.{Operation}
 use Rattle.sbp_journal.specs.declared.operation.Operation.TheVariants as operations
 use Rattle.sbp_journal.specs.declared.operation.OpWord.{OpWord}
 use Rattle.sbp_journal.specs.declared.operation.OpWord.TheVariants as op_words
-use Rattle.sbp_journal.specs.Text.{Field, number, maybe, node_name, unit_name, digits, bytes, sense_data, name, word, mode, cause_word, cut_word, fail_word, function_word, operation_word, status_fields, check_fields, end_fields, answer_fields, buffer_fields, login_fields, keyword, fields, words_of, text_of}
+use Rattle.line_text.specs.Fields.{Field, number, maybe, node_name, unit_name, digits, payload, bytes, sense_data, name, word}
+use Rattle.sbp_journal.specs.Text.{mode, cause_word, cut_word, fail_word, function_word, operation_word, status_fields, check_fields, end_fields, answer_fields, buffer_fields, login_fields, keyword, fields, words_of, text_of}
 use Rattle.sbp_journal.specs.Form.{HasForm, IsStatus, IsCheck}
 use Rattle.sbp_journal.specs.Written.{Fits, IsWritten}
 use Rattle.sbp_journal.proofs.LineWords.{answer_status}
@@ -64,6 +65,8 @@ word_lacks c out (node_name zero) h p = (out.target, tt)
 word_lacks c out (node_name (suc n)) h p = decimal_lacks c n (omega arith) out.apart.decimal
 word_lacks c out (unit_name n) h p = (out.unit, decimal_lacks c n h out.apart.decimal)
 word_lacks c out (digits bs) h p = encode_lacks c bs out.apart.hex h
+word_lacks c out (payload []) h p = (out.dash, tt)
+word_lacks c out (payload (byte ∷ rest)) h p = encode_lacks c (byte ∷ rest) out.apart.hex h
 word_lacks c out (bytes bs) h p = canonical_lacks c out.apart out.plus out.dash bs h.0 h.1
 word_lacks c out (sense_data sense) h p = sense_lacks c sense out.apart.hex out.slash p h.0 h.1
 word_lacks c out (name text) h p = lacks c is_plain text out.plain p

@@ -1,6 +1,6 @@
 ghost use Rattle.std.specs.Prelude.{◌≡◌, ℕ, List};
-ghost use Rattle.sbp_journal.specs.Canonical as canonical;
-ghost use Rattle.sbp_journal.specs.Canonical.{AreRunsOf, runs_of};
+ghost use Rattle.line_text.specs.Canonical as canonical;
+ghost use Rattle.line_text.specs.Canonical.{AreRunsOf, runs_of};
 ghost use Rattle.std.specs.List.{AllByRecursion};
 ghost use Rattle.sbp_journal.specs.Text.{text_of};
 ghost use Rattle.sbp_journal.specs.Written.{IsWritten};

@@ -6,7 +6,7 @@ use Rattle.std.proofs.lemmas.List.{drop-drop, drop_all, take_all}
 use Rattle.std.proofs.lemmas.Bool.{eqb-true, eq-eqb, le-leb}
 use Rattle.std.proofs.lemmas.Bool.Decides.{nat_tests}
 use Rattle.hex.specs.Hex.{encode_with}
-use Rattle.sbp_journal.specs.Canonical.{Run, onto_runs, runs_of, Piece, plain, repeated, onto_pieces, pieces_of, piece_text, plus, canonical}
+use Rattle.line_text.specs.Canonical.{Run, onto_runs, runs_of, Piece, plain, repeated, onto_pieces, pieces_of, piece_text, plus, canonical}
 use Rattle.sbp_journal.specs.Pieces.{with_piece, with_plain, with_pieces}
 
 -- how many bytes at the front equal `byte`

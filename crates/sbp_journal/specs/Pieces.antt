@@ -1,7 +1,7 @@
 -- A canonical form that grows piece by piece, as its writer makes it.
 use Rattle.std.specs.Prelude.{ℕ, List, [], ◌∷◌, ◌++◌}
 use Rattle.hex.specs.Hex.{encode_upper}
-use Rattle.sbp_journal.specs.Canonical.{Piece, piece_text, plus}
+use Rattle.line_text.specs.Canonical.{Piece, piece_text, plus}
 
 -- one more piece, behind a `+` where it is not the first
 abbrev pub with_piece : List ℕ → List ℕ → List ℕ

@@ -1,14 +1,12 @@
 -- The text of a note: one line of words, separated by single blanks.
-use Rattle.std.specs.Prelude.{ℕ, zero, suc, Bool, true, false, List, [], ◌∷◌, ◌++◌, map, codes, slice_index, Option, Some, None}
-use Rattle.std.specs.Fmt.{decimal}
+use Rattle.std.specs.Prelude.{ℕ, Bool, true, false, List, [], ◌∷◌, ◌++◌, map, codes, Option, Some, None}
 use Rattle.std.specs.List.{join_with_byte, flat_map}
-use Rattle.hex.specs.Hex.{encode_upper, upper_digits}
 use Rattle.rbc_command.specs.declared.sense.Sense.{Sense}
 use Rattle.orb_layout.specs.declared.ask.FailCause.{FailCause}
 use Rattle.orb_layout.specs.declared.ask.FailCause.TheVariants as fail_causes
 use Rattle.orb_layout.specs.declared.status.StatusKind.{StatusKind}
 use Rattle.orb_layout.specs.declared.status.StatusKind.TheVariants.{Good, Check, Dummy, Aborted, Illegal, Failed, Management}
-use Rattle.sbp_journal.specs.Canonical.{canonical}
+use Rattle.line_text.specs.Fields.{Field, number, maybe, node_name, unit_name, digits, bytes, sense_data, name, word}
 use Rattle.sbp_journal.specs.declared.cause.Cause.{Cause}
 use Rattle.sbp_journal.specs.declared.cause.Cause.TheVariants as causes
 use Rattle.sbp_journal.specs.declared.cause.CutCause.{CutCause}
@@ -23,33 +21,6 @@ use Rattle.sbp_journal.specs.declared.operation.Operation.{Operation}
 use Rattle.sbp_journal.specs.declared.operation.Operation.TheVariants as operations
 use Rattle.sbp_journal.specs.declared.operation.OpWord.{OpWord}
 use Rattle.sbp_journal.specs.declared.operation.OpWord.TheVariants as op_words
-
--- what a word of a line stands for
-pub data Field : Type 0 where
-  number : ℕ → Field  -- in decimal
-  maybe : Option ℕ → Field  -- in decimal, or `-`
-  node_name : ℕ → Field  -- `t` for the target, or the number of the initiator
-  unit_name : ℕ → Field  -- `u` and the number of the unit
-  digits : List ℕ → Field  -- two digits a byte
-  bytes : List ℕ → Field  -- in the canonical form
-  sense_data : Sense → Field  -- K/CC/QQ
-  name : List ℕ → Field  -- a fixed word
-
--- K/CC/QQ: a sense key of one digit, a code and a qualifier of two each
-abbrev pub sense_word : Sense → List ℕ
-sense_word sense = slice_index upper_digits sense.key ∷ 47 ∷ (encode_upper (sense.code ∷ []) ++ 47 ∷ encode_upper (sense.qualifier ∷ []))
-
-abbrev pub word : Field → List ℕ
-word (number n) = decimal n
-word (maybe None) = codes "-"
-word (maybe (Some n)) = decimal n
-word (node_name zero) = codes "t"
-word (node_name (suc initiator)) = decimal initiator
-word (unit_name n) = 117 ∷ decimal n
-word (digits bs) = encode_upper bs
-word (bytes bs) = canonical bs
-word (sense_data sense) = sense_word sense
-word (name w) = w
 
 abbrev pub status_fields : StatusKind → List Field
 status_fields Good = name (codes "good") ∷ []
@@ -244,11 +215,6 @@ fields (notes.Told initiator) = number initiator ∷ name told_word ∷ []
 -- the words of a note, the line that they make, and the text of some notes
 abbrev pub words_of : Note → List (List ℕ)
 words_of note = keyword note ∷ map word (fields note)
-
--- further words of a line, each behind a blank
-abbrev pub further : List (List ℕ) → List ℕ
-further [] = []
-further (w ∷ ws) = 32 ∷ (w ++ further ws)
 
 abbrev pub note_text : Note → List ℕ
 note_text note = join_with_byte 32 (words_of note) ++ 10 ∷ []

@@ -3,7 +3,8 @@ use Rattle.std.specs.Prelude.{◌^◌, ◌<◌, ℕ, List, length}
 use Rattle.std.specs.List.{AllByRecursion}
 use Rattle.sbp_journal.specs.declared.note.Note.{Note}
 use Rattle.sbp_journal.specs.Form.{HasForm}
-use Rattle.sbp_journal.specs.Text.{Field, fields, number, maybe, node_name, unit_name, digits, bytes, sense_data, name}
+use Rattle.line_text.specs.Fields.{Field, number, maybe, node_name, unit_name, digits, payload, bytes, sense_data, name}
+use Rattle.sbp_journal.specs.Text.{fields}
 use Rattle.std.specs.Option.{IfSome}
 
 abbrev pub AreBytes : List ℕ → Type 0
@@ -16,6 +17,7 @@ Fits (maybe n) = IfSome n (λ n. n < 2 ^ 64)
 Fits (node_name n) = n < 2 ^ 64
 Fits (unit_name n) = n < 2 ^ 64
 Fits (digits bs) = AreBytes bs
+Fits (payload bs) = AreBytes bs
 Fits (bytes bs) = AreBytes bs × (length bs < 2 ^ 64)
 Fits (sense_data sense) = (sense.code < 256) × (sense.qualifier < 256)
 Fits (name w) = Unit {0}

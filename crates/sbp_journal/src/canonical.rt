@@ -1,6 +1,6 @@
 ghost use Rattle.std.specs.Prelude.{◌≡◌, ℕ, ◌≤◌, ◌==◌, length, codes, IfOk, OnOk, string_bytes};
 ghost use Rattle.std.specs.List.{prefix_len};
-ghost use Rattle.sbp_journal.specs.Canonical.{canonical, piece_text, repeated};
+ghost use Rattle.line_text.specs.Canonical.{canonical, piece_text, repeated};
 ghost use Rattle.sbp_journal.specs.Pieces.{with_piece, with_plain};
 
 use sbp_base::NoMemory;

@@ -1,7 +1,8 @@
-ghost use Rattle.std.specs.Prelude.{◌≡◌, ◌<◌, ◌∷◌, ◌++◌, [], map, OnOk, slice_index};
+ghost use Rattle.std.specs.Prelude.{◌≡◌, ◌<◌, ◌∷◌, ◌++◌, [], OnOk, slice_index};
 ghost use Rattle.hex.specs.Hex.{upper_digits};
 ghost use Rattle.sbp_journal.specs.Form.{IsSense, IsStatus, IsAnswer, IsCheck};
-ghost use Rattle.sbp_journal.specs.Text.{Field, word, further, orb_fields, named_fields, work_fields, buffer_fields, status_fields, check_fields, answer_fields, end_fields, login_fields, sense_word};
+ghost use Rattle.line_text.specs.Fields.{Field, word, further, sense_word};
+ghost use Rattle.sbp_journal.specs.Text.{orb_fields, named_fields, work_fields, buffer_fields, status_fields, check_fields, answer_fields, end_fields, login_fields};
 
 use crate::canonical::canonical_text;
 use crate::note::NoteBuffer;
@@ -14,7 +15,7 @@ use std::alloc::Global;
 
 /// Adds `INITIATOR LIST ORB`.
 pub(crate) fn push_orb(out: &mut Bytes, initiator: u8, list: u32, orb: u32) -> Result<(), NoMemory>
-    ensures { OnOk result (out.new ≡ out.old ++ further (map word (orb_fields initiator list orb))) }
+    ensures { OnOk result (out.new ≡ out.old ++ further (orb_fields initiator list orb)) }
 {
     push_number(out, u64::from(initiator))?;
     push_number(out, u64::from(list))?;
@@ -38,7 +39,7 @@ pub(crate) fn push_named(
     list: Option<u32>,
     orb: Option<u32>,
 ) -> Result<(), NoMemory>
-    ensures { OnOk result (out.new ≡ out.old ++ further (map word (named_fields initiator list orb))) }
+    ensures { OnOk result (out.new ≡ out.old ++ further (named_fields initiator list orb)) }
 {
     push_number(out, u64::from(initiator))?;
     push_maybe(out, list)?;
@@ -52,7 +53,7 @@ pub(crate) fn push_list(
     list: Option<u32>,
     cause: &str,
 ) -> Result<(), NoMemory>
-    ensures { OnOk result (out.new ≡ out.old ++ further (map word (Field.number initiator ∷ Field.maybe list ∷ Field.name cause.now ∷ []))) }
+    ensures { OnOk result (out.new ≡ out.old ++ further (Field.number initiator ∷ Field.maybe list ∷ Field.name cause.now ∷ [])) }
 {
     push_number(out, u64::from(initiator))?;
     push_maybe(out, list)?;
@@ -89,7 +90,7 @@ pub(crate) fn push_work(
     cdb: &[u8; 12],
     bytes: &[u8],
 ) -> Result<(), NoMemory>
-    ensures { OnOk result (out.new ≡ out.old ++ further (map word (work_fields unit cdb.now bytes.now))) }
+    ensures { OnOk result (out.new ≡ out.old ++ further (work_fields unit cdb.now bytes.now)) }
 {
     push_unit(out, unit)?;
     push_digits(out, cdb.as_slice())?;
@@ -111,7 +112,7 @@ pub(crate) fn push_buffer(
     out: &mut Bytes,
     buffer: &NoteBuffer,
 ) -> Result<(), NoMemory>
-    ensures { OnOk result (out.new ≡ out.old ++ further (map word (buffer_fields buffer.now))) }
+    ensures { OnOk result (out.new ≡ out.old ++ further (buffer_fields buffer.now)) }
 {
     match buffer {
         NoteBuffer::Nothing => push_name(out, "none"),
@@ -129,7 +130,7 @@ pub(crate) fn push_buffer(
 /// Adds the words of a check condition, or of none.
 pub(crate) fn push_check(out: &mut Bytes, check: Option<Sense>) -> Result<(), NoMemory>
     requires { IsCheck check }
-    ensures { OnOk result (out.new ≡ out.old ++ further (map word (check_fields check))) }
+    ensures { OnOk result (out.new ≡ out.old ++ further (check_fields check)) }
 {
     match check {
         None => push_status(out, StatusKind::Good),
@@ -140,7 +141,7 @@ pub(crate) fn push_check(out: &mut Bytes, check: Option<Sense>) -> Result<(), No
 /// Adds the words of a status: `good`, `check K/CC/QQ`, `dummy`, `aborted`, `illegal XX` or `failed`.
 pub(crate) fn push_status(out: &mut Bytes, status: StatusKind) -> Result<(), NoMemory>
     requires { IsStatus status }
-    ensures { OnOk result (out.new ≡ out.old ++ further (map word (status_fields status))) }
+    ensures { OnOk result (out.new ≡ out.old ++ further (status_fields status)) }
 {
     match status {
         StatusKind::Good => push_name(out, "good"),
@@ -173,7 +174,7 @@ fn push_sense(out: &mut Bytes, sense: Sense) -> Result<(), NoMemory>
 
 /// Adds the bytes of an answer, if there are any.
 pub(crate) fn push_answer(alloc: Global, out: &mut Bytes, answer: &[u8]) -> Result<(), NoMemory>
-    ensures { OnOk result (out.new ≡ out.old ++ further (map word (answer_fields answer.now))) }
+    ensures { OnOk result (out.new ≡ out.old ++ further (answer_fields answer.now)) }
 {
     if answer.is_empty() {
         return Ok(());
@@ -183,7 +184,7 @@ pub(crate) fn push_answer(alloc: Global, out: &mut Bytes, answer: &[u8]) -> Resu
 
 /// Adds the login ID that a decision gives, if there is one.
 pub(crate) fn push_login(out: &mut Bytes, login: Option<u16>) -> Result<(), NoMemory>
-    ensures { OnOk result (out.new ≡ out.old ++ further (map word (login_fields login))) }
+    ensures { OnOk result (out.new ≡ out.old ++ further (login_fields login)) }
 {
     match login {
         None => Ok(()),
@@ -193,7 +194,7 @@ pub(crate) fn push_login(out: &mut Bytes, login: Option<u16>) -> Result<(), NoMe
 
 /// Adds the words for how an operation ended.
 pub(crate) fn push_end(out: &mut Bytes, end: OpWord) -> Result<(), NoMemory>
-    ensures { OnOk result (out.new ≡ out.old ++ further (map word (end_fields end))) }
+    ensures { OnOk result (out.new ≡ out.old ++ further (end_fields end)) }
 {
     match end {
         OpWord::Done => push_name(out, "done"),

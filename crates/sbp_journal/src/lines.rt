@@ -1,6 +1,7 @@
-ghost use Rattle.std.specs.Prelude.{◌≡◌, ◌∷◌, ◌++◌, [], map, OnOk};
+ghost use Rattle.std.specs.Prelude.{◌≡◌, ◌∷◌, ◌++◌, [], OnOk};
 ghost use Rattle.sbp_journal.specs.Form.{HasForm, IsStatus, IsAnswer, IsCheck};
-ghost use Rattle.sbp_journal.specs.Text.{Field, word, further, fields, orb_fields, named_fields, work_fields, buffer_fields, status_fields, check_fields, answer_fields, login_fields, end_fields, function_word, operation_word};
+ghost use Rattle.line_text.specs.Fields.{Field, word, further};
+ghost use Rattle.sbp_journal.specs.Text.{fields, orb_fields, named_fields, work_fields, buffer_fields, status_fields, check_fields, answer_fields, login_fields, end_fields, function_word, operation_word};
 ghost use Rattle.sbp_journal.specs.Text as texts;
 
 use crate::fields::{
@@ -64,7 +65,7 @@ pub(crate) fn keyword(note: &Note) -> &'static str
 /// Adds the fields of a note.
 pub(crate) fn push_fields(alloc: Global, note: &Note, out: &mut Bytes) -> Result<(), NoMemory>
     requires { HasForm note.now }
-    ensures { OnOk result (out.new ≡ out.old ++ further (map word (fields note.now))) }
+    ensures { OnOk result (out.new ≡ out.old ++ further (fields note.now)) }
 {
     match note {
         Note::Begin { initiators, ready } => push_word(
@@ -194,7 +195,7 @@ pub(crate) fn push_fields(alloc: Global, note: &Note, out: &mut Bytes) -> Result
 
 /// Adds a number and a word.
 fn push_word(out: &mut Bytes, number: u64, name: &str) -> Result<(), NoMemory>
-    ensures { OnOk result (out.new ≡ out.old ++ further (map word (Field.number number ∷ Field.name name.now ∷ []))) }
+    ensures { OnOk result (out.new ≡ out.old ++ further (Field.number number ∷ Field.name name.now ∷ [])) }
 {
     push_number(out, number)?;
     push_name(out, name)
@@ -202,7 +203,7 @@ fn push_word(out: &mut Bytes, number: u64, name: &str) -> Result<(), NoMemory>
 
 /// Adds two numbers.
 fn push_pair(out: &mut Bytes, first: u32, second: u32) -> Result<(), NoMemory>
-    ensures { OnOk result (out.new ≡ out.old ++ further (map word (Field.number first ∷ Field.number second ∷ []))) }
+    ensures { OnOk result (out.new ≡ out.old ++ further (Field.number first ∷ Field.number second ∷ [])) }
 {
     push_number(out, u64::from(first))?;
     push_number(out, u64::from(second))
@@ -218,7 +219,7 @@ fn push_append(
     cdb: &[u8; 12],
     buffer: &NoteBuffer,
 ) -> Result<(), NoMemory>
-    ensures { OnOk result (out.new ≡ out.old ++ further (map word (orb_fields initiator list orb ++ Field.digits cdb.now ∷ buffer_fields buffer.now))) }
+    ensures { OnOk result (out.new ≡ out.old ++ further (orb_fields initiator list orb ++ Field.digits cdb.now ∷ buffer_fields buffer.now)) }
 {
     push_orb(out, initiator, list, orb)?;
     push_digits(out, cdb.as_slice())?;
@@ -234,7 +235,7 @@ fn push_sent(
     to: u8,
     bytes: &[u8],
 ) -> Result<(), NoMemory>
-    ensures { OnOk result (out.new ≡ out.old ++ further (map word (Field.number serial ∷ Field.number generation ∷ Field.node_name from ∷ Field.node_name to ∷ Field.digits bytes.now ∷ []))) }
+    ensures { OnOk result (out.new ≡ out.old ++ further (Field.number serial ∷ Field.number generation ∷ Field.node_name from ∷ Field.node_name to ∷ Field.digits bytes.now ∷ [])) }
 {
     push_number(out, serial)?;
     push_number(out, u64::from(generation))?;
@@ -256,7 +257,7 @@ fn push_ran(
     check: Option<Sense>,
 ) -> Result<(), NoMemory>
     requires { IsCheck check }
-    ensures { OnOk result (out.new ≡ out.old ++ further (map word (named_fields initiator list orb ++ work_fields unit cdb.now bytes.now ++ check_fields check))) }
+    ensures { OnOk result (out.new ≡ out.old ++ further (named_fields initiator list orb ++ work_fields unit cdb.now bytes.now ++ check_fields check)) }
 {
     push_named(out, initiator, list, orb)?;
     push_work(alloc, out, unit, cdb, bytes)?;
@@ -272,7 +273,7 @@ fn push_ended(
     status: StatusKind,
 ) -> Result<(), NoMemory>
     requires { IsStatus status }
-    ensures { OnOk result (out.new ≡ out.old ++ further (map word (named_fields initiator list orb ++ status_fields status))) }
+    ensures { OnOk result (out.new ≡ out.old ++ further (named_fields initiator list orb ++ status_fields status)) }
 {
     push_named(out, initiator, list, orb)?;
     push_status(out, status)
@@ -290,7 +291,7 @@ fn push_taken(
     answer: &[u8],
 ) -> Result<(), NoMemory>
     requires { IsAnswer status answer.now }
-    ensures { OnOk result (out.new ≡ out.old ++ further (map word (orb_fields initiator list orb ++ status_fields status ++ answer_fields answer.now))) }
+    ensures { OnOk result (out.new ≡ out.old ++ further (orb_fields initiator list orb ++ status_fields status ++ answer_fields answer.now)) }
 {
     push_orb(out, initiator, list, orb)?;
     push_status(out, status)?;
@@ -306,7 +307,7 @@ fn push_managed(
     status: u8,
     login: Option<u16>,
 ) -> Result<(), NoMemory>
-    ensures { OnOk result (out.new ≡ out.old ++ further (map word (Field.number initiator ∷ Field.name (function_word function) ∷ Field.number subject ∷ Field.digits (status ∷ []) ∷ login_fields login))) }
+    ensures { OnOk result (out.new ≡ out.old ++ further (Field.number initiator ∷ Field.name (function_word function) ∷ Field.number subject ∷ Field.digits (status ∷ []) ∷ login_fields login)) }
 {
     push_number(out, u64::from(initiator))?;
     push_name(out, function_text(function))?;
@@ -322,7 +323,7 @@ fn push_op(
     operation: Operation,
     end: OpWord,
 ) -> Result<(), NoMemory>
-    ensures { OnOk result (out.new ≡ out.old ++ further (map word (Field.number initiator ∷ Field.name (operation_word operation) ∷ end_fields end))) }
+    ensures { OnOk result (out.new ≡ out.old ++ further (Field.number initiator ∷ Field.name (operation_word operation) ∷ end_fields end)) }
 {
     push_number(out, u64::from(initiator))?;
     push_name(out, operation_text(operation))?;
@@ -331,7 +332,7 @@ fn push_op(
 
 /// Adds a node and a generation.
 fn push_seen(out: &mut Bytes, node: u8, generation: u32) -> Result<(), NoMemory>
-    ensures { OnOk result (out.new ≡ out.old ++ further (map word (Field.node_name node ∷ Field.number generation ∷ []))) }
+    ensures { OnOk result (out.new ≡ out.old ++ further (Field.node_name node ∷ Field.number generation ∷ [])) }
 {
     push_node(out, node)?;
     push_number(out, u64::from(generation))

@@ -2,7 +2,7 @@
 //! number is read, so each is read here once; nothing else is done.
 ghost use Rattle.std.specs.Prelude.{◌<◌, ◌^◌};
 ghost use Rattle.std.specs.List.{AllByRecursion};
-ghost use Rattle.sbp_journal.specs.Text as spec;
+ghost use Rattle.line_text.specs.Fields.{Field};
 ghost use Rattle.sbp_journal.specs.Text.{orb_fields, named_fields, status_fields, check_fields, answer_fields, buffer_fields, end_fields, login_fields};
 ghost use Rattle.sbp_journal.specs.Written.{Fits, IsTyped, AreBytes};
 
@@ -18,7 +18,7 @@ fn number_fits(number: u64)
 
 /// A number that may be missing.
 fn maybe_fits(number: Option<u32>)
-    ensures { Fits (spec.maybe number) }
+    ensures { Fits (Field.maybe number) }
 {}
 
 /// The numbers of an ORB.
@@ -36,7 +36,7 @@ fn named_fits(initiator: u8, list: Option<u32>, orb: Option<u32>)
 
 /// Bytes.
 fn bytes_fit(bytes: &[u8])
-    ensures fits { Fits (spec.bytes bytes.now) }
+    ensures fits { Fits (Field.bytes bytes.now) }
     ensures bytes { AreBytes bytes.now }
 {
     let _count = bytes.len();
@@ -44,7 +44,7 @@ fn bytes_fit(bytes: &[u8])
 
 /// The code and the qualifier of a sense.
 fn sense_fits(sense: Sense)
-    ensures { Fits (spec.sense_data sense) }
+    ensures { Fits (Field.sense_data sense) }
 {}
 
 /// A status.
