@@ -17,6 +17,3 @@ pub use packet::{Header, PacketRef};
 pub use reading::{decode, decodes_back, reads_spelling, spells_once};
 pub use validity::{encoded_len, is_valid};
 pub use writing::{canon_has_length, canon_spells, encode_into};
-
-#[cfg(test)]
-mod tests;

@@ -21,6 +21,3 @@ pub use law::{
 pub use manager::Manager;
 pub use operation::{Busy, Operation, Phase};
 pub use status::Status;
-
-#[cfg(test)]
-mod tests;

@@ -18,6 +18,3 @@ pub use role::Role;
 pub use sent::{Kept, Sent};
 pub use store::Store;
 pub use transaction::Transaction;
-
-#[cfg(test)]
-mod tests;

@@ -1,4 +1,4 @@
-use crate::{Sent, Store};
+use packet_store::{Sent, Store};
 use sbp_base::{Bytes, Generation};
 use std::alloc::Global;
 use std::rt::HostRuntime;

@@ -1,5 +1,5 @@
-use crate::{Busy, Decision, Effect, Manager, ManagerStep};
 use login_table::Logins;
+use mgmt_agent::{Busy, Decision, Effect, Manager, ManagerStep};
 use orb_layout::{Ask, FailCause, Reply};
 use sbp_base::{NodeId, Offset, put_quad};
 use std::test::Fail;

@@ -1,4 +1,6 @@
-use crate::{Header, Label, PacketFault, PacketRef, decode, encode_into, encoded_len, is_valid};
+use async_packet::{
+    Header, Label, PacketFault, PacketRef, decode, encode_into, encoded_len, is_valid,
+};
 use sbp_base::{Generation, NodeId, Offset};
 use std::test::Fail;
 
