@@ -4,7 +4,8 @@ use Rattle.std.specs.Prelude.{◌^◌, ◌&&◌, Bool, true, false, length, Some
 use Rattle.std.specs.List.{AllByRecursion}
 use Rattle.std.proofs.Math.Dec.{ltb}
 use Rattle.std.proofs.lemmas.Bool.{ltb-true}
-use Rattle.sbp_journal.specs.Text.{Field, number, maybe, node_name, unit_name, digits, bytes, sense_data, name, fields}
+use Rattle.line_text.specs.Fields.{Field, number, maybe, node_name, unit_name, digits, payload, bytes, sense_data, name}
+use Rattle.sbp_journal.specs.Text.{fields}
 use Rattle.sbp_journal.specs.Written.{AreBytes, Fits, IsTyped}
 use Rattle.sbp_journal.specs.declared.note.Note.{Note}
 
@@ -31,6 +32,7 @@ fits (maybe (Some n)) = ltb n (2 ^ 64)
 fits (node_name n) = ltb n (2 ^ 64)
 fits (unit_name n) = ltb n (2 ^ 64)
 fits (digits bs) = are_bytes bs
+fits (payload bs) = are_bytes bs
 fits (bytes bs) = are_bytes bs && ltb (length bs) (2 ^ 64)
 fits (sense_data sense) = ltb sense.code 256 && ltb sense.qualifier 256
 fits (name w) = true
@@ -42,6 +44,7 @@ field_fits (maybe (Some n)) e = ltb-true n (2 ^ 64) e
 field_fits (node_name n) e = ltb-true n (2 ^ 64) e
 field_fits (unit_name n) e = ltb-true n (2 ^ 64) e
 field_fits (digits bs) e = bytes_fit bs e
+field_fits (payload bs) e = bytes_fit bs e
 field_fits (bytes bs) e =
     (bytes_fit bs (first (are_bytes bs) (ltb (length bs) (2 ^ 64)) e), ltb-true (length bs) (2 ^ 64) (second (are_bytes bs) (ltb (length bs) (2 ^ 64)) e))
 field_fits (sense_data sense) e =
