@@ -8,3 +8,10 @@ pub mod Nodes
 pub mod Expired
 pub mod Events
 pub mod Handed
+pub mod Formed
+pub mod AgentForms
+pub mod TargetForms
+pub mod BlockForms
+pub mod InitiatorForms
+pub mod ToldForms
+pub mod LineForms

@@ -14,3 +14,4 @@ pub mod Packets
 pub mod Lines
 pub mod Making
 pub mod Runs
+pub mod Forms

@@ -1,4 +1,5 @@
 //! The laws of worlds and of the runs that they stand for.
+ghost use Rattle.sbp_world.specs.Forms.{FormLaw};
 ghost use Rattle.sbp_world.specs.Runs.{BeginsLaw, GoesOnLaw, SettlesLaw};
 
 /// A new world stands for the run before any line after `begin`.
@@ -14,4 +15,10 @@ pub fn runs_go_on()
 /// So it does after a `settle`.
 pub fn settles_go_on()
     ensures { SettlesLaw }
+{}
+
+/// The notes of the line that begins a run, and of each line, have the form of a journal's notes: what
+/// its text asks for.
+pub fn lines_have_form()
+    ensures { FormLaw }
 {}

@@ -12,7 +12,7 @@ mod words;
 mod world;
 
 pub use generations::Topology;
-pub use laws::{runs_begin, runs_go_on, settles_go_on};
+pub use laws::{lines_have_form, runs_begin, runs_go_on, settles_go_on};
 pub use loads::{LeftLists, ListLoad, OrbLoad, OrbLoads};
 pub use parts::{Arrival, Parts};
 pub use places::Holder;
