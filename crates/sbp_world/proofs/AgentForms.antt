@@ -1,5 +1,5 @@
 -- What a step of an agent tells: a check has a sense key of four bits, and no ORB ends with a status of management.
-use Rattle.std.proofs.Common.{◌≡◌, refl, subst, ℕ, ◌+◌, ◌*◌, ◌^◌, ◌<◌, ◌==◌, ◌&&◌, not, nat_lt, Bool, true, false, cond, List, [], ◌++◌, length, Option, Some, None, Result, Ok, Err}
+use Rattle.std.proofs.Common.{◌≡◌, refl, subst, ℕ, ◌+◌, ◌*◌, ◌^◌, ◌==◌, ◌&&◌, not, nat_lt, Bool, true, false, cond, List, ◌++◌, length, Option, Some, None, Result, Ok, Err}
 use Rattle.rbc_disk.specs.declared.command.Need.{Need}
 use Rattle.rbc_disk.specs.declared.command.Need.TheVariants as needs
 use Rattle.rbc_disk.specs.declared.command.Outcome.{Outcome}
@@ -26,10 +26,10 @@ use Rattle.command_agent.specs.declared.step.Move.{Move}
 use Rattle.command_agent.specs.declared.step.Move.TheVariants as moves
 use Rattle.command_agent.specs.declared.step.Which.{Which}
 use Rattle.command_agent.specs.declared.step.Which.TheVariants.{Main, Ahead}
-use Rattle.command_agent.specs.Checks.{refusal, verdict, death_by, reads_table}
+use Rattle.command_agent.specs.Checks.{refusal, verdict, reads_table}
 use Rattle.command_agent.specs.Machine.{Machine, is_ahead, plan_of, chunk_of}
 use Rattle.command_agent.specs.Runs.{MayTell}
-use Rattle.command_agent.specs.Steps.{quiet, asks, end_step, fail_step, turn_step, reread_step, wait_step, follow_step, sent, status_written, next_read, orb_read, elements_read, table_read, data_step, data_grown, data_read, answer_chunk, answer_step, answer_grown, chunk_written, advanced, with_outcome, ran_as, run_step, judged, judge_step, unread_buffer, passed_step, checked, check_step, ahead_of, with_ahead, served, ahead_lost, ahead_read, ahead_step, replied, told_or, reply_step, main_lost, lost, lost_step}
+use Rattle.command_agent.specs.Steps.{quiet, asks, end_step, turn_step, reread_step, wait_step, follow_step, sent, status_written, next_read, orb_read, elements_read, table_read, data_step, data_grown, data_read, answer_chunk, answer_step, answer_grown, chunk_written, advanced, with_outcome, ran_as, run_step, judged, judge_step, unread_buffer, passed_step, checked, check_step, ahead_of, served, ahead_lost, ahead_read, ahead_step, replied, told_or, reply_step, main_lost, lost, lost_step}
 use Rattle.orb_layout.specs.declared.ask.Ask.TheVariants.{Read}
 use Rattle.sbp_journal.specs.Form.{IsCheck, IsStatus}
 

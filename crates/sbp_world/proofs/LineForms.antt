@@ -1,8 +1,7 @@
 -- The notes of a line have the form of a journal.
-use Rattle.std.proofs.Common.{◌≡◌, refl, sym, subst, ℕ, ◌+◌, ◌-◌, ◌==◌, nat_lt, is_some, Bool, true, false, cond, List, [], ◌∷◌, length, slice_index_or, Option, Some, None, Result, Ok, Err}
+use Rattle.std.proofs.Common.{◌≡◌, refl, sym, subst, ℕ, ◌+◌, ◌-◌, ◌==◌, nat_lt, Bool, true, false, cond, List, [], ◌∷◌, length, slice_index_or, Option, Some, None, Result, Ok, Err}
 use Rattle.std.specs.List.{AllByRecursion}
 use Rattle.label_table.specs.declared.reply.Stale.{Stale}
-use Rattle.label_table.specs.Layer.{judging_step}
 use Rattle.packet_store.specs.declared.sent.Sent.{Sent}
 use Rattle.packet_store.specs.Kept.{found_sent}
 use Rattle.rbc_disk.specs.Held.{Held}
@@ -15,7 +14,6 @@ use Rattle.sbp_initiator.specs.Seeing.{see_step}
 use Rattle.sbp_journal.specs.declared.cause.Judged.{Judged}
 use Rattle.sbp_journal.specs.declared.cause.Judged.TheVariants as judgements
 use Rattle.sbp_journal.specs.declared.event.Action.{Action}
-use Rattle.sbp_journal.specs.declared.event.Action.TheVariants as actions
 use Rattle.sbp_journal.specs.declared.event.Event.{Event}
 use Rattle.sbp_journal.specs.declared.event.Event.TheVariants as events
 use Rattle.sbp_journal.specs.declared.note.Note.TheVariants as notes
@@ -23,23 +21,23 @@ use Rattle.sbp_journal.specs.Form.{HasForm}
 use Rattle.sbp_journal.specs.Outgoings.{OutboxState, empty_outbox}
 use Rattle.sbp_target.specs.Nodes.{NodeState}
 use Rattle.sbp_target.specs.Nodes as target
-use Rattle.sbp_target.specs.Receiving.{TellsIn, expired, received, seen, ticked}
-use Rattle.sbp_target.specs.Replies.{Whole, scene_of}
+use Rattle.sbp_target.specs.Receiving.{expired, received}
+use Rattle.sbp_target.specs.Replies.{Whole}
 use Rattle.sbp_world.specs.declared.parts.delivering.Arrival.{Arrival}
 use Rattle.sbp_world.specs.declared.requests.Request.{Request}
-use Rattle.sbp_world.specs.Delivering.{MayAt, MayReceive, MayTell, MayTold, arrived, arrived_by, at_initiator, at_none, at_target, delivered, delivered_by, faults_after, initiator_received, initiators_received, judged_note, judged_target, left_target, listed, marked, received_at, received_by, received_step, target_received, whole_of}
-use Rattle.sbp_world.specs.Forms.{FormLaw, HaveForm}
+use Rattle.sbp_world.specs.Delivering.{MayAt, MayReceive, MayTell, MayTold, arrived, arrived_by, at_initiator, at_none, at_target, delivered, delivered_by, faults_after, initiator_received, initiators_received, judged_note, left_target, listed, marked, received_by, received_step, target_received, whole_of}
+use Rattle.sbp_world.specs.Forms.{AreForms, FormLaw, HaveForm}
 use Rattle.sbp_world.specs.Generations.{id_of}
-use Rattle.sbp_world.specs.Handing.{handed_out}
-use Rattle.sbp_world.specs.Lines.{Happens, MayHappen, MayTellIn, acted, acted_by, happens, happens_to, keyed, weight_in}
+use Rattle.sbp_world.specs.Lines.{MayHappen, MayTellIn, acted, acted_by, happens, happens_to, keyed, weight_in}
 use Rattle.sbp_world.specs.Making.{new_world}
-use Rattle.sbp_world.specs.Nodes.{handed_all, initiator_learns, pair_of, reset_line, see_line, sees, target_learns, target_sees, target_ticks, tick_line, told_seen, with_seen}
+use Rattle.sbp_world.specs.Nodes.{handed_all, initiator_learns, reset_line, see_line, sees, target_learns, target_sees, target_ticks, tick_line, told_seen, with_seen}
 use Rattle.sbp_world.specs.Nodes as nodes
 use Rattle.sbp_world.specs.Packets as packets
-use Rattle.sbp_world.specs.Packets.{MayIf, delivered_if, expires, first_told, initiator_expires, inject_line, injected, injected_to, is_in_flight, lose_line, lost, may_repeat, no_packet, refused, target_expired, target_left, timed_out, timeout_line, timeout_of}
+use Rattle.sbp_world.specs.Packets.{MayIf, delivered_if, expires, initiator_expires, inject_line, injected, injected_to, is_in_flight, lose_line, lost, may_repeat, no_packet, refused, target_expired, target_left, timed_out, timeout_line, timeout_of}
 use Rattle.sbp_world.specs.Requests.{find}
-use Rattle.sbp_world.specs.Settling.{AreUpTo, HasSettled, MayAll, MayNext, MayAt as MayAtLowest, after_all, delivered_at, delivered_next, end_note, is_settled, lowest, settled}
-use Rattle.sbp_world.specs.Worlds.{Scene, WorldState, begun, in_world, initiator_at, with_initiator, with_note, with_target}
+use Rattle.sbp_world.specs.Runs.{AreEntries, Entry, after, beginning}
+use Rattle.sbp_world.specs.Settling.{MayAll, MayNext, MayAt as MayAtLowest, after_all, delivered_at, delivered_next, end_note, is_settled, lowest, settled}
+use Rattle.sbp_world.specs.Worlds.{Scene, WorldState, begun, initiator_at, with_initiator, with_note}
 use Rattle.sbp_world.proofs.Formed.{AreFormed}
 use Rattle.sbp_world.proofs.InitiatorForms as initiators
 use Rattle.sbp_world.proofs.TargetForms as target_forms
@@ -313,9 +311,17 @@ begins_form : (initiators : ℕ) (ready : Bool) (units : ℕ) → HaveForm (new_
 unfolding new_world
 begins_form initiators ready units = (tt, tt)
 
+entries_form : (s : Scene) (entries : List Entry) → AreEntries s entries → AllByRecursion AreForms entries
+entries_form s [] a = tt
+entries_form s (e ∷ before) a = (
+  subst (λ l. AllByRecursion HasForm l) (sym a.0.notes_are) (line_form e.line e.event e.told (after s before) a.0.may),
+  entries_form s before a.1,
+)
+
 pub form_law : FormLaw
 form_law = record {
   begins = begins_form;
   lines = λ line event old new h. subst Has (sym h.is) (line_form line event h.told old h.may);
   settles = λ done old new h. subst Has (sym h.is) (settles h.told (begun old) h.may.may tt);
+  runs = λ run s h. entries_form (beginning run) run.entries h.lines;
 }

@@ -1,5 +1,5 @@
 -- What the target tells in each call: its notes have the form of a journal.
-use Rattle.std.proofs.Common.{◌≡◌, refl, ℕ, zero, suc, ◌+◌, nat_lt, is_some, Bool, true, false, cond, List, [], ◌∷◌, ◌++◌, length, slice_index_or, Option, Some, None, Result, Ok, Err}
+use Rattle.std.proofs.Common.{ℕ, zero, suc, ◌+◌, nat_lt, is_some, Bool, true, false, cond, List, [], length, slice_index_or, Option, Some, None, Result, Ok, Err}
 use Rattle.async_packet.specs.Labels.{LabelParts}
 use Rattle.async_packet.specs.Packet.{Packet, header_in}
 use Rattle.label_table.specs.declared.judgement.Asked.{Asked}
@@ -33,7 +33,6 @@ use Rattle.mgmt_agent.specs.Machine as management
 use Rattle.sbp_journal.specs.declared.cause.CutCause.{CutCause}
 use Rattle.sbp_journal.specs.declared.cause.CutCause.TheVariants as cuts
 use Rattle.sbp_journal.specs.declared.cause.Judged.{Judged}
-use Rattle.sbp_journal.specs.declared.side.Side.{Side}
 use Rattle.sbp_journal.specs.declared.side.Side.TheVariants as sides
 use Rattle.sbp_journal.specs.Outgoings.{OutboxState}
 use Rattle.sbp_target.specs.declared.address.Access.{Access}
@@ -50,11 +49,11 @@ use Rattle.sbp_target.specs.Telling.{orb_of, tell_step, tell_ran, tell_dead, tel
 use Rattle.sbp_target.specs.Nodes.{NodeState, Scene, scene, desk_at, login_at, with_agent, with_desk}
 use Rattle.sbp_target.specs.Agents.{agent_body, noted, main_sent, main_asked, ask_main, lost_by, lose, ahead_sent, ahead_asked, after_ahead, send_ahead, after_loss, lose_main, after_main, follow, told_cut, cut}
 use Rattle.sbp_target.specs.Units.{is_pending, unsolicited_by, announce_to, announce_in, announce_at, announce_from, hears, is_cut, cut_at, cut_from, cut_all, clear_unit, clear_from}
-use Rattle.sbp_target.specs.Management.{manager_body, place_in, cut_placed, tell_left, tell_failed, clear_one, effect_by, decided_by, with_manager, manager_lost, lost_in, lose_operation, manager_sent, manager_asked, ask_manager, failed_by, managed_with, managed_in, manage}
-use Rattle.sbp_target.specs.Replies.{Stage, stage, Tells, TellsBy, Whole, scene_of, came, changed_by, announced_by, follow_all, advanced_with, advance, agent_step, plain_at, replied, replied_by, replied_to, served_login, whole}
-use Rattle.sbp_target.specs.Serving.{accessed_by, answered, asked_at, asked_in, enabled, is_barred, point, pointed_by, request_step as served_step, ring, rung_by, serve, served_as, start, started_by}
+use Rattle.sbp_target.specs.Management.{manager_body, place_in, cut_placed, tell_left, tell_failed, clear_one, effect_by, decided_by, with_manager, manager_lost, lost_in, lose_operation, manager_sent, manager_asked, ask_manager, managed_with, managed_in, manage}
+use Rattle.sbp_target.specs.Replies.{Stage, stage, Tells, TellsBy, Whole, scene_of, came, changed_by, announced_by, follow_all, advanced_with, advance, agent_step, plain_at, replied, replied_by, replied_to, served_login}
+use Rattle.sbp_target.specs.Serving.{accessed_by, answered, asked_in, enabled, is_barred, point, pointed_by, request_step as served_step, ring, rung_by, serve, served_as, start, started_by}
 use Rattle.sbp_target.specs.Receiving.{TellsAt, TellsIn, answer_in, concluded, expired, expired_with, expired_by, expire_agent, expired_in, expired_from, held_from, judged_scene, received, received_as, reset_by, seen, tell_held, ticked, ticked_by, timed_out, cleared_node, with_layer}
-use Rattle.sbp_world.proofs.Formed.{AreFormed, IsFormed, more}
+use Rattle.sbp_world.proofs.Formed.{AreFormed, more}
 use Rattle.sbp_world.proofs.AgentForms.{FitsEnd, FitsRun, IsFit, lost_fits, reply_fits}
 
 abbrev pub In : Scene → Type 0
