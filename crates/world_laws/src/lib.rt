@@ -1,0 +1,6 @@
+//! The laws of the wire over the lines of a world.
+#![tactic(auto)]
+
+mod laws;
+
+pub use laws::quiet_lines_are_moves;
