@@ -15,7 +15,7 @@ use Rattle.orb_list.specs.declared.list.PresentList.{PresentList}
 use Rattle.orb_list.specs.Tickets.{TicketParts}
 use Rattle.orb_list.specs.Requests.{Asked}
 use Rattle.orb_list.specs.Table.{SlotTable, checked, closed, dummy_at, dummy_step, find_in, free_slot, high_for, high_step, is_mid_link, link_set, low_for, low_step as slot_low, lowest, may_prepare, next_ticket, orb_number, pin_at, pin_step, prepare_at, prepare_step, waits_high, waits_low}
-use Rattle.sbp_session.specs.Moves.{sent, pointing, goes}
+use Rattle.sbp_session.specs.Moves.{pointing, goes}
 use Rattle.sbp_journal.specs.declared.event.Action.{Action}
 use Rattle.sbp_journal.specs.declared.event.Action.TheVariants as actions
 use Rattle.sbp_journal.specs.declared.event.Cmd.{Cmd}
@@ -23,14 +23,12 @@ use Rattle.sbp_journal.specs.declared.note.Note.{Note}
 use Rattle.sbp_journal.specs.declared.note.Note.TheVariants as notes
 use Rattle.sbp_journal.specs.declared.operation.Operation.{Operation}
 use Rattle.sbp_journal.specs.declared.operation.Operation.TheVariants as operations
-use Rattle.sbp_journal.specs.declared.side.Side.{Side}
 use Rattle.sbp_journal.specs.Buffers.{buffer_of}
 use Rattle.sbp_journal.specs.Outgoings.{OutboxState}
 use Rattle.sbp_journal.specs.Rows.{Refusals, refusal_of}
 use Rattle.sbp_initiator.specs.declared.purpose.Demand.{Demand}
 use Rattle.sbp_initiator.specs.declared.purpose.Pointing.{Pointing}
 use Rattle.sbp_initiator.specs.declared.purpose.Pointing.TheVariants as pointings
-use Rattle.sbp_initiator.specs.declared.purpose.Purpose.{Purpose}
 use Rattle.sbp_initiator.specs.declared.purpose.Running.{Running}
 use Rattle.sbp_initiator.specs.declared.state.InitiatorState.{InitiatorState}
 use Rattle.sbp_initiator.specs.declared.purpose.ListMarks.{ListMarks}
@@ -38,8 +36,8 @@ use Rattle.sbp_initiator.specs.declared.state.Counts.{Counts}
 use Rattle.sbp_initiator.specs.Refusals.{ActionFacts, ends_list, is_list_step, lacks_orb, operation_of, prepares, refusal, rows_of}
 use Rattle.sbp_initiator.specs.Lists.{ListState, asked_by, dummy_lists, high_lists, low_lists, manage_lists, pin_lists, prepared_as, put_lists, stepped}
 use Rattle.sbp_initiator.specs.States.{is_unwritten, last_linked, no_marks, operation_in, place_of}
-use Rattle.sbp_initiator.specs.Effects.{Turn, told, then_step}
-use Rattle.sbp_initiator.specs.Acting.{begun, demand_of, facts_with, dummy_for, done_step, link_as, link_step, login_id, login_orb, low_as, low_step, manage_start, managed_by, orb_by, pinned_for, put_as, put_step, register_start, ring_demand, ring_for, ring_step, append_step, with_first, with_login, with_pin, with_ring, with_running, with_sent}
+use Rattle.sbp_initiator.specs.Effects.{Turn, told}
+use Rattle.sbp_initiator.specs.Acting.{demand_of, facts_with, dummy_for, done_step, link_as, link_step, login_id, login_orb, low_as, low_step, manage_start, managed_by, orb_by, pinned_for, put_as, put_step, register_start, ring_demand, ring_for, ring_step, append_step, with_running}
 use Rattle.initiator_laws.specs.Begins.{is_step, AreSteps, begun_as, after_by, IsFree}
 use Rattle.initiator_laws.specs.Ends.{own, is_managed}
 use Rattle.initiator_laws.specs.Numbers.{is_numbered}

@@ -1,8 +1,7 @@
 -- What holds after an action, and what it tells.
-use Rattle.std.proofs.Common.{arith, ◌≡◌, refl, sym, ap, subst, ◌∙◌, ℕ, ◌+◌, ◌<◌, ◌≤◌, ◌++◌, nat_eq, is_some, Bool, true, false, cond, List, [], ◌∷◌, length, Option, Some, None}
+use Rattle.std.proofs.Common.{arith, ◌≡◌, refl, sym, ap, subst, ◌∙◌, ℕ, ◌+◌, ◌<◌, ◌++◌, nat_eq, is_some, Bool, true, false, cond, List, [], ◌∷◌, length, Option, Some, None}
 use Rattle.label_table.specs.declared.judgement.Asked.{Asked}
-use Rattle.label_table.specs.Bodies.{Body}
-use Rattle.label_table.specs.Layer.{Layer, asking_step}
+use Rattle.label_table.specs.Layer.{Layer}
 use Rattle.bus_memory.specs.Windows.{start}
 use Rattle.bus_memory.specs.declared.window.Window.TheVariants as windows
 use Rattle.orb_layout.specs.declared.management.ManagementOrb.{ManagementOrb}
@@ -27,11 +26,11 @@ use Rattle.sbp_initiator.specs.Effects.{Turn}
 use Rattle.sbp_initiator.specs.Acting.{act_step, asked_as, asked_for, counted_list, demand_of, demanded_as, done_step, facts_with, first_in, judged_as, manage_demand, register_of, ring_demand}
 use Rattle.sbp_initiator.specs.Moves.{outgoing}
 use Rattle.sbp_initiator.proofs.Asked.{none_asked}
-use Rattle.initiator_laws.specs.Begins.{AreSteps, Begins, IsFree, after_by, begun_as}
-use Rattle.initiator_laws.specs.Ends.{own, is_managed}
+use Rattle.initiator_laws.specs.Begins.{Begins, after_by, begun_as}
+use Rattle.initiator_laws.specs.Ends.{is_managed}
 use Rattle.initiator_laws.specs.Served.{orb_in, with_orb, held_if}
 use Rattle.initiator_laws.specs.Numbers.{is_numbered, value_of, carried, RisesTo}
-use Rattle.initiator_laws.proofs.Actions.{Allowed, Done, Ready, allowed, done_does, used}
+use Rattle.initiator_laws.proofs.Actions.{Allowed, Done, allowed, done_does, used}
 use Rattle.initiator_laws.proofs.Effects.{Fits, Holds, IsFor, IsForOrb}
 use Rattle.initiator_laws.proofs.Purposes.{AllAsk, all_ask}
 use Rattle.initiator_laws.proofs.Requests.{HasOrb}

@@ -34,13 +34,13 @@ use Rattle.sbp_initiator.specs.declared.purpose.Running.{Running}
 use Rattle.sbp_initiator.specs.declared.state.InitiatorState.{InitiatorState}
 use Rattle.sbp_initiator.specs.Lists.{ListState, drop_lists, unpin_lists}
 use Rattle.sbp_initiator.specs.Moves.{outgoing}
-use Rattle.sbp_initiator.specs.Quads.{with_quad, without}
+use Rattle.sbp_initiator.specs.Quads.{with_quad}
 use Rattle.sbp_initiator.specs.States.{counts_for, is_list, is_stuck_seat, is_unwritten, management_at}
-use Rattle.sbp_initiator.specs.Effects.{Turn, told, stick_step, dropped_as, drop_list_step, end_step, end_own_for, end_own_step, then_step, with_answered, pointed_step, pointer_ended, doorbell_ended, fail_step, reset_ended, enable_ended, moves_session, moved, conflict_for, conflict_step, is_conflict, management_ended, response_of, good_event, good_word, drop_where, good_end, managed_step, fault_number, with_unit, with_rom, finish_rom, next_quad, asked_quad, ask_quad, quad_got, is_address, rom_ended, with_dead, known_step, known_where, state_told, state_ended, ended_step, ended_for}
+use Rattle.sbp_initiator.specs.Effects.{Turn, told, stick_step, dropped_as, drop_list_step, end_step, end_own_for, end_own_step, then_step, with_answered, pointer_ended, doorbell_ended, fail_step, reset_ended, enable_ended, moves_session, moved, conflict_for, conflict_step, is_conflict, management_ended, response_of, good_event, good_word, drop_where, good_end, managed_step, fault_number, with_unit, with_rom, finish_rom, next_quad, asked_quad, ask_quad, is_address, rom_ended, with_dead, known_where, state_told, state_ended, ended_step}
 use Rattle.sbp_initiator.proofs.Asked.{none_asked}
 use Rattle.initiator_laws.specs.Drops.{IfGone, present_list, drop_if, state_drops, ends_the_list}
 use Rattle.initiator_laws.specs.Numbers.{is_numbered}
-use Rattle.initiator_laws.specs.Ends.{own, OpEnd, drops, ops, state_ops, sticks, notes_of, is_rom, is_query, is_managed, is_word_of, is_state_word, IsStateWord, IsEnd, OpMove}
+use Rattle.initiator_laws.specs.Ends.{own, OpEnd, drops, notes_of, is_managed, is_word_of, is_state_word, IsStateWord, OpMove}
 
 -- ---- lists of notes
 

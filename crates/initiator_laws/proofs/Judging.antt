@@ -1,8 +1,8 @@
 -- The note of a delivery is that of the first row that holds.
-use Rattle.std.proofs.Common.{◌≡◌, refl, sym, subst, ◌∙◌, ℕ, ◌&&◌, ◌||◌, not, nat_eq, is_some, Bool, true, false, cond, List, [], length, Option, Some, None, Result, Ok, Err}
+use Rattle.std.proofs.Common.{◌≡◌, refl, subst, ◌∙◌, ℕ, ◌&&◌, ◌||◌, not, nat_eq, is_some, Bool, true, false, cond, List, [], length, Option, Some, None, Result, Ok, Err}
 use Rattle.async_packet.specs.declared.packet.Header.{Header}
 use Rattle.async_packet.specs.Labels.{LabelParts}
-use Rattle.async_packet.specs.Packet.{Packet, header_in, write_quadlet, write_block, write_response, read_quadlet, read_block, read_quadlet_response, read_block_response, lock, lock_response}
+use Rattle.async_packet.specs.Packet.{Packet, write_quadlet, write_block, write_response, read_quadlet, read_block, read_quadlet_response, read_block_response, lock, lock_response}
 use Rattle.async_packet.specs.Reading.{reading}
 use Rattle.async_packet.specs.declared.fault.PacketFault.{PacketFault}
 use Rattle.label_table.specs.Judging.{Row, by_generation, by_grammar, by_label, by_response, by_again, by_request, row_of}
@@ -21,9 +21,8 @@ use Rattle.sbp_journal.specs.declared.cause.Cause.TheVariants as causes
 use Rattle.sbp_journal.specs.declared.cause.Judged.{Judged}
 use Rattle.sbp_journal.specs.declared.cause.Judged.TheVariants as judgements
 use Rattle.sbp_journal.specs.declared.note.Note.TheVariants as notes
-use Rattle.sbp_journal.specs.Addresses.{access_of}
 use Rattle.sbp_journal.specs.Outgoings.{OutboxState}
-use Rattle.sbp_journal.specs.Rows.{Judging, RequestFacts, ignored_as, judging_of, telling, serving}
+use Rattle.sbp_journal.specs.Rows.{Judging, RequestFacts, ignored_as, telling, serving}
 use Rattle.sbp_initiator.specs.declared.fifo.Fifo.{Fifo}
 use Rattle.sbp_initiator.specs.declared.fifo.Fifo.TheVariants as fifos
 use Rattle.sbp_initiator.specs.declared.purpose.Purpose.{Purpose}
@@ -32,8 +31,8 @@ use Rattle.sbp_initiator.specs.declared.state.InitiatorState.{InitiatorState}
 use Rattle.sbp_initiator.specs.Lists.{stepped, take_lists}
 use Rattle.sbp_initiator.specs.States.{is_orb_of, is_present_orb, status_in}
 use Rattle.sbp_initiator.specs.Effects.{Turn, told}
-use Rattle.sbp_initiator.specs.Receiving.{address_error, addressed, block_at, block_by, block_step, called, fifo_of, got_step, ignored_step, is_foreign, managed_for, present_for, quadlet_at, receive_step, received, request_step, serve_step, status_step, taken_as}
-use Rattle.initiator_laws.specs.Judging.{waits_in, is_awaited, is_awaited_by, is_read, fifo_for, facts_at, judging_by, judging_for, note_of, note_by, LeftBy, JudgingLaw}
+use Rattle.sbp_initiator.specs.Receiving.{address_error, addressed, block_at, block_by, block_step, called, fifo_of, got_step, ignored_step, is_foreign, managed_for, present_for, quadlet_at, receive_step, received, request_step, taken_as}
+use Rattle.initiator_laws.specs.Judging.{waits_in, is_awaited, is_awaited_by, is_read, facts_at, judging_for, note_of, note_by, LeftBy, JudgingLaw}
 
 -- findings of this node's layer
 abbrev found_generation : Finding Purpose

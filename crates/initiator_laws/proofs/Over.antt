@@ -1,8 +1,6 @@
 -- The laws over every list of calls.
-use Rattle.std.proofs.Common.{◌≡◌, refl, sym, ap, subst, ◌∙◌, ℕ, zero, suc, ◌+◌, Bool, true, false, List, [], ◌∷◌, replicate, slice_index_or, Option, Some, None}
-use Rattle.label_table.specs.History as wire
+use Rattle.std.proofs.Common.{◌≡◌, refl, ℕ, zero, suc, ◌+◌, Bool, List, [], ◌∷◌, replicate, slice_index_or, None}
 use Rattle.bus_memory.specs.Memory.{empty_place, new_memory}
-use Rattle.sbp_journal.specs.declared.event.Action.{Action}
 use Rattle.sbp_journal.specs.Outgoings.{empty_outbox}
 use Rattle.sbp_initiator.specs.Effects.{Turn}
 use Rattle.sbp_initiator.specs.Initiators.{new_state}
@@ -10,7 +8,7 @@ use Rattle.sbp_initiator.specs.Laws.{Call, acts, receives, lets_expire, AreCalls
 use Rattle.sbp_initiator.specs.Laws as laws
 use Rattle.initiator_laws.specs.Numbers.{NumberLaw}
 use Rattle.initiator_laws.specs.Served.{held_by, held_after}
-use Rattle.initiator_laws.specs.Tells.{TellsAfter, TellsLaw}
+use Rattle.initiator_laws.specs.Tells.{TellsLaw}
 use Rattle.initiator_laws.proofs.Acts.{act_acted}
 use Rattle.initiator_laws.proofs.Effects.{Holds}
 use Rattle.initiator_laws.proofs.Runs.{Sound, call_soundly, call_tells, none_some}

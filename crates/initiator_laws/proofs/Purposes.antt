@@ -7,11 +7,10 @@ use Rattle.async_packet.specs.declared.fault.PacketFault.{PacketFault}
 use Rattle.label_table.specs.declared.judgement.Asked.{Asked}
 use Rattle.label_table.specs.declared.reply.ReplyKind.{ReplyKind}
 use Rattle.label_table.specs.declared.reply.Stale.{Stale}
-use Rattle.label_table.specs.Bodies.{Body}
 use Rattle.label_table.specs.Judging.{Row, by_generation, by_grammar, by_label, by_response, by_again, by_request, row_of}
 use Rattle.label_table.specs.Requests.{reply_kind, kind_of}
 use Rattle.label_table.specs.Layer.{Layer, Finding, of_generation, of_grammar, of_label, of_response, of_again, of_request, asking_step, closed_by, expiring_step, closing_step, facts_of, judged_by, judging_step, responded, unlabelled}
-use Rattle.label_table.specs.History.{Call, judges, answers, asks, lets_expire, disowns, sees, Told, began, closed, expired, was_stale, disowned, unknown, forgotten, Life, not_begun, under_way, over, is_same, after, told, told_by_asking, told_by_finding, told_by_expiring, told_by_reading, told_closed, told_unknown, and_before, history, for_nobody, ended, lived, life, IsFor, IsTold, AreTold}
+use Rattle.label_table.specs.History.{Call, judges, answers, asks, lets_expire, disowns, sees, Told, began, closed, expired, was_stale, disowned, unknown, forgotten, Life, not_begun, under_way, over, is_same, after, told_by_asking, told_by_finding, told_by_expiring, told_by_reading, told_closed, told_unknown, and_before, history, for_nobody, ended, life, IsFor, AreTold}
 use Rattle.label_table.proofs.Calls.{told_law}
 use Rattle.sbp_initiator.specs.declared.purpose.Purpose.{Purpose}
 

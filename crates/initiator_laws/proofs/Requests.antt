@@ -1,8 +1,8 @@
 -- What a request tells that is delivered.
-use Rattle.std.proofs.Common.{◌≡◌, refl, sym, ap, subst, ◌∙◌, ℕ, zero, suc, ◌++◌, append-nil, nat_eq, ◌&&◌, ◌||◌, not, is_some, Bool, true, false, cond, List, [], ◌∷◌, length, replicate, slice_index_or, slice_set, Option, Some, None, Result, Ok, Err}
+use Rattle.std.proofs.Common.{◌≡◌, refl, sym, ap, subst, ◌∙◌, ℕ, zero, suc, ◌++◌, append-nil, nat_eq, ◌&&◌, ◌||◌, is_some, Bool, true, false, cond, List, [], ◌∷◌, length, replicate, slice_index_or, slice_set, Option, Some, None, Result, Ok, Err}
 use Rattle.byteorder.specs.Endian.{big_bytes}
 use Rattle.async_packet.specs.declared.packet.Header.{Header}
-use Rattle.async_packet.specs.Packet.{Packet, header_in, write_quadlet, write_block, write_response, read_quadlet, read_block, read_quadlet_response, read_block_response, lock, lock_response}
+use Rattle.async_packet.specs.Packet.{Packet, write_quadlet, write_block, write_response, read_quadlet, read_block, read_quadlet_response, read_block_response, lock, lock_response}
 use Rattle.label_table.specs.Layer.{Layer, answering_step}
 use Rattle.bus_memory.specs.declared.access.Access.TheVariants.{Write}
 use Rattle.bus_memory.specs.declared.access.Rcode.TheVariants.{TypeError}
@@ -14,7 +14,6 @@ use Rattle.bus_memory.specs.Memory.{Memory, empty_place, patch, place_at, with_b
 use Rattle.bus_memory.specs.Access.{judged, judged_at, read_step, spot_of, takes_writes, write_at, write_step}
 use Rattle.bus_memory.specs.Windows.{is_fifo, slot_of}
 use Rattle.media_bay.specs.Unsolicited.{is_block}
-use Rattle.orb_list.specs.declared.slot.Slot.{Slot}
 use Rattle.orb_layout.specs.declared.fault.OrbFault.{OrbFault}
 use Rattle.orb_layout.specs.declared.status.StatusBlock.{StatusBlock}
 use Rattle.orb_layout.specs.declared.status.StatusKind.{StatusKind}
@@ -23,7 +22,6 @@ use Rattle.orb_list.specs.declared.list.PresentList.{PresentList}
 use Rattle.orb_list.specs.Tickets.{TicketParts}
 use Rattle.orb_list.specs.Table.{SlotTable, closed, passed_for, slot_in, status_at, status_for, status_step as slot_step, waiting}
 use Rattle.sbp_journal.specs.declared.cause.Cause.TheVariants as causes
-use Rattle.sbp_journal.specs.declared.cause.Judged.{Judged}
 use Rattle.sbp_journal.specs.declared.note.Note.{Note}
 use Rattle.sbp_journal.specs.declared.note.Note.TheVariants as notes
 use Rattle.sbp_journal.specs.declared.operation.OpWord.{OpWord}
@@ -41,14 +39,14 @@ use Rattle.sbp_initiator.specs.declared.state.InitiatorState.{InitiatorState}
 use Rattle.sbp_initiator.specs.Refusals.{ends_list}
 use Rattle.sbp_initiator.specs.Lists.{ListState, stepped, take_lists, write_lists}
 use Rattle.sbp_initiator.specs.Moves.{response}
-use Rattle.sbp_initiator.specs.States.{is_orb_of, is_present_orb, status_in}
+use Rattle.sbp_initiator.specs.States.{is_orb_of, status_in}
 use Rattle.sbp_initiator.specs.Effects.{Turn, managed_step, told, with_dead}
 use Rattle.sbp_initiator.specs.Receiving.{address_error, addressed, answer_of, block_at, block_by, block_step, called, fifo_of, got_step, ignored_step, is_dead_kind, is_foreign, managed_for, present_for, quadlet_at, read_as as served_as, request_step, respond_step, serve_step, taken_as, taken_by as takes_by, type_error, written_as}
 use Rattle.initiator_laws.specs.Drops.{IfGone, drop_if}
 use Rattle.initiator_laws.specs.Ends.{own, OpEnd, notes_of, is_managed, IsStateWord, OpMove}
-use Rattle.initiator_laws.specs.Judging.{facts_at, fifo_for}
-use Rattle.initiator_laws.specs.Taking.{Brought, nothing, unsolicited, status, read_as, brought, waiting_at, taken_of, taken_by, block_note, good_drops, kind_drops, block_drops, block_notes}
-use Rattle.initiator_laws.proofs.Effects.{Does, HasMarks, Holds, KeepsMarks, managed_does}
+use Rattle.initiator_laws.specs.Judging.{facts_at}
+use Rattle.initiator_laws.specs.Taking.{Brought, nothing, unsolicited, read_as, brought, waiting_at, taken_of, taken_by, block_note, good_drops, kind_drops, block_drops, block_notes}
+use Rattle.initiator_laws.proofs.Effects.{HasMarks, Holds, KeepsMarks, managed_does}
 
 -- ---- small facts
 

@@ -1,25 +1,14 @@
 -- What the calls of an initiator tell, over every list of them.
-use Rattle.std.proofs.Common.{arith, ◌≡◌, refl, sym, ap, subst, ◌∙◌, ℕ, ◌+◌, ◌<◌, ◌≤◌, ◌++◌, append_assoc, append-nil, nat_lt, is_some, Bool, true, false, cond, List, [], ◌∷◌, length, Option, Some, None, Result, Ok, Err}
+use Rattle.std.proofs.Common.{◌≡◌, refl, sym, ap, subst, ◌∙◌, ℕ, ◌<◌, ◌++◌, append-nil, Bool, true, false, List, [], ◌∷◌, length, Option, Some, None, Result, Ok, Err}
 use Rattle.async_packet.specs.Labels.{LabelParts}
-use Rattle.async_packet.specs.Packet.{Packet, header_in}
-use Rattle.label_table.specs.declared.judgement.Asked.{Asked}
+use Rattle.async_packet.specs.Packet.{Packet}
 use Rattle.label_table.specs.declared.reply.Stale.{Stale}
-use Rattle.label_table.specs.Layer.{Layer, Finding, of_generation, of_grammar, of_label, of_response, of_again, of_request, answering_step, asking_step, expiring_step, judging_step, seeing_step, seen_in_generation}
-use Rattle.label_table.specs.History as wire
+use Rattle.label_table.specs.Layer.{Layer, Finding, of_generation, of_grammar, of_label, of_response, of_again, of_request, answering_step, expiring_step, judging_step}
 use Rattle.orb_list.specs.declared.list.PresentList.{PresentList}
-use Rattle.orb_list.specs.Table.{drop_for, drop_step, free_all_step}
-use Rattle.sbp_session.specs.Moves.{goes, reset}
-use Rattle.sbp_journal.specs.declared.cause.Cause.TheVariants as causes
-use Rattle.sbp_journal.specs.declared.event.Action.{Action}
 use Rattle.sbp_journal.specs.declared.note.Note.{Note}
-use Rattle.sbp_journal.specs.declared.note.Note.TheVariants as notes
-use Rattle.sbp_journal.specs.declared.operation.Operation.{Operation}
-use Rattle.sbp_journal.specs.declared.operation.Operation.TheVariants as operations
 use Rattle.sbp_journal.specs.declared.operation.OpWord.{OpWord}
-use Rattle.sbp_journal.specs.declared.operation.OpWord.TheVariants as words
 use Rattle.sbp_journal.specs.declared.outbox.Outgoing.{Outgoing}
-use Rattle.sbp_journal.specs.declared.side.Side.{Side}
-use Rattle.sbp_journal.specs.Outgoings.{OutboxState, empty_outbox}
+use Rattle.sbp_journal.specs.Outgoings.{OutboxState}
 use Rattle.sbp_initiator.specs.declared.purpose.Ending.{Ending}
 use Rattle.sbp_initiator.specs.declared.purpose.Ending.TheVariants as endings
 use Rattle.sbp_initiator.specs.declared.purpose.Purpose.{Purpose}
@@ -29,22 +18,21 @@ use Rattle.sbp_initiator.specs.declared.state.Counts.{Counts}
 use Rattle.sbp_initiator.specs.declared.state.InitiatorState.{InitiatorState}
 use Rattle.sbp_initiator.specs.States.{ending_of}
 use Rattle.sbp_initiator.specs.Effects.{Turn, ended_for, ended_step}
-use Rattle.sbp_initiator.specs.Initiators.{new_state}
 use Rattle.sbp_initiator.specs.Laws.{Call, receives, lets_expire, done}
 use Rattle.sbp_initiator.specs.Laws as laws
-use Rattle.sbp_initiator.specs.Moves.{outgoing, response}
-use Rattle.sbp_initiator.specs.Receiving.{called, expire_step, expired_as, receive_step, received, request_step, respond_step}
+use Rattle.sbp_initiator.specs.Moves.{response}
+use Rattle.sbp_initiator.specs.Receiving.{called, expire_step, expired_as, receive_step, received}
 use Rattle.sbp_initiator.specs.Judged.{IsSame}
 use Rattle.sbp_initiator.proofs.Layers.{judged_same}
-use Rattle.initiator_laws.specs.Drops.{IfGone, drop_if, ends_the_list, present_list}
-use Rattle.initiator_laws.specs.Ends.{own, OpEnd, drops, notes_of, is_managed, IsStateWord, IsEnd, OpMove}
+use Rattle.initiator_laws.specs.Drops.{IfGone, drop_if, ends_the_list}
+use Rattle.initiator_laws.specs.Ends.{own, OpEnd, notes_of, IsStateWord, OpMove}
 use Rattle.initiator_laws.specs.Numbers.{is_numbered, carried, RisesTo}
-use Rattle.initiator_laws.specs.Taking.{block_notes, brought, call_drops, call_note, finding_drops, finding_note, purpose_drops}
+use Rattle.initiator_laws.specs.Taking.{block_notes, call_drops, call_note, finding_drops, finding_note}
 use Rattle.initiator_laws.specs.Tells.{is_heard, Tells}
-use Rattle.initiator_laws.proofs.Effects.{Asking, Does, Ends, Fits, Holds, IsFor, IsForOrb, KeepsMarks, Wired, ended_does}
-use Rattle.initiator_laws.proofs.Purposes.{AllAsk, IfFor, all_ask, closes_asked, expires_asked}
+use Rattle.initiator_laws.proofs.Effects.{Asking, Fits, Holds, Wired, ended_does}
+use Rattle.initiator_laws.proofs.Purposes.{IfFor, all_ask, closes_asked, expires_asked}
 use Rattle.initiator_laws.proofs.Requests.{Answers, HasOrb, ignored_again, request_answers}
-use Rattle.initiator_laws.proofs.Wires.{Wire, judge_wire, expire_wire, see_wire, answer_wire, ask_wire}
+use Rattle.initiator_laws.proofs.Wires.{Wire, judge_wire, expire_wire, answer_wire, ask_wire}
 
 -- ---- what holds after every list of calls
 

@@ -1,8 +1,6 @@
 -- What the target reads: the ROM stays, and the slots are those of the calls of the slots.
-use Rattle.std.proofs.Common.{◌≡◌, refl, sym, ap, subst, ◌∙◌, ℕ, ◌-◌, ◌||◌, nat_eq, Bool, true, false, cond, List, [], ◌∷◌, length, take, drop, Option, Some, None, Result, Ok, Err}
-use Rattle.byteorder.specs.Endian.{big_bytes}
+use Rattle.std.proofs.Common.{◌≡◌, refl, sym, ap, subst, ◌∙◌, ℕ, ◌||◌, nat_eq, Bool, true, false, cond, List, [], ◌∷◌, length, take, drop, Option, Some, None, Result, Ok, Err}
 use Rattle.bus_memory.specs.declared.access.Access.TheVariants.{Write}
-use Rattle.bus_memory.specs.declared.access.Rcode.{Rcode}
 use Rattle.bus_memory.specs.declared.access.Rcode.TheVariants.{TypeError}
 use Rattle.bus_memory.specs.declared.access.Spot.{Spot}
 use Rattle.bus_memory.specs.declared.window.Window.{Window}
@@ -10,13 +8,13 @@ use Rattle.bus_memory.specs.declared.window.Window.TheVariants as windows
 use Rattle.bus_memory.specs.Access.{judged, judged_at, set_step, spot_of, takes_writes, write_at, write_step}
 use Rattle.bus_memory.specs.Laws.{IsWhole}
 use Rattle.bus_memory.specs.Memory.{Memory, new_memory, rom_bytes, slot_at, with_bytes}
-use Rattle.bus_memory.specs.Windows.{is_fifo, start}
+use Rattle.bus_memory.specs.Windows.{is_fifo}
 use Rattle.bus_memory.proofs.Found.{own_law}
 use Rattle.orb_layout.specs.declared.status.StatusBlock.{StatusBlock}
 use Rattle.orb_list.specs.declared.fault.ListFault.{ListFault}
 use Rattle.orb_list.specs.declared.list.Linking.{Linking}
 use Rattle.orb_list.specs.Kept.{AreProper, IfHoldsOrb, IsManaged, IsProper, kept_in}
-use Rattle.orb_list.specs.Layout.{behind, data_in_segments, data_written, written}
+use Rattle.orb_list.specs.Layout.{behind, data_in_segments, data_written}
 use Rattle.orb_list.specs.Requests.{Asked}
 use Rattle.orb_list.specs.Runs.{Call, Prepare, LinkLow, LinkHigh, MakeDummy, TakeStatus, DropList, FreeAll, Pin, Unpin, TryWrite, Fill, SetQuad, left_by, run}
 use Rattle.orb_list.specs.Table.{SlotTable, checked, closed, dummy_at, dummy_step, free_all_step, high_for, high_step, low_for, low_step, may_prepare, prepare_at, prepare_step, slot_in, status_at, status_for, status_step, unpin_for, unpin_step, waiting, waits_high, waits_low}
@@ -25,9 +23,9 @@ use Rattle.orb_list.proofs.Imaged.{served_law}
 use Rattle.orb_list.proofs.Steps.{held_law}
 use Rattle.bus_memory.specs.Windows.{slot_of}
 use Rattle.sbp_initiator.specs.Initiators.{own_rom}
-use Rattle.sbp_initiator.specs.Laws.{IsSlotRun, after}
+use Rattle.sbp_initiator.specs.Laws.{after}
 use Rattle.sbp_initiator.proofs.Slotted.{slot_law}
-use Rattle.initiator_laws.specs.Served.{ReadsAfter, ReadsLaw}
+use Rattle.initiator_laws.specs.Served.{ReadsLaw}
 use Rattle.initiator_laws.proofs.Over.{sound}
 
 -- ---- each call of the slots leaves the ROM

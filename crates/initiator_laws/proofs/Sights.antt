@@ -1,5 +1,5 @@
 -- What an initiator tells as it sees a generation.
-use Rattle.std.proofs.Common.{◌≡◌, refl, sym, ap, subst, ◌∙◌, ℕ, ◌++◌, append-nil, append_assoc, nat_lt, Bool, true, false, cond, List, [], ◌∷◌, length, slice_index_or, Option, Some, None}
+use Rattle.std.proofs.Common.{◌≡◌, refl, sym, ap, subst, ◌∙◌, ℕ, ◌++◌, append-nil, nat_lt, Bool, true, false, cond, List, [], ◌∷◌, length, slice_index_or, Option, Some, None}
 use Rattle.label_table.specs.Layer.{Layer, seeing_step, seen_in_generation}
 use Rattle.bus_memory.specs.declared.slot.PlaceMemory.{PlaceMemory}
 use Rattle.bus_memory.specs.Memory.{empty_place}
@@ -8,8 +8,6 @@ use Rattle.sbp_journal.specs.declared.note.Note.{Note}
 use Rattle.sbp_journal.specs.declared.note.Note.TheVariants as notes
 use Rattle.sbp_journal.specs.declared.operation.Operation.TheVariants as operations
 use Rattle.sbp_journal.specs.declared.operation.OpWord.TheVariants as words
-use Rattle.sbp_journal.specs.declared.outbox.Outgoing.{Outgoing}
-use Rattle.sbp_journal.specs.declared.side.Side.{Side}
 use Rattle.sbp_journal.specs.Outgoings.{OutboxState}
 use Rattle.sbp_initiator.specs.declared.purpose.Pointing.{Pointing}
 use Rattle.sbp_initiator.specs.declared.purpose.Pointing.TheVariants as pointings
@@ -19,7 +17,7 @@ use Rattle.sbp_initiator.specs.declared.state.Counts.{Counts}
 use Rattle.sbp_initiator.specs.declared.state.InitiatorState.{InitiatorState}
 use Rattle.sbp_initiator.specs.Lists.{ListState, free_lists}
 use Rattle.sbp_initiator.specs.Effects.{Turn, drop_list_step}
-use Rattle.sbp_initiator.specs.Seeing.{all_end, interrupted, reset_step, reset_told, resets_told, seen_as, see_step, states_end}
+use Rattle.sbp_initiator.specs.Seeing.{all_end, interrupted, reset_told, resets_told, seen_as, see_step, states_end}
 use Rattle.initiator_laws.specs.Drops.{present_list}
 use Rattle.initiator_laws.specs.Ends.{own, drops}
 use Rattle.initiator_laws.specs.Numbers.{carried, RisesTo}

@@ -1,5 +1,5 @@
 -- Whose status is taken.
-use Rattle.std.proofs.Common.{◌≡◌, refl, sym, ap, ◌∙◌, ℕ, Bool, true, List, Option, Some, None, Result, Ok, Err}
+use Rattle.std.proofs.Common.{◌≡◌, refl, sym, ap, ◌∙◌, ℕ, List, Some, Result, Ok, Err}
 use Rattle.bus_memory.specs.Memory.{Memory}
 use Rattle.bus_memory.specs.Windows.{slot_of}
 use Rattle.orb_layout.specs.declared.status.StatusBlock.{StatusBlock}
@@ -13,7 +13,7 @@ use Rattle.sbp_initiator.specs.Laws.{IsSlotRun, after}
 use Rattle.sbp_initiator.specs.Lists.{ListState, take_lists, ticket_in}
 use Rattle.sbp_initiator.proofs.Slotted.{slot_law}
 use Rattle.initiator_laws.specs.Taking.{waiting_at}
-use Rattle.initiator_laws.specs.Tells.{TakesAfter, TakesLaw}
+use Rattle.initiator_laws.specs.Tells.{TakesLaw}
 use Rattle.initiator_laws.proofs.Requests.{take_found}
 
 take_is : (lists : ListState) (block : StatusBlock) → (take_lists lists block).0 ≡ ticket_in (status_step lists.slots lists.memory block).0

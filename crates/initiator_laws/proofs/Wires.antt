@@ -1,5 +1,5 @@
 -- The calls of the transaction layer behind the calls of an initiator: what they were asked for, and which values they carry.
-use Rattle.std.proofs.Common.{arith, ◌≡◌, refl, sym, ap, subst, ◌∙◌, ℕ, ◌+◌, ◌<◌, ◌≤◌, ◌++◌, Bool, true, false, cond, List, [], ◌∷◌, Option, Some, None, Result, Ok, Err}
+use Rattle.std.proofs.Common.{arith, ◌≡◌, sym, ap, subst, ◌∙◌, ℕ, ◌+◌, ◌<◌, ◌≤◌, ◌++◌, Bool, true, false, List, [], ◌∷◌, Option, Some, None}
 use Rattle.async_packet.specs.Labels.{LabelParts}
 use Rattle.async_packet.specs.Packet.{Packet}
 use Rattle.label_table.specs.declared.judgement.Asked.{Asked}
@@ -11,7 +11,7 @@ use Rattle.sbp_initiator.specs.declared.purpose.Purpose.{Purpose}
 use Rattle.sbp_initiator.specs.Moves.{outgoing, response}
 use Rattle.sbp_initiator.specs.Laws.{packets_of, with_asked}
 use Rattle.initiator_laws.specs.Numbers.{is_numbered, value_of, numbered_by, carried, RisesTo}
-use Rattle.initiator_laws.proofs.Purposes.{AllAsk, all_ask}
+use Rattle.initiator_laws.proofs.Purposes.{AllAsk}
 
 -- a layer and the packets that were handed out, by calls that were all asked for something of a kind
 pub record Wire (P : Purpose → Type 0) (node running : ℕ) (layer : Layer Purpose) (packets : List Outgoing) : Type 0 where

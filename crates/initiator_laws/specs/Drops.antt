@@ -2,8 +2,7 @@
 -- where there is one and one of these comes: its AGENT_RESET is answered complete; its logout, abort of all, unit reset or target reset
 -- is done with status 00; a read of AGENT_STATE that counts for this list gives 0; or a generation is seen. A read counts for the list
 -- that was the present one as it was sent, where the ORB_POINTER of this list had been answered then.
-use Rattle.std.specs.Prelude.{◌≡◌, ℕ, ◌==◌, ◌&&◌, nat_lt, Bool, true, false, if◌then◌else◌, List, [], ◌∷◌, Option, Some, None, Result, Ok, Err}
-use Rattle.async_packet.specs.Packet.{Packet}
+use Rattle.std.specs.Prelude.{◌≡◌, ℕ, ◌==◌, ◌&&◌, Bool, true, false, Option, Some, None}
 use Rattle.orb_list.specs.declared.list.PresentList.{PresentList}
 use Rattle.sbp_initiator.specs.declared.purpose.Purpose.{Purpose}
 use Rattle.sbp_initiator.specs.declared.purpose.Purpose.TheVariants as purposes

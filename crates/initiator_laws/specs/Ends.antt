@@ -2,8 +2,7 @@
 -- operation is under way: it begins with an action that is done, of which no other is done before it has ended. It ends in a call that
 -- tells one `op`, of this operation and with a word of its table, or as a generation is seen, with `reset`. A read of AGENT_STATE is no
 -- operation, and ends beside them. Within a delivery or a time-out `drop` stands before `op`, and `op` before `stuck`.
-use Rattle.std.specs.Prelude.{◌≡◌, ℕ, ◌+◌, ◌==◌, ◌&&◌, ◌||◌, not, Bool, true, false, if◌then◌else◌, List, [], ◌∷◌, ◌++◌, Option, Some, None}
-use Rattle.sbp_journal.specs.declared.event.Action.{Action}
+use Rattle.std.specs.Prelude.{◌≡◌, ℕ, ◌==◌, ◌&&◌, not, Bool, true, false, List, [], ◌∷◌, ◌++◌, Option, Some, None}
 use Rattle.sbp_journal.specs.declared.note.Note.{Note}
 use Rattle.sbp_journal.specs.declared.note.Note.TheVariants as notes
 use Rattle.sbp_journal.specs.declared.operation.Operation.{Operation}
@@ -13,7 +12,6 @@ use Rattle.sbp_journal.specs.declared.operation.OpWord.TheVariants as words
 use Rattle.sbp_journal.specs.declared.side.Side.{Side}
 use Rattle.sbp_journal.specs.declared.side.Side.TheVariants as sides
 use Rattle.sbp_initiator.specs.declared.purpose.Running.{Running}
-use Rattle.sbp_initiator.specs.Refusals.{operation_of}
 
 -- ---- notes
 

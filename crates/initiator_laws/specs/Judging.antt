@@ -2,7 +2,7 @@
 -- delivery is that of the first row that holds. The first rows are those of the transaction layer: another generation, no packet for
 -- this node, a response to nothing, a response, a write that comes again. The others are those of a request, by what it asks for and by
 -- what holds of the initiator. What is ignored changes nothing, and has no other answer than the one that its row gives.
-use Rattle.std.specs.Prelude.{◌≡◌, ℕ, ◌==◌, ◌&&◌, not, is_some, Bool, true, false, if◌then◌else◌, List, [], Option, Some, None, Result, Ok, Err}
+use Rattle.std.specs.Prelude.{◌≡◌, ℕ, ◌==◌, ◌&&◌, not, is_some, Bool, true, false, List, [], Option, Some, None, Result, Ok, Err}
 use Rattle.async_packet.specs.Packet.{Packet, header_in}
 use Rattle.async_packet.specs.Reading.{reading}
 use Rattle.async_packet.specs.declared.fault.PacketFault.{PacketFault}
@@ -16,7 +16,6 @@ use Rattle.orb_layout.specs.declared.status.StatusKind.{StatusKind}
 use Rattle.orb_layout.specs.declared.status.StatusKind.TheVariants as kinds
 use Rattle.orb_list.specs.declared.slot.Slot.{Slot}
 use Rattle.orb_list.specs.Table.{slot_in, waiting}
-use Rattle.sbp_journal.specs.declared.cause.Cause.{Cause}
 use Rattle.sbp_journal.specs.declared.cause.Cause.TheVariants as causes
 use Rattle.sbp_journal.specs.declared.cause.Judged.{Judged}
 use Rattle.sbp_journal.specs.declared.cause.Judged.TheVariants as judgements

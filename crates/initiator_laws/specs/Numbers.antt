@@ -2,10 +2,9 @@
 -- one quadlet. Over every list of calls no two of these writes that were handed out carry the same value, over all lists and logins:
 -- each carries more than every one before it. They are read off the requests that the transaction layer took, whose packets are those
 -- that were handed out, in order.
-use Rattle.std.specs.Prelude.{◌≡◌, ◌<◌, ℕ, ◌+◌, Bool, true, false, List, [], ◌∷◌, ◌++◌, Option, Some, None}
-use Rattle.std.specs.List.{AllByRecursion}
+use Rattle.std.specs.Prelude.{◌≡◌, ◌<◌, ℕ, ◌+◌, Bool, true, false, List, [], ◌∷◌, Option, Some, None}
 use Rattle.label_table.specs.declared.judgement.Asked.{Asked}
-use Rattle.label_table.specs.Bodies.{Body, quadlet_write, block_write, quadlet_read, block_read}
+use Rattle.label_table.specs.Bodies.{Body, quadlet_write}
 use Rattle.label_table.specs.Layer.{Layer, asking_step}
 use Rattle.label_table.specs.History as wire
 use Rattle.sbp_journal.specs.declared.outbox.Outgoing.{Outgoing}

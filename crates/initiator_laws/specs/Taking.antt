@@ -1,9 +1,9 @@
 -- Which statuses an initiator takes (NCITS 325-1998, status blocks). A status block that comes to an open FIFO and names an ORB that
 -- waits is taken: the delivery is told as got, and tells one `taken`, of this ORB, with the status of the block. A block that names
 -- none, nor the management ORB of the operation under way, is ignored and tells nothing. No other call tells `taken`.
-use Rattle.std.specs.Prelude.{◌≡◌, ◌≢◌, ℕ, ◌==◌, ◌&&◌, ◌||◌, not, nat_lt, Bool, true, false, if◌then◌else◌, List, [], ◌∷◌, Option, Some, None, Result, Ok, Err}
+use Rattle.std.specs.Prelude.{ℕ, ◌==◌, ◌&&◌, ◌||◌, not, nat_lt, Bool, false, if◌then◌else◌, List, [], ◌∷◌, Option, Some, None, Result, Ok, Err}
 use Rattle.async_packet.specs.Packet.{Packet, header_in}
-use Rattle.label_table.specs.Layer.{Finding, of_generation, of_grammar, of_label, of_response, of_again, of_request, judging_step}
+use Rattle.label_table.specs.Layer.{Finding, of_response, of_request, judging_step}
 use Rattle.bus_memory.specs.Windows.{slot_of}
 use Rattle.orb_layout.specs.declared.fault.OrbFault.{OrbFault}
 use Rattle.orb_layout.specs.declared.status.StatusBlock.{StatusBlock}

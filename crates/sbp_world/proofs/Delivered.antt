@@ -1,16 +1,15 @@
 -- A delivery as a whole, and a line.
-use Rattle.std.specs.Prelude.{◌≡◌, ℕ, Bool, true, false, List, [], ◌∷◌, Option, Some, None, Result, Ok, Err, OnOk, IfOk, refl}
+use Rattle.std.specs.Prelude.{◌≡◌, ℕ, Bool, true, false, List, [], ◌∷◌, Option, Result, Ok, Err, OnOk, IfOk, refl}
 use Rattle.std.proofs.Common.{◌∙◌, ap, subst, sym}
 use Rattle.rbc_disk.specs.Disk.{Disk}
 use Rattle.rbc_disk.specs.Runs.{Told}
 use Rattle.sbp_journal.specs.declared.event.Event.{Event}
-use Rattle.sbp_journal.specs.declared.event.Event.TheVariants as events
 use Rattle.sbp_journal.specs.Outgoings.{OutboxState}
 use Rattle.sbp_world.specs.declared.parts.delivering.Arrival.{Arrival}
-use Rattle.sbp_world.specs.Delivering.{Delivers, Receives, MayReceive, arrived_by, delivered, delivered_by, received_step}
+use Rattle.sbp_world.specs.Delivering.{Delivers, Receives, arrived_by, delivered, delivered_by, received_step}
 use Rattle.sbp_world.specs.Lines.{Happens, HappensTo, MayHappen, MayTellIn, happens, happens_to}
 use Rattle.sbp_world.specs.Packets.{Delivered, MayIf, Repeated, delivered_if, is_in_flight, may_repeat, no_packet, refused}
-use Rattle.sbp_world.specs.Settling.{AreUpTo, DeliversUpTo, Settles, after_all, budget, end_note, is_settled, settled, settled_from}
+use Rattle.sbp_world.specs.Settling.{AreUpTo, DeliversUpTo, Settles, budget, end_note, is_settled, settled_from}
 use Rattle.sbp_world.specs.Worlds.{Scene, WorldState, begun, in_world, scene, with_note, without_notes}
 
 -- ---- a delivery

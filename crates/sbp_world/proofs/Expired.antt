@@ -1,5 +1,5 @@
 -- A request of the target expires.
-use Rattle.std.specs.Prelude.{◌≡◌, Bool, true, false, Result, Ok, Err, refl}
+use Rattle.std.specs.Prelude.{◌≡◌, true, false, Result, Ok, Err, refl}
 use Rattle.std.proofs.Common.{◌∙◌, ap, subst}
 use Rattle.label_table.specs.declared.reply.Stale.{Stale}
 use Rattle.sbp_journal.specs.declared.cause.TargetFault.TheVariants as faults

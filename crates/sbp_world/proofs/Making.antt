@@ -1,6 +1,6 @@
 -- The nodes at the start, one after the other.
-use Rattle.std.specs.Prelude.{◌≡◌, ℕ, zero, suc, ◌+◌, Bool, List, [], ◌∷◌, ◌++◌, length, refl}
-use Rattle.std.proofs.Common.{◌∙◌, ap, arith}
+use Rattle.std.specs.Prelude.{◌≡◌, ℕ, zero, suc, Bool, [], ◌∷◌, ◌++◌, length, refl}
+use Rattle.std.proofs.Common.{arith}
 use Rattle.std.proofs.lemmas.Grind.{common_steps}
 use Rattle.sbp_initiator.specs.Initiators.{new_state}
 use Rattle.sbp_world.specs.Generations.{first_ids}

@@ -2,7 +2,7 @@
 use Rattle.std.specs.Prelude.{◌≡◌, ℕ}
 use Rattle.std.proofs.Common.{◌∙◌, ap}
 use Rattle.sbp_journal.specs.Outgoings.{OutboxState, empty_outbox}
-use Rattle.sbp_target.specs.Nodes.{NodeState, Scene, scene}
+use Rattle.sbp_target.specs.Nodes.{NodeState, scene}
 use Rattle.sbp_target.specs.Receiving.{seen, ticked}
 use Rattle.sbp_world.specs.Nodes.{pair_of, target_sees, target_ticks}
 

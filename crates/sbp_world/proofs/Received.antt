@@ -9,7 +9,6 @@ use Rattle.login_table.specs.declared.login.Login.{Login}
 use Rattle.orb_layout.specs.Replies.{Answer}
 use Rattle.packet_store.specs.declared.sent.Sent.{Sent}
 use Rattle.packet_store.specs.Kept.{found_sent}
-use Rattle.rbc_disk.specs.Disk.{Disk}
 use Rattle.rbc_disk.specs.Held.{Held, held}
 use Rattle.rbc_disk.specs.Runs.{Told}
 use Rattle.sbp_initiator.specs.declared.state.InitiatorState.{InitiatorState}

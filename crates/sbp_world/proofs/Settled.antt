@@ -1,9 +1,9 @@
 -- Deliveries one after the other: so many, until none is in flight, or until they are spent.
-use Rattle.std.specs.Prelude.{◌≡◌, ℕ, ◌+◌, ◌<◌, ◌≤◌, List, [], ◌∷◌, length, Option, Some, None, false, refl}
-use Rattle.std.proofs.Common.{◌∙◌, arith, subst, sym, ap}
+use Rattle.std.specs.Prelude.{◌≡◌, ℕ, ◌+◌, ◌≤◌, [], ◌∷◌, Option, Some, None, false, refl}
+use Rattle.std.proofs.Common.{arith, subst, sym}
 use Rattle.rbc_disk.specs.Runs.{Told}
 use Rattle.sbp_world.specs.Delivering.{Delivers, delivered}
-use Rattle.sbp_world.specs.Settling.{DeliversAll, DeliversUpTo, MayAt, MayNext, after_all, delivered_at, delivered_next, lowest}
+use Rattle.sbp_world.specs.Settling.{DeliversAll, DeliversUpTo, MayAt, MayNext, delivered_at, delivered_next, lowest}
 use Rattle.sbp_world.specs.Worlds.{Scene}
 
 pub all_none : (s : Scene) → DeliversAll 0 s s

@@ -1,12 +1,12 @@
 -- A world goes on with a run.
-use Rattle.std.specs.Prelude.{◌≡◌, ℕ, Bool, List, Option, refl}
+use Rattle.std.specs.Prelude.{◌≡◌, ℕ, List, Option, refl}
 use Rattle.std.proofs.Common.{◌∙◌, ap, subst}
 use Rattle.rbc_disk.specs.Runs.{Told}
 use Rattle.sbp_journal.specs.declared.event.Event.{Event}
 use Rattle.sbp_journal.specs.declared.event.Event.TheVariants as events
-use Rattle.sbp_world.specs.Lines.{Happens, MayHappen, happens}
-use Rattle.sbp_world.specs.Runs.{BeginsLaw, GoesOnLaw, Run, SettlesLaw, StandsFor, after, beginning, entry, with_entry}
-use Rattle.sbp_world.specs.Settling.{AreUpTo, HasSettled, budget, settled}
+use Rattle.sbp_world.specs.Lines.{MayHappen, happens}
+use Rattle.sbp_world.specs.Runs.{BeginsLaw, GoesOnLaw, Run, SettlesLaw, StandsFor, entry, with_entry}
+use Rattle.sbp_world.specs.Settling.{AreUpTo, budget, settled}
 use Rattle.sbp_world.specs.Worlds.{Scene, begun}
 
 pub begins : BeginsLaw

@@ -23,7 +23,7 @@ use Rattle.command_agent.specs.declared.step.PointRefusal.{PointRefusal}
 use Rattle.command_agent.specs.declared.step.Which.{Which}
 use Rattle.command_agent.specs.declared.step.Which.TheVariants.{Main, Ahead}
 use Rattle.command_agent.specs.Machine.{Machine, is_under_way, state_in}
-use Rattle.command_agent.specs.Steps.{asks, doorbell_step, is_reset, lost_step, reply_step}
+use Rattle.command_agent.specs.Steps.{asks, doorbell_step, is_reset, lost_step}
 use Rattle.mgmt_agent.specs.declared.decision.Decision.{Decision}
 use Rattle.mgmt_agent.specs.declared.decision.Effect.{Effect}
 use Rattle.mgmt_agent.specs.declared.decision.Effect.TheVariants as effects

@@ -1,5 +1,5 @@
 -- Resets and seconds, and what nodes do at them.
-use Rattle.std.specs.Prelude.{ℕ, ◌-◌, ◌==◌, Bool, if◌then◌else◌, List}
+use Rattle.std.specs.Prelude.{ℕ, ◌-◌, ◌==◌, if◌then◌else◌, List}
 use Rattle.sbp_initiator.specs.declared.state.InitiatorState.{InitiatorState}
 use Rattle.sbp_initiator.specs.Seeing.{see_step}
 use Rattle.sbp_journal.specs.declared.note.Note.TheVariants as notes

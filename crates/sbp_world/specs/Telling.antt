@@ -1,6 +1,6 @@
 -- The notes of what nodes tell. An ORB that the target names by its address has the name of the latest ORB that the initiator prepared in
 -- the slot of that address.
-use Rattle.std.specs.Prelude.{ℕ, ◌-◌, ◌%◌, ◌==◌, nat_lt, Bool, if◌then◌else◌, List, [], ◌∷◌, length, Option, Some, None}
+use Rattle.std.specs.Prelude.{ℕ, ◌-◌, ◌%◌, ◌==◌, nat_lt, if◌then◌else◌, List, [], ◌∷◌, length, Option, Some, None}
 use Rattle.orb_layout.specs.declared.ask.FailCause.{FailCause}
 use Rattle.orb_layout.specs.declared.status.StatusKind.{StatusKind}
 use Rattle.orb_list.specs.Tickets.{TicketParts}

@@ -1,5 +1,5 @@
 -- What a target serves has the rcode of the first row that holds.
-use Rattle.std.proofs.Common.{◌≡◌, refl, sym, ap, ◌∙◌, ℕ, ◌==◌, is_some, Bool, true, false, cond, length, Option, Some, None}
+use Rattle.std.proofs.Common.{◌≡◌, refl, ℕ, ◌==◌, is_some, Bool, true, false, cond, length, Option, Some, None}
 use Rattle.async_packet.specs.Packet.{Packet, write_quadlet, write_block, write_response, read_quadlet, read_block, read_quadlet_response, read_block_response, lock, lock_response}
 use Rattle.orb_layout.specs.Pointers.{offset_at}
 use Rattle.sbp_journal.specs.declared.cause.Cause.TheVariants as causes

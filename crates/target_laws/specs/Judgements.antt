@@ -1,7 +1,7 @@
 -- The tables that nodes and laws share (IEEE 1394-1995, response codes; the judging of requests). A request that a target serves has
 -- the rcode of the first row that holds of what the request is, with that of the register's state where a register serves it; and
 -- it is ignored, and answered address_error, exactly where it is of an agent register of no live login of its source.
-use Rattle.std.specs.Prelude.{◌≡◌, ℕ, ◌==◌, is_some, Bool, false, if◌then◌else◌}
+use Rattle.std.specs.Prelude.{◌≡◌, ℕ, ◌==◌, is_some, false, if◌then◌else◌}
 use Rattle.async_packet.specs.Packet.{Packet}
 use Rattle.sbp_journal.specs.declared.cause.Cause.TheVariants as causes
 use Rattle.sbp_journal.specs.Rows.{TargetFacts, target_rcode, RequestFacts, judging_of, ignored_as, serving}

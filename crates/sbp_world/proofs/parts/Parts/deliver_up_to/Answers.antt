@@ -1,5 +1,5 @@
 use Rattle.std.specs.Prelude.{◌≡◌, ◌≤◌, refl}
-use Rattle.std.proofs.Common.{◌∙◌, arith, rules}
+use Rattle.std.proofs.Common.{◌∙◌, rules}
 use Rattle.sbp_world.proofs.Settled.{all_ended, all_more, all_none, all_spent}
 use Rattle.sbp_world.proofs.parts.Parts.deliver_up_to.Goals as goal
 

@@ -1,6 +1,5 @@
 use Rattle.std.specs.Prelude.{replicate}
 use Rattle.std.proofs.Common.{◌∙◌, ap}
-use Rattle.sbp_world.specs.Requests.{RequestsState}
 use Rattle.sbp_world.proofs.requests.Requests.new.Goals as goal
 
 pub returns : goal.returns
