@@ -4,3 +4,4 @@ pub mod See
 pub mod Forgets
 pub mod Lines
 pub mod Starts
+pub mod Unheard

@@ -7,6 +7,7 @@ use Rattle.label_table.specs.Layer.{seeing_step}
 use Rattle.bus_transactions.specs.Bare.{bare}
 use Rattle.bus_transactions.specs.May.{is_plain}
 use Rattle.sbp_journal.specs.Run.{Moment, asked, said}
+use Rattle.sbp_journal.specs.Wire.{terms}
 use Rattle.sbp_journal.specs.Outgoings.{OutboxState, empty_outbox}
 use Rattle.sbp_journal.specs.declared.event.Event.{Event}
 use Rattle.sbp_journal.specs.declared.event.Event.TheVariants as events
@@ -21,15 +22,17 @@ use Rattle.sbp_world.specs.Generations.{id_of}
 use Rattle.sbp_world.specs.Handing.{handed_out}
 use Rattle.sbp_world.specs.Lines.{happens, keyed, no_unit}
 use Rattle.sbp_world.specs.Nodes.{at_initiator, handed_all, initiator_learns, see_line, sees, target_learns, target_sees, target_ticks, tick_line, told_seen, with_seen}
-use Rattle.sbp_world.specs.Packets.{refused}
+use Rattle.packet_store.specs.Kept.{found_sent, is_flying}
+use Rattle.sbp_world.specs.Packets.{may_repeat, refused}
 use Rattle.sbp_world.specs.Sending.{sent_all}
 use Rattle.sbp_world.specs.Telling.{told_all}
-use Rattle.sbp_world.specs.Worlds.{WorldState, Scene, initiator_at, with_initiator, with_note, with_target, without_notes}
+use Rattle.sbp_world.specs.Worlds.{WorldState, Scene, begun, initiator_at, with_initiator, with_note, with_target, without_notes}
 use Rattle.world_laws.specs.Quiet.{IsQuiet}
 use Rattle.world_laws.specs.Wires.{Stands, layer_in}
 use Rattle.world_laws.proofs.Bus.{injects, loses, refuses, resets}
 use Rattle.world_laws.proofs.Forgets.{IsSilent, seen_stays, sees_rests, ticked_stays}
 use Rattle.world_laws.proofs.See.{initiator_layers, saw, seen_layer, target_layers}
+use Rattle.world_laws.proofs.Unheard.{delivers_if, unheard_still}
 use Rattle.world_laws.proofs.Tells.{starts, tells, told_plain}
 
 -- what a node hands out in which no packet leaves
@@ -134,14 +137,18 @@ sees_line past w zero l h = target_saw past w h
 sees_line past w (suc i) l h = saw_by past w i (nat_eq (suc i) 0) (not_target i) l h
 
 -- ---- all of them
-pub goes : (past : List Moment) (line : ℕ) (event : Event) (told : List (Option Told)) (s : Scene) → IsQuiet event (length s.world.initiators) → Stands past s.world → Stands (asked line event ∷ (map said s.world.fresh ++ past)) (happens line event told s).world
+pub goes : (past : List Moment) (line : ℕ) (event : Event) (told : List (Option Told)) (s : Scene) → IsQuiet event s.world → Stands past s.world → Stands (asked line event ∷ (map said s.world.fresh ++ past)) (happens line event told s).world
 unfolding happens
 goes past line (events.Begin initiators ready) told s q h = absurd q
 goes past line (events.Act initiator action) told s q h = absurd q
 goes past line (events.Reset physical) told s q h = resets past s.world line physical q h
 goes past line (events.See node) told s q h = sees_line _ (without_notes s.world) node q (starts past s.world line (events.See node) refl h)
-goes past line (events.Deliver serial) told s q h = absurd q
-goes past line (events.Repeat serial) told s q h = absurd q
+goes past line (events.Deliver serial) told s q h =
+    let t = starts past s.world line (events.Deliver serial) refl h in
+    delivers_if _ line serial false (is_flying serial s.world.store.kept) told (begun s) t (unheard_still (found_sent serial s.world.store.kept) s.world q) (ap (λ p. (terms p).repeats) t.is.past_is) (λ e. refl)
+goes past line (events.Repeat serial) told s q h =
+    let t = starts past s.world line (events.Repeat serial) refl h in
+    delivers_if _ line serial true (may_repeat serial (begun s).world) told (begun s) t (unheard_still (found_sent serial s.world.store.kept) s.world q) (ap (λ p. (terms p).repeats) t.is.past_is) (λ e. cc)
 goes past line (events.Lose serial) told s q h = loses _ (without_notes s.world) line serial (starts past s.world line (events.Lose serial) refl h)
 goes past line (events.Timeout serial) told s q h = absurd q
 goes past line (events.Step count) told s q h = absurd q
