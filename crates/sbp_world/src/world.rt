@@ -78,6 +78,14 @@ impl World {
         self.parts.fresh()
     }
 
+    /// How many initiators there are.
+    pub fn initiators(&self) -> usize
+        ensures count { result ≡ length self.now.initiators }
+        ensures few { result ≤ 4 }
+    {
+        self.parts.initiators()
+    }
+
     /// How many packets are kept: those in flight, and the delivered ones among the last 1,024 serials.
     pub fn kept(&self) -> usize
         ensures all { result ≡ length self.now.store.kept }

@@ -83,6 +83,14 @@ impl Parts {
         &self.fresh
     }
 
+    /// How many initiators there are.
+    pub(crate) fn initiators(&self) -> usize
+        ensures count { result ≡ length self.now.initiators }
+        ensures few { result ≤ 4 }
+    {
+        self.initiators.len()
+    }
+
     /// How many packets are kept.
     pub(crate) fn kept(&self) -> usize
         ensures all { result ≡ length self.now.store.kept }
