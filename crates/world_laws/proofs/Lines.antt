@@ -1,7 +1,7 @@
 -- The quiet lines, one by one.
-use Rattle.std.specs.Prelude.{◌≡◌, ◌≤◌, ◌<◌, ℕ, zero, suc, ◌-◌, nat_eq, nat_lt, Bool, true, false, if◌then◌else◌, List, [], ◌∷◌, ◌++◌, length, map, slice_set, Option, refl}
+use Rattle.std.specs.Prelude.{◌≡◌, ◌≤◌, ◌<◌, ℕ, zero, suc, ◌-◌, nat_eq, nat_lt, Bool, true, false, if◌then◌else◌, List, [], ◌∷◌, ◌++◌, length, map, slice_set, Option, refl, is_some, Some, None}
 use Rattle.std.proofs.Common.{arith, sym, ◌∙◌, ap, subst}
-use Rattle.std.proofs.lemmas.List.{length-set}
+use Rattle.std.proofs.lemmas.List.{length-set, set-get_or}
 use Rattle.rbc_disk.specs.Runs.{Told}
 use Rattle.label_table.specs.Layer.{seeing_step}
 use Rattle.bus_transactions.specs.Bare.{bare}
@@ -13,6 +13,11 @@ use Rattle.sbp_journal.specs.declared.event.Event.{Event}
 use Rattle.sbp_journal.specs.declared.event.Event.TheVariants as events
 use Rattle.sbp_journal.specs.declared.note.Note.TheVariants as notes
 use Rattle.sbp_journal.specs.declared.outbox.Outgoing.{Outgoing}
+use Rattle.sbp_journal.specs.declared.event.Action.{Action}
+use Rattle.sbp_initiator.specs.Acting.{act_step}
+use Rattle.sbp_initiator.specs.Initiators.{new_state}
+use Rattle.sbp_initiator.specs.declared.state.InitiatorState.{InitiatorState}
+use Rattle.sbp_initiator.proofs.Refused.{refusal_law}
 use Rattle.sbp_initiator.specs.Effects.{Turn}
 use Rattle.sbp_initiator.specs.Seeing.{see_step}
 use Rattle.sbp_target.specs.Nodes.{NodeState}
@@ -20,14 +25,14 @@ use Rattle.sbp_target.specs.Nodes as target
 use Rattle.sbp_target.specs.Receiving.{seen, ticked, with_key}
 use Rattle.sbp_world.specs.Generations.{id_of}
 use Rattle.sbp_world.specs.Handing.{handed_out}
-use Rattle.sbp_world.specs.Lines.{happens, keyed, no_unit}
+use Rattle.sbp_world.specs.Lines.{acted, acted_by, happens, keyed, no_unit}
 use Rattle.sbp_world.specs.Nodes.{at_initiator, handed_all, initiator_learns, see_line, sees, target_learns, target_sees, target_ticks, tick_line, told_seen, with_seen}
 use Rattle.packet_store.specs.Kept.{found_sent, is_flying}
 use Rattle.sbp_world.specs.Packets.{may_repeat, refused}
 use Rattle.sbp_world.specs.Sending.{sent_all}
 use Rattle.sbp_world.specs.Telling.{told_all}
 use Rattle.sbp_world.specs.Worlds.{WorldState, Scene, begun, initiator_at, with_initiator, with_note, with_target, without_notes}
-use Rattle.world_laws.specs.Quiet.{IsQuiet}
+use Rattle.world_laws.specs.Quiet.{IsQuiet, IsRefused}
 use Rattle.world_laws.specs.Wires.{Stands, layer_in}
 use Rattle.world_laws.proofs.Bus.{injects, loses, refuses, resets}
 use Rattle.world_laws.proofs.Forgets.{IsSilent, seen_stays, sees_rests, ticked_stays}
@@ -136,11 +141,25 @@ unfolding see_line sees
 sees_line past w zero l h = target_saw past w h
 sees_line past w (suc i) l h = saw_by past w i (nat_eq (suc i) 0) (not_target i) l h
 
+-- ---- an action is refused
+acts_as : (past : List Moment) (w : WorldState) (line i : ℕ) (action : Action) (r : Option ℕ × Turn) → is_some r.0 ≡ true → ((number : ℕ) → r.0 ≡ Some number → r.1 ≡ (empty_outbox, initiator_at w i)) → Stands past w → Stands past (acted_by r line i action w)
+acts_as past w line i action (None, turn) e same h = cc
+acts_as past w line i action (Some number, turn) e same h =
+    let back : slice_set w.initiators i turn.1 ≡ w.initiators =
+    ap (λ (t : Turn). slice_set w.initiators i t.1) (same number refl) ∙ set-get_or w.initiators i (new_state 0 false) in
+    refuses past (with_initiator i turn.1 w) line number (subst (λ (xs : List InitiatorState). Stands past (record w { initiators = xs })) (sym back) h)
+
+acts : (past : List Moment) (w : WorldState) (line i : ℕ) (action : Action) → IsRefused action (initiator_at w i) → Stands past w → Stands past (acted line i action w)
+unfolding acted
+acts past w line i action e h =
+    acts_as past w line i action (act_step action empty_outbox (initiator_at w i)) e (λ number f. refusal_law.unchanged action empty_outbox (initiator_at w i) number f) h
+
 -- ---- all of them
 pub goes : (past : List Moment) (line : ℕ) (event : Event) (told : List (Option Told)) (s : Scene) → IsQuiet event s.world → Stands past s.world → Stands (asked line event ∷ (map said s.world.fresh ++ past)) (happens line event told s).world
 unfolding happens
 goes past line (events.Begin initiators ready) told s q h = absurd q
-goes past line (events.Act initiator action) told s q h = absurd q
+goes past line (events.Act initiator action) told s q h =
+    acts _ (without_notes s.world) line initiator action q (starts past s.world line (events.Act initiator action) refl h)
 goes past line (events.Reset physical) told s q h = resets past s.world line physical q h
 goes past line (events.See node) told s q h = sees_line _ (without_notes s.world) node q (starts past s.world line (events.See node) refl h)
 goes past line (events.Deliver serial) told s q h =

@@ -1,5 +1,5 @@
 -- The world at the start, and what the laws of the wire say of a history.
-use Rattle.std.specs.Prelude.{◌≡◌, ◌≤◌, ◌<◌, ℕ, zero, suc, ◌+◌, ◌%◌, nat_eq, Bool, true, false, List, [], ◌∷◌, ◌++◌, length, replicate, slice_index_or, refl}
+use Rattle.std.specs.Prelude.{◌≡◌, ◌≤◌, ◌<◌, ℕ, zero, suc, ◌+◌, ◌%◌, nat_eq, Bool, true, false, List, [], ◌∷◌, ◌++◌, length, replicate, slice_index_or, refl, map}
 use Rattle.std.proofs.Common.{arith, sym, ◌∙◌, ap, subst}
 use Rattle.std.proofs.lemmas.List.{get_or_append_left, get_or-replicate, length-replicate}
 use Rattle.std.proofs.Math.Seq.{get_or-append_seam}
@@ -13,13 +13,16 @@ use Rattle.bus_transactions.specs.Answers.{AnswerLaw}
 use Rattle.bus_transactions.specs.Judging.{JudgementLaw}
 use Rattle.bus_transactions.specs.Sent.{SentLaw}
 use Rattle.bus_transactions.specs.Reached.{Reached}
-use Rattle.bus_transactions.specs.Wire.{Wire, beginning}
+use Rattle.bus_transactions.specs.Wire.{Wire, beginning as no_wire}
+use Rattle.sbp_world.specs.Lines.{happens}
+use Rattle.sbp_world.specs.Runs.{AreEntries, Entry, Run, after, beginning}
+use Rattle.sbp_world.specs.Worlds.{WorldState}
 use Rattle.bus_transactions.proofs.AnswerLaws.{answers_always}
 use Rattle.bus_transactions.proofs.JudgementLaws.{judged_always}
 use Rattle.bus_transactions.proofs.PacketLaws.{once_always, packets_always}
 use Rattle.bus_transactions.proofs.SentLaws.{sent_always}
 use Rattle.bus_transactions.proofs.Reaches.{goes_on, law_of}
-use Rattle.sbp_journal.specs.Run.{asked}
+use Rattle.sbp_journal.specs.Run.{Moment, asked, said}
 use Rattle.sbp_journal.specs.Wire.{local_id}
 use Rattle.sbp_journal.specs.declared.event.Event.TheVariants as events
 use Rattle.sbp_initiator.specs.declared.state.InitiatorState.{InitiatorState}
@@ -28,7 +31,7 @@ use Rattle.sbp_world.specs.declared.generations.Topology.{Topology}
 use Rattle.sbp_world.specs.Generations.{first_ids, first_topology, id_of, local_node, no_topology}
 use Rattle.sbp_world.specs.Making.{new_initiators, new_world, notes_begin}
 use Rattle.sbp_world.proofs.Making.{ids_size, initiators_size}
-use Rattle.world_laws.specs.Quiet.{IsOfWire, QuietLaw}
+use Rattle.world_laws.specs.Quiet.{AreQuiet, IsOfWire, QuietLaw, first_moments, history_behind}
 use Rattle.world_laws.specs.Wires.{Stands, layer_in}
 use Rattle.world_laws.proofs.Lines.{goes}
 
@@ -79,13 +82,13 @@ first_layer n ready (suc i) l =
     state_layer i ready ∙ ap (λ (s : InitiatorState). bare s.layer) (sym (states_at n i ready (new_state 0 false) (omega arith)))
 
 started : (line initiators : ℕ) (ready : Bool) → Wire
-started line initiators ready = moved (tell (notes_begin initiators ready)) (moved (start line (events.Begin initiators ready)) beginning)
+started line initiators ready = moved (tell (notes_begin initiators ready)) (moved (start line (events.Begin initiators ready)) no_wire)
 
 started_reached : (line initiators : ℕ) (ready : Bool) → Reached (started line initiators ready)
 unfolding started is_plain
 started_reached line initiators ready =
-    goes_on.more (moved (start line (events.Begin initiators ready)) beginning) (tell (notes_begin initiators ready))
-    (goes_on.more beginning (start line (events.Begin initiators ready)) goes_on.begins (record { free = refl; other = refl })) refl
+    goes_on.more (moved (start line (events.Begin initiators ready)) no_wire) (tell (notes_begin initiators ready))
+    (goes_on.more no_wire (start line (events.Begin initiators ready)) goes_on.begins (record { free = refl; other = refl })) refl
 
 begins : (line initiators : ℕ) (ready : Bool) (units : ℕ) → initiators ≤ 4 → Stands (asked line (events.Begin initiators ready) ∷ []) (new_world initiators ready units)
 unfolding new_world started
@@ -124,9 +127,40 @@ of_wire wire r = record {
   sent = law_of SentLaw sent_always wire r;
 }
 
-pub quiet_law : QuietLaw
-quiet_law = record {
-  begins = begins;
-  goes = goes;
-  has_laws = λ past w h. subst IsOfWire h.is.past_is (of_wire h.wire h.reached);
+-- ---- runs
+record StandsAfter (first : List Moment) (entries : List Entry) (w : WorldState) : Type 0 where
+  past : List Moment
+  stands : Stands past w
+  is : map said w.fresh ++ past ≡ history_behind first entries
+
+runs_first : (line : ℕ) (run : Run) → run.initiators ≤ 4 → StandsAfter (first_moments line run) [] (beginning run).world
+unfolding new_world
+runs_first line run few = record {
+  past = asked line (events.Begin run.initiators run.ready) ∷ [];
+  stands = begins line run.initiators run.ready run.units few;
+  is = refl;
 }
+
+runs_after : (line : ℕ) (run : Run) (entries : List Entry) → run.initiators ≤ 4 → AreEntries (beginning run) entries → AreQuiet run entries → StandsAfter (first_moments line run) entries (after (beginning run) entries).world
+runs_after line run [] few all quiet = runs_first line run few
+runs_after line run (e ∷ before) few all quiet =
+    let b = runs_after line run before few all.1 quiet.1 in
+    let s = after (beginning run) before in
+    let now = happens e.line e.event e.told s in
+    record {
+      past = asked e.line e.event ∷ (map said s.world.fresh ++ b.past);
+      stands = goes b.past e.line e.event e.told s quiet.0 b.stands;
+      is = ap (λ ns. map said ns ++ asked e.line e.event ∷ (map said s.world.fresh ++ b.past)) (sym all.0.notes_are)
+          ∙ ap (λ ms. map said e.notes ++ asked e.line e.event ∷ ms) b.is;
+    }
+
+laws_of : (past : List Moment) (w : WorldState) → Stands past w → IsOfWire (map said w.fresh ++ past)
+laws_of past w h = subst IsOfWire h.is.past_is (of_wire h.wire h.reached)
+
+runs : (line : ℕ) (run : Run) → run.initiators ≤ 4 → AreEntries (beginning run) run.entries → AreQuiet run run.entries → IsOfWire (history_behind (first_moments line run) run.entries)
+runs line run few all quiet =
+    let r = runs_after line run run.entries few all quiet in
+    subst IsOfWire r.is (laws_of r.past (after (beginning run) run.entries).world r.stands)
+
+pub quiet_law : QuietLaw
+quiet_law = record { begins = begins; goes = goes; has_laws = laws_of; runs = runs }
