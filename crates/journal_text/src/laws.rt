@@ -1,4 +1,4 @@
-ghost use Rattle.std.specs.Prelude.{◌≡◌, ℕ, List};
+ghost use Rattle.std.specs.Prelude.{◌≡◌, ℕ, Bool, List};
 ghost use Rattle.line_text.specs.Canonical as canonical;
 ghost use Rattle.line_text.specs.Canonical.{AreRunsOf, runs_of};
 ghost use Rattle.std.specs.List.{AllByRecursion};
@@ -7,7 +7,7 @@ ghost use Rattle.sbp_journal.specs.Written.{IsWritten};
 ghost use Rattle.sbp_journal.specs.declared.note.Note as notes;
 ghost use Rattle.sbp_journal.specs.Run as journals;
 ghost use Rattle.sbp_journal.specs.Run.{journal};
-ghost use Rattle.sbp_laws.specs.FirstPath.{Lawful};
+ghost use Rattle.sbp_laws.specs.Lawful.{LawfulBut};
 
 /// The runs by which the canonical form of bytes goes are the maximal ones: they join to the bytes,
 /// each has a byte, and no two side by side have the same one; and no other list of runs does so.
@@ -22,7 +22,7 @@ pub fn text_determines_notes()
     ensures { (ns ms : List notes.Note) → AllByRecursion IsWritten ns → AllByRecursion IsWritten ms → text_of ns ≡ text_of ms → ns ≡ ms }
 {}
 
-/// So the text of a lawful run determines its journal.
+/// So the text of a lawful run determines its journal, whichever initiators its laws leave out.
 pub fn text_determines_journal()
-    ensures { (run other : journals.Run) → Lawful run → Lawful other → text_of (journal run) ≡ text_of (journal other) → journal run ≡ journal other }
+    ensures { (wild others : ℕ → Bool) (run other : journals.Run) → LawfulBut wild run → LawfulBut others other → text_of (journal run) ≡ text_of (journal other) → journal run ≡ journal other }
 {}

@@ -198,7 +198,7 @@ module _ {S : Type 0} (meaning : Meaning S) where
     writes = f.ends ∙ h.writes;
   }
 
-  flush_torn : {A : Type 0} (status : Status) (before old : Outside) (pending : List ℕ) (state : SessionState) (waits : List ℕ) (server : S) (written : Option (List ℕ)) (writes : ℕ)
+  abbrev flush_torn : {A : Type 0} (status : Status) (before old : Outside) (pending : List ℕ) (state : SessionState) (waits : List ℕ) (server : S) (written : Option (List ℕ)) (writes : ℕ)
       → InSession meaning before old pending state server → Flushes {A = A} old.written written old.writes writes (Err status) state.out waits → Torn meaning before (record old { written = written; writes = writes })
   flush_torn status before old pending state waits server written writes h f =
       let more = state.rest ++ (pending ++ known old.left) in
@@ -220,7 +220,7 @@ module _ {S : Type 0} (meaning : Meaning S) where
   -- the text that waited could not be written
   pub flush_fails : {A : Type 0} (status : Status) (before old : Outside) (pending : List ℕ) (state : SessionState) (waits : List ℕ) (server : S) (written : Option (List ℕ)) (writes : ℕ)
       → InSession meaning before old pending state server → Flushes {A = A} old.written written old.writes writes (Err status) state.out waits → Ends meaning status before (record old { written = written; writes = writes })
-  flush_fails statuses.WriteFault before old pending state waits server written writes h f = (rose_since before.writes old.writes writes h.writes f.ends, flush_torn statuses.WriteFault before old pending state waits server written writes h f)
+  flush_fails statuses.WriteFault before old pending state waits server written writes h f = (rose_since before.writes old.writes writes h.writes f.ends, (flush_torn statuses.WriteFault before old pending state waits server written writes h f, refl))
   flush_fails statuses.NoMemory before old pending state waits server written writes h f = flush_torn statuses.NoMemory before old pending state waits server written writes h f
   flush_fails statuses.Done before old pending state waits server written writes h f = absurd f.ends
   flush_fails statuses.Script before old pending state waits server written writes h f = absurd f.ends
@@ -234,7 +234,7 @@ module _ {S : Type 0} (meaning : Meaning S) where
   flushed (Err status) before old pending state next server written writes number rest h f = flush_fails status before old pending state next.out server written writes h f
 
   -- the text of what the write is about, and a front of it
-  faces_torn : {A : Type 0} (result : Result A Status) (before old : Outside) (out : List ℕ) (number fault : ℕ) (written : Option (List ℕ)) (writes : ℕ)
+  abbrev faces_torn : {A : Type 0} (result : Result A Status) (before old : Outside) (out : List ℕ) (number fault : ℕ) (written : Option (List ℕ)) (writes : ℕ)
       → Faces meaning before old out number fault → WritesFront old.written written old.writes writes result (out ++ fault_text number fault) → Torn meaning before (record old { written = written; writes = writes })
   faces_torn result before old out number fault written writes h w =
       let brought = out ++ fault_text number fault in
@@ -272,7 +272,7 @@ module _ {S : Type 0} (meaning : Meaning S) where
         (Appends-trans before.written old.written written h.front _ h.written w.written);
     no_fault = record { reads = h.reads; writes = w.ends ∙ h.writes };
   }
-  faces_ends statuses.WriteFault before old out number fault written writes h w = (rose_since before.writes old.writes writes h.writes w.ends, faces_torn _ before old out number fault written writes h w)
+  faces_ends statuses.WriteFault before old out number fault written writes h w = (rose_since before.writes old.writes writes h.writes w.ends, (faces_torn _ before old out number fault written writes h w, refl))
   faces_ends statuses.NoMemory before old out number fault written writes h w = faces_torn _ before old out number fault written writes h w
   faces_ends statuses.Done before old out number fault written writes h w = absurd w.ends
   faces_ends statuses.ReadFault before old out number fault written writes h w = absurd w.ends
@@ -341,7 +341,7 @@ module _ {S : Type 0} (meaning : Meaning S) where
     written = torn_text before.written now.written _ h.front out refl h.written;
   }
 
-  end_torn : {A : Type 0} (result : Result A Status) (before old : Outside) (out said : List ℕ) (server : S) (written : Option (List ℕ)) (writes : ℕ) (h : AtEnd meaning before old out server) → meaning.closed (lines h.input) (h.front ++ said) before.media old.media
+  abbrev end_torn : {A : Type 0} (result : Result A Status) (before old : Outside) (out said : List ℕ) (server : S) (written : Option (List ℕ)) (writes : ℕ) (h : AtEnd meaning before old out server) → meaning.closed (lines h.input) (h.front ++ said) before.media old.media
       → WritesFront old.written written old.writes writes result said → Torn meaning before (record old { written = written; writes = writes })
   end_torn result before old out said server written writes h closed w = record {
     input = h.input;
@@ -361,7 +361,7 @@ module _ {S : Type 0} (meaning : Meaning S) where
   -- all lines are served, and their text could not be written whole
   pub close_fails : {A : Type 0} (status : Status) (before old : Outside) (out said : List ℕ) (server : S) (written : Option (List ℕ)) (writes : ℕ) (h : AtEnd meaning before old out server) → meaning.closed (lines h.input) (h.front ++ said) before.media old.media
       → WritesFront {A = A} old.written written old.writes writes (Err status) said → Ends meaning status before (record old { written = written; writes = writes })
-  close_fails statuses.WriteFault before old out said server written writes h closed w = (rose_since before.writes old.writes writes h.writes w.ends, end_torn _ before old out said server written writes h closed w)
+  close_fails statuses.WriteFault before old out said server written writes h closed w = (rose_since before.writes old.writes writes h.writes w.ends, (end_torn _ before old out said server written writes h closed w, refl))
   close_fails statuses.NoMemory before old out said server written writes h closed w = end_torn _ before old out said server written writes h closed w
   close_fails statuses.Done before old out said server written writes h closed w = absurd w.ends
   close_fails statuses.Script before old out said server written writes h closed w = absurd w.ends

@@ -74,10 +74,14 @@ pub record Torn {S : Type 0} (meaning : Meaning S) (before now : Outside) : Type
   pub stays : meaning.stays media now.media
   pub written : Appends before.written now.written (take len output)
 
+-- So it was, and the media are as those lines left them.
+abbrev pub TornAt : {S : Type 0} → Meaning S → Outside → Outside → Type 0
+TornAt meaning before now = (torn : Torn meaning before now) × (torn.media ≡ now.media)
+
 -- the clause by status
 abbrev pub Ends : {S : Type 0} → Meaning S → Status → Outside → Outside → Type 0
 Ends meaning statuses.Done before now = IsAtEnd now.left × AllServed meaning before now
 Ends meaning statuses.Script before now = Stopped meaning before now
 Ends meaning statuses.ReadFault before now = Rose before.reads now.reads × LinesServed meaning before now
-Ends meaning statuses.WriteFault before now = Rose before.writes now.writes × Torn meaning before now
+Ends meaning statuses.WriteFault before now = Rose before.writes now.writes × TornAt meaning before now
 Ends meaning statuses.NoMemory before now = Torn meaning before now

@@ -1,3 +1,5 @@
+mod Fits
+mod Kept
 mod ScriptLines
 mod Running
 mod Listings

@@ -114,7 +114,7 @@ listing_ends S stream_statuses.ReadFault before now (rose, t) = (
         media = h.kept;
       },
 )
-listing_ends S stream_statuses.WriteFault before now (rose, t) = (rose, torn S before now t)
+listing_ends S stream_statuses.WriteFault before now (rose, t) = (rose, torn S before now t.0)
 listing_ends S stream_statuses.NoMemory before now t = torn S before now t
 
 -- no line was read

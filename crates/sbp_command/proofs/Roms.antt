@@ -109,7 +109,7 @@ rom_ends stream_statuses.ReadFault before now (rose, t) = (
         media = h.kept;
       },
 )
-rom_ends stream_statuses.WriteFault before now (rose, t) = (rose, torn before now t)
+rom_ends stream_statuses.WriteFault before now (rose, t) = (rose, torn before now t.0)
 rom_ends stream_statuses.NoMemory before now t = torn before now t
 
 -- no line was read

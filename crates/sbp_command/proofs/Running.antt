@@ -1,6 +1,6 @@
 -- A script is run line by line, and ends as its status says.
-use Rattle.std.proofs.Common.{◌≡◌, ◌∙◌, refl, sym, ap, subst, ℕ, ◌+◌, ◌<◌, ◌≤◌, inl, inr, true, List, [], ◌∷◌, ◌++◌, take, length, map, reverse, Some, None, Ok, Err, append_assoc, append-nil, arith}
-use Rattle.std.specs.Prelude.{IfSome, slice_index}
+use Rattle.std.proofs.Common.{◌≡◌, ◌∙◌, refl, sym, ap, subst, ℕ, Bool, ◌+◌, ◌≤◌, inl, inr, List, [], ◌∷◌, ◌++◌, take, length, map, reverse, Option, Some, None, Result, Ok, Err, append_assoc, append-nil, arith}
+use Rattle.std.specs.Prelude.{IfSome, OnOk}
 use Rattle.std.specs.Io.KnownBytes.{Appends}
 use Rattle.std.specs.Str.Lines.{lines}
 use Rattle.std.proofs.Math.Seq.{take-append_seam}
@@ -8,12 +8,15 @@ use Rattle.std.proofs.lemmas.List.{length-map}
 use Rattle.std.proofs.lemmas.List.Concat.{flat_map-append}
 use Rattle.rbc_disk.specs.Disk.{Disk}
 use Rattle.rbc_disk.specs.Held.{Held, held}
-use Rattle.sbp_journal.specs.Run.{Run, with_entry, empty_run, journal, history, events_of}
 use Rattle.sbp_journal.specs.Text.{text_of, note_text}
 use Rattle.sbp_journal.specs.declared.event.Event.{Event}
+use Rattle.sbp_journal.specs.declared.event.Event.TheVariants as events
 use Rattle.sbp_journal.specs.declared.note.Note.{Note}
-use Rattle.sbp_laws.specs.FirstPath.{DisksAre, FailuresFit, FailuresWithin, NoneFell, Lawful, AreLawful}
-use Rattle.plain_list.specs.Plain.{PlainState, empty_list, StandsFor}
+use Rattle.sbp_world.specs.Lines.{Happens, IsEvent}
+use Rattle.sbp_world.specs.Making.{new_world, notes_begin}
+use Rattle.sbp_world.specs.Runs.{entry, with_entry}
+use Rattle.sbp_world.specs.Worlds.{WorldState}
+use Rattle.sbp_world.proofs.Standing.{begins, goes_on}
 use Rattle.line_session.specs.Outside.{Outside}
 use Rattle.line_session.specs.Meaning.{Serves, fault_text}
 use Rattle.line_session.specs.Ends.{Ends, Brings}
@@ -23,205 +26,331 @@ use Rattle.line_session.specs.declared.serve.LineError.{LineError}
 use Rattle.line_session.specs.declared.serve.LineError.TheVariants.{Fault, NoMemory}
 use Rattle.line_session.specs.declared.status.Status.{Status}
 use Rattle.line_session.specs.declared.status.Status.TheVariants as stream_statuses
-use Rattle.plain_list.proofs.Beginning.{stands_at_first}
-use Rattle.plain_list.proofs.Counts.{none_fell_same}
-use Rattle.line_session.proofs.Sessions.{begins, stops}
-use Rattle.sbp_command.specs.Script.{script, says, heard, Hears}
-use Rattle.sbp_command.specs.Runner.{has_some, of_lines, RanSo, run_meaning}
-use Rattle.sbp_command.specs.Headline.{ending, status_of, RunsOver, LeavesMedia, Torn, RunEnds}
-use Rattle.sbp_command.proofs.ScriptLines.{served-next, served-more, served-fault, says-within, refused-says}
+use Rattle.script_text.specs.Line.{reading}
+use Rattle.script_text.specs.Script.{initiators_after, script}
+use Rattle.sbp_command.specs.Machine.{Runs, journal}
+use Rattle.sbp_command.specs.Script.{Hears, begun_by, heard, of_lines, says}
+use Rattle.sbp_command.specs.Runner.{CanGoOn, CanRun, GoesOn, IsBeginning, MayHappenIn, RanSo, RunnerState, Stands, not_begun, run_meaning, running, scene_of}
+use Rattle.sbp_command.specs.Headline.{ending, status_of, Torn, RunEnds}
+use Rattle.sbp_command.proofs.Fits.{line_begins, line_fits}
+use Rattle.sbp_command.proofs.Kept.{happens_keeps, world_count, world_units}
+use Rattle.sbp_command.proofs.ScriptLines.{begun_by-more, served-next, served-more, served-fault, says-within, refused-says}
 
 -- ---- how a run begins
 
 -- no line was run
-pub fresh : (disks : List Disk) (faults : List ℕ) → 0 < length disks → 0 < length faults → RanSo (held disks faults) [] [] empty_list (held disks faults)
-fresh disks faults some counted = record {
-  run = empty_run disks;
+pub fresh : (disks : List Disk) (faults : List ℕ) → RanSo (held disks faults) [] [] not_begun (held disks faults)
+fresh disks faults = record {
   clean = refl;
-  events_are = refl;
-  begun = refl;
-  text_is = refl;
-  stands = stands_at_first (held disks faults) some counted;
+  initiators = refl;
+  stands = record { events_are = refl; text_is = refl; media_are = refl };
 }
+
+pub can_begin : {A : Type 0} (f : A → Disk) (boxes : List A) (faults : List ℕ) → 1 ≤ length boxes → length boxes ≤ 4 → CanRun not_begun (held (map f boxes) faults)
+can_begin f boxes faults some few =
+    let count = length-map boxes f in record { some = omega arith; few = omega arith; world = refl }
+
+-- ---- the first event
+
+-- a run begins
+pub begun_so : (initiators units : ℕ) (ready : Bool) (start media : Held) (happened : List (ℕ × Event)) (front out next : List ℕ) (number : ℕ) → units ≡ length media.disks → next ≡ out ++ text_of (notes_begin initiators ready ∷ [])
+    → Stands start happened (front ++ out) None media → Stands start (happened ++ (number, events.Begin initiators ready) ∷ []) (front ++ next) (Some (new_world initiators ready units)) media
+begun_so initiators units ready start media happened front out next number u e h = record {
+  line = number;
+  run = record { initiators = initiators; ready = ready; units = units; start = media; entries = [] };
+  start_is = h.media_are;
+  units_are = u ∙ ap (λ m. length m.disks) h.media_are;
+  events_are = ap (λ es. es ++ (number, events.Begin initiators ready) ∷ []) (sym h.events_are);
+  text_is = ap (λ t. front ++ t) e ∙ sym (append_assoc front out _) ∙ ap (λ t. t ++ text_of (notes_begin initiators ready ∷ [])) h.text_is;
+  stands = begins initiators ready units media;
+}
+
+pub can_go : (initiators units : ℕ) (ready : Bool) (media : Held) → 1 ≤ initiators → units ≡ length media.disks → 1 ≤ length media.disks → length media.disks ≤ 4 → CanRun (running initiators (new_world initiators ready units)) media
+can_go initiators units ready media some u one few = record {
+  some = one;
+  few = few;
+  world = record {
+    count = world_count initiators ready units;
+    begun = omega arith;
+    units = world_units initiators ready units ∙ u;
+  };
+}
+
+-- ---- one more event
+
+entry_text : (xs ys : List Note) → text_of xs ++ text_of ys ≡ text_of (xs ++ ys)
+entry_text xs ys = sym (flat_map-append note_text xs ys)
+
+-- a world goes on
+pub went_on : (start old media : Held) (happened : List (ℕ × Event)) (front out next : List ℕ) (number : ℕ) (event : Event) (w v : WorldState) → Happens number event (scene_of w old) (scene_of v media) → next ≡ out ++ text_of (reverse v.fresh)
+    → Stands start happened (front ++ out) (Some w) old → Stands start (happened ++ (number, event) ∷ []) (front ++ next) (Some v) media
+went_on start old media happened front out next number event w v k e h = record {
+  line = h.line;
+  run = with_entry h.run (entry number event k.told v.fresh);
+  start_is = h.start_is;
+  units_are = h.units_are;
+  events_are = ap (λ es. es ++ (number, event) ∷ []) h.events_are;
+  text_is = ap (λ t. front ++ t) e ∙ sym (append_assoc front out _) ∙ ap (λ t. t ++ text_of (reverse v.fresh)) h.text_is ∙ entry_text (journal h.run) (reverse v.fresh);
+  stands = goes_on h.run number event (scene_of w old) (scene_of v media) h.stands k;
+}
+
+pub goes_more : (i number : ℕ) (old media : Held) (event : Event) (w v : WorldState) → Happens number event (scene_of w old) (scene_of v media) → length v.target.units ≡ length w.target.units → length media.disks ≡ length old.disks
+    → GoesOn i w old → GoesOn i v media
+goes_more i number old media event w v k u m h = record {
+  count = happens_keeps number event (scene_of w old) (scene_of v media) k ∙ h.count;
+  begun = h.begun;
+  units = u ∙ h.units ∙ sym m;
+}
+
+pub went_can : (i number : ℕ) (old media : Held) (event : Event) (w v : WorldState) → Happens number event (scene_of w old) (scene_of v media) → length v.target.units ≡ length w.target.units → length media.disks ≡ length old.disks
+    → CanRun (running i w) old → CanRun (running i v) media
+went_can i number old media event w v k u m h = record {
+  some = subst (λ n. 1 ≤ n) (sym m) h.some;
+  few = subst (λ n. n ≤ 4) (sym m) h.few;
+  world = goes_more i number old media event w v k u m h.world;
+}
+
+pub same_length : {A : Type 0} (f : A → Disk) (xs ys : List A) → length xs ≡ length ys → length (map f xs) ≡ length (map f ys)
+same_length f xs ys e = length-map xs f ∙ e ∙ sym (length-map ys f)
+
+-- what an event that goes on a run leaves of the number of initiators
+pub same_initiators : (i n : ℕ) (event : Event) → IsEvent event n → initiators_after i (Ok (Some event)) ≡ i
+same_initiators i n (events.Begin initiators ready) h = absurd h
+same_initiators i n (events.Act initiator action) h = refl
+same_initiators i n (events.Reset ids) h = refl
+same_initiators i n (events.See node) h = refl
+same_initiators i n (events.Deliver serial) h = refl
+same_initiators i n (events.Repeat serial) h = refl
+same_initiators i n (events.Lose serial) h = refl
+same_initiators i n (events.Timeout serial) h = refl
+same_initiators i n (events.Step count) h = refl
+same_initiators i n events.Settle h = refl
+same_initiators i n events.Tick h = refl
+same_initiators i n (events.Inject initiator bytes) h = refl
+same_initiators i n (events.Key unit key) h = refl
+
+-- ---- the runner
+
+pub both_ok : {A E : Type 0} (result : Result A E) (P Q R : Type 0) → (P → Q → R) → OnOk result P → OnOk result Q → OnOk result R
+both_ok (Ok a) P Q R f p q = f p q
+both_ok (Err e) P Q R f p q = p
+
+-- the world that the runner has
+pub opened_can : (now : RunnerState) (i : ℕ) (o : Option WorldState) (w : WorldState) (media : Held) → record { initiators = i; world = o } ≡ now → o ≡ Some w → CanRun now media → CanRun (running i w) media
+opened_can now i o w media v e h = subst (λ x. CanRun (record { initiators = i; world = x }) media) e (subst (λ s. CanRun s media) (sym v) h)
+
+pub opened_stands : (now : RunnerState) (i : ℕ) (o : Option WorldState) (w : WorldState) (start : Held) (happened : List (ℕ × Event)) (text : List ℕ) (media : Held) → record { initiators = i; world = o } ≡ now → o ≡ Some w
+    → Stands start happened text now.world media → Stands start happened text (Some w) media
+opened_stands now i o w start happened text media v e h = subst (λ x. Stands start happened text x media) (sym (ap (λ s. s.world) v) ∙ e) h
+
+-- a run begins where there is none
+pub begins_some : (o : Option WorldState) (event : Event) (i : ℕ) (ready : Bool) → event ≡ events.Begin i ready → MayHappenIn o event → (o ≡ None) × (1 ≤ i)
+begins_some None event i ready e h = (refl, (subst IsBeginning e h).0)
+begins_some (Some w) event i ready e h = absurd (subst (λ x. IsEvent x (length w.initiators)) e h)
+
+pub began_can : (before after : RunnerState) (i units : ℕ) (ready : Bool) (media : Held) → after ≡ running i (new_world i ready units) → 1 ≤ i → units ≡ length media.disks → CanRun before media → CanRun after media
+began_can before after i units ready media e some u h = subst (λ s. CanRun s media) (sym e) (can_go i units ready media some u h.some h.few)
+
+pub began_ran : (before after : RunnerState) (i units : ℕ) (ready : Bool) (start media : Held) (happened : List (ℕ × Event)) (front out next : List ℕ) (number : ℕ) (event : Event) → after ≡ running i (new_world i ready units)
+    → before.world ≡ None → next ≡ out ++ text_of (notes_begin i ready ∷ []) → event ≡ events.Begin i ready → units ≡ length media.disks
+    → Stands start happened (front ++ out) before.world media → Stands start (happened ++ (number, event) ∷ []) (front ++ next) after.world media
+began_ran before after i units ready start media happened front out next number event a none e is u h =
+    let begun : Stands start (happened ++ (number, events.Begin i ready) ∷ []) (front ++ next) (Some (new_world i ready units)) media
+    = begun_so i units ready start media happened front out next number u e (subst (λ o. Stands start happened (front ++ out) o media) none h) in
+    subst (λ x. Stands start (happened ++ (number, x) ∷ []) (front ++ next) after.world media) (sym is)
+    (subst (λ s. Stands start (happened ++ (number, events.Begin i ready) ∷ []) (front ++ next) s.world media) (sym a) begun)
 
 -- ---- one more line
 
-entry_text : (run : Run) (number : ℕ) (happened : Event) (notes : List Note) → text_of (journal run) ++ text_of (reverse notes) ≡ text_of (journal (with_entry run number happened notes))
-entry_text run number happened notes = sym (flat_map-append note_text (journal run) (reverse notes))
+-- the event of a line may happen
+may_happen : (line : List ℕ) (i : ℕ) (o : Option WorldState) (media : Held) (event : Event) → CanGoOn i o media → reading line i ≡ Ok (Some event) → MayHappenIn o event
+may_happen line i None media event h e = line_begins line event (subst (λ n. reading line n ≡ Ok (Some event)) h e)
+may_happen line i (Some w) media event h e = subst (λ n. IsEvent event n) (sym h.count) (line_fits line i event h.begun e)
 
-some_behind : {A : Type 0} (xs : List A) (x : A) → true ≡ has_some (xs ++ x ∷ [])
-some_behind [] x = refl
-some_behind (y ∷ xs) x = refl
+pub may_happen_at : (now : RunnerState) (line : List ℕ) (i : ℕ) (o : Option WorldState) (media : Held) (event : Event) → record { initiators = i; world = o } ≡ now → CanRun now media → reading line i ≡ Ok (Some event) → MayHappenIn now.world event
+may_happen_at now line i o media event v h e =
+    may_happen line now.initiators now.world media event h.world (subst (λ n. reading line n ≡ Ok (Some event)) (ap (λ s. s.initiators) v) e)
 
 -- the event of a line was run
-pub ran_event : (start media : Held) (served : List (List ℕ)) (line front out : List ℕ) (before after : PlainState) (number : ℕ) (happened : Event) (old : Held) → number ≡ 1 + length served → number ≤ 65536
-    → heard before.begun line ≡ Ok (Some happened) → after.begun ≡ true → ((run : Run) → StandsFor start old run before → StandsFor start media (with_entry run number happened after.fresh) after)
-    → RanSo start served (front ++ out) before old → RanSo start (served ++ line ∷ []) (front ++ (out ++ text_of (reverse after.fresh))) after media
-ran_event start media served line front out before after number happened old e few read begun stands h =
-    let here : says (1 + length served) (has_some (of_lines served).events) line ≡ Ok (Some happened)
-    = says-within (1 + length served) (has_some (of_lines served).events) line (omega arith) ∙ ap (λ b. heard b line) (sym h.begun) ∙ read in
-    let found = served-more served line (Some happened) h.clean here in
+pub ran_event : (start old media : Held) (served : List (List ℕ)) (line front out next : List ℕ) (before after : RunnerState) (number : ℕ) (event : Event) → number ≡ 1 + length served → number ≤ 65536
+    → heard before.initiators line ≡ Ok (Some event) → after.initiators ≡ initiators_after before.initiators (Ok (Some event))
+    → ((start : Held) (happened : List (ℕ × Event)) (front : List ℕ) → Stands start happened (front ++ out) before.world old → Stands start (happened ++ (number, event) ∷ []) (front ++ next) after.world media)
+    → RanSo start served (front ++ out) before old → RanSo start (served ++ line ∷ []) (front ++ next) after media
+ran_event start old media served line front out next before after number event e few read grown stands h =
+    let here : says (1 + length served) (begun_by 0 (of_lines served).events) line ≡ Ok (Some event)
+    = says-within (1 + length served) (begun_by 0 (of_lines served).events) line (omega arith) ∙ ap (λ n. heard n line) (sym h.initiators) ∙ read in
+    let found = served-more served line (Some event) h.clean here in
+    let behind : (of_lines (served ++ line ∷ [])).events ≡ (of_lines served).events ++ (number, event) ∷ []
+    = ap (λ s. s.events) found ∙ ap (λ n. (of_lines served).events ++ (n, event) ∷ []) (sym e) in
     record {
-      run = with_entry h.run number happened after.fresh;
       clean = ap (λ s. s.fault) found;
-      events_are = ap (λ es. es ++ (number, happened) ∷ []) h.events_are ∙ ap (λ n. (of_lines served).events ++ (n, happened) ∷ []) e ∙ sym (ap (λ s. s.events) found);
-      begun = begun ∙ some_behind (of_lines served).events (1 + length served, happened) ∙ ap (λ s. has_some s.events) (sym found);
-      text_is = sym (append_assoc front out (text_of (reverse after.fresh))) ∙ ap (λ t. t ++ text_of (reverse after.fresh)) h.text_is ∙ entry_text h.run number happened after.fresh;
-      stands = stands h.run h.stands;
+      initiators = grown ∙ ap (λ n. initiators_after n (Ok (Some event))) h.initiators ∙ sym (begun_by-more 0 (of_lines served).events (number, event)) ∙ ap (begun_by 0) (sym behind);
+      stands = subst (λ es. Stands start es (front ++ next) after.world media) (sym behind) (stands start (of_lines served).events front h.stands);
     }
 
 -- a line said nothing
-pub ran_nothing : (start media : Held) (served : List (List ℕ)) (line text : List ℕ) (list : PlainState) (number : ℕ) → number ≡ 1 + length served → number ≤ 65536
-    → heard list.begun line ≡ Ok None → RanSo start served text list media → RanSo start (served ++ line ∷ []) text list media
-ran_nothing start media served line text list number e few read h =
-    let here : says (1 + length served) (has_some (of_lines served).events) line ≡ Ok None
-    = says-within (1 + length served) (has_some (of_lines served).events) line (omega arith) ∙ ap (λ b. heard b line) (sym h.begun) ∙ read in
-    let found = served-more served line None h.clean here ∙ ap (λ es. record { events = es; fault = None }) (append-nil (of_lines served).events) in
+pub ran_nothing : (start media : Held) (served : List (List ℕ)) (line text : List ℕ) (state : RunnerState) (number : ℕ) → number ≡ 1 + length served → number ≤ 65536
+    → heard state.initiators line ≡ Ok None → RanSo start served text state media → RanSo start (served ++ line ∷ []) text state media
+ran_nothing start media served line text state number e few read h =
+    let here : says (1 + length served) (begun_by 0 (of_lines served).events) line ≡ Ok None
+    = says-within (1 + length served) (begun_by 0 (of_lines served).events) line (omega arith) ∙ ap (λ n. heard n line) (sym h.initiators) ∙ read in
+    let found = served-more served line None h.clean here in
+    let behind : (of_lines (served ++ line ∷ [])).events ≡ (of_lines served).events
+    = ap (λ s. s.events) found ∙ append-nil (of_lines served).events in
     record {
-      run = h.run;
       clean = ap (λ s. s.fault) found;
-      events_are = h.events_are ∙ sym (ap (λ s. s.events) found);
-      begun = h.begun ∙ ap (λ s. has_some s.events) (sym found);
-      text_is = h.text_is;
-      stands = h.stands;
+      initiators = h.initiators ∙ ap (begun_by 0) (sym behind);
+      stands = subst (λ es. Stands start es text state.world media) (sym behind) h.stands;
     }
 
 -- a line gave nothing
-pub line_fails : (error : LineError) (start media : Held) (served : List (List ℕ)) (line text : List ℕ) (list after : PlainState) (number : ℕ) → number ≡ 1 + length served → number ≤ 65536
-    → Hears (Err error) (heard list.begun line) → RanSo start served text list media
-    → Serves run_meaning (λ fault. says (1 + length served) (has_some (of_lines served).events) line ≡ Err fault) (Err error) start served line text after media media
-line_fails (Fault fault) start media served line text list after number e few read h =
-    (says-within (1 + length served) (has_some (of_lines served).events) line (omega arith) ∙ ap (λ b. heard b line) (sym h.begun) ∙ read, (list, h))
-line_fails NoMemory start media served line text list after number e few read h = none_fell_same media.faults
+pub line_fails : (error : LineError) (start media : Held) (served : List (List ℕ)) (line text : List ℕ) (state after : RunnerState) (number : ℕ) → number ≡ 1 + length served → number ≤ 65536
+    → Hears (Err error) (heard state.initiators line) → RanSo start served text state media
+    → Serves run_meaning (λ fault. says (1 + length served) (begun_by 0 (of_lines served).events) line ≡ Err fault) (Err error) start served line text after media media
+line_fails (Fault fault) start media served line text state after number e few read h =
+    (says-within (1 + length served) (begun_by 0 (of_lines served).events) line (omega arith) ∙ ap (λ n. heard n line) (sym h.initiators) ∙ read, (state, h))
+line_fails NoMemory start media served line text state after number e few read h = tt
 
 -- ---- how it ends
 
-lawful_run : (start now : Held) (run : Run) (list : PlainState) → StandsFor start now run list → Lawful run
-lawful_run start now run list h = record {
-  moments = subst (λ disks. AreLawful disks (history run.entries)) (sym h.begins) h.moments.lawful;
-  action = h.action;
+-- what the machine told, and its text
+record Tells (start : Held) (happened : List (ℕ × Event)) (text : List ℕ) (media : Held) : Type 0 where
+  notes : List Note
+  runs : Runs start happened notes media
+  text_is : text ≡ text_of notes
+
+tells_by : (start media : Held) (happened : List (ℕ × Event)) (text : List ℕ) (o : Option WorldState) → Stands start happened text o media → Tells start happened text media
+tells_by start media happened text None h = record {
+  notes = [];
+  runs = inl (record { events_are = h.events_are; notes_are = refl; media_are = h.media_are });
+  text_is = h.text_is;
+}
+tells_by start media happened text (Some w) h = record {
+  notes = journal h.run;
+  runs = inr (record {
+    line = h.line;
+    run = h.run;
+    start_is = h.start_is;
+    units_are = h.units_are;
+    lines_are = h.stands.lines;
+    events_are = h.events_are;
+    notes_are = refl;
+    media_are = ap (λ s. s.media) h.stands.state;
+  });
+  text_is = h.text_is;
 }
 
-over : (before : Outside) (now : Held) (run : Run) (list : PlainState) (events : List (ℕ × Event)) → StandsFor before.media now run list → events_of run ≡ events → RunsOver before run events
-over before now run list events h e = record { start = h.begins; events_are = e; lawful = lawful_run before.media now run list h }
-
-leaves : (before now : Outside) (run : Run) (list : PlainState) → StandsFor before.media now.media run list → LeavesMedia before now run
-leaves before now run list h = record {
-  disks = subst (λ start. DisksAre start (history run.entries) now.media.disks) (sym h.begins) h.moments.disks;
-  failures = h.moments.failures;
-}
-
--- the failing runs have their causes, also where the counts rose further
-within : (start mid now : List ℕ) (run : Run) → FailuresFit start (history run.entries) mid → NoneFell mid now → FailuresWithin start (history run.entries) now
-within start mid now run h k = record { each = λ u. subst (λ n. n ≤ slice_index now u) (h.each u) (k.each u) }
+tells : (start media : Held) (served : List (List ℕ)) (text : List ℕ) (state : RunnerState) → RanSo start served text state media → Tells start (of_lines served).events text media
+tells start media served text state h = tells_by start media (of_lines served).events text state.world h.stands
 
 -- the first events of the input
-front_events : (events more all : List (ℕ × Event)) → all ≡ events ++ more → events ≡ take (length events) all
-front_events events more all e = sym (ap (take (length events)) e ∙ take-append_seam events more)
+front_events : (happened more all : List (ℕ × Event)) → all ≡ happened ++ more → happened ≡ take (length happened) all
+front_events happened more all e = sym (ap (take (length happened)) e ∙ take-append_seam happened more)
 
 first_events : (served others : List (List ℕ)) (input : List ℕ) → (of_lines served).fault ≡ None → lines input ≡ served ++ others → (of_lines served).events ≡ take (length (of_lines served).events) (script input).events
 first_events served [] input clean e = front_events (of_lines served).events [] (script input).events (ap (λ ls. (of_lines ls).events) (e ∙ append-nil served) ∙ sym (append-nil _))
 first_events served (line ∷ others) input clean e = front_events (of_lines served).events _ (script input).events (ap (λ ls. (of_lines ls).events) e ∙ ap (λ s. s.events) (served-next served line others clean))
 
 torn_by : (before now : Outside) (served others : List (List ℕ)) (input output : List ℕ) (len : ℕ) (media : Held) → IfSome before.left (λ bytes. bytes ≡ input) → lines input ≡ served ++ others
-    → Brings run_meaning before.media served others media output → NoneFell media.faults now.media.faults → Appends before.written now.written (take len output) → Torn before now
-torn_by before now served others input output len media told e (lines_alone text (list, h)) kept w = record {
-  input = input;
-  run = h.run;
-  count = length (of_lines served).events;
-  output = text;
-  len = len;
-  told = told;
-  over = over before media h.run list _ h.stands (h.events_are ∙ first_events served others input h.clean e);
-  may_write = inl h.text_is;
-  failures = within before.media.faults media.faults now.media.faults h.run h.stands.moments.failures kept;
-  written = w;
-}
-torn_by before now served others input output len media told e (with_fault text line behind fault (list, h) f refused) kept w =
-    let read = refused-says (1 + length served) (has_some (of_lines served).events) line fault refused in
+    → Brings run_meaning before.media served others media output → Appends before.written now.written (take len output) → Torn before now media
+torn_by before now served others input output len media told e (lines_alone text (state, h)) w =
+    let t = tells before.media media served text state h in
+    record {
+      input = input;
+      happened = (of_lines served).events;
+      notes = t.notes;
+      count = length (of_lines served).events;
+      output = text;
+      len = len;
+      told = told;
+      first = first_events served others input h.clean e;
+      ran = t.runs;
+      may_write = inl t.text_is;
+      written = w;
+    }
+torn_by before now served others input output len media told e (with_fault text line behind fault (state, h) f refused) w =
+    let t = tells before.media media served text state h in
+    let read = refused-says (1 + length served) (begun_by 0 (of_lines served).events) line fault refused in
     let found : script input ≡ record { events = (of_lines served).events; fault = Some (1 + length served, fault) } = ap of_lines (e ∙ ap (λ ls. served ++ ls) f) ∙ served-fault served line behind fault h.clean read in
     record {
       input = input;
-      run = h.run;
+      happened = (of_lines served).events;
+      notes = t.notes;
       count = length (of_lines served).events;
       output = output;
       len = len;
       told = told;
-      over = over before media h.run list _ h.stands (h.events_are ∙ first_events served others input h.clean e);
-      may_write = inr (h.events_are ∙ sym (ap (λ s. s.events) found), ap (λ t. t ++ fault_text (1 + length served) fault) h.text_is ∙ ap (λ s. text_of (journal h.run) ++ ending s.fault) (sym found));
-      failures = within before.media.faults media.faults now.media.faults h.run h.stands.moments.failures kept;
+      first = first_events served others input h.clean e;
+      ran = t.runs;
+      may_write = inr (sym (ap (λ s. s.events) found), ap (λ x. x ++ fault_text (1 + length served) fault) t.text_is ∙ ap (λ s. text_of t.notes ++ ending s.fault) (sym found));
       written = w;
     }
-torn_by before now served others input output len media told e (with_end text f (list, h)) kept w = record {
-  input = input;
-  run = h.run;
-  count = length (of_lines served).events;
-  output = text;
-  len = len;
-  told = told;
-  over = over before media h.run list _ h.stands (h.events_are ∙ first_events served others input h.clean e);
-  may_write = inl h.text_is;
-  failures = within before.media.faults media.faults now.media.faults h.run h.stands.moments.failures kept;
-  written = w;
-}
+torn_by before now served others input output len media told e (with_end text f (state, h)) w =
+    let t = tells before.media media served text state h in
+    record {
+      input = input;
+      happened = (of_lines served).events;
+      notes = t.notes;
+      count = length (of_lines served).events;
+      output = text;
+      len = len;
+      told = told;
+      first = first_events served others input h.clean e;
+      ran = t.runs;
+      may_write = inl t.text_is;
+      written = w;
+    }
 
-torn : (before now : Outside) → stream.Torn run_meaning before now → Torn before now
-torn before now t = torn_by before now t.served t.others t.input t.output t.len t.media t.told t.input_is t.brings t.stays t.written
+torn : (before now : Outside) (t : stream.Torn run_meaning before now) → Torn before now t.media
+torn before now t = torn_by before now t.served t.others t.input t.output t.len t.media t.told t.input_is t.brings t.written
 
 pub run_ends : (status : Status) (before now : Outside) → Ends run_meaning status before now → RunEnds (status_of status) before now
-run_ends stream_statuses.Done before now (end, t) = (
+run_ends stream_statuses.Done before now (end, s) = (
   end,
-  let list = t.closed.0 in let h = t.closed.1 in
+  let h = s.closed.1 in
+      let t = tells before.media now.media (lines s.input) s.text s.closed.0 h in
       record {
-        input = t.input;
-        run = h.run;
-        told = t.told;
+        input = s.input;
+        notes = t.notes;
+        told = s.told;
         fault_is = h.clean;
-        over = over before now.media h.run list (script t.input).events h.stands h.events_are;
-        written = subst (Appends before.written now.written) (h.text_is ∙ sym (append-nil (text_of (journal h.run)))) t.written;
-        media = leaves before now h.run list h.stands;
-        no_fault = t.no_fault;
+        ran = t.runs;
+        written = subst (Appends before.written now.written) (t.text_is ∙ sym (append-nil (text_of t.notes))) s.written;
+        no_fault = s.no_fault;
       },
 )
-run_ends stream_statuses.Script before now t =
-    let list = t.ran.0 in let h = t.ran.1 in
-    let read = refused-says (1 + length t.served) (has_some (of_lines t.served).events) t.line t.fault t.refused in
-    let found : script t.input ≡ record { events = (of_lines t.served).events; fault = Some (1 + length t.served, t.fault) } = ap of_lines t.input_is ∙ served-fault t.served t.line t.others t.fault h.clean read in (
-      (1 + length t.served, t.fault),
+run_ends stream_statuses.Script before now s =
+    let h = s.ran.1 in
+    let t = tells before.media now.media s.served s.text s.ran.0 h in
+    let read = refused-says (1 + length s.served) (begun_by 0 (of_lines s.served).events) s.line s.fault s.refused in
+    let found : script s.input ≡ record { events = (of_lines s.served).events; fault = Some (1 + length s.served, s.fault) } = ap of_lines s.input_is ∙ served-fault s.served s.line s.others s.fault h.clean read in (
+      (1 + length s.served, s.fault),
       record {
-        input = t.input;
-        run = h.run;
-        told = t.told;
-        fault_is = ap (λ s. s.fault) found;
-        over = over before now.media h.run list (script t.input).events h.stands (h.events_are ∙ sym (ap (λ s. s.events) found));
-        written = subst (λ x. Appends before.written now.written (x ++ fault_text (1 + length t.served) t.fault)) h.text_is t.written;
-        media = leaves before now h.run list h.stands;
-        no_fault = t.no_fault;
+        input = s.input;
+        notes = t.notes;
+        told = s.told;
+        fault_is = ap (λ x. x.fault) found;
+        ran = subst (λ es. Runs before.media es t.notes now.media) (sym (ap (λ x. x.events) found)) t.runs;
+        written = subst (λ x. Appends before.written now.written (x ++ fault_text (1 + length s.served) s.fault)) t.text_is s.written;
+        no_fault = s.no_fault;
       },
     )
-run_ends stream_statuses.ReadFault before now (rose, t) = (
+run_ends stream_statuses.ReadFault before now (rose, s) = (
   rose,
-  let list = t.ran.0 in let h = t.ran.1 in
+  let h = s.ran.1 in
+      let t = tells before.media now.media (lines s.whole) s.text s.ran.0 h in
       record {
-        whole = t.whole;
-        rest = t.rest;
-        run = h.run;
-        consumed = t.consumed;
-        is_whole = t.is_whole;
-        no_feed = t.no_feed;
-        short = t.short;
+        whole = s.whole;
+        rest = s.rest;
+        notes = t.notes;
+        consumed = s.consumed;
+        is_whole = s.is_whole;
+        no_feed = s.no_feed;
+        short = s.short;
         fault_is = h.clean;
-        over = over before now.media h.run list (script t.whole).events h.stands h.events_are;
-        written = subst (Appends before.written now.written) h.text_is t.written;
-        media = leaves before now h.run list h.stands;
+        ran = t.runs;
+        written = subst (Appends before.written now.written) t.text_is s.written;
       },
 )
-run_ends stream_statuses.WriteFault before now (rose, t) = (rose, torn before now t)
-run_ends stream_statuses.NoMemory before now t = torn before now t
-
--- no line was read
-pub not_begun : (before : Outside) → RanSo before.media [] [] empty_list before.media → RunEnds (status_of stream_statuses.NoMemory) before before
-not_begun before h = torn before before (stops run_meaning before before before [] _ empty_list (begins run_meaning before empty_list h) refl (none_fell_same _))
-
-pub some_mapped : {A B : Type 0} (f : A → B) (xs : List A) → 1 ≤ length xs → 0 < length (map f xs)
-some_mapped f xs h = omega (arith, length-map xs f)
+run_ends stream_statuses.WriteFault before now (rose, (t, same)) = (rose, subst (λ media. Torn before now media) same (torn before now t))
+run_ends stream_statuses.NoMemory before now t = (t.media, torn before now t)

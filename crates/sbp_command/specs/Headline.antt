@@ -8,14 +8,14 @@ use Rattle.line_session.specs.Meaning.{fault_text}
 use Rattle.line_session.specs.Ends.{NoFault}
 use Rattle.line_session.specs.declared.status.Status.{Status as StreamStatus}
 use Rattle.line_session.specs.declared.status.Status.TheVariants as stream_statuses
-use Rattle.sbp_journal.specs.Run.{Run, journal, history, events_of}
-use Rattle.sbp_laws.specs.FirstPath.{DisksAre, FailuresFit, FailuresWithin, Lawful}
+use Rattle.rbc_disk.specs.Held.{Held}
 use Rattle.sbp_journal.specs.Text.{text_of}
 use Rattle.sbp_journal.specs.declared.event.Event.{Event}
-use Rattle.script_text.specs.Script.{Script}
+use Rattle.sbp_journal.specs.declared.note.Note.{Note}
+use Rattle.script_text.specs.Script.{Script, script}
 use Rattle.packet_listing.specs.Listing.{Listing, listing}
 use Rattle.rom_listing.specs.RomListing.{rom_listing, rom_quads}
-use Rattle.sbp_command.specs.Script.{script}
+use Rattle.sbp_command.specs.Machine.{Runs}
 use Rattle.sbp_command.specs.declared.status.Status.{Status}
 use Rattle.sbp_command.specs.declared.status.Status.TheVariants as statuses
 
@@ -24,69 +24,58 @@ abbrev pub ending : Option (ℕ × ℕ) → List ℕ
 ending None = []
 ending (Some (number, fault)) = fault_text number fault
 
--- A lawful run over these events, from what the media held before.
-pub record RunsOver (before : Outside) (run : Run) (events : List (ℕ × Event)) : Type 0 where
-  pub start : run.start ≡ before.media.disks
-  pub events_are : events_of run ≡ events
-  pub lawful : Lawful run
-
--- The media hold what the disk fold gives, and each failing run has its cause.
-pub record LeavesMedia (before now : Outside) (run : Run) : Type 0 where
-  pub disks : DisksAre run.start (history run.entries) now.media.disks
-  pub failures : FailuresFit before.media.faults (history run.entries) now.media.faults
-
--- The whole input, where the source tells it, was run up to its first faulty line, and the sink gained the text of the run's
--- journal, and that of the fault.
+-- The whole input, where the source tells it, was run up to its first faulty line; the sink gained the text of what the machine tells
+-- over exactly its events, and that of the fault, and the media are as the machine leaves them.
 pub record RanScript (before now : Outside) (fault : Option (ℕ × ℕ)) : Type 0 where
   pub input : List ℕ
-  pub run : Run
+  pub notes : List Note
   pub told : IfSome before.left (λ bytes. bytes ≡ input)
   pub fault_is : (script input).fault ≡ fault
-  pub over : RunsOver before run (script input).events
-  pub written : Appends before.written now.written (text_of (journal run) ++ ending fault)
-  pub media : LeavesMedia before now run
+  pub ran : Runs before.media (script input).events notes now.media
+  pub written : Appends before.written now.written (text_of notes ++ ending fault)
   pub no_fault : NoFault before now
 
--- The whole lines that were read were run, and the sink gained the text of the run's journal; a line without its line feed, which may
--- yet be short enough, was not run.
+-- The whole lines that were read were run, and the sink gained the text of what the machine tells over them; a line without its line
+-- feed, which may yet be short enough, was not run.
 pub record RanLines (before now : Outside) : Type 0 where
   pub whole : List ℕ
   pub rest : List ℕ
-  pub run : Run
+  pub notes : List Note
   pub consumed : Consumes before.left now.left (whole ++ rest)
   pub is_whole : IsWhole whole
   pub no_feed : NoFeed rest
   pub short : is_surely_long rest ≡ false
   pub fault_is : (script whole).fault ≡ None
-  pub over : RunsOver before run (script whole).events
-  pub written : Appends before.written now.written (text_of (journal run))
-  pub media : LeavesMedia before now run
+  pub ran : Runs before.media (script whole).events notes now.media
+  pub written : Appends before.written now.written (text_of notes)
 
--- The text of a run, and, where the run is over all events, that of the script's fault.
-abbrev pub MayWrite : Script → Run → List ℕ → Type 0
-MayWrite s run output = (output ≡ text_of (journal run)) ⊎ ((events_of run ≡ s.events) × (output ≡ text_of (journal run) ++ ending s.fault))
+-- The text of some notes, and, where they are of all events, that of the script's fault.
+abbrev pub MayWrite : Script → List (ℕ × Event) → List Note → List ℕ → Type 0
+MayWrite s happened notes output =
+    (output ≡ text_of notes) ⊎ ((happened ≡ s.events) × (output ≡ text_of notes ++ ending s.fault))
 
--- A front of such a text was written, for a lawful run over the first events of the input; each of its failing runs has its cause.
-pub record Torn (before now : Outside) : Type 0 where
+-- A front of such a text was written, for what the machine does over the first events of the input; so it leaves the media.
+pub record Torn (before now : Outside) (media : Held) : Type 0 where
   pub input : List ℕ
-  pub run : Run
+  pub happened : List (ℕ × Event)
+  pub notes : List Note
   pub count : ℕ
   pub output : List ℕ
   pub len : ℕ
   pub told : IfSome before.left (λ bytes. bytes ≡ input)
-  pub over : RunsOver before run (take count (script input).events)
-  pub may_write : MayWrite (script input) run output
-  pub failures : FailuresWithin before.media.faults (history run.entries) now.media.faults
+  pub first : happened ≡ take count (script input).events
+  pub ran : Runs before.media happened notes media
+  pub may_write : MayWrite (script input) happened notes output
   pub written : Appends before.written now.written (take len output)
 
--- the clause of `run` by status
+-- the clause of `run` by status; where memory was wanting nothing is said of the media
 abbrev pub RunEnds : Status → Outside → Outside → Type 0
 RunEnds statuses.Done before now = IsAtEnd now.left × RanScript before now None
 RunEnds statuses.Words before now = ⊥
 RunEnds statuses.Script before now = (fault : ℕ × ℕ) × RanScript before now (Some fault)
 RunEnds statuses.ReadFault before now = Rose before.reads now.reads × RanLines before now
-RunEnds statuses.WriteFault before now = Rose before.writes now.writes × Torn before now
-RunEnds statuses.NoMemory before now = Torn before now
+RunEnds statuses.WriteFault before now = Rose before.writes now.writes × Torn before now now.media
+RunEnds statuses.NoMemory before now = (media : Held) × Torn before now media
 
 -- The media and their counts are as they were.
 abbrev pub KeepsMedia : Outside → Outside → Type 0

@@ -1,44 +1,88 @@
 -- What `run` does with lines.
-use Rattle.std.specs.Prelude.{◌≡◌, ℕ, ◌+◌, ◌<◌, Bool, true, false, List, [], ◌∷◌, length, slice_index, None, Err}
-use Rattle.std.proofs.Math.Nat.{le_refl}
+use Rattle.std.specs.Prelude.{◌≡◌, ℕ, ◌+◌, ◌<◌, ◌≤◌, List, [], ◌∷◌, length, Option, Some, None, Err}
 use Rattle.rbc_disk.specs.Held.{Held}
-use Rattle.sbp_journal.specs.Run.{Run, journal, events_of}
+use Rattle.sbp_journal.specs.declared.event.Event.{Event}
+use Rattle.sbp_journal.specs.declared.event.Event.TheVariants as events
 use Rattle.sbp_journal.specs.Text.{text_of}
-use Rattle.sbp_laws.specs.FirstPath.{NoneFell}
-use Rattle.plain_list.specs.Plain.{PlainState, StandsFor}
-use Rattle.script_text.specs.Script.{Script}
+use Rattle.sbp_world.specs.Lines.{IsEvent}
+use Rattle.sbp_world.specs.Runs.{Run, StandsFor}
+use Rattle.sbp_world.specs.Worlds.{Scene, WorldState}
 use Rattle.line_session.specs.Meaning.{Meaning}
-use Rattle.sbp_command.specs.Script.{says, served_lines}
+use Rattle.sbp_command.specs.Machine.{events_of, journal}
+use Rattle.sbp_command.specs.Script.{begun_by, of_lines, says}
 
--- whether a list has a member
-abbrev pub has_some : {A : Type 0} → List A → Bool
-has_some [] = false
-has_some (x ∷ xs) = true
+-- how many initiators the run has, none before it begins, and its world
+pub record RunnerState : Type 0 where
+  pub initiators : ℕ
+  pub world : Option WorldState
 
--- the script of whole lines
-abbrev pub of_lines : List (List ℕ) → Script
-of_lines served = served_lines 1 false served
+abbrev pub not_begun : RunnerState
+not_begun = record { initiators = 0; world = None }
 
--- The lines have no fault, and the list and the media stand for a run over their events, whose journal has this text.
-pub record RanSo (start : Held) (served : List (List ℕ)) (text : List ℕ) (list : PlainState) (media : Held) : Type 0 where
+abbrev pub running : ℕ → WorldState → RunnerState
+running initiators world = record { initiators = initiators; world = Some world }
+
+abbrev pub scene_of : WorldState → Held → Scene
+scene_of world media = record { world = world; media = media }
+
+-- The world and the media stand for a run of the machine over these events, whose journal has this text.
+pub record InRun (start : Held) (happened : List (ℕ × Event)) (text : List ℕ) (world : WorldState) (media : Held) : Type 0 where
+  pub line : ℕ
   pub run : Run
-  pub clean : (of_lines served).fault ≡ None
-  pub events_are : events_of run ≡ (of_lines served).events
-  pub begun : list.begun ≡ has_some (of_lines served).events
+  pub start_is : run.start ≡ start
+  pub units_are : run.units ≡ length start.disks
+  pub events_are : events_of line run ≡ happened
   pub text_is : text ≡ text_of (journal run)
-  pub stands : StandsFor start media run list
+  pub stands : StandsFor run (scene_of world media)
 
--- the list has room for the command of this line, and there is a medium
-pub record CanRun (number : ℕ) (list : PlainState) (media : Held) : Type 0 where
-  pub room : list.appended < number
-  pub some : 0 < length media.disks
+-- No run has begun.
+pub record IsIdle (start : Held) (happened : List (ℕ × Event)) (text : List ℕ) (media : Held) : Type 0 where
+  pub events_are : happened ≡ []
+  pub text_is : text ≡ []
+  pub media_are : media ≡ start
 
-abbrev pub run_meaning : Meaning PlainState
+abbrev pub Stands : Held → List (ℕ × Event) → List ℕ → Option WorldState → Held → Type 0
+Stands start happened text None media = IsIdle start happened text media
+Stands start happened text (Some world) media = InRun start happened text world media
+
+-- The lines have no fault, and the world and the media stand for a run over their events, whose journal has this text.
+pub record RanSo (start : Held) (served : List (List ℕ)) (text : List ℕ) (state : RunnerState) (media : Held) : Type 0 where
+  pub clean : (of_lines served).fault ≡ None
+  pub initiators : state.initiators ≡ begun_by 0 (of_lines served).events
+  pub stands : Stands start (of_lines served).events text state.world media
+
+-- The world has so many initiators, and a unit for each medium.
+pub record GoesOn (initiators : ℕ) (world : WorldState) (media : Held) : Type 0 where
+  pub count : length world.initiators ≡ initiators
+  pub begun : 0 < initiators
+  pub units : length world.target.units ≡ length media.disks
+
+abbrev pub CanGoOn : ℕ → Option WorldState → Held → Type 0
+CanGoOn initiators None media = initiators ≡ 0
+CanGoOn initiators (Some world) media = GoesOn initiators world media
+
+-- There are one to four media, and the world, if there is one, can go on over them.
+pub record CanRun (state : RunnerState) (media : Held) : Type 0 where
+  pub some : 1 ≤ length media.disks
+  pub few : length media.disks ≤ 4
+  pub world : CanGoOn state.initiators state.world media
+
+-- an event that begins a run
+abbrev pub IsBeginning : Event → Type 0
+IsBeginning (events.Begin initiators ready) = (1 ≤ initiators) × (initiators ≤ 4)
+IsBeginning _ = ⊥
+
+-- what may happen: a run begins once, and then it goes on
+abbrev pub MayHappenIn : Option WorldState → Event → Type 0
+MayHappenIn None event = IsBeginning event
+MayHappenIn (Some world) event = IsEvent event (length world.initiators)
+
+abbrev pub run_meaning : Meaning RunnerState
 run_meaning = record {
-  ready = CanRun;
+  ready = λ number state media. CanRun state media;
   ran = RanSo;
-  refuses = λ served line fault. says (1 + length served) (has_some (of_lines served).events) line ≡ Err fault;
-  closed = λ served text start media. (list : PlainState) × RanSo start served text list media;
-  stays = λ old new. NoneFell old.faults new.faults;
-  stays_same = λ media. record { each = λ u. le_refl (slice_index media.faults u) };
+  refuses = λ served line fault. says (1 + length served) (begun_by 0 (of_lines served).events) line ≡ Err fault;
+  closed = λ served text start media. (state : RunnerState) × RanSo start served text state media;
+  stays = λ old new. Unit {0};
+  stays_same = λ media. tt;
 }

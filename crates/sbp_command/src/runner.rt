@@ -1,19 +1,21 @@
-ghost use Rattle.std.specs.Prelude.{◌≡◌, ◌+◌, ◌<◌, ◌≤◌, ◌++◌, length, map, reverse, true, IfOk, OnOk};
+ghost use Rattle.std.specs.Prelude.{◌≡◌, ◌+◌, ◌≤◌, ◌∷◌, ◌++◌, [], length, map, reverse, ℕ, List, Some, Ok, IfOk, OnOk};
 ghost use Rattle.std.specs.List.{AllByRecursion};
 ghost use Rattle.rbc_disk.specs.Held.{Held, held};
-ghost use Rattle.sbp_journal.specs.Run.{with_entry};
-ghost use Rattle.sbp_journal.specs.Run as journal_runs;
 ghost use Rattle.sbp_journal.specs.Form.{HasForm};
 ghost use Rattle.sbp_journal.specs.Text.{text_of};
-ghost use Rattle.sbp_laws.specs.FirstPath.{NoneFell};
-ghost use Rattle.plain_list.specs.Plain.{empty_list, is_served, StandsFor};
+ghost use Rattle.script_text.specs.Script.{initiators_after};
+ghost use Rattle.sbp_journal.specs.declared.event.Event as events;
+ghost use Rattle.sbp_world.specs.Lines.{Happens, IsEvent};
+ghost use Rattle.sbp_world.specs.Making.{new_world, notes_begin};
+ghost use Rattle.sbp_world.specs.Worlds.{scene};
+ghost use Rattle.sbp_command.specs.Runner.{CanRun, MayHappenIn, Stands, not_begun, running};
 
-use crate::script::read_served;
+use crate::script::read_event;
 use line_session::{LineError, Serve};
-use plain_list::PlainList;
 use rbc_disk::Medium;
 use sbp_base::{Bytes, NoMemory};
 use sbp_journal::{Event, Note, append_note};
+use sbp_world::World;
 use std::alloc::Global;
 use std::marker::Model;
 
@@ -21,49 +23,20 @@ use std::marker::Model;
 #[derive(Drop)]
 pub struct ScriptRunner {
     alloc: Global,
-    list: PlainList,
+    /// How many initiators the run has, none before it begins.
+    initiators: u8,
+    world: Option<World>,
 }
 
 impl Model for ScriptRunner {
-    ghost use Rattle.plain_list.specs.Plain.{PlainState};
+    ghost use Rattle.std.specs.Prelude.{◌≤◌};
+    ghost use Rattle.sbp_command.specs.Runner.{RunnerState};
 
-    ghost Value = { PlainState };
+    ghost Value = { RunnerState };
 
-    ghost view = { λ runner. runner.list };
-}
+    ghost view = { λ runner. record { initiators = runner.initiators; world = runner.world } };
 
-impl ScriptRunner {
-    /// Nothing has begun, and nothing waits.
-    pub fn new(alloc: Global) -> Result<Self, NoMemory>
-        ensures { IfOk result (λ runner. runner ≡ empty_list) }
-    {
-        Ok(ScriptRunner {
-            alloc,
-            list: PlainList::new(alloc)?,
-        })
-    }
-
-    /// Runs the event of a line, and adds the text of its notes.
-    fn run_event(
-        &mut self,
-        number: u32,
-        event: Event,
-        media: &mut Vec<Box<dyn Medium>>,
-        out: &mut Bytes,
-    ) -> Result<(), NoMemory>
-        requires served { is_served self.old.begun event ≡ true }
-        requires room { self.old.appended < 65536 }
-        requires media { 0 < length media.old.items }
-        ensures count { length media.new.items ≡ length media.old.items }
-        ensures fell { NoneFell (map media_faults media.old.items) (map media_faults media.new.items) }
-        ensures begun { OnOk result (self.new.begun ≡ true) }
-        ensures room { OnOk result (self.new.appended ≤ self.old.appended + 1) }
-        ensures text { OnOk result (out.new ≡ out.old ++ text_of (reverse self.new.fresh)) }
-        ensures stands { OnOk result ((start : Held) (run : journal_runs.Run) → StandsFor start (held (map disk media.old.items) (map media_faults media.old.items)) run self.old → StandsFor start (held (map disk media.new.items) (map media_faults media.new.items)) (with_entry run number event self.new.fresh) self.new) }
-    {
-        self.list.step(media, number, event)?;
-        append_notes(self.alloc, self.list.fresh().as_slice(), out)
-    }
+    ghost invariant = { λ runner. runner.initiators ≤ 4 };
 }
 
 /// Adds the lines of some notes.
@@ -75,6 +48,88 @@ fn append_notes(alloc: Global, notes: &[Note], out: &mut Bytes) -> Result<(), No
         append_note(alloc, note, out)?;
     }
     Ok(())
+}
+
+/// Runs the event of a line in a world, and adds the text of its notes.
+fn step_world(
+    alloc: Global,
+    world: &mut World,
+    number: u32,
+    event: &Event,
+    media: &mut Vec<Box<dyn Medium>>,
+    out: &mut Bytes,
+) -> Result<(), NoMemory>
+    requires units { length media.old.items ≡ length world.old.target.units }
+    requires event { IsEvent event.now (length world.old.initiators) }
+    ensures size { length media.new.items ≡ length media.old.items }
+    ensures units { length world.new.target.units ≡ length world.old.target.units }
+    ensures happens { OnOk result (Happens number event.now (scene world.old (map disk media.old.items) (map media_faults media.old.items)) (scene world.new (map disk media.new.items) (map media_faults media.new.items))) }
+    ensures text { OnOk result (out.new ≡ out.old ++ text_of (reverse world.new.fresh)) }
+{
+    world.step(media, number, event)?;
+    append_notes(alloc, world.fresh().as_slice(), out)
+}
+
+impl ScriptRunner {
+    /// No run has begun.
+    pub fn new(alloc: Global) -> Self
+        ensures { result ≡ not_begun }
+    {
+        ScriptRunner {
+            alloc,
+            initiators: 0,
+            world: None,
+        }
+    }
+
+    /// The run begins, and the text of its note is added.
+    fn begin(
+        &mut self,
+        initiators: u8,
+        ready: bool,
+        units: u8,
+        out: &mut Bytes,
+    ) -> Result<(), NoMemory>
+        requires some { 1 ≤ initiators }
+        requires few { initiators ≤ 4 }
+        requires one { 1 ≤ units }
+        requires units { units ≤ 4 }
+        ensures state { OnOk result (self.new ≡ running initiators (new_world initiators ready units)) }
+        ensures text { OnOk result (out.new ≡ out.old ++ text_of (notes_begin initiators ready ∷ [])) }
+    {
+        let world = World::begin(self.alloc, initiators, ready, units)?;
+        append_notes(self.alloc, world.fresh().as_slice(), out)?;
+        self.initiators = initiators;
+        self.world = Some(world);
+        Ok(())
+    }
+
+    /// Runs the event of a line, and adds the text of its notes.
+    fn run_event(
+        &mut self,
+        number: u32,
+        event: &Event,
+        media: &mut Vec<Box<dyn Medium>>,
+        out: &mut Bytes,
+    ) -> Result<(), NoMemory>
+        requires can { CanRun self.old (held (map disk media.old.items) (map media_faults media.old.items)) }
+        requires event { MayHappenIn self.old.world event.now }
+        ensures can { OnOk result (CanRun self.new (held (map disk media.new.items) (map media_faults media.new.items))) }
+        ensures initiators { OnOk result (self.new.initiators ≡ initiators_after self.old.initiators (Ok (Some event.now))) }
+        ensures ran { OnOk result ((start : Held) (happened : List (ℕ × events.Event)) (front : List ℕ) → Stands start happened (front ++ out.old) self.old.world (held (map disk media.old.items) (map media_faults media.old.items)) → Stands start (happened ++ (number, event.now) ∷ []) (front ++ out.new) self.new.world (held (map disk media.new.items) (map media_faults media.new.items))) }
+    {
+        let alloc = self.alloc;
+        if let Some(world) = &mut self.world {
+            return step_world(alloc, world, number, event, media, out);
+        }
+        match event {
+            Event::Begin { initiators, ready } => {
+                let units = media.as_slice().len() as u8;
+                self.begin(*initiators, *ready, units, out)
+            }
+            _ => unreachable!(),
+        }
+    }
 }
 
 impl Serve for ScriptRunner {
@@ -89,8 +144,8 @@ impl Serve for ScriptRunner {
         media: &mut Vec<Box<dyn Medium>>,
         out: &mut Bytes,
     ) -> Result<(), LineError> {
-        match read_served(self.alloc, line, &self.list) {
-            Ok(Some(event)) => match self.run_event(number, event, media, out) {
+        match read_event(self.alloc, line, self.initiators) {
+            Ok(Some(event)) => match self.run_event(number, &event, media, out) {
                 Ok(()) => Ok(()),
                 Err(NoMemory) => Err(LineError::NoMemory),
             },

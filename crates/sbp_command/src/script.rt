@@ -1,15 +1,11 @@
-ghost use Rattle.std.specs.Prelude.{◌≡◌, true, IfOk, IfSome};
-ghost use Rattle.plain_list.specs.Plain.{is_served};
+ghost use Rattle.std.specs.Prelude.{◌≡◌, ◌≤◌, Some, Ok, IfOk, IfSome};
+ghost use Rattle.script_text.specs.Line.{reading};
 ghost use Rattle.sbp_command.specs.Script.{Hears, error_of, heard};
 
 use line_session::LineError;
-use plain_list::PlainList;
 use sbp_journal::Event;
 use script_text::LineFault;
 use std::alloc::Global;
-
-/// The number of the fault of a line whose event the list does not serve.
-const NOT_SERVED: u8 = 10;
 
 /// Why a line of a script gives nothing: its fault has the number by which it is told.
 fn line_error(fault: LineFault) -> LineError
@@ -27,16 +23,15 @@ fn line_error(fault: LineFault) -> LineError
     }
 }
 
-/// Reads a line of a script, without its line feed: its event, which the list serves, or nothing for
-/// a blank line or a comment.
-pub fn read_served(alloc: Global, line: &[u8], list: &PlainList) -> Result<Option<Event>, LineError>
-    ensures reads { Hears result (heard list.now.begun line.now) }
-    ensures served { IfOk result (λ said. IfSome said (λ event. is_served list.now.begun event ≡ true)) }
+/// Reads a line of a script, without its line feed: its event, or nothing for a blank line or a
+/// comment. `initiators` is how many the run has, and 0 before it begins.
+pub fn read_event(alloc: Global, line: &[u8], initiators: u8) -> Result<Option<Event>, LineError>
+    requires { initiators ≤ 4 }
+    ensures reads { Hears result (heard initiators line.now) }
+    ensures event { IfOk result (λ said. IfSome said (λ event. reading line.now initiators ≡ Ok (Some event))) }
 {
-    match script_text::read_line(alloc, line, list.initiators()) {
-        Ok(Some(event)) if list.serves(&event) => Ok(Some(event)),
-        Ok(Some(_)) => Err(LineError::Fault(NOT_SERVED)),
-        Ok(None) => Ok(None),
+    match script_text::read_line(alloc, line, initiators) {
+        Ok(said) => Ok(said),
         Err(fault) => Err(line_error(fault)),
     }
 }

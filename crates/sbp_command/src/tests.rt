@@ -6,10 +6,34 @@ use sbp_base::{Bytes, MemorySink, MemorySource, NoMemory, Sink, SinkFault};
 use std::alloc::Global;
 use std::test::Fail;
 
-/// A block is written and read back.
-const SCRIPT: &str = "begin 1 ready\nappend 0 write 5 AA*512\nsettle\nappend 0 read 5 1\nsettle\n";
+/// Every packet of one TEST UNIT READY.
+const SCRIPT: &str = "begin 1 ready\nappend 0 tur\nsettle\n";
 
 const JOURNAL: &str = "begin 1 ready\n\
+append 0 0 0 000000000000000000000000 none\n\
+rung 0 0 0\n\
+sent 1 0 0 t FFC00110FFC1FFFFF0040008000800000000000010000000\n\
+got 1\n\
+sent 2 0 t 0 FFC10120FFC0000000000000\n\
+sent 3 0 t 0 FFC10150FFC000001000000000200000\n\
+got 2\n\
+got 3\n\
+sent 4 0 0 t FFC00170FFC1000000000000002000008000000000000000000000000000000082900000000000000000000000000000\n\
+got 4\n\
+ran 0 0 0 u0 000000000000000000000000 - good\n\
+ended 0 0 0 good\n\
+sent 5 0 t 0 FFC10110FFC0000013000000000800004100000010000000\n\
+got 5\n\
+taken 0 0 0 good\n\
+sent 6 0 0 t FFC00120FFC1000000000000\n\
+got 6\n\
+settled\n";
+
+/// A block is written and read back.
+const WRITE_THEN_READ: &str =
+    "begin 1 ready\nappend 0 write 5 AA*512\nsettle\nappend 0 read 5 1\nsettle\n";
+
+const WRITTEN_AND_READ: &str = "begin 1 ready\n\
 append 0 0 0 2A0000000005000001000000 out AA*512\n\
 rung 0 0 0\n\
 ran 0 0 0 u0 2A0000000005000001000000 AA*512 good\n\
@@ -24,6 +48,54 @@ ran 0 0 1 u0 280000000005000001000000 - good\n\
 ended 0 0 1 good\n\
 taken 0 0 1 good AA*512\n\
 settled\n";
+
+/// A pointer whose low quadlet alone is written is still null.
+const HALF_A_LINK: &str =
+    "begin 1 ready\nappend 0 tur\ndeliver 1\nput 0 tur\nlow 0\ndeliver 3\nlink 0\nring 0\nsettle\n";
+
+const HALF_LINKED: &str = "begin 1 ready\n\
+append 0 0 0 000000000000000000000000 none\n\
+rung 0 0 0\n\
+append 0 0 1 000000000000000000000000 none\n\
+low 0 0 1\n\
+linked 0 0 1\n\
+rung 0 0 1\n\
+ran 0 0 0 u0 000000000000000000000000 - good\n\
+ended 0 0 0 good\n\
+taken 0 0 0 good\n\
+ran 0 0 1 u0 000000000000000000000000 - good\n\
+ended 0 0 1 good\n\
+taken 0 0 1 good\n\
+settled\n";
+
+/// An ORB_POINTER write is delivered once more.
+const REPEATED: &str = "begin 1 ready\nappend 0 tur\nsettle\nrepeat 1\nsettle\n";
+
+const REPEATED_END: &str = "settled\n\
+ignored 1 again\n\
+sent 7 0 t 0 FFC10120FFC0000000000000\n\
+ignored 7 label\n\
+settled\n";
+
+/// The status of a list that was reset comes late.
+const LATE: &str =
+    "begin 1 ready\nappend 0 tur\nstep 4\ntimeout 5\nagentreset 0\ndeliver 6\ndeliver 7\ndeliver 5\ndeliver 8\nappend 0 tur\n";
+
+const LATE_END: &str = "timedout 5\n\
+dead 0 0 timeout\n\
+sent 6 0 0 t FFC00100FFC1FFFFF004000400000001\n\
+got 6\n\
+cut 0 0 agentreset\n\
+sent 7 0 t 0 FFC10120FFC0000000000000\n\
+got 7\n\
+drop 0 0\n\
+op 0 agentreset done\n\
+ignored 5 slot\n\
+sent 8 0 0 t FFC00120FFC1000000000000\n\
+ignored 8 label\n\
+append 0 1 0 000000000000000000000000 none\n\
+rung 0 1 0\n\
+sent 9 0 0 t FFC00110FFC1FFFFF0040008000800000000000010000040\n";
 
 const USAGE: &str = "usage: sbp2 run | drill SEED N | decode | rom | tasks | queue\n";
 
@@ -138,6 +210,7 @@ fn scripts_run(rt: HostRuntime) {
             "begin 1 ready\nsettled\n",
         ),
         ("\n#\nsettle\n", Status::Script, "script 3 6\n"),
+        ("begin 4 cold\ntick", Status::Done, "begin 4 cold\ntick\n"),
     ] {
         let ends = ends_with(rt.alloc(), script.as_bytes(), status, written.as_bytes());
         assert_eq!(rt; ends, Ok(true), "at {script}");
@@ -164,13 +237,8 @@ fn faulty_lines_are_told(rt: HostRuntime) {
             "begin 1 ready\nsettle\nbegin 1 ready",
             "begin 1 ready\nsettled\nscript 3 6\n",
         ),
-        ("begin 2 ready", "script 1 10\n"),
-        ("begin 1 cold", "script 1 10\n"),
-        (
-            "begin 1 ready\nappend 0 read 0 1 pay 8",
-            "begin 1 ready\nscript 2 10\n",
-        ),
-        ("begin 1 ready\ntick", "begin 1 ready\nscript 2 10\n"),
+        ("begin 5 ready", "script 1 5\n"),
+        ("begin 2 cold\nreset 1 2", "begin 2 cold\nscript 2 4\n"),
     ] {
         let ends = ends_with(
             rt.alloc(),
@@ -207,6 +275,43 @@ fn tells(
     let status = serve_over(alloc, medium, &["run"], script, &[], &mut sink)?;
     let found = lines_of(alloc, sink.bytes(), word)?;
     Ok(status == Status::Done && found.as_slice() == lines)
+}
+
+/// The lines of a text that tell no packet sent or got.
+fn plain_lines(alloc: Global, text: &[u8]) -> Result<Vec<u8>, NoMemory> {
+    let mut found = Vec::new(alloc);
+    for line in text.split(|byte| *byte == b'\n') {
+        if !line.is_empty() && !line.starts_with(b"sent") && !line.starts_with(b"got") {
+            found.extend_from_slice(line)?;
+            found.push(b'\n')?;
+        }
+    }
+    Ok(found)
+}
+
+/// Whether a script ends with these lines, of all or of the plain ones alone.
+fn shows(alloc: Global, script: &[u8], plain: bool, end: &[u8]) -> Result<bool, NoMemory> {
+    let ended = serve_failing(alloc, &["run"], script, &[], &[])?;
+    let text = ended.written.as_slice();
+    let done = ended.status == Status::Done;
+    if plain {
+        return Ok(done && plain_lines(alloc, text)?.as_slice() == end);
+    }
+    Ok(done && text.ends_with(end))
+}
+
+/// Worked runs: the plain lines of some, and the end of the journal of others.
+#[test]
+fn worked_runs(rt: HostRuntime) {
+    for (script, plain, end) in [
+        (WRITE_THEN_READ, true, WRITTEN_AND_READ),
+        (HALF_A_LINK, true, HALF_LINKED),
+        (REPEATED, false, REPEATED_END),
+        (LATE, false, LATE_END),
+    ] {
+        let told = shows(rt.alloc(), script.as_bytes(), plain, end.as_bytes());
+        assert_eq!(rt; told, Ok(true), "at {script}");
+    }
 }
 
 /// Scripts over 64 blocks of 00h, and the lines that tell how their commands were taken.

@@ -57,12 +57,11 @@ fn run_script<S: Source, K: Sink>(
     sink: &mut K,
 ) -> Status
     requires some { 1 ≤ length media.old.items }
+    requires few { length media.old.items ≤ 4 }
     ensures { RunEnds result (outside (S.left source.old) (S.faults source.old) (K.written sink.old) (K.faults sink.old) (map disk media.old.items) (map media_faults media.old.items)) (outside (S.left source.new) (S.faults source.new) (K.written sink.new) (K.faults sink.new) (map disk media.new.items) (map media_faults media.new.items)) }
 {
-    match ScriptRunner::new(alloc) {
-        Ok(mut server) => status_of(serve_lines(alloc, &mut server, media, source, sink)),
-        Err(NoMemory) => Status::NoMemory,
-    }
+    let mut server = ScriptRunner::new(alloc);
+    status_of(serve_lines(alloc, &mut server, media, source, sink))
 }
 
 /// Reads packets and lists them.

@@ -5,9 +5,7 @@ use Rattle.sbp_base.specs.Update.{upd2}
 use Rattle.sbp_journal.specs.Run.{Moment, said}
 use Rattle.sbp_laws.specs.Terms.{appends, ends}
 use Rattle.sbp_laws.specs.OrderLaw.{OrderLaw, EndInTurn, ended_numbers, appended_numbers, numbers_below}
-use Rattle.sbp_laws.specs.FirstPath as first
-use Rattle.sbp_laws.specs.Lawful.{nobody}
-use Rattle.sbp_journal.specs.declared.note.Note.TheVariants.{Append, Ran, Ended}
+use Rattle.sbp_journal.specs.declared.note.Note.TheVariants.{Append, Ended}
 
 -- What the reading stands on: an append has the number of the appends before it, an end that of the ends before it, and its ORB was
 -- appended.
@@ -23,16 +21,6 @@ by_order wild (said (Append i n k cdb buffer) ∷ past) law = (law.0.number, by_
 by_order wild (said (Ended i (Some n) (Some k) status) ∷ past) law =
     ((λ own. let next = law.0 own in (next.number, next.appended)), by_order wild past law.1)
 by_order wild (_ ∷ past) law = by_order wild past law.1
-
-by_first_order : (past : List Moment) → first.OrderLaw past → InTurn nobody past
-by_first_order [] law = tt
-by_first_order (said (Append i n k cdb buffer) ∷ past) law = (law.0.number, by_first_order past law.1)
-by_first_order (said (Ran i (Some n) (Some k) unit cdb bytes check) ∷ past) law = by_first_order past law.1
-by_first_order (said (Ran i n k unit cdb bytes check) ∷ past) law = absurd law
-by_first_order (said (Ended i (Some n) (Some k) status) ∷ past) law =
-    ((λ own. (law.0.number, law.0.appended)), by_first_order past law.1)
-by_first_order (said (Ended i n k status) ∷ past) law = absurd law
-by_first_order (_ ∷ past) law = by_first_order past law
 
 -- two terms that change at one list keep what ties them at the initiators that count, where their new values keep it
 module _ (wild : ℕ → Bool) where
@@ -107,6 +95,3 @@ module _ (wild : ℕ → Bool) where
 
 pub ends_in_order : (wild : ℕ → Bool) (past : List Moment) → OrderLaw wild past → EndInTurn wild past
 ends_in_order wild past law = read_in_time wild past (by_order wild past law)
-
-pub first_ends_in_order : (past : List Moment) → first.OrderLaw past → EndInTurn nobody past
-first_ends_in_order past law = read_in_time nobody past (by_first_order past law)

@@ -7,7 +7,6 @@ pub mod DiskFold
 pub mod Targets
 pub mod Agents
 pub mod Management
-pub mod FirstPath
 pub mod OnceLaw
 pub mod Operations
 pub mod OrderLaw

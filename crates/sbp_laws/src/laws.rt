@@ -1,15 +1,10 @@
 ghost use Rattle.sbp_laws.specs.Adds.{AddsLawfully};
-ghost use Rattle.sbp_laws.specs.Readings.{FirstPathInTurn, InTurnLaw};
+ghost use Rattle.sbp_laws.specs.Readings.{InTurnLaw};
 
 /// What the order law says in the order of time, of each initiator that injected no packets: of each
 /// list the ORBs that ended are, in order and each once, a front of those that were appended.
 pub fn ends_in_order()
     ensures { InTurnLaw }
-{}
-
-/// The same of the runs of the first path.
-pub fn first_path_ends_in_order()
-    ensures { FirstPathInTurn }
 {}
 
 /// A run with one more entry is lawful exactly where the run was and the entry adds lawfully.

@@ -1,0 +1,47 @@
+-- What a run of the machine over the events of a script is.
+use Rattle.std.specs.Prelude.{◌≡◌, ◌⊎◌, ℕ, List, [], ◌∷◌, ◌++◌, length, reverse}
+use Rattle.rbc_disk.specs.Held.{Held}
+use Rattle.sbp_journal.specs.declared.event.Event.{Event}
+use Rattle.sbp_journal.specs.declared.event.Event.TheVariants as events
+use Rattle.sbp_journal.specs.declared.note.Note.{Note}
+use Rattle.sbp_world.specs.Making.{notes_begin}
+use Rattle.sbp_world.specs.Runs.{AreEntries, Entry, Run, after, beginning}
+
+-- the numbered events of some lines, in their order
+abbrev pub events_in : List Entry → List (ℕ × Event)
+events_in [] = []
+events_in (entry ∷ before) = events_in before ++ (entry.line, entry.event) ∷ []
+
+-- the notes of some lines, in their order
+abbrev pub notes_in : List Entry → List Note
+notes_in [] = []
+notes_in (entry ∷ before) = notes_in before ++ reverse entry.notes
+
+-- the line that begins a run, and those after it
+abbrev pub events_of : ℕ → Run → List (ℕ × Event)
+events_of line run = (line, events.Begin run.initiators run.ready) ∷ events_in run.entries
+
+-- the note of the line that begins a run, and those of the lines after it
+abbrev pub journal : Run → List Note
+journal run = notes_begin run.initiators run.ready ∷ notes_in run.entries
+
+-- A run of the machine, over exactly these events and from what the media held at first: its notes, and what it leaves of the media.
+pub record HasRun (start : Held) (happened : List (ℕ × Event)) (notes : List Note) (now : Held) : Type 0 where
+  pub line : ℕ
+  pub run : Run
+  pub start_is : run.start ≡ start
+  pub units_are : run.units ≡ length start.disks
+  pub lines_are : AreEntries (beginning run) run.entries
+  pub events_are : events_of line run ≡ happened
+  pub notes_are : notes ≡ journal run
+  pub media_are : now ≡ (after (beginning run) run.entries).media
+
+-- No run begins: there is no event and no note, and the media are as they were.
+pub record HasNone (start : Held) (happened : List (ℕ × Event)) (notes : List Note) (now : Held) : Type 0 where
+  pub events_are : happened ≡ []
+  pub notes_are : notes ≡ []
+  pub media_are : now ≡ start
+
+-- what the machine does over some events
+abbrev pub Runs : Held → List (ℕ × Event) → List Note → Held → Type 0
+Runs start happened notes now = HasNone start happened notes now ⊎ HasRun start happened notes now
