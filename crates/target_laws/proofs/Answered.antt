@@ -49,7 +49,7 @@ keep_requests = record {
   asks = λ layer packets peer body purpose h. asked_more peer (asking_step layer peer body purpose).0 packets h;
 }
 
-abbrev Nothing : ℕ → Said
+abbrev pub Nothing : ℕ → Said
 Nothing node = λ layer packets. (layer.node ≡ node) × (packets ≡ [])
 
 disowned_node : (k : Option ℕ) (layer : Layer Purpose) (label : LabelParts) → (disowning_in k layer label).node ≡ layer.node
@@ -60,7 +60,7 @@ disowning_node : (layer : Layer Purpose) (peer : ℕ) (label : LabelParts) → (
 unfolding disowning_step
 disowning_node layer peer label = disowned_node (peer_place peer layer) layer label
 
-leave_nothing : (node : ℕ) → Leaves (Nothing node)
+pub leave_nothing : (node : ℕ) → Leaves (Nothing node)
 leave_nothing node = record { disowns = λ layer packets peer label h. (disowning_node layer peer label ∙ h.0, h.1) }
 
 abbrev Answered : ℕ → Packet → Said

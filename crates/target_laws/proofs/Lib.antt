@@ -20,3 +20,7 @@ pub mod Managed
 pub mod Settled
 pub mod Under
 pub mod Rowed
+pub mod Asked
+pub mod Rowing
+pub mod Courses
+pub mod Coursed

@@ -156,7 +156,7 @@ call_made ticks s = second s
 call_made (sets_key unit key) s = none s s.outbox.packets
 
 -- ---- over lists of calls
-joined : (layer : Layer Purpose) (more steps : List (wire.Call Purpose)) → layer_after layer (more ++ steps) ≡ layer_after (layer_after layer steps) more
+pub joined : (layer : Layer Purpose) (more steps : List (wire.Call Purpose)) → layer_after layer (more ++ steps) ≡ layer_after (layer_after layer steps) more
 joined layer [] steps = refl
 joined layer (step ∷ more) steps = ap (λ (l : Layer Purpose). wire.done step l) (joined layer more steps)
 
@@ -191,7 +191,7 @@ run_on node before now all packets first r m =
       packets_are = sym (packets_joined (new_layer node) more r.steps ∙ ap (λ (l : Layer Purpose). packets_of (new_layer node) r.steps ++ packets_of l more) was ∙ ap (λ (ps : List Outgoing). ps ++ packets_of before more) (sym r.packets_are) ∙ ap (λ (ps : List Outgoing). all ++ ps) (sym m.packets_are));
     }
 
-runs : (units ready : ℕ) (calls : List Call) → IsRun 0xffc0 (after units ready calls).layer (packets_after units ready calls)
+pub runs : (units ready : ℕ) (calls : List Call) → IsRun 0xffc0 (after units ready calls).layer (packets_after units ready calls)
 runs units ready [] = record { steps = []; layer_is = refl; packets_are = refl }
 runs units ready (call ∷ calls) =
     let node = after units ready calls in

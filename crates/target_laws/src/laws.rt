@@ -23,7 +23,7 @@ pub fn requests_are_answered_first()
 {}
 
 /// Over every list of calls of a target each request has the lowest label that it may take at its moment.
-#[tactic(auto, using(crate::proofs::Labelled::label_law))]
+#[tactic(auto, using(crate::proofs::Coursed::label_law))]
 pub fn labels_are_the_lowest()
     ensures { LabelLaw }
 {}
@@ -46,7 +46,7 @@ pub fn transactions_are_waited_for()
 
 /// What a target serves has the rcode of the first row that holds of the table that nodes and laws share,
 /// and it ignores a request exactly by the first row of the table of judging.
-#[tactic(auto, using(crate::proofs::Rowed::row_law))]
+#[tactic(auto, using(crate::proofs::Rowing::row_law))]
 pub fn first_row_has_its_rcode()
     ensures { RowLaw }
 {}
