@@ -1,6 +1,7 @@
-ghost use Rattle.std.specs.Prelude.{◌≡◌, length, ◌+◌, ◌^◌, ◌<◌, ◌≤◌, IfOk, IfSome, OnOk};
+ghost use Rattle.std.specs.Prelude.{◌≡◌, length, nat_lt, ◌+◌, ◌^◌, ◌<◌, ◌≤◌, IfOk, IfSome, OnOk};
 ghost use Rattle.std.specs.Option.{option_map};
 ghost use Rattle.label_table.specs.Bodies.{FitsBody, body_of};
+ghost use Rattle.label_table.specs.Layer.{free_labels};
 ghost use Rattle.sbp_target.specs.Agents.{agent_body, ask_ahead, ask_main, cut, follow, lose, lose_main, noted, send_ahead, without_ahead};
 ghost use Rattle.sbp_target.specs.Nodes.{scene};
 
@@ -13,7 +14,7 @@ use command_agent::{AgentStep, Which};
 use label_table::{RequestBody, Transactions};
 use login_table::Login;
 use orb_layout::{Ask, FailCause};
-use sbp_base::{NoMemory, Offset};
+use sbp_base::{NoMemory, NodeId, Offset};
 use sbp_journal::{CutCause, Outbox, Side};
 
 /// The most bytes of a payload.
@@ -45,6 +46,13 @@ pub(super) fn agent_body<'a>(
         }
         _ => None,
     }
+}
+
+/// Whether fewer labels to a node are left than a read ahead leaves.
+fn is_short(layer: &Transactions<Purpose>, node: NodeId) -> bool
+    ensures { result ≡ nat_lt (free_labels layer.now node) 16 }
+{
+    layer.free(node) < RESERVE
 }
 
 impl Node {
@@ -209,7 +217,7 @@ impl Node {
         let Some(body) = agent_body(ask, false, login.fifo, outgoing) else {
             return Ok(true);
         };
-        if self.layer.free(login.node) < RESERVE {
+        if is_short(&self.layer, login.node) {
             return Ok(false);
         }
         let purpose = Purpose::Agent(place);

@@ -1,9 +1,10 @@
 ghost use Rattle.std.specs.Prelude.{◌≡◌, ℕ, ◌+◌, ◌^◌, ◌<◌, ◌≤◌, List, [], length, take, drop, IfOk, OnOk};
-ghost use Rattle.async_packet.specs.Packet.{view};
+ghost use Rattle.async_packet.specs.Packet.{view, header_in};
 ghost use Rattle.label_table.specs.Bodies.{Gives};
 ghost use Rattle.label_table.specs.Requests.{IsRequestOf};
 ghost use Rattle.sbp_target.specs.Addresses.{Suits, SuitsAccess, complete};
 ghost use Rattle.sbp_target.specs.Counting.{LeavesCount};
+ghost use Rattle.sbp_target.specs.Management.{ask_manager};
 ghost use Rattle.sbp_target.specs.Nodes.{desk_at, scene};
 ghost use Rattle.sbp_journal.specs.declared.side.Side.TheVariants as sides;
 ghost use Rattle.sbp_target.specs.Sending.{with_side};
@@ -215,11 +216,26 @@ impl Node {
                 self.answer(outbox, request, bytes, COMPLETE, &given)
             }
             Access::Ring => self.ring(outbox, request, bytes, place),
-            Access::Enable => {
-                self.desks[index].is_enabled = true;
-                self.answer(outbox, request, bytes, COMPLETE, &[])
-            }
+            Access::Enable => self.enable(outbox, request, bytes, place),
         }
+    }
+
+    /// A write of UNSOLICITED_STATUS_ENABLE.
+    fn enable(
+        &mut self,
+        outbox: &mut Outbox,
+        request: &PacketRef<'_>,
+        bytes: &[u8],
+        place: LoginPlace,
+    ) -> Result<(), NoMemory>
+        requires request { IsRequestOf bytes.now (view request.now) }
+        requires suits { (rcode : ℕ) (given : List ℕ) → Gives (view request.now) rcode given }
+        ensures step { OnOk result (scene self.new outbox.new ≡ answered (view request.now) bytes.now complete [] (enabled place (scene self.old outbox.old))) }
+        ensures count { self.new.layer.calls ≡ self.old.layer.calls }
+        ensures units { length self.new.units ≡ length self.old.units }
+    {
+        self.desks[usize::from(place.number())].is_enabled = true;
+        self.answer(outbox, request, bytes, COMPLETE, &[])
     }
 
     /// A write of ORB_POINTER.
@@ -244,8 +260,7 @@ impl Node {
             Err(refusal) => self.answer(outbox, request, bytes, rcode_of(refusal), &[]),
             Ok(ask) => {
                 self.tell_opened(outbox, place)?;
-                self.answer(outbox, request, bytes, COMPLETE, &[])?;
-                self.ask_at(outbox, place, ask)
+                self.answer_and_ask(outbox, request, bytes, place, ask)
             }
         }
     }
@@ -278,6 +293,25 @@ impl Node {
         ensures units { length self.new.units ≡ length self.old.units }
     {
         let ask = self.desks[usize::from(place.number())].agent.doorbell();
+        self.answer_and_ask(outbox, request, bytes, place, ask)
+    }
+
+    /// Answers a write of a register with complete, and sends what the agent of a place then asks for.
+    fn answer_and_ask(
+        &mut self,
+        outbox: &mut Outbox,
+        request: &PacketRef<'_>,
+        bytes: &[u8],
+        place: LoginPlace,
+        ask: Ask,
+    ) -> Result<(), NoMemory>
+        requires request { IsRequestOf bytes.now (view request.now) }
+        requires suits { (rcode : ℕ) (given : List ℕ) → Gives (view request.now) rcode given }
+        requires count { self.old.layer.calls + 3 ≤ 2 ^ 56 }
+        ensures step { OnOk result (scene self.new outbox.new ≡ asked_at place ask (answered (view request.now) bytes.now complete [] (scene self.old outbox.old))) }
+        ensures count { self.new.layer.calls ≤ self.old.layer.calls + 3 }
+        ensures units { length self.new.units ≡ length self.old.units }
+    {
         self.answer(outbox, request, bytes, COMPLETE, &[])?;
         self.ask_at(outbox, place, ask)
     }
@@ -322,10 +356,27 @@ impl Node {
         let source = request.header().source;
         match self.manager.start(source, orb) {
             Err(_) => self.answer(outbox, request, bytes, CONFLICT, &[]),
-            Ok(ask) => {
-                self.answer(outbox, request, bytes, COMPLETE, &[])?;
-                self.ask_manager(outbox, source, ask)
-            }
+            Ok(ask) => self.answer_and_manage(outbox, request, bytes, ask),
         }
+    }
+
+    /// Answers a write of MANAGEMENT_AGENT with complete, and sends what the operation of its source
+    /// then asks for.
+    fn answer_and_manage(
+        &mut self,
+        outbox: &mut Outbox,
+        request: &PacketRef<'_>,
+        bytes: &[u8],
+        ask: Ask,
+    ) -> Result<(), NoMemory>
+        requires request { IsRequestOf bytes.now (view request.now) }
+        requires suits { (rcode : ℕ) (given : List ℕ) → Gives (view request.now) rcode given }
+        requires count { self.old.layer.calls < 2 ^ 56 }
+        ensures step { OnOk result (scene self.new outbox.new ≡ ask_manager (header_in (view request.now)).source ask (answered (view request.now) bytes.now complete [] (scene self.old outbox.old))) }
+        ensures count { self.new.layer.calls ≤ self.old.layer.calls + 1 }
+        ensures units { length self.new.units ≡ length self.old.units }
+    {
+        self.answer(outbox, request, bytes, COMPLETE, &[])?;
+        self.ask_manager(outbox, request.header().source, ask)
     }
 }
