@@ -24,7 +24,7 @@ use Rattle.sbp_initiator.specs.Refusals.{operation_of, refusal}
 use Rattle.sbp_initiator.specs.States.{is_unwritten, place_of, wanted_body}
 use Rattle.sbp_initiator.specs.Effects.{Turn}
 use Rattle.sbp_initiator.specs.Acting.{act_step, asked_as, asked_for, counted_list, demand_of, demanded_as, done_step, facts_with, first_in, judged_as, manage_demand, register_of, ring_demand}
-use Rattle.sbp_initiator.specs.Moves.{outgoing}
+use Rattle.initiator_laws.specs.Moves.{outgoing}
 use Rattle.sbp_initiator.proofs.Asked.{none_asked}
 use Rattle.initiator_laws.specs.Begins.{Begins, after_by, begun_as}
 use Rattle.initiator_laws.specs.Ends.{is_managed}

@@ -1,3 +1,9 @@
+pub mod Moved
+pub mod Acted
+pub mod Delivered
+pub mod Called
+pub mod Slotted
+pub mod Refused
 pub mod Judging
 pub mod Effects
 pub mod Requests

@@ -4,8 +4,8 @@ use Rattle.bus_memory.specs.Memory.{empty_place, new_memory}
 use Rattle.sbp_journal.specs.Outgoings.{empty_outbox}
 use Rattle.sbp_initiator.specs.Effects.{Turn}
 use Rattle.sbp_initiator.specs.Initiators.{new_state}
-use Rattle.sbp_initiator.specs.Laws.{Call, acts, receives, lets_expire, AreCalls, IsCall, after, done}
-use Rattle.sbp_initiator.specs.Laws as laws
+use Rattle.initiator_laws.specs.Laws.{Call, acts, receives, lets_expire, AreCalls, IsCall, after, done}
+use Rattle.initiator_laws.specs.Laws as laws
 use Rattle.initiator_laws.specs.Numbers.{NumberLaw}
 use Rattle.initiator_laws.specs.Served.{held_by, held_after}
 use Rattle.initiator_laws.specs.Tells.{TellsLaw}

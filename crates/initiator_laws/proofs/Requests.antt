@@ -38,7 +38,7 @@ use Rattle.sbp_initiator.specs.declared.state.Counts.{Counts}
 use Rattle.sbp_initiator.specs.declared.state.InitiatorState.{InitiatorState}
 use Rattle.sbp_initiator.specs.Refusals.{ends_list}
 use Rattle.sbp_initiator.specs.Lists.{ListState, stepped, take_lists, write_lists}
-use Rattle.sbp_initiator.specs.Moves.{response}
+use Rattle.initiator_laws.specs.Moves.{response}
 use Rattle.sbp_initiator.specs.States.{is_orb_of, status_in}
 use Rattle.sbp_initiator.specs.Effects.{Turn, managed_step, told, with_dead}
 use Rattle.sbp_initiator.specs.Receiving.{address_error, addressed, answer_of, block_at, block_by, block_step, called, fifo_of, got_step, ignored_step, is_dead_kind, is_foreign, managed_for, present_for, quadlet_at, read_as as served_as, request_step, respond_step, serve_step, taken_as, taken_by as takes_by, type_error, written_as}

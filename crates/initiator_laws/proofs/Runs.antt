@@ -18,9 +18,9 @@ use Rattle.sbp_initiator.specs.declared.state.Counts.{Counts}
 use Rattle.sbp_initiator.specs.declared.state.InitiatorState.{InitiatorState}
 use Rattle.sbp_initiator.specs.States.{ending_of}
 use Rattle.sbp_initiator.specs.Effects.{Turn, ended_for, ended_step}
-use Rattle.sbp_initiator.specs.Laws.{Call, receives, lets_expire, done}
-use Rattle.sbp_initiator.specs.Laws as laws
-use Rattle.sbp_initiator.specs.Moves.{response}
+use Rattle.initiator_laws.specs.Laws.{Call, receives, lets_expire, done}
+use Rattle.initiator_laws.specs.Laws as laws
+use Rattle.initiator_laws.specs.Moves.{response}
 use Rattle.sbp_initiator.specs.Receiving.{called, expire_step, expired_as, receive_step, received}
 use Rattle.sbp_initiator.specs.Judged.{IsSame}
 use Rattle.sbp_initiator.proofs.Layers.{judged_same}

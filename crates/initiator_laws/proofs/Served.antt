@@ -23,8 +23,8 @@ use Rattle.orb_list.proofs.Imaged.{served_law}
 use Rattle.orb_list.proofs.Steps.{held_law}
 use Rattle.bus_memory.specs.Windows.{slot_of}
 use Rattle.sbp_initiator.specs.Initiators.{own_rom}
-use Rattle.sbp_initiator.specs.Laws.{after}
-use Rattle.sbp_initiator.proofs.Slotted.{slot_law}
+use Rattle.initiator_laws.specs.Laws.{after}
+use Rattle.initiator_laws.proofs.Slotted.{slot_law}
 use Rattle.initiator_laws.specs.Served.{ReadsLaw}
 use Rattle.initiator_laws.proofs.Over.{sound}
 

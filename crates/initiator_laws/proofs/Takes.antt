@@ -9,9 +9,9 @@ use Rattle.orb_list.specs.Table.{SlotTable, status_step}
 use Rattle.orb_list.specs.Runs.{run}
 use Rattle.orb_list.proofs.Named.{named_law}
 use Rattle.sbp_initiator.specs.Initiators.{own_rom}
-use Rattle.sbp_initiator.specs.Laws.{IsSlotRun, after}
+use Rattle.initiator_laws.specs.Laws.{IsSlotRun, after}
 use Rattle.sbp_initiator.specs.Lists.{ListState, take_lists, ticket_in}
-use Rattle.sbp_initiator.proofs.Slotted.{slot_law}
+use Rattle.initiator_laws.proofs.Slotted.{slot_law}
 use Rattle.initiator_laws.specs.Taking.{waiting_at}
 use Rattle.initiator_laws.specs.Tells.{TakesLaw}
 use Rattle.initiator_laws.proofs.Requests.{take_found}

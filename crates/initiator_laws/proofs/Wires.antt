@@ -8,8 +8,8 @@ use Rattle.label_table.specs.Layer.{Layer, answering_step, asking_step, expiring
 use Rattle.label_table.specs.History as wire
 use Rattle.sbp_journal.specs.declared.outbox.Outgoing.{Outgoing}
 use Rattle.sbp_initiator.specs.declared.purpose.Purpose.{Purpose}
-use Rattle.sbp_initiator.specs.Moves.{outgoing, response}
-use Rattle.sbp_initiator.specs.Laws.{packets_of, with_asked}
+use Rattle.initiator_laws.specs.Moves.{outgoing, response}
+use Rattle.initiator_laws.specs.Laws.{packets_of, with_asked}
 use Rattle.initiator_laws.specs.Numbers.{is_numbered, value_of, numbered_by, carried, RisesTo}
 use Rattle.initiator_laws.proofs.Purposes.{AllAsk}
 

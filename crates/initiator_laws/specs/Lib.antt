@@ -1,3 +1,5 @@
+pub mod Moves
+pub mod Laws
 pub mod Judging
 pub mod Ends
 pub mod Drops

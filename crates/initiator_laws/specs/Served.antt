@@ -17,7 +17,7 @@ use Rattle.sbp_initiator.specs.declared.state.InitiatorState.{InitiatorState}
 use Rattle.sbp_initiator.specs.Acting.{act_step, orb_by}
 use Rattle.sbp_initiator.specs.Effects.{Turn}
 use Rattle.sbp_initiator.specs.Initiators.{own_rom}
-use Rattle.sbp_initiator.specs.Laws.{Call, acts, AreCalls, IsSlotRun, after}
+use Rattle.initiator_laws.specs.Laws.{Call, acts, AreCalls, IsSlotRun, after}
 use Rattle.sbp_initiator.specs.Refusals.{operation_of}
 use Rattle.sbp_initiator.specs.States.{place_of}
 use Rattle.initiator_laws.specs.Ends.{is_managed}

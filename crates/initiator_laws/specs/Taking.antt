@@ -23,7 +23,7 @@ use Rattle.sbp_initiator.specs.Refusals.{ends_list}
 use Rattle.sbp_initiator.specs.Lists.{ListState, take_lists}
 use Rattle.sbp_initiator.specs.States.{ending_of, status_in}
 use Rattle.sbp_initiator.specs.Receiving.{answer_of, present_for}
-use Rattle.sbp_initiator.specs.Laws.{Call, acts, receives, lets_expire, sees}
+use Rattle.initiator_laws.specs.Laws.{Call, acts, receives, lets_expire, sees}
 use Rattle.initiator_laws.specs.Judging.{facts_at, fifo_for}
 use Rattle.initiator_laws.specs.Drops.{ends_the_list}
 

@@ -19,7 +19,7 @@ use Rattle.sbp_initiator.specs.declared.purpose.Running.{Running}
 use Rattle.sbp_initiator.specs.Effects.{Turn}
 use Rattle.sbp_initiator.specs.Acting.{act_step}
 use Rattle.sbp_initiator.specs.Initiators.{own_rom}
-use Rattle.sbp_initiator.specs.Laws.{Call, acts, receives, lets_expire, sees, AreCalls, IsCall, IsSlotRun, after, done}
+use Rattle.initiator_laws.specs.Laws.{Call, acts, receives, lets_expire, sees, AreCalls, IsCall, IsSlotRun, after, done}
 use Rattle.initiator_laws.specs.Begins.{Begins}
 use Rattle.initiator_laws.specs.Drops.{IfGone, drop_if, present_list}
 use Rattle.initiator_laws.specs.Ends.{own, OpEnd, OpMove, IsStateWord, drops, notes_of}

@@ -18,10 +18,10 @@ use Rattle.orb_list.proofs.Steps.{held_law}
 use Rattle.sbp_journal.specs.Outgoings.{empty_outbox}
 use Rattle.sbp_initiator.specs.Lists.{ListState, manage_lists}
 use Rattle.sbp_initiator.specs.Initiators.{new_state, own_rom}
-use Rattle.sbp_initiator.specs.Moves.{Stage, stage, staged, Change, by_call, by_orb, by_plan, changed, IsFit, Move, Moves, tells, sits, resets, relists, marks_as, works_at, reads_on, holds, learns, turns_to, counts_up, judges, answers, asks, fails, sends, expires, sees, stay, go_on}
-use Rattle.sbp_initiator.specs.Laws.{after, IsSlotRun, SlotLaw}
+use Rattle.initiator_laws.specs.Moves.{Stage, stage, staged, Change, by_call, by_orb, by_plan, changed, IsFit, Move, Moves, tells, sits, resets, relists, marks_as, works_at, reads_on, holds, learns, turns_to, counts_up, judges, answers, asks, fails, sends, expires, sees, stay, go_on}
+use Rattle.initiator_laws.specs.Laws.{after, IsSlotRun, SlotLaw}
 use Rattle.sbp_initiator.proofs.Managed.{quad_is_set, quad_behind, orb_end}
-use Rattle.sbp_initiator.proofs.Runs.{run_moves}
+use Rattle.initiator_laws.proofs.Called.{run_moves}
 
 -- a management ORB is written quadlet by quadlet
 quads : (place : ℕ) (bytes : List ℕ) → ℕ → List slot_runs.Call → List slot_runs.Call

@@ -23,7 +23,7 @@ use Rattle.sbp_initiator.specs.Acting.{IsAction, act_step, asked_for, demand_of,
 use Rattle.sbp_initiator.specs.Receiving.{expire_step, receive_step}
 use Rattle.sbp_initiator.specs.Seeing.{see_step}
 use Rattle.sbp_initiator.specs.Initiators.{first_seat, new_state, own_rom}
-use Rattle.sbp_initiator.specs.Moves.{outgoing, response}
+use Rattle.initiator_laws.specs.Moves.{outgoing, response}
 
 -- the calls that may change an initiator
 pub data Call : Type 0 where
