@@ -25,9 +25,9 @@ use Rattle.sbp_initiator.specs.Receiving.{called, expire_step, expired_as, recei
 use Rattle.sbp_initiator.specs.Judged.{IsSame}
 use Rattle.sbp_initiator.proofs.Layers.{judged_same}
 use Rattle.initiator_laws.specs.Drops.{IfGone, drop_if, ends_the_list}
-use Rattle.initiator_laws.specs.Ends.{own, OpEnd, notes_of, IsStateWord, OpMove}
+use Rattle.initiator_laws.specs.Ends.{own, OpEnd, notes_of, OpMove, read_ends}
 use Rattle.initiator_laws.specs.Numbers.{is_numbered, carried, RisesTo}
-use Rattle.initiator_laws.specs.Taking.{block_notes, call_drops, call_note, finding_drops, finding_note}
+use Rattle.initiator_laws.specs.Taking.{block_notes, call_drops, call_note, call_read, expired_read, finding_drops, finding_note, finding_read, purpose_read}
 use Rattle.initiator_laws.specs.Tells.{is_heard, Tells}
 use Rattle.initiator_laws.proofs.Effects.{Asking, Fits, Holds, Wired, ended_does}
 use Rattle.initiator_laws.proofs.Purposes.{IfFor, all_ask, closes_asked, expires_asked}
@@ -135,13 +135,11 @@ expired_drops (purposes.Pointer list) present = refl
 expired_drops purposes.Doorbell present = refl
 
 -- what is told, and what holds afterwards
-pub record Heard (node : ℕ) (held : ℕ → List ℕ) (first : Option Note) (drop : Option ℕ) (old new : Turn) : Type 0 where
+pub record Heard (node : ℕ) (held : ℕ → List ℕ) (first : Option Note) (drop : Option ℕ) (read : Option OpWord) (old new : Turn) : Type 0 where
   pub op : Option OpEnd
-  pub state : Option OpWord
   pub stuck : Bool
-  pub sides : new.0.sides ≡ old.0.sides ++ own (block_notes first ++ notes_of old.1.number drop op state stuck)
+  pub sides : new.0.sides ≡ old.0.sides ++ own (block_notes first ++ notes_of old.1.number drop op read stuck)
   pub move : OpMove old.1.operation op new.1.operation
-  pub word : IsStateWord state
   pub gone : IfGone drop new.1.lists.slots.present
   pub sound : Sound node held new
 
@@ -158,14 +156,12 @@ drop_for_purpose None ending s = None
 drop_for_purpose (Some purpose) ending s = drop_if (ends_the_list purpose ending s.lists.slots.present) s.lists.slots.present
 
 -- the layer of a state is another, by a call that closed a transaction
-ended_heard : (node : ℕ) (held : ℕ → List ℕ) (old : Turn) (u : InitiatorState) (purpose : Option Purpose) (ending : Ending) → Sound node held old → u.operation ≡ old.1.operation → u.number ≡ old.1.number → u.counts.acts ≡ old.1.counts.acts → u.counts.running ≡ old.1.counts.running → Holds held u.lists u.marks.pointing → Wire (FitsNow u.operation u.counts.acts) node u.counts.running u.layer old.0.packets → IfFor (FitsNow u.operation u.counts.acts) purpose → Heard node held None (drop_for_purpose purpose ending u) old (ended_for purpose ending old.0 u)
+ended_heard : (node : ℕ) (held : ℕ → List ℕ) (old : Turn) (u : InitiatorState) (purpose : Option Purpose) (ending : Ending) → Sound node held old → u.operation ≡ old.1.operation → u.number ≡ old.1.number → u.counts.acts ≡ old.1.counts.acts → u.counts.running ≡ old.1.counts.running → Holds held u.lists u.marks.pointing → Wire (FitsNow u.operation u.counts.acts) node u.counts.running u.layer old.0.packets → IfFor (FitsNow u.operation u.counts.acts) purpose → Heard node held None (drop_for_purpose purpose ending u) (purpose_read purpose ending) old (ended_for purpose ending old.0 u)
 ended_heard node held old u None ending k op number acts running marks w f = record {
   op = None;
-  state = None;
   stuck = false;
   sides = sym (append-nil old.0.sides);
   move = op;
-  word = tt;
   gone = tt;
   sound = kept_sound node held u None (old.0, u) old k (sym op) (sym acts) refl refl refl marks w;
 }
@@ -174,11 +170,9 @@ ended_heard node held old u (Some purpose) ending k op number acts running marks
     let t = ended_step purpose ending old.0 u in
     record {
       op = d.does.op;
-      state = d.does.state;
       stuck = d.does.stuck;
-      sides = subst (λ (n : ℕ). t.0.sides ≡ old.0.sides ++ own (notes_of n (drop_if (ends_the_list purpose ending u.lists.slots.present) u.lists.slots.present) d.does.op d.does.state d.does.stuck)) number d.does.sides;
+      sides = subst (λ (n : ℕ). t.0.sides ≡ old.0.sides ++ own (notes_of n (drop_if (ends_the_list purpose ending u.lists.slots.present) u.lists.slots.present) d.does.op (read_ends purpose ending) d.does.stuck)) number d.does.sides;
       move = subst (λ (r : Option Running). OpMove r d.does.op t.1.operation) op d.does.move;
-      word = d.does.word;
       gone = d.does.gone;
       sound = kept_sound node held u d.does.op t old k (sym op) (sym acts) d.does.move (ap (λ (c : Counts). c.acts) d.does.counts) (ap (λ (c : Counts). c.running) d.does.counts) (d.does.marks held marks)
           (wired_on node (FitsNow u.operation u.counts.acts) purpose old.0 u t d.asking d.does.wire d.same d.plain f w);
@@ -195,14 +189,12 @@ expired_for node P running layer packets peer label purpose w e =
     expires_asked P node w.calls peer label purpose w.asks (ap (λ (l : Layer Purpose). (expiring_step l peer label).0) w.layer_is ∙ e)
 
 -- a request is answered
-request_heard : (node : ℕ) (held : ℕ → List ℕ) (p : Packet) (bytes : List ℕ) (old : Turn) (u : InitiatorState) (first : Option Note) (drop : Option ℕ) (t : Turn) → Sound node held old → u.operation ≡ old.1.operation → u.number ≡ old.1.number → u.counts ≡ old.1.counts → Holds held u.lists u.marks.pointing → Wire (FitsNow u.operation u.counts.acts) node u.counts.running u.layer old.0.packets → Answers p bytes old.0 u first drop t → Heard node held first drop old t
+request_heard : (node : ℕ) (held : ℕ → List ℕ) (p : Packet) (bytes : List ℕ) (old : Turn) (u : InitiatorState) (first : Option Note) (drop : Option ℕ) (t : Turn) → Sound node held old → u.operation ≡ old.1.operation → u.number ≡ old.1.number → u.counts ≡ old.1.counts → Holds held u.lists u.marks.pointing → Wire (FitsNow u.operation u.counts.acts) node u.counts.running u.layer old.0.packets → Answers p bytes old.0 u first drop t → Heard node held first drop None old t
 request_heard node held p bytes old u first drop t k op number counts marks w a = record {
   op = a.op;
-  state = a.state;
   stuck = a.stuck;
-  sides = subst (λ (n : ℕ). t.0.sides ≡ old.0.sides ++ own (block_notes first ++ notes_of n drop a.op a.state a.stuck)) number a.sides;
+  sides = subst (λ (n : ℕ). t.0.sides ≡ old.0.sides ++ own (block_notes first ++ notes_of n drop a.op None a.stuck)) number a.sides;
   move = subst (λ (r : Option Running). OpMove r a.op t.1.operation) op a.move;
-  word = a.word;
   gone = a.gone;
   sound = kept_sound node held u a.op t old k (sym op) (ap (λ (c : Counts). c.acts) (sym counts)) a.move a.acts a.running (a.marks held marks)
       (subst (λ (ps : List Outgoing). Wire (FitsNow u.operation u.counts.acts) node u.counts.running t.1.layer ps) (sym a.packets)
@@ -212,19 +204,17 @@ request_heard node held p bytes old u first drop t k op number counts marks w a 
 
 module _ (node : ℕ) (held : ℕ → List ℕ) (o : OutboxState) (s : InitiatorState) (k : Sound node held (o, s)) where
   -- nothing is told
-  nothing_heard : (u : InitiatorState) → u.operation ≡ s.operation → u.counts.acts ≡ s.counts.acts → u.counts.running ≡ s.counts.running → Holds held u.lists u.marks.pointing → Wire (FitsNow s.operation s.counts.acts) node s.counts.running u.layer o.packets → Heard node held None None (o, s) (o, u)
+  nothing_heard : (u : InitiatorState) → u.operation ≡ s.operation → u.counts.acts ≡ s.counts.acts → u.counts.running ≡ s.counts.running → Holds held u.lists u.marks.pointing → Wire (FitsNow s.operation s.counts.acts) node s.counts.running u.layer o.packets → Heard node held None None None (o, s) (o, u)
   nothing_heard u op acts running marks w = record {
     op = None;
-    state = None;
     stuck = false;
     sides = sym (append-nil o.sides);
     move = op;
-    word = tt;
     gone = tt;
     sound = kept_sound node held s None (o, u) (o, s) k refl refl op acts running marks w;
   }
 
-  received_heard : (finding : Finding Purpose) (layer : Layer Purpose) (bytes : List ℕ) → IsSame finding s.layer layer → Wire (FitsNow s.operation s.counts.acts) node s.counts.running layer o.packets → ((p : Packet) (label : LabelParts) (purpose : Option Purpose) → finding ≡ of_response p label purpose → IfFor (FitsNow s.operation s.counts.acts) purpose) → Heard node held (finding_note finding s) (drop_if (finding_drops finding s) s.lists.slots.present) (o, s) (received (finding, layer) bytes o s).1
+  received_heard : (finding : Finding Purpose) (layer : Layer Purpose) (bytes : List ℕ) → IsSame finding s.layer layer → Wire (FitsNow s.operation s.counts.acts) node s.counts.running layer o.packets → ((p : Packet) (label : LabelParts) (purpose : Option Purpose) → finding ≡ of_response p label purpose → IfFor (FitsNow s.operation s.counts.acts) purpose) → Heard node held (finding_note finding s) (drop_if (finding_drops finding s) s.lists.slots.present) (finding_read finding) (o, s) (received (finding, layer) bytes o s).1
   received_heard of_generation layer bytes same w f = nothing_heard (record s { layer = layer }) refl refl refl k.marks w
   received_heard of_grammar layer bytes same w f = nothing_heard (record s { layer = layer }) refl refl refl k.marks w
   received_heard of_label layer bytes same w f = nothing_heard (record s { layer = layer }) refl refl refl k.marks w
@@ -235,10 +225,10 @@ module _ (node : ℕ) (held : ℕ → List ℕ) (o : OutboxState) (s : Initiator
   received_heard (of_again p rcode) layer bytes same w f =
       request_heard node held p bytes (o, s) (record s { layer = layer }) None None _ k refl refl refl k.marks w (ignored_again p bytes o (record s { layer = layer }) rcode)
   received_heard (of_request p) layer bytes same w f =
-      subst (λ (l : Layer Purpose). Heard node held (finding_note (of_request p) s) (drop_if (finding_drops (of_request p) s) s.lists.slots.present) (o, s) (received (of_request p, l) bytes o s).1) (sym same)
+      subst (λ (l : Layer Purpose). Heard node held (finding_note (of_request p) s) (drop_if (finding_drops (of_request p) s) s.lists.slots.present) None (o, s) (received (of_request p, l) bytes o s).1) (sym same)
       (request_heard node held p bytes (o, s) s _ _ _ k refl refl refl k.marks k.wires (request_answers bytes o s k.orb p))
 
-  receive_heard : (generation : ℕ) (bytes : List ℕ) → Heard node held (call_note (receives generation bytes) s) (drop_if (call_drops (receives generation bytes) s) s.lists.slots.present) (o, s) (done (receives generation bytes) (o, s))
+  receive_heard : (generation : ℕ) (bytes : List ℕ) → Heard node held (call_note (receives generation bytes) s) (drop_if (call_drops (receives generation bytes) s) s.lists.slots.present) (call_read (receives generation bytes) s) (o, s) (done (receives generation bytes) (o, s))
   unfolding receive_step
   receive_heard generation bytes =
       received_heard (judging_step s.layer generation bytes).0 (judging_step s.layer generation bytes).1 bytes (judged_same (judging_step s.layer generation bytes).0 s.layer (judging_step s.layer generation bytes).1 generation bytes refl) (judge_wire generation bytes k.wires)
@@ -246,23 +236,23 @@ module _ (node : ℕ) (held : ℕ → List ℕ) (o : OutboxState) (s : Initiator
 
   -- ---- a time-out
 
-  expired_heard : (r : Result (Option Purpose) Stale) (layer : Layer Purpose) → Wire (FitsNow s.operation s.counts.acts) node s.counts.running layer o.packets → ((purpose : Option Purpose) → r ≡ Ok purpose → IfFor (FitsNow s.operation s.counts.acts) purpose) → Heard node held None None (o, s) (expired_as (r, layer) o s).1
+  expired_heard : (r : Result (Option Purpose) Stale) (layer : Layer Purpose) → Wire (FitsNow s.operation s.counts.acts) node s.counts.running layer o.packets → ((purpose : Option Purpose) → r ≡ Ok purpose → IfFor (FitsNow s.operation s.counts.acts) purpose) → Heard node held None None (expired_read r) (o, s) (expired_as (r, layer) o s).1
   expired_heard (Err stale) layer w f = nothing_heard (record s { layer = layer }) refl refl refl k.marks w
   expired_heard (Ok None) layer w f =
       ended_heard node held (o, s) (called (record s { layer = layer })) None endings.Expired k refl refl refl refl k.marks w tt
   expired_heard (Ok (Some purpose)) layer w f =
-      subst (λ (c : Bool). Heard node held None (drop_if c s.lists.slots.present) (o, s) (expired_as (Ok (Some purpose), layer) o s).1) (expired_drops purpose s.lists.slots.present)
+      subst (λ (c : Bool). Heard node held None (drop_if c s.lists.slots.present) (read_ends purpose endings.Expired) (o, s) (expired_as (Ok (Some purpose), layer) o s).1) (expired_drops purpose s.lists.slots.present)
       (ended_heard node held (o, s) (called (record s { layer = layer })) (Some purpose) endings.Expired k refl refl refl refl k.marks w (f (Some purpose) refl))
 
-  expire_heard : (label : LabelParts) → Heard node held None None (o, s) (done (lets_expire label) (o, s))
+  expire_heard : (label : LabelParts) → Heard node held None None (call_read (lets_expire label) s) (o, s) (done (lets_expire label) (o, s))
   unfolding expire_step
   expire_heard label =
       expired_heard (expiring_step s.layer s.target label).0 (expiring_step s.layer s.target label).1 (expire_wire s.target label k.wires)
       (λ purpose e. expired_for node (FitsNow s.operation s.counts.acts) s.counts.running s.layer o.packets s.target label purpose k.wires e)
 
 -- what is told, as the law says it
-heard_tells : (node : ℕ) (held : ℕ → List ℕ) (call : Call) (old new : Turn) → Heard node held (call_note call old.1) (drop_if (call_drops call old.1) old.1.lists.slots.present) old new → Tells call old new
-heard_tells node held call old new h = record { op = h.op; state = h.state; stuck = h.stuck; sides = h.sides; move = h.move; word = h.word; gone = h.gone }
+heard_tells : (node : ℕ) (held : ℕ → List ℕ) (call : Call) (old new : Turn) → Heard node held (call_note call old.1) (drop_if (call_drops call old.1) old.1.lists.slots.present) (call_read call old.1) old new → Tells call old new
+heard_tells node held call old new h = record { op = h.op; stuck = h.stuck; sides = h.sides; move = h.move; gone = h.gone }
 
 pub call_tells : (node : ℕ) (held : ℕ → List ℕ) (call : Call) (old : Turn) → Sound node held old → is_heard call ≡ true → Tells call old (done call old)
 call_tells node held (receives generation bytes) old k e = heard_tells node held (receives generation bytes) old _ (receive_heard node held old.0 old.1 k generation bytes)
