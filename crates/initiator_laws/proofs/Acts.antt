@@ -28,7 +28,8 @@ use Rattle.initiator_laws.specs.Moves.{outgoing}
 use Rattle.sbp_initiator.proofs.Asked.{none_asked}
 use Rattle.initiator_laws.specs.Begins.{Begins, after_by, begun_as}
 use Rattle.initiator_laws.specs.Ends.{is_managed}
-use Rattle.initiator_laws.specs.Served.{orb_in, with_orb, held_if}
+use Rattle.initiator_laws.specs.Served.{with_orb, held_if}
+use Rattle.initiator_laws.specs.Slots.{orb_in}
 use Rattle.initiator_laws.specs.Numbers.{is_numbered, value_of, carried, RisesTo}
 use Rattle.initiator_laws.proofs.Actions.{Allowed, Done, allowed, done_does, used}
 use Rattle.initiator_laws.proofs.Effects.{Fits, Holds, IsFor, IsForOrb}

@@ -157,14 +157,14 @@ write_keeps pointing lists offset bytes x h =
     record { marks = h.marks; orbs = λ m. k.orbs m ∙ h.orbs m; places = k.places ∙ h.places }
 
 -- a write of a block, and of a quadlet
-abbrev block_write_of : ℕ → List ℕ → Access
+abbrev pub block_write_of : ℕ → List ℕ → Access
 block_write_of offset payload = record { is_lock = false; is_write = true; is_block = true; offset = offset; count = length payload; payload = payload }
 
-abbrev quadlet_write_of : ℕ → Access
+abbrev pub quadlet_write_of : ℕ → Access
 quadlet_write_of offset = record { is_lock = false; is_write = true; is_block = false; offset = offset; count = 4; payload = [] }
 
 -- the rows behind the first one
-abbrev behind_row : RequestFacts → Result StatusBlock OrbFault → Brought
+abbrev pub behind_row : RequestFacts → Result StatusBlock OrbFault → Brought
 behind_row facts read =
     cond (facts.of_other_login || facts.to_closed_fifo) nothing (cond (facts.is_status && facts.is_unsolicited) unsolicited (cond facts.is_status (read_as read) nothing))
 

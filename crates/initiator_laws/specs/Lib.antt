@@ -8,3 +8,5 @@ pub mod Numbers
 pub mod Begins
 pub mod Tells
 pub mod Served
+pub mod Slots
+pub mod Marks

@@ -19,10 +19,11 @@ use Rattle.sbp_initiator.specs.declared.purpose.Running.{Running}
 use Rattle.sbp_initiator.specs.Effects.{Turn}
 use Rattle.sbp_initiator.specs.Acting.{act_step}
 use Rattle.sbp_initiator.specs.Initiators.{own_rom}
-use Rattle.initiator_laws.specs.Laws.{Call, acts, receives, lets_expire, sees, AreCalls, IsCall, IsSlotRun, after, done}
+use Rattle.initiator_laws.specs.Laws.{Call, acts, receives, lets_expire, sees, AreCalls, IsCall, after, done}
 use Rattle.initiator_laws.specs.Begins.{Begins}
 use Rattle.initiator_laws.specs.Drops.{IfGone, drop_if, present_list}
 use Rattle.initiator_laws.specs.Ends.{own, OpEnd, OpMove, drops, notes_of}
+use Rattle.initiator_laws.specs.Slots.{slot_calls_after}
 use Rattle.initiator_laws.specs.Taking.{block_notes, call_drops, call_note, call_read, waiting_at}
 
 -- a delivery or a time-out
@@ -78,10 +79,8 @@ pub record TellsLaw : Type 0 where
 
 -- ---- whose status is taken
 
--- After a list of calls the ORB whose status is taken is the one that waits and whose address the block names.
-pub record TakesAfter (number : ℕ) (lists : Turn) : Type 0 where
-  pub slots : IsSlotRun (own_rom number) lists.1.lists
-  pub named : (block : StatusBlock) (t : TicketParts) → waiting_at lists.1.lists.slots.slots (slot_of block.orb) ≡ Some t ↔ ((waits (run slots.calls (own_rom number)).notes t ≡ true) × (block.orb ≡ start (windows.Orb t.slot)))
-
+-- After a list of calls the ORB whose status is taken is the one that waits by what these calls did to the slots, and whose address the
+-- block names.
 abbrev pub TakesLaw : Type 0
-TakesLaw = (number : ℕ) (ready : Bool) (calls : List Call) → AreCalls calls → TakesAfter number (after number ready calls)
+TakesLaw =
+    (number : ℕ) (ready : Bool) (calls : List Call) → AreCalls calls → (block : StatusBlock) (t : TicketParts) → waiting_at (after number ready calls).1.lists.slots.slots (slot_of block.orb) ≡ Some t ↔ ((waits (run (slot_calls_after number ready calls) (own_rom number)).notes t ≡ true) × (block.orb ≡ start (windows.Orb t.slot)))

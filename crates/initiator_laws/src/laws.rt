@@ -1,7 +1,8 @@
 ghost use Rattle.initiator_laws.specs.Judging.{JudgingLaw};
-ghost use Rattle.initiator_laws.specs.Laws.{CountLaw, RefusalLaw, SessionLaw, SlotLaw, WireLaw};
+ghost use Rattle.initiator_laws.specs.Laws.{CountLaw, RefusalLaw, SessionLaw, WireLaw};
 ghost use Rattle.initiator_laws.specs.Numbers.{NumberLaw};
 ghost use Rattle.initiator_laws.specs.Served.{ReadsLaw};
+ghost use Rattle.initiator_laws.specs.Slots.{SlotLaw};
 ghost use Rattle.initiator_laws.specs.Tells.{TakesLaw, TellsLaw};
 
 /// The law of refusals: a refused action changes nothing, and has the number of the first row that holds,
@@ -11,8 +12,9 @@ pub fn first_row_refuses()
     ensures { RefusalLaw }
 {}
 
-/// The law that over every list of calls the slots and the memory are what a list of calls of the slots, of
-/// writes of the target and of quadlets that are set makes of new ones.
+/// The law that over every list of calls the slots and the memory are what the calls of the slots make of new
+/// ones that these calls, one by one, do: each ORB prepared, linked, made a dummy, pinned, each status taken, each
+/// write of the target tried, each list dropped.
 #[tactic(auto, using(crate::proofs::Slotted::slot_law))]
 pub fn slots_take_their_calls()
     ensures { SlotLaw }
