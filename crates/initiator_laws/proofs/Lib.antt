@@ -16,3 +16,7 @@ pub mod Acts
 pub mod Over
 pub mod Takes
 pub mod Served
+pub mod Leaves
+pub mod Brings
+pub mod Did
+pub mod Known

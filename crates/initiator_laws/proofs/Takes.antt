@@ -38,8 +38,7 @@ pub takes_law : TakesLaw
 takes_law number ready calls h block t =
     let w = slot_law number ready calls h in
     let done = slot_calls_after number ready calls in
-    let lists = (after number ready calls).1.lists in
-    (
+    let lists = (after number ready calls).1.lists in (
       λ e. named_law.named done (own_rom number) block t
           (step_is (own_rom number) done lists w block ∙ ok_of (status_step lists.slots lists.memory block).0 t (sym (waiting_is lists block) ∙ e)),
       λ p. waiting_is lists block

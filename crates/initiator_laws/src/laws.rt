@@ -1,5 +1,6 @@
 ghost use Rattle.initiator_laws.specs.Judging.{JudgingLaw};
 ghost use Rattle.initiator_laws.specs.Laws.{CountLaw, RefusalLaw, SessionLaw, WireLaw};
+ghost use Rattle.initiator_laws.specs.Marks.{MarkLaw};
 ghost use Rattle.initiator_laws.specs.Numbers.{NumberLaw};
 ghost use Rattle.initiator_laws.specs.Served.{ReadsLaw};
 ghost use Rattle.initiator_laws.specs.Slots.{SlotLaw};
@@ -73,4 +74,12 @@ pub fn waiting_orbs_are_taken()
 /// written since, a place of management that of the latest operation that used it, and the ROM is this node's.
 pub fn slots_and_rom_are_read()
     ensures { ReadsLaw }
+{}
+
+/// The law that over every list of calls a list is marked dead exactly where a status with the dead bit, or an
+/// AGENT_STATE of 3 that counts for it, came since it began; and that each read of AGENT_STATE counts for the
+/// list that was present, and whose ORB_POINTER had been answered, as it was asked for.
+#[tactic(auto, using(crate::proofs::Known::mark_law))]
+pub fn lists_are_known()
+    ensures { MarkLaw }
 {}
