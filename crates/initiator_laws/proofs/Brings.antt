@@ -1,5 +1,5 @@
 -- What a delivery and a time-out leave of the slots, of what is known of the present list, and of the reads of AGENT_STATE.
-use Rattle.std.proofs.Common.{◌≡◌, refl, sym, ap, subst, ◌∙◌, ℕ, nat_eq, ◌&&◌, is_some, Bool, true, false, cond, List, [], ◌∷◌, ◌++◌, append-nil, Option, Some, None, Result, Ok, Err}
+use Rattle.std.proofs.Common.{◌≡◌, refl, sym, ap, subst, ◌∙◌, ℕ, nat_eq, ◌&&◌, is_some, Bool, true, false, cond, List, [], ◌∷◌, ◌++◌, append-nil, replicate, Option, Some, None, Result, Ok, Err}
 use Rattle.byteorder.specs.Endian.{big_bytes}
 use Rattle.async_packet.specs.Labels.{LabelParts}
 use Rattle.async_packet.specs.declared.packet.Header.{Header}
@@ -182,10 +182,10 @@ module _ (bytes : List ℕ) (o : OutboxState) (s : InitiatorState) where
       source_left p bytes o s (is_foreign p s) (at_source (fifo_of s offset) (block_write_of offset payload) header.source) (block_writes (fifo_of s offset) offset payload) (block_at_left (fifo_of s offset) header offset payload)
   request_left (read_quadlet header offset) =
       let p = read_quadlet header offset in
-      source_left p bytes o s (is_foreign p s) nothing [] (read_left p bytes o s (read_step s.lists.memory offset _))
+      source_left p bytes o s (is_foreign p s) nothing [] (read_left p bytes o s (read_step s.lists.memory offset (replicate 4 0)))
   request_left (read_block header offset asked) =
       let p = read_block header offset asked in
-      source_left p bytes o s (is_foreign p s) nothing [] (read_left p bytes o s (read_step s.lists.memory offset _))
+      source_left p bytes o s (is_foreign p s) nothing [] (read_left p bytes o s (read_step s.lists.memory offset (replicate asked 0)))
   request_left (lock header offset extended payload) =
       let p = lock header offset extended payload in source_left p bytes o s (is_foreign p s) nothing [] (refused p)
   request_left (write_response header rcode) =
