@@ -44,7 +44,7 @@ use Rattle.initiator_laws.proofs.Leaves.{Calls, Leaves, kept, layered, left_all,
 use Rattle.initiator_laws.proofs.Requests.{behind_row, block_write_of, quadlet_write_of, take_found}
 
 -- what a request leaves that brings this, with the writes that are tried
-abbrev Left : Brought → Calls → InitiatorState → Turn → Type 0
+abbrev pub Left : Brought → Calls → InitiatorState → Turn → Type 0
 Left b writes s t =
     Leaves (drop_calls (block_drops b s) ++ (block_calls b ++ writes)) (gone_marks (block_drops b s) s.lists.slots.present (dead_marks (takes_dead b s) s.marks)) s.states s t.1
 
@@ -173,7 +173,7 @@ module _ (bytes : List ℕ) (o : OutboxState) (s : InitiatorState) where
   refused : (p : Packet) → Left nothing [] s (respond_step p bytes 6 [] (o, called s))
   refused p = quiet 6 [] p bytes o s (called s) refl refl refl refl
 
-  request_left : (p : Packet) → Left (brought p s) (write_calls p s) s (request_step p bytes o s).1
+  pub request_left : (p : Packet) → Left (brought p s) (write_calls p s) s (request_step p bytes o s).1
   request_left (write_quadlet header offset value) =
       let p = write_quadlet header offset value in
       source_left p bytes o s (is_foreign p s) (at_source (fifo_of s offset) (quadlet_write_of offset) header.source) (quadlet_writes (fifo_of s offset) offset (big_bytes 4 value)) (quadlet_at_left (fifo_of s offset) header offset value)

@@ -321,6 +321,29 @@ done_did actions.UnitReset o s a whole =
 done_did actions.TargetReset o s a whole =
     record { lists = managed_parts s.lists s.counts.managed (orb_by actions.TargetReset s) whole; answered = refl; dead = refl; states = refl }
 
+-- what an action that is done makes of the reads
+pub done_reads : (action : Action) (o : OutboxState) (s : InitiatorState) → (prepares action ≡ true → is_ok (may_prepare s.lists.slots) ≡ true) → (done_step action o s).1.states ≡ read_begun None action s.counts.acts s.states
+unfolding done_step
+done_reads (actions.Put cmd) o s a = (put_steps cmd o s (a refl)).states
+done_reads (actions.Append cmd) o s a = (append_steps cmd o s (a refl)).states
+done_reads actions.Low o s a = (low_steps o s).states
+done_reads actions.Link o s a = (link_steps o s).states
+done_reads actions.Ring o s a = (ring_for_steps s.lists.slots.present o s).states
+done_reads (actions.Dummy orb) o s a = (dummy_steps (find_in s.lists.slots.slots orb) o s).states
+done_reads (actions.Abort orb) o s a =
+    let u = managed_by (orb_by (actions.Abort orb) s) operations.Abort s in pinned_states (find_in u.lists.slots.slots orb) u
+done_reads actions.Rom o s a = refl
+done_reads actions.AgentReset o s a = refl
+done_reads actions.State o s a = refl
+done_reads actions.Enable o s a = refl
+done_reads (actions.Login unit reconnect exclusive password) o s a = refl
+done_reads (actions.Query unit) o s a = refl
+done_reads actions.Reconnect o s a = refl
+done_reads actions.Logout o s a = refl
+done_reads actions.AbortSet o s a = refl
+done_reads actions.UnitReset o s a = refl
+done_reads actions.TargetReset o s a = refl
+
 -- ---- a request leaves the node's ID
 
 placed : (k : ℕ) (layer : Layer Purpose) (r : Result LabelParts NoLabel × (PeerPlace Purpose × List ℕ)) → (asked_at k layer r).1.node ≡ layer.node

@@ -40,6 +40,7 @@ use Rattle.sbp_initiator.specs.Effects.{Turn, told, stick_step, dropped_as, drop
 use Rattle.sbp_initiator.proofs.Asked.{none_asked}
 use Rattle.initiator_laws.specs.Drops.{IfGone, present_list, drop_if, state_drops, ends_the_list}
 use Rattle.initiator_laws.specs.Numbers.{is_numbered}
+use Rattle.initiator_laws.proofs.Lives.{read_act}
 use Rattle.initiator_laws.specs.Ends.{own, OpEnd, drops, notes_of, is_managed, is_word_of, read_ends, state_word, OpMove}
 
 -- ---- lists of notes
@@ -447,6 +448,7 @@ pub record Ends (purpose : Purpose) (o : OutboxState) (s : InitiatorState) (drop
   pub asking : Option Asking
   pub same : (a : Asking) → asking ≡ Some a → a.purpose ≡ purpose
   pub plain : (a : Asking) → asking ≡ Some a → is_numbered a.purpose ≡ false
+  pub unread : (a : Asking) → asking ≡ Some a → read_act a.purpose ≡ None
   pub does : Does o s drop state asking t
 
 none_some : {A B : Type 0} {a : A} → None ≡ Some a → B
@@ -456,7 +458,7 @@ none_some e = absurd (differ e)
     differ e = cc
 
 ends_plainly : (purpose : Purpose) (o : OutboxState) (s : InitiatorState) (drop : Option ℕ) (state : Option OpWord) (t : Turn) → Does o s drop state None t → Ends purpose o s drop state t
-ends_plainly purpose o s drop state t d = record { asking = None; same = λ a e. none_some e; plain = λ a e. none_some e; does = d }
+ends_plainly purpose o s drop state t d = record { asking = None; same = λ a e. none_some e; plain = λ a e. none_some e; unread = λ a e. none_some e; does = d }
 
 some_is : {A : Type 0} (a b : A) → Some a ≡ Some b → a ≡ b
 some_is a b e = cc
@@ -471,6 +473,7 @@ asked_does (Some asked, layer) act o s t e f op same_layer counts number target 
       asking = Some a;
       same = λ b g. ap (λ (x : Asking). x.purpose) (sym (some_is a b g));
       plain = λ b g. ap (λ (x : Asking). is_numbered x.purpose) (sym (some_is a b g));
+      unread = λ b g. ap (λ (x : Asking). read_act x.purpose) (sym (some_is a b g));
       does = record {
         op = None;
         stuck = false;

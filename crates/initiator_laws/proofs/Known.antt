@@ -9,8 +9,9 @@ use Rattle.sbp_initiator.specs.Initiators.{new_state}
 use Rattle.sbp_initiator.specs.States.{is_answered}
 use Rattle.initiator_laws.specs.Laws.{Call, acts, receives, lets_expire, AreCalls, after}
 use Rattle.initiator_laws.specs.Laws as laws
-use Rattle.initiator_laws.specs.Marks.{CountsFor, MarkLaw, answered_after, answered_list, begins_read, call_answers, call_dead, counted_after, counted_by, counted_if, dead_after, known_if, loses_list, reads_after, reads_by}
+use Rattle.initiator_laws.specs.Marks.{CountsFor, MarkLaw, WasRead, answered_after, answered_list, begins_read, call_answers, call_dead, counted_after, counted_by, counted_if, dead_after, known_if, loses_list, reads_after, reads_by}
 use Rattle.sbp_initiator.specs.Acting.{act_step}
+use Rattle.initiator_laws.proofs.Lives.{closes_read, expires_read}
 use Rattle.initiator_laws.proofs.Over.{counted_now, sound}
 use Rattle.initiator_laws.proofs.Purposes.{IfFor, closes_asked, expires_asked}
 use Rattle.initiator_laws.proofs.Runs.{FitsNow}
@@ -82,8 +83,14 @@ mark_law number ready calls h =
       answered = answered_is number ready calls h;
       dead = dead_is number ready calls h;
       reads = reads_are number ready calls h;
-      closes = λ generation bytes p label purpose e. for_list number ready calls h purpose
-          (closes_asked P (0xffc1 + number) w.calls generation bytes p label purpose w.asks (ap (λ (l : Layer Purpose). (judging_step l generation bytes).0) w.layer_is ∙ e));
-      expires = λ label purpose e. for_list number ready calls h purpose
-          (expires_asked P (0xffc1 + number) w.calls turn.1.target label purpose w.asks (ap (λ (l : Layer Purpose). (expiring_step l turn.1.target label).0) w.layer_is ∙ e));
+      closes = λ generation bytes p label purpose e. (
+        for_list number ready calls h purpose
+            (closes_asked P (0xffc1 + number) w.calls generation bytes p label purpose w.asks (ap (λ (l : Layer Purpose). (judging_step l generation bytes).0) w.layer_is ∙ e)),
+        subst (λ (x : List ℕ). WasRead x purpose) (reads_are number ready calls h) (closes_read (0xffc1 + number) w.calls turn.1.states w.new w.lives generation bytes p label purpose (ap (λ (l : Layer Purpose). (judging_step l generation bytes).0) w.layer_is ∙ e)),
+      );
+      expires = λ label purpose e. (
+        for_list number ready calls h purpose
+            (expires_asked P (0xffc1 + number) w.calls turn.1.target label purpose w.asks (ap (λ (l : Layer Purpose). (expiring_step l turn.1.target label).0) w.layer_is ∙ e)),
+        subst (λ (x : List ℕ). WasRead x purpose) (reads_are number ready calls h) (expires_read (0xffc1 + number) w.calls turn.1.states w.new w.lives turn.1.target label purpose (ap (λ (l : Layer Purpose). (expiring_step l turn.1.target label).0) w.layer_is ∙ e)),
+      );
     }

@@ -1,7 +1,10 @@
 -- The laws over every list of calls.
 use Rattle.std.proofs.Common.{◌≡◌, refl, ℕ, zero, suc, ◌+◌, Bool, List, [], ◌∷◌, replicate, slice_index_or, Option, None}
 use Rattle.bus_memory.specs.Memory.{empty_place, new_memory}
+use Rattle.label_table.specs.declared.reply.ReplyKind.{ReplyKind}
+use Rattle.label_table.specs.History as wire
 use Rattle.sbp_journal.specs.Outgoings.{empty_outbox}
+use Rattle.sbp_initiator.specs.declared.purpose.Purpose.{Purpose}
 use Rattle.sbp_initiator.specs.Effects.{Turn}
 use Rattle.sbp_initiator.specs.Initiators.{new_state}
 use Rattle.sbp_initiator.specs.States.{is_answered}
@@ -26,10 +29,13 @@ first_holds : (number : ℕ) (ready : Bool) → Holds (λ m. replicate 32 0) (ne
 unfolding new_state new_memory
 first_holds number ready = record { marks = refl; orbs = first_place; places = refl }
 
+not_yet : {kind : ReplyKind} {purpose : Option Purpose} → wire.not_begun ≡ wire.under_way kind purpose → ⊥
+not_yet e = cc
+
 first_sound : (number : ℕ) (ready : Bool) → Sound (0xffc1 + number) (λ m. replicate 32 0) (λ n. None) (empty_outbox, new_state number ready)
 unfolding new_state
 first_sound number ready = record {
-  wires = record { calls = []; layer_is = refl; packets_are = refl; rises = tt; asks = tt };
+  wires = record { calls = []; layer_is = refl; packets_are = refl; rises = tt; asks = tt; new = tt; lives = record { has = λ peer label kind act list e. absurd (not_yet e) } };
   marks = first_holds number ready;
   sized = λ m. refl;
   orb = record { managed = λ r e. none_some e };

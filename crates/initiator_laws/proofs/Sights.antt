@@ -23,6 +23,9 @@ use Rattle.initiator_laws.specs.Ends.{own, drops}
 use Rattle.initiator_laws.specs.Numbers.{carried, RisesTo}
 use Rattle.initiator_laws.specs.Tells.{state_resets, resets_with, resets, Sees}
 use Rattle.initiator_laws.proofs.Effects.{HasMarks, Holds, list_drops, told_twice}
+use Rattle.label_table.specs.History as wire
+use Rattle.initiator_laws.proofs.Leaves.{drops_keep}
+use Rattle.initiator_laws.proofs.Lives.{LivesIn}
 use Rattle.initiator_laws.proofs.Purposes.{all_ask}
 use Rattle.initiator_laws.proofs.Requests.{HasOrb}
 use Rattle.initiator_laws.proofs.Runs.{FitsNow, IsBegun, Sound, fits_none, none_some}
@@ -87,7 +90,7 @@ record Saw (node : ℕ) (held : ℕ → List ℕ) (counted : ℕ → Option ℕ)
 abbrev seeing_as : Bool → Layer Purpose → Layer Purpose → Bool × Layer Purpose
 seeing_as c new old = cond c (true, new) (false, old)
 
-saw_as : (c : Bool) (node : ℕ) (held : ℕ → List ℕ) (counted : ℕ → Option ℕ) (generation id target : ℕ) (o : OutboxState) (s : InitiatorState) → Sound node held counted (o, s) → Wire (FitsNow s.operation s.counts.acts counted) node s.counts.running (seeing_as c (seen_in_generation s.layer generation id) s.layer).1 o.packets → Saw node held counted c (o, s) (seen_as (seeing_as c (seen_in_generation s.layer generation id) s.layer) target o s)
+saw_as : (c : Bool) (node : ℕ) (held : ℕ → List ℕ) (counted : ℕ → Option ℕ) (generation id target : ℕ) (o : OutboxState) (s : InitiatorState) → Sound node held counted (o, s) → Wire (FitsNow s.operation s.counts.acts counted) (cond c [] s.states) node s.counts.running (seeing_as c (seen_in_generation s.layer generation id) s.layer).1 o.packets → Saw node held counted c (o, s) (seen_as (seeing_as c (seen_in_generation s.layer generation id) s.layer) target o s)
 saw_as false node held counted generation id target o s k w = record { tells = (refl, refl); sound = k }
 saw_as true node held counted generation id target o s k w =
     let u = record s { layer = seen_in_generation s.layer generation id } in
@@ -107,6 +110,8 @@ saw_as true node held counted generation id target o s k w =
           asks = all_ask (FitsNow s.operation s.counts.acts counted) (FitsNow t.1.operation t.1.counts.acts counted)
               (λ p f. subst (λ (r : Option Running). FitsNow r t.1.counts.acts counted p) (sym d.operation) (subst (λ (c : Counts). FitsNow None c.acts counted p) (sym d.counts) (record { fits = fits_none p; earlier = f.earlier; counts = f.counts })))
               w.calls w.asks;
+          new = w.new;
+          lives = subst (λ (l : List ℕ). LivesIn l (wire.history node w.calls)) (sym (drops_keep x v).states) w.lives;
         };
         marks = free_holds held t.1.lists t.1.marks.pointing (d.marks held k.marks);
         sized = k.sized;

@@ -5,6 +5,7 @@
 -- ORB_POINTER had been answered as the read was asked for, and for no other. It is under way from its action on, until its transaction
 -- ends or a generation is seen.
 use Rattle.std.specs.Prelude.{◌≡◌, ℕ, ◌==◌, ◌&&◌, not, nat_lt, is_some, Bool, true, false, if◌then◌else◌, List, [], ◌∷◌, ◌++◌, Option, Some, None, Result, Ok, Err}
+use Rattle.std.specs.List.{list_any}
 use Rattle.async_packet.specs.Labels.{LabelParts}
 use Rattle.async_packet.specs.Packet.{Packet}
 use Rattle.label_table.specs.declared.reply.Stale.{Stale}
@@ -143,6 +144,15 @@ abbrev pub reads_after : ℕ → Bool → List Call → List ℕ
 reads_after number ready [] = []
 reads_after number ready (call ∷ calls) = reads_by call (after number ready calls) (reads_after number ready calls)
 
+-- the read of an action is among some
+abbrev pub has_read : ℕ → List ℕ → Bool
+has_read act reads = list_any (λ (n : ℕ). n == act) reads
+
+-- a read that ends is among them
+abbrev pub WasRead : List ℕ → Option Purpose → Type 0
+WasRead reads (Some (purposes.State act list)) = has_read act reads ≡ true
+WasRead reads _ = Unit {0}
+
 -- ---- the list that a read counts for
 
 -- the present list, where its ORB_POINTER was answered
@@ -176,13 +186,13 @@ abbrev pub CountsFor : (ℕ → Option ℕ) → Option Purpose → Type 0
 CountsFor counted (Some (purposes.State act list)) = list ≡ counted act
 CountsFor counted _ = Unit {0}
 
--- What an initiator knows after a list of calls, and what each read counts for that ends then.
+-- What an initiator knows after a list of calls; and a read that ends then counts for its list and was under way, so it ends once.
 pub record MarksAfter (number : ℕ) (ready : Bool) (calls : List Call) (turn : Turn) : Type 0 where
   pub answered : is_answered turn.1.marks.pointing ≡ answered_after number ready calls
   pub dead : turn.1.marks.is_dead ≡ dead_after number ready calls
   pub reads : turn.1.states ≡ reads_after number ready calls
-  pub closes : (generation : ℕ) (bytes : List ℕ) (p : Packet) (label : LabelParts) (purpose : Option Purpose) → (judging_step turn.1.layer generation bytes).0 ≡ of_response p label purpose → CountsFor (counted_after number ready calls) purpose
-  pub expires : (label : LabelParts) (purpose : Option Purpose) → (expiring_step turn.1.layer turn.1.target label).0 ≡ Ok purpose → CountsFor (counted_after number ready calls) purpose
+  pub closes : (generation : ℕ) (bytes : List ℕ) (p : Packet) (label : LabelParts) (purpose : Option Purpose) → (judging_step turn.1.layer generation bytes).0 ≡ of_response p label purpose → CountsFor (counted_after number ready calls) purpose × WasRead (reads_after number ready calls) purpose
+  pub expires : (label : LabelParts) (purpose : Option Purpose) → (expiring_step turn.1.layer turn.1.target label).0 ≡ Ok purpose → CountsFor (counted_after number ready calls) purpose × WasRead (reads_after number ready calls) purpose
 
 -- Over every list of calls.
 abbrev pub MarkLaw : Type 0
