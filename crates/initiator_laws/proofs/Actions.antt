@@ -41,7 +41,8 @@ use Rattle.sbp_initiator.specs.Acting.{demand_of, facts_with, dummy_for, done_st
 use Rattle.initiator_laws.specs.Begins.{is_step, AreSteps, begun_as, after_by, IsFree}
 use Rattle.initiator_laws.specs.Ends.{own, is_managed}
 use Rattle.initiator_laws.specs.Numbers.{is_numbered}
-use Rattle.initiator_laws.specs.Served.{orb_in, with_orb}
+use Rattle.initiator_laws.specs.Served.{with_orb}
+use Rattle.initiator_laws.specs.Slots.{orb_in}
 use Rattle.initiator_laws.proofs.Effects.{HasMarks, Holds, KeepsMarks, relisted, told_twice}
 
 none_below : (p : ℕ) → p < 0 → ⊥

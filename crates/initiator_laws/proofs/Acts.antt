@@ -21,21 +21,26 @@ use Rattle.sbp_initiator.specs.declared.purpose.Running.{Running}
 use Rattle.sbp_initiator.specs.declared.purpose.Wanted.TheVariants as wants
 use Rattle.sbp_initiator.specs.declared.state.InitiatorState.{InitiatorState}
 use Rattle.sbp_initiator.specs.Refusals.{operation_of, refusal}
-use Rattle.sbp_initiator.specs.States.{is_unwritten, place_of, wanted_body}
+use Rattle.sbp_initiator.specs.States.{is_answered, is_unwritten, place_of, wanted_body}
 use Rattle.sbp_initiator.specs.Effects.{Turn}
 use Rattle.sbp_initiator.specs.Acting.{act_step, asked_as, asked_for, counted_list, demand_of, demanded_as, done_step, facts_with, first_in, judged_as, manage_demand, register_of, ring_demand}
-use Rattle.sbp_initiator.specs.Moves.{outgoing}
+use Rattle.initiator_laws.specs.Moves.{outgoing}
 use Rattle.sbp_initiator.proofs.Asked.{none_asked}
 use Rattle.initiator_laws.specs.Begins.{Begins, after_by, begun_as}
 use Rattle.initiator_laws.specs.Ends.{is_managed}
-use Rattle.initiator_laws.specs.Served.{orb_in, with_orb, held_if}
+use Rattle.initiator_laws.specs.Served.{with_orb, held_if}
+use Rattle.initiator_laws.specs.Slots.{orb_in}
+use Rattle.initiator_laws.specs.Marks.{CountsFor, answered_list, begins_read, counted_if, is_read, read_begun}
+use Rattle.label_table.specs.History as wire
 use Rattle.initiator_laws.specs.Numbers.{is_numbered, value_of, carried, RisesTo}
 use Rattle.initiator_laws.proofs.Actions.{Allowed, Done, allowed, done_does, used}
 use Rattle.initiator_laws.proofs.Effects.{Fits, Holds, IsFor, IsForOrb}
+use Rattle.initiator_laws.proofs.Did.{done_reads}
+use Rattle.initiator_laws.proofs.Lives.{IsNew, IsNot, read_act, reads_with}
 use Rattle.initiator_laws.proofs.Purposes.{AllAsk, all_ask}
 use Rattle.initiator_laws.proofs.Requests.{HasOrb}
 use Rattle.initiator_laws.proofs.Runs.{FitsNow, IsBegun, IsEarlier, Sound, act_in, none_some}
-use Rattle.initiator_laws.proofs.Wires.{Wire, ask_wire, number_wire}
+use Rattle.initiator_laws.proofs.Wires.{Wire, ask_wire, number_wire, numbered_none}
 
 -- ---- the request of an action
 
@@ -87,10 +92,16 @@ after_same (Some operation) s layer = begun_same (is_managed operation) operatio
     begun_same true operation s layer = refl
     begun_same false operation s layer = refl
 
+-- of this action, where it is a read
+abbrev IsAt : ℕ → Option ℕ → Type 0
+IsAt acts None = Unit {0}
+IsAt acts (Some act) = act ≡ acts
+
 -- what a demand is for fits the operation that begins with it; and one that carries the running number carries this one
-record Apt (operation : Option Running) (acts running : ℕ) (demand : Demand) : Type 0 where
-  fits : FitsNow operation (acts + 1) demand.purpose
+record Apt (operation : Option Running) (acts running : ℕ) (counted : ℕ → Option ℕ) (demand : Demand) : Type 0 where
+  fits : FitsNow operation (acts + 1) counted demand.purpose
   value : is_numbered demand.purpose ≡ true → value_of (wanted_body demand.wanted) ≡ Some running
+  read : IsAt acts (read_act demand.purpose)
 
 some_is : {A : Type 0} (a b : A) → Some a ≡ Some b → a ≡ b
 some_is a b e = cc
@@ -111,53 +122,96 @@ for_own operation r e = record { same = λ running f g. ap (λ (x : Running). x.
 for_orb : (r : Running) → is_managed r.operation ≡ true → IsForOrb r.act (Some r)
 for_orb r e = record { managed = λ running f g. ap (λ (x : Running). is_managed x.operation) (sym (some_is r running f)) ∙ e }
 
-pick_apt : (c : Bool) (operation : Option Running) (acts running : ℕ) (x y : Demand) → Apt operation acts running x → Apt operation acts running y → Apt operation acts running (cond c x y)
-pick_apt true operation acts running x y a b = a
-pick_apt false operation acts running x y a b = b
+pick_apt : (c : Bool) (operation : Option Running) (acts running : ℕ) (counted : ℕ → Option ℕ) (x y : Demand) → Apt operation acts running counted x → Apt operation acts running counted y → Apt operation acts running counted (cond c x y)
+pick_apt true operation acts running counted x y a b = a
+pick_apt false operation acts running counted x y a b = b
 
-ring_apt : (s : InitiatorState) → Apt s.operation s.counts.acts s.counts.running (ring_demand s)
-ring_apt s =
-    pick_apt (is_unwritten s.marks.pointing) s.operation s.counts.acts s.counts.running _ _
-    (record { fits = record { fits = tt; earlier = tt }; value = λ e. untrue e })
-    (record { fits = record { fits = tt; earlier = tt }; value = λ e. refl })
+ring_apt : (s : InitiatorState) (counted : ℕ → Option ℕ) → Apt s.operation s.counts.acts s.counts.running counted (ring_demand s)
+ring_apt s counted =
+    pick_apt (is_unwritten s.marks.pointing) s.operation s.counts.acts s.counts.running counted _ _
+    (record { fits = record { fits = tt; earlier = tt; counts = tt }; value = λ e. untrue e; read = tt })
+    (record { fits = record { fits = tt; earlier = tt; counts = tt }; value = λ e. refl; read = tt })
 
 orb_apt : (b : Bool) (operation : Operation) (s : InitiatorState) → is_managed operation ≡ true → IsForOrb s.counts.acts (Some (begun_as b operation s))
 orb_apt true operation s m = for_orb (begun_as true operation s) m
 orb_apt false operation s m = for_orb (begun_as false operation s) m
 
-managed_apt : (operation : Operation) (s : InitiatorState) → is_managed operation ≡ true → Apt (after_by (Some operation) s) s.counts.acts s.counts.running (manage_demand s)
-managed_apt operation s m = record {
-  fits = record { fits = orb_apt (is_managed operation) operation s m; earlier = now_earlier s.counts.acts };
+managed_apt : (operation : Operation) (s : InitiatorState) (counted : ℕ → Option ℕ) → is_managed operation ≡ true → Apt (after_by (Some operation) s) s.counts.acts s.counts.running counted (manage_demand s)
+managed_apt operation s counted m = record {
+  fits = record { fits = orb_apt (is_managed operation) operation s m; earlier = now_earlier s.counts.acts; counts = tt };
   value = λ e. untrue e;
+  read = tt;
 }
 
-module _ {operation : Option Running} {acts running : ℕ} where
-  demand_is : (x y : Demand) → Some x ≡ Some y → Apt operation acts running x → Apt operation acts running y
-  demand_is x y e a = subst (λ (d : Demand). Apt operation acts running d) (some_is x y e) a
+module _ {operation : Option Running} {acts running : ℕ} {counted : ℕ → Option ℕ} where
+  demand_is : (x y : Demand) → Some x ≡ Some y → Apt operation acts running counted x → Apt operation acts running counted y
+  demand_is x y e a = subst (λ (d : Demand). Apt operation acts running counted d) (some_is x y e) a
 
-apt : (action : Action) (s : InitiatorState) (demand : Demand) → demand_of action s ≡ Some demand → Apt (after_by (operation_of action) s) s.counts.acts s.counts.running demand
-apt actions.Rom s demand e =
-    demand_is _ demand e (record { fits = record { fits = for_own operations.Rom (begun_as false operations.Rom s) refl; earlier = now_earlier s.counts.acts }; value = λ f. untrue f })
-apt (actions.Login unit reconnect exclusive password) s demand e = demand_is _ demand e (managed_apt operations.Login s refl)
-apt (actions.Query unit) s demand e = demand_is _ demand e (managed_apt operations.Query s refl)
-apt actions.Reconnect s demand e = demand_is _ demand e (managed_apt operations.Reconnect s refl)
-apt actions.Logout s demand e = demand_is _ demand e (managed_apt operations.Logout s refl)
-apt (actions.Abort orb) s demand e = demand_is _ demand e (managed_apt operations.Abort s refl)
-apt actions.AbortSet s demand e = demand_is _ demand e (managed_apt operations.AbortSet s refl)
-apt actions.UnitReset s demand e = demand_is _ demand e (managed_apt operations.UnitReset s refl)
-apt actions.TargetReset s demand e = demand_is _ demand e (managed_apt operations.TargetReset s refl)
-apt actions.AgentReset s demand e =
-    demand_is _ demand e (record { fits = record { fits = for_own operations.AgentReset (begun_as false operations.AgentReset s) refl; earlier = now_earlier s.counts.acts }; value = λ f. refl })
-apt actions.State s demand e =
-    demand_is _ demand e (record { fits = record { fits = tt; earlier = now_earlier s.counts.acts }; value = λ f. untrue f })
-apt (actions.Dummy orb) s demand e = none_some e
-apt (actions.Put cmd) s demand e = none_some e
-apt (actions.Append cmd) s demand e = demand_is _ demand e (ring_apt s)
-apt actions.Low s demand e = none_some e
-apt actions.Link s demand e = none_some e
-apt actions.Ring s demand e = demand_is _ demand e (ring_apt s)
-apt actions.Enable s demand e =
-    demand_is _ demand e (record { fits = record { fits = for_own operations.Enable (begun_as false operations.Enable s) refl; earlier = now_earlier s.counts.acts }; value = λ f. untrue f })
+-- the list that a read counts for, behind an action
+abbrev pub counted_act : Option ℕ → Action → InitiatorState → (ℕ → Option ℕ) → ℕ → Option ℕ
+counted_act refused action s counted n =
+    counted_if (begins_read refused action) (answered_list (is_answered s.marks.pointing) s.lists.slots.present) s.counts.acts counted n
+
+own_act : (n : ℕ) → nat_eq n n ≡ true
+own_act n = grind arith
+
+list_is : (b : Bool) (list : PresentList) → cond b (Some list.tail.list) None ≡ answered_list b (Some list)
+list_is true list = refl
+list_is false list = refl
+
+none_is : (b : Bool) → None ≡ answered_list b None
+none_is true = refl
+none_is false = refl
+
+counts_now : (present : Option PresentList) (s : InitiatorState) → counted_list present s ≡ answered_list (is_answered s.marks.pointing) present
+counts_now None s = none_is (is_answered s.marks.pointing)
+counts_now (Some list) s = list_is (is_answered s.marks.pointing) list
+
+state_counts : (s : InitiatorState) (counted : ℕ → Option ℕ) → counted_list s.lists.slots.present s ≡ counted_act None actions.State s counted s.counts.acts
+state_counts s counted =
+    let list = answered_list (is_answered s.marks.pointing) s.lists.slots.present in
+    counts_now s.lists.slots.present s ∙ ap (λ (b : Bool). cond b list (counted s.counts.acts)) (sym (own_act s.counts.acts))
+
+-- that of a read of an earlier action stays
+other_act : (a n : ℕ) → a < n → false ≡ nat_eq a n
+other_act a n h = grind arith
+
+counts_if : (c : Bool) (list : Option ℕ) (n : ℕ) (counted : ℕ → Option ℕ) (a : ℕ) → a < n → counted a ≡ counted_if c list n counted a
+counts_if true list n counted a h = ap (λ (b : Bool). cond b list (counted a)) (other_act a n h)
+counts_if false list n counted a h = refl
+
+still_counts : (purpose : Purpose) (c : Bool) (list : Option ℕ) (n : ℕ) (counted : ℕ → Option ℕ) → IsEarlier (act_in purpose) n → CountsFor counted (Some purpose) → CountsFor (counted_if c list n counted) (Some purpose)
+still_counts (purposes.State act known) c list n counted h f = f ∙ counts_if c list n counted act h
+still_counts (purposes.AgentReset act) c list n counted h f = tt
+still_counts (purposes.Enable act) c list n counted h f = tt
+still_counts (purposes.Rom act) c list n counted h f = tt
+still_counts (purposes.Management act) c list n counted h f = tt
+still_counts (purposes.Pointer known) c list n counted h f = tt
+still_counts purposes.Doorbell c list n counted h f = tt
+
+apt : (action : Action) (s : InitiatorState) (counted : ℕ → Option ℕ) (demand : Demand) → demand_of action s ≡ Some demand → Apt (after_by (operation_of action) s) s.counts.acts s.counts.running (counted_act None action s counted) demand
+apt actions.Rom s counted demand e =
+    demand_is _ demand e (record { fits = record { fits = for_own operations.Rom (begun_as false operations.Rom s) refl; earlier = now_earlier s.counts.acts; counts = tt }; value = λ f. untrue f; read = tt })
+apt (actions.Login unit reconnect exclusive password) s counted demand e = demand_is _ demand e (managed_apt operations.Login s _ refl)
+apt (actions.Query unit) s counted demand e = demand_is _ demand e (managed_apt operations.Query s _ refl)
+apt actions.Reconnect s counted demand e = demand_is _ demand e (managed_apt operations.Reconnect s _ refl)
+apt actions.Logout s counted demand e = demand_is _ demand e (managed_apt operations.Logout s _ refl)
+apt (actions.Abort orb) s counted demand e = demand_is _ demand e (managed_apt operations.Abort s _ refl)
+apt actions.AbortSet s counted demand e = demand_is _ demand e (managed_apt operations.AbortSet s _ refl)
+apt actions.UnitReset s counted demand e = demand_is _ demand e (managed_apt operations.UnitReset s _ refl)
+apt actions.TargetReset s counted demand e = demand_is _ demand e (managed_apt operations.TargetReset s _ refl)
+apt actions.AgentReset s counted demand e =
+    demand_is _ demand e (record { fits = record { fits = for_own operations.AgentReset (begun_as false operations.AgentReset s) refl; earlier = now_earlier s.counts.acts; counts = tt }; value = λ f. refl; read = tt })
+apt actions.State s counted demand e =
+    demand_is _ demand e (record { fits = record { fits = tt; earlier = now_earlier s.counts.acts; counts = state_counts s counted }; value = λ f. untrue f; read = refl })
+apt (actions.Dummy orb) s counted demand e = none_some e
+apt (actions.Put cmd) s counted demand e = none_some e
+apt (actions.Append cmd) s counted demand e = demand_is _ demand e (ring_apt s _)
+apt actions.Low s counted demand e = none_some e
+apt actions.Link s counted demand e = none_some e
+apt actions.Ring s counted demand e = demand_is _ demand e (ring_apt s _)
+apt actions.Enable s counted demand e =
+    demand_is _ demand e (record { fits = record { fits = for_own operations.Enable (begun_as false operations.Enable s) refl; earlier = now_earlier s.counts.acts; counts = tt }; value = λ f. untrue f; read = tt })
 
 -- ---- the transactions of earlier actions
 
@@ -195,13 +249,19 @@ begun_act : (b : Bool) (operation : Operation) (s : InitiatorState) → (begun_a
 begun_act true operation s = refl
 begun_act false operation s = refl
 
-still_fits : (begins : Option Operation) (s : InitiatorState) (purpose : Purpose) → FitsNow s.operation s.counts.acts purpose → FitsNow (after_by begins s) (s.counts.acts + 1) purpose
-still_fits None s purpose f = record { fits = f.fits; earlier = earlier_on (act_in purpose) s.counts.acts f.earlier }
-still_fits (Some operation) s purpose f =
+-- by the list that a read counts for which begins with the action
+still_fits : (begins : Option Operation) (s : InitiatorState) (c : Bool) (list : Option ℕ) (counted : ℕ → Option ℕ) (purpose : Purpose) → FitsNow s.operation s.counts.acts counted purpose → FitsNow (after_by begins s) (s.counts.acts + 1) (counted_if c list s.counts.acts counted) purpose
+still_fits None s c list counted purpose f = record {
+  fits = f.fits;
+  earlier = earlier_on (act_in purpose) s.counts.acts f.earlier;
+  counts = still_counts purpose c list s.counts.acts counted f.earlier f.counts;
+}
+still_fits (Some operation) s c list counted purpose f =
     let r = begun_as (is_managed operation) operation s in
     record {
       fits = earlier_fits purpose r (subst (λ (n : ℕ). IsEarlier (act_in purpose) n) (sym (begun_act (is_managed operation) operation s)) f.earlier);
       earlier = earlier_on (act_in purpose) s.counts.acts f.earlier;
+      counts = still_counts purpose c list s.counts.acts counted f.earlier f.counts;
     }
 
 -- ---- what holds of the operation that begins
@@ -260,22 +320,24 @@ with_orb_sized (Some orb) place held h m = pick_sized (nat_eq place m) (manageme
 -- ---- an action as a whole
 
 -- what holds where a step left this
-record Left (node : ℕ) (held : ℕ → List ℕ) (demand : Option Demand) (begins : Option Operation) (o : OutboxState) (s : InitiatorState) (t : Turn) : Type 0 where
+record Left (node : ℕ) (held : ℕ → List ℕ) (counted : ℕ → Option ℕ) (demand : Option Demand) (begins : Option Operation) (o : OutboxState) (s : InitiatorState) (t : Turn) : Type 0 where
   operation : t.1.operation ≡ after_by begins s
   acts : t.1.counts.acts ≡ s.counts.acts + 1
   running : t.1.counts.running ≡ used demand s.counts.running
   marks : Holds held t.1.lists t.1.marks.pointing
   sized : (m : ℕ) → length (held m) ≡ 32
-  wires : Wire (FitsNow (after_by begins s) (s.counts.acts + 1)) node (used demand s.counts.running) t.1.layer t.0.packets
+  wires : Wire (FitsNow (after_by begins s) (s.counts.acts + 1) counted) t.1.states node (used demand s.counts.running) t.1.layer t.0.packets
 
-left_sound : (node : ℕ) (held new : ℕ → List ℕ) (demand : Option Demand) (begins : Option Operation) (o : OutboxState) (s : InitiatorState) (t : Turn) → Sound node held (o, s) → Left node new demand begins o s t → Sound node new t
-left_sound node held new demand begins o s t k l = record {
+left_sound : (node : ℕ) (held new : ℕ → List ℕ) (counted next : ℕ → Option ℕ) (demand : Option Demand) (begins : Option Operation) (o : OutboxState) (s : InitiatorState) (t : Turn) → Sound node held counted (o, s) → Left node new next demand begins o s t → Sound node new next t
+left_sound node held new counted next demand begins o s t k l = record {
   wires = record {
     calls = l.wires.calls;
     layer_is = l.wires.layer_is;
     packets_are = l.wires.packets_are;
     rises = subst (λ (n : ℕ). RisesTo n (carried node l.wires.calls)) (sym l.running) l.wires.rises;
-    asks = subst (λ (r : Option Running). AllAsk (FitsNow r t.1.counts.acts) l.wires.calls) (sym l.operation) (subst (λ (n : ℕ). AllAsk (FitsNow (after_by begins s) n) l.wires.calls) (sym l.acts) l.wires.asks);
+    asks = subst (λ (r : Option Running). AllAsk (FitsNow r t.1.counts.acts next) l.wires.calls) (sym l.operation) (subst (λ (n : ℕ). AllAsk (FitsNow (after_by begins s) n next) l.wires.calls) (sym l.acts) l.wires.asks);
+    new = l.wires.new;
+    lives = l.wires.lives;
   };
   marks = l.marks;
   sized = l.sized;
@@ -284,26 +346,110 @@ left_sound node held new demand begins o s t k l = record {
 }
 
 -- the layer as it was, by transactions that fit still
-kept_wire : (node : ℕ) (begins : Option Operation) (o : OutboxState) (s : InitiatorState) → Wire (FitsNow s.operation s.counts.acts) node s.counts.running s.layer o.packets → Wire (FitsNow (after_by begins s) (s.counts.acts + 1)) node s.counts.running s.layer o.packets
-kept_wire node begins o s w = record {
+kept_wire : (node : ℕ) (begins : Option Operation) (read : Bool) (list : Option ℕ) (counted : ℕ → Option ℕ) (o : OutboxState) (s : InitiatorState) → Wire (FitsNow s.operation s.counts.acts counted) s.states node s.counts.running s.layer o.packets → Wire (FitsNow (after_by begins s) (s.counts.acts + 1) (counted_if read list s.counts.acts counted)) s.states node s.counts.running s.layer o.packets
+kept_wire node begins read list counted o s w = record {
   calls = w.calls;
   layer_is = w.layer_is;
   packets_are = w.packets_are;
   rises = w.rises;
-  asks = all_ask (FitsNow s.operation s.counts.acts) (FitsNow (after_by begins s) (s.counts.acts + 1)) (still_fits begins s) w.calls w.asks;
+  asks = all_ask (FitsNow s.operation s.counts.acts counted) (FitsNow (after_by begins s) (s.counts.acts + 1) (counted_if read list s.counts.acts counted)) (still_fits begins s read list counted) w.calls w.asks;
+  new = w.new;
+  lives = w.lives;
 }
 
+-- its own read is of no earlier action
+later_act : (act n : ℕ) → act < n → act ≡ n → ⊥
+later_act act n h e = omega arith
+
+not_earlier : (n : ℕ) (purpose : Purpose) → IsEarlier (act_in purpose) n → IsNot n purpose
+not_earlier n (purposes.State act list) h e = later_act act n h (some_is act n e)
+not_earlier n (purposes.AgentReset act) h e = none_some e
+not_earlier n (purposes.Enable act) h e = none_some e
+not_earlier n (purposes.Rom act) h e = none_some e
+not_earlier n (purposes.Management act) h e = none_some e
+not_earlier n (purposes.Pointer list) h e = none_some e
+not_earlier n purposes.Doorbell h e = none_some e
+
+new_at : (a : Option ℕ) (s : InitiatorState) (counted : ℕ → Option ℕ) (calls : List (wire.Call Purpose)) → IsAt s.counts.acts a → AllAsk (FitsNow s.operation s.counts.acts counted) calls → IsNew a calls
+new_at None s counted calls e asks = tt
+new_at (Some act) s counted calls e asks =
+    subst (λ (n : ℕ). AllAsk (IsNot n) calls) (sym e)
+    (all_ask (FitsNow s.operation s.counts.acts counted) (IsNot s.counts.acts) (λ p f. not_earlier s.counts.acts p f.earlier) calls asks)
+
+-- what the action makes of the reads is by its request
+as_read : (purpose : Purpose) (action : Action) (acts : ℕ) (reads : List ℕ) → is_some (read_act purpose) ≡ is_read action → IsAt acts (read_act purpose) → read_begun None action acts reads ≡ reads_with (read_act purpose) reads
+as_read purpose action acts reads e h = read_as_is (read_act purpose) (is_read action) acts reads e h
+  where
+    read_as_is : (a : Option ℕ) (c : Bool) (acts : ℕ) (reads : List ℕ) → is_some a ≡ c → IsAt acts a → cond c (reads ++ acts ∷ []) reads ≡ reads_with a reads
+    read_as_is None true acts reads e h = untrue e
+    read_as_is None false acts reads e h = refl
+    read_as_is (Some act) true acts reads e h = ap (λ (n : ℕ). reads ++ n ∷ []) (sym h)
+    read_as_is (Some act) false acts reads e h = untrue (sym e)
+
+of_demand : (x demand : Demand) (action : Action) → Some x ≡ Some demand → is_some (read_act x.purpose) ≡ is_read action → is_some (read_act demand.purpose) ≡ is_read action
+of_demand x demand action e f = subst (λ (d : Demand). is_some (read_act d.purpose) ≡ is_read action) (some_is x demand e) f
+
+ring_reads : (c : Bool) (x y : Demand) → read_act x.purpose ≡ None → read_act y.purpose ≡ None → is_some (read_act (cond c x y).purpose) ≡ false
+ring_reads true x y e f = ap is_some e
+ring_reads false x y e f = ap is_some f
+
+demand_reads : (action : Action) (s : InitiatorState) (demand : Demand) → demand_of action s ≡ Some demand → is_some (read_act demand.purpose) ≡ is_read action
+demand_reads actions.Rom s demand e = of_demand _ demand actions.Rom e refl
+demand_reads (actions.Login unit reconnect exclusive password) s demand e = of_demand _ demand (actions.Login unit reconnect exclusive password) e refl
+demand_reads (actions.Query unit) s demand e = of_demand _ demand (actions.Query unit) e refl
+demand_reads actions.Reconnect s demand e = of_demand _ demand actions.Reconnect e refl
+demand_reads actions.Logout s demand e = of_demand _ demand actions.Logout e refl
+demand_reads (actions.Abort orb) s demand e = of_demand _ demand (actions.Abort orb) e refl
+demand_reads actions.AbortSet s demand e = of_demand _ demand actions.AbortSet e refl
+demand_reads actions.UnitReset s demand e = of_demand _ demand actions.UnitReset e refl
+demand_reads actions.TargetReset s demand e = of_demand _ demand actions.TargetReset e refl
+demand_reads actions.AgentReset s demand e = of_demand _ demand actions.AgentReset e refl
+demand_reads actions.State s demand e = of_demand _ demand actions.State e refl
+demand_reads (actions.Dummy orb) s demand e = none_some e
+demand_reads (actions.Put cmd) s demand e = none_some e
+demand_reads (actions.Append cmd) s demand e =
+    of_demand _ demand (actions.Append cmd) e (ring_reads (is_unwritten s.marks.pointing) _ _ refl refl)
+demand_reads actions.Low s demand e = none_some e
+demand_reads actions.Link s demand e = none_some e
+demand_reads actions.Ring s demand e = of_demand _ demand actions.Ring e (ring_reads (is_unwritten s.marks.pointing) _ _ refl refl)
+demand_reads actions.Enable s demand e = of_demand _ demand actions.Enable e refl
+
+-- an action without a request is no read
+none_read : (action : Action) (s : InitiatorState) (acts : ℕ) (reads : List ℕ) → demand_of action s ≡ None → read_begun None action acts reads ≡ reads
+none_read actions.State s acts reads e = absurd (differ e)
+  where
+    differ : {A : Type 0} {a : A} → Some a ≡ None → ⊥
+    differ e = cc
+none_read actions.Rom s acts reads e = refl
+none_read (actions.Login unit reconnect exclusive password) s acts reads e = refl
+none_read (actions.Query unit) s acts reads e = refl
+none_read actions.Reconnect s acts reads e = refl
+none_read actions.Logout s acts reads e = refl
+none_read (actions.Abort orb) s acts reads e = refl
+none_read actions.AbortSet s acts reads e = refl
+none_read actions.UnitReset s acts reads e = refl
+none_read actions.TargetReset s acts reads e = refl
+none_read actions.AgentReset s acts reads e = refl
+none_read (actions.Dummy orb) s acts reads e = refl
+none_read (actions.Put cmd) s acts reads e = refl
+none_read (actions.Append cmd) s acts reads e = refl
+none_read actions.Low s acts reads e = refl
+none_read actions.Link s acts reads e = refl
+none_read actions.Ring s acts reads e = refl
+none_read actions.Enable s acts reads e = refl
+
 -- with the request of an action
-asked_as_wire : (c : Bool) (node : ℕ) (begins : Option Operation) (demand : Demand) (asked : Asked) (layer : Layer Purpose) (o : OutboxState) (s : InitiatorState) → is_numbered demand.purpose ≡ c → asked_for demand s ≡ (Some asked, layer) → Apt (after_by begins s) s.counts.acts s.counts.running demand → Wire (FitsNow s.operation s.counts.acts) node s.counts.running s.layer o.packets → Wire (FitsNow (after_by begins s) (s.counts.acts + 1)) node (cond c (s.counts.running + 1) s.counts.running) layer (o.packets ++ outgoing s.target asked ∷ [])
-asked_as_wire true node begins demand asked layer o s n e a w =
-    number_wire s.target (wanted_body demand.wanted) demand.purpose asked layer e n (a.value n) a.fits (kept_wire node begins o s w)
-asked_as_wire false node begins demand asked layer o s n e a w =
-    ask_wire s.target (wanted_body demand.wanted) demand.purpose asked layer e n a.fits (kept_wire node begins o s w)
+asked_as_wire : (c : Bool) (node : ℕ) (begins : Option Operation) (read : Bool) (list : Option ℕ) (counted : ℕ → Option ℕ) (demand : Demand) (asked : Asked) (layer : Layer Purpose) (o : OutboxState) (s : InitiatorState) → is_numbered demand.purpose ≡ c → asked_for demand s ≡ (Some asked, layer) → Apt (after_by begins s) s.counts.acts s.counts.running (counted_if read list s.counts.acts counted) demand → Wire (FitsNow s.operation s.counts.acts counted) s.states node s.counts.running s.layer o.packets → Wire (FitsNow (after_by begins s) (s.counts.acts + 1) (counted_if read list s.counts.acts counted)) (reads_with (read_act demand.purpose) s.states) node (cond c (s.counts.running + 1) s.counts.running) layer (o.packets ++ outgoing s.target asked ∷ [])
+asked_as_wire true node begins read list counted demand asked layer o s n e a w =
+    subst (λ (x : Option ℕ). Wire (FitsNow (after_by begins s) (s.counts.acts + 1) (counted_if read list s.counts.acts counted)) (reads_with x s.states) node (s.counts.running + 1) layer (o.packets ++ outgoing s.target asked ∷ [])) (sym (numbered_none demand.purpose n))
+    (number_wire s.target (wanted_body demand.wanted) demand.purpose asked layer e n (a.value n) a.fits (kept_wire node begins read list counted o s w))
+asked_as_wire false node begins read list counted demand asked layer o s n e a w =
+    ask_wire s.target (wanted_body demand.wanted) demand.purpose asked layer e n a.fits (kept_wire node begins read list counted o s w) (new_at (read_act demand.purpose) s counted w.calls a.read w.asks)
 
 -- what an action is refused for, or what it tells, and what holds afterwards
-pub record Acted (node : ℕ) (held : ℕ → List ℕ) (action : Action) (o : OutboxState) (s : InitiatorState) (r : Option ℕ × Turn) : Type 0 where
+pub record Acted (node : ℕ) (held : ℕ → List ℕ) (counted : ℕ → Option ℕ) (action : Action) (o : OutboxState) (s : InitiatorState) (r : Option ℕ × Turn) : Type 0 where
   pub begins : r.0 ≡ None → Begins action o s r.1
-  pub sound : Sound node (held_if r.0 action s held) r.1
+  pub sound : Sound node (held_if r.0 action s held) (counted_act r.0 action s counted) r.1
 
 some_none : {A : Type 0} {n : ℕ} → Some n ≡ None → A
 some_none e = absurd (differ e)
@@ -311,62 +457,64 @@ some_none e = absurd (differ e)
     differ : {n : ℕ} → Some n ≡ None → ⊥
     differ e = cc
 
-sent_acted : (node : ℕ) (held : ℕ → List ℕ) (action : Action) (demand : Demand) (asked : Asked) (layer : Layer Purpose) (o : OutboxState) (s : InitiatorState) → Sound node held (o, s) → Allowed action s → demand_of action s ≡ Some demand → asked_for demand s ≡ (Some asked, layer) → Acted node held action o s (asked_as (Some asked, layer) action o s)
-sent_acted node held action demand asked layer o s k a e f =
+sent_acted : (node : ℕ) (held : ℕ → List ℕ) (counted : ℕ → Option ℕ) (action : Action) (demand : Demand) (asked : Asked) (layer : Layer Purpose) (o : OutboxState) (s : InitiatorState) → Sound node held counted (o, s) → Allowed action s → demand_of action s ≡ Some demand → asked_for demand s ≡ (Some asked, layer) → Acted node held counted action o s (asked_as (Some asked, layer) action o s)
+sent_acted node held counted action demand asked layer o s k a e f =
     let u = record s { layer = layer } in
     let d0 = done_does action o u (record { prepares = a.prepares; rings = a.rings; marks = k.marks.marks }) in
     let d : Done (Some demand) (operation_of action) (orb_in (operation_of action) action s) o u (done_step action o u) = subst (λ (x : Option Demand). Done x (operation_of action) (orb_in (operation_of action) action s) o u (done_step action o u)) (demand_same action s layer ∙ e)
     (subst (λ (x : Option ManagementOrb). Done (demand_of action u) (operation_of action) x o u (done_step action o u)) (orb_same action s layer) d0) in
     record {
       begins = λ g. record { news = d.news; sides = d.sides; steps = d.steps; free = a.free; operation = d.operation ∙ after_same (operation_of action) s layer };
-      sound = left_sound node held (with_orb (orb_in (operation_of action) action s) (place_of s.counts.managed) held) (Some demand) (operation_of action) o s (asked_as (Some asked, layer) action o s).1 k
+      sound = left_sound node held (with_orb (orb_in (operation_of action) action s) (place_of s.counts.managed) held) counted (counted_act None action s counted) (Some demand) (operation_of action) o s (asked_as (Some asked, layer) action o s).1 k
           (record {
             operation = d.operation ∙ after_same (operation_of action) s layer;
             acts = ap (λ (n : ℕ). n + 1) d.acts;
             running = d.running;
             marks = d.marks held k.sized k.marks;
             sized = with_orb_sized (orb_in (operation_of action) action s) (place_of s.counts.managed) held k.sized;
-            wires = subst (λ (l : Layer Purpose). Wire (FitsNow (after_by (operation_of action) s) (s.counts.acts + 1)) node (used (Some demand) s.counts.running) l ((done_step action o u).0.packets ++ outgoing s.target asked ∷ [])) (sym d.layer)
-                (subst (λ (ps : List Outgoing). Wire (FitsNow (after_by (operation_of action) s) (s.counts.acts + 1)) node (used (Some demand) s.counts.running) layer (ps ++ outgoing s.target asked ∷ [])) (sym d.packets)
-                (asked_as_wire (is_numbered demand.purpose) node (operation_of action) demand asked layer o s refl f (apt action s demand e) k.wires));
+            wires = subst (λ (x : List ℕ). Wire (FitsNow (after_by (operation_of action) s) (s.counts.acts + 1) (counted_act None action s counted)) x node (used (Some demand) s.counts.running) (done_step action o u).1.layer ((done_step action o u).0.packets ++ outgoing s.target asked ∷ [])) (sym (done_reads action o u a.prepares ∙ as_read demand.purpose action s.counts.acts s.states (demand_reads action s demand e) (apt action s counted demand e).read))
+                (subst (λ (l : Layer Purpose). Wire (FitsNow (after_by (operation_of action) s) (s.counts.acts + 1) (counted_act None action s counted)) (reads_with (read_act demand.purpose) s.states) node (used (Some demand) s.counts.running) l ((done_step action o u).0.packets ++ outgoing s.target asked ∷ [])) (sym d.layer)
+                (subst (λ (ps : List Outgoing). Wire (FitsNow (after_by (operation_of action) s) (s.counts.acts + 1) (counted_act None action s counted)) (reads_with (read_act demand.purpose) s.states) node (used (Some demand) s.counts.running) layer (ps ++ outgoing s.target asked ∷ [])) (sym d.packets)
+                (asked_as_wire (is_numbered demand.purpose) node (operation_of action) (is_read action) (answered_list (is_answered s.marks.pointing) s.lists.slots.present) counted demand asked layer o s refl f (apt action s counted demand e) k.wires)));
           });
     }
 
-none_acted : (node : ℕ) (held : ℕ → List ℕ) (action : Action) (demand : Demand) (layer : Layer Purpose) (o : OutboxState) (s : InitiatorState) → Sound node held (o, s) → layer ≡ s.layer → Acted node held action o s (asked_as (None, layer) action o s)
-none_acted node held action demand layer o s k e = record {
+none_acted : (node : ℕ) (held : ℕ → List ℕ) (counted : ℕ → Option ℕ) (action : Action) (demand : Demand) (layer : Layer Purpose) (o : OutboxState) (s : InitiatorState) → Sound node held counted (o, s) → layer ≡ s.layer → Acted node held counted action o s (asked_as (None, layer) action o s)
+none_acted node held counted action demand layer o s k e = record {
   begins = λ g. some_none g;
-  sound = subst (λ (l : Layer Purpose). Sound node held (o, record s { layer = l })) (sym e) k;
+  sound = subst (λ (l : Layer Purpose). Sound node held counted (o, record s { layer = l })) (sym e) k;
 }
 
-asked_acted : (r : Option Asked × Layer Purpose) (node : ℕ) (held : ℕ → List ℕ) (action : Action) (demand : Demand) (o : OutboxState) (s : InitiatorState) → Sound node held (o, s) → Allowed action s → demand_of action s ≡ Some demand → asked_for demand s ≡ r → Acted node held action o s (asked_as r action o s)
-asked_acted (None, layer) node held action demand o s k a e f =
-    none_acted node held action demand layer o s k (none_asked s.layer layer s.target (wanted_body demand.wanted) demand.purpose (sym f))
-asked_acted (Some asked, layer) node held action demand o s k a e f = sent_acted node held action demand asked layer o s k a e f
+asked_acted : (r : Option Asked × Layer Purpose) (node : ℕ) (held : ℕ → List ℕ) (counted : ℕ → Option ℕ) (action : Action) (demand : Demand) (o : OutboxState) (s : InitiatorState) → Sound node held counted (o, s) → Allowed action s → demand_of action s ≡ Some demand → asked_for demand s ≡ r → Acted node held counted action o s (asked_as r action o s)
+asked_acted (None, layer) node held counted action demand o s k a e f =
+    none_acted node held counted action demand layer o s k (none_asked s.layer layer s.target (wanted_body demand.wanted) demand.purpose (sym f))
+asked_acted (Some asked, layer) node held counted action demand o s k a e f = sent_acted node held counted action demand asked layer o s k a e f
 
-demanded_acted : (demand : Option Demand) (node : ℕ) (held : ℕ → List ℕ) (action : Action) (o : OutboxState) (s : InitiatorState) → Sound node held (o, s) → Allowed action s → demand_of action s ≡ demand → Acted node held action o s (demanded_as demand action o s)
-demanded_acted None node held action o s k a e =
+demanded_acted : (demand : Option Demand) (node : ℕ) (held : ℕ → List ℕ) (counted : ℕ → Option ℕ) (action : Action) (o : OutboxState) (s : InitiatorState) → Sound node held counted (o, s) → Allowed action s → demand_of action s ≡ demand → Acted node held counted action o s (demanded_as demand action o s)
+demanded_acted None node held counted action o s k a e =
     let d0 = done_does action o s (record { prepares = a.prepares; rings = a.rings; marks = k.marks.marks }) in
     let d : Done None (operation_of action) (orb_in (operation_of action) action s) o s (done_step action o s) = subst (λ (x : Option Demand). Done x (operation_of action) (orb_in (operation_of action) action s) o s (done_step action o s)) e d0 in
     record {
       begins = λ g. record { news = d.news; sides = d.sides; steps = d.steps; free = a.free; operation = d.operation };
-      sound = left_sound node held (with_orb (orb_in (operation_of action) action s) (place_of s.counts.managed) held) None (operation_of action) o s (demanded_as None action o s).1 k
+      sound = left_sound node held (with_orb (orb_in (operation_of action) action s) (place_of s.counts.managed) held) counted (counted_act None action s counted) None (operation_of action) o s (demanded_as None action o s).1 k
           (record {
             operation = d.operation;
             acts = ap (λ (n : ℕ). n + 1) d.acts;
             running = d.running;
             marks = d.marks held k.sized k.marks;
             sized = with_orb_sized (orb_in (operation_of action) action s) (place_of s.counts.managed) held k.sized;
-            wires = subst (λ (l : Layer Purpose). Wire (FitsNow (after_by (operation_of action) s) (s.counts.acts + 1)) node s.counts.running l (done_step action o s).0.packets) (sym d.layer)
-                (subst (λ (ps : List Outgoing). Wire (FitsNow (after_by (operation_of action) s) (s.counts.acts + 1)) node s.counts.running s.layer ps) (sym d.packets)
-                (kept_wire node (operation_of action) o s k.wires));
+            wires = subst (λ (x : List ℕ). Wire (FitsNow (after_by (operation_of action) s) (s.counts.acts + 1) (counted_act None action s counted)) x node s.counts.running (done_step action o s).1.layer (done_step action o s).0.packets) (sym (done_reads action o s a.prepares ∙ none_read action s s.counts.acts s.states e))
+                (subst (λ (l : Layer Purpose). Wire (FitsNow (after_by (operation_of action) s) (s.counts.acts + 1) (counted_act None action s counted)) s.states node s.counts.running l (done_step action o s).0.packets) (sym d.layer)
+                (subst (λ (ps : List Outgoing). Wire (FitsNow (after_by (operation_of action) s) (s.counts.acts + 1) (counted_act None action s counted)) s.states node s.counts.running s.layer ps) (sym d.packets)
+                (kept_wire node (operation_of action) (is_read action) (answered_list (is_answered s.marks.pointing) s.lists.slots.present) counted o s k.wires)));
           });
     }
-demanded_acted (Some demand) node held action o s k a e = asked_acted (asked_for demand s) node held action demand o s k a e refl
+demanded_acted (Some demand) node held counted action o s k a e = asked_acted (asked_for demand s) node held counted action demand o s k a e refl
 
-judged_acted : (r : Option ℕ) (node : ℕ) (held : ℕ → List ℕ) (action : Action) (o : OutboxState) (s : InitiatorState) → Sound node held (o, s) → refusal action (facts_with true s action) ≡ r → Acted node held action o s (judged_as r action o s)
-judged_acted (Some number) node held action o s k e = record { begins = λ g. some_none g; sound = k }
-judged_acted None node held action o s k e = demanded_acted (demand_of action s) node held action o s k (allowed action s e) refl
+judged_acted : (r : Option ℕ) (node : ℕ) (held : ℕ → List ℕ) (counted : ℕ → Option ℕ) (action : Action) (o : OutboxState) (s : InitiatorState) → Sound node held counted (o, s) → refusal action (facts_with true s action) ≡ r → Acted node held counted action o s (judged_as r action o s)
+judged_acted (Some number) node held counted action o s k e = record { begins = λ g. some_none g; sound = k }
+judged_acted None node held counted action o s k e = demanded_acted (demand_of action s) node held counted action o s k (allowed action s e) refl
 
-pub act_acted : (node : ℕ) (held : ℕ → List ℕ) (action : Action) (o : OutboxState) (s : InitiatorState) → Sound node held (o, s) → Acted node held action o s (act_step action o s)
+pub act_acted : (node : ℕ) (held : ℕ → List ℕ) (counted : ℕ → Option ℕ) (action : Action) (o : OutboxState) (s : InitiatorState) → Sound node held counted (o, s) → Acted node held counted action o s (act_step action o s)
 unfolding act_step
-act_acted node held action o s k = judged_acted (refusal action (facts_with true s action)) node held action o s k refl
+act_acted node held counted action o s k = judged_acted (refusal action (facts_with true s action)) node held counted action o s k refl

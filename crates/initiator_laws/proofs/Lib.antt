@@ -1,3 +1,9 @@
+pub mod Moved
+pub mod Acted
+pub mod Delivered
+pub mod Called
+pub mod Slotted
+pub mod Refused
 pub mod Judging
 pub mod Effects
 pub mod Requests
@@ -10,3 +16,8 @@ pub mod Acts
 pub mod Over
 pub mod Takes
 pub mod Served
+pub mod Leaves
+pub mod Brings
+pub mod Did
+pub mod Known
+pub mod Lives

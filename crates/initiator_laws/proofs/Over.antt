@@ -1,11 +1,16 @@
 -- The laws over every list of calls.
-use Rattle.std.proofs.Common.{◌≡◌, refl, ℕ, zero, suc, ◌+◌, Bool, List, [], ◌∷◌, replicate, slice_index_or, None}
+use Rattle.std.proofs.Common.{◌≡◌, refl, ℕ, zero, suc, ◌+◌, Bool, List, [], ◌∷◌, replicate, slice_index_or, Option, None}
 use Rattle.bus_memory.specs.Memory.{empty_place, new_memory}
+use Rattle.label_table.specs.declared.reply.ReplyKind.{ReplyKind}
+use Rattle.label_table.specs.History as wire
 use Rattle.sbp_journal.specs.Outgoings.{empty_outbox}
+use Rattle.sbp_initiator.specs.declared.purpose.Purpose.{Purpose}
 use Rattle.sbp_initiator.specs.Effects.{Turn}
 use Rattle.sbp_initiator.specs.Initiators.{new_state}
-use Rattle.sbp_initiator.specs.Laws.{Call, acts, receives, lets_expire, AreCalls, IsCall, after, done}
-use Rattle.sbp_initiator.specs.Laws as laws
+use Rattle.sbp_initiator.specs.States.{is_answered}
+use Rattle.initiator_laws.specs.Laws.{Call, acts, receives, lets_expire, AreCalls, IsCall, after, done}
+use Rattle.initiator_laws.specs.Laws as laws
+use Rattle.initiator_laws.specs.Marks.{counted_by}
 use Rattle.initiator_laws.specs.Numbers.{NumberLaw}
 use Rattle.initiator_laws.specs.Served.{held_by, held_after}
 use Rattle.initiator_laws.specs.Tells.{TellsLaw}
@@ -24,26 +29,35 @@ first_holds : (number : ℕ) (ready : Bool) → Holds (λ m. replicate 32 0) (ne
 unfolding new_state new_memory
 first_holds number ready = record { marks = refl; orbs = first_place; places = refl }
 
-first_sound : (number : ℕ) (ready : Bool) → Sound (0xffc1 + number) (λ m. replicate 32 0) (empty_outbox, new_state number ready)
+not_yet : {kind : ReplyKind} {purpose : Option Purpose} → wire.not_begun ≡ wire.under_way kind purpose → ⊥
+not_yet e = cc
+
+first_sound : (number : ℕ) (ready : Bool) → Sound (0xffc1 + number) (λ m. replicate 32 0) (λ n. None) (empty_outbox, new_state number ready)
 unfolding new_state
 first_sound number ready = record {
-  wires = record { calls = []; layer_is = refl; packets_are = refl; rises = tt; asks = tt };
+  wires = record { calls = []; layer_is = refl; packets_are = refl; rises = tt; asks = tt; new = tt; lives = record { has = λ peer label kind act list e. absurd (not_yet e) } };
   marks = first_holds number ready;
   sized = λ m. refl;
   orb = record { managed = λ r e. none_some e };
   begun = record { before = λ r e. none_some e };
 }
 
-call_sound : (node : ℕ) (held : ℕ → List ℕ) (call : Call) (t : Turn) → Sound node held t → Sound node (held_by call t held) (done call t)
-call_sound node held (acts action) t k = (act_acted node held action t.0 t.1 k).sound
-call_sound node held (receives generation bytes) t k = call_soundly node held (receives generation bytes) t k refl
-call_sound node held (lets_expire label) t k = call_soundly node held (lets_expire label) t k refl
-call_sound node held (laws.sees generation id target) t k = sees_soundly node held generation id target t.0 t.1 k
+call_sound : (node : ℕ) (held : ℕ → List ℕ) (counted : ℕ → Option ℕ) (call : Call) (t : Turn) → Sound node held counted t → Sound node (held_by call t held) (counted_by call t (is_answered t.1.marks.pointing) counted) (done call t)
+call_sound node held counted (acts action) t k = (act_acted node held counted action t.0 t.1 k).sound
+call_sound node held counted (receives generation bytes) t k = call_soundly node held counted (receives generation bytes) t k refl
+call_sound node held counted (lets_expire label) t k = call_soundly node held counted (lets_expire label) t k refl
+call_sound node held counted (laws.sees generation id target) t k = sees_soundly node held counted generation id target t.0 t.1 k
 
-pub sound : (number : ℕ) (ready : Bool) (calls : List Call) → Sound (0xffc1 + number) (held_after number ready calls) (after number ready calls)
+-- the list that each read counts for, by what the initiator knew as it was asked for
+abbrev pub counted_now : ℕ → Bool → List Call → ℕ → Option ℕ
+counted_now number ready [] n = None
+counted_now number ready (call ∷ calls) n =
+    counted_by call (after number ready calls) (is_answered (after number ready calls).1.marks.pointing) (counted_now number ready calls) n
+
+pub sound : (number : ℕ) (ready : Bool) (calls : List Call) → Sound (0xffc1 + number) (held_after number ready calls) (counted_now number ready calls) (after number ready calls)
 sound number ready [] = first_sound number ready
 sound number ready (call ∷ calls) =
-    call_sound (0xffc1 + number) (held_after number ready calls) call (after number ready calls) (sound number ready calls)
+    call_sound (0xffc1 + number) (held_after number ready calls) (counted_now number ready calls) call (after number ready calls) (sound number ready calls)
 
 none_first : (number : ℕ) (ready : Bool) → (new_state number ready).operation ≡ None
 unfolding new_state
@@ -53,9 +67,9 @@ pub tells_law : TellsLaw
 tells_law = record {
   first = λ number ready. none_first number ready;
   tells = λ number ready calls h. record {
-    action = λ act p e. (act_acted (0xffc1 + number) (held_after number ready calls) act (after number ready calls).0 (after number ready calls).1 (sound number ready calls)).begins e;
-    heard = λ call e. call_tells (0xffc1 + number) (held_after number ready calls) call (after number ready calls) (sound number ready calls) e;
-    seen = λ generation id target. sees_so (0xffc1 + number) (held_after number ready calls) generation id target (after number ready calls).0 (after number ready calls).1 (sound number ready calls);
+    action = λ act p e. (act_acted (0xffc1 + number) (held_after number ready calls) (counted_now number ready calls) act (after number ready calls).0 (after number ready calls).1 (sound number ready calls)).begins e;
+    heard = λ call e. call_tells (0xffc1 + number) (held_after number ready calls) (counted_now number ready calls) call (after number ready calls) (sound number ready calls) e;
+    seen = λ generation id target. sees_so (0xffc1 + number) (held_after number ready calls) (counted_now number ready calls) generation id target (after number ready calls).0 (after number ready calls).1 (sound number ready calls);
   };
 }
 

@@ -27,7 +27,7 @@ AllAsk P (asks peer body purpose ∷ calls) = P purpose × AllAsk P calls
 AllAsk P (_ ∷ calls) = AllAsk P calls
 
 -- each transaction that began is of this kind
-abbrev AllBegan : (Purpose → Type 0) → Notes → Type 0
+abbrev pub AllBegan : (Purpose → Type 0) → Notes → Type 0
 AllBegan P [] = Unit {0}
 AllBegan P (began peer label kind purpose ∷ notes) = P purpose × AllBegan P notes
 AllBegan P (_ ∷ notes) = AllBegan P notes
@@ -75,7 +75,7 @@ module _ (P : Purpose → Type 0) where
   seen_began true notes a = a
   seen_began false notes a = a
 
-  all_began : (node : ℕ) (calls : Calls) → AllAsk P calls → AllBegan P (history node calls)
+  pub all_began : (node : ℕ) (calls : Calls) → AllAsk P calls → AllBegan P (history node calls)
   all_began node [] a = tt
   all_began node (asks peer body purpose ∷ calls) a =
       asked_began (asking_step (after node calls) peer body purpose).0 peer (kind_of (unlabelled (after node calls) peer body)) purpose (history node calls) a.0 (all_began node calls a.1)
@@ -91,7 +91,7 @@ module _ (P : Purpose → Type 0) where
 -- ---- what is under way is for what was asked for
 
 -- a transaction under way is for something of this kind, or for nobody
-abbrev IsOf : (Purpose → Type 0) → Life Purpose → Type 0
+abbrev pub IsOf : (Purpose → Type 0) → Life Purpose → Type 0
 IsOf P (under_way kind (Some purpose)) = P purpose
 IsOf P _ = Unit {0}
 
@@ -109,7 +109,7 @@ either_of : (P : Purpose → Type 0) (c : Bool) (x y : Life Purpose) → IsOf P 
 either_of P true x y a b = a
 either_of P false x y a b = b
 
-life_of : (P : Purpose → Type 0) (peer : ℕ) (label : LabelParts) (notes : Notes) → AllBegan P notes → IsOf P (life peer label notes)
+pub life_of : (P : Purpose → Type 0) (peer : ℕ) (label : LabelParts) (notes : Notes) → AllBegan P notes → IsOf P (life peer label notes)
 life_of P peer label [] a = tt
 life_of P peer label (began other that kind purpose ∷ notes) a =
     either_of P (is_same other that peer label) (under_way kind (Some purpose)) (life peer label notes) a.0 (life_of P peer label notes a.1)
@@ -163,7 +163,7 @@ judged_kind by_response layer bytes (Err fault) p label purpose f = cc
 judged_kind by_again layer bytes (Err fault) p label purpose f = cc
 judged_kind by_request layer bytes (Err fault) p label purpose f = cc
 
-kind_in : (layer : Layer Purpose) (generation : ℕ) (bytes : List ℕ) (p : Packet) (label : LabelParts) (purpose : Option Purpose) → (judging_step layer generation bytes).0 ≡ of_response p label purpose → is_some (reply_kind p) ≡ true
+pub kind_in : (layer : Layer Purpose) (generation : ℕ) (bytes : List ℕ) (p : Packet) (label : LabelParts) (purpose : Option Purpose) → (judging_step layer generation bytes).0 ≡ of_response p label purpose → is_some (reply_kind p) ≡ true
 unfolding judging_step
 kind_in layer generation bytes p label purpose f =
     judged_kind (row_of (facts_of layer generation bytes)) layer bytes (reading bytes) p label purpose f

@@ -24,7 +24,6 @@ use Rattle.orb_list.specs.Table.{SlotTable, closed, passed_for, slot_in, status_
 use Rattle.sbp_journal.specs.declared.cause.Cause.TheVariants as causes
 use Rattle.sbp_journal.specs.declared.note.Note.{Note}
 use Rattle.sbp_journal.specs.declared.note.Note.TheVariants as notes
-use Rattle.sbp_journal.specs.declared.operation.OpWord.{OpWord}
 use Rattle.sbp_journal.specs.declared.outbox.Outgoing.{Outgoing}
 use Rattle.sbp_journal.specs.Outgoings.{OutboxState}
 use Rattle.sbp_journal.specs.Addresses.{Access}
@@ -38,12 +37,12 @@ use Rattle.sbp_initiator.specs.declared.state.Counts.{Counts}
 use Rattle.sbp_initiator.specs.declared.state.InitiatorState.{InitiatorState}
 use Rattle.sbp_initiator.specs.Refusals.{ends_list}
 use Rattle.sbp_initiator.specs.Lists.{ListState, stepped, take_lists, write_lists}
-use Rattle.sbp_initiator.specs.Moves.{response}
+use Rattle.initiator_laws.specs.Moves.{response}
 use Rattle.sbp_initiator.specs.States.{is_orb_of, status_in}
 use Rattle.sbp_initiator.specs.Effects.{Turn, managed_step, told, with_dead}
 use Rattle.sbp_initiator.specs.Receiving.{address_error, addressed, answer_of, block_at, block_by, block_step, called, fifo_of, got_step, ignored_step, is_dead_kind, is_foreign, managed_for, present_for, quadlet_at, read_as as served_as, request_step, respond_step, serve_step, taken_as, taken_by as takes_by, type_error, written_as}
 use Rattle.initiator_laws.specs.Drops.{IfGone, drop_if}
-use Rattle.initiator_laws.specs.Ends.{own, OpEnd, notes_of, is_managed, IsStateWord, OpMove}
+use Rattle.initiator_laws.specs.Ends.{own, OpEnd, notes_of, is_managed, OpMove}
 use Rattle.initiator_laws.specs.Judging.{facts_at}
 use Rattle.initiator_laws.specs.Taking.{Brought, nothing, unsolicited, read_as, brought, waiting_at, taken_of, taken_by, block_note, good_drops, kind_drops, block_drops, block_notes}
 use Rattle.initiator_laws.proofs.Effects.{HasMarks, Holds, KeepsMarks, managed_does}
@@ -158,14 +157,14 @@ write_keeps pointing lists offset bytes x h =
     record { marks = h.marks; orbs = λ m. k.orbs m ∙ h.orbs m; places = k.places ∙ h.places }
 
 -- a write of a block, and of a quadlet
-abbrev block_write_of : ℕ → List ℕ → Access
+abbrev pub block_write_of : ℕ → List ℕ → Access
 block_write_of offset payload = record { is_lock = false; is_write = true; is_block = true; offset = offset; count = length payload; payload = payload }
 
-abbrev quadlet_write_of : ℕ → Access
+abbrev pub quadlet_write_of : ℕ → Access
 quadlet_write_of offset = record { is_lock = false; is_write = true; is_block = false; offset = offset; count = 4; payload = [] }
 
 -- the rows behind the first one
-abbrev behind_row : RequestFacts → Result StatusBlock OrbFault → Brought
+abbrev pub behind_row : RequestFacts → Result StatusBlock OrbFault → Brought
 behind_row facts read =
     cond (facts.of_other_login || facts.to_closed_fifo) nothing (cond (facts.is_status && facts.is_unsolicited) unsolicited (cond facts.is_status (read_as read) nothing))
 
@@ -178,11 +177,9 @@ pub record HasOrb (operation : Option Running) : Type 0 where
 -- What a delivery tells before its answer, with what a block tells and the list that is dropped, and what it leaves.
 pub record Handles (o : OutboxState) (s : InitiatorState) (first : Option Note) (drop : Option ℕ) (t : Turn) : Type 0 where
   pub op : Option OpEnd
-  pub state : Option OpWord
   pub stuck : Bool
-  pub sides : t.0.sides ≡ o.sides ++ own (block_notes first ++ notes_of s.number drop op state stuck)
+  pub sides : t.0.sides ≡ o.sides ++ own (block_notes first ++ notes_of s.number drop op None stuck)
   pub move : OpMove s.operation op t.1.operation
-  pub word : IsStateWord state
   pub layer : t.1.layer ≡ s.layer
   pub packets : t.0.packets ≡ o.packets
   pub running : t.1.counts.running ≡ s.counts.running
@@ -194,11 +191,9 @@ pub record Handles (o : OutboxState) (s : InitiatorState) (first : Option Note) 
 -- And with its answer.
 pub record Answers (p : Packet) (bytes : List ℕ) (o : OutboxState) (s : InitiatorState) (first : Option Note) (drop : Option ℕ) (t : Turn) : Type 0 where
   pub op : Option OpEnd
-  pub state : Option OpWord
   pub stuck : Bool
-  pub sides : t.0.sides ≡ o.sides ++ own (block_notes first ++ notes_of s.number drop op state stuck)
+  pub sides : t.0.sides ≡ o.sides ++ own (block_notes first ++ notes_of s.number drop op None stuck)
   pub move : OpMove s.operation op t.1.operation
-  pub word : IsStateWord state
   pub rcode : ℕ
   pub given : List ℕ
   pub layer : t.1.layer ≡ (answering_step s.layer p bytes rcode given).1
@@ -213,11 +208,9 @@ module _ (p : Packet) (bytes : List ℕ) (o : OutboxState) (s : InitiatorState) 
   answered : (rcode : ℕ) (given : List ℕ) (first : Option Note) (drop : Option ℕ) (t : Turn) → Handles o s first drop t → Answers p bytes o s first drop (respond_step p bytes rcode given t)
   answered rcode given first drop t h = record {
     op = h.op;
-    state = h.state;
     stuck = h.stuck;
     sides = h.sides;
     move = h.move;
-    word = h.word;
     rcode = rcode;
     given = given;
     layer = ap (λ (l : Layer Purpose). (answering_step l p bytes rcode given).1) h.layer;
@@ -235,11 +228,9 @@ module _ (o : OutboxState) (s : InitiatorState) where
   quiet : (t : InitiatorState) → t.operation ≡ s.operation → t.layer ≡ s.layer → t.counts.running ≡ s.counts.running → t.counts.acts ≡ s.counts.acts → t.number ≡ s.number → KeepsMarks s t → Handles o s None None (o, t)
   quiet t op layer running acts number marks = record {
     op = None;
-    state = None;
     stuck = false;
     sides = sym (append-nil o.sides);
     move = op;
-    word = tt;
     layer = layer;
     packets = refl;
     running = running;
@@ -253,11 +244,9 @@ module _ (o : OutboxState) (s : InitiatorState) where
   tells : (note : Note) (t : InitiatorState) → t.operation ≡ s.operation → t.layer ≡ s.layer → t.counts.running ≡ s.counts.running → t.counts.acts ≡ s.counts.acts → t.number ≡ s.number → KeepsMarks s t → Handles o s (Some note) None (told o note, t)
   tells note t op layer running acts number marks = record {
     op = None;
-    state = None;
     stuck = false;
     sides = refl;
     move = op;
-    word = tt;
     layer = layer;
     packets = refl;
     running = running;
@@ -283,11 +272,9 @@ module _ (p : Packet) (bytes : List ℕ) (o : OutboxState) (s : InitiatorState) 
       answered p bytes o s 0 [] None drop (managed_step running code o (called s))
       (record {
         op = d.op;
-        state = d.state;
         stuck = d.stuck;
         sides = d.sides;
         move = d.move;
-        word = d.word;
         layer = d.wire.0;
         packets = d.wire.1;
         running = ap (λ (c : Counts). c.running) d.counts;

@@ -18,18 +18,23 @@ use Rattle.sbp_initiator.specs.declared.state.Counts.{Counts}
 use Rattle.sbp_initiator.specs.declared.state.InitiatorState.{InitiatorState}
 use Rattle.sbp_initiator.specs.States.{ending_of}
 use Rattle.sbp_initiator.specs.Effects.{Turn, ended_for, ended_step}
-use Rattle.sbp_initiator.specs.Laws.{Call, receives, lets_expire, done}
-use Rattle.sbp_initiator.specs.Laws as laws
-use Rattle.sbp_initiator.specs.Moves.{response}
+use Rattle.initiator_laws.specs.Laws.{Call, receives, lets_expire, done}
+use Rattle.initiator_laws.specs.Laws as laws
+use Rattle.initiator_laws.specs.Moves.{outgoing, response}
+use Rattle.label_table.specs.History as wire
 use Rattle.sbp_initiator.specs.Receiving.{called, expire_step, expired_as, receive_step, received}
 use Rattle.sbp_initiator.specs.Judged.{IsSame}
 use Rattle.sbp_initiator.proofs.Layers.{judged_same}
 use Rattle.initiator_laws.specs.Drops.{IfGone, drop_if, ends_the_list}
-use Rattle.initiator_laws.specs.Ends.{own, OpEnd, notes_of, IsStateWord, OpMove}
+use Rattle.initiator_laws.specs.Ends.{own, OpEnd, notes_of, OpMove, read_ends}
+use Rattle.initiator_laws.specs.Marks.{CountsFor, expired_reads, finding_reads, read_over}
 use Rattle.initiator_laws.specs.Numbers.{is_numbered, carried, RisesTo}
-use Rattle.initiator_laws.specs.Taking.{block_notes, call_drops, call_note, finding_drops, finding_note}
+use Rattle.initiator_laws.specs.Taking.{block_notes, call_drops, call_note, call_read, expired_read, finding_drops, finding_note, finding_read, purpose_read}
 use Rattle.initiator_laws.specs.Tells.{is_heard, Tells}
 use Rattle.initiator_laws.proofs.Effects.{Asking, Fits, Holds, Wired, ended_does}
+use Rattle.initiator_laws.proofs.Brings.{request_left}
+use Rattle.initiator_laws.proofs.Leaves.{for_leaves}
+use Rattle.initiator_laws.proofs.Lives.{IsNew, LivesIn, read_act, reads_with}
 use Rattle.initiator_laws.proofs.Purposes.{IfFor, all_ask, closes_asked, expires_asked}
 use Rattle.initiator_laws.proofs.Requests.{Answers, HasOrb, ignored_again, request_answers}
 use Rattle.initiator_laws.proofs.Wires.{Wire, judge_wire, expire_wire, answer_wire, ask_wire}
@@ -50,17 +55,18 @@ abbrev pub IsEarlier : Option ℕ → ℕ → Type 0
 IsEarlier None acts = Unit {0}
 IsEarlier (Some act) acts = act < acts
 
--- a transaction fits the operation under way, and is for an earlier action
-pub record FitsNow (operation : Option Running) (acts : ℕ) (purpose : Purpose) : Type 0 where
+-- a transaction fits the operation under way, is for an earlier action, and a read of AGENT_STATE counts for its list
+pub record FitsNow (operation : Option Running) (acts : ℕ) (counted : ℕ → Option ℕ) (purpose : Purpose) : Type 0 where
   pub fits : Fits purpose operation
   pub earlier : IsEarlier (act_in purpose) acts
+  pub counts : CountsFor counted (Some purpose)
 
 -- the operation under way is of an earlier action
 pub record IsBegun (operation : Option Running) (acts : ℕ) : Type 0 where
   pub before : (running : Running) → operation ≡ Some running → running.act < acts
 
-pub record Sound (node : ℕ) (held : ℕ → List ℕ) (t : Turn) : Type 0 where
-  pub wires : Wire (FitsNow t.1.operation t.1.counts.acts) node t.1.counts.running t.1.layer t.0.packets
+pub record Sound (node : ℕ) (held : ℕ → List ℕ) (counted : ℕ → Option ℕ) (t : Turn) : Type 0 where
+  pub wires : Wire (FitsNow t.1.operation t.1.counts.acts counted) t.1.states node t.1.counts.running t.1.layer t.0.packets
   pub marks : Holds held t.1.lists t.1.marks.pointing
   pub sized : (m : ℕ) → length (held m) ≡ 32
   pub orb : HasOrb t.1.operation
@@ -97,21 +103,23 @@ begun_move before None after n m h = subst (λ (r : Option Running). IsBegun r n
 begun_move before (Some end) after n m h = subst (λ (r : Option Running). IsBegun r n) (sym m.1) (record { before = λ r e. none_some e })
 
 -- what is kept by a call that no action is
-module _ (node : ℕ) (held : ℕ → List ℕ) (s : InitiatorState) (op : Option OpEnd) (t : Turn) where
-  kept_wire : OpMove s.operation op t.1.operation → t.1.counts.acts ≡ s.counts.acts → t.1.counts.running ≡ s.counts.running → Wire (FitsNow s.operation s.counts.acts) node s.counts.running t.1.layer t.0.packets → Wire (FitsNow t.1.operation t.1.counts.acts) node t.1.counts.running t.1.layer t.0.packets
-  kept_wire m a r w = record {
+module _ (node : ℕ) (held : ℕ → List ℕ) (counted : ℕ → Option ℕ) (s : InitiatorState) (op : Option OpEnd) (t : Turn) where
+  kept_wire : (reads : List ℕ) → t.1.states ≡ reads → OpMove s.operation op t.1.operation → t.1.counts.acts ≡ s.counts.acts → t.1.counts.running ≡ s.counts.running → Wire (FitsNow s.operation s.counts.acts counted) reads node s.counts.running t.1.layer t.0.packets → Wire (FitsNow t.1.operation t.1.counts.acts counted) t.1.states node t.1.counts.running t.1.layer t.0.packets
+  kept_wire reads x m a r w = record {
     calls = w.calls;
     layer_is = w.layer_is;
     packets_are = w.packets_are;
     rises = subst (λ (n : ℕ). RisesTo n (carried node w.calls)) (sym r) w.rises;
-    asks = all_ask (FitsNow s.operation s.counts.acts) (FitsNow t.1.operation t.1.counts.acts)
-        (λ p f. record { fits = fits_move s.operation op t.1.operation p m f.fits; earlier = subst (λ (n : ℕ). IsEarlier (act_in p) n) (sym a) f.earlier })
+    asks = all_ask (FitsNow s.operation s.counts.acts counted) (FitsNow t.1.operation t.1.counts.acts counted)
+        (λ p f. record { fits = fits_move s.operation op t.1.operation p m f.fits; earlier = subst (λ (n : ℕ). IsEarlier (act_in p) n) (sym a) f.earlier; counts = f.counts })
         w.calls w.asks;
+    new = w.new;
+    lives = subst (λ (l : List ℕ). LivesIn l (wire.history node w.calls)) (sym x) w.lives;
   }
 
-  kept_sound : (old : Turn) → Sound node held old → old.1.operation ≡ s.operation → old.1.counts.acts ≡ s.counts.acts → OpMove s.operation op t.1.operation → t.1.counts.acts ≡ s.counts.acts → t.1.counts.running ≡ s.counts.running → Holds held t.1.lists t.1.marks.pointing → Wire (FitsNow s.operation s.counts.acts) node s.counts.running t.1.layer t.0.packets → Sound node held t
-  kept_sound old k e f m a r h w = record {
-    wires = kept_wire m a r w;
+  kept_sound : (reads : List ℕ) → t.1.states ≡ reads → (old : Turn) → Sound node held counted old → old.1.operation ≡ s.operation → old.1.counts.acts ≡ s.counts.acts → OpMove s.operation op t.1.operation → t.1.counts.acts ≡ s.counts.acts → t.1.counts.running ≡ s.counts.running → Holds held t.1.lists t.1.marks.pointing → Wire (FitsNow s.operation s.counts.acts counted) reads node s.counts.running t.1.layer t.0.packets → Sound node held counted t
+  kept_sound reads x old k e f m a r h w = record {
+    wires = kept_wire reads x m a r w;
     marks = h;
     sized = k.sized;
     orb = orb_move s.operation op t.1.operation m (subst (λ (x : Option Running). HasOrb x) e k.orb);
@@ -135,22 +143,22 @@ expired_drops (purposes.Pointer list) present = refl
 expired_drops purposes.Doorbell present = refl
 
 -- what is told, and what holds afterwards
-pub record Heard (node : ℕ) (held : ℕ → List ℕ) (first : Option Note) (drop : Option ℕ) (old new : Turn) : Type 0 where
+pub record Heard (node : ℕ) (held : ℕ → List ℕ) (counted : ℕ → Option ℕ) (first : Option Note) (drop : Option ℕ) (read : Option OpWord) (old new : Turn) : Type 0 where
   pub op : Option OpEnd
-  pub state : Option OpWord
   pub stuck : Bool
-  pub sides : new.0.sides ≡ old.0.sides ++ own (block_notes first ++ notes_of old.1.number drop op state stuck)
+  pub sides : new.0.sides ≡ old.0.sides ++ own (block_notes first ++ notes_of old.1.number drop op read stuck)
   pub move : OpMove old.1.operation op new.1.operation
-  pub word : IsStateWord state
   pub gone : IfGone drop new.1.lists.slots.present
-  pub sound : Sound node held new
+  pub sound : Sound node held counted new
 
-wired_on : (node : ℕ) (P : Purpose → Type 0) (purpose : Purpose) (o : OutboxState) (s : InitiatorState) (t : Turn) (asking : Option Asking) → Wired asking s.layer o.packets s.target t.1.layer t.0.packets → ((a : Asking) → asking ≡ Some a → a.purpose ≡ purpose) → ((a : Asking) → asking ≡ Some a → is_numbered a.purpose ≡ false) → P purpose → Wire P node s.counts.running s.layer o.packets → Wire P node s.counts.running t.1.layer t.0.packets
-wired_on node P purpose o s t None wired same plain p w =
-    subst (λ (ps : List Outgoing). Wire P node s.counts.running t.1.layer ps) (sym wired.1) (subst (λ (l : Layer Purpose). Wire P node s.counts.running l o.packets) (sym wired.0) w)
-wired_on node P purpose o s t (Some a) wired same plain p w =
-    subst (λ (ps : List Outgoing). Wire P node s.counts.running t.1.layer ps) (sym wired.1)
-    (ask_wire s.target a.body a.purpose a.asked t.1.layer wired.0 (plain a refl) (subst P (sym (same a refl)) p) w)
+wired_on : (node : ℕ) (P : Purpose → Type 0) (reads : List ℕ) (purpose : Purpose) (o : OutboxState) (s : InitiatorState) (t : Turn) (asking : Option Asking) → Wired asking s.layer o.packets s.target t.1.layer t.0.packets → ((a : Asking) → asking ≡ Some a → a.purpose ≡ purpose) → ((a : Asking) → asking ≡ Some a → is_numbered a.purpose ≡ false) → ((a : Asking) → asking ≡ Some a → read_act a.purpose ≡ None) → P purpose → Wire P reads node s.counts.running s.layer o.packets → Wire P reads node s.counts.running t.1.layer t.0.packets
+wired_on node P reads purpose o s t None wired same plain unread p w =
+    subst (λ (ps : List Outgoing). Wire P reads node s.counts.running t.1.layer ps) (sym wired.1) (subst (λ (l : Layer Purpose). Wire P reads node s.counts.running l o.packets) (sym wired.0) w)
+wired_on node P reads purpose o s t (Some a) wired same plain unread p w =
+    let f = unread a refl in
+    subst (λ (ps : List Outgoing). Wire P reads node s.counts.running t.1.layer ps) (sym wired.1)
+    (subst (λ (x : Option ℕ). Wire P (reads_with x reads) node s.counts.running t.1.layer (o.packets ++ outgoing s.target a.asked ∷ [])) f
+    (ask_wire s.target a.body a.purpose a.asked t.1.layer wired.0 (plain a refl) (subst P (sym (same a refl)) p) w (subst (λ (x : Option ℕ). IsNew x w.calls) (sym f) tt)))
 
 -- the list that the end of a transaction drops
 abbrev drop_for_purpose : Option Purpose → Ending → InitiatorState → Option ℕ
@@ -158,120 +166,112 @@ drop_for_purpose None ending s = None
 drop_for_purpose (Some purpose) ending s = drop_if (ends_the_list purpose ending s.lists.slots.present) s.lists.slots.present
 
 -- the layer of a state is another, by a call that closed a transaction
-ended_heard : (node : ℕ) (held : ℕ → List ℕ) (old : Turn) (u : InitiatorState) (purpose : Option Purpose) (ending : Ending) → Sound node held old → u.operation ≡ old.1.operation → u.number ≡ old.1.number → u.counts.acts ≡ old.1.counts.acts → u.counts.running ≡ old.1.counts.running → Holds held u.lists u.marks.pointing → Wire (FitsNow u.operation u.counts.acts) node u.counts.running u.layer old.0.packets → IfFor (FitsNow u.operation u.counts.acts) purpose → Heard node held None (drop_for_purpose purpose ending u) old (ended_for purpose ending old.0 u)
-ended_heard node held old u None ending k op number acts running marks w f = record {
+ended_heard : (node : ℕ) (held : ℕ → List ℕ) (counted : ℕ → Option ℕ) (old : Turn) (u : InitiatorState) (purpose : Option Purpose) (ending : Ending) → Sound node held counted old → u.operation ≡ old.1.operation → u.number ≡ old.1.number → u.counts.acts ≡ old.1.counts.acts → u.counts.running ≡ old.1.counts.running → Holds held u.lists u.marks.pointing → Wire (FitsNow u.operation u.counts.acts counted) (read_over purpose u.states) node u.counts.running u.layer old.0.packets → IfFor (FitsNow u.operation u.counts.acts counted) purpose → Heard node held counted None (drop_for_purpose purpose ending u) (purpose_read purpose ending) old (ended_for purpose ending old.0 u)
+ended_heard node held counted old u None ending k op number acts running marks w f = record {
   op = None;
-  state = None;
   stuck = false;
   sides = sym (append-nil old.0.sides);
   move = op;
-  word = tt;
   gone = tt;
-  sound = kept_sound node held u None (old.0, u) old k (sym op) (sym acts) refl refl refl marks w;
+  sound = kept_sound node held counted u None (old.0, u) u.states refl old k (sym op) (sym acts) refl refl refl marks w;
 }
-ended_heard node held old u (Some purpose) ending k op number acts running marks w f =
+ended_heard node held counted old u (Some purpose) ending k op number acts running marks w f =
     let d = ended_does purpose ending old.0 u f.fits in
     let t = ended_step purpose ending old.0 u in
     record {
       op = d.does.op;
-      state = d.does.state;
       stuck = d.does.stuck;
-      sides = subst (λ (n : ℕ). t.0.sides ≡ old.0.sides ++ own (notes_of n (drop_if (ends_the_list purpose ending u.lists.slots.present) u.lists.slots.present) d.does.op d.does.state d.does.stuck)) number d.does.sides;
+      sides = subst (λ (n : ℕ). t.0.sides ≡ old.0.sides ++ own (notes_of n (drop_if (ends_the_list purpose ending u.lists.slots.present) u.lists.slots.present) d.does.op (read_ends purpose ending) d.does.stuck)) number d.does.sides;
       move = subst (λ (r : Option Running). OpMove r d.does.op t.1.operation) op d.does.move;
-      word = d.does.word;
       gone = d.does.gone;
-      sound = kept_sound node held u d.does.op t old k (sym op) (sym acts) d.does.move (ap (λ (c : Counts). c.acts) d.does.counts) (ap (λ (c : Counts). c.running) d.does.counts) (d.does.marks held marks)
-          (wired_on node (FitsNow u.operation u.counts.acts) purpose old.0 u t d.asking d.does.wire d.same d.plain f w);
+      sound = kept_sound node held counted u d.does.op t (read_over (Some purpose) u.states) (for_leaves (Some purpose) ending old.0 u).states old k (sym op) (sym acts) d.does.move (ap (λ (c : Counts). c.acts) d.does.counts) (ap (λ (c : Counts). c.running) d.does.counts) (d.does.marks held marks)
+          (wired_on node (FitsNow u.operation u.counts.acts counted) (read_over (Some purpose) u.states) purpose old.0 u t d.asking d.does.wire d.same d.plain d.unread f w);
     }
 
 -- ---- a delivery
 
-judged_for : (node : ℕ) (P : Purpose → Type 0) (running : ℕ) (layer : Layer Purpose) (packets : List Outgoing) (generation : ℕ) (bytes : List ℕ) (p : Packet) (label : LabelParts) (purpose : Option Purpose) → Wire P node running layer packets → (judging_step layer generation bytes).0 ≡ of_response p label purpose → IfFor P purpose
-judged_for node P running layer packets generation bytes p label purpose w e =
+judged_for : (node : ℕ) (P : Purpose → Type 0) (reads : List ℕ) (running : ℕ) (layer : Layer Purpose) (packets : List Outgoing) (generation : ℕ) (bytes : List ℕ) (p : Packet) (label : LabelParts) (purpose : Option Purpose) → Wire P reads node running layer packets → (judging_step layer generation bytes).0 ≡ of_response p label purpose → IfFor P purpose
+judged_for node P reads running layer packets generation bytes p label purpose w e =
     closes_asked P node w.calls generation bytes p label purpose w.asks (ap (λ (l : Layer Purpose). (judging_step l generation bytes).0) w.layer_is ∙ e)
 
-expired_for : (node : ℕ) (P : Purpose → Type 0) (running : ℕ) (layer : Layer Purpose) (packets : List Outgoing) (peer : ℕ) (label : LabelParts) (purpose : Option Purpose) → Wire P node running layer packets → (expiring_step layer peer label).0 ≡ Ok purpose → IfFor P purpose
-expired_for node P running layer packets peer label purpose w e =
+expired_for : (node : ℕ) (P : Purpose → Type 0) (reads : List ℕ) (running : ℕ) (layer : Layer Purpose) (packets : List Outgoing) (peer : ℕ) (label : LabelParts) (purpose : Option Purpose) → Wire P reads node running layer packets → (expiring_step layer peer label).0 ≡ Ok purpose → IfFor P purpose
+expired_for node P reads running layer packets peer label purpose w e =
     expires_asked P node w.calls peer label purpose w.asks (ap (λ (l : Layer Purpose). (expiring_step l peer label).0) w.layer_is ∙ e)
 
 -- a request is answered
-request_heard : (node : ℕ) (held : ℕ → List ℕ) (p : Packet) (bytes : List ℕ) (old : Turn) (u : InitiatorState) (first : Option Note) (drop : Option ℕ) (t : Turn) → Sound node held old → u.operation ≡ old.1.operation → u.number ≡ old.1.number → u.counts ≡ old.1.counts → Holds held u.lists u.marks.pointing → Wire (FitsNow u.operation u.counts.acts) node u.counts.running u.layer old.0.packets → Answers p bytes old.0 u first drop t → Heard node held first drop old t
-request_heard node held p bytes old u first drop t k op number counts marks w a = record {
+request_heard : (node : ℕ) (held : ℕ → List ℕ) (counted : ℕ → Option ℕ) (p : Packet) (bytes : List ℕ) (old : Turn) (u : InitiatorState) (first : Option Note) (drop : Option ℕ) (t : Turn) → Sound node held counted old → u.operation ≡ old.1.operation → u.number ≡ old.1.number → u.counts ≡ old.1.counts → Holds held u.lists u.marks.pointing → Wire (FitsNow u.operation u.counts.acts counted) u.states node u.counts.running u.layer old.0.packets → t.1.states ≡ u.states → Answers p bytes old.0 u first drop t → Heard node held counted first drop None old t
+request_heard node held counted p bytes old u first drop t k op number counts marks w x a = record {
   op = a.op;
-  state = a.state;
   stuck = a.stuck;
-  sides = subst (λ (n : ℕ). t.0.sides ≡ old.0.sides ++ own (block_notes first ++ notes_of n drop a.op a.state a.stuck)) number a.sides;
+  sides = subst (λ (n : ℕ). t.0.sides ≡ old.0.sides ++ own (block_notes first ++ notes_of n drop a.op None a.stuck)) number a.sides;
   move = subst (λ (r : Option Running). OpMove r a.op t.1.operation) op a.move;
-  word = a.word;
   gone = a.gone;
-  sound = kept_sound node held u a.op t old k (sym op) (ap (λ (c : Counts). c.acts) (sym counts)) a.move a.acts a.running (a.marks held marks)
-      (subst (λ (ps : List Outgoing). Wire (FitsNow u.operation u.counts.acts) node u.counts.running t.1.layer ps) (sym a.packets)
-      (subst (λ (l : Layer Purpose). Wire (FitsNow u.operation u.counts.acts) node u.counts.running l (old.0.packets ++ response p (answering_step u.layer p bytes a.rcode a.given).0 ∷ [])) (sym a.layer)
+  sound = kept_sound node held counted u a.op t u.states x old k (sym op) (ap (λ (c : Counts). c.acts) (sym counts)) a.move a.acts a.running (a.marks held marks)
+      (subst (λ (ps : List Outgoing). Wire (FitsNow u.operation u.counts.acts counted) u.states node u.counts.running t.1.layer ps) (sym a.packets)
+      (subst (λ (l : Layer Purpose). Wire (FitsNow u.operation u.counts.acts counted) u.states node u.counts.running l (old.0.packets ++ response p (answering_step u.layer p bytes a.rcode a.given).0 ∷ [])) (sym a.layer)
       (answer_wire p bytes a.rcode a.given w)));
 }
 
-module _ (node : ℕ) (held : ℕ → List ℕ) (o : OutboxState) (s : InitiatorState) (k : Sound node held (o, s)) where
+module _ (node : ℕ) (held : ℕ → List ℕ) (counted : ℕ → Option ℕ) (o : OutboxState) (s : InitiatorState) (k : Sound node held counted (o, s)) where
   -- nothing is told
-  nothing_heard : (u : InitiatorState) → u.operation ≡ s.operation → u.counts.acts ≡ s.counts.acts → u.counts.running ≡ s.counts.running → Holds held u.lists u.marks.pointing → Wire (FitsNow s.operation s.counts.acts) node s.counts.running u.layer o.packets → Heard node held None None (o, s) (o, u)
-  nothing_heard u op acts running marks w = record {
+  nothing_heard : (u : InitiatorState) → u.operation ≡ s.operation → u.counts.acts ≡ s.counts.acts → u.counts.running ≡ s.counts.running → Holds held u.lists u.marks.pointing → u.states ≡ s.states → Wire (FitsNow s.operation s.counts.acts counted) s.states node s.counts.running u.layer o.packets → Heard node held counted None None None (o, s) (o, u)
+  nothing_heard u op acts running marks x w = record {
     op = None;
-    state = None;
     stuck = false;
     sides = sym (append-nil o.sides);
     move = op;
-    word = tt;
     gone = tt;
-    sound = kept_sound node held s None (o, u) (o, s) k refl refl op acts running marks w;
+    sound = kept_sound node held counted s None (o, u) s.states x (o, s) k refl refl op acts running marks w;
   }
 
-  received_heard : (finding : Finding Purpose) (layer : Layer Purpose) (bytes : List ℕ) → IsSame finding s.layer layer → Wire (FitsNow s.operation s.counts.acts) node s.counts.running layer o.packets → ((p : Packet) (label : LabelParts) (purpose : Option Purpose) → finding ≡ of_response p label purpose → IfFor (FitsNow s.operation s.counts.acts) purpose) → Heard node held (finding_note finding s) (drop_if (finding_drops finding s) s.lists.slots.present) (o, s) (received (finding, layer) bytes o s).1
-  received_heard of_generation layer bytes same w f = nothing_heard (record s { layer = layer }) refl refl refl k.marks w
-  received_heard of_grammar layer bytes same w f = nothing_heard (record s { layer = layer }) refl refl refl k.marks w
-  received_heard of_label layer bytes same w f = nothing_heard (record s { layer = layer }) refl refl refl k.marks w
+  received_heard : (finding : Finding Purpose) (layer : Layer Purpose) (bytes : List ℕ) → IsSame finding s.layer layer → Wire (FitsNow s.operation s.counts.acts counted) (finding_reads finding s.states) node s.counts.running layer o.packets → ((p : Packet) (label : LabelParts) (purpose : Option Purpose) → finding ≡ of_response p label purpose → IfFor (FitsNow s.operation s.counts.acts counted) purpose) → Heard node held counted (finding_note finding s) (drop_if (finding_drops finding s) s.lists.slots.present) (finding_read finding) (o, s) (received (finding, layer) bytes o s).1
+  received_heard of_generation layer bytes same w f = nothing_heard (record s { layer = layer }) refl refl refl k.marks refl w
+  received_heard of_grammar layer bytes same w f = nothing_heard (record s { layer = layer }) refl refl refl k.marks refl w
+  received_heard of_label layer bytes same w f = nothing_heard (record s { layer = layer }) refl refl refl k.marks refl w
   received_heard (of_response p label None) layer bytes same w f =
-      ended_heard node held (o, s) (called (record s { layer = layer })) None (ending_of p) k refl refl refl refl k.marks w tt
+      ended_heard node held counted (o, s) (called (record s { layer = layer })) None (ending_of p) k refl refl refl refl k.marks w tt
   received_heard (of_response p label (Some purpose)) layer bytes same w f =
-      ended_heard node held (o, s) (called (record s { layer = layer })) (Some purpose) (ending_of p) k refl refl refl refl k.marks w (f p label (Some purpose) refl)
+      ended_heard node held counted (o, s) (called (record s { layer = layer })) (Some purpose) (ending_of p) k refl refl refl refl k.marks w (f p label (Some purpose) refl)
   received_heard (of_again p rcode) layer bytes same w f =
-      request_heard node held p bytes (o, s) (record s { layer = layer }) None None _ k refl refl refl k.marks w (ignored_again p bytes o (record s { layer = layer }) rcode)
+      request_heard node held counted p bytes (o, s) (record s { layer = layer }) None None _ k refl refl refl k.marks w refl (ignored_again p bytes o (record s { layer = layer }) rcode)
   received_heard (of_request p) layer bytes same w f =
-      subst (λ (l : Layer Purpose). Heard node held (finding_note (of_request p) s) (drop_if (finding_drops (of_request p) s) s.lists.slots.present) (o, s) (received (of_request p, l) bytes o s).1) (sym same)
-      (request_heard node held p bytes (o, s) s _ _ _ k refl refl refl k.marks k.wires (request_answers bytes o s k.orb p))
+      subst (λ (l : Layer Purpose). Heard node held counted (finding_note (of_request p) s) (drop_if (finding_drops (of_request p) s) s.lists.slots.present) None (o, s) (received (of_request p, l) bytes o s).1) (sym same)
+      (request_heard node held counted p bytes (o, s) s _ _ _ k refl refl refl k.marks k.wires (request_left bytes o s p).states (request_answers bytes o s k.orb p))
 
-  receive_heard : (generation : ℕ) (bytes : List ℕ) → Heard node held (call_note (receives generation bytes) s) (drop_if (call_drops (receives generation bytes) s) s.lists.slots.present) (o, s) (done (receives generation bytes) (o, s))
+  receive_heard : (generation : ℕ) (bytes : List ℕ) → Heard node held counted (call_note (receives generation bytes) s) (drop_if (call_drops (receives generation bytes) s) s.lists.slots.present) (call_read (receives generation bytes) s) (o, s) (done (receives generation bytes) (o, s))
   unfolding receive_step
   receive_heard generation bytes =
       received_heard (judging_step s.layer generation bytes).0 (judging_step s.layer generation bytes).1 bytes (judged_same (judging_step s.layer generation bytes).0 s.layer (judging_step s.layer generation bytes).1 generation bytes refl) (judge_wire generation bytes k.wires)
-      (λ p label purpose e. judged_for node (FitsNow s.operation s.counts.acts) s.counts.running s.layer o.packets generation bytes p label purpose k.wires e)
+      (λ p label purpose e. judged_for node (FitsNow s.operation s.counts.acts counted) s.states s.counts.running s.layer o.packets generation bytes p label purpose k.wires e)
 
   -- ---- a time-out
 
-  expired_heard : (r : Result (Option Purpose) Stale) (layer : Layer Purpose) → Wire (FitsNow s.operation s.counts.acts) node s.counts.running layer o.packets → ((purpose : Option Purpose) → r ≡ Ok purpose → IfFor (FitsNow s.operation s.counts.acts) purpose) → Heard node held None None (o, s) (expired_as (r, layer) o s).1
-  expired_heard (Err stale) layer w f = nothing_heard (record s { layer = layer }) refl refl refl k.marks w
+  expired_heard : (r : Result (Option Purpose) Stale) (layer : Layer Purpose) → Wire (FitsNow s.operation s.counts.acts counted) (expired_reads r s.states) node s.counts.running layer o.packets → ((purpose : Option Purpose) → r ≡ Ok purpose → IfFor (FitsNow s.operation s.counts.acts counted) purpose) → Heard node held counted None None (expired_read r) (o, s) (expired_as (r, layer) o s).1
+  expired_heard (Err stale) layer w f = nothing_heard (record s { layer = layer }) refl refl refl k.marks refl w
   expired_heard (Ok None) layer w f =
-      ended_heard node held (o, s) (called (record s { layer = layer })) None endings.Expired k refl refl refl refl k.marks w tt
+      ended_heard node held counted (o, s) (called (record s { layer = layer })) None endings.Expired k refl refl refl refl k.marks w tt
   expired_heard (Ok (Some purpose)) layer w f =
-      subst (λ (c : Bool). Heard node held None (drop_if c s.lists.slots.present) (o, s) (expired_as (Ok (Some purpose), layer) o s).1) (expired_drops purpose s.lists.slots.present)
-      (ended_heard node held (o, s) (called (record s { layer = layer })) (Some purpose) endings.Expired k refl refl refl refl k.marks w (f (Some purpose) refl))
+      subst (λ (c : Bool). Heard node held counted None (drop_if c s.lists.slots.present) (read_ends purpose endings.Expired) (o, s) (expired_as (Ok (Some purpose), layer) o s).1) (expired_drops purpose s.lists.slots.present)
+      (ended_heard node held counted (o, s) (called (record s { layer = layer })) (Some purpose) endings.Expired k refl refl refl refl k.marks w (f (Some purpose) refl))
 
-  expire_heard : (label : LabelParts) → Heard node held None None (o, s) (done (lets_expire label) (o, s))
+  expire_heard : (label : LabelParts) → Heard node held counted None None (call_read (lets_expire label) s) (o, s) (done (lets_expire label) (o, s))
   unfolding expire_step
   expire_heard label =
       expired_heard (expiring_step s.layer s.target label).0 (expiring_step s.layer s.target label).1 (expire_wire s.target label k.wires)
-      (λ purpose e. expired_for node (FitsNow s.operation s.counts.acts) s.counts.running s.layer o.packets s.target label purpose k.wires e)
+      (λ purpose e. expired_for node (FitsNow s.operation s.counts.acts counted) s.states s.counts.running s.layer o.packets s.target label purpose k.wires e)
 
 -- what is told, as the law says it
-heard_tells : (node : ℕ) (held : ℕ → List ℕ) (call : Call) (old new : Turn) → Heard node held (call_note call old.1) (drop_if (call_drops call old.1) old.1.lists.slots.present) old new → Tells call old new
-heard_tells node held call old new h = record { op = h.op; state = h.state; stuck = h.stuck; sides = h.sides; move = h.move; word = h.word; gone = h.gone }
+heard_tells : (node : ℕ) (held : ℕ → List ℕ) (counted : ℕ → Option ℕ) (call : Call) (old new : Turn) → Heard node held counted (call_note call old.1) (drop_if (call_drops call old.1) old.1.lists.slots.present) (call_read call old.1) old new → Tells call old new
+heard_tells node held counted call old new h = record { op = h.op; stuck = h.stuck; sides = h.sides; move = h.move; gone = h.gone }
 
-pub call_tells : (node : ℕ) (held : ℕ → List ℕ) (call : Call) (old : Turn) → Sound node held old → is_heard call ≡ true → Tells call old (done call old)
-call_tells node held (receives generation bytes) old k e = heard_tells node held (receives generation bytes) old _ (receive_heard node held old.0 old.1 k generation bytes)
-call_tells node held (lets_expire label) old k e = heard_tells node held (lets_expire label) old _ (expire_heard node held old.0 old.1 k label)
-call_tells node held (laws.acts action) old k e = absurd (untrue e)
-call_tells node held (laws.sees generation id target) old k e = absurd (untrue e)
+pub call_tells : (node : ℕ) (held : ℕ → List ℕ) (counted : ℕ → Option ℕ) (call : Call) (old : Turn) → Sound node held counted old → is_heard call ≡ true → Tells call old (done call old)
+call_tells node held counted (receives generation bytes) old k e = heard_tells node held counted (receives generation bytes) old _ (receive_heard node held counted old.0 old.1 k generation bytes)
+call_tells node held counted (lets_expire label) old k e = heard_tells node held counted (lets_expire label) old _ (expire_heard node held counted old.0 old.1 k label)
+call_tells node held counted (laws.acts action) old k e = absurd (untrue e)
+call_tells node held counted (laws.sees generation id target) old k e = absurd (untrue e)
 
-pub call_soundly : (node : ℕ) (held : ℕ → List ℕ) (call : Call) (old : Turn) → Sound node held old → is_heard call ≡ true → Sound node held (done call old)
-call_soundly node held (receives generation bytes) old k e = (receive_heard node held old.0 old.1 k generation bytes).sound
-call_soundly node held (lets_expire label) old k e = (expire_heard node held old.0 old.1 k label).sound
-call_soundly node held (laws.acts action) old k e = absurd (untrue e)
-call_soundly node held (laws.sees generation id target) old k e = absurd (untrue e)
+pub call_soundly : (node : ℕ) (held : ℕ → List ℕ) (counted : ℕ → Option ℕ) (call : Call) (old : Turn) → Sound node held counted old → is_heard call ≡ true → Sound node held counted (done call old)
+call_soundly node held counted (receives generation bytes) old k e = (receive_heard node held counted old.0 old.1 k generation bytes).sound
+call_soundly node held counted (lets_expire label) old k e = (expire_heard node held counted old.0 old.1 k label).sound
+call_soundly node held counted (laws.acts action) old k e = absurd (untrue e)
+call_soundly node held counted (laws.sees generation id target) old k e = absurd (untrue e)

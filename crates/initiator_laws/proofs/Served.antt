@@ -1,5 +1,5 @@
 -- What the target reads: the ROM stays, and the slots are those of the calls of the slots.
-use Rattle.std.proofs.Common.{◌≡◌, refl, sym, ap, subst, ◌∙◌, ℕ, ◌||◌, nat_eq, Bool, true, false, cond, List, [], ◌∷◌, length, take, drop, Option, Some, None, Result, Ok, Err}
+use Rattle.std.proofs.Common.{◌≡◌, refl, sym, ap, subst, ◌∙◌, ℕ, ◌||◌, nat_eq, Bool, true, false, cond, List, [], ◌∷◌, ◌++◌, append_assoc, length, take, drop, Option, Some, None, Result, Ok, Err}
 use Rattle.bus_memory.specs.declared.access.Access.TheVariants.{Write}
 use Rattle.bus_memory.specs.declared.access.Rcode.TheVariants.{TypeError}
 use Rattle.bus_memory.specs.declared.access.Spot.{Spot}
@@ -19,13 +19,16 @@ use Rattle.orb_list.specs.Requests.{Asked}
 use Rattle.orb_list.specs.Runs.{Call, Prepare, LinkLow, LinkHigh, MakeDummy, TakeStatus, DropList, FreeAll, Pin, Unpin, TryWrite, Fill, SetQuad, left_by, run}
 use Rattle.orb_list.specs.Table.{SlotTable, checked, closed, dummy_at, dummy_step, free_all_step, high_for, high_step, low_for, low_step, may_prepare, prepare_at, prepare_step, slot_in, status_at, status_for, status_step, unpin_for, unpin_step, waiting, waits_high, waits_low}
 use Rattle.orb_list.specs.Tickets.{TicketParts}
+use Rattle.orb_list.proofs.Buffers.{buffer_law}
 use Rattle.orb_list.proofs.Imaged.{served_law}
 use Rattle.orb_list.proofs.Steps.{held_law}
 use Rattle.bus_memory.specs.Windows.{slot_of}
 use Rattle.sbp_initiator.specs.Initiators.{own_rom}
-use Rattle.sbp_initiator.specs.Laws.{after}
-use Rattle.sbp_initiator.proofs.Slotted.{slot_law}
+use Rattle.initiator_laws.specs.Laws.{AreCalls, after}
+use Rattle.initiator_laws.specs.Laws as initiator_calls
+use Rattle.initiator_laws.proofs.Slotted.{slot_law}
 use Rattle.initiator_laws.specs.Served.{ReadsLaw}
+use Rattle.initiator_laws.specs.Slots.{slot_calls, slot_calls_after, slot_calls_since}
 use Rattle.initiator_laws.proofs.Over.{sound}
 
 -- ---- each call of the slots leaves the ROM
@@ -153,14 +156,35 @@ run_rom [] quads h = first_rom quads
 run_rom (call ∷ calls) quads h =
     call_rom call (run calls quads).table (run calls quads).memory h.0 (held_law.run_held calls quads h.1).whole ∙ run_rom calls quads h.1
 
+since_is : (number : ℕ) (ready : Bool) (later earlier : List initiator_calls.Call) → slot_calls_after number ready (later ++ earlier) ≡ slot_calls_since number ready later earlier ++ slot_calls_after number ready earlier
+since_is number ready [] earlier = refl
+since_is number ready (call ∷ later) earlier =
+    let now = slot_calls call (after number ready (later ++ earlier)) in
+    ap (λ (x : List Call). now ++ x) (since_is number ready later earlier)
+    ∙ sym (append_assoc now (slot_calls_since number ready later earlier) (slot_calls_after number ready earlier))
+
+earlier_calls : (later earlier : List initiator_calls.Call) → AreCalls (later ++ earlier) → AreCalls earlier
+earlier_calls [] earlier h = h
+earlier_calls (call ∷ later) earlier h = earlier_calls later earlier h.1
+
 pub reads_law : ReadsLaw
-reads_law number ready calls h =
-    let w = slot_law number ready calls h in
-    let m = (after number ready calls).1.lists.memory in
-    record {
-      slots = w;
-      orb = λ k b. subst (λ (x : Memory). IfHoldsOrb (kept_in (run w.calls (own_rom number)).notes k) (slot_at x k)) w.memory (served_law.served w.calls (own_rom number) k w.proper b);
-      read = λ k out b e. own_law.read m k out b e;
-      place = (sound number ready calls).marks.orbs;
-      rom = sym (ap (λ (x : Memory). x.rom) w.memory) ∙ run_rom w.calls (own_rom number) w.proper;
-    }
+reads_law = record {
+  reads = λ number ready calls h.
+      let w = slot_law number ready calls h in
+      let done = slot_calls_after number ready calls in
+      let m = (after number ready calls).1.lists.memory in
+      record {
+        orb = λ k b. subst (λ (x : Memory). IfHoldsOrb (kept_in (run done (own_rom number)).notes k) (slot_at x k)) w.memory (served_law.served done (own_rom number) k w.proper b);
+        read = λ k out b e. own_law.read m k out b e;
+        place = (sound number ready calls).marks.orbs;
+        rom = sym (ap (λ (x : Memory). x.rom) w.memory) ∙ run_rom done (own_rom number) w.proper;
+      };
+  buffer = λ number ready later earlier k h n.
+      let a = slot_law number ready (later ++ earlier) h in
+      let b = slot_law number ready earlier (earlier_calls later earlier h) in
+      let since = slot_calls_since number ready later earlier in
+      let before = slot_calls_after number ready earlier in
+      sym (ap (λ (x : Memory). (slot_at x k).buffer) a.memory)
+      ∙ ap (λ (x : List Call). (slot_at (run x (own_rom number)).memory k).buffer) (since_is number ready later earlier)
+      ∙ buffer_law.stays since before (own_rom number) k n ∙ ap (λ (x : Memory). (slot_at x k).buffer) b.memory;
+}

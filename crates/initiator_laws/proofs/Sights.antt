@@ -23,6 +23,9 @@ use Rattle.initiator_laws.specs.Ends.{own, drops}
 use Rattle.initiator_laws.specs.Numbers.{carried, RisesTo}
 use Rattle.initiator_laws.specs.Tells.{state_resets, resets_with, resets, Sees}
 use Rattle.initiator_laws.proofs.Effects.{HasMarks, Holds, list_drops, told_twice}
+use Rattle.label_table.specs.History as wire
+use Rattle.initiator_laws.proofs.Leaves.{drops_keep}
+use Rattle.initiator_laws.proofs.Lives.{LivesIn}
 use Rattle.initiator_laws.proofs.Purposes.{all_ask}
 use Rattle.initiator_laws.proofs.Requests.{HasOrb}
 use Rattle.initiator_laws.proofs.Runs.{FitsNow, IsBegun, Sound, fits_none, none_some}
@@ -80,16 +83,16 @@ free_holds held lists pointing h = record {
 
 -- ---- as a whole
 
-record Saw (node : ℕ) (held : ℕ → List ℕ) (seen : Bool) (old new : Turn) : Type 0 where
+record Saw (node : ℕ) (held : ℕ → List ℕ) (counted : ℕ → Option ℕ) (seen : Bool) (old new : Turn) : Type 0 where
   tells : Sees seen old new
-  sound : Sound node held new
+  sound : Sound node held counted new
 
 abbrev seeing_as : Bool → Layer Purpose → Layer Purpose → Bool × Layer Purpose
 seeing_as c new old = cond c (true, new) (false, old)
 
-saw_as : (c : Bool) (node : ℕ) (held : ℕ → List ℕ) (generation id target : ℕ) (o : OutboxState) (s : InitiatorState) → Sound node held (o, s) → Wire (FitsNow s.operation s.counts.acts) node s.counts.running (seeing_as c (seen_in_generation s.layer generation id) s.layer).1 o.packets → Saw node held c (o, s) (seen_as (seeing_as c (seen_in_generation s.layer generation id) s.layer) target o s)
-saw_as false node held generation id target o s k w = record { tells = (refl, refl); sound = k }
-saw_as true node held generation id target o s k w =
+saw_as : (c : Bool) (node : ℕ) (held : ℕ → List ℕ) (counted : ℕ → Option ℕ) (generation id target : ℕ) (o : OutboxState) (s : InitiatorState) → Sound node held counted (o, s) → Wire (FitsNow s.operation s.counts.acts counted) (cond c [] s.states) node s.counts.running (seeing_as c (seen_in_generation s.layer generation id) s.layer).1 o.packets → Saw node held counted c (o, s) (seen_as (seeing_as c (seen_in_generation s.layer generation id) s.layer) target o s)
+saw_as false node held counted generation id target o s k w = record { tells = (refl, refl); sound = k }
+saw_as true node held counted generation id target o s k w =
     let u = record s { layer = seen_in_generation s.layer generation id } in
     let x = resets_told s.number s.operation s.states o in
     let m = resets_more s.number s.operation s.states o in
@@ -104,9 +107,11 @@ saw_as true node held generation id target o s k w =
           layer_is = w.layer_is ∙ sym d.layer;
           packets_are = w.packets_are ∙ sym (d.packets ∙ m.packets);
           rises = subst (λ (c : Counts). RisesTo c.running (carried node w.calls)) (sym d.counts) w.rises;
-          asks = all_ask (FitsNow s.operation s.counts.acts) (FitsNow t.1.operation t.1.counts.acts)
-              (λ p f. subst (λ (r : Option Running). FitsNow r t.1.counts.acts p) (sym d.operation) (subst (λ (c : Counts). FitsNow None c.acts p) (sym d.counts) (record { fits = fits_none p; earlier = f.earlier })))
+          asks = all_ask (FitsNow s.operation s.counts.acts counted) (FitsNow t.1.operation t.1.counts.acts counted)
+              (λ p f. subst (λ (r : Option Running). FitsNow r t.1.counts.acts counted p) (sym d.operation) (subst (λ (c : Counts). FitsNow None c.acts counted p) (sym d.counts) (record { fits = fits_none p; earlier = f.earlier; counts = f.counts })))
               w.calls w.asks;
+          new = w.new;
+          lives = subst (λ (l : List ℕ). LivesIn l (wire.history node w.calls)) (sym (drops_keep x v).states) w.lives;
         };
         marks = free_holds held t.1.lists t.1.marks.pointing (d.marks held k.marks);
         sized = k.sized;
@@ -115,12 +120,12 @@ saw_as true node held generation id target o s k w =
       };
     }
 
-saw : (node : ℕ) (held : ℕ → List ℕ) (generation id target : ℕ) (o : OutboxState) (s : InitiatorState) → Sound node held (o, s) → Saw node held (nat_lt s.layer.generation generation) (o, s) (see_step generation id target o s)
+saw : (node : ℕ) (held : ℕ → List ℕ) (counted : ℕ → Option ℕ) (generation id target : ℕ) (o : OutboxState) (s : InitiatorState) → Sound node held counted (o, s) → Saw node held counted (nat_lt s.layer.generation generation) (o, s) (see_step generation id target o s)
 unfolding see_step seeing_step
-saw node held generation id target o s k = saw_as (nat_lt s.layer.generation generation) node held generation id target o s k (see_wire generation id k.wires)
+saw node held counted generation id target o s k = saw_as (nat_lt s.layer.generation generation) node held counted generation id target o s k (see_wire generation id k.wires)
 
-pub sees_so : (node : ℕ) (held : ℕ → List ℕ) (generation id target : ℕ) (o : OutboxState) (s : InitiatorState) → Sound node held (o, s) → Sees (nat_lt s.layer.generation generation) (o, s) (see_step generation id target o s)
-sees_so node held generation id target o s k = (saw node held generation id target o s k).tells
+pub sees_so : (node : ℕ) (held : ℕ → List ℕ) (counted : ℕ → Option ℕ) (generation id target : ℕ) (o : OutboxState) (s : InitiatorState) → Sound node held counted (o, s) → Sees (nat_lt s.layer.generation generation) (o, s) (see_step generation id target o s)
+sees_so node held counted generation id target o s k = (saw node held counted generation id target o s k).tells
 
-pub sees_soundly : (node : ℕ) (held : ℕ → List ℕ) (generation id target : ℕ) (o : OutboxState) (s : InitiatorState) → Sound node held (o, s) → Sound node held (see_step generation id target o s)
-sees_soundly node held generation id target o s k = (saw node held generation id target o s k).sound
+pub sees_soundly : (node : ℕ) (held : ℕ → List ℕ) (counted : ℕ → Option ℕ) (generation id target : ℕ) (o : OutboxState) (s : InitiatorState) → Sound node held counted (o, s) → Sound node held counted (see_step generation id target o s)
+sees_soundly node held counted generation id target o s k = (saw node held counted generation id target o s k).sound

@@ -6,12 +6,13 @@ use Rattle.orb_layout.specs.declared.status.StatusBlock.{StatusBlock}
 use Rattle.orb_list.specs.declared.fault.ListFault.{ListFault}
 use Rattle.orb_list.specs.Tickets.{TicketParts}
 use Rattle.orb_list.specs.Table.{SlotTable, status_step}
-use Rattle.orb_list.specs.Runs.{run}
+use Rattle.orb_list.specs.Runs.{Call, run}
 use Rattle.orb_list.proofs.Named.{named_law}
 use Rattle.sbp_initiator.specs.Initiators.{own_rom}
-use Rattle.sbp_initiator.specs.Laws.{IsSlotRun, after}
+use Rattle.initiator_laws.specs.Laws.{after}
+use Rattle.initiator_laws.specs.Slots.{slot_calls_after, AreSlotsOf}
 use Rattle.sbp_initiator.specs.Lists.{ListState, take_lists, ticket_in}
-use Rattle.sbp_initiator.proofs.Slotted.{slot_law}
+use Rattle.initiator_laws.proofs.Slotted.{slot_law}
 use Rattle.initiator_laws.specs.Taking.{waiting_at}
 use Rattle.initiator_laws.specs.Tells.{TakesLaw}
 use Rattle.initiator_laws.proofs.Requests.{take_found}
@@ -25,24 +26,21 @@ ok_of (Ok u) t e = cc
 ok_of (Err fault) t e = cc
 
 -- the step by the calls of the slots is that of the slots themselves
-step_is : (quads : List ℕ) (lists : ListState) (w : IsSlotRun quads lists) (block : StatusBlock) → (status_step (run w.calls quads).table (run w.calls quads).memory block).0 ≡ (status_step lists.slots lists.memory block).0
-step_is quads lists w block =
-    ap (λ (x : SlotTable). (status_step x (run w.calls quads).memory block).0) w.table
+step_is : (quads : List ℕ) (calls : List Call) (lists : ListState) (w : AreSlotsOf quads calls lists) (block : StatusBlock) → (status_step (run calls quads).table (run calls quads).memory block).0 ≡ (status_step lists.slots lists.memory block).0
+step_is quads calls lists w block =
+    ap (λ (x : SlotTable). (status_step x (run calls quads).memory block).0) w.table
     ∙ ap (λ (m : Memory). (status_step lists.slots m block).0) w.memory
 
 waiting_is : (lists : ListState) (block : StatusBlock) → waiting_at lists.slots.slots (slot_of block.orb) ≡ ticket_in (status_step lists.slots lists.memory block).0
 waiting_is lists block = sym (take_found lists block) ∙ take_is lists block
 
 pub takes_law : TakesLaw
-takes_law number ready calls h =
+takes_law number ready calls h block t =
     let w = slot_law number ready calls h in
-    let lists = (after number ready calls).1.lists in
-    record {
-      slots = w;
-      named = λ block t. (
-        λ e. named_law.named w.calls (own_rom number) block t
-            (step_is (own_rom number) lists w block ∙ ok_of (status_step lists.slots lists.memory block).0 t (sym (waiting_is lists block) ∙ e)),
-        λ p. waiting_is lists block
-            ∙ ap ticket_in (sym (step_is (own_rom number) lists w block) ∙ named_law.taken w.calls (own_rom number) block t p.0 p.1),
-      );
-    }
+    let done = slot_calls_after number ready calls in
+    let lists = (after number ready calls).1.lists in (
+      λ e. named_law.named done (own_rom number) block t
+          (step_is (own_rom number) done lists w block ∙ ok_of (status_step lists.slots lists.memory block).0 t (sym (waiting_is lists block) ∙ e)),
+      λ p. waiting_is lists block
+          ∙ ap ticket_in (sym (step_is (own_rom number) done lists w block) ∙ named_law.taken done (own_rom number) block t p.0 p.1),
+    )

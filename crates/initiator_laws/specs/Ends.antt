@@ -11,6 +11,10 @@ use Rattle.sbp_journal.specs.declared.operation.OpWord.{OpWord}
 use Rattle.sbp_journal.specs.declared.operation.OpWord.TheVariants as words
 use Rattle.sbp_journal.specs.declared.side.Side.{Side}
 use Rattle.sbp_journal.specs.declared.side.Side.TheVariants as sides
+use Rattle.sbp_initiator.specs.declared.purpose.Ending.{Ending}
+use Rattle.sbp_initiator.specs.declared.purpose.Ending.TheVariants as endings
+use Rattle.sbp_initiator.specs.declared.purpose.Purpose.{Purpose}
+use Rattle.sbp_initiator.specs.declared.purpose.Purpose.TheVariants as purposes
 use Rattle.sbp_initiator.specs.declared.purpose.Running.{Running}
 
 -- ---- notes
@@ -80,15 +84,16 @@ is_word_of operation words.NoUnit = is_rom operation
 is_word_of operation (words.State value) = false
 is_word_of operation words.Reset = false
 
--- those of a read of AGENT_STATE: the number read, or an error
-abbrev pub is_state_word : OpWord → Bool
-is_state_word (words.State value) = true
-is_state_word words.Error = true
-is_state_word _ = false
+-- how a read of AGENT_STATE ends: with the number read, or with an error
+abbrev pub state_word : Ending → OpWord
+state_word (endings.Complete value) = words.State value
+state_word (endings.Refused rcode) = words.Error
+state_word endings.Expired = words.Error
 
-abbrev pub IsStateWord : Option OpWord → Type 0
-IsStateWord None = Unit {0}
-IsStateWord (Some word) = is_state_word word ≡ true
+-- the end of a transaction ends such a read
+abbrev pub read_ends : Purpose → Ending → Option OpWord
+read_ends (purposes.State act list) ending = Some (state_word ending)
+read_ends _ ending = None
 
 -- ---- operations
 

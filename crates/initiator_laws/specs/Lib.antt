@@ -1,3 +1,5 @@
+pub mod Moves
+pub mod Laws
 pub mod Judging
 pub mod Ends
 pub mod Drops
@@ -6,3 +8,5 @@ pub mod Numbers
 pub mod Begins
 pub mod Tells
 pub mod Served
+pub mod Slots
+pub mod Marks

@@ -10,7 +10,7 @@ use Rattle.label_table.specs.History as wire
 use Rattle.sbp_journal.specs.declared.outbox.Outgoing.{Outgoing}
 use Rattle.sbp_initiator.specs.declared.purpose.Purpose.{Purpose}
 use Rattle.sbp_initiator.specs.declared.purpose.Purpose.TheVariants as purposes
-use Rattle.sbp_initiator.specs.Laws.{Call, AreCalls, after, packets_of}
+use Rattle.initiator_laws.specs.Laws.{Call, AreCalls, after, packets_of}
 
 -- the writes that carry the running number
 abbrev pub is_numbered : Purpose → Bool

@@ -3,7 +3,8 @@
 -- none, nor the management ORB of the operation under way, is ignored and tells nothing. No other call tells `taken`.
 use Rattle.std.specs.Prelude.{ℕ, ◌==◌, ◌&&◌, ◌||◌, not, nat_lt, Bool, false, if◌then◌else◌, List, [], ◌∷◌, Option, Some, None, Result, Ok, Err}
 use Rattle.async_packet.specs.Packet.{Packet, header_in}
-use Rattle.label_table.specs.Layer.{Finding, of_response, of_request, judging_step}
+use Rattle.label_table.specs.declared.reply.Stale.{Stale}
+use Rattle.label_table.specs.Layer.{Finding, of_response, of_request, expiring_step, judging_step}
 use Rattle.bus_memory.specs.Windows.{slot_of}
 use Rattle.orb_layout.specs.declared.fault.OrbFault.{OrbFault}
 use Rattle.orb_layout.specs.declared.status.StatusBlock.{StatusBlock}
@@ -14,8 +15,11 @@ use Rattle.orb_list.specs.Tickets.{TicketParts}
 use Rattle.orb_list.specs.Table.{slot_in, waiting}
 use Rattle.sbp_journal.specs.declared.note.Note.{Note}
 use Rattle.sbp_journal.specs.declared.note.Note.TheVariants as notes
+use Rattle.sbp_journal.specs.declared.operation.OpWord.{OpWord}
 use Rattle.sbp_journal.specs.Addresses.{Access, access_of}
 use Rattle.sbp_journal.specs.Rows.{RequestFacts}
+use Rattle.sbp_initiator.specs.declared.purpose.Ending.{Ending}
+use Rattle.sbp_initiator.specs.declared.purpose.Ending.TheVariants as endings
 use Rattle.sbp_initiator.specs.declared.purpose.Purpose.{Purpose}
 use Rattle.sbp_initiator.specs.declared.purpose.Running.{Running}
 use Rattle.sbp_initiator.specs.declared.state.InitiatorState.{InitiatorState}
@@ -23,9 +27,10 @@ use Rattle.sbp_initiator.specs.Refusals.{ends_list}
 use Rattle.sbp_initiator.specs.Lists.{ListState, take_lists}
 use Rattle.sbp_initiator.specs.States.{ending_of, status_in}
 use Rattle.sbp_initiator.specs.Receiving.{answer_of, present_for}
-use Rattle.sbp_initiator.specs.Laws.{Call, acts, receives, lets_expire, sees}
+use Rattle.initiator_laws.specs.Laws.{Call, acts, receives, lets_expire, sees}
 use Rattle.initiator_laws.specs.Judging.{facts_at, fifo_for}
 use Rattle.initiator_laws.specs.Drops.{ends_the_list}
+use Rattle.initiator_laws.specs.Ends.{read_ends}
 
 -- ---- what a request brings
 
@@ -114,6 +119,24 @@ call_drops (acts action) s = false
 call_drops (receives generation bytes) s = finding_drops (judging_step s.layer generation bytes).0 s
 call_drops (lets_expire label) s = false
 call_drops (sees generation id target) s = nat_lt s.layer.generation generation
+
+-- the end of a read of AGENT_STATE that a call tells
+abbrev pub purpose_read : Option Purpose → Ending → Option OpWord
+purpose_read None ending = None
+purpose_read (Some purpose) ending = read_ends purpose ending
+
+abbrev pub finding_read : Finding Purpose → Option OpWord
+finding_read (of_response p label purpose) = purpose_read purpose (ending_of p)
+finding_read _ = None
+
+abbrev pub expired_read : Result (Option Purpose) Stale → Option OpWord
+expired_read (Ok purpose) = purpose_read purpose endings.Expired
+expired_read (Err stale) = None
+
+abbrev pub call_read : Call → InitiatorState → Option OpWord
+call_read (receives generation bytes) s = finding_read (judging_step s.layer generation bytes).0
+call_read (lets_expire label) s = expired_read (expiring_step s.layer s.target label).0
+call_read _ s = None
 
 -- what a call tells of a block that it brings
 abbrev pub call_note : Call → InitiatorState → Option Note

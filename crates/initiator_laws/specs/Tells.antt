@@ -1,8 +1,9 @@
 -- What the calls of an initiator tell (NCITS 325-1998, tasks, task management and status blocks). Over every list of calls: an action
 -- that is done tells of the steps of its list, and begins an operation only while none is under way. A delivery and a time-out tell at
 -- most one block, then `drop`, `op` and `stuck`, at most once each and in this order: the block and the drop are where the rules of
--- statuses and of lists say so, no list is present after a drop, and with the `op` of an operation this operation ends. A generation that is seen ends the operation and
--- the reads of AGENT_STATE, in the order of the actions that began them, and then drops the list.
+-- statuses and of lists say so, no list is present after a drop, with the `op` of an operation this operation ends, and a read of
+-- AGENT_STATE has one `op`, with its word, exactly where its transaction ends. A generation that is seen ends the operation and the
+-- reads of AGENT_STATE, in the order of the actions that began them, and then drops the list.
 use Rattle.std.specs.Prelude.{◌≡◌, ◌↔◌, ℕ, nat_lt, Bool, true, false, if◌then◌else◌, List, [], ◌∷◌, ◌++◌, Option, Some, None}
 use Rattle.bus_memory.specs.declared.window.Window.TheVariants as windows
 use Rattle.bus_memory.specs.Windows.{slot_of, start}
@@ -13,17 +14,17 @@ use Rattle.sbp_journal.specs.declared.event.Action.{Action}
 use Rattle.sbp_journal.specs.declared.note.Note.{Note}
 use Rattle.sbp_journal.specs.declared.note.Note.TheVariants as notes
 use Rattle.sbp_journal.specs.declared.operation.Operation.TheVariants as operations
-use Rattle.sbp_journal.specs.declared.operation.OpWord.{OpWord}
 use Rattle.sbp_journal.specs.declared.operation.OpWord.TheVariants as words
 use Rattle.sbp_initiator.specs.declared.purpose.Running.{Running}
 use Rattle.sbp_initiator.specs.Effects.{Turn}
 use Rattle.sbp_initiator.specs.Acting.{act_step}
 use Rattle.sbp_initiator.specs.Initiators.{own_rom}
-use Rattle.sbp_initiator.specs.Laws.{Call, acts, receives, lets_expire, sees, AreCalls, IsCall, IsSlotRun, after, done}
+use Rattle.initiator_laws.specs.Laws.{Call, acts, receives, lets_expire, sees, AreCalls, IsCall, after, done}
 use Rattle.initiator_laws.specs.Begins.{Begins}
 use Rattle.initiator_laws.specs.Drops.{IfGone, drop_if, present_list}
-use Rattle.initiator_laws.specs.Ends.{own, OpEnd, OpMove, IsStateWord, drops, notes_of}
-use Rattle.initiator_laws.specs.Taking.{block_notes, call_drops, call_note, waiting_at}
+use Rattle.initiator_laws.specs.Ends.{own, OpEnd, OpMove, drops, notes_of}
+use Rattle.initiator_laws.specs.Slots.{slot_calls_after}
+use Rattle.initiator_laws.specs.Taking.{block_notes, call_drops, call_note, call_read, waiting_at}
 
 -- a delivery or a time-out
 abbrev pub is_heard : Call → Bool
@@ -34,11 +35,9 @@ is_heard _ = false
 -- What a delivery or a time-out tells.
 pub record Tells (call : Call) (old new : Turn) : Type 0 where
   pub op : Option OpEnd
-  pub state : Option OpWord
   pub stuck : Bool
-  pub sides : new.0.sides ≡ old.0.sides ++ own (block_notes (call_note call old.1) ++ notes_of old.1.number (drop_if (call_drops call old.1) old.1.lists.slots.present) op state stuck)
+  pub sides : new.0.sides ≡ old.0.sides ++ own (block_notes (call_note call old.1) ++ notes_of old.1.number (drop_if (call_drops call old.1) old.1.lists.slots.present) op (call_read call old.1) stuck)
   pub move : OpMove old.1.operation op new.1.operation
-  pub word : IsStateWord state
   pub gone : IfGone (drop_if (call_drops call old.1) old.1.lists.slots.present) new.1.lists.slots.present
 
 -- ---- a generation is seen
@@ -80,10 +79,8 @@ pub record TellsLaw : Type 0 where
 
 -- ---- whose status is taken
 
--- After a list of calls the ORB whose status is taken is the one that waits and whose address the block names.
-pub record TakesAfter (number : ℕ) (lists : Turn) : Type 0 where
-  pub slots : IsSlotRun (own_rom number) lists.1.lists
-  pub named : (block : StatusBlock) (t : TicketParts) → waiting_at lists.1.lists.slots.slots (slot_of block.orb) ≡ Some t ↔ ((waits (run slots.calls (own_rom number)).notes t ≡ true) × (block.orb ≡ start (windows.Orb t.slot)))
-
+-- After a list of calls the ORB whose status is taken is the one that waits by what these calls did to the slots, and whose address the
+-- block names.
 abbrev pub TakesLaw : Type 0
-TakesLaw = (number : ℕ) (ready : Bool) (calls : List Call) → AreCalls calls → TakesAfter number (after number ready calls)
+TakesLaw =
+    (number : ℕ) (ready : Bool) (calls : List Call) → AreCalls calls → (block : StatusBlock) (t : TicketParts) → waiting_at (after number ready calls).1.lists.slots.slots (slot_of block.orb) ≡ Some t ↔ ((waits (run (slot_calls_after number ready calls) (own_rom number)).notes t ≡ true) × (block.orb ≡ start (windows.Orb t.slot)))

@@ -1,7 +1,46 @@
 ghost use Rattle.initiator_laws.specs.Judging.{JudgingLaw};
+ghost use Rattle.initiator_laws.specs.Laws.{CountLaw, RefusalLaw, SessionLaw, WireLaw};
+ghost use Rattle.initiator_laws.specs.Marks.{MarkLaw};
 ghost use Rattle.initiator_laws.specs.Numbers.{NumberLaw};
 ghost use Rattle.initiator_laws.specs.Served.{ReadsLaw};
+ghost use Rattle.initiator_laws.specs.Slots.{SlotLaw};
 ghost use Rattle.initiator_laws.specs.Tells.{TakesLaw, TellsLaw};
+
+/// The law of refusals: a refused action changes nothing, and has the number of the first row that holds,
+/// by what holds of the initiator as it acts.
+#[tactic(auto, using(crate::proofs::Refused::refusal_law))]
+pub fn first_row_refuses()
+    ensures { RefusalLaw }
+{}
+
+/// The law that over every list of calls the slots and the memory are what the calls of the slots make of new
+/// ones that these calls, one by one, do: each ORB prepared, linked, made a dummy, pinned, each status taken, each
+/// write of the target tried, each list dropped.
+#[tactic(auto, using(crate::proofs::Slotted::slot_law))]
+pub fn slots_take_their_calls()
+    ensures { SlotLaw }
+{}
+
+/// The law that over every list of calls the transaction layer is what a list of its own calls makes of a new
+/// one, and the packets that were handed out are theirs, in order.
+#[tactic(auto, using(crate::proofs::Called::wire_law))]
+pub fn packets_are_the_layers()
+    ensures { WireLaw }
+{}
+
+/// The law that over every list of calls the session goes by the moves of the table of sessions, and that one
+/// that is Stuck stays so until a generation is seen.
+#[tactic(auto, using(crate::proofs::Called::session_law))]
+pub fn session_goes_by_its_table()
+    ensures { SessionLaw }
+{}
+
+/// The law that no call lets a count fall: that of the writes to MANAGEMENT_AGENT, that of the login numbers, and
+/// the running number.
+#[tactic(auto, using(crate::proofs::Called::count_law))]
+pub fn no_number_comes_back()
+    ensures { CountLaw }
+{}
 
 /// The law of judging: the note of a delivery is that of the first row that holds, and what is ignored has
 /// the answer of its row and changes nothing.
@@ -35,4 +74,12 @@ pub fn waiting_orbs_are_taken()
 /// written since, a place of management that of the latest operation that used it, and the ROM is this node's.
 pub fn slots_and_rom_are_read()
     ensures { ReadsLaw }
+{}
+
+/// The law that over every list of calls a list is marked dead exactly where a status with the dead bit, or an
+/// AGENT_STATE of 3 that counts for it, came since it began; and that each read of AGENT_STATE counts for the
+/// list that was present, and whose ORB_POINTER had been answered, as it was asked for.
+#[tactic(auto, using(crate::proofs::Known::mark_law))]
+pub fn lists_are_known()
+    ensures { MarkLaw }
 {}

@@ -48,7 +48,8 @@ fn cold_runs(rt: HostRuntime) -> Result<(), Fail> {
     Ok(())
 }
 
-/// The 33rd ORB finds no slot; that is told before the want of a label, and a ring wants only that.
+/// The 33rd ORB finds no slot; that is told before the want of a label, and a ring wants only that; and behind
+/// that the list is marked dead, which is told before.
 #[test]
 fn slots_run_out(rt: HostRuntime) -> Result<(), Fail> {
     let mut trial = Trial::new(rt.alloc(), true)?;
@@ -61,6 +62,13 @@ fn slots_run_out(rt: HostRuntime) -> Result<(), Fail> {
     trial.repeat("append 0 tur", 1)?;
     trial.repeat("ring 0", 1)?;
     assert!(rt; trial.ends_with("refused 0 9\nrefused 0 9\nrefused 0 10\n"));
+    trial.repeat(
+        "receive 0 FFC10110FFC0000013000000000800006901000010000000",
+        1,
+    )?;
+    trial.repeat("put 0 tur", 1)?;
+    trial.repeat("append 0 tur", 1)?;
+    assert!(rt; trial.ends_with("refused 0 7\nrefused 0 7\n"));
     Ok(())
 }
 

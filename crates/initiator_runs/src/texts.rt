@@ -349,10 +349,20 @@ rung 0 1 0\n\
 sent FFC00110FFC1FFFFF0040008000800000000000010000080\n\
 > receive 0 FFC10120FFC0000000000000\n\
 got 0\n\
+> put 0 tur\n\
+append 0 1 1 000000000000000000000000 none\n\
 > receive 0 FFC10110FFC0000013000000000800006901000010000080\n\
 got 0\n\
 taken 0 1 0 illegal 01\n\
 sent FFC00120FFC1000000000000\n\
+> put 0 tur\n\
+refused 0 5\n\
+> low 0\n\
+low 0 1 1\n\
+> append 0 tur\n\
+refused 0 5\n\
+> link 0\n\
+linked 0 1 1\n\
 > append 0 tur\n\
 refused 0 7\n\
 > put 0 tur\n\

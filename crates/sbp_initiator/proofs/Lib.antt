@@ -4,9 +4,3 @@ pub mod Roms
 pub mod Asked
 pub mod Layers
 pub mod Again
-pub mod Moved
-pub mod Acted
-pub mod Delivered
-pub mod Runs
-pub mod Slotted
-pub mod Refused

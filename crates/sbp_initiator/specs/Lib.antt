@@ -9,5 +9,3 @@ pub mod Receiving
 pub mod Seeing
 pub mod Judged
 pub mod Initiators
-pub mod Moves
-pub mod Laws

@@ -9,6 +9,7 @@ ghost use Rattle.sbp_initiator.specs.Counted.{Acts, Counts, HasRoom};
 ghost use Rattle.sbp_initiator.specs.Effects.{Keeps, told};
 ghost use Rattle.sbp_initiator.specs.Lists.{IsCommand};
 
+use crate::answer::front;
 use crate::effects::{send_request, tell};
 use crate::fault::ActFault;
 use crate::purpose::{ListMarks, Pointing, Running};
@@ -22,13 +23,6 @@ use std::alloc::Global;
 
 /// The number of the refusal of a request that finds no label.
 const NO_LABEL: u8 = 10;
-
-/// The first bytes of some, as many as they have at most.
-fn front(bytes: &[u8], count: usize) -> &[u8]
-    ensures { result.now ≡ take count bytes.now }
-{
-    &bytes[..count.min(bytes.len())]
-}
 
 /// A buffer of these bytes.
 fn out_buffer(alloc: Global, bytes: &[u8]) -> Result<NoteBuffer, NoMemory>

@@ -53,7 +53,7 @@ impl AnswerPlan {
 }
 
 /// The first bytes of a buffer, as many as it has at most.
-fn front(buffer: &[u8], count: usize) -> &[u8]
+pub(crate) fn front(buffer: &[u8], count: usize) -> &[u8]
     ensures { result.now ≡ take count buffer.now }
 {
     &buffer[..count.min(buffer.len())]

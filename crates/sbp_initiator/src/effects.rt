@@ -2,15 +2,15 @@
 ghost use Rattle.std.specs.Prelude.{◌≡◌, ◌+◌, ◌*◌, ◌^◌, ◌<◌, ◌≤◌, ◌==◌, length, Some, None, IfOk, OnOk};
 ghost use Rattle.config_rom.specs.Unit.{sbp_unit_of};
 ghost use Rattle.orb_layout.specs.LoginResponses.{login_response};
-ghost use Rattle.sbp_initiator.specs.Refusals.{ends_list};
 ghost use Rattle.sbp_session.specs.Moves.{bad, conflict, goes, failed, pointed};
 ghost use Rattle.sbp_initiator.specs.Effects.{Keeps, ask_quad, conflict_step, doorbell_ended, drop_list_step, enable_ended, end_own_step, end_step, ended_step, fail_step, fault_number, finish_rom, good_end, good_event, good_word, known_step, managed_step, management_ended, moved, moves_session, pointed_step, pointer_ended, quad_got, reset_ended, response_of, rom_ended, state_ended, state_told, stick_step, told, with_request, with_unit};
 ghost use Rattle.sbp_initiator.specs.States.{behind_by, counts_for};
 ghost use Rattle.sbp_journal.specs.declared.note.Note.TheVariants as notes;
 
 use crate::purpose::{Ending, ListMarks, Pointing, Purpose, Running};
+use crate::refusals::ends_list;
 use crate::seats;
-use crate::state::{InitiatorState, behind_by, is_list, is_own, is_stuck, management_at};
+use crate::state::{InitiatorState, behind_by, is_list, is_stuck, management_at};
 use config_rom::{Rom, RomFault, parse, sbp_unit};
 use label_table::{Asked, RequestBody};
 use orb_layout::{LoginResponse, QueryResponse};
@@ -47,20 +47,6 @@ pub(crate) fn send_request(
         label: Some(asked.label),
         bytes: asked.bytes,
     })
-}
-
-/// Whether the good end of an operation drops the list.
-fn ends_list(operation: Operation) -> bool
-    ensures { result ≡ ends_list (Some operation) }
-{
-    matches!(
-        operation,
-        Operation::Logout
-            | Operation::AbortSet
-            | Operation::UnitReset
-            | Operation::TargetReset
-            | Operation::AgentReset
-    )
 }
 
 /// Whether an operation moves the session.
@@ -286,7 +272,7 @@ impl InitiatorState {
             }
             return self.end(running.operation, OpWord::Refused(status), outbox);
         }
-        if ends_list(running.operation) {
+        if ends_list(Some(running.operation)) {
             self.drop_list(outbox)?;
         }
         self.done(running, outbox)

@@ -1,5 +1,5 @@
 /// A FIFO of an initiator.
-#[derive(Clone, Copy, Debug, PartialEq, Eq)]
+#[derive(Clone, Copy)]
 pub enum Fifo {
     /// That of a place of management, which is always open.
     Place,

@@ -8,7 +8,6 @@ mod effects;
 mod fault;
 mod fifo;
 mod initiator;
-mod law;
 mod lists;
 mod purpose;
 mod reads;
@@ -24,10 +23,6 @@ pub use answer::AnswerPlan;
 pub use fault::ActFault;
 pub use fifo::Fifo;
 pub use initiator::Initiator;
-pub use law::{
-    first_row_refuses, no_number_comes_back, packets_are_the_layers, session_goes_by_its_table,
-    slots_take_their_calls,
-};
 pub use lists::Lists;
 pub use purpose::{Demand, Ending, ListMarks, Pointing, Purpose, Running, Wanted};
 pub use reads::StateReads;

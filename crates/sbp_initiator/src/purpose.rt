@@ -3,7 +3,7 @@ use sbp_journal::Operation;
 
 /// What a transaction of an initiator is for. An operation and a read of AGENT_STATE are named by the
 /// number of the action that began them.
-#[derive(Clone, Copy, Debug, PartialEq, Eq)]
+#[derive(Clone, Copy)]
 pub enum Purpose {
     /// ORB_POINTER is written for the list of this number.
     Pointer { list: u32 },
@@ -22,7 +22,7 @@ pub enum Purpose {
 }
 
 /// How a transaction ended.
-#[derive(Clone, Copy, Debug, PartialEq, Eq)]
+#[derive(Clone, Copy)]
 pub enum Ending {
     /// It was answered complete; what a read of a quadlet gave, else 0.
     Complete { value: u32 },
@@ -33,7 +33,7 @@ pub enum Ending {
 }
 
 /// What an initiator asks of the target.
-#[derive(Clone, Copy, Debug, PartialEq, Eq)]
+#[derive(Clone, Copy)]
 pub enum Wanted {
     /// A quadlet.
     Read { offset: Offset },
@@ -44,14 +44,14 @@ pub enum Wanted {
 }
 
 /// A request, and what its transaction is for.
-#[derive(Clone, Copy, Debug, PartialEq, Eq)]
+#[derive(Clone, Copy)]
 pub struct Demand {
     pub wanted: Wanted,
     pub purpose: Purpose,
 }
 
 /// The operation under way.
-#[derive(Clone, Copy, Debug, PartialEq, Eq)]
+#[derive(Clone, Copy)]
 pub struct Running {
     pub operation: Operation,
     /// The number of the action that began it.
@@ -61,7 +61,7 @@ pub struct Running {
 }
 
 /// How far the write to ORB_POINTER of the present list has come.
-#[derive(Clone, Copy, Debug, PartialEq, Eq)]
+#[derive(Clone, Copy)]
 pub enum Pointing {
     /// It was not sent.
     Unwritten,
@@ -72,7 +72,7 @@ pub enum Pointing {
 }
 
 /// What is known of the present list beside its ORBs.
-#[derive(Clone, Copy, Debug, PartialEq, Eq)]
+#[derive(Clone, Copy)]
 pub struct ListMarks {
     /// The slot of its first ORB, below 32.
     pub first: u8,

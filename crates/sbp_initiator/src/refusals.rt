@@ -32,7 +32,7 @@ fn operation_of(action: &Action) -> Option<Operation>
 }
 
 /// Whether an operation, if there is one, ends lists.
-fn ends_list(operation: Option<Operation>) -> bool
+pub(crate) fn ends_list(operation: Option<Operation>) -> bool
     ensures { result ≡ ends_list operation }
 {
     matches!(

@@ -2,7 +2,7 @@ ghost use Rattle.std.specs.Prelude.{◌≡◌, ◌+◌, ◌%◌, ◌^◌, ◌<�
 ghost use Rattle.async_packet.specs.Packet.{view};
 ghost use Rattle.sbp_initiator.specs.Refusals.{is_in_stuck};
 ghost use Rattle.sbp_session.specs.declared.seat.Seat.TheVariants as seats;
-ghost use Rattle.sbp_initiator.specs.States.{behind_by, fifo_at, is_answered, is_in_rom, is_list, is_orb_of, is_out_seat, is_own, is_present_orb, is_stuck_seat, is_unwritten, last_linked, login_fifo, management_at, names_place, no_marks, place_fifo, place_in, points, reads_rom, response_in};
+ghost use Rattle.sbp_initiator.specs.States.{behind_by, fifo_at, is_answered, is_in_rom, is_list, is_orb_of, is_out_seat, is_present_orb, is_stuck_seat, is_unwritten, last_linked, login_fifo, management_at, names_place, no_marks, place_fifo, place_in, points, reads_rom, response_in};
 
 use crate::fifo::Fifo;
 use crate::lists::Lists;
@@ -17,7 +17,7 @@ use sbp_base::{NodeId, Offset, quad_at};
 use sbp_session::Seat;
 
 /// What an initiator has counted.
-#[derive(Clone, Copy, Debug, PartialEq, Eq)]
+#[derive(Clone, Copy)]
 pub struct Counts {
     /// The writes to MANAGEMENT_AGENT.
     pub managed: u32,
@@ -188,16 +188,6 @@ pub(crate) fn is_list(present: &Option<PresentList>, number: u32) -> bool
 {
     match present {
         Some(list) => list.tail.list() == number,
-        None => false,
-    }
-}
-
-/// Whether the operation under way is the one that an action began.
-pub(crate) fn is_own(act: u32, operation: &Option<Running>) -> bool
-    ensures { result ≡ is_own act operation.now }
-{
-    match operation {
-        Some(running) => running.act == act,
         None => false,
     }
 }

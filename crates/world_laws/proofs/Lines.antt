@@ -17,7 +17,7 @@ use Rattle.sbp_journal.specs.declared.event.Action.{Action}
 use Rattle.sbp_initiator.specs.Acting.{act_step}
 use Rattle.sbp_initiator.specs.Initiators.{new_state}
 use Rattle.sbp_initiator.specs.declared.state.InitiatorState.{InitiatorState}
-use Rattle.sbp_initiator.proofs.Refused.{refusal_law}
+use Rattle.initiator_laws.proofs.Refused.{refusal_law}
 use Rattle.sbp_initiator.specs.Effects.{Turn}
 use Rattle.sbp_initiator.specs.Seeing.{see_step}
 use Rattle.sbp_target.specs.Nodes.{NodeState}

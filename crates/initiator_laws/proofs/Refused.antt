@@ -13,7 +13,7 @@ use Rattle.sbp_initiator.specs.declared.state.InitiatorState.{InitiatorState}
 use Rattle.sbp_initiator.specs.Refusals.{ActionFacts, lacks_link, lacks_orb, refusal, rows_of, sends}
 use Rattle.sbp_initiator.specs.States.{wanted_body}
 use Rattle.sbp_initiator.specs.Acting.{act_step, asked_as, asked_for, demand_of, demanded_as, facts_with, judged_as}
-use Rattle.sbp_initiator.specs.Laws.{finds_for, finds_label, RefusalLaw}
+use Rattle.initiator_laws.specs.Laws.{finds_for, finds_label, RefusalLaw}
 use Rattle.sbp_initiator.proofs.Asked.{asking}
 
 -- the last of some rows, and those before it

@@ -13,11 +13,11 @@ use Rattle.sbp_initiator.specs.declared.purpose.Purpose.{Purpose}
 use Rattle.sbp_initiator.specs.declared.state.Counts.{Counts}
 use Rattle.sbp_initiator.specs.Effects.{Turn}
 use Rattle.sbp_initiator.specs.Initiators.{first_seat, new_state}
-use Rattle.sbp_initiator.specs.Moves.{Stage, stage, staged, is_reset, Grow, outgoing, response, Move, Moves, tells, sits, resets, relists, marks_as, works_at, reads_on, holds, learns, turns_to, counts_up, judges, answers, asks, fails, sends, expires, sees, stay, go_on}
-use Rattle.sbp_initiator.specs.Laws.{Call, acts, receives, lets_expire, IsCall, AreCalls, done, after, packets_of, with_asked, IsWireRun, WireLaw, IsSession, is_sight, SessionLaw, CountLaw}
-use Rattle.sbp_initiator.specs.Laws as laws
-use Rattle.sbp_initiator.proofs.Acted.{act_moves}
-use Rattle.sbp_initiator.proofs.Delivered.{receive_moves, expire_moves, see_moves}
+use Rattle.initiator_laws.specs.Moves.{Stage, stage, staged, is_reset, Grow, outgoing, response, Move, Moves, tells, sits, resets, relists, marks_as, works_at, reads_on, holds, learns, turns_to, counts_up, judges, answers, asks, fails, sends, expires, sees, stay, go_on}
+use Rattle.initiator_laws.specs.Laws.{Call, acts, receives, lets_expire, IsCall, AreCalls, done, after, packets_of, with_asked, IsWireRun, WireLaw, IsSession, is_sight, SessionLaw, CountLaw}
+use Rattle.initiator_laws.specs.Laws as laws
+use Rattle.initiator_laws.proofs.Acted.{act_moves}
+use Rattle.initiator_laws.proofs.Delivered.{receive_moves, expire_moves, see_moves}
 
 -- each call is moves
 pub call_moves : (call : Call) (z : Stage) (t : Turn) → IsCall call → Moves true z (staged [] t) → Moves true z (staged [] (done call t))

@@ -30,8 +30,8 @@ use Rattle.sbp_initiator.specs.States.{ending_of, no_marks, status_in}
 use Rattle.sbp_initiator.specs.Effects.{Turn, told, with_dead, drop_list_step, managed_step}
 use Rattle.sbp_initiator.specs.Receiving.{called, type_error, address_error, data_error, responded_as, respond_step, ignored_step, got_step, answer_of, is_dead_kind, taken_by, taken_as, managed_for, present_for, block_by, block_step, status_step, read_as, written_as, serve_step, is_foreign, block_at, quadlet_at, fifo_of, addressed, received, receive_step, expired_as, expire_step}
 use Rattle.sbp_initiator.specs.Seeing.{reset_told, states_end, all_end, resets_told, interrupted, freed_step, reset_step, seen_as, see_step}
-use Rattle.sbp_initiator.specs.Moves.{Stage, stage, staged, answered_with, by_call, Moves, tells, resets, relists, marks_as, works_at, reads_on, turns_to, counts_up, judges, answers, expires, sees, go_on}
-use Rattle.sbp_initiator.proofs.Moved.{pick_state, pick_outbox, drop_moves, managed_moves, ended_for_moves}
+use Rattle.initiator_laws.specs.Moves.{Stage, stage, staged, answered_with, by_call, Moves, tells, resets, relists, marks_as, works_at, reads_on, turns_to, counts_up, judges, answers, expires, sees, go_on}
+use Rattle.initiator_laws.proofs.Moved.{pick_state, pick_outbox, drop_moves, managed_moves, ended_for_moves}
 
 module _ (b : Bool) (z : Stage) where
   called_moves : (o : OutboxState) (s : InitiatorState) → Moves b z (stage [] o s) → Moves b z (stage [] o (called s))

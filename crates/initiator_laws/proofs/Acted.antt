@@ -28,8 +28,8 @@ use Rattle.sbp_initiator.specs.Lists.{IsCommand, ListState, asked_by, with_parts
 use Rattle.sbp_initiator.specs.States.{is_unwritten, last_linked, no_marks, place_of, wanted_body}
 use Rattle.sbp_initiator.specs.Effects.{told, with_request}
 use Rattle.sbp_initiator.specs.Acting.{IsAction, facts_with, demand_of, asked_for, login_id, login_orb, orb_by, begun, managed_by, with_sent, with_login, with_running, pinned_for, with_first, put_as, put_step, low_as, low_step, link_as, link_step, with_ring, ring_for, ring_step, append_step, dummy_for, manage_start, register_start, done_step, counted, asked_as, demanded_as, judged_as, act_step}
-use Rattle.sbp_initiator.specs.Moves.{Stage, stage, staged, by_call, by_orb, by_plan, outgoing, Moves, tells, sits, relists, marks_as, works_at, reads_on, holds, counts_up, asks, fails, sends, go_on}
-use Rattle.sbp_initiator.proofs.Moved.{pick_state}
+use Rattle.initiator_laws.specs.Moves.{Stage, stage, staged, by_call, by_orb, by_plan, outgoing, Moves, tells, sits, relists, marks_as, works_at, reads_on, holds, counts_up, asks, fails, sends, go_on}
+use Rattle.initiator_laws.proofs.Moved.{pick_state}
 
 module _ (b : Bool) (z : Stage) (a : List Outgoing) where
   first_moves : (t : TicketParts) (o : OutboxState) (s : InitiatorState) → Moves b z (stage a o s) → Moves b z (stage a o (with_first t s))

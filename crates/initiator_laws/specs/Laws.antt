@@ -4,8 +4,6 @@ use Rattle.async_packet.specs.Labels.{LabelParts}
 use Rattle.label_table.specs.declared.judgement.Asked.{Asked}
 use Rattle.label_table.specs.Layer.{Layer, answering_step, asking_step}
 use Rattle.label_table.specs.History as wire
-use Rattle.orb_list.specs.Runs as slot_runs
-use Rattle.orb_list.specs.Kept.{AreProper}
 use Rattle.sbp_session.specs.declared.seat.Seat.{Seat}
 use Rattle.sbp_session.specs.declared.seat.Seat.TheVariants as seats
 use Rattle.sbp_session.specs.declared.seat.Origin.{Origin}
@@ -16,14 +14,13 @@ use Rattle.sbp_journal.specs.Outgoings.{OutboxState, empty_outbox}
 use Rattle.sbp_initiator.specs.declared.purpose.Purpose.{Purpose}
 use Rattle.sbp_initiator.specs.declared.purpose.Demand.{Demand}
 use Rattle.sbp_initiator.specs.declared.state.InitiatorState.{InitiatorState}
-use Rattle.sbp_initiator.specs.Lists.{ListState}
 use Rattle.sbp_initiator.specs.Effects.{Turn}
 use Rattle.sbp_initiator.specs.Refusals.{refusal}
 use Rattle.sbp_initiator.specs.Acting.{IsAction, act_step, asked_for, demand_of, facts_with}
 use Rattle.sbp_initiator.specs.Receiving.{expire_step, receive_step}
 use Rattle.sbp_initiator.specs.Seeing.{see_step}
-use Rattle.sbp_initiator.specs.Initiators.{first_seat, new_state, own_rom}
-use Rattle.sbp_initiator.specs.Moves.{outgoing, response}
+use Rattle.sbp_initiator.specs.Initiators.{first_seat, new_state}
+use Rattle.initiator_laws.specs.Moves.{outgoing, response}
 
 -- the calls that may change an initiator
 pub data Call : Type 0 where
@@ -67,21 +64,6 @@ finds_label action s = finds_for (demand_of action s) s
 pub record RefusalLaw : Type 0 where
   pub unchanged : (action : Action) (o : OutboxState) (s : InitiatorState) (number : ℕ) → (act_step action o s).0 ≡ Some number → (act_step action o s).1 ≡ (o, s)
   pub first : (action : Action) (o : OutboxState) (s : InitiatorState) → (act_step action o s).0 ≡ refusal action (facts_with (finds_label action s) s action)
-
--- ---- the slots and the memory
-
--- The slots and their memory are what some calls of them make of new ones, in a memory with this ROM.
-pub record IsSlotRun (quads : List ℕ) (lists : ListState) : Type 0 where
-  pub calls : List slot_runs.Call
-  pub proper : AreProper calls
-  pub table : (slot_runs.run calls quads).table ≡ lists.slots
-  pub memory : (slot_runs.run calls quads).memory ≡ lists.memory
-
--- After every list of calls the slots and the memory are those of a list of calls of the slots and of writes: what the target
--- reads of an ORB, its page table and its buffer, which slot is free and whose status is taken are as the laws of the slots say.
-abbrev pub SlotLaw : Type 0
-SlotLaw =
-    (number : ℕ) (ready : Bool) (calls : List Call) → AreCalls calls → IsSlotRun (own_rom number) (after number ready calls).1.lists
 
 -- ---- the transaction layer
 
