@@ -440,6 +440,7 @@ none_read actions.Enable s acts reads e = refl
 
 -- with the request of an action
 asked_as_wire : (c : Bool) (node : ℕ) (begins : Option Operation) (read : Bool) (list : Option ℕ) (counted : ℕ → Option ℕ) (demand : Demand) (asked : Asked) (layer : Layer Purpose) (o : OutboxState) (s : InitiatorState) → is_numbered demand.purpose ≡ c → asked_for demand s ≡ (Some asked, layer) → Apt (after_by begins s) s.counts.acts s.counts.running (counted_if read list s.counts.acts counted) demand → Wire (FitsNow s.operation s.counts.acts counted) s.states node s.counts.running s.layer o.packets → Wire (FitsNow (after_by begins s) (s.counts.acts + 1) (counted_if read list s.counts.acts counted)) (reads_with (read_act demand.purpose) s.states) node (cond c (s.counts.running + 1) s.counts.running) layer (o.packets ++ outgoing s.target asked ∷ [])
+unfolding kept_wire
 asked_as_wire true node begins read list counted demand asked layer o s n e a w =
     subst (λ (x : Option ℕ). Wire (FitsNow (after_by begins s) (s.counts.acts + 1) (counted_if read list s.counts.acts counted)) (reads_with x s.states) node (s.counts.running + 1) layer (o.packets ++ outgoing s.target asked ∷ [])) (sym (numbered_none demand.purpose n))
     (number_wire s.target (wanted_body demand.wanted) demand.purpose asked layer e n (a.value n) a.fits (kept_wire node begins read list counted o s w))

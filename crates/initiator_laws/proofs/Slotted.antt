@@ -119,7 +119,7 @@ gone_answer None marks = refl
 gone_answer (Some list) marks = refl
 
 -- a read that counts for the present list: there is one
-state_dead : (counts zero three : Bool) (present : Option PresentList) (marks : ListMarks) → (counts ≡ true → is_some present ≡ true) → (state_marks counts zero three present marks).is_dead ≡ known_if ((counts && zero) && is_some present) (counts && three) marks.is_dead
+state_dead : (counts off three : Bool) (present : Option PresentList) (marks : ListMarks) → (counts ≡ true → is_some present ≡ true) → (state_marks counts off three present marks).is_dead ≡ known_if ((counts && off) && is_some present) (counts && three) marks.is_dead
 state_dead true true three None marks f = absurd (untrue (f refl))
   where
     untrue : false ≡ true → ⊥
@@ -127,13 +127,13 @@ state_dead true true three None marks f = absurd (untrue (f refl))
 state_dead true true three (Some list) marks f = refl
 state_dead true false true present marks f = refl
 state_dead true false false present marks f = refl
-state_dead false zero three present marks f = refl
+state_dead false off three present marks f = refl
 
-state_answer : (counts zero three : Bool) (present : Option PresentList) (marks : ListMarks) → is_answered (state_marks counts zero three present marks).pointing ≡ known_if ((counts && zero) && is_some present) false (is_answered marks.pointing)
+state_answer : (counts off three : Bool) (present : Option PresentList) (marks : ListMarks) → is_answered (state_marks counts off three present marks).pointing ≡ known_if ((counts && off) && is_some present) false (is_answered marks.pointing)
 state_answer true true three present marks = gone_answer present marks
 state_answer true false true present marks = refl
 state_answer true false false present marks = refl
-state_answer false zero three present marks = refl
+state_answer false off three present marks = refl
 
 counts_some : (present : Option PresentList) (list : Option ℕ) → counts_for present list ≡ true → is_some present ≡ true
 counts_some None None e = e

@@ -65,7 +65,6 @@ pub fn calls_tell()
 
 /// The law that over every list of calls the ORB whose status is taken is the one that waits and that the
 /// block names.
-#[tactic(auto, using(crate::proofs::Takes::takes_law))]
 pub fn waiting_orbs_are_taken()
     ensures { TakesLaw }
 {}
@@ -79,7 +78,6 @@ pub fn slots_and_rom_are_read()
 /// The law that over every list of calls a list is marked dead exactly where a status with the dead bit, or an
 /// AGENT_STATE of 3 that counts for it, came since it began; and that each read of AGENT_STATE counts for the
 /// list that was present, and whose ORB_POINTER had been answered, as it was asked for.
-#[tactic(auto, using(crate::proofs::Known::mark_law))]
 pub fn lists_are_known()
     ensures { MarkLaw }
 {}
