@@ -6,3 +6,4 @@ pub mod Concluding
 pub mod Received
 pub mod Making
 pub mod Leaving
+pub mod Faults

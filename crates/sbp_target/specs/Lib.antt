@@ -11,3 +11,4 @@ pub mod Serving
 pub mod Receiving
 pub mod Targets
 pub mod Counting
+pub mod Faults

@@ -1,5 +1,6 @@
 ghost use Rattle.std.specs.Prelude.{◌≡◌, ◌+◌, ◌*◌, ◌^◌, ◌<◌, ◌≤◌, length, map, IfOk, OnOk};
 ghost use Rattle.sbp_target.specs.Counting.{counted, counted_if};
+ghost use Rattle.sbp_target.specs.Faults.{NoneFell};
 ghost use Rattle.sbp_target.specs.Nodes.{scene};
 ghost use Rattle.sbp_target.specs.Receiving.{Receives, seen, ticked, with_key};
 ghost use Rattle.sbp_target.specs.Replies.{whole};
@@ -66,6 +67,7 @@ impl Target {
         requires media { length media.old.items ≡ length self.old.node.units }
         requires calls { self.old.calls < 2 ^ 48 }
         ensures size { length media.new.items ≡ length media.old.items }
+        ensures fell { NoneFell (map media_faults media.old.items) (map media_faults media.new.items) }
         ensures units { length self.new.node.units ≡ length self.old.node.units }
         ensures step { IfOk result (λ judged. Receives generation bytes.now (whole (scene self.old.node outbox.old) (map disk media.old.items)) judged (whole (scene self.new.node outbox.new) (map disk media.new.items)) (map media_faults media.old.items) (map media_faults media.new.items)) }
         ensures calls { self.new.calls ≤ self.old.calls + 1 }

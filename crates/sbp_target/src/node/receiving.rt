@@ -3,6 +3,7 @@ ghost use Rattle.async_packet.specs.Packet.{view, header_in};
 ghost use Rattle.label_table.specs.Layer.{IsLent, finding_of, judging_step};
 ghost use Rattle.orb_layout.specs.Replies.{answer_of};
 ghost use Rattle.sbp_target.specs.Counting.{LeavesCount};
+ghost use Rattle.sbp_target.specs.Faults.{NoneFell};
 ghost use Rattle.sbp_target.specs.Nodes.{scene};
 ghost use Rattle.sbp_target.specs.Replies.{whole};
 ghost use Rattle.sbp_target.specs.Receiving.{Concludes, Receives, answer_by, answer_in, IsNoQuadlet, settled};
@@ -55,6 +56,7 @@ fn place_of(nodes: &[NodeId], node: NodeId) -> Option<usize>
 impl Node {
     /// Judges a packet that is delivered with this generation, by the first row that holds, and does
     /// what it brings.
+    #[tactic(auto, using(crate::proofs::Faults::fell_steps))]
     pub(crate) fn receive(
         &mut self,
         media: &mut Vec<Box<dyn Medium>>,
@@ -65,6 +67,7 @@ impl Node {
         requires media { length media.old.items ≡ length self.old.units }
         requires count { self.old.layer.calls + 12 ≤ 2 ^ 56 }
         ensures size { length media.new.items ≡ length media.old.items }
+        ensures fell { NoneFell (map media_faults media.old.items) (map media_faults media.new.items) }
         ensures step { IfOk result (λ judged. Receives generation bytes.now (whole (scene self.old outbox.old) (map disk media.old.items)) judged (whole (scene self.new outbox.new) (map disk media.new.items)) (map media_faults media.old.items) (map media_faults media.new.items)) }
         ensures count { self.new.layer.calls ≤ self.old.layer.calls + 12 }
         ensures ignored { IfOk result (λ judged. LeavesCount judged self.old.layer.calls self.new.layer.calls) }
@@ -114,6 +117,7 @@ impl Node {
         requires media { length media.old.items ≡ length self.old.units }
         requires count { self.old.layer.calls + 11 ≤ 2 ^ 56 }
         ensures size { length media.new.items ≡ length media.old.items }
+        ensures fell { NoneFell (map media_faults media.old.items) (map media_faults media.new.items) }
         ensures step { OnOk result (Concludes purpose (header_in (view packet.now)).source label.now (answer_in (view packet.now)) (whole (scene self.old outbox.old) (map disk media.old.items)) (whole (scene self.new outbox.new) (map disk media.new.items)) (map media_faults media.old.items) (map media_faults media.new.items)) }
         ensures count { self.new.layer.calls ≤ self.old.layer.calls + 11 }
         ensures units { length self.new.units ≡ length self.old.units }
@@ -128,6 +132,7 @@ impl Node {
     }
 
     /// What a reply brings. A transaction that belongs to nobody brings nothing.
+    #[tactic(auto, using(crate::proofs::Faults::fell_steps))]
     fn finish(
         &mut self,
         media: &mut Vec<Box<dyn Medium>>,
@@ -140,6 +145,7 @@ impl Node {
         requires media { length media.old.items ≡ length self.old.units }
         requires count { self.old.layer.calls + 11 ≤ 2 ^ 56 }
         ensures size { length media.new.items ≡ length media.old.items }
+        ensures fell { NoneFell (map media_faults media.old.items) (map media_faults media.new.items) }
         ensures step { OnOk result (Concludes purpose peer label.now (answer_of reply.entry) (whole (scene self.old outbox.old) (map disk media.old.items)) (whole (scene self.new outbox.new) (map disk media.new.items)) (map media_faults media.old.items) (map media_faults media.new.items)) }
         ensures count { self.new.layer.calls ≤ self.old.layer.calls + 11 }
         ensures units { length self.new.units ≡ length self.old.units }
@@ -151,6 +157,7 @@ impl Node {
     }
 
     /// What a reply brings, by what its transaction was for.
+    #[tactic(auto, using(crate::proofs::Faults::fell_steps))]
     fn finish_for(
         &mut self,
         media: &mut Vec<Box<dyn Medium>>,
@@ -163,6 +170,7 @@ impl Node {
         requires media { length media.old.items ≡ length self.old.units }
         requires count { self.old.layer.calls + 11 ≤ 2 ^ 56 }
         ensures size { length media.new.items ≡ length media.old.items }
+        ensures fell { NoneFell (map media_faults media.old.items) (map media_faults media.new.items) }
         ensures step { OnOk result (Concludes (Some purpose.now) peer label.now (answer_of reply.entry) (whole (scene self.old outbox.old) (map disk media.old.items)) (whole (scene self.new outbox.new) (map disk media.new.items)) (map media_faults media.old.items) (map media_faults media.new.items)) }
         ensures count { self.new.layer.calls ≤ self.old.layer.calls + 11 }
         ensures units { length self.new.units ≡ length self.old.units }

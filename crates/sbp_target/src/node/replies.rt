@@ -4,6 +4,7 @@ ghost use Rattle.command_agent.specs.Runs.{MayTell, count_after};
 ghost use Rattle.orb_layout.specs.Replies.{answer_of};
 ghost use Rattle.rbc_disk.specs.Runs.{told_in};
 ghost use Rattle.sbp_target.specs.Desks.{which_in};
+ghost use Rattle.sbp_target.specs.Faults.{NoneFell};
 ghost use Rattle.sbp_target.specs.Nodes.{desk_at, scene};
 ghost use Rattle.sbp_target.specs.Replies.{Advances, RepliesTo, agent_step, follow_all, plain_in, replied, served_login, stage, whole};
 
@@ -28,6 +29,7 @@ fn came(was_present: bool, is_present: bool) -> bool
 impl Node {
     /// What came of a transaction that is for the agent of a place. Nothing happens where the agent
     /// does not wait for it.
+    #[tactic(auto, using(crate::proofs::Faults::fell_steps))]
     pub(super) fn reply_to(
         &mut self,
         media: &mut Vec<Box<dyn Medium>>,
@@ -40,6 +42,7 @@ impl Node {
         requires media { length media.old.items ≡ length self.old.units }
         requires count { self.old.layer.calls + 11 ≤ 2 ^ 56 }
         ensures size { length media.new.items ≡ length media.old.items }
+        ensures fell { NoneFell (map media_faults media.old.items) (map media_faults media.new.items) }
         ensures step { OnOk result (RepliesTo place peer label.now (answer_of reply.entry) (whole (scene self.old outbox.old) (map disk media.old.items)) (whole (scene self.new outbox.new) (map disk media.new.items)) (map media_faults media.old.items) (map media_faults media.new.items)) }
         ensures count { self.new.layer.calls ≤ self.old.layer.calls + 11 }
         ensures units { length self.new.units ≡ length self.old.units }
@@ -89,6 +92,7 @@ impl Node {
         requires media { length media.old.items ≡ length self.old.units }
         requires count { self.old.layer.calls + 11 ≤ 2 ^ 56 }
         ensures size { length media.new.items ≡ length media.old.items }
+        ensures fell { NoneFell (map media_faults media.old.items) (map media_faults media.new.items) }
         ensures step { OnOk result (Advances place login.now which (answer_of reply.entry) (whole (scene self.old outbox.old) (map disk media.old.items)) (whole (scene self.new outbox.new) (map disk media.new.items)) (map media_faults media.old.items) (map media_faults media.new.items)) }
         ensures count { self.new.layer.calls ≤ self.old.layer.calls + 11 }
         ensures units { length self.new.units ≡ length self.old.units }
