@@ -10,7 +10,7 @@ use Rattle.orb_layout.specs.declared.ask.Ask.{Ask}
 use Rattle.orb_layout.specs.declared.pointer.OrbPointer.{OrbPointer}
 use Rattle.orb_layout.specs.Pointers.{pointer_at}
 use Rattle.mgmt_agent.specs.declared.operation.Operation.{Operation}
-use Rattle.mgmt_agent.specs.Machine as management
+use Rattle.mgmt_agent.specs.Machine.{start_step, start_with}
 use Rattle.command_agent.specs.declared.step.PointRefusal.{PointRefusal}
 use Rattle.command_agent.specs.declared.step.PointRefusal.TheVariants as refusals
 use Rattle.command_agent.specs.Machine.{Machine, state_in}
@@ -23,7 +23,7 @@ use Rattle.sbp_journal.specs.declared.outbox.Outgoing.{Outgoing}
 use Rattle.sbp_journal.specs.declared.side.Side.TheVariants as sides
 use Rattle.sbp_journal.specs.Addresses as table
 use Rattle.sbp_journal.specs.Addresses.{Register, agent_state, agent_reset, orb_pointer, doorbell, unsolicited_enable, Start, rom_start, management_agent, register, no_start, start_at, start_serves, begins_in_rom, lies_in_rom, access_of, rom_base, management_address}
-use Rattle.sbp_journal.specs.Rows.{TargetFacts, target_rcode, judging_of, ignored_as, serving}
+use Rattle.sbp_journal.specs.Rows.{TargetFacts, target_rcode, judging_of, ignored_as, serving, Judging}
 use Rattle.sbp_target.specs.declared.address.Access.{Access}
 use Rattle.sbp_target.specs.declared.address.Access.TheVariants as accesses
 use Rattle.sbp_target.specs.declared.address.AgentRegister.{AgentRegister}
@@ -140,15 +140,15 @@ module _ (node : ℕ) (p : Packet) (bytes : List ℕ) where
   accesses_first accesses.Ring place s h = ring_first place s h
   accesses_first accesses.Enable place s h = begins node p 0 [] bytes (enabled place s) h
 
-  starts_first : (operation : Option Operation) (orb : ℕ) (s : Scene) → At (Nothing node) s → At (Begins node p (cond (is_some operation) 4 0) []) (started_by (header_in p).source p bytes (management.start_with operation s.node.manager (header_in p).source orb) s)
+  starts_first : (operation : Option Operation) (orb : ℕ) (s : Scene) → At (Nothing node) s → At (Begins node p (cond (is_some operation) 4 0) []) (started_by (header_in p).source p bytes (start_with operation s.node.manager (header_in p).source orb) s)
   starts_first None orb s h =
-      let m = (management.start_with None s.node.manager (header_in p).source orb).1 in
+      let m = (start_with None s.node.manager (header_in p).source orb).1 in
       let t = scene (record s.node { manager = m }) s.outbox in
       asks_manager (Begins node p 0 []) (keeps_first node p 0 []) (header_in p).source _ (answered p bytes complete [] t) (begins node p 0 [] bytes t h)
   starts_first (Some operation) orb s h = begins node p 4 [] bytes (scene (record s.node { manager = s.node.manager }) s.outbox) h
 
   start_first : (orb : ℕ) (s : Scene) → At (Nothing node) s → At (Begins node p (cond (is_some s.node.manager.operation) 4 0) []) (start orb p bytes s)
-  unfolding start management.start_step
+  unfolding start start_step
   start_first orb s h = starts_first s.node.manager.operation orb s h
 
   serves_first : (demand : Demand) (s : Scene) → At (Nothing node) s → At (Begins node p (demand_rcode s.node demand) (demand_gives s.node demand)) (served_as demand p bytes s)
@@ -285,7 +285,7 @@ module _ (p : Packet) (access : table.Access) (is : access_of p ≡ Some access)
 
   answers_as : (bytes : List ℕ) (s : Scene) → s.outbox.packets ≡ [] → BeginsWith s.node.layer.node p (row_rcode (judging_of (judged_by s.node (header_in p).source access)) (target_rcode (facts_at s.node access))) (row_gives (judging_of (judged_by s.node (header_in p).source access)) (gives_at s.node access)) (request_step p bytes s).1.outbox.packets
   answers_as bytes s none =
-      let rows = λ (b : Bool). judging_of (record (judged_by s.node (header_in p).source access) { of_other_login = b }) in
+      let rows : Bool → Judging = λ (b : Bool). judging_of (record (judged_by s.node (header_in p).source access) { of_other_login = b }) in
       subst (λ (r : Judged × Scene). BeginsWith s.node.layer.node p (row_rcode (rows (judged_by s.node (header_in p).source access).of_other_login) (target_rcode (facts_at s.node access))) (row_gives (rows (judged_by s.node (header_in p).source access).of_other_login) (gives_at s.node access)) r.1.outbox.packets) (sym (step_is p bytes s))
       (subst (λ (b : Bool). BeginsWith s.node.layer.node p (row_rcode (rows b) (target_rcode (facts_at s.node access))) (row_gives (rows b) (gives_at s.node access)) (Step (is_barred s.node p) p bytes s).1.outbox.packets) (barred_is s.node)
       (answers_in (is_barred s.node p) (header_in p).source access p bytes s is none))
