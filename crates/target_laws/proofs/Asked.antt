@@ -61,10 +61,10 @@ by_table p access e w r h at =
 
 demand_at : (size : ℕ) (p : Packet) → IfSome (access_of p) (λ access. demand_of size p ≡ Demanded size access)
 unfolding demand_of
-demand_at size (write_quadlet h offset value) = by_table (write_quadlet h offset value) (Wrote offset) _ _ _ (write_served h offset value) refl
-demand_at size (write_block h offset payload) = by_table (write_block h offset payload) (WroteBlock offset payload) _ _ _ (block_served h offset payload) refl
-demand_at size (read_quadlet h offset) = by_table (read_quadlet h offset) (Read offset) _ _ _ (read_served h offset) refl
-demand_at size (read_block h offset asked) = by_table (read_block h offset asked) (ReadBlock offset asked) _ _ _ (read_block_served h offset asked) refl
+demand_at size (write_quadlet h offset value) = by_table (write_quadlet h offset value) (Wrote offset) false (begins_in_rom size (Wrote offset)) false (write_served h offset value) refl
+demand_at size (write_block h offset payload) = by_table (write_block h offset payload) (WroteBlock offset payload) (length payload == 0) (begins_in_rom size (WroteBlock offset payload)) false (block_served h offset payload) refl
+demand_at size (read_quadlet h offset) = by_table (read_quadlet h offset) (Read offset) false false (lies_in_rom size (Read offset)) (read_served h offset) refl
+demand_at size (read_block h offset asked) = by_table (read_block h offset asked) (ReadBlock offset asked) (asked == 0) false (lies_in_rom size (ReadBlock offset asked)) (read_block_served h offset asked) refl
 demand_at size (lock h offset extended payload) = refl
 demand_at size (write_response h rcode) = tt
 demand_at size (read_quadlet_response h rcode value) = tt
@@ -82,12 +82,18 @@ far : (offset : ℕ) → nat_lt offset agents_start ≡ true → register_at off
 unfolding register_at
 far offset e = ap (λ (b : Bool). cond (b || nat_le (agents_start + 8 * 0x20) offset) None (agent_register ((offset - agents_start) / 0x20) (register_by ((offset - agents_start) % 0x20)))) e
 
+none_some : (found : AgentRegister) → None ≡ Some found → ⊥
+none_some found e = cc
+
+untrue : false ≡ true → ⊥
+untrue e = cc
+
 behind_by : (offset : ℕ) (access : table.Access) (r m near : Bool) (found : Option AgentRegister) → (offset == rom_base) ≡ r → (offset == management_address) ≡ m → nat_lt offset agents_start ≡ near → register_at offset ≡ found → start_serves (start_by r m found) access ≡ true → management_address ≤ offset
-behind_by offset access true m near found er em en ef s = cc
+behind_by offset access true m near found er em en ef s = absurd (untrue s)
 behind_by offset access false true near found er em en ef s = let i : offset ≡ management_address = grind arith in omega arith
 behind_by offset access false false false found er em en ef s = grind arith
-behind_by offset access false false true None er em en ef s = cc
-behind_by offset access false false true (Some found) er em en ef s = let n = far offset en in cc
+behind_by offset access false false true None er em en ef s = absurd (untrue s)
+behind_by offset access false false true (Some found) er em en ef s = absurd (none_some found (sym (far offset en) ∙ ef))
 
 behind : (access : table.Access) → start_serves (start_at access.offset) access ≡ true → management_address ≤ access.offset
 behind access s =

@@ -26,7 +26,7 @@ use Rattle.target_laws.specs.Layers.{request, response, layer_after, with_asked,
 use Rattle.target_laws.specs.Labels.{Happening, sent, answered, given, gave, got_as, got_read, got, ran_out, saw, handed, course, closed, asked_of, happened, course_of, IsFound, AreFound, AreLowest, HasLowest, IsLabelledRun, LabelLaw}
 use Rattle.target_laws.proofs.Found.{IsRead, found}
 use Rattle.target_laws.proofs.Found as finding
-use Rattle.target_laws.proofs.Made.{joined, same_after, call_made, runs}
+use Rattle.target_laws.proofs.Made.{joined, same_after, call_made, runs, run_on}
 use Rattle.target_laws.proofs.Labelled.{all_found}
 
 -- ---- the packets of a call
@@ -136,6 +136,7 @@ course_joined layer (step ∷ more) steps past =
     ∙ ap (λ (p : List Happening). happened step (layer_after (layer_after layer steps) more) p) (course_joined layer more steps past)
 
 course_is : (units ready : ℕ) (calls : List Call) → course_of (new_layer 0xffc0) (runs units ready calls).steps [] ≡ course units ready calls
+unfolding runs run_on
 course_is units ready [] = refl
 course_is units ready (call ∷ calls) =
     let node = after units ready calls in

@@ -25,15 +25,15 @@ use Rattle.label_table.proofs.Calls.{after_kept}
 use Rattle.sbp_target.specs.declared.purpose.Purpose.{Purpose}
 use Rattle.target_laws.specs.Labels.{Happening, sent, answered, timed_out, reset, Use, free, under_way, resting, use_of, last_request, closed, asked_of, ran_out, saw, happened}
 
-abbrev Places : Type 0
+abbrev pub Places : Type 0
 Places = List (PeerPlace Purpose)
 
-use_in : LabelState → Use
+abbrev pub use_in : LabelState → Use
 use_in states.Free = free
 use_in (states.UnderWay kind serial) = under_way
 use_in states.Resting = resting
 
-abbrev IsBare : Places → Type 0
+abbrev pub IsBare : Places → Type 0
 IsBare peers = (k m : ℕ) → peer_of (place_in peers k) ≡ None → (place_at (place_in peers k).table m).last ≡ None
 
 -- the labels, and their last requests, are as it happened; a place that no peer has has no last request

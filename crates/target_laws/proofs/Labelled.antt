@@ -1,5 +1,5 @@
 -- Each request has the lowest label that it may take.
-use Rattle.std.proofs.Common.{arith, ◌≡◌, refl, sym, ap, ◌∙◌, subst, ℕ, ◌<◌, ◌&&◌, ◌||◌, not, Bool, true, false, cond, List, [], ◌∷◌, ◌++◌, append_assoc, length, Option, Some, None, Result, Ok, Err}
+use Rattle.std.proofs.Common.{arith, ◌≡◌, refl, sym, ap, ◌∙◌, subst, ℕ, ◌<◌, ◌&&◌, ◌||◌, nat_le, not, Bool, true, false, cond, List, [], ◌∷◌, ◌++◌, append_assoc, length, Option, Some, None, Result, Ok, Err}
 use Rattle.std.specs.Option.{IsSome}
 use Rattle.async_packet.specs.Fields.{tcode_of}
 use Rattle.label_table.specs.declared.judgement.Asked.{Asked}
@@ -76,12 +76,16 @@ free_same states.Free = refl
 free_same (states.UnderWay kind serial) = refl
 free_same states.Resting = refl
 
+tcode_same : (number : ℕ) (bytes : List ℕ) → tcode_of (with_label number bytes) ≡ tcode_of bytes
+unfolding with_label tcode_of
+tcode_same number [] = refl
+tcode_same number (x ∷ []) = refl
+tcode_same number (x ∷ y ∷ []) = refl
+tcode_same number (x ∷ y ∷ z ∷ bytes) = omega arith
+
 write_same : (number : ℕ) (bytes : List ℕ) → is_write (with_label number bytes) ≡ is_write bytes
-unfolding with_label is_write tcode_of
-write_same number [] = refl
-write_same number (x ∷ []) = refl
-write_same number (x ∷ y ∷ []) = refl
-write_same number (x ∷ y ∷ z ∷ bytes) = refl
+unfolding is_write
+write_same number bytes = ap (λ (t : ℕ). nat_le t 1) (tcode_same number bytes)
 
 module _ (layer : Layer Purpose) (past : List Happening) (a : Agrees layer.peers past) where
   may_same : (peer number : ℕ) (bytes : List ℕ) → may_by layer peer number bytes ≡ may_take past peer number bytes

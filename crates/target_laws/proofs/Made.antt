@@ -160,11 +160,11 @@ pub joined : (layer : Layer Purpose) (more steps : List (wire.Call Purpose)) →
 joined layer [] steps = refl
 joined layer (step ∷ more) steps = ap (λ (l : Layer Purpose). wire.done step l) (joined layer more steps)
 
-asked_joined : (peer : ℕ) (asked : Option Asked) (one two : List Outgoing) → with_asked peer asked (one ++ two) ≡ one ++ with_asked peer asked two
+pub asked_joined : (peer : ℕ) (asked : Option Asked) (one two : List Outgoing) → with_asked peer asked (one ++ two) ≡ one ++ with_asked peer asked two
 asked_joined peer None one two = refl
 asked_joined peer (Some asked) one two = append_assoc one two (request peer asked ∷ [])
 
-packets_joined : (layer : Layer Purpose) (more steps : List (wire.Call Purpose)) → packets_of layer (more ++ steps) ≡ packets_of layer steps ++ packets_of (layer_after layer steps) more
+pub packets_joined : (layer : Layer Purpose) (more steps : List (wire.Call Purpose)) → packets_of layer (more ++ steps) ≡ packets_of layer steps ++ packets_of (layer_after layer steps) more
 packets_joined layer [] steps = sym (append-nil (packets_of layer steps))
 packets_joined layer (wire.asks peer body purpose ∷ more) steps =
     rw (joined layer more steps, packets_joined layer more steps)
@@ -181,7 +181,7 @@ pub same_after : (node : ℕ) (steps : List (wire.Call Purpose)) → wire.after 
 same_after node [] = refl
 same_after node (step ∷ steps) = ap (λ (l : Layer Purpose). wire.done step l) (same_after node steps)
 
-run_on : (node : ℕ) (before now : Layer Purpose) (all packets : List Outgoing) (first : List (wire.Call Purpose)) → IsRun node before all → Made false first before [] now packets → IsRun node now (all ++ packets)
+unfoldable pub run_on : (node : ℕ) (before now : Layer Purpose) (all packets : List Outgoing) (first : List (wire.Call Purpose)) → IsRun node before all → Made false first before [] now packets → IsRun node now (all ++ packets)
 run_on node before now all packets first r m =
     let more = m.steps ++ first in
     let was : layer_after (new_layer node) r.steps ≡ before = sym (same_after node r.steps) ∙ r.layer_is in
@@ -191,7 +191,7 @@ run_on node before now all packets first r m =
       packets_are = sym (packets_joined (new_layer node) more r.steps ∙ ap (λ (l : Layer Purpose). packets_of (new_layer node) r.steps ++ packets_of l more) was ∙ ap (λ (ps : List Outgoing). ps ++ packets_of before more) (sym r.packets_are) ∙ ap (λ (ps : List Outgoing). all ++ ps) (sym m.packets_are));
     }
 
-pub runs : (units ready : ℕ) (calls : List Call) → IsRun 0xffc0 (after units ready calls).layer (packets_after units ready calls)
+unfoldable pub runs : (units ready : ℕ) (calls : List Call) → IsRun 0xffc0 (after units ready calls).layer (packets_after units ready calls)
 runs units ready [] = record { steps = []; layer_is = refl; packets_are = refl }
 runs units ready (call ∷ calls) =
     let node = after units ready calls in

@@ -18,14 +18,14 @@ use Rattle.sbp_journal.specs.Rows.{first_or}
 use Rattle.target_laws.specs.Judgements.{asked_of, asked_at, facts_of}
 
 -- ---- what starts at an address
-named : code.Register → Register
+abbrev pub named : code.Register → Register
 named codes.AgentState = agent_state
 named codes.AgentReset = agent_reset
 named codes.OrbPointer = orb_pointer
 named codes.Doorbell = doorbell
 named codes.UnsolicitedStatusEnable = unsolicited_enable
 
-pub start_of : Option AgentRegister → Start
+abbrev pub start_of : Option AgentRegister → Start
 start_of None = no_start
 start_of (Some found) = register found.place (named found.register)
 
@@ -54,7 +54,7 @@ registers_are offset =
     (by_distance ((offset - registers_base) / 0x20) (d == 0x00) (d == 0x04) (d == 0x08) (d == 0x10) (d == 0x14))
 
 -- what starts there, by what the target compares
-pub start_by : (rom management : Bool) → Option AgentRegister → Start
+abbrev pub start_by : (rom management : Bool) → Option AgentRegister → Start
 start_by true management found = rom_start
 start_by false true found = management_agent
 start_by false false found = start_of found
@@ -70,7 +70,7 @@ start_is offset =
     by_tests (offset == rom_base) (offset == management_address) (register_at offset) _ (registers_are offset)
 
 -- no register starts where the ROM or MANAGEMENT_AGENT does
-rom_apart : (offset : ℕ) → (offset == rom_base) ≡ true → ((offset == management_address) ≡ false) × (register_at offset ≡ None)
+pub rom_apart : (offset : ℕ) → (offset == rom_base) ≡ true → ((offset == management_address) ≡ false) × (register_at offset ≡ None)
 unfolding register_at
 rom_apart offset e =
     let i : rom_base ≡ offset = grind arith in
@@ -146,16 +146,16 @@ by_found : (p : Packet) (access : table.Access) → ((place : ℕ) (r : code.Reg
 by_found p access h None = refl
 by_found p access h (Some found) = h found.place found.register
 
-write_served : (h : Header) (offset value : ℕ) → Served (write_quadlet h offset value) (Wrote offset)
+pub write_served : (h : Header) (offset value : ℕ) → Served (write_quadlet h offset value) (Wrote offset)
 write_served h offset value = record { at_management = refl; at_register = by_found (write_quadlet h offset value) (Wrote offset) (λ place r. at_write place r h offset value) }
 
-block_served : (h : Header) (offset : ℕ) (payload : List ℕ) → Served (write_block h offset payload) (WroteBlock offset payload)
+pub block_served : (h : Header) (offset : ℕ) (payload : List ℕ) → Served (write_block h offset payload) (WroteBlock offset payload)
 block_served h offset payload = record { at_management = refl; at_register = by_found (write_block h offset payload) (WroteBlock offset payload) (λ place r. at_block place r h offset payload) }
 
-read_served : (h : Header) (offset : ℕ) → Served (read_quadlet h offset) (Read offset)
+pub read_served : (h : Header) (offset : ℕ) → Served (read_quadlet h offset) (Read offset)
 read_served h offset = record { at_management = refl; at_register = by_found (read_quadlet h offset) (Read offset) (λ place r. at_read place r h offset) }
 
-read_block_served : (h : Header) (offset asked : ℕ) → Served (read_block h offset asked) (ReadBlock offset asked)
+pub read_block_served : (h : Header) (offset asked : ℕ) → Served (read_block h offset asked) (ReadBlock offset asked)
 read_block_served h offset asked = record { at_management = refl; at_register = by_found (read_block h offset asked) (ReadBlock offset asked) (λ place r. at_read_block place r h offset asked) }
 
 served_in : (p : Packet) (access : table.Access) → Served p access → (r m : Bool) (found : Option AgentRegister) → (r ≡ true → (m ≡ false) × (found ≡ None)) → cond m (managed p) (served_by found p) ≡ asked_by (start_by r m found) access

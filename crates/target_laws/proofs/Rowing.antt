@@ -47,7 +47,7 @@ use Rattle.target_laws.proofs.Rowed.{start_by, start_of, start_is, management_ap
 use Rattle.target_laws.proofs.Asked.{Rows, Demanded, demand_is, serves_is, of_access}
 
 -- ---- the response to what is asked for
-access_rcode : NodeState → ℕ → Access → ℕ
+abbrev access_rcode : NodeState → ℕ → Access → ℕ
 access_rcode node place (accesses.Point pointer) = pointed_rcode (point_step (desk_at node place).agent pointer).0
 access_rcode node place accesses.State = 0
 access_rcode node place accesses.Reset = 0
@@ -55,7 +55,7 @@ access_rcode node place accesses.Pointer = 0
 access_rcode node place accesses.Ring = 0
 access_rcode node place accesses.Enable = 0
 
-access_gives : NodeState → ℕ → Access → List ℕ
+abbrev access_gives : NodeState → ℕ → Access → List ℕ
 access_gives node place accesses.State = big_bytes 4 (state_number (state_in (desk_at node place).agent.phase))
 access_gives node place accesses.Pointer = pointer_bytes (last_pointer (desk_at node place).pointer)
 access_gives node place (accesses.Point pointer) = []
@@ -63,13 +63,13 @@ access_gives node place accesses.Reset = []
 access_gives node place accesses.Ring = []
 access_gives node place accesses.Enable = []
 
-demand_rcode : NodeState → Demand → ℕ
+abbrev demand_rcode : NodeState → Demand → ℕ
 demand_rcode node (demands.Refused rcode) = rcode
 demand_rcode node (demands.Rom at len) = 0
 demand_rcode node (demands.Manage orb) = cond (is_some node.manager.operation) 4 0
 demand_rcode node (demands.Agent place access) = access_rcode node place access
 
-demand_gives : NodeState → Demand → List ℕ
+abbrev demand_gives : NodeState → Demand → List ℕ
 demand_gives node (demands.Refused rcode) = []
 demand_gives node (demands.Rom at len) = take len (drop at node.rom)
 demand_gives node (demands.Manage orb) = []
