@@ -1,6 +1,5 @@
 -- What a target asks for at a request, by the rows of the table of addresses.
-use Rattle.std.proofs.Common.{arith, ◌≡◌, refl, sym, ap, ◌∙◌, subst, ℕ, ◌+◌, ◌-◌, ◌*◌, ◌/◌, ◌%◌, ◌||◌, ◌≤◌, ◌==◌, ◌&&◌, not, nat_le, nat_lt, is_some, Bool, true, false, cond, List, [], ◌∷◌, length, Option, Some, None, IfSome}
-use Rattle.async_packet.specs.declared.packet.Header.{Header}
+use Rattle.std.proofs.Common.{arith, ◌≡◌, refl, sym, ap, ◌∙◌, subst, ℕ, ◌+◌, ◌-◌, ◌*◌, ◌/◌, ◌%◌, ◌||◌, ◌≤◌, ◌==◌, ◌&&◌, not, nat_le, nat_lt, is_some, Bool, true, false, cond, [], ◌∷◌, length, Option, Some, None, IfSome}
 use Rattle.async_packet.specs.Packet.{Packet, write_quadlet, write_block, write_response, read_quadlet, read_block, read_quadlet_response, read_block_response, lock, lock_response}
 use Rattle.sbp_journal.specs.Addresses as table
 use Rattle.sbp_journal.specs.Addresses.{Start, rom_start, management_agent, register, no_start, start_at, start_serves, begins_in_rom, lies_in_rom, access_of, rom_base, management_address}
@@ -11,7 +10,7 @@ use Rattle.sbp_target.specs.declared.address.Demand.TheVariants as demands
 use Rattle.sbp_target.specs.Addresses as node
 use Rattle.sbp_target.specs.Addresses.{agents_start, agent_register, register_by, register_at, length_in, served, offset_in, Reached, row_of, reached, or_nowhere, demand_by, demand_of}
 use Rattle.target_laws.specs.Judgements.{asked_at}
-use Rattle.target_laws.proofs.Rowed.{Wrote, WroteBlock, Read, ReadBlock, start_by, start_of, start_is, Served, asked_if, asked_by, served_is, starts_there, write_served, block_served, read_served, read_block_served}
+use Rattle.target_laws.proofs.Rowed.{Wrote, WroteBlock, Read, ReadBlock, start_by, start_is, Served, asked_if, asked_by, served_is, starts_there, write_served, block_served, read_served, read_block_served}
 
 -- what a row asks for
 abbrev pub Rows : (l e w r s a : Bool) (rom asked : Demand) → Demand

@@ -1,5 +1,5 @@
 -- What happened in the calls of a target is what happened in the steps of its transaction layer.
-use Rattle.std.proofs.Common.{◌≡◌, refl, sym, ap, ◌∙◌, subst, ℕ, is_some, Bool, true, false, cond, List, [], ◌∷◌, ◌++◌, Option, Some, None, Result, Ok, Err}
+use Rattle.std.proofs.Common.{◌≡◌, refl, sym, ap, ◌∙◌, subst, ℕ, is_some, Bool, true, false, List, [], ◌∷◌, ◌++◌, Option, Some, None, Result, Ok, Err}
 use Rattle.async_packet.specs.Labels.{LabelParts}
 use Rattle.async_packet.specs.Packet.{Packet, header_in}
 use Rattle.async_packet.specs.Reading.{reading}
@@ -21,9 +21,9 @@ use Rattle.sbp_target.specs.Nodes.{NodeState, Scene, scene}
 use Rattle.sbp_target.specs.Replies.{Whole, whole, scene_of}
 use Rattle.sbp_target.specs.Serving.{request_step}
 use Rattle.sbp_target.specs.Receiving.{with_layer, judged_scene, received_as, received, expired_in, expired, reset_by, seen}
-use Rattle.target_laws.specs.Calls.{Call, receives, lets_expire, sees, ticks, sets_key, done, alone, after, packets_after}
+use Rattle.target_laws.specs.Calls.{Call, receives, lets_expire, sees, ticks, sets_key, alone, after}
 use Rattle.target_laws.specs.Layers.{request, response, layer_after, with_asked, packets_of, first_of, InOrder}
-use Rattle.target_laws.specs.Labels.{Happening, sent, answered, given, gave, got_as, got_read, got, ran_out, saw, handed, course, closed, asked_of, happened, course_of, IsFound, AreFound, AreLowest, HasLowest, IsLabelledRun, LabelLaw}
+use Rattle.target_laws.specs.Labels.{Happening, sent, answered, given, gave, got_as, got_read, got, ran_out, saw, handed, course, closed, asked_of, happened, course_of, IsFound, AreFound, AreLowest, LabelLaw}
 use Rattle.target_laws.proofs.Found.{IsRead, found}
 use Rattle.target_laws.proofs.Found as finding
 use Rattle.target_laws.proofs.Made.{joined, same_after, call_made, runs, run_on}

@@ -1,5 +1,5 @@
 -- The labels of a transaction layer are those of what happened to them.
-use Rattle.std.proofs.Common.{arith, ◌≡◌, ◌≢◌, refl, sym, ap, ◌∙◌, subst, ℕ, zero, suc, ◌<◌, ◌&&◌, ◌==◌, nat_eq, nat_lt, Bool, true, false, cond, List, [], ◌∷◌, length, map, replicate, slice_set, slice_index_or, Option, Some, None, Result, Ok, Err}
+use Rattle.std.proofs.Common.{arith, ◌≡◌, refl, sym, ap, ◌∙◌, subst, ℕ, zero, suc, ◌<◌, ◌&&◌, nat_eq, nat_lt, Bool, true, false, cond, List, [], ◌∷◌, length, map, replicate, slice_set, slice_index_or, Option, Some, None, Result, Ok, Err}
 use Rattle.std.proofs.lemmas.List.{set-get_or}
 use Rattle.async_packet.specs.Labels.{LabelParts}
 use Rattle.async_packet.specs.Packet.{Packet, header_in}
@@ -8,20 +8,18 @@ use Rattle.async_packet.specs.declared.fault.PacketFault.{PacketFault}
 use Rattle.label_table.specs.declared.place.LabelState.{LabelState}
 use Rattle.label_table.specs.declared.place.LabelState.TheVariants as states
 use Rattle.label_table.specs.declared.reply.ReplyKind.{ReplyKind}
-use Rattle.label_table.specs.declared.reply.Stale.{Stale}
 use Rattle.label_table.specs.Bodies.{Body}
 use Rattle.label_table.specs.Judging.{Row, by_generation, by_grammar, by_label, by_response, by_again, by_request, row_of}
 use Rattle.label_table.specs.Requests.{reply_kind, kind_of, is_kind, with_label}
 use Rattle.label_table.specs.Table.{Table, place_at, unused, lowest_from, begin_at, begin_step, with_state, close_in, close_step, is_current, expire_in, expire_step}
 use Rattle.label_table.specs.Owned.{owned_place, shown_in}
-use Rattle.label_table.specs.Peers.{PeerPlace, peer_of, no_peer, state_for, last_for, begun_for, closed_for, expired_for, with_purpose, disown_place, clear_place}
-use Rattle.label_table.specs.Layer.{Layer, Finding, of_response, new_layer, peer_at, unlabelled, asked_at, asking_in, asking_step, closed_at, closing_in, closing_step, closed_by, expired_at, expiring_in, expiring_step, disowning_in, disowning_step, seen_in_generation, seeing_step, answering_step, facts_of, responded, judged_by, judging_step}
+use Rattle.label_table.specs.Peers.{PeerPlace, peer_of, no_peer, state_for, last_for, begun_for, closed_for, expired_for, with_purpose, clear_place}
+use Rattle.label_table.specs.Layer.{Layer, new_layer, peer_at, unlabelled, asked_at, asking_in, asking_step, closed_at, closing_in, closing_step, closed_by, expired_at, expiring_in, expiring_step, disowning_in, disowning_step, seen_in_generation, seeing_step, answering_step, facts_of, responded, judged_by, judging_step}
 use Rattle.label_table.specs.History as wire
 use Rattle.label_table.proofs.Owned.{holds, set_at, set_shown}
 use Rattle.label_table.proofs.Sources.{default_in}
 use Rattle.label_table.proofs.Steps.{lowest_below, place_set, state_placed, under_way_below, current_is}
 use Rattle.label_table.proofs.Told.{Parts, place_in, state_set, own_of}
-use Rattle.label_table.proofs.Calls.{after_kept}
 use Rattle.sbp_target.specs.declared.purpose.Purpose.{Purpose}
 use Rattle.target_laws.specs.Labels.{Happening, sent, answered, timed_out, reset, Use, free, under_way, resting, use_of, last_request, closed, asked_of, ran_out, saw, happened}
 

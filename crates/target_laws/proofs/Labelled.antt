@@ -1,5 +1,5 @@
 -- Each request has the lowest label that it may take.
-use Rattle.std.proofs.Common.{arith, ◌≡◌, refl, sym, ap, ◌∙◌, subst, ℕ, ◌<◌, ◌&&◌, ◌||◌, nat_le, not, Bool, true, false, cond, List, [], ◌∷◌, ◌++◌, append_assoc, length, Option, Some, None, Result, Ok, Err}
+use Rattle.std.proofs.Common.{arith, ◌≡◌, refl, sym, ap, ◌∙◌, subst, ℕ, ◌<◌, ◌&&◌, ◌||◌, nat_le, not, Bool, true, false, List, [], ◌∷◌, length, Option, Some, None}
 use Rattle.std.specs.Option.{IsSome}
 use Rattle.async_packet.specs.Fields.{tcode_of}
 use Rattle.label_table.specs.declared.judgement.Asked.{Asked}
@@ -20,7 +20,7 @@ use Rattle.label_table.proofs.Calls.{after_kept}
 use Rattle.label_table.proofs.Told.{Parts}
 use Rattle.sbp_target.specs.declared.purpose.Purpose.{Purpose}
 use Rattle.target_laws.specs.Layers.{layer_after}
-use Rattle.target_laws.specs.Labels.{Happening, sent, answered, timed_out, reset, Use, is_free, use_of, last_request, may_take, HasLowest, AreLowest, asked_of, happened, course_of, IsFound, AreFound}
+use Rattle.target_laws.specs.Labels.{Happening, Use, is_free, use_of, last_request, may_take, course_of, IsFound, AreFound}
 use Rattle.target_laws.proofs.Courses.{use_in, Agrees, new_agrees, done_agrees}
 use Rattle.target_laws.proofs.Made.{same_after}
 

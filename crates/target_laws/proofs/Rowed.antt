@@ -1,8 +1,8 @@
 -- What a target asks for at a request is the row of the table of addresses.
-use Rattle.std.proofs.Common.{arith, ◌≡◌, refl, sym, ap, ◌∙◌, subst, ℕ, ◌+◌, ◌-◌, ◌*◌, ◌/◌, ◌%◌, ◌≤◌, ◌==◌, ◌&&◌, ◌||◌, not, nat_le, nat_lt, is_some, Bool, true, false, cond, List, [], ◌∷◌, length, Option, Some, None}
+use Rattle.std.proofs.Common.{arith, ◌≡◌, refl, ap, ◌∙◌, subst, ℕ, ◌+◌, ◌-◌, ◌*◌, ◌/◌, ◌%◌, ◌==◌, ◌&&◌, ◌||◌, not, nat_le, nat_lt, is_some, Bool, true, false, cond, List, [], length, Option, Some, None}
 use Rattle.async_packet.specs.declared.packet.Header.{Header}
-use Rattle.async_packet.specs.Packet.{Packet, write_quadlet, write_block, write_response, read_quadlet, read_block, read_quadlet_response, read_block_response, lock, lock_response}
-use Rattle.orb_layout.specs.Pointers.{offset_at, pointer_at}
+use Rattle.async_packet.specs.Packet.{Packet, write_quadlet, write_block, read_quadlet, read_block}
+use Rattle.orb_layout.specs.Pointers.{pointer_at}
 use Rattle.sbp_journal.specs.Addresses as table
 use Rattle.sbp_journal.specs.Addresses.{Register, agent_state, agent_reset, orb_pointer, doorbell, unsolicited_enable, Start, rom_start, management_agent, register, no_start, start_at, start_serves, access_of, rom_base, management_address, registers_base, base_of}
 use Rattle.sbp_target.specs.declared.address.Access.{Access}
@@ -14,8 +14,7 @@ use Rattle.sbp_target.specs.declared.address.Demand.{Demand}
 use Rattle.sbp_target.specs.declared.address.Demand.TheVariants as demands
 use Rattle.sbp_target.specs.Addresses as node
 use Rattle.sbp_target.specs.Addresses.{agents_start, management_start, accessed, accessed_at, agent_register, managed, served, served_by, register_by, register_at, offset_in, length_in, Reached, row_of, reached, or_nowhere, demand_by, demand_of}
-use Rattle.sbp_journal.specs.Rows.{first_or}
-use Rattle.target_laws.specs.Judgements.{asked_of, asked_at, facts_of}
+use Rattle.target_laws.specs.Judgements.{asked_at}
 
 -- ---- what starts at an address
 abbrev pub named : code.Register → Register

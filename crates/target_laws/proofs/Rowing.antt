@@ -1,11 +1,10 @@
 -- What a target answers is the row of the tables that nodes and laws share.
-use Rattle.std.proofs.Common.{◌≡◌, refl, sym, ap, ◌∙◌, subst, ℕ, ◌-◌, ◌==◌, ◌&&◌, ◌||◌, not, is_none, is_some, Bool, true, false, cond, List, [], ◌∷◌, ◌++◌, length, take, drop, Option, Some, None, IfSome, Result, Ok, Err}
+use Rattle.std.proofs.Common.{◌≡◌, refl, sym, ap, ◌∙◌, subst, ℕ, ◌-◌, ◌==◌, ◌&&◌, not, is_some, Bool, true, false, cond, List, [], ◌∷◌, ◌++◌, length, take, drop, Option, Some, None, IfSome, Result, Ok, Err}
 use Rattle.byteorder.specs.Endian.{big_bytes}
 use Rattle.async_packet.specs.Packet.{Packet, header_in, write_quadlet, write_block, write_response, read_quadlet, read_block, read_quadlet_response, read_block_response, lock, lock_response}
-use Rattle.label_table.specs.Layer.{Layer, answering_step, asking_step}
+use Rattle.label_table.specs.Layer.{answering_step, asking_step}
 use Rattle.label_table.specs.declared.judgement.Asked.{Asked}
 use Rattle.login_table.specs.declared.login.Login.{Login}
-use Rattle.login_table.specs.Table.{by_agent}
 use Rattle.orb_layout.specs.declared.ask.Ask.{Ask}
 use Rattle.orb_layout.specs.declared.pointer.OrbPointer.{OrbPointer}
 use Rattle.orb_layout.specs.Pointers.{pointer_at}
@@ -23,28 +22,27 @@ use Rattle.sbp_journal.specs.declared.outbox.Outgoing.{Outgoing}
 use Rattle.sbp_journal.specs.declared.side.Side.TheVariants as sides
 use Rattle.sbp_journal.specs.Addresses as table
 use Rattle.sbp_journal.specs.Addresses.{Register, agent_state, agent_reset, orb_pointer, doorbell, unsolicited_enable, Start, rom_start, management_agent, register, no_start, start_at, start_serves, begins_in_rom, lies_in_rom, access_of, rom_base, management_address}
-use Rattle.sbp_journal.specs.Rows.{TargetFacts, target_rcode, judging_of, ignored_as, serving, Judging}
+use Rattle.sbp_journal.specs.Rows.{TargetFacts, target_rcode, judging_of, Judging}
 use Rattle.sbp_target.specs.declared.address.Access.{Access}
 use Rattle.sbp_target.specs.declared.address.Access.TheVariants as accesses
 use Rattle.sbp_target.specs.declared.address.AgentRegister.{AgentRegister}
 use Rattle.sbp_target.specs.declared.address.Demand.{Demand}
 use Rattle.sbp_target.specs.declared.address.Demand.TheVariants as demands
 use Rattle.sbp_target.specs.declared.desk.Desk.{Desk}
-use Rattle.sbp_target.specs.declared.purpose.Purpose.{Purpose}
-use Rattle.sbp_target.specs.Addresses.{complete, conflict_error, demand_of, offset_in, is_lock, or_nowhere, register_at}
+use Rattle.sbp_target.specs.Addresses.{complete, demand_of, or_nowhere, register_at}
 use Rattle.sbp_target.specs.Desks.{point_desk, pointed_desk}
 use Rattle.sbp_target.specs.Nodes.{NodeState, Scene, scene, desk_at, login_at, with_desk, with_agent}
 use Rattle.sbp_target.specs.Agents.{cut}
 use Rattle.sbp_target.specs.Sending.{answer_step, with_side}
 use Rattle.sbp_target.specs.Telling.{orb_of}
-use Rattle.sbp_target.specs.Serving.{accessed_by, answered, asked_in, enabled, is_barred, is_barred_at, last_pointer, point, pointed_by, pointer_bytes, rcode_of, request_step, ring, rung_by, serve, served_as, start, started_by, state_number}
+use Rattle.sbp_target.specs.Serving.{accessed_by, answered, asked_in, enabled, is_barred, is_barred_at, last_pointer, point, pointed_by, pointer_bytes, request_step, ring, rung_by, serve, served_as, start, started_by, state_number}
 use Rattle.target_laws.specs.Layers.{request, with_asked}
 use Rattle.target_laws.specs.Answers.{response_of}
-use Rattle.target_laws.specs.Judgements.{is_of_no_login, judged_by, judged_as, asked_of, asked_at, pointed_rcode, register_rcode, state_rcode, register_gives, state_gives, facts_of, given_by, facts_at, rom_gives, gives_at, BeginsWith, row_rcode, row_gives, TableLaw, RowLaw}
+use Rattle.target_laws.specs.Judgements.{is_of_no_login, judged_by, judged_as, asked_of, asked_at, pointed_rcode, register_rcode, state_rcode, register_gives, state_gives, given_by, facts_at, gives_at, BeginsWith, row_rcode, row_gives, RowLaw}
 use Rattle.target_laws.proofs.Pass.{Said, At, Keeps, cuts_at, follows, asks_manager}
 use Rattle.target_laws.proofs.Answered.{Nothing, leave_nothing}
-use Rattle.target_laws.proofs.Rowed.{start_by, start_of, start_is, management_apart, rom_apart}
-use Rattle.target_laws.proofs.Asked.{Rows, Demanded, demand_is, serves_is, of_access}
+use Rattle.target_laws.proofs.Rowed.{start_by, start_is, management_apart, rom_apart}
+use Rattle.target_laws.proofs.Asked.{Rows, demand_is, serves_is, of_access}
 
 -- ---- the response to what is asked for
 abbrev access_rcode : NodeState → ℕ → Access → ℕ
