@@ -17,7 +17,6 @@ use Rattle.orb_list.specs.Runs as slot_runs
 use Rattle.orb_list.specs.Table.{status_step as slot_step}
 use Rattle.orb_list.specs.Tickets.{TicketParts}
 use Rattle.sbp_journal.specs.declared.cause.Cause.TheVariants as causes
-use Rattle.sbp_journal.specs.declared.cause.Judged.{Judged}
 use Rattle.sbp_journal.specs.declared.note.Note.TheVariants as notes
 use Rattle.sbp_journal.specs.Outgoings.{OutboxState}
 use Rattle.sbp_journal.specs.Addresses.{Access}
@@ -33,14 +32,14 @@ use Rattle.sbp_initiator.specs.Refusals.{ends_list}
 use Rattle.sbp_initiator.specs.Lists.{ListState, take_lists, write_lists}
 use Rattle.sbp_initiator.specs.States.{ending_of, is_orb_of, status_in}
 use Rattle.sbp_initiator.specs.Effects.{Turn, ended_for, managed_step, told, with_dead}
-use Rattle.sbp_initiator.specs.Receiving.{address_error, addressed, block_at, block_by, block_step, called, expire_step, expired_as, fifo_of, got_step, ignored_step, is_dead_kind, is_foreign, managed_for, present_for, quadlet_at, read_as as served_as, receive_step, received, request_step, respond_step, serve_step, taken_as, written_as}
+use Rattle.sbp_initiator.specs.Receiving.{address_error, addressed, block_at, block_by, block_step, called, expire_step, expired_as, fifo_of, got_step, ignored_step, is_dead_kind, is_foreign, managed_for, present_for, quadlet_at, read_as as served_as, receive_step, received, request_step, respond_step, taken_as, written_as}
 use Rattle.sbp_initiator.specs.Judged.{IsSame}
 use Rattle.sbp_initiator.proofs.Layers.{judged_same}
 use Rattle.initiator_laws.specs.Judging.{facts_at}
-use Rattle.initiator_laws.specs.Taking.{Brought, nothing, unsolicited, status, read_as, brought, waiting_at, good_drops, kind_drops, block_drops, finding_drops}
+use Rattle.initiator_laws.specs.Taking.{Brought, nothing, unsolicited, read_as, brought, waiting_at, good_drops, kind_drops, block_drops}
 use Rattle.initiator_laws.specs.Marks.{has_dead_bit, takes_dead, read_over, finding_reads, expired_reads}
-use Rattle.initiator_laws.specs.Slots.{block_calls, block_writes, drop_calls, heard_calls, quadlet_writes, request_calls, status_calls, write_calls, written_by}
-use Rattle.initiator_laws.proofs.Leaves.{Calls, Leaves, kept, layered, left_all, parts, still, gone_marks, dead_marks, for_drops, for_marks, for_leaves, managed_leaves}
+use Rattle.initiator_laws.specs.Slots.{block_calls, block_writes, drop_calls, heard_calls, quadlet_writes, status_calls, write_calls}
+use Rattle.initiator_laws.proofs.Leaves.{Calls, Leaves, layered, still, gone_marks, dead_marks, for_drops, for_marks, for_leaves, managed_leaves}
 use Rattle.initiator_laws.proofs.Requests.{behind_row, block_write_of, quadlet_write_of, take_found}
 
 -- what a request leaves that brings this, with the writes that are tried

@@ -1,5 +1,5 @@
 -- What an action leaves of the slots, of what is known of the present list, and of the reads of AGENT_STATE.
-use Rattle.std.proofs.Common.{arith, ◌≡◌, refl, sym, ap, subst, ◌∙◌, ℕ, zero, suc, ◌+◌, ◌*◌, ◌<◌, ◌≤◌, nat_eq, not, is_some, Bool, true, false, cond, List, [], ◌∷◌, ◌++◌, append-nil, length, drop, get_or, Option, Some, None, Result, Ok, Err}
+use Rattle.std.proofs.Common.{arith, ◌≡◌, refl, sym, ap, subst, ◌∙◌, ℕ, zero, suc, ◌+◌, ◌*◌, ◌<◌, ◌≤◌, nat_eq, not, is_some, Bool, true, false, cond, List, [], ◌∷◌, ◌++◌, length, drop, get_or, Option, Some, None, Result, Ok, Err}
 use Rattle.byteorder.specs.Endian.{big_bytes}
 use Rattle.sbp_base.specs.Quadlets.{quad}
 use Rattle.async_packet.specs.Labels.{LabelParts}
@@ -21,7 +21,7 @@ use Rattle.orb_list.specs.declared.list.Linking.{Linking}
 use Rattle.orb_list.specs.declared.list.PresentList.{PresentList}
 use Rattle.orb_list.specs.Runs as slot_runs
 use Rattle.orb_list.specs.Runs.{left_by}
-use Rattle.orb_list.specs.Table.{SlotTable, dummy_step, find_in, high_for, high_step, low_for, low_step as slot_low, may_prepare, next_ticket, orb_number, pin_step, prepare_at, prepare_step, waits_high, waits_low}
+use Rattle.orb_list.specs.Table.{SlotTable, find_in, high_for, high_step, low_for, low_step as slot_low, may_prepare, next_ticket, orb_number, pin_step, prepare_at, prepare_step, waits_high, waits_low}
 use Rattle.orb_list.specs.Tickets.{TicketParts}
 use Rattle.sbp_session.specs.Moves.{pointing, goes}
 use Rattle.sbp_journal.specs.declared.event.Action.{Action}
@@ -39,7 +39,7 @@ use Rattle.sbp_initiator.specs.Refusals.{prepares, refusal}
 use Rattle.sbp_initiator.specs.Lists.{ListState, asked_by, dummy_lists, high_lists, low_lists, manage_lists, pin_lists, prepared_as, put_lists, stepped}
 use Rattle.sbp_initiator.specs.States.{is_answered, is_unwritten, no_marks, place_of, wanted_body}
 use Rattle.sbp_initiator.specs.Effects.{Turn}
-use Rattle.sbp_initiator.specs.Acting.{act_step, append_step, asked_as, asked_for, demand_of, demanded_as, done_step, dummy_for, facts_with, judged_as, link_as, link_step, login_id, low_as, low_step, manage_start, managed_by, orb_by, pinned_for, put_as, put_step, register_start, ring_for, ring_step, with_ring, with_running}
+use Rattle.sbp_initiator.specs.Acting.{act_step, append_step, asked_as, asked_for, demand_of, demanded_as, done_step, dummy_for, facts_with, judged_as, link_as, link_step, login_id, low_as, low_step, manage_start, managed_by, orb_by, pinned_for, put_as, put_step, ring_for, with_running}
 use Rattle.sbp_initiator.proofs.Managed.{quad_is_set, quad_behind, quad_whole, orb_end}
 use Rattle.initiator_laws.specs.Marks.{begins_list, known_if, read_begun}
 use Rattle.initiator_laws.specs.Slots.{action_calls, calls_if, dummy_calls, pin_calls, quad_calls}

@@ -1,15 +1,13 @@
 -- What an initiator knows of its list and its reads, over every list of calls.
-use Rattle.std.proofs.Common.{◌≡◌, refl, sym, ap, subst, ◌∙◌, ℕ, ◌+◌, ◌==◌, nat_eq, Bool, true, false, cond, List, [], ◌∷◌, Option, Some, None, Ok}
-use Rattle.async_packet.specs.Labels.{LabelParts}
-use Rattle.async_packet.specs.Packet.{Packet}
-use Rattle.label_table.specs.Layer.{Layer, of_response, expiring_step, judging_step}
+use Rattle.std.proofs.Common.{◌≡◌, refl, ap, subst, ◌∙◌, ℕ, ◌+◌, nat_eq, Bool, true, false, cond, List, [], ◌∷◌, Option, Some, None}
+use Rattle.label_table.specs.Layer.{Layer, expiring_step, judging_step}
 use Rattle.sbp_initiator.specs.declared.purpose.Purpose.{Purpose}
 use Rattle.sbp_initiator.specs.declared.purpose.Purpose.TheVariants as purposes
 use Rattle.sbp_initiator.specs.Initiators.{new_state}
 use Rattle.sbp_initiator.specs.States.{is_answered}
 use Rattle.initiator_laws.specs.Laws.{Call, acts, receives, lets_expire, AreCalls, after}
 use Rattle.initiator_laws.specs.Laws as laws
-use Rattle.initiator_laws.specs.Marks.{CountsFor, MarkLaw, WasRead, answered_after, answered_list, begins_read, call_answers, call_dead, counted_after, counted_by, counted_if, dead_after, known_if, loses_list, reads_after, reads_by}
+use Rattle.initiator_laws.specs.Marks.{CountsFor, MarkLaw, WasRead, answered_after, answered_list, begins_read, call_answers, call_dead, counted_after, counted_if, dead_after, known_if, loses_list, reads_after, reads_by}
 use Rattle.sbp_initiator.specs.Acting.{act_step}
 use Rattle.initiator_laws.proofs.Lives.{closes_read, expires_read}
 use Rattle.initiator_laws.proofs.Over.{counted_now, sound}

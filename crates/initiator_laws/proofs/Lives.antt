@@ -1,6 +1,5 @@
 -- Reads of AGENT_STATE whose transactions are under way: each is of another action, and is among the reads that are under way.
-use Rattle.std.proofs.Common.{arith, ◌≡◌, refl, sym, ap, subst, ◌∙◌, ℕ, ◌==◌, nat_eq, nat_lt, not, ◌&&◌, ◌||◌, is_some, Bool, true, false, cond, List, [], ◌∷◌, ◌++◌, Option, Some, None, Result, Ok, Err}
-use Rattle.std.specs.List.{list_any, filter}
+use Rattle.std.proofs.Common.{arith, ◌≡◌, refl, sym, ap, subst, ◌∙◌, ℕ, nat_eq, nat_lt, not, ◌&&◌, ◌||◌, is_some, Bool, true, false, cond, List, [], ◌∷◌, ◌++◌, Option, Some, None, Result, Ok, Err}
 use Rattle.std.proofs.lemmas.Map.Views.{any-filter_same}
 use Rattle.async_packet.specs.Labels.{LabelParts}
 use Rattle.async_packet.specs.Packet.{Packet, header_in}
@@ -11,8 +10,8 @@ use Rattle.label_table.specs.declared.reply.ReplyKind.{ReplyKind}
 use Rattle.label_table.specs.declared.reply.Stale.{Stale}
 use Rattle.label_table.specs.Bodies.{Body}
 use Rattle.label_table.specs.Requests.{reply_kind, kind_of}
-use Rattle.label_table.specs.Layer.{Layer, Finding, of_generation, of_grammar, of_label, of_response, of_again, of_request, asking_step, expiring_step, judging_step, unlabelled}
-use Rattle.label_table.specs.History.{Call, judges, answers, asks, lets_expire, disowns, sees, Told, began, closed, expired, was_stale, disowned, unknown, forgotten, Life, not_begun, under_way, over, is_same, after, told, told_by_asking, told_by_finding, told_by_expiring, told_by_reading, told_closed, told_unknown, and_before, history, for_nobody, ended, life, IsFor, IsTold, AreTold}
+use Rattle.label_table.specs.Layer.{Finding, of_generation, of_grammar, of_label, of_response, of_again, of_request, asking_step, expiring_step, judging_step, unlabelled}
+use Rattle.label_table.specs.History.{Call, judges, answers, asks, lets_expire, disowns, sees, Told, began, closed, expired, was_stale, disowned, unknown, forgotten, Life, not_begun, under_way, over, is_same, after, told_by_asking, told_by_finding, told_by_expiring, told_by_reading, told_closed, told_unknown, and_before, history, for_nobody, ended, life, IsFor, AreTold}
 use Rattle.label_table.proofs.Calls.{told_law}
 use Rattle.sbp_initiator.specs.declared.purpose.Purpose.{Purpose}
 use Rattle.sbp_initiator.specs.declared.purpose.Purpose.TheVariants as purposes

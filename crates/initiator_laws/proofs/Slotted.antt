@@ -1,9 +1,8 @@
 -- The slots and the memory of an initiator are those of the calls that its own calls do, and what it knows is by what these were.
-use Rattle.std.proofs.Common.{arith, ◌≡◌, refl, sym, ap, subst, ◌∙◌, ℕ, zero, suc, ◌+◌, ◌*◌, ◌%◌, ◌<◌, ◌≤◌, nat_eq, nat_lt, ◌&&◌, not, is_some, Bool, true, false, cond, List, [], ◌∷◌, ◌++◌, Option, Some, None, Result, Ok, Err}
+use Rattle.std.proofs.Common.{arith, ◌≡◌, refl, sym, ap, subst, ◌∙◌, ℕ, zero, suc, ◌<◌, ◌≤◌, nat_eq, nat_lt, ◌&&◌, is_some, Bool, true, false, cond, List, [], ◌∷◌, ◌++◌, Option, Some, None}
 use Rattle.byteorder.specs.Endian.{big_bytes}
 use Rattle.async_packet.specs.Packet.{Packet, write_quadlet, write_block, write_response, read_quadlet, read_block, read_quadlet_response, read_block_response, lock, lock_response}
-use Rattle.label_table.specs.Layer.{Layer, Finding, of_generation, of_grammar, of_label, of_response, of_again, of_request, expiring_step, judging_step, seeing_step, seen_in_generation}
-use Rattle.bus_memory.specs.declared.window.Window.TheVariants as windows
+use Rattle.label_table.specs.Layer.{Layer, Finding, of_generation, of_grammar, of_label, of_response, of_again, of_request, judging_step, seeing_step, seen_in_generation}
 use Rattle.bus_memory.specs.Memory.{Memory}
 use Rattle.bus_memory.specs.Laws.{IsWhole}
 use Rattle.orb_layout.specs.declared.status.StatusBlock.{StatusBlock}
@@ -15,7 +14,7 @@ use Rattle.orb_layout.specs.declared.management.ManagementOrb.{ManagementOrb}
 use Rattle.orb_list.specs.Kept.{AreProper}
 use Rattle.orb_list.specs.Runs as slot_runs
 use Rattle.orb_list.specs.Runs.{left_by, run}
-use Rattle.orb_list.specs.Table.{SlotTable, drop_for, drop_step, find_in}
+use Rattle.orb_list.specs.Table.{SlotTable, find_in}
 use Rattle.orb_list.specs.Tickets.{TicketParts}
 use Rattle.orb_list.proofs.Steps.{held_law}
 use Rattle.sbp_journal.specs.declared.event.Action.{Action}
@@ -39,12 +38,12 @@ use Rattle.sbp_initiator.specs.States.{counts_for, ending_of, is_answered, is_li
 use Rattle.initiator_laws.specs.Drops.{ends_the_list}
 use Rattle.initiator_laws.specs.Laws.{Call, acts, receives, lets_expire, AreCalls, IsCall, after, done}
 use Rattle.initiator_laws.specs.Laws as laws
-use Rattle.initiator_laws.specs.Marks.{answers_pointer, finds_dead, finding_answers, finding_dead, call_answers, call_dead, loses_list, known_if, answered_after, dead_after, reads_by, reads_after, takes_dead}
-use Rattle.initiator_laws.specs.Slots.{action_calls, block_calls, block_writes, calls_if, drop_calls, dummy_calls, has_ended, heard_calls, orb_calls, orb_in, pin_calls, quad_calls, quadlet_writes, request_calls, slot_calls, slot_calls_after, status_calls, unpin_calls, write_calls, written_by, AreSlotsOf, SlotLaw}
-use Rattle.initiator_laws.specs.Taking.{Brought, nothing, unsolicited, status, brought, block_drops, call_drops, finding_drops}
+use Rattle.initiator_laws.specs.Marks.{answers_pointer, finds_dead, finding_answers, finding_dead, call_answers, call_dead, loses_list, known_if, reads_by, takes_dead}
+use Rattle.initiator_laws.specs.Slots.{action_calls, block_calls, block_writes, calls_if, drop_calls, dummy_calls, has_ended, heard_calls, orb_calls, pin_calls, quad_calls, quadlet_writes, request_calls, slot_calls, slot_calls_after, status_calls, unpin_calls, write_calls, written_by, AreSlotsOf, SlotLaw}
+use Rattle.initiator_laws.specs.Taking.{Brought, nothing, unsolicited, status, brought, block_drops, finding_drops}
 use Rattle.initiator_laws.proofs.Brings.{expire_leaves, finding_marks, receive_leaves}
 use Rattle.initiator_laws.proofs.Did.{act_leaves}
-use Rattle.initiator_laws.proofs.Leaves.{Calls, Leaves, dead_marks, drops_keep, gone_marks, has_left, left_all, parts, purpose_marks, answered_marks, state_marks}
+use Rattle.initiator_laws.proofs.Leaves.{Calls, dead_marks, drops_keep, gone_marks, has_left, left_all, parts, purpose_marks, answered_marks, state_marks}
 
 abbrev Parts : Type 0
 Parts = SlotTable × Memory

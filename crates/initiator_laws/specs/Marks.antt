@@ -11,7 +11,6 @@ use Rattle.async_packet.specs.Packet.{Packet}
 use Rattle.label_table.specs.declared.reply.Stale.{Stale}
 use Rattle.label_table.specs.Layer.{Finding, of_response, of_request, expiring_step, judging_step}
 use Rattle.bus_memory.specs.Windows.{slot_of}
-use Rattle.orb_layout.specs.declared.status.StatusBlock.{StatusBlock}
 use Rattle.orb_layout.specs.declared.status.StatusKind.{StatusKind}
 use Rattle.orb_layout.specs.declared.status.StatusKind.TheVariants as kinds
 use Rattle.orb_list.specs.declared.list.PresentList.{PresentList}
