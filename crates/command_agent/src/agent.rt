@@ -1,4 +1,5 @@
 ghost use Rattle.std.specs.Prelude.{◌≡◌, ◌+◌, ◌-◌, ◌*◌, ◌%◌, ◌^◌, ◌<◌, ◌≤◌, [], ◌++◌, length, take, drop, Some, None, Ok, Err, IfOk, IfErr, not, true, false, if◌then◌else◌};
+ghost use Rattle.std.specs.List.{AllByRecursion};
 
 use crate::phase::{Phase, ReadAhead};
 use crate::room::{Outgoing, Room};
@@ -75,6 +76,14 @@ impl Model for Agent {
       written = a.written;
       outgoing = a.outgoing;
     }) };
+}
+
+/// These are bytes: a proof knows what the type of a number says where the number is read, and nothing
+/// else is done.
+fn are_bytes(bytes: &[u8])
+    ensures { AllByRecursion (λ byte. byte < 256) bytes.now }
+{
+    let _count = bytes.len();
 }
 
 impl Agent {
@@ -176,14 +185,17 @@ impl Agent {
         ensures plain { plain_disk unit.new (disk medium.new) ≡ left_by result.ran self.new.orb.cdb self.new.payload login (plain_disk unit.old (disk medium.old)) }
         ensures may { MayTell result.ran self.new login (plain_disk unit.old (disk medium.old)) }
         ensures cause { media_faults medium.new ≡ count_after result.ran (media_faults medium.old) }
+        ensures bytes { AllByRecursion (λ byte. byte < 256) self.new.answer }
     {
-        match which {
+        let step = match which {
             Which::Main => {
                 let next = self.advance(reply);
                 self.serve(unit, medium, login, next)
             }
             Which::Ahead => self.keep_ahead(reply),
-        }
+        };
+        are_bytes(self.answer.as_slice());
+        step
     }
 
     /// The main transaction or the read ahead failed: no command runs, so it takes no unit and no

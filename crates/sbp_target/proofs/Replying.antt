@@ -1,6 +1,7 @@
 -- What a run told is what the step of the agent tells.
 use Rattle.std.proofs.Common.{◌≡◌, ℕ, List, ap, subst, refl, ◌∙◌}
-use Rattle.std.specs.Prelude.{Bool, not, ◌&&◌, slice_set, slice_index, Option, Some, None, Result, Ok, Err, OnOk}
+use Rattle.std.specs.List.{AllByRecursion}
+use Rattle.std.specs.Prelude.{◌<◌, Bool, not, ◌&&◌, slice_set, slice_index, Option, Some, None, Result, Ok, Err, OnOk}
 use Rattle.async_packet.specs.Labels.{LabelParts}
 use Rattle.login_table.specs.declared.login.Login.{Login}
 use Rattle.orb_layout.specs.Replies.{Answer}
@@ -14,12 +15,13 @@ use Rattle.sbp_target.specs.Replies.{Stage, stage, Whole, whole, Replies, Replie
 use Rattle.sbp_target.specs.Desks.{which_in}
 use Rattle.sbp_target.specs.Nodes.{Scene, scene, desk_at}
 
-pub replied_so : (place unit : ℕ) (which : Which) (answer : Answer) (old : Stage) (step : AgentStep) (m : Machine) (new : Stage) (before now : List ℕ) → (step, new) ≡ replied (told_in step.ran m.answer) place unit which answer old → (step, m) ≡ agent_step (told_in step.ran m.answer) place unit which answer old → MayTell step.ran m place (plain_at old unit) → now ≡ slice_set before unit (count_after step.ran (slice_index before unit)) → Replies (told_in step.ran m.answer) place unit which answer old step new before now
-replied_so place unit which answer old step m new before now e a h n = record {
+pub replied_so : (place unit : ℕ) (which : Which) (answer : Answer) (old : Stage) (step : AgentStep) (m : Machine) (new : Stage) (before now : List ℕ) → (step, new) ≡ replied (told_in step.ran m.answer) place unit which answer old → (step, m) ≡ agent_step (told_in step.ran m.answer) place unit which answer old → MayTell step.ran m place (plain_at old unit) → AllByRecursion (λ byte. byte < 256) m.answer → now ≡ slice_set before unit (count_after step.ran (slice_index before unit)) → Replies (told_in step.ran m.answer) place unit which answer old step new before now
+replied_so place unit which answer old step m new before now e a h b n = record {
   is = e;
   tells = record {
     so = ap (λ s. told_in s.0.ran s.1.answer) a;
     may = subst (λ s. MayTell s.0.ran s.1 place (plain_at old unit)) a h;
+    bytes = subst (λ s. AllByRecursion (λ byte. byte < 256) s.1.answer) a b;
     counted = n ∙ ap (λ s. slice_set before unit (count_after s.0.ran (slice_index before unit))) a;
   };
 }

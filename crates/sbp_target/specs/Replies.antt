@@ -1,6 +1,7 @@
 -- What came of a request of the target, and what its agents do then (NCITS 325-1998, command block
 -- agents).
-use Rattle.std.specs.Prelude.{◌≡◌, ℕ, nat_lt, ◌&&◌, not, Bool, true, false, if◌then◌else◌, List, length, slice_set, slice_index, slice_index_or, Option, Some, None}
+use Rattle.std.specs.List.{AllByRecursion}
+use Rattle.std.specs.Prelude.{◌≡◌, ◌<◌, ℕ, nat_lt, ◌&&◌, not, Bool, true, false, if◌then◌else◌, List, length, slice_set, slice_index, slice_index_or, Option, Some, None}
 use Rattle.async_packet.specs.Labels.{LabelParts}
 use Rattle.orb_layout.specs.Replies.{Answer}
 use Rattle.login_table.specs.declared.login.Login.{Login}
@@ -90,10 +91,11 @@ advance told place login which answer w =
 abbrev pub agent_step : Option Told → ℕ → ℕ → Which → Answer → Stage → AgentStep × Machine
 agent_step told place unit which answer s = reply_step (desk_at s.node place).agent place (plain_at s unit) told which answer
 
--- What a run told is what the step tells, and a run of that command may tell it; the counts of faults before and after.
+-- What a run told is what the step tells, and a run of that command may tell it; the answer is bytes; the counts of faults before and after.
 pub record Tells (told : Option Told) (place unit : ℕ) (which : Which) (answer : Answer) (s : Stage) (before now : List ℕ) : Type 0 where
   pub so : told ≡ told_in (agent_step told place unit which answer s).0.ran (agent_step told place unit which answer s).1.answer
   pub may : MayTell (agent_step told place unit which answer s).0.ran (agent_step told place unit which answer s).1 place (plain_at s unit)
+  pub bytes : AllByRecursion (λ byte. byte < 256) (agent_step told place unit which answer s).1.answer
   pub counted : now ≡ slice_set before unit (count_after (agent_step told place unit which answer s).0.ran (slice_index before unit))
 
 -- A step of the agent of a place, and what it leaves.

@@ -1,4 +1,5 @@
 ghost use Rattle.std.specs.Prelude.{◌≡◌, ◌<◌, length, map, slice_set, slice_index, true};
+ghost use Rattle.std.specs.List.{AllByRecursion};
 ghost use Rattle.command_agent.specs.Machine.{is_under_way};
 ghost use Rattle.command_agent.specs.Runs.{MayTell, count_after};
 ghost use Rattle.command_agent.specs.Steps.{reply_step};
@@ -27,6 +28,7 @@ fn reply_boxed(
     ensures unit { unit.new ≡ (left_by result.ran agent.new.orb.cdb agent.new.payload place (plain_disk unit.old (disk medium.old))).unit }
     ensures medium { disk medium.new ≡ (left_by result.ran agent.new.orb.cdb agent.new.payload place (plain_disk unit.old (disk medium.old))).medium }
     ensures may { MayTell result.ran agent.new place (plain_disk unit.old (disk medium.old)) }
+    ensures bytes { AllByRecursion (λ byte. byte < 256) agent.new.answer }
     ensures cause { media_faults medium.new ≡ count_after result.ran (media_faults medium.old) }
 {
     agent.reply(unit, &mut **medium, place.number(), which, reply)
@@ -52,6 +54,7 @@ pub(crate) fn reply_at(
     ensures units { units.new.items ≡ slice_set units.old.items unit (left_by result.ran agent.new.orb.cdb agent.new.payload place (plain_in units.old.items (map disk media.old.items) unit)).unit }
     ensures media { map disk media.new.items ≡ slice_set (map disk media.old.items) unit (left_by result.ran agent.new.orb.cdb agent.new.payload place (plain_in units.old.items (map disk media.old.items) unit)).medium }
     ensures may { MayTell result.ran agent.new place (plain_in units.old.items (map disk media.old.items) unit) }
+    ensures bytes { AllByRecursion (λ byte. byte < 256) agent.new.answer }
     ensures counts { map media_faults media.new.items ≡ slice_set (map media_faults media.old.items) unit (count_after result.ran (slice_index (map media_faults media.old.items) unit)) }
 {
     reply_boxed(

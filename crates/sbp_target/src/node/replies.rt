@@ -1,4 +1,5 @@
 ghost use Rattle.std.specs.Prelude.{◌≡◌, ◌+◌, ◌^◌, ◌<◌, ◌≤◌, length, map, slice_set, slice_index, true, not, ◌&&◌, IfSome, OnOk};
+ghost use Rattle.std.specs.List.{AllByRecursion};
 ghost use Rattle.command_agent.specs.Machine.{is_under_way};
 ghost use Rattle.command_agent.specs.Runs.{MayTell, count_after};
 ghost use Rattle.orb_layout.specs.Replies.{answer_of};
@@ -146,6 +147,7 @@ impl Node {
         ensures step { (result, stage self.new (map disk media.new.items)) ≡ replied (told_in result.ran (desk_at self.new place).agent.answer) place unit which (answer_of reply.entry) (stage self.old (map disk media.old.items)) }
         ensures agent { (result, (desk_at self.new place).agent) ≡ agent_step (told_in result.ran (desk_at self.new place).agent.answer) place unit which (answer_of reply.entry) (stage self.old (map disk media.old.items)) }
         ensures may { MayTell result.ran (desk_at self.new place).agent place (plain_in self.old.units (map disk media.old.items) unit) }
+        ensures bytes { AllByRecursion (λ byte. byte < 256) (desk_at self.new place).agent.answer }
         ensures counts { map media_faults media.new.items ≡ slice_set (map media_faults media.old.items) unit (count_after result.ran (slice_index (map media_faults media.old.items) unit)) }
         ensures count { self.new.layer.calls ≡ self.old.layer.calls }
         ensures units { length self.new.units ≡ length self.old.units }
