@@ -9,4 +9,5 @@ pub mod Answers
 pub mod Sent
 pub mod Bare
 pub mod Course
+pub mod Steps
 pub mod Reached
