@@ -25,3 +25,7 @@ pub mod Rooms
 pub mod Bares
 pub mod Courses
 pub mod Reaches
+pub mod Fits
+pub mod FitSteps
+pub mod FitJudged
+pub mod FitCalls

@@ -11,3 +11,4 @@ pub mod Bare
 pub mod Course
 pub mod Steps
 pub mod Reached
+pub mod Fitting

@@ -21,3 +21,8 @@ pub mod Brings
 pub mod Did
 pub mod Known
 pub mod Lives
+pub mod FitMemory
+pub mod FitTurns
+pub mod FitRequests
+pub mod FitActs
+pub mod FitLaw

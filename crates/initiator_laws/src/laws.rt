@@ -1,3 +1,4 @@
+ghost use Rattle.initiator_laws.specs.Fitting.{InitiatorFits};
 ghost use Rattle.initiator_laws.specs.Judging.{JudgingLaw};
 ghost use Rattle.initiator_laws.specs.Laws.{CountLaw, RefusalLaw, SessionLaw, WireLaw};
 ghost use Rattle.initiator_laws.specs.Marks.{MarkLaw};
@@ -80,4 +81,10 @@ pub fn slots_and_rom_are_read()
 /// list that was present, and whose ORB_POINTER had been answered, as it was asked for.
 pub fn lists_are_known()
     ensures { MarkLaw }
+/// From a new initiator on, each call of it is what the wire takes a call of a node for: a packet is judged,
+/// a request is answered as its judgement states, and then the target is asked, by packets with their
+/// fields; all of bytes, and nothing is told of the wire.
+#[tactic(auto, using(crate::proofs::FitLaw::initiator_fits))]
+pub fn calls_fit_the_wire()
+    ensures { InitiatorFits }
 {}

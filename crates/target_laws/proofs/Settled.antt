@@ -233,11 +233,11 @@ row_unlocked r e = by r.is_lock (row_of (record r { is_lock = false })) e
         not_register z = cc
     by false x f = refl
 
-record IsAt (p : Packet) (place : ℕ) : Type 0 where
-  unlocked : is_lock p ≡ false
-  found : AgentRegister
-  at : register_at (offset_in p) ≡ Some found
-  own : found.place ≡ place
+pub record IsAt (p : Packet) (place : ℕ) : Type 0 where
+  pub unlocked : is_lock p ≡ false
+  pub found : AgentRegister
+  pub at : register_at (offset_in p) ≡ Some found
+  pub own : found.place ≡ place
 
 found_place : (p : Packet) (found : Option AgentRegister) (place : ℕ) (access : Access) → register_at (offset_in p) ≡ found → is_lock p ≡ false → served_by found p ≡ Some (demands.Agent place access) → IsAt p place
 found_place p None place access r l e = absurd (nothing e)
@@ -282,7 +282,7 @@ somewhere : (found : Option Demand) (place : ℕ) (access : Access) → or_nowhe
 somewhere (Some d) place access e = ap (λ (x : Demand). Some x) e
 somewhere None place access e = cc
 
-demand_place : (row : Row) (size : ℕ) (p : Packet) (place : ℕ) (access : Access) → row_of (reached size p) ≡ row → demand_by row p ≡ demands.Agent place access → IsAt p place
+pub demand_place : (row : Row) (size : ℕ) (p : Packet) (place : ℕ) (access : Access) → row_of (reached size p) ≡ row → demand_by row p ≡ demands.Agent place access → IsAt p place
 demand_place by_type size p place access r e = absurd (refused e)
   where
     refused : {x : ℕ} → demands.Refused x ≡ demands.Agent place access → ⊥

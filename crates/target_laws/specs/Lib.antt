@@ -5,3 +5,4 @@ pub mod Labels
 pub mod Sides
 pub mod Transactions
 pub mod Judgements
+pub mod Fitting
