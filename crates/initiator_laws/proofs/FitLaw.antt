@@ -17,9 +17,9 @@ use Rattle.sbp_initiator.specs.declared.purpose.Ending.TheVariants as endings
 use Rattle.sbp_initiator.specs.declared.purpose.Purpose.{Purpose}
 use Rattle.sbp_initiator.specs.declared.state.InitiatorState.{InitiatorState}
 use Rattle.sbp_initiator.specs.Acting.{IsAction, act_step}
-use Rattle.sbp_initiator.specs.Effects.{Turn, drop_list_step}
+use Rattle.sbp_initiator.specs.Effects.{Turn, drop_list_step, dropped_as}
 use Rattle.sbp_initiator.specs.Initiators.{first_management, new_state, own_rom}
-use Rattle.sbp_initiator.specs.Lists.{free_lists}
+use Rattle.sbp_initiator.specs.Lists.{ListState, drop_lists, free_lists}
 use Rattle.sbp_initiator.specs.Receiving.{called, expire_step, expired_as, receive_step, received, request_step, respond_step, responded_as}
 use Rattle.sbp_initiator.specs.Seeing.{interrupted, reset_step, resets_told, see_step, seen_as}
 use Rattle.sbp_initiator.specs.States.{ending_of}
@@ -226,6 +226,28 @@ new_fit known number ready n k = record {
 refused : (known : ℕ → Type 0) (action : Action) (s : InitiatorState) (number : ℕ) → Holds known s → (act_step action empty_outbox s).0 ≡ Some number → Holds known (act_step action empty_outbox s).1.1
 refused known action s number h e = subst (λ (t : Turn). Holds known t.1) (sym (refusal_law.unchanged action empty_outbox s number e)) h
 
+-- ---- its count, and more nodes that are known
+dropped_acts : (r : Option ℕ × ListState) (o : OutboxState) (s : InitiatorState) → (dropped_as r o s).1.counts.acts ≡ s.counts.acts
+dropped_acts (None, lists) o s = refl
+dropped_acts (Some n, lists) o s = refl
+
+seen_by : (r : Bool × Layer Purpose) (target : ℕ) (s : InitiatorState) → (seen_as r target empty_outbox s).1.counts.acts ≡ s.counts.acts
+seen_by (false, layer) target s = refl
+seen_by (true, layer) target s =
+    let u = interrupted (record s { layer = layer }) target in dropped_acts (drop_lists u.lists) (resets_told s.number s.operation s.states empty_outbox) u
+
+seen_count : (generation id target : ℕ) (s : InitiatorState) → (see_step generation id target empty_outbox s).1.counts.acts ≡ s.counts.acts
+unfolding see_step
+seen_count generation id target s = seen_by (seeing_step s.layer generation id) target s
+
+widened : (known other : ℕ → Type 0) (s : InitiatorState) → ((id : ℕ) → known id → other id) → Holds known s → Holds other s
+widened known other s more h =
+    let f = h.fits in
+    record {
+      fits = record { target_known = more s.target f.target_known; management_fits = f.management_fits; counted = f.counted; running_fits = f.running_fits; memory_fits = f.memory_fits };
+      layer = h.layer;
+    }
+
 pub initiator_fits : InitiatorFits
 initiator_fits = record {
   begins = new_fit;
@@ -235,4 +257,7 @@ initiator_fits = record {
   sights = λ known other generation id target s small there later h. sight known other generation id target s small there later h;
   old_sights = old_sight;
   refusals = refused;
+  seen_acts = seen_count;
+  target_there = λ known s h. h.fits.target_known;
+  widens = widened;
 }

@@ -97,3 +97,6 @@ pub record InitiatorFits : Type 0 where
   pub sights : (known other : ℕ → Type 0) (generation id target : ℕ) (s : InitiatorState) → id < 2 ^ 16 → other target → nat_lt s.layer.generation generation ≡ true → Holds known s → Holds other (see_step generation id target empty_outbox s).1
   pub old_sights : (known : ℕ → Type 0) (generation id target : ℕ) (s : InitiatorState) → nat_lt s.layer.generation generation ≡ false → Holds known s → Holds known (see_step generation id target empty_outbox s).1
   pub refusals : (known : ℕ → Type 0) (action : Action) (s : InitiatorState) (number : ℕ) → Holds known s → (act_step action empty_outbox s).0 ≡ Some number → Holds known (act_step action empty_outbox s).1.1
+  pub seen_acts : (generation id target : ℕ) (s : InitiatorState) → (see_step generation id target empty_outbox s).1.counts.acts ≡ s.counts.acts
+  pub target_there : (known : ℕ → Type 0) (s : InitiatorState) → Holds known s → known s.target
+  pub widens : (known other : ℕ → Type 0) (s : InitiatorState) → ((id : ℕ) → known id → other id) → Holds known s → Holds other s

@@ -18,6 +18,7 @@ use Rattle.label_table.specs.Layer.{Layer, Finding, of_generation, of_grammar, o
 use Rattle.label_table.specs.History as wire
 use Rattle.login_table.specs.declared.login.Login.{Login}
 use Rattle.login_table.specs.Table.{Table, enter_step, held, hold_step, is_live, new_table, place_at, tick_step}
+use Rattle.mgmt_agent.specs.declared.operation.Operation.{Operation}
 use Rattle.mgmt_agent.specs.Machine as management
 use Rattle.orb_layout.specs.Pointers.{quad_bytes}
 use Rattle.config_rom.specs.Make.{made}
@@ -43,7 +44,7 @@ use Rattle.sbp_target.specs.Serving.{answered, is_barred, request_step, serve}
 use Rattle.sbp_target.specs.Units.{cut_all, cut_at, cut_from}
 use Rattle.sbp_target.specs.Receiving.{after_reset, answer_in, cleared_node, expired, expired_in, judged_scene, new_node, ready_from, ready_login, received, received_as, reset_by, seen, target_eui, ticked, ticked_by, with_layer}
 use Rattle.target_laws.specs.Calls.{lets_expire, sees, ticks, alone}
-use Rattle.target_laws.specs.Fitting.{AreIds, BytesTold, Expires, Fits, FitsAgent, FitsLogin, FitsOperation, FitsSeat, Holds, MayReceive, Receives, TargetFits}
+use Rattle.target_laws.specs.Fitting.{AreIds, BytesTold, Expires, Fits, FitsAgent, FitsLogin, FitsOperation, FitsSeat, Holds, IsOfKnown, MayReceive, Receives, TargetFits}
 use Rattle.target_laws.proofs.FitAgents.{new_fits, quads_bytes}
 use Rattle.target_laws.proofs.FitDemands.{answer_small}
 use Rattle.target_laws.proofs.FitMade.{answering_keeps, answers_all, asking_keeps, calm_leaves}
@@ -341,6 +342,38 @@ new_fit known units ready k = record {
   layer = new_goes 0xffc0 (omega arith);
 }
 
+-- ---- more nodes are known
+module _ (known other : ℕ → Type 0) (more : (id : ℕ) → known id → other id) where
+  more_login : (login : Option Login) → FitsLogin known login → FitsLogin other login
+  more_login None f = tt
+  more_login (Some login) f = (f.0, λ e. more login.node (f.1 e))
+
+  more_of : (login : Option Login) → IsOfKnown known login → IsOfKnown other login
+  more_of None f = tt
+  more_of (Some login) f = more login.node f
+
+  more_operation : (operation : Option Operation) → FitsOperation known operation → FitsOperation other operation
+  more_operation None f = tt
+  more_operation (Some operation) f = (more operation.source f.0, f.1)
+
+  widened : (node : NodeState) → Holds known node → Holds other node
+  widened node h =
+      let f = h.fits in
+      record {
+        fits = record {
+          manager = record { operation = more_operation node.manager.operation f.manager.operation; outgoing = f.manager.outgoing };
+          logins = λ p. more_login (login_at node p) (f.logins p);
+          size = f.size;
+          agents = f.agents;
+          seats = λ p. let s = f.seats p in record {
+            main = λ sent e. let m = s.main sent e in (more sent.peer m.0, more_of (login_at node p) m.1);
+            ahead = λ sent e. let m = s.ahead sent e in (more sent.peer m.0, more_of (login_at node p) m.1);
+          };
+          rom = f.rom;
+        };
+        layer = h.layer;
+      }
+
 pub target_fits : TargetFits
 target_fits = record {
   begins = new_fit;
@@ -350,4 +383,5 @@ target_fits = record {
   old_sights = old_sight;
   seconds = second;
   keys = keyed;
+  widens = λ known other node more h. widened known other more node h;
 }

@@ -138,3 +138,4 @@ pub record TargetFits : Type 0 where
   pub old_sights : (known : ℕ → Type 0) (generation id : ℕ) (node : NodeState) → nat_lt node.layer.generation generation ≡ false → Holds known node → Holds known (alone (sees generation id) node).node
   pub seconds : (known : ℕ → Type 0) (node : NodeState) → Holds known node → Holds known (alone ticks node).node
   pub keys : (known : ℕ → Type 0) (unit : ℕ) (key : List ℕ) (node : NodeState) → Holds known node → Holds known (alone (sets_key unit key) node).node
+  pub widens : (known other : ℕ → Type 0) (node : NodeState) → ((id : ℕ) → known id → other id) → Holds known node → Holds other node
