@@ -1,5 +1,5 @@
 -- A call of a node, step by step: what is said of it so far is kept by telling, giving up, asking and answering.
-use Rattle.std.proofs.Common.{arith, ◌≡◌, ◌≢◌, refl, sym, ap, ◌∙◌, subst, ℕ, zero, suc, ◌+◌, ◌^◌, ◌<◌, ◌≤◌, ◌==◌, nat_eq, nat_lt, Bool, true, false, cond, List, [], ◌∷◌, ◌++◌, append-nil, append_assoc, length, map, replicate, Option, Some, None, Result, Ok, Err, IsTrue}
+use Rattle.std.proofs.Common.{arith, ◌≡◌, ◌≢◌, refl, sym, ap, ◌∙◌, subst, ℕ, zero, suc, ◌+◌, ◌^◌, ◌<◌, ◌≤◌, ◌==◌, nat_eq, nat_lt, Bool, true, false, cond, List, [], ◌∷◌, ◌++◌, append-nil, append_assoc, length, map, replicate, Option, Some, None, Result, Ok, Err}
 use Rattle.std.proofs.lemmas.Bool.Decides.{nat_tests}
 use Rattle.async_packet.specs.declared.fault.PacketFault.{PacketFault}
 use Rattle.async_packet.specs.Canon.{canon}
@@ -29,6 +29,10 @@ plain_append : (one two : List Side) → ArePlainSides one → ArePlainSides two
 plain_append [] two a b = b
 plain_append (side ∷ one) two a b = (a.0, plain_append one two a.1 b)
 
+asked_small : (peer : ℕ) (asked : Option Asked) (packets : List Outgoing) → IfAsked asked → AreSmall packets → AreSmall (with_asked peer asked packets)
+asked_small peer None packets a s = s
+asked_small peer (Some asked) packets a s = small_append packets (request_to peer asked ∷ []) s (a, tt)
+
 -- what stands of the packets and the telling of a call
 pub record Beside {P : Type 0} (layer : Layer P) (packets : List Outgoing) (told : List Side) : Type 0 where
   pub comes : IsLayer layer
@@ -42,10 +46,6 @@ module _ {P : Type 0} where
   beside_disowned : (layer : Layer P) (packets : List Outgoing) (told : List Side) (peer : ℕ) (label : LabelParts) → Beside layer packets told → Beside (disowning_step layer peer label) packets told
   beside_disowned layer packets told peer label b =
       record { comes = goes layer (wire.disowns peer label) (disowns_same layer peer label) b.comes; small = b.small; plain = b.plain }
-
-  asked_small : (peer : ℕ) (asked : Option Asked) (packets : List Outgoing) → IfAsked {P = P} asked → AreSmall packets → AreSmall (with_asked peer asked packets)
-  asked_small peer None packets a s = s
-  asked_small peer (Some asked) packets a s = small_append packets (request_to peer asked ∷ []) s (a, tt)
 
   beside_asked : (layer : Layer P) (packets : List Outgoing) (told : List Side) (peer : ℕ) (body : Body) (purpose : P) → FitsRequest body → Beside layer packets told → Beside (asking_step layer peer body purpose).1 (with_asked peer (asking_step layer peer body purpose).0 packets) told
   beside_asked layer packets told peer body purpose f b = record {

@@ -1,5 +1,5 @@
 -- What a delivery is found to be is what its bytes spell; a request is of the layer's generation, and a write that comes again is given nothing.
-use Rattle.std.proofs.Common.{arith, ◌≡◌, ◌≢◌, take, drop, refl, sym, ap, ◌∙◌, subst, ℕ, ◌+◌, ◌/◌, ◌%◌, ◌^◌, ◌<◌, ◌≤◌, ◌==◌, ◌&&◌, nat_eq, not, is_some, Bool, true, false, cond, List, [], length, Option, Some, None, Result, Ok, Err, IsTrue}
+use Rattle.std.proofs.Common.{arith, ◌≡◌, ◌≢◌, take, drop, refl, sym, ap, ◌∙◌, subst, ℕ, ◌+◌, ◌/◌, ◌%◌, ◌^◌, ◌<◌, ◌≤◌, ◌==◌, ◌&&◌, nat_eq, not, is_some, Bool, true, false, cond, List, [], length, Option, Some, None, Result, Ok, Err}
 use Rattle.std.proofs.lemmas.Bool.Decides.{nat_tests}
 use Rattle.sbp_base.specs.Quadlets.{quad}
 use Rattle.async_packet.specs.declared.fault.PacketFault.{PacketFault}
@@ -33,8 +33,8 @@ source_quad bytes a = let q = quad_fits bytes 4 a in omega arith
 pub source_fits : (bytes : List ℕ) (p : Packet) → reading bytes ≡ Ok p → AreBytes bytes → (header_in p).source < 2 ^ 16
 source_fits bytes p e a = subst (λ (h : Header). h.source < 2 ^ 16) (sym (header_spelled bytes p (spelled bytes p e))) (source_quad bytes a)
 
-asks_if : (kind : Option ReplyKind) → is_some kind ≡ false → IsTrue (not (is_some kind))
-asks_if None e = tt
+asks_if : (kind : Option ReplyKind) → is_some kind ≡ false → not (is_some kind) ≡ true
+asks_if None e = refl
 asks_if (Some kind) e = cc
 
 pub is_request : (bytes : List ℕ) (p : Packet) → reading bytes ≡ Ok p → is_some (reply_kind p) ≡ false → IsRequestOf bytes p
@@ -67,11 +67,11 @@ no_gives (write_quadlet header offset value) rcode given n = tt
 no_gives (write_block header offset payload) rcode given n = tt
 no_gives (read_quadlet header offset) rcode given n = λ e. absurd (n e)
 no_gives (read_block header offset asked) rcode given n = λ e. absurd (n e)
-no_gives (write_response header rcode) rcode given n = tt
-no_gives (read_quadlet_response header rcode value) rcode given n = tt
-no_gives (read_block_response header rcode payload) rcode given n = tt
+no_gives (write_response header code) rcode given n = tt
+no_gives (read_quadlet_response header code value) rcode given n = tt
+no_gives (read_block_response header code payload) rcode given n = tt
 no_gives (lock header offset extended payload) rcode given n = tt
-no_gives (lock_response header rcode extended payload) rcode given n = tt
+no_gives (lock_response header code extended payload) rcode given n = tt
 
 -- ---- a write that comes again
 abbrev IfAgain : Verdict → (ℕ → Type 0) → Type 0
@@ -118,6 +118,26 @@ pub record IsReadOf (generation now : ℕ) (bytes : List ℕ) (p : Packet) : Typ
   pub request : IsRequestOf bytes p
   pub current : generation ≡ now
 
+-- what a row says of its facts
+abbrev RowSays : Row → Facts → Type 0
+RowSays by_again facts = (facts.is_current ≡ true) × (facts.is_response ≡ false) × (facts.is_repeated ≡ true)
+RowSays by_request facts = (facts.is_current ≡ true) × (facts.is_response ≡ false)
+RowSays _ facts = Unit {0}
+
+row_says_at : (c n r a p : Bool) → RowSays (row_of (record { is_current = c; is_for_node = n; is_response = r; is_awaited = a; is_repeated = p })) (record { is_current = c; is_for_node = n; is_response = r; is_awaited = a; is_repeated = p })
+row_says_at false n r a p = tt
+row_says_at true false r a p = tt
+row_says_at true true true false p = tt
+row_says_at true true true true p = tt
+row_says_at true true false a true = (refl, refl, refl)
+row_says_at true true false a false = (refl, refl)
+
+row_says : (facts : Facts) → RowSays (row_of facts) facts
+row_says facts = row_says_at facts.is_current facts.is_for_node facts.is_response facts.is_awaited facts.is_repeated
+
+equal : (m n : ℕ) → (m == n) ≡ true → m ≡ n
+equal m n e = grind (arith, nat_tests)
+
 module _ {P : Type 0} where
   abbrev pub IsFoundAs : Layer P → ℕ → List ℕ → Finding P → Type 0
   IsFoundAs layer generation bytes of_generation = Unit {0}
@@ -126,26 +146,6 @@ module _ {P : Type 0} where
   IsFoundAs layer generation bytes (of_response p label purpose) = reading bytes ≡ Ok p
   IsFoundAs layer generation bytes (of_again p rcode) = IsReadOf generation layer.generation bytes p × FitsAnswer p rcode []
   IsFoundAs layer generation bytes (of_request p) = IsReadOf generation layer.generation bytes p
-
-  -- what a row says of its facts
-  abbrev RowSays : Row → Facts → Type 0
-  RowSays by_again facts = (facts.is_current ≡ true) × (facts.is_response ≡ false) × (facts.is_repeated ≡ true)
-  RowSays by_request facts = (facts.is_current ≡ true) × (facts.is_response ≡ false)
-  RowSays _ facts = Unit {0}
-
-  row_says_at : (c n r a p : Bool) → RowSays (row_of (record { is_current = c; is_for_node = n; is_response = r; is_awaited = a; is_repeated = p })) (record { is_current = c; is_for_node = n; is_response = r; is_awaited = a; is_repeated = p })
-  row_says_at false n r a p = tt
-  row_says_at true false r a p = tt
-  row_says_at true true true false p = tt
-  row_says_at true true true true p = tt
-  row_says_at true true false a true = (refl, refl, refl)
-  row_says_at true true false a false = (refl, refl)
-
-  row_says : (facts : Facts) → RowSays (row_of facts) facts
-  row_says facts = row_says_at facts.is_current facts.is_for_node facts.is_response facts.is_awaited facts.is_repeated
-
-  equal : (m n : ℕ) → (m == n) ≡ true → m ≡ n
-  equal m n e = grind (arith, nat_tests)
 
   responded_as : (layer : Layer P) (generation : ℕ) (bytes : List ℕ) (p : Packet) (r : Option (LabelParts × Option P) × Layer P) → reading bytes ≡ Ok p → IsFoundAs layer generation bytes (responded p r).0
   responded_as layer generation bytes p (Some (label, purpose), now) e = e

@@ -15,7 +15,8 @@ use Rattle.label_table.specs.Bodies.{Body, header_to, request_with}
 use Rattle.label_table.specs.Layer.{Layer, answering_step, asked_at, asking_in, asking_step, closed_at, closed_by, closing_in, closing_step, disowning_in, disowning_step, expired_at, expiring_in, expiring_step, facts_of, judged_by, judging_step, new_layer, peer_at, peer_place, responded, seeing_step, seen_in_generation, unlabelled}
 use Rattle.label_table.specs.Peers.{PeerPlace, begun_for, close_place, expire_place}
 use Rattle.label_table.specs.Requests.{label_of, reply_kind, with_label}
-use Rattle.label_table.specs.Table.{Place, begin_at, begin_step, lowest_from, serves}
+use Rattle.label_table.specs.declared.place.Place.{Place}
+use Rattle.label_table.specs.Table.{begin_at, begin_step, lowest_from, serves}
 use Rattle.label_table.specs.History as wire
 use Rattle.label_table.proofs.Calls.{after_kept}
 use Rattle.bus_transactions.specs.Fitting.{AreBytes, FitsFilter, FitsRequest, IsLayer}
@@ -25,6 +26,43 @@ replicate_or : {A : Type 0} (n k : ℕ) (a : A) → get_or (replicate n a) k a �
 replicate_or zero k a = refl
 replicate_or (suc n) zero a = refl
 replicate_or (suc n) (suc k) a = replicate_or n k a
+
+-- ---- a filter, and labels
+remembers : (found : Option ℕ) (filter : List SourcePlace) (source : ℕ) (bytes : List ℕ) (rcode : ℕ) → rcode < 2 ^ 4 → FitsFilter filter → FitsFilter (remember_at found filter source bytes rcode)
+unfolding remembered
+remembers None filter source bytes rcode s f k label = f k label
+remembers (Some n) filter source bytes rcode s f k label =
+    put_or (λ (x : SourcePlace). (request_at label x).rcode < 2 ^ 4) filter n k (remembered (source_at filter n) source bytes rcode) no_source
+    (λ e. put_or (λ (x : Remembered). x.rcode < 2 ^ 4) (source_at filter n).requests (label_of bytes) label (record { last = Some bytes; rcode = rcode }) no_request (λ g. s) (f n label))
+    (f k label)
+
+new_request : (k label : ℕ) → request_at label (source_at new_filter k) ≡ no_request
+new_request k label =
+    ap (λ (x : SourcePlace). request_at label x) (replicate_or 5 k no_source) ∙ replicate_or 64 label no_request
+
+pub new_filter_fits : FitsFilter new_filter
+new_filter_fits k label = rw (new_request k label) (omega arith)
+
+abbrev pub IfAsked : Option Asked → Type 0
+IfAsked None = Unit {0}
+IfAsked (Some asked) = AreBytes asked.bytes
+
+label_bytes : (number : ℕ) (bytes : List ℕ) → number < 64 → AreBytes bytes → AreBytes (with_label number bytes)
+unfolding with_label
+label_bytes number bytes n a = bytes_set bytes 2 _ a (omega arith)
+
+lowest_by : (b : Bool) (number count n : ℕ) (rest : Option ℕ) → cond b (Some number) rest ≡ Some n → (rest ≡ Some n → n < number + 1 + count) → n < number + suc count
+lowest_by true number count n rest e h = let g = same e in omega arith
+  where
+    same : Some number ≡ Some n → number ≡ n
+    same f = cc
+lowest_by false number count n rest e h = let g = h e in omega arith
+
+lowest_below : (number : ℕ) (bytes : List ℕ) (places : List Place) (n : ℕ) → lowest_from number bytes places ≡ Some n → n < number + length places
+unfolding lowest_from
+lowest_below number bytes [] n e = cc
+lowest_below number bytes (place ∷ places) n e =
+    lowest_by (serves number bytes place) number (length places) n (lowest_from (number + 1) bytes places) e (λ f. lowest_below (number + 1) bytes places n f)
 
 module _ {P : Type 0} where
   -- ---- what asks, time-outs and judging leave
@@ -109,14 +147,6 @@ module _ {P : Type 0} where
     small = subst (λ (n : ℕ). n < 2 ^ 16) (sym s.node) c.small;
   }
 
-  remembers : (found : Option ℕ) (filter : List SourcePlace) (source : ℕ) (bytes : List ℕ) (rcode : ℕ) → rcode < 2 ^ 4 → FitsFilter filter → FitsFilter (remember_at found filter source bytes rcode)
-  unfolding remembered
-  remembers None filter source bytes rcode s f = f
-  remembers (Some n) filter source bytes rcode s f k label =
-      put_or (λ (x : SourcePlace). (request_at label x).rcode < 2 ^ 4) filter n k (remembered (source_at filter n) source bytes rcode) no_source
-      (λ e. put_or (λ (x : Remembered). x.rcode < 2 ^ 4) (source_at filter n).requests (label_of bytes) label (record { last = Some bytes; rcode = rcode }) no_request (λ g. s) (f n label))
-      (f k label)
-
   pub answers_go : (layer : Layer P) (p : Packet) (bytes : List ℕ) (rcode : ℕ) (given : List ℕ) → rcode < 2 ^ 4 → IsLayer layer → IsLayer (answering_step layer p bytes rcode given).1
   unfolding answering_step
   answers_go layer p bytes rcode given s c = record {
@@ -126,13 +156,6 @@ module _ {P : Type 0} where
     filter = remembers (place_for (header_in p).source layer.filter) layer.filter (header_in p).source bytes rcode s c.filter;
     small = c.small;
   }
-
-  new_request : (k label : ℕ) → request_at label (source_at new_filter k) ≡ no_request
-  new_request k label =
-      ap (λ (x : SourcePlace). request_at label x) (replicate_or 5 k no_source) ∙ replicate_or 64 label no_request
-
-  pub new_filter_fits : FitsFilter new_filter
-  new_filter_fits k label = rw (new_request k label) (omega arith)
 
   pub new_goes : (node : ℕ) → node < 2 ^ 16 → IsLayer (new_layer {P = P} node)
   new_goes node s = record { first = node; calls = []; layer_is = refl; filter = new_filter_fits; small = s }
@@ -162,26 +185,6 @@ module _ {P : Type 0} where
   full layer k c = ap (λ (l : Layer P). length (peer_at l k).table.places) (sym c.layer_is) ∙ (after_kept c.first c.calls).parts.full k
 
   -- ---- the bytes of a request
-  abbrev pub IfAsked : Option Asked → Type 0
-  IfAsked None = Unit {0}
-  IfAsked (Some asked) = AreBytes asked.bytes
-
-  label_bytes : (number : ℕ) (bytes : List ℕ) → number < 64 → AreBytes bytes → AreBytes (with_label number bytes)
-  unfolding with_label
-  label_bytes number bytes n a = bytes_set bytes 2 _ a (omega arith)
-
-  lowest_below : (number : ℕ) (bytes : List ℕ) (places : List Place) (n : ℕ) → lowest_from number bytes places ≡ Some n → n < number + length places
-  unfolding lowest_from
-  lowest_below number bytes [] n e = cc
-  lowest_below number bytes (place ∷ places) n e = by (serves number bytes place) e
-    where
-      same : Some number ≡ Some n → number ≡ n
-      same f = cc
-
-      by : (b : Bool) → cond b (Some number) (lowest_from (number + 1) bytes places) ≡ Some n → n < number + suc (length places)
-      by true f = let g = same f in omega arith
-      by false f = let g = lowest_below (number + 1) bytes places n f in omega arith
-
   found_bytes : (layer : Layer P) (k peer : ℕ) (bytes : List ℕ) (purpose : P) (number : Option ℕ) → ((n : ℕ) → number ≡ Some n → n < 64) → AreBytes bytes → IfAsked (asked_at k layer (begun_for (peer_at layer k) peer purpose (begin_at number (peer_at layer k).table bytes))).0
   found_bytes layer k peer bytes purpose None s a = tt
   found_bytes layer k peer bytes purpose (Some number) s a = label_bytes number bytes (s number refl) a

@@ -1,5 +1,6 @@
 -- What fits a packet makes a valid one, of bytes below 256.
-use Rattle.std.proofs.Common.{arith, ◌≡◌, refl, sym, ap, ◌∙◌, subst, ℕ, zero, suc, ◌+◌, ◌*◌, ◌/◌, ◌-◌, ◌%◌, ◌^◌, ◌<◌, ◌≤◌, ◌==◌, nat_eq, Bool, true, false, cond, List, [], ◌∷◌, ◌++◌, length, take, drop, replicate, get_or, set, slice_set, slice_index_or, Option, Some, None, Result, Ok, Err, IsTrue}
+use Rattle.std.proofs.Common.{arith, ◌≡◌, refl, sym, ap, ◌∙◌, subst, ℕ, zero, suc, ◌+◌, ◌*◌, ◌/◌, ◌-◌, ◌%◌, ◌^◌, ◌<◌, ◌≤◌, ◌==◌, nat_eq, Bool, true, false, cond, List, [], ◌∷◌, ◌++◌, length, take, drop, replicate, get_or, set, slice_set, slice_index_or, Option, Some, None, Result, Ok, Err}
+use Rattle.std.proofs.lemmas.Bool.Decides.{nat_tests}
 use Rattle.std.proofs.lemmas.List.{get_or-drop}
 use Rattle.std.specs.List.{All}
 use Rattle.byteorder.specs.Endian.{big_bytes}
@@ -125,8 +126,10 @@ long_if true given count e s = let f = e refl in omega arith
 long_if false given count e s = omega arith
 
 is_zero : (n : ℕ) → (n == 0) ≡ true → n ≡ 0
-is_zero zero e = refl
-is_zero (suc n) e = cc
+is_zero n e = grind (arith, nat_tests)
+
+untrue : false ≡ true → ⊥
+untrue e = cc
 
 pub answer_fits : (node : ℕ) (asked : Packet) (bytes : List ℕ) (rcode : ℕ) (given : List ℕ) → node < 2 ^ 16 → (header_in asked).source < 2 ^ 16 → IsRequestOf bytes asked → FitsAnswer asked rcode given → IsValid (response_to node asked rcode given)
 answer_fits node (write_quadlet h offset value) bytes rcode given n s r f = (header_fits node h.source h.label n s (row_label _ _ bytes h r.spelled.0), f.small)
@@ -136,8 +139,8 @@ answer_fits node (read_quadlet h offset) bytes rcode given n s r f =
 answer_fits node (read_block h offset count) bytes rcode given n s r f =
     (header_fits node h.source h.label n s (row_label _ _ bytes h r.spelled.0), f.small, long_if (rcode == 0) given count (λ e. f.gives (is_zero rcode e)) r.spelled.3)
 answer_fits node (lock h offset extended payload) bytes rcode given n s r f =
-    (header_fits node h.source h.label n s (row_label _ _ bytes h r.spelled.0), f.small, r.spelled.2.known, tt)
-answer_fits node (write_response h code) bytes rcode given n s r f = absurd r.asks
-answer_fits node (read_quadlet_response h code value) bytes rcode given n s r f = absurd r.asks
-answer_fits node (read_block_response h code payload) bytes rcode given n s r f = absurd r.asks
-answer_fits node (lock_response h code extended payload) bytes rcode given n s r f = absurd r.asks
+    (header_fits node h.source h.label n s (row_label _ _ bytes h r.spelled.0), f.small, r.spelled.2.known, refl)
+answer_fits node (write_response h code) bytes rcode given n s r f = absurd (untrue r.asks)
+answer_fits node (read_quadlet_response h code value) bytes rcode given n s r f = absurd (untrue r.asks)
+answer_fits node (read_block_response h code payload) bytes rcode given n s r f = absurd (untrue r.asks)
+answer_fits node (lock_response h code extended payload) bytes rcode given n s r f = absurd (untrue r.asks)

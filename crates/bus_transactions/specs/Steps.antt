@@ -52,6 +52,11 @@ pub data GivesUp {P : Type 0} (known : ℕ → Type 0) (layer : Layer P) (peer :
   of_known : known peer → GivesUp known layer peer label
   of_none : disowning_step layer peer label ≡ layer → GivesUp known layer peer label
 
+-- how a request is judged that is got, or ignored for a cause
+abbrev pub judged_for : Option Cause → Judged
+judged_for None = judgements.Got
+judged_for (Some cause) = judgements.Ignored cause
+
 module _ {P : Type 0} where
   abbrev pub layer_after : Layer P → List (wire.Call P) → Layer P
   layer_after layer [] = layer
@@ -114,10 +119,6 @@ module _ {P : Type 0} where
   pub record IsRepeating (known : ℕ → Type 0) (rcode : ℕ) (judged : Judged) (p : Packet) (bytes : List ℕ) (before now : Layer P) (packets : List Outgoing) : Type 0 where
     pub judged_is : judged ≡ judgements.Ignored causes.Again
     pub answers : IsAnswering known (as_before rcode) p bytes before now packets
-
-  abbrev pub judged_for : Option Cause → Judged
-  judged_for None = judgements.Got
-  judged_for (Some cause) = judgements.Ignored cause
 
   pub record IsServing (known : ℕ → Type 0) (judged : Judged) (p : Packet) (bytes : List ℕ) (before now : Layer P) (packets : List Outgoing) : Type 0 where
     pub cause : Option Cause
