@@ -1,5 +1,5 @@
 -- What a delivery is found to be is what its bytes spell; a request is of the layer's generation, and a write that comes again is given nothing.
-use Rattle.std.proofs.Common.{arith, ◌≡◌, ◌≢◌, take, drop, refl, sym, ap, ◌∙◌, subst, ℕ, ◌+◌, ◌/◌, ◌%◌, ◌^◌, ◌<◌, ◌≤◌, ◌==◌, ◌&&◌, nat_eq, not, is_some, Bool, true, false, cond, List, [], length, Option, Some, None, Result, Ok, Err}
+use Rattle.std.proofs.Common.{arith, ◌≡◌, ◌≢◌, take, drop, refl, sym, ap, ◌∙◌, subst, ℕ, suc, ◌+◌, ◌/◌, ◌%◌, ◌^◌, ◌<◌, ◌≤◌, ◌==◌, ◌&&◌, nat_eq, not, is_some, Bool, true, false, cond, List, [], length, Option, Some, None, Result, Ok, Err}
 use Rattle.std.proofs.lemmas.Bool.Decides.{nat_tests}
 use Rattle.sbp_base.specs.Quadlets.{quad}
 use Rattle.async_packet.specs.declared.fault.PacketFault.{PacketFault}
@@ -62,6 +62,9 @@ bytes_of (lock header offset extended payload) bytes s a = tt
 bytes_of (lock_response header rcode extended payload) bytes s a = tt
 
 -- nothing is given where the rcode is not 0
+pub not_complete : (n : ℕ) → suc n ≢ 0
+not_complete n e = cc
+
 pub no_gives : (p : Packet) (rcode : ℕ) (given : List ℕ) → rcode ≢ 0 → Gives p rcode given
 no_gives (write_quadlet header offset value) rcode given n = tt
 no_gives (write_block header offset payload) rcode given n = tt

@@ -22,7 +22,7 @@ use Rattle.label_table.proofs.Calls.{after_kept}
 use Rattle.bus_transactions.specs.Fitting.{AreBytes, FitsFilter, FitsRequest, IsLayer}
 use Rattle.bus_transactions.proofs.Fits.{bytes_set, put_or, request_bytes}
 
-replicate_or : {A : Type 0} (n k : ℕ) (a : A) → get_or (replicate n a) k a ≡ a
+pub replicate_or : {A : Type 0} (n k : ℕ) (a : A) → get_or (replicate n a) k a ≡ a
 replicate_or zero k a = refl
 replicate_or (suc n) zero a = refl
 replicate_or (suc n) (suc k) a = replicate_or n k a

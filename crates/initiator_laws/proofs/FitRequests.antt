@@ -8,7 +8,7 @@ use Rattle.bus_transactions.specs.May.{is_plain, may_ignore}
 use Rattle.bus_transactions.specs.Steps.{answer_to}
 use Rattle.bus_transactions.specs.Wire.{is_stated}
 use Rattle.bus_transactions.proofs.Fits.{bytes_quad, bytes_zeros, no_bytes}
-use Rattle.bus_transactions.proofs.FitJudged.{BytesOf, no_gives}
+use Rattle.bus_transactions.proofs.FitJudged.{BytesOf, no_gives, not_complete}
 use Rattle.bus_memory.specs.Access.{read_step}
 use Rattle.label_table.specs.Bodies.{Gives}
 use Rattle.label_table.specs.Layer.{Layer, answering_step}
@@ -81,15 +81,6 @@ module _ (known : ℕ → Type 0) (acts most : ℕ) (P : Said) (Q : Judged → S
   refused : (rcode : ℕ) → rcode ≢ 0 → rcode < 2 ^ 4 → FitsAnswer p rcode []
   refused rcode n s = record { small = s; bytes = no_bytes; gives = no_gives p rcode [] n }
 
-  five : 5 ≢ 0
-  five e = cc
-
-  six : 6 ≢ 0
-  six e = cc
-
-  seven : 7 ≢ 0
-  seven e = cc
-
   pick_judged : (b : Bool) (x y : Judged × Turn) → After x → After y → After (cond b x y)
   pick_judged true x y h i = h
   pick_judged false x y h i = i
@@ -130,7 +121,7 @@ module _ (known : ℕ → Type 0) (acts most : ℕ) (P : Said) (Q : Judged → S
     blocks_by kinds.Failed block o s h = takes_as (take_lists s.lists block) kinds.Failed o s (take_fits s.lists block h.1.memory_fits) h
 
     blocks : (r : Result StatusBlock OrbFault) (o : OutboxState) (s : InitiatorState) → Before (o, s) → After (block_step r p bytes o s)
-    blocks (Err fault) o s h = responds (judgements.Ignored causes.Grammar) 5 [] (o, s) (record { may = refl; stated = refl }) (refused 5 five (omega arith)) h
+    blocks (Err fault) o s h = responds (judgements.Ignored causes.Grammar) 5 [] (o, s) (record { may = refl; stated = refl }) (refused 5 (not_complete 4) (omega arith)) h
     blocks (Ok block) o s h = blocks_by block.kind block o s h
 
     statuses : (is_login : Bool) (payload : List ℕ) (o : OutboxState) (s : InitiatorState) → Before (o, s) → After (status_step is_login payload p bytes o s)
@@ -148,13 +139,13 @@ module _ (known : ℕ → Type 0) (acts most : ℕ) (P : Said) (Q : Judged → S
   reads_as (rcode, out) count o s g f h = responds judgements.Got rcode out (o, called s) (got rcode) (record { small = f.small; bytes = f.bytes; gives = g out f.long }) h
 
   unserved : (o : OutboxState) (s : InitiatorState) → Before (o, s) → After (judgements.Got, respond_step p bytes 6 [] (o, called s))
-  unserved o s h = responds judgements.Got 6 [] (o, called s) (got 6) (refused 6 six (omega arith)) h
+  unserved o s h = responds judgements.Got 6 [] (o, called s) (got 6) (refused 6 (not_complete 5) (omega arith)) h
 
   closes : (o : OutboxState) (s : InitiatorState) → Before (o, s) → After (ignored_step causes.Login 7 p bytes (o, s))
-  closes o s h = responds (judgements.Ignored causes.Login) 7 [] (o, s) (record { may = refl; stated = refl }) (refused 7 seven (omega arith)) h
+  closes o s h = responds (judgements.Ignored causes.Login) 7 [] (o, s) (record { may = refl; stated = refl }) (refused 7 (not_complete 6) (omega arith)) h
 
   foreign : (o : OutboxState) (s : InitiatorState) → Before (o, s) → After (ignored_step causes.Source 7 p bytes (o, s))
-  foreign o s h = responds (judgements.Ignored causes.Source) 7 [] (o, s) (record { may = refl; stated = refl }) (refused 7 seven (omega arith)) h
+  foreign o s h = responds (judgements.Ignored causes.Source) 7 [] (o, s) (record { may = refl; stated = refl }) (refused 7 (not_complete 6) (omega arith)) h
 
 module _ (known : ℕ → Type 0) (acts most : ℕ) (P : Said) (Q : Judged → Said) (bytes : List ℕ) (k : Tells P) where
   abbrev Serves : Packet → Judged × Turn → Type 0

@@ -15,6 +15,7 @@ use Rattle.command_agent.specs.declared.step.AgentStep.{AgentStep}
 use Rattle.command_agent.specs.declared.step.Move.{Move}
 use Rattle.command_agent.specs.declared.step.Move.TheVariants as moves
 use Rattle.command_agent.specs.declared.step.PointRefusal.{PointRefusal}
+use Rattle.command_agent.specs.declared.step.PointRefusal.TheVariants as refusals
 use Rattle.command_agent.specs.declared.step.Which.{Which}
 use Rattle.command_agent.specs.declared.step.Which.TheVariants.{Main, Ahead}
 use Rattle.command_agent.specs.Checks.{death_by, plain_length, reads_table, refusal, verdict}
@@ -33,7 +34,7 @@ use Rattle.orb_layout.specs.declared.status.StatusKind.TheVariants as kinds
 use Rattle.orb_layout.specs.CommandOrbs.{command_orb}
 use Rattle.orb_layout.specs.Pointers.{IsPointer, offset_at, pointer_at, quad_bytes}
 use Rattle.orb_layout.specs.Replies.{Answer, Payload, Done, Refused, Expired, NoLabel, payload_of, write_failure}
-use Rattle.orb_layout.specs.StatusBlocks.{check_quads, status_bytes}
+use Rattle.orb_layout.specs.StatusBlocks.{check_quads, row_of, status_bytes, status_head}
 use Rattle.page_table.specs.declared.fault.PageFault.{PageFault}
 use Rattle.page_table.specs.declared.fault.PageFault.TheVariants.{ZeroSegment, PastEnd}
 use Rattle.page_table.specs.declared.segment.Chunk.{Chunk}
@@ -91,7 +92,9 @@ quads_bytes [] = no_bytes
 quads_bytes (quad ∷ quads) = bytes_append (big_bytes 4 quad) (quad_bytes quads) (bytes_quad quad) (quads_bytes quads)
 
 pub status_small : (block : StatusBlock) → AreBytes (status_bytes block)
-status_small block = bytes_append (quad_bytes _) (quad_bytes (check_quads block.kind)) (quads_bytes _) (quads_bytes (check_quads block.kind))
+status_small block =
+    let head = status_head block (row_of block.kind) ∷ (block.orb % 2 ^ 32) ∷ [] in
+    bytes_append (quad_bytes head) (quad_bytes (check_quads block.kind)) (quads_bytes head) (quads_bytes (check_quads block.kind))
 
 joined_fits : (a b : ℕ) → b < 2 ^ 32 → a % 2 ^ 16 * 2 ^ 32 + b < 2 ^ 48
 joined_fits a b h = omega arith
@@ -113,28 +116,30 @@ aligned_fits : (offset : ℕ) → offset < 2 ^ 48 → aligned offset < 2 ^ 48
 aligned_fits offset h = omega arith
 
 -- ---- buffers
+chunk_inside : (segment : Segment) (done : ℕ) → FitsSegment segment → nat_lt done segment.length ≡ true → segment.base + done < 2 ^ 48
+chunk_inside segment done h e = grind (arith, nat_tests)
+
+chunk_by : (b : Bool) (segment : Segment) (done limit left : ℕ) (rest : Option Chunk) → nat_lt done segment.length ≡ b → FitsSegment segment → (cut_to left rest).offset < 2 ^ 48 → (cut_to left (cond b (Some (chunk (segment.base + done) (min limit (segment.length - done)))) rest)).offset < 2 ^ 48
+chunk_by true segment done limit left rest e h r = chunk_inside segment done h e
+chunk_by false segment done limit left rest e h r = r
+
 chunk_fits : (segments : List Segment) (done limit left : ℕ) → Segments segments → (cut_to left (chunk_from segments done limit)).offset < 2 ^ 48
 chunk_fits [] done limit left a = omega arith
-chunk_fits (segment ∷ rest) done limit left a = by (nat_lt done segment.length) refl
-  where
-    inside : nat_lt done segment.length ≡ true → segment.base + done < 2 ^ 48
-    inside e = let h : segment.base + segment.length ≤ 2 ^ 48 = a.0 in grind (arith, nat_tests)
+chunk_fits (segment ∷ rest) done limit left a =
+    chunk_by (nat_lt done segment.length) segment done limit left (chunk_from rest (done - segment.length) limit) refl a.0 (chunk_fits rest (done - segment.length) limit left a.1)
 
-    by : (b : Bool) → nat_lt done segment.length ≡ b → (cut_to left (cond b (Some (chunk (segment.base + done) (min limit (segment.length - done)))) (chunk_from rest (done - segment.length) limit))).offset < 2 ^ 48
-    by true e = inside e
-    by false e = chunk_fits rest (done - segment.length) limit left a.1
+segment_ends : (segment : Segment) → nat_lt (2 ^ 48) (segment.base + segment.length) ≡ false → FitsSegment segment
+segment_ends segment f = grind (arith, nat_tests)
+
+element_by : (x y : Bool) (segment : Segment) (at : ℕ) (rest : Option PageFault) → nat_lt (2 ^ 48) (segment.base + segment.length) ≡ y → cond x (Some (ZeroSegment at)) (cond y (Some (PastEnd at)) rest) ≡ None → FitsSegment segment × (rest ≡ None)
+element_by true y segment at rest f g = cc
+element_by false true segment at rest f g = cc
+element_by false false segment at rest f g = (segment_ends segment f, g)
 
 elements_fit : (segments : List Segment) (at : ℕ) → first_fault at segments ≡ None → Segments segments
 elements_fit [] at e = tt
-elements_fit (segment ∷ rest) at e = by (segment.length == 0) (nat_lt (2 ^ 48) (segment.base + segment.length)) refl e
-  where
-    short : nat_lt (2 ^ 48) (segment.base + segment.length) ≡ false → segment.base + segment.length ≤ 2 ^ 48
-    short f = grind (arith, nat_tests)
-
-    by : (x y : Bool) → nat_lt (2 ^ 48) (segment.base + segment.length) ≡ y → cond x (Some (ZeroSegment at)) (cond y (Some (PastEnd at)) (first_fault (at + 1) rest)) ≡ None → Segments (segment ∷ rest)
-    by true y f g = cc
-    by false true f g = cc
-    by false false f g = (short f, elements_fit rest (at + 1) g)
+elements_fit (segment ∷ rest) at e =
+    let h = element_by (segment.length == 0) (nat_lt (2 ^ 48) (segment.base + segment.length)) segment at (first_fault (at + 1) rest) refl e in (h.0, elements_fit rest (at + 1) h.1)
 
 single_if : (b : Bool) (base len : ℕ) → base + len ≤ 2 ^ 48 → Segments (cond b [] (let x : Segment = record { base = base; length = len } in x ∷ []))
 single_if true base len h = tt
@@ -157,7 +162,9 @@ refused_not false false false false false n m x1 x2 x3 x4 x5 e f = by (nat_lt n 
 
 refusal_inside : (orb : CommandOrb) → refusal orb ≡ None → orb.has_table ≡ false → orb.descriptor + orb.data_size ≤ 2 ^ 48
 unfolding refusal
-refusal_inside orb e f = refused_not _ _ _ _ orb.has_table (2 ^ 48) (orb.descriptor + orb.data_size) _ _ _ _ _ e f
+refusal_inside orb e f =
+    refused_not (nat_lt 2 orb.speed) (nat_lt (7 + orb.speed) orb.max_payload) (orb.has_table && not (orb.page_size == 0)) (orb.has_table && nat_lt 64 orb.data_size) orb.has_table (2 ^ 48) (orb.descriptor + orb.data_size)
+    (kinds.Illegal 0x02) (kinds.Illegal 0xff) (kinds.Illegal 0x03) (kinds.Illegal 0xff) (kinds.Illegal 0xff) e f
 
 verdict_refusal : (orb : CommandOrb) (aborted : Bool) → verdict orb aborted ≡ None → refusal orb ≡ None
 unfolding verdict
@@ -462,19 +469,19 @@ refuses m refusal a = record { ask = λ ask e. absurd (not_ok ask e); agent = a 
     not_ok ask e = cc
 
 takes_pointer : (m : Machine) (pointer : OrbPointer) → IsPointer pointer → FitsAgent m → FitsPoint (pointed m pointer)
-takes_pointer m Null h a = refuses m _ a
+takes_pointer m Null h a = refuses m refusals.Null a
 takes_pointer m (At next) h a =
     let f = fetched m next h a in
     record { ask = λ ask e. subst (λ (x : Ask). FitsAsk x) (same ask e) f.ask; agent = f.agent }
   where
-    same : (ask : Ask) → Ok (fetch_step m next).0.ask ≡ Ok ask → (fetch_step m next).0.ask ≡ ask
+    same : (ask : Ask) → (pointed m (At next)).0 ≡ Ok ask → (fetch_step m next).0.ask ≡ ask
     same ask e = cc
 
 points : (state : AgentState) (m : Machine) (pointer : OrbPointer) → IsPointer pointer → FitsAgent m → FitsPoint (point_in state m pointer)
 points states.Reset m pointer h a = takes_pointer m pointer h a
 points states.Suspended m pointer h a = takes_pointer m pointer h a
-points states.Active m pointer h a = refuses m _ a
-points states.Dead m pointer h a = refuses m _ a
+points states.Active m pointer h a = refuses m refusals.Conflict a
+points states.Dead m pointer h a = refuses m refusals.Conflict a
 
 pub point_fits : (m : Machine) (pointer : OrbPointer) → IsPointer pointer → FitsAgent m → FitsPoint (point_step m pointer)
 unfolding point_step

@@ -4,7 +4,7 @@ use Rattle.std.proofs.lemmas.Bool.Decides.{nat_tests}
 use Rattle.async_packet.specs.declared.packet.Header.{Header}
 use Rattle.async_packet.specs.Packet.{Packet, header_in, lock, lock_response, read_block, read_block_response, read_quadlet, read_quadlet_response, write_block, write_quadlet, write_response}
 use Rattle.bus_transactions.specs.Fitting.{AreBytes}
-use Rattle.bus_transactions.proofs.FitJudged.{BytesOf}
+use Rattle.bus_transactions.proofs.FitJudged.{BytesOf, not_complete}
 use Rattle.bus_transactions.proofs.Fits.{bytes_drop, bytes_quad, bytes_take}
 use Rattle.byteorder.specs.Endian.{big_bytes}
 use Rattle.label_table.specs.Bodies.{Gives}
@@ -163,20 +163,9 @@ served_fits p demand b e = by (offset_in p == management_start) e
 
 somewhere : (found : Option Demand) (p : Packet) → ((d : Demand) → found ≡ Some d → FitsDemand 0 p d) → FitsDemand 0 p (or_nowhere found)
 somewhere (Some d) p f = f d refl
-somewhere None p f = (not_zero, omega arith)
-  where
-    not_zero : 7 ≢ 0
-    not_zero e = cc
--- a read inside the rom_gives (write_quadlet header offset value) e given l = absurd (untrue e)
-rom_gives (write_block header offset payload) e given l = absurd (untrue e)
-rom_gives (read_quadlet header offset) e given l = λ r. l
-rom_gives (read_block header offset asked) e given l = λ r. l
-rom_gives (write_response header rcode) e given l = absurd (untrue e)
-rom_gives (read_quadlet_response header rcode value) e given l = absurd (untrue e)
-rom_gives (read_block_response header rcode payload) e given l = absurd (untrue e)
-rom_gives (lock header offset extended payload) e given l = absurd (untrue e)
-rom_gives (lock_response header rcode extended payload) e given l = absurd (untrue e)
+somewhere None p f = (not_complete 6, omega arith)
 
+-- a read inside the ROM
 rom_gives : (p : Packet) → is_read p ≡ true → (given : List ℕ) → length given ≡ length_in p → Gives p 0 given
 rom_gives (write_quadlet header offset value) e given l = absurd (untrue e)
 rom_gives (write_block header offset payload) e given l = absurd (untrue e)
@@ -231,16 +220,10 @@ rom_fits size p e = by (is_read p) (nat_le rom_start (offset_in p)) (nat_le (off
     by false b c x y z f = absurd (untrue f)
 
 demand_by_fits : (row : Row) (size : ℕ) (p : Packet) → row_of (reached size p) ≡ row → BytesOf p → FitsDemand size p (demand_by row p)
-demand_by_fits by_type size p e b = (not_zero, omega arith)
-  where
-    not_zero : 6 ≢ 0
-    not_zero f = cc
+demand_by_fits by_type size p e b = (not_complete 5, omega arith)
 demand_by_fits by_rom size p e b = rom_fits size p (row_reads (reached size p) e)
 demand_by_fits by_register size p e b = any_size size p (or_nowhere (served (offset_in p) p)) (somewhere (served (offset_in p) p) p (λ d f. served_fits p d b f))
-demand_by_fits by_address size p e b = (not_zero, omega arith)
-  where
-    not_zero : 7 ≢ 0
-    not_zero f = cc
+demand_by_fits by_address size p e b = (not_complete 6, omega arith)
 
 pub demand_fits : (size : ℕ) (p : Packet) → BytesOf p → FitsDemand size p (demand_of size p)
 unfolding demand_of

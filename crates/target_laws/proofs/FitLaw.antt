@@ -1,6 +1,7 @@
 -- Each call of a target is what the wire takes a call of a node for.
-use Rattle.std.proofs.Common.{arith, ◌≡◌, ◌≢◌, refl, sym, ap, ◌∙◌, subst, ℕ, zero, suc, ◌+◌, ◌^◌, ◌<◌, ◌≤◌, ◌==◌, nat_eq, nat_lt, Bool, true, false, cond, List, [], ◌∷◌, ◌++◌, length, length-map, map, replicate, get_or, set, Option, Some, None, Result, Ok, Err}
-use Rattle.std.proofs.Math.ListN.{get_or-eq_default, get_or-map, length-set}
+use Rattle.std.proofs.Common.{arith, ◌≡◌, ◌≢◌, refl, sym, ap, ◌∙◌, subst, ℕ, zero, suc, ◌+◌, ◌^◌, ◌<◌, ◌≤◌, ◌==◌, nat_eq, nat_lt, Bool, true, false, cond, List, [], ◌∷◌, ◌++◌, length, map, replicate, get_or, set, Option, Some, None, Result, Ok, Err}
+use Rattle.std.proofs.Math.ListN.{get_or-eq_default, get_or-map}
+use Rattle.std.proofs.lemmas.List.{length-map}
 use Rattle.std.proofs.lemmas.Bool.Decides.{nat_tests}
 use Rattle.async_packet.specs.Labels.{LabelParts}
 use Rattle.async_packet.specs.Packet.{Packet, header_in}
@@ -10,7 +11,7 @@ use Rattle.bus_transactions.specs.May.{may_ignore}
 use Rattle.bus_transactions.specs.Steps.{ArePlainSides, IsDelivery, IsExpiry}
 use Rattle.bus_transactions.specs.Wire.{as_before, as_decided, is_reply}
 use Rattle.bus_transactions.proofs.FitCalls.{Answering, Asking, Calm, no_ask, no_leaving}
-use Rattle.bus_transactions.proofs.FitJudged.{IsFoundAs, bytes_of, found_as, no_gives, source_fits, spelled}
+use Rattle.bus_transactions.proofs.FitJudged.{IsFoundAs, bytes_of, found_as, no_gives, not_complete, source_fits, spelled}
 use Rattle.bus_transactions.proofs.Fits.{no_bytes}
 use Rattle.bus_transactions.proofs.FitSteps.{disowns_same, expires_same, goes, judges_same, new_goes, replicate_or, sees_goes}
 use Rattle.label_table.specs.declared.reply.Stale.{Stale}
@@ -43,7 +44,7 @@ use Rattle.sbp_target.specs.Replies.{Whole, whole, scene_of}
 use Rattle.sbp_target.specs.Serving.{answered, is_barred, request_step, serve}
 use Rattle.sbp_target.specs.Units.{cut_all, cut_at, cut_from}
 use Rattle.sbp_target.specs.Receiving.{after_reset, answer_in, cleared_node, expired, expired_in, judged_scene, new_node, ready_from, ready_login, received, received_as, reset_by, seen, target_eui, ticked, ticked_by, with_layer}
-use Rattle.target_laws.specs.Calls.{lets_expire, sees, ticks, alone}
+use Rattle.target_laws.specs.Calls.{lets_expire, sees, sets_key, ticks, alone}
 use Rattle.target_laws.specs.Fitting.{AreIds, BytesTold, Expires, Fits, FitsAgent, FitsLogin, FitsOperation, FitsSeat, Holds, IsOfKnown, MayReceive, Receives, TargetFits}
 use Rattle.target_laws.proofs.FitAgents.{new_fits, quads_bytes}
 use Rattle.target_laws.proofs.FitDemands.{answer_small}
@@ -83,7 +84,7 @@ module _ (known : ℕ → Type 0) (ids : AreIds known) (told : Option Told) (dis
       let reply = as_decided (Some ignored.Login) in
       let source = source_fits bytes p r.read may.bytes_fit in
       let g = answers_at known (Calm known ids before) (Answering known ids before reply p bytes) p bytes (is_reply reply) (answers_all known ids before reply p bytes source r.request) address_error [] (scene_of start) refl
-      (empty_fits p address_error (no_gives p address_error [] seven) (omega arith)) calm in
+      (empty_fits p address_error (no_gives p address_error [] (not_complete 6)) (omega arith)) calm in
       record {
         delivers = record { cause = Some ignored.Login; may = refl; judged_is = refl; answers = g.made.answers };
         small = g.made.beside.small;
@@ -91,9 +92,6 @@ module _ (known : ℕ → Type 0) (ids : AreIds known) (told : Option Told) (dis
         fits = g.fits;
         layer = g.made.beside.comes;
       }
-    where
-      seven : 7 ≢ 0
-      seven f = cc
   serves_if false p e r =
       let reply = as_decided None in
       let source = source_fits bytes p r.read may.bytes_fit in
@@ -277,7 +275,7 @@ module _ (known other : ℕ → Type 0) (generation id : ℕ) (node : NodeState)
       record {
         manager = record { operation = subst (λ (m : management.Machine). FitsOperation other m.operation) (sym (cuts_manager 8 0 cuts.Reset cleared)) tt; outgoing = f.manager.outgoing };
         logins = λ p. subst (λ (x : Option Login). FitsLogin other x) (sym (get_or-map held t.node.logins.places p None)) (held_fits known other (login_at t.node p) (f.logins p));
-        size = length-map disabled t.node.desks ∙ f.size;
+        size = length-map t.node.desks disabled ∙ f.size;
         agents = λ p. subst (λ (d : Desk). FitsAgent d.agent) (sym (get_or-map disabled t.node.desks p new_desk)) (f.agents p);
         seats = λ p. subst (λ (d : Desk). FitsSeat other d.main d.ahead (place_at (map held t.node.logins.places) p)) (sym (get_or-map disabled t.node.desks p new_desk)) (seated (desk_at t.node p) (place_at (map held t.node.logins.places) p) (idle_all p));
         rom = f.rom;

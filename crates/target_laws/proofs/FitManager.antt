@@ -20,13 +20,16 @@ use Rattle.mgmt_agent.specs.declared.operation.Phase.{Phase}
 use Rattle.mgmt_agent.specs.declared.operation.Phase.TheVariants as phases
 use Rattle.mgmt_agent.specs.declared.status.Status.{Status}
 use Rattle.mgmt_agent.specs.declared.status.Status.TheVariants as statuses
-use Rattle.mgmt_agent.specs.Statuses.{function_of}
+use Rattle.mgmt_agent.specs.Statuses.{function_of, number_of}
 use Rattle.mgmt_agent.specs.Decisions.{asked_by, decide, decide_function, entries_of, key_at, lacks_key, reads_eui, response_bytes, unit_exists}
 use Rattle.mgmt_agent.specs.Machine.{Machine, beside, cut_response, decide_step, decided_as, eui_step, fail_step, high_eui_at, high_got, low_eui_at, low_got, orb_got, reply_in, reply_step, reply_to, respond_step, response_written, start_step, start_with, status_block, status_step, status_written, telling}
 use Rattle.orb_layout.specs.declared.ask.Ask.{Ask}
+use Rattle.orb_layout.specs.declared.ask.Ask.TheVariants as asks
 use Rattle.orb_layout.specs.declared.ask.FailCause.{FailCause}
 use Rattle.orb_layout.specs.declared.management.ManagementOrb.{ManagementOrb}
 use Rattle.orb_layout.specs.declared.query.QueryEntry.{QueryEntry}
+use Rattle.orb_layout.specs.LoginResponses.{login_quads}
+use Rattle.orb_layout.specs.declared.status.StatusKind.TheVariants as kinds
 use Rattle.orb_layout.specs.ManagementOrbs.{management_orb}
 use Rattle.orb_layout.specs.Pointers.{quad_bytes}
 use Rattle.orb_layout.specs.QueryResponses.{entries_bytes, entry_quads, query_head}
@@ -148,9 +151,11 @@ module _ (known : ℕ → Type 0) where
   response_small : (response : Response) (places : List (Option Login)) → AreBytes (response_bytes response places)
   unfolding response_bytes
   response_small responses.Nothing places = no_bytes
-  response_small (responses.Login response) places = quads_bytes _
+  response_small (responses.Login response) places = quads_bytes (login_quads response)
   response_small (responses.Query unit) places =
-      bytes_append (quad_bytes _) (entries_bytes (entries_of unit places)) (quads_bytes _) (entries_small (entries_of unit places))
+      let entries = entries_of unit places in
+      let head = query_head (length entries) ∷ [] in
+      bytes_append (quad_bytes head) (entries_bytes entries) (quads_bytes head) (entries_small entries)
 
   -- ---- a step of the management agent
   pub record FitsManaged (s : ManagerStep × Machine) : Type 0 where
@@ -169,7 +174,7 @@ module _ (known : ℕ → Type 0) where
   fails m cause f = record { ask = tt; manager = record { operation = tt; outgoing = f.outgoing } }
 
   writes_status : (m : Machine) (operation : Operation) (fifo : ℕ) (status : Status) → fifo < 2 ^ 48 → known operation.source → FitsManaged (status_step m operation fifo status)
-  writes_status m operation fifo status f k = record { ask = f; manager = record { operation = (k, tt); outgoing = status_small _ } }
+  writes_status m operation fifo status f k = record { ask = f; manager = record { operation = (k, tt); outgoing = status_small (record { src = 0; kind = kinds.Management (number_of status); orb = operation.orb }) } }
 
   pick_managed : (b : Bool) (x y : ManagerStep × Machine) → FitsManaged x → FitsManaged y → FitsManaged (cond b x y)
   pick_managed true x y f g = f
@@ -249,7 +254,7 @@ module _ (known : ℕ → Type 0) where
   starts : (operation : Option Operation) (m : Machine) (source orb : ℕ) → known source → orb < 2 ^ 48 → FitsManager known m → FitsStart (start_with operation m source orb)
   starts None m source orb k h f = record { ask = λ ask e. subst (λ (x : Ask). FitsAsk x) (same ask e) h; manager = record { operation = (k, tt); outgoing = f.outgoing } }
     where
-      same : (ask : Ask) → (start_with None m source orb).0 ≡ Ok ask → _ ≡ ask
+      same : (ask : Ask) → (start_with None m source orb).0 ≡ Ok ask → asks.Read orb 32 ≡ ask
       same ask e = cc
   starts (Some operation) m source orb k h f = record { ask = λ ask e. absurd (not_ok ask e); manager = f }
     where

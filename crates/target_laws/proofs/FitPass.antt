@@ -1,6 +1,6 @@
 -- What is kept by telling, by giving up a transaction with a known node, and by asking a known node for what fits a packet, is kept by all
 -- that a target does behind its answer; and what fits stays so.
-use Rattle.std.proofs.Common.{arith, ◌≡◌, refl, sym, ap, ◌∙◌, subst, ℕ, zero, suc, ◌+◌, ◌^◌, ◌<◌, ◌&&◌, nat_lt, is_some, Bool, true, false, cond, List, [], ◌∷◌, ◌++◌, length, Option, Some, None, Result, Ok, Err}
+use Rattle.std.proofs.Common.{arith, ◌≡◌, refl, sym, ap, ◌∙◌, subst, ℕ, zero, suc, ◌+◌, ◌^◌, ◌<◌, ◌≤◌, ◌&&◌, nat_lt, is_some, Bool, true, false, cond, List, [], ◌∷◌, ◌++◌, length, Option, Some, None, Result, Ok, Err}
 use Rattle.async_packet.specs.Labels.{LabelParts}
 use Rattle.bus_transactions.specs.Fitting.{AreBytes, FitsRequest}
 use Rattle.bus_transactions.specs.Steps.{IsPlainSide, with_asked}

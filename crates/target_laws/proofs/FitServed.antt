@@ -49,7 +49,7 @@ use Rattle.target_laws.proofs.FitManager.{FitsStart, start_fits}
 use Rattle.target_laws.proofs.FitNodes.{fits_desk, fits_layer}
 use Rattle.target_laws.proofs.FitPass.{At, In, IsServed, Keeps, Leaves, Said, anywhere, cuts_at, follows}
 use Rattle.target_laws.proofs.FitReplies.{asks_manager}
-use Rattle.target_laws.proofs.Settled.{IsAt, demand_place}
+use Rattle.target_laws.proofs.Reached.{IsAt, demand_place}
 
 -- an answer to this request with such an rcode takes P to Q
 pub record Answers (P Q : Said) (request : Packet) (bytes : List ℕ) (stated : ℕ → Bool) : Type 0 where

@@ -1,3 +1,4 @@
+pub mod Reached
 pub mod Pass
 pub mod Served
 pub mod Made

@@ -83,9 +83,9 @@ IsOfKnown known None = Unit {0}
 IsOfKnown known (Some login) = known login.node
 
 -- the transactions of an agent are with nodes that are known, and so is the node of its login
-pub record FitsSeat (known : ℕ → Type 0) (main ahead : Option Sent) (login : Option Login) : Type 0 where
-  pub main : (sent : Sent) → main ≡ Some sent → known sent.peer × IsOfKnown known login
-  pub ahead : (sent : Sent) → ahead ≡ Some sent → known sent.peer × IsOfKnown known login
+pub record FitsSeat (known : ℕ → Type 0) (first second : Option Sent) (login : Option Login) : Type 0 where
+  pub main : (sent : Sent) → first ≡ Some sent → known sent.peer × IsOfKnown known login
+  pub ahead : (sent : Sent) → second ≡ Some sent → known sent.peer × IsOfKnown known login
 
 -- ---- a target
 pub record Fits (known : ℕ → Type 0) (node : NodeState) : Type 0 where
