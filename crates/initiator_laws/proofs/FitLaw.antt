@@ -23,7 +23,7 @@ use Rattle.sbp_initiator.specs.Lists.{ListState, drop_lists, free_lists}
 use Rattle.sbp_initiator.specs.Receiving.{called, expire_step, expired_as, receive_step, received, request_step, respond_step, responded_as}
 use Rattle.sbp_initiator.specs.Seeing.{interrupted, reset_step, resets_told, see_step, seen_as}
 use Rattle.sbp_initiator.specs.States.{ending_of}
-use Rattle.sbp_initiator.proofs.Refused.{refusal_law}
+use Rattle.initiator_laws.proofs.Refused.{refusal_law}
 use Rattle.sbp_journal.specs.declared.cause.Cause.{Cause}
 use Rattle.sbp_journal.specs.declared.cause.Judged.{Judged}
 use Rattle.sbp_journal.specs.declared.cause.Judged.TheVariants as judgements

@@ -81,6 +81,8 @@ pub fn slots_and_rom_are_read()
 /// list that was present, and whose ORB_POINTER had been answered, as it was asked for.
 pub fn lists_are_known()
     ensures { MarkLaw }
+{}
+
 /// From a new initiator on, each call of it is what the wire takes a call of a node for: a packet is judged,
 /// a request is answered as its judgement states, and then the target is asked, by packets with their
 /// fields; all of bytes, and nothing is told of the wire.
