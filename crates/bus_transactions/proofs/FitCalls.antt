@@ -25,7 +25,7 @@ pub small_append : (one two : List Outgoing) → AreSmall one → AreSmall two �
 small_append [] two a b = b
 small_append (packet ∷ one) two a b = (a.0, small_append one two a.1 b)
 
-plain_append : (one two : List Side) → ArePlainSides one → ArePlainSides two → ArePlainSides (one ++ two)
+pub plain_append : (one two : List Side) → ArePlainSides one → ArePlainSides two → ArePlainSides (one ++ two)
 plain_append [] two a b = b
 plain_append (side ∷ one) two a b = (a.0, plain_append one two a.1 b)
 

@@ -20,7 +20,7 @@ use Rattle.sbp_initiator.specs.declared.purpose.Wanted.TheVariants as wants
 use Rattle.sbp_initiator.specs.declared.state.InitiatorState.{InitiatorState}
 use Rattle.sbp_initiator.specs.Acting.{act_step, append_step, asked_as, asked_for, begun, counted, demand_of, demanded_as, done_as, done_step, dummy_for, facts_with, first_in, judged_as, link_as, link_step, login_id, login_orb, low_as, low_step, manage_demand, managed_by, orb_by, pinned_for, put_as, put_step, register_of, register_start, ring_demand, ring_for, sent_with, with_first, with_pin, with_ring, with_running}
 use Rattle.sbp_initiator.specs.Effects.{Turn, told, with_request}
-use Rattle.sbp_initiator.specs.Lists.{ListState, high_lists, low_lists, pin_lists, put_lists}
+use Rattle.sbp_initiator.specs.Lists.{ListState, dummy_lists, high_lists, low_lists, pin_lists, put_lists}
 use Rattle.sbp_initiator.specs.Refusals.{refusal}
 use Rattle.sbp_initiator.specs.States.{is_unwritten, place_of, wanted_body}
 use Rattle.sbp_journal.specs.declared.event.Action.{Action}
@@ -191,7 +191,7 @@ module _ (known : ℕ → Type 0) (acts most : ℕ) (P : Said) (k : Tells P) whe
   dummies_for : (t : Option TicketParts) (o : OutboxState) (s : InitiatorState) → Before (o, s) → Before (dummy_for t o s)
   dummies_for None o s h = h
   dummies_for (Some t) o s h =
-      let note = notes.Dummied s.number t.list t.number in lists_are (told o note) s _ (dummy_fits s.lists t h.1.memory_fits) (tells o s note (plain_dummied s.number t.list t.number) h)
+      let note = notes.Dummied s.number t.list t.number in lists_are (told o note) s (dummy_lists s.lists t) (dummy_fits s.lists t h.1.memory_fits) (tells o s note (plain_dummied s.number t.list t.number) h)
 
   appends : (cmd : Cmd) (o : OutboxState) (s : InitiatorState) → BytesCommand cmd → Before (o, s) → After (append_step cmd o s)
   appends cmd o s b h =
@@ -249,7 +249,7 @@ module _ (known : ℕ → Type 0) (ids : AreIds known) (action : Action) (s : In
     pub fits : FitsState known (s.counts.acts + 1) (s.counts.acts + 1 + 1) t.1
     pub layer : IsLayer t.1.layer
 
-  IfActed : Option ℕ × Turn → Type 0
+  abbrev IfActed : Option ℕ × Turn → Type 0
   IfActed (None, t) = Acted t
   IfActed (Some number, t) = Unit {0}
 

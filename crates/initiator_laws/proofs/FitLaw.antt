@@ -1,5 +1,6 @@
 -- Each call of an initiator is what the wire takes a call of a node for.
 use Rattle.std.proofs.Common.{arith, ◌≡◌, ◌≢◌, refl, sym, ap, ◌∙◌, subst, ℕ, zero, suc, ◌+◌, ◌^◌, ◌<◌, ◌≤◌, ◌==◌, nat_lt, Bool, true, false, cond, List, [], ◌∷◌, ◌++◌, Option, Some, None, Result, Ok, Err}
+use Rattle.std.proofs.lemmas.Bool.Decides.{nat_tests}
 use Rattle.async_packet.specs.Labels.{LabelParts}
 use Rattle.async_packet.specs.Packet.{Packet, header_in}
 use Rattle.bus_transactions.specs.Fitting.{AreBytes, AreSmall, FitsAnswer, IsLayer}
@@ -31,7 +32,7 @@ use Rattle.sbp_journal.specs.declared.event.Action.{Action}
 use Rattle.sbp_journal.specs.declared.outbox.Outgoing.{Outgoing}
 use Rattle.sbp_journal.specs.declared.side.Side.{Side}
 use Rattle.sbp_journal.specs.Outgoings.{OutboxState, empty_outbox}
-use Rattle.initiator_laws.specs.Fitting.{Acts, AreIds, BytesAction, Expires, Fits, FitsState, Holds, InitiatorFits, Receives}
+use Rattle.initiator_laws.specs.Fitting.{Acts, AreIds, BytesAction, Expires, Fits, FitsState, FittingLaw, Holds, InitiatorFits, Receives}
 use Rattle.initiator_laws.proofs.FitActs.{acts_fit}
 use Rattle.initiator_laws.proofs.FitMemory.{free_fits, new_memory_fits}
 use Rattle.initiator_laws.proofs.FitRequests.{Answers, IsStated, cause_of, requested}
@@ -83,8 +84,7 @@ module _ (known : ℕ → Type 0) (ids : AreIds known) (generation : ℕ) (bytes
   is_judged (judgements.Ignored cause) = refl
 
   same_number : (n : ℕ) → (n == n) ≡ true
-  same_number zero = refl
-  same_number (suc n) = same_number n
+  same_number n = grind (arith, nat_tests)
 
   answered_by : (p : Packet) (rcode : ℕ) (r : List ℕ × Layer Purpose) → Answering known ids before (as_before rcode) p bytes r.1 (answer_to p r.0 ∷ []) [] → (let t = responded_as r (header_in p).source empty_outbox (record s { layer = before }) in Answering known ids before (as_before rcode) p bytes t.1.layer t.0.packets t.0.sides × FitsState known s.counts.acts (s.counts.acts + 1) t.1)
   answered_by p rcode (response, layer) m = (m, h.fits)
@@ -157,7 +157,8 @@ module _ (known : ℕ → Type 0) (ids : AreIds known) (label : LabelParts) (s :
   unfolding expire_step
   late =
       let d = late_by (expiring_step s.layer s.target label) (goes s.layer (wire.lets_expire s.target label) (expires_same s.layer s.target label) h.layer) in
-      record { expires = d.expires; small = d.small; plain = d.plain; acts = d.fits.counted; holds = record { fits = renews known s.counts.acts _ d.fits; layer = d.layer } }
+      let t = (expired_as (expiring_step s.layer s.target label) empty_outbox s).1 in
+      record { expires = d.expires; small = d.small; plain = d.plain; acts = d.fits.counted; holds = record { fits = renews known s.counts.acts t.1 d.fits; layer = d.layer } }
 
 -- ---- an action
 acted : (known : ℕ → Type 0) (action : Action) (s : InitiatorState) → AreIds known → Holds known s → BytesAction action → s.counts.acts + 1 < 2 ^ 32 → (act_step action empty_outbox s).0 ≡ None → Acts known action s
@@ -169,7 +170,7 @@ acted known action s ids h b few e =
       small = d.small;
       plain = d.plain;
       acts = d.fits.counted;
-      holds = record { fits = renews known (s.counts.acts + 1) _ d.fits; layer = d.layer };
+      holds = record { fits = renews known (s.counts.acts + 1) (act_step action empty_outbox s).1.1 d.fits; layer = d.layer };
     }
 
 -- ---- a generation is seen
@@ -216,7 +217,7 @@ first_offset false offset e = absurd (off e)
     off : None ≡ Some offset → ⊥
     off f = cc
 
-new_fit : (known : ℕ → Type 0) (number : ℕ) (ready : Bool) → number < 2 ^ 8 → known 0xffc0 → Holds known (new_state number ready)
+new_fit : (known : ℕ → Type 0) (number : ℕ) (ready : Bool) → number ≤ 4 → known 0xffc0 → Holds known (new_state number ready)
 unfolding new_state
 new_fit known number ready n k = record {
   fits = record { target_known = k; management_fits = first_offset ready; counted = refl; running_fits = omega arith; memory_fits = new_memory_fits (own_rom number) };
@@ -248,16 +249,19 @@ widened known other s more h =
       layer = h.layer;
     }
 
-pub initiator_fits : InitiatorFits
-initiator_fits = record {
-  begins = new_fit;
-  deliveries = λ known generation bytes s ids h small. delivered known ids generation bytes s h small;
-  expiries = λ known label s ids h. late known ids label s h;
-  actions_fit = λ known action s ids h is b few e. acted known action s ids h b few e;
-  sights = λ known other generation id target s small there later h. sight known other generation id target s small there later h;
-  old_sights = old_sight;
-  refusals = refused;
+pub initiator_fits : (known other : ℕ → Type 0) → InitiatorFits known other
+initiator_fits known other = record {
+  begins = new_fit known;
+  deliveries = λ generation bytes s ids h small. delivered known ids generation bytes s h small;
+  expiries = λ label s ids h. late known ids label s h;
+  actions_fit = acted known;
+  sights = λ generation id target s small there later h. sight known other generation id target s small there later h;
+  old_sights = old_sight known;
+  refusals = refused known;
   seen_acts = seen_count;
-  target_there = λ known s h. h.fits.target_known;
-  widens = widened;
+  target_there = λ s h. h.fits.target_known;
+  widens = widened known other;
 }
+
+pub fitting_law : FittingLaw
+fitting_law known other = initiator_fits (λ id. known id ≡ true) (λ id. other id ≡ true)

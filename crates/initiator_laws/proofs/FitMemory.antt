@@ -1,5 +1,5 @@
 -- What the steps of the slots and the writes of the target leave in the memory are bytes.
-use Rattle.std.proofs.Common.{arith, ◌≡◌, refl, sym, ap, ◌∙◌, subst, ℕ, zero, suc, ◌+◌, ◌*◌, ◌^◌, ◌<◌, ◌≤◌, ◌==◌, ◌&&◌, ◌||◌, nat_le, not, is_some, Bool, true, false, cond, List, [], ◌∷◌, ◌++◌, length, take, drop, replicate, set, get_or, slice_set, Option, Some, None, Result, Ok, Err}
+use Rattle.std.proofs.Common.{arith, ◌≡◌, refl, sym, ap, ◌∙◌, subst, ℕ, zero, suc, ◌+◌, ◌-◌, ◌*◌, ◌^◌, ◌<◌, ◌≤◌, ◌==◌, ◌&&◌, ◌||◌, nat_le, not, is_some, Bool, true, false, cond, List, [], ◌∷◌, ◌++◌, length, take, drop, replicate, set, get_or, slice_set, Option, Some, None, Result, Ok, Err}
 use Rattle.std.proofs.lemmas.Bool.Decides.{nat_tests}
 use Rattle.std.proofs.lemmas.List.{length-drop, length-take}
 use Rattle.std.specs.List.{flat_map}
@@ -22,8 +22,8 @@ use Rattle.bus_transactions.proofs.Fits.{bytes_append, bytes_drop, bytes_quad, b
 use Rattle.bus_transactions.proofs.FitSteps.{replicate_or}
 use Rattle.orb_layout.specs.declared.management.ManagementOrb.{ManagementOrb}
 use Rattle.orb_layout.specs.declared.status.StatusBlock.{StatusBlock}
-use Rattle.orb_layout.specs.CommandOrbs.{command_quads}
-use Rattle.orb_layout.specs.ManagementOrbs.{management_bytes}
+use Rattle.orb_layout.specs.CommandOrbs.{command_bytes, command_quads}
+use Rattle.orb_layout.specs.ManagementOrbs.{management_bytes, management_quads}
 use Rattle.orb_layout.specs.Pointers.{quad_bytes}
 use Rattle.orb_list.specs.declared.fault.ListFault.{ListFault}
 use Rattle.orb_list.specs.declared.list.Linking.{Linking}
@@ -126,7 +126,7 @@ written_fits m slot asked f c p =
     let armed = with_armed m slot true in
     let orb_small = bytes_append (quad_bytes (command_quads (orb_of asked slot))) asked.cdb (quads_bytes (command_quads (orb_of asked slot))) c in
     data_fits _ slot asked.segments asked.payload
-    (fits_bytes _ (windows.Table slot) 0 (table_bytes slot 0 asked.segments) (fits_bytes armed (windows.Orb slot) 0 _ (armed_fits m slot true f) orb_small) (table_small slot 0 asked.segments)) p
+    (fits_bytes _ (windows.Table slot) 0 (table_bytes slot 0 asked.segments) (fits_bytes armed (windows.Orb slot) 0 (command_bytes (orb_of asked slot)) (armed_fits m slot true f) orb_small) (table_small slot 0 asked.segments)) p
 
 prepared_at : (r : Result ℕ ListFault) (s : SlotTable) (m : Memory) (asked : Asked) → FitsMemory m → AreBytes asked.cdb → AreBytes asked.payload → FitsMemory (prepare_at r s m asked).1.1
 prepared_at (Err fault) s m asked f c p = f
@@ -224,7 +224,7 @@ write_fits lists offset bytes a f = wrote_at lists.memory bytes (judged lists.me
 
 pub manage_fits : (lists : ListState) (place : ℕ) (orb : ManagementOrb) → FitsMemory lists.memory → FitsMemory (manage_lists lists place orb).memory
 unfolding manage_lists
-manage_fits lists place orb f = fits_bytes lists.memory (windows.Management place) 0 (management_bytes orb) f (quads_bytes _)
+manage_fits lists place orb f = fits_bytes lists.memory (windows.Management place) 0 (management_bytes orb) f (quads_bytes (management_quads orb))
 
 -- ---- what is read
 window_bytes : (m : Memory) (window : Window) → FitsMemory m → AreBytes (bytes_in m window)

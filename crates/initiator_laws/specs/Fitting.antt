@@ -10,7 +10,7 @@ use Rattle.bus_transactions.specs.Fitting.{AreBytes, AreSmall, IsLayer}
 use Rattle.bus_transactions.specs.Steps.{ArePlainSides, IsAsking, IsDelivery, IsExpiry}
 use Rattle.label_table.specs.Layer.{expiring_step, judging_step}
 use Rattle.sbp_initiator.specs.declared.state.InitiatorState.{InitiatorState}
-use Rattle.sbp_initiator.specs.Acting.{IsAction, act_step}
+use Rattle.sbp_initiator.specs.Acting.{act_step}
 use Rattle.sbp_initiator.specs.Initiators.{new_state}
 use Rattle.sbp_initiator.specs.Receiving.{expire_step, receive_step}
 use Rattle.sbp_initiator.specs.Seeing.{see_step}
@@ -89,14 +89,18 @@ pub record Acts (known : ℕ → Type 0) (action : Action) (s : InitiatorState) 
 
 -- A new initiator knows the target. An action finds its running number a quadlet, where it has done fewer than 2^32 - 1 of them. A later
 -- generation that it sees may have any other target.
-pub record InitiatorFits : Type 0 where
-  pub begins : (known : ℕ → Type 0) (number : ℕ) (ready : Bool) → number < 2 ^ 8 → known 0xffc0 → Holds known (new_state number ready)
-  pub deliveries : (known : ℕ → Type 0) (generation : ℕ) (bytes : List ℕ) (s : InitiatorState) → AreIds known → Holds known s → AreBytes bytes → Receives known generation bytes s
-  pub expiries : (known : ℕ → Type 0) (label : LabelParts) (s : InitiatorState) → AreIds known → Holds known s → Expires known label s
-  pub actions_fit : (known : ℕ → Type 0) (action : Action) (s : InitiatorState) → AreIds known → Holds known s → IsAction action → BytesAction action → s.counts.acts + 1 < 2 ^ 32 → (act_step action empty_outbox s).0 ≡ None → Acts known action s
-  pub sights : (known other : ℕ → Type 0) (generation id target : ℕ) (s : InitiatorState) → id < 2 ^ 16 → other target → nat_lt s.layer.generation generation ≡ true → Holds known s → Holds other (see_step generation id target empty_outbox s).1
-  pub old_sights : (known : ℕ → Type 0) (generation id target : ℕ) (s : InitiatorState) → nat_lt s.layer.generation generation ≡ false → Holds known s → Holds known (see_step generation id target empty_outbox s).1
-  pub refusals : (known : ℕ → Type 0) (action : Action) (s : InitiatorState) (number : ℕ) → Holds known s → (act_step action empty_outbox s).0 ≡ Some number → Holds known (act_step action empty_outbox s).1.1
+pub record InitiatorFits (known other : ℕ → Type 0) : Type 0 where
+  pub begins : (number : ℕ) (ready : Bool) → number ≤ 4 → known 0xffc0 → Holds known (new_state number ready)
+  pub deliveries : (generation : ℕ) (bytes : List ℕ) (s : InitiatorState) → AreIds known → Holds known s → AreBytes bytes → Receives known generation bytes s
+  pub expiries : (label : LabelParts) (s : InitiatorState) → AreIds known → Holds known s → Expires known label s
+  pub actions_fit : (action : Action) (s : InitiatorState) → AreIds known → Holds known s → BytesAction action → s.counts.acts + 1 < 2 ^ 32 → (act_step action empty_outbox s).0 ≡ None → Acts known action s
+  pub sights : (generation id target : ℕ) (s : InitiatorState) → id < 2 ^ 16 → other target → nat_lt s.layer.generation generation ≡ true → Holds known s → Holds other (see_step generation id target empty_outbox s).1
+  pub old_sights : (generation id target : ℕ) (s : InitiatorState) → nat_lt s.layer.generation generation ≡ false → Holds known s → Holds known (see_step generation id target empty_outbox s).1
+  pub refusals : (action : Action) (s : InitiatorState) (number : ℕ) → Holds known s → (act_step action empty_outbox s).0 ≡ Some number → Holds known (act_step action empty_outbox s).1.1
   pub seen_acts : (generation id target : ℕ) (s : InitiatorState) → (see_step generation id target empty_outbox s).1.counts.acts ≡ s.counts.acts
-  pub target_there : (known : ℕ → Type 0) (s : InitiatorState) → Holds known s → known s.target
-  pub widens : (known other : ℕ → Type 0) (s : InitiatorState) → ((id : ℕ) → known id → other id) → Holds known s → Holds other s
+  pub target_there : (s : InitiatorState) → Holds known s → known s.target
+  pub widens : (s : InitiatorState) → ((id : ℕ) → known id → other id) → Holds known s → Holds other s
+
+-- Whichever IDs are known, now and later.
+abbrev pub FittingLaw : Type 0
+FittingLaw = (known other : ℕ → Bool) → InitiatorFits (λ id. known id ≡ true) (λ id. other id ≡ true)

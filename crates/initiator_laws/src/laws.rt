@@ -1,4 +1,4 @@
-ghost use Rattle.initiator_laws.specs.Fitting.{InitiatorFits};
+ghost use Rattle.initiator_laws.specs.Fitting.{FittingLaw};
 ghost use Rattle.initiator_laws.specs.Judging.{JudgingLaw};
 ghost use Rattle.initiator_laws.specs.Laws.{CountLaw, RefusalLaw, SessionLaw, WireLaw};
 ghost use Rattle.initiator_laws.specs.Marks.{MarkLaw};
@@ -86,7 +86,7 @@ pub fn lists_are_known()
 /// From a new initiator on, each call of it is what the wire takes a call of a node for: a packet is judged,
 /// a request is answered as its judgement states, and then the target is asked, by packets with their
 /// fields; all of bytes, and nothing is told of the wire.
-#[tactic(auto, using(crate::proofs::FitLaw::initiator_fits))]
+#[tactic(auto, using(crate::proofs::FitLaw::fitting_law))]
 pub fn calls_fit_the_wire()
-    ensures { InitiatorFits }
+    ensures { FittingLaw }
 {}

@@ -45,7 +45,7 @@ use Rattle.sbp_target.specs.Serving.{answered, is_barred, request_step, serve}
 use Rattle.sbp_target.specs.Units.{cut_all, cut_at, cut_from}
 use Rattle.sbp_target.specs.Receiving.{after_reset, answer_in, cleared_node, expired, expired_in, judged_scene, new_node, ready_from, ready_login, received, received_as, reset_by, seen, target_eui, ticked, ticked_by, with_layer}
 use Rattle.target_laws.specs.Calls.{lets_expire, sees, sets_key, ticks, alone}
-use Rattle.target_laws.specs.Fitting.{AreIds, BytesTold, Expires, Fits, FitsAgent, FitsLogin, FitsOperation, FitsSeat, Holds, IsOfKnown, MayReceive, Receives, TargetFits}
+use Rattle.target_laws.specs.Fitting.{AreIds, BytesTold, Expires, Fits, FitsAgent, FitsLogin, FitsOperation, FitsSeat, Holds, IsOfKnown, MayReceive, FittingLaw, Receives, TargetFits}
 use Rattle.target_laws.proofs.FitAgents.{new_fits, quads_bytes}
 use Rattle.target_laws.proofs.FitDemands.{answer_small}
 use Rattle.target_laws.proofs.FitMade.{answering_keeps, answers_all, asking_keeps, calm_leaves}
@@ -106,8 +106,7 @@ module _ (known : ℕ → Type 0) (ids : AreIds known) (told : Option Told) (dis
       }
 
   same_number : (n : ℕ) → (n == n) ≡ true
-  same_number zero = refl
-  same_number (suc n) = same_number n
+  same_number n = grind (arith, nat_tests)
 
   done_as : (f : Finding Purpose) → IsFoundAs node.layer generation bytes f → Done f (received_as told bytes f start)
   unfolding request_step
@@ -331,7 +330,7 @@ new_fit : (known : ℕ → Type 0) (units ready : ℕ) → ((i : ℕ) → i < re
 new_fit known units ready k = record {
   fits = record {
     manager = record { operation = tt; outgoing = no_bytes };
-    logins = readies known ready ready 0 new_table k refl (λ p. subst (λ (x : Option Login). FitsLogin known x) (sym (replicate_or 8 p None)) tt);
+    logins = readies known ready ready 0 new_table k (omega arith) (λ p. subst (λ (x : Option Login). FitsLogin known x) (sym (replicate_or 8 p None)) tt);
     size = refl;
     agents = λ p. subst (λ (d : Desk). FitsAgent d.agent) (sym (replicate_or 8 p new_desk)) new_fits;
     seats = λ p. subst (λ (d : Desk). FitsSeat known d.main d.ahead (login_at (new_node units ready) p)) (sym (replicate_or 8 p new_desk)) (seat_reset known (login_at (new_node units ready) p));
@@ -372,14 +371,17 @@ module _ (known other : ℕ → Type 0) (more : (id : ℕ) → known id → othe
         layer = h.layer;
       }
 
-pub target_fits : TargetFits
-target_fits = record {
-  begins = new_fit;
-  deliveries = λ known told disks generation bytes node ids h may. delivered known ids told disks generation bytes node h may;
-  expiries = λ known peer label node ids h. late known ids peer label node h;
-  sights = λ known other generation id node small later h. sight known other generation id node small later h;
-  old_sights = old_sight;
-  seconds = second;
-  keys = keyed;
-  widens = λ known other node more h. widened known other more node h;
+pub target_fits : (known other : ℕ → Type 0) → TargetFits known other
+target_fits known other = record {
+  begins = new_fit known;
+  deliveries = λ told disks generation bytes node ids h may. delivered known ids told disks generation bytes node h may;
+  expiries = λ peer label node ids h. late known ids peer label node h;
+  sights = λ generation id node small later h. sight known other generation id node small later h;
+  old_sights = old_sight known;
+  seconds = second known;
+  keys = keyed known;
+  widens = λ node more h. widened known other more node h;
 }
+
+pub fitting_law : FittingLaw
+fitting_law known other = target_fits (λ id. known id ≡ true) (λ id. other id ≡ true)

@@ -55,12 +55,6 @@ use Rattle.target_laws.proofs.Reached.{IsAt, demand_place}
 pub record Answers (P Q : Said) (request : Packet) (bytes : List ℕ) (stated : ℕ → Bool) : Type 0 where
   pub answers : (layer : Layer Purpose) (packets : List Outgoing) (told : List Side) (rcode : ℕ) (given : List ℕ) → stated rcode ≡ true → FitsAnswer request rcode given → P layer packets told → Q (answering_step layer request bytes rcode given).1 (packets ++ answer_to request (answering_step layer request bytes rcode given).0 ∷ []) told
 
-not_zero : (n : ℕ) → 0 < n → n ≢ 0
-not_zero n s e = let t : n ≡ 0 = e in absurd (off t)
-  where
-    off : n ≡ 0 → ⊥
-    off t = omega arith
-
 -- nothing is given
 pub empty_fits : (p : Packet) (rcode : ℕ) → Gives p rcode [] → rcode < 2 ^ 4 → FitsAnswer p rcode []
 empty_fits p rcode g s = record { small = s; bytes = no_bytes; gives = g }

@@ -130,12 +130,16 @@ pub record Expires (known : ℕ → Type 0) (peer : ℕ) (label : LabelParts) (n
   pub holds : Holds known (alone (lets_expire peer label) node).node
 
 -- A new target knows its initiators. A later generation that it sees may have any other nodes, for then it waits for none.
-pub record TargetFits : Type 0 where
-  pub begins : (known : ℕ → Type 0) (units ready : ℕ) → ((i : ℕ) → i < ready → known (0xffc1 + i)) → Holds known (new_node units ready)
-  pub deliveries : (known : ℕ → Type 0) (told : Option Told) (disks : List Disk) (generation : ℕ) (bytes : List ℕ) (node : NodeState) → AreIds known → Holds known node → MayReceive known told generation bytes node → Receives known told disks generation bytes node
-  pub expiries : (known : ℕ → Type 0) (peer : ℕ) (label : LabelParts) (node : NodeState) → AreIds known → Holds known node → Expires known peer label node
-  pub sights : (known other : ℕ → Type 0) (generation id : ℕ) (node : NodeState) → id < 2 ^ 16 → nat_lt node.layer.generation generation ≡ true → Holds known node → Holds other (alone (sees generation id) node).node
-  pub old_sights : (known : ℕ → Type 0) (generation id : ℕ) (node : NodeState) → nat_lt node.layer.generation generation ≡ false → Holds known node → Holds known (alone (sees generation id) node).node
-  pub seconds : (known : ℕ → Type 0) (node : NodeState) → Holds known node → Holds known (alone ticks node).node
-  pub keys : (known : ℕ → Type 0) (unit : ℕ) (key : List ℕ) (node : NodeState) → Holds known node → Holds known (alone (sets_key unit key) node).node
-  pub widens : (known other : ℕ → Type 0) (node : NodeState) → ((id : ℕ) → known id → other id) → Holds known node → Holds other node
+pub record TargetFits (known other : ℕ → Type 0) : Type 0 where
+  pub begins : (units ready : ℕ) → ((i : ℕ) → i < ready → known (0xffc1 + i)) → Holds known (new_node units ready)
+  pub deliveries : (told : Option Told) (disks : List Disk) (generation : ℕ) (bytes : List ℕ) (node : NodeState) → AreIds known → Holds known node → MayReceive known told generation bytes node → Receives known told disks generation bytes node
+  pub expiries : (peer : ℕ) (label : LabelParts) (node : NodeState) → AreIds known → Holds known node → Expires known peer label node
+  pub sights : (generation id : ℕ) (node : NodeState) → id < 2 ^ 16 → nat_lt node.layer.generation generation ≡ true → Holds known node → Holds other (alone (sees generation id) node).node
+  pub old_sights : (generation id : ℕ) (node : NodeState) → nat_lt node.layer.generation generation ≡ false → Holds known node → Holds known (alone (sees generation id) node).node
+  pub seconds : (node : NodeState) → Holds known node → Holds known (alone ticks node).node
+  pub keys : (unit : ℕ) (key : List ℕ) (node : NodeState) → Holds known node → Holds known (alone (sets_key unit key) node).node
+  pub widens : (node : NodeState) → ((id : ℕ) → known id → other id) → Holds known node → Holds other node
+
+-- Whichever IDs are known, now and later.
+abbrev pub FittingLaw : Type 0
+FittingLaw = (known other : ℕ → Bool) → TargetFits (λ id. known id ≡ true) (λ id. other id ≡ true)
