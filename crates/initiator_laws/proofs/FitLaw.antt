@@ -134,7 +134,7 @@ module _ (known : ℕ → Type 0) (ids : AreIds known) (generation : ℕ) (bytes
         small = d.small_all;
         plain = d.plain;
         acts = d.fits.counted;
-        holds = record { fits = renews known s.counts.acts _ d.fits; layer = d.layer };
+        holds = record { fits = renews known s.counts.acts (received (judging_step s.layer generation bytes) bytes empty_outbox s).1.1 d.fits; layer = d.layer };
       }
 
 -- ---- a time-out
