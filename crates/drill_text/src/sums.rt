@@ -1,0 +1,102 @@
+ghost use Rattle.std.specs.Prelude.{◌≡◌, ◌++◌, ◌<◌, ◌*◌, ◌+◌, ◌∷◌, [], length, slice_index, ℕ, List};
+ghost use Rattle.config_rom.specs.Sum.{sum_of, quad_bits, low_bits, register_after};
+ghost use Rattle.drill_text.specs.Sums as spec;
+ghost use Rattle.drill_text.specs.Sums.{quadlet, quads_of};
+
+use config_rom::sum16;
+use sbp_base::NoMemory;
+use std::alloc::Global;
+
+/// The sum over each quadlet of two bytes, by which a sum goes on two bytes at a time.
+#[derive(Drop)]
+pub struct PairSums {
+    sums: Vec<u16>,
+    ghost all: { length sums.items ≡ 65536 },
+    ghost each: { (pair : ℕ) → pair < 65536 → slice_index sums.items pair ≡ sum_of (pair ∷ []) },
+}
+
+/// The sums over two bytes of which the first is zero.
+fn low_sums() -> [u16; 256]
+    ensures { (low : ℕ) → low < 256 → slice_index result low ≡ sum_of (low ∷ []) }
+{
+    let mut sums = [0; 256];
+    for low in 0..256_usize {
+        sums[low] = sum16(&[low as u32]);
+    }
+    sums
+}
+
+impl PairSums {
+    /// Makes the table: the sum over two bytes is that of the first with the second zero, and that of
+    /// the second with the first zero, taken together.
+    pub fn new(alloc: Global) -> Result<PairSums, NoMemory> {
+        let lows = low_sums();
+        let mut sums = Vec::with_capacity(alloc, 65536)?;
+        for high in 0..256_u32 {
+            let top = sum16(&[high * 256]);
+            for low in &lows {
+                sums.push(top ^ *low)?;
+            }
+        }
+        Ok(PairSums { sums })
+    }
+
+    /// The sum behind two more bytes.
+    fn behind_pair(&self, sum: u16, first: u8, second: u8) -> u16
+        ensures { result ≡ register_after sum (low_bits 16 (first * 256 + second)) }
+    {
+        let pair = u16::from(first) * 256 + u16::from(second);
+        self.sums[usize::from(sum ^ pair)]
+    }
+
+    /// The sum behind one more quadlet.
+    fn behind_quad(&self, sum: u16, quad: [u8; 4]) -> u16
+        ensures { result ≡ register_after sum (low_bits 32 (quadlet (slice_index quad 0) (slice_index quad 1) (slice_index quad 2) (slice_index quad 3))) }
+    {
+        let [first, second, third, fourth] = quad;
+        let half = self.behind_pair(sum, first, second);
+        self.behind_pair(half, third, fourth)
+    }
+
+    /// The sum behind the last bytes, to which zero bytes are added up to a whole quadlet.
+    fn behind_rest(&self, sum: u16, rest: &[u8]) -> u16
+        requires { length rest.now < 4 }
+        ensures { result ≡ register_after sum (quad_bits (quads_of rest.now)) }
+    {
+        match rest {
+            [first, second, third] => self.behind_quad(sum, [*first, *second, *third, 0]),
+            [first, second] => self.behind_quad(sum, [*first, *second, 0, 0]),
+            [first] => self.behind_quad(sum, [*first, 0, 0, 0]),
+            _ => sum,
+        }
+    }
+
+    /// The register behind more bytes.
+    pub(crate) fn register_behind(&self, sum: u16, bytes: &[u8]) -> u16
+        ensures { result ≡ register_after sum (quad_bits (quads_of bytes.now)) }
+    {
+        let mut sum = sum;
+        let mut at = 0;
+        while at + 4 <= bytes.len() {
+            let quad = [bytes[at], bytes[at + 1], bytes[at + 2], bytes[at + 3]];
+            sum = self.behind_quad(sum, quad);
+            at += 4;
+        }
+        self.behind_rest(sum, &bytes[at..])
+    }
+
+    /// The sum behind more bytes, which are taken as quadlets, with zero bytes added up to a whole
+    /// one.
+    pub fn behind(&self, sum: u16, bytes: &[u8]) -> u16
+        ensures { (quads : List ℕ) → sum ≡ sum_of quads → result ≡ sum_of (quads ++ quads_of bytes.now) }
+    {
+        self.register_behind(sum, bytes)
+    }
+
+    /// The sum behind one more line, which has its line feed.
+    pub fn behind_line(&self, sum: u16, line: &[u8]) -> u16
+        ensures { result ≡ spec.behind_line sum line.now }
+    {
+        self.behind(self.sums[usize::from(sum)], line)
+    }
+}
