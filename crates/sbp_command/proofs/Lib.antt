@@ -5,3 +5,4 @@ mod Running
 mod Listings
 mod Roms
 mod Words
+mod Media

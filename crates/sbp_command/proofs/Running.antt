@@ -12,6 +12,7 @@ use Rattle.sbp_journal.specs.Text.{text_of, note_text}
 use Rattle.sbp_journal.specs.declared.event.Event.{Event}
 use Rattle.sbp_journal.specs.declared.event.Event.TheVariants as events
 use Rattle.sbp_journal.specs.declared.note.Note.{Note}
+use Rattle.sbp_target.specs.Faults.{NoneFell}
 use Rattle.sbp_world.specs.Lines.{Happens, IsEvent}
 use Rattle.sbp_world.specs.Making.{new_world, notes_begin}
 use Rattle.sbp_world.specs.Runs.{entry, with_entry}
@@ -28,11 +29,12 @@ use Rattle.line_session.specs.declared.status.Status.{Status}
 use Rattle.line_session.specs.declared.status.Status.TheVariants as stream_statuses
 use Rattle.script_text.specs.Line.{reading}
 use Rattle.script_text.specs.Script.{initiators_after, script}
-use Rattle.sbp_command.specs.Machine.{Runs, journal}
+use Rattle.sbp_command.specs.Machine.{MayLeave, Runs, journal}
 use Rattle.sbp_command.specs.Script.{Hears, begun_by, heard, of_lines, says}
 use Rattle.sbp_command.specs.Runner.{CanGoOn, CanRun, GoesOn, IsBeginning, MayHappenIn, RanSo, RunnerState, Stands, not_begun, run_meaning, running, scene_of}
 use Rattle.sbp_command.specs.Headline.{ending, status_of, Torn, RunEnds}
 use Rattle.sbp_command.proofs.Fits.{line_begins, line_fits}
+use Rattle.sbp_command.proofs.Media.{left_by_notes, run_fits, run_leaves}
 use Rattle.sbp_command.proofs.Kept.{happens_keeps, world_count, world_units}
 use Rattle.sbp_command.proofs.ScriptLines.{begun_by-more, served-next, served-more, served-fault, says-within, refused-says}
 
@@ -53,13 +55,14 @@ can_begin f boxes faults some few =
 -- ---- the first event
 
 -- a run begins
-pub begun_so : (initiators units : ℕ) (ready : Bool) (start media : Held) (happened : List (ℕ × Event)) (front out next : List ℕ) (number : ℕ) → units ≡ length media.disks → next ≡ out ++ text_of (notes_begin initiators ready ∷ [])
+pub begun_so : (initiators units : ℕ) (ready : Bool) (start media : Held) (happened : List (ℕ × Event)) (front out next : List ℕ) (number : ℕ) → initiators ≤ 4 → units ≡ length media.disks → next ≡ out ++ text_of (notes_begin initiators ready ∷ [])
     → Stands start happened (front ++ out) None media → Stands start (happened ++ (number, events.Begin initiators ready) ∷ []) (front ++ next) (Some (new_world initiators ready units)) media
-begun_so initiators units ready start media happened front out next number u e h = record {
+begun_so initiators units ready start media happened front out next number few u e h = record {
   line = number;
   run = record { initiators = initiators; ready = ready; units = units; start = media; entries = [] };
   start_is = h.media_are;
   units_are = u ∙ ap (λ m. length m.disks) h.media_are;
+  few = few;
   events_are = ap (λ es. es ++ (number, events.Begin initiators ready) ∷ []) (sym h.events_are);
   text_is = ap (λ t. front ++ t) e ∙ sym (append_assoc front out _) ∙ ap (λ t. t ++ text_of (notes_begin initiators ready ∷ [])) h.text_is;
   stands = begins initiators ready units media;
@@ -89,6 +92,7 @@ went_on start old media happened front out next number event w v k e h = record 
   run = with_entry h.run (entry number event k.told v.fresh);
   start_is = h.start_is;
   units_are = h.units_are;
+  few = h.few;
   events_are = ap (λ es. es ++ (number, event) ∷ []) h.events_are;
   text_is = ap (λ t. front ++ t) e ∙ sym (append_assoc front out _) ∙ ap (λ t. t ++ text_of (reverse v.fresh)) h.text_is ∙ entry_text (journal h.run) (reverse v.fresh);
   stands = goes_on h.run number event (scene_of w old) (scene_of v media) h.stands k;
@@ -112,6 +116,13 @@ went_can i number old media event w v k u m h = record {
 
 pub same_length : {A : Type 0} (f : A → Disk) (xs ys : List A) → length xs ≡ length ys → length (map f xs) ≡ length (map f ys)
 same_length f xs ys e = length-map xs f ∙ e ∙ sym (length-map ys f)
+
+-- no count fell, and there are as many media
+pub may_leave : {A : Type 0} (f : A → Disk) (xs ys : List A) (before now : List ℕ) → length ys ≡ length xs → NoneFell before now → MayLeave (held (map f xs) before) (held (map f ys) now)
+may_leave f xs ys before now e h = record { count = same_length f ys xs e; fell = h }
+
+pub may_leave_same : (media : Held) → MayLeave media media
+may_leave_same media = run_meaning.stays_same media
 
 -- what an event that goes on a run leaves of the number of initiators
 pub same_initiators : (i n : ℕ) (event : Event) → IsEvent event n → initiators_after i (Ok (Some event)) ≡ i
@@ -144,19 +155,19 @@ pub opened_stands : (now : RunnerState) (i : ℕ) (o : Option WorldState) (w : W
 opened_stands now i o w start happened text media v e h = subst (λ x. Stands start happened text x media) (sym (ap (λ s. s.world) v) ∙ e) h
 
 -- a run begins where there is none
-pub begins_some : (o : Option WorldState) (event : Event) (i : ℕ) (ready : Bool) → event ≡ events.Begin i ready → MayHappenIn o event → (o ≡ None) × (1 ≤ i)
-begins_some None event i ready e h = (refl, (subst IsBeginning e h).0)
+pub begins_some : (o : Option WorldState) (event : Event) (i : ℕ) (ready : Bool) → event ≡ events.Begin i ready → MayHappenIn o event → (o ≡ None) × ((1 ≤ i) × (i ≤ 4))
+begins_some None event i ready e h = (refl, subst IsBeginning e h)
 begins_some (Some w) event i ready e h = absurd (subst (λ x. IsEvent x (length w.initiators)) e h)
 
 pub began_can : (before after : RunnerState) (i units : ℕ) (ready : Bool) (media : Held) → after ≡ running i (new_world i ready units) → 1 ≤ i → units ≡ length media.disks → CanRun before media → CanRun after media
 began_can before after i units ready media e some u h = subst (λ s. CanRun s media) (sym e) (can_go i units ready media some u h.some h.few)
 
 pub began_ran : (before after : RunnerState) (i units : ℕ) (ready : Bool) (start media : Held) (happened : List (ℕ × Event)) (front out next : List ℕ) (number : ℕ) (event : Event) → after ≡ running i (new_world i ready units)
-    → before.world ≡ None → next ≡ out ++ text_of (notes_begin i ready ∷ []) → event ≡ events.Begin i ready → units ≡ length media.disks
+    → before.world ≡ None → i ≤ 4 → next ≡ out ++ text_of (notes_begin i ready ∷ []) → event ≡ events.Begin i ready → units ≡ length media.disks
     → Stands start happened (front ++ out) before.world media → Stands start (happened ++ (number, event) ∷ []) (front ++ next) after.world media
-began_ran before after i units ready start media happened front out next number event a none e is u h =
+began_ran before after i units ready start media happened front out next number event a none few e is u h =
     let begun : Stands start (happened ++ (number, events.Begin i ready) ∷ []) (front ++ next) (Some (new_world i ready units)) media
-    = begun_so i units ready start media happened front out next number u e (subst (λ o. Stands start happened (front ++ out) o media) none h) in
+    = begun_so i units ready start media happened front out next number few u e (subst (λ o. Stands start happened (front ++ out) o media) none h) in
     subst (λ x. Stands start (happened ++ (number, x) ∷ []) (front ++ next) after.world media) (sym is)
     (subst (λ s. Stands start (happened ++ (number, events.Begin i ready) ∷ []) (front ++ next) s.world media) (sym a) begun)
 
@@ -209,7 +220,7 @@ pub line_fails : (error : LineError) (start media : Held) (served : List (List �
     → Serves run_meaning (λ fault. says (1 + length served) (begun_by 0 (of_lines served).events) line ≡ Err fault) (Err error) start served line text after media media
 line_fails (Fault fault) start media served line text state after number e few read h =
     (says-within (1 + length served) (begun_by 0 (of_lines served).events) line (omega arith) ∙ ap (λ n. heard n line) (sym h.initiators) ∙ read, (state, h))
-line_fails NoMemory start media served line text state after number e few read h = tt
+line_fails NoMemory start media served line text state after number e few read h = run_meaning.stays_same media
 
 -- ---- how it ends
 
@@ -236,6 +247,8 @@ tells_by start media happened text (Some w) h = record {
     events_are = h.events_are;
     notes_are = refl;
     media_are = ap (λ s. s.media) h.stands.state;
+    media_fit = run_fits h.run start media h.start_is h.few h.stands.lines (ap (λ s. s.media) h.stands.state);
+    leaves = run_leaves h.line h.run start media h.start_is h.few h.stands.lines (ap (λ s. s.media) h.stands.state);
   });
   text_is = h.text_is;
 }
@@ -353,4 +366,6 @@ run_ends stream_statuses.ReadFault before now (rose, s) = (
       },
 )
 run_ends stream_statuses.WriteFault before now (rose, (t, same)) = (rose, subst (λ media. Torn before now media) same (torn before now t))
-run_ends stream_statuses.NoMemory before now t = (t.media, torn before now t)
+run_ends stream_statuses.NoMemory before now t =
+    let u = torn before now t in
+    record { media = t.media; torn = u; left = t.stays; within = subst (λ media. NoneFell media.faults now.media.faults) (left_by_notes before.media t.media u.happened u.notes u.ran) t.stays.fell }

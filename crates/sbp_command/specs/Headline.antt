@@ -1,5 +1,5 @@
 -- What the top call promises, by its status.
-use Rattle.std.specs.Prelude.{◌≡◌, ℕ, ◌⊎◌, false, List, [], ◌∷◌, ◌++◌, take, codes, Option, Some, None, IfSome, Result, Ok, Err}
+use Rattle.std.specs.Prelude.{◌≡◌, ℕ, ◌⊎◌, false, List, [], ◌∷◌, ◌++◌, take, reverse, codes, Option, Some, None, IfSome, Result, Ok, Err}
 use Rattle.std.specs.Io.KnownBytes.{Appends, Consumes, IsAtEnd}
 use Rattle.sbp_base.specs.Faults.{Rose}
 use Rattle.line_session.specs.Lines.{NoFeed, IsWhole, is_surely_long}
@@ -15,7 +15,9 @@ use Rattle.sbp_journal.specs.declared.note.Note.{Note}
 use Rattle.script_text.specs.Script.{Script, script}
 use Rattle.packet_listing.specs.Listing.{Listing, listing}
 use Rattle.rom_listing.specs.RomListing.{rom_listing, rom_quads}
-use Rattle.sbp_command.specs.Machine.{Runs}
+use Rattle.media_laws.specs.Media.{media_after}
+use Rattle.sbp_target.specs.Faults.{NoneFell}
+use Rattle.sbp_command.specs.Machine.{MayLeave, Runs}
 use Rattle.sbp_command.specs.declared.status.Status.{Status}
 use Rattle.sbp_command.specs.declared.status.Status.TheVariants as statuses
 
@@ -68,14 +70,22 @@ pub record Torn (before now : Outside) (media : Held) : Type 0 where
   pub may_write : MayWrite (script input) happened notes output
   pub written : Appends before.written now.written (take len output)
 
--- the clause of `run` by status; where memory was wanting nothing is said of the media
+-- So it was, and then memory was wanting in the next line: there are as many media, no count of faults fell, and so each rose at least by the
+-- failing runs that the notes tell.
+pub record TornAndLeft (before now : Outside) : Type 0 where
+  pub media : Held
+  pub torn : Torn before now media
+  pub left : MayLeave media now.media
+  pub within : NoneFell (media_after (reverse torn.notes) before.media).faults now.media.faults
+
+-- the clause of `run` by status
 abbrev pub RunEnds : Status → Outside → Outside → Type 0
 RunEnds statuses.Done before now = IsAtEnd now.left × RanScript before now None
 RunEnds statuses.Words before now = ⊥
 RunEnds statuses.Script before now = (fault : ℕ × ℕ) × RanScript before now (Some fault)
 RunEnds statuses.ReadFault before now = Rose before.reads now.reads × RanLines before now
 RunEnds statuses.WriteFault before now = Rose before.writes now.writes × Torn before now now.media
-RunEnds statuses.NoMemory before now = (media : Held) × Torn before now media
+RunEnds statuses.NoMemory before now = TornAndLeft before now
 
 -- The media and their counts are as they were.
 abbrev pub KeepsMedia : Outside → Outside → Type 0

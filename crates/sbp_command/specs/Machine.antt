@@ -4,6 +4,9 @@ use Rattle.rbc_disk.specs.Held.{Held}
 use Rattle.sbp_journal.specs.declared.event.Event.{Event}
 use Rattle.sbp_journal.specs.declared.event.Event.TheVariants as events
 use Rattle.sbp_journal.specs.declared.note.Note.{Note}
+use Rattle.media_laws.specs.Media.{LeavesMedia, media_after}
+use Rattle.sbp_world.specs.Histories.{history_of}
+use Rattle.sbp_target.specs.Faults.{NoneFell}
 use Rattle.sbp_world.specs.Making.{notes_begin}
 use Rattle.sbp_world.specs.Runs.{AreEntries, Entry, Run, after, beginning}
 
@@ -25,7 +28,8 @@ events_of line run = (line, events.Begin run.initiators run.ready) ∷ events_in
 abbrev pub journal : Run → List Note
 journal run = notes_begin run.initiators run.ready ∷ notes_in run.entries
 
--- A run of the machine, over exactly these events and from what the media held at first: its notes, and what it leaves of the media.
+-- A run of the machine, over exactly these events and from what the media held at first: its notes, and what it leaves of the media. That is
+-- what the notes alone say of them: each medium holds what the disk fold gives, and each failing run raised its count.
 pub record HasRun (start : Held) (happened : List (ℕ × Event)) (notes : List Note) (now : Held) : Type 0 where
   pub line : ℕ
   pub run : Run
@@ -35,6 +39,8 @@ pub record HasRun (start : Held) (happened : List (ℕ × Event)) (notes : List 
   pub events_are : events_of line run ≡ happened
   pub notes_are : notes ≡ journal run
   pub media_are : now ≡ (after (beginning run) run.entries).media
+  pub media_fit : now ≡ media_after (reverse notes) start
+  pub leaves : LeavesMedia start (history_of line run) now
 
 -- No run begins: there is no event and no note, and the media are as they were.
 pub record HasNone (start : Held) (happened : List (ℕ × Event)) (notes : List Note) (now : Held) : Type 0 where
@@ -45,3 +51,8 @@ pub record HasNone (start : Held) (happened : List (ℕ × Event)) (notes : List
 -- what the machine does over some events
 abbrev pub Runs : Held → List (ℕ × Event) → List Note → Held → Type 0
 Runs start happened notes now = HasNone start happened notes now ⊎ HasRun start happened notes now
+
+-- A line that memory was wanting for leaves as many media, and no count of faults fell.
+pub record MayLeave (old new : Held) : Type 0 where
+  pub count : length new.disks ≡ length old.disks
+  pub fell : NoneFell old.faults new.faults

@@ -1,5 +1,6 @@
 -- What `run` does with lines.
-use Rattle.std.specs.Prelude.{◌≡◌, ℕ, ◌+◌, ◌<◌, ◌≤◌, List, [], ◌∷◌, length, Option, Some, None, Err}
+use Rattle.std.specs.Prelude.{◌≡◌, ℕ, ◌+◌, ◌<◌, ◌≤◌, List, [], ◌∷◌, length, slice_index, refl, Option, Some, None, Err}
+use Rattle.std.proofs.Math.Nat.{le_refl}
 use Rattle.rbc_disk.specs.Held.{Held}
 use Rattle.sbp_journal.specs.declared.event.Event.{Event}
 use Rattle.sbp_journal.specs.declared.event.Event.TheVariants as events
@@ -8,7 +9,7 @@ use Rattle.sbp_world.specs.Lines.{IsEvent}
 use Rattle.sbp_world.specs.Runs.{Run, StandsFor}
 use Rattle.sbp_world.specs.Worlds.{Scene, WorldState}
 use Rattle.line_session.specs.Meaning.{Meaning}
-use Rattle.sbp_command.specs.Machine.{events_of, journal}
+use Rattle.sbp_command.specs.Machine.{MayLeave, events_of, journal}
 use Rattle.sbp_command.specs.Script.{begun_by, of_lines, says}
 
 -- how many initiators the run has, none before it begins, and its world
@@ -31,6 +32,7 @@ pub record InRun (start : Held) (happened : List (ℕ × Event)) (text : List �
   pub run : Run
   pub start_is : run.start ≡ start
   pub units_are : run.units ≡ length start.disks
+  pub few : run.initiators ≤ 4
   pub events_are : events_of line run ≡ happened
   pub text_is : text ≡ text_of (journal run)
   pub stands : StandsFor run (scene_of world media)
@@ -83,6 +85,6 @@ run_meaning = record {
   ran = RanSo;
   refuses = λ served line fault. says (1 + length served) (begun_by 0 (of_lines served).events) line ≡ Err fault;
   closed = λ served text start media. (state : RunnerState) × RanSo start served text state media;
-  stays = λ old new. Unit {0};
-  stays_same = λ media. tt;
+  stays = MayLeave;
+  stays_same = λ media. record { count = refl; fell = record { each = λ unit. le_refl (slice_index media.faults unit) } };
 }

@@ -5,9 +5,11 @@ ghost use Rattle.sbp_journal.specs.Form.{HasForm};
 ghost use Rattle.sbp_journal.specs.Text.{text_of};
 ghost use Rattle.script_text.specs.Script.{initiators_after};
 ghost use Rattle.sbp_journal.specs.declared.event.Event as events;
+ghost use Rattle.sbp_target.specs.Faults.{NoneFell};
 ghost use Rattle.sbp_world.specs.Lines.{Happens, IsEvent};
 ghost use Rattle.sbp_world.specs.Making.{new_world, notes_begin};
 ghost use Rattle.sbp_world.specs.Worlds.{scene};
+ghost use Rattle.sbp_command.specs.Machine.{MayLeave};
 ghost use Rattle.sbp_command.specs.Runner.{CanRun, MayHappenIn, Stands, not_begun, running};
 
 use crate::script::read_event;
@@ -62,6 +64,7 @@ fn step_world(
     requires units { length media.old.items ≡ length world.old.target.units }
     requires event { IsEvent event.now (length world.old.initiators) }
     ensures size { length media.new.items ≡ length media.old.items }
+    ensures fell { NoneFell (map media_faults media.old.items) (map media_faults media.new.items) }
     ensures units { length world.new.target.units ≡ length world.old.target.units }
     ensures happens { OnOk result (Happens number event.now (scene world.old (map disk media.old.items) (map media_faults media.old.items)) (scene world.new (map disk media.new.items) (map media_faults media.new.items))) }
     ensures text { OnOk result (out.new ≡ out.old ++ text_of (reverse world.new.fresh)) }
@@ -114,6 +117,7 @@ impl ScriptRunner {
     ) -> Result<(), NoMemory>
         requires can { CanRun self.old (held (map disk media.old.items) (map media_faults media.old.items)) }
         requires event { MayHappenIn self.old.world event.now }
+        ensures left { MayLeave (held (map disk media.old.items) (map media_faults media.old.items)) (held (map disk media.new.items) (map media_faults media.new.items)) }
         ensures can { OnOk result (CanRun self.new (held (map disk media.new.items) (map media_faults media.new.items))) }
         ensures initiators { OnOk result (self.new.initiators ≡ initiators_after self.old.initiators (Ok (Some event.now))) }
         ensures ran { OnOk result ((start : Held) (happened : List (ℕ × events.Event)) (front : List ℕ) → Stands start happened (front ++ out.old) self.old.world (held (map disk media.old.items) (map media_faults media.old.items)) → Stands start (happened ++ (number, event.now) ∷ []) (front ++ out.new) self.new.world (held (map disk media.new.items) (map media_faults media.new.items))) }

@@ -1,7 +1,9 @@
--- What a node tells, where its note has the form of a journal.
+-- What a node tells, where its note has the form of a journal; and what an initiator tells, which is notes of its own.
 use Rattle.std.proofs.Common.{Bool, true, false, cond, List, [], ◌∷◌, ◌++◌}
 use Rattle.std.specs.List.{AllByRecursion}
 use Rattle.rbc_disk.specs.Runs.{check_in}
+use Rattle.sbp_journal.specs.declared.note.Note.{Note}
+use Rattle.sbp_journal.specs.declared.note.Note.TheVariants as notes
 use Rattle.sbp_journal.specs.declared.side.Side.{Side}
 use Rattle.sbp_journal.specs.declared.side.Side.TheVariants as sides
 use Rattle.sbp_journal.specs.Form.{HasForm, IsCheck, IsStatus}
@@ -20,6 +22,45 @@ pub more : (told : List Side) (side : Side) → AreFormed told → IsFormed side
 more [] side h f = (f, tt)
 more (first ∷ told) side h f = (h.0, more told side h.1 f)
 
-pub pick_outbox : (b : Bool) (x y : OutboxState) → AreFormed x.sides → AreFormed y.sides → AreFormed (cond b x y).sides
+-- ---- an initiator
+
+-- the note is of no run
+abbrev pub IsNoRun : Note → Type 0
+IsNoRun (notes.Ran initiator list orb unit cdb bytes check) = ⊥
+IsNoRun _ = Unit {0}
+
+abbrev pub IsOwn : Side → Type 0
+IsOwn (sides.Own note) = HasForm note × IsNoRun note
+IsOwn _ = ⊥
+
+abbrev pub AreOwn : List Side → Type 0
+AreOwn told = AllByRecursion IsOwn told
+
+pub own_more : (told : List Side) (side : Side) → AreOwn told → IsOwn side → AreOwn (told ++ side ∷ [])
+own_more [] side h f = (f, tt)
+own_more (first ∷ told) side h f = (h.0, own_more told side h.1 f)
+
+pub pick_outbox : (b : Bool) (x y : OutboxState) → AreOwn x.sides → AreOwn y.sides → AreOwn (cond b x y).sides
 pick_outbox true x y h i = h
 pick_outbox false x y h i = i
+
+own_form : (side : Side) → IsOwn side → IsFormed side
+own_form (sides.Own note) h = h.0
+own_form (sides.Opened place orb) h = absurd h
+own_form (sides.Ran place orb cdb payload outcome) h = absurd h
+own_form (sides.Ended place orb status) h = absurd h
+own_form (sides.Dead place cause) h = absurd h
+own_form (sides.Cut place cause) h = absurd h
+own_form (sides.Managed node function subject status login) h = absurd h
+own_form (sides.ManageFailed node cause) h = absurd h
+own_form (sides.Held login) h = absurd h
+own_form (sides.Expired login) h = absurd h
+own_form (sides.Back login) h = absurd h
+own_form (sides.Left login) h = absurd h
+own_form (sides.Cleared unit) h = absurd h
+own_form (sides.Unsolicited place) h = absurd h
+own_form (sides.Unsent place) h = absurd h
+
+pub own_formed : (told : List Side) → AreOwn told → AreFormed told
+own_formed [] h = tt
+own_formed (side ∷ told) h = (own_form side h.0, own_formed told h.1)

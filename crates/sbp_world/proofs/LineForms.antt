@@ -38,7 +38,7 @@ use Rattle.sbp_world.specs.Requests.{find}
 use Rattle.sbp_world.specs.Runs.{AreEntries, Entry, after, beginning}
 use Rattle.sbp_world.specs.Settling.{MayAll, MayNext, MayAt as MayAtLowest, after_all, delivered_at, delivered_next, end_note, is_settled, lowest, settled}
 use Rattle.sbp_world.specs.Worlds.{Scene, WorldState, begun, initiator_at, with_initiator, with_note}
-use Rattle.sbp_world.proofs.Formed.{AreFormed}
+use Rattle.sbp_world.proofs.Formed.{AreFormed, own_formed}
 use Rattle.sbp_world.proofs.InitiatorForms as initiators
 use Rattle.sbp_world.proofs.TargetForms as target_forms
 use Rattle.sbp_world.proofs.ToldForms.{hands_out, posts}
@@ -68,7 +68,7 @@ initiators_tell : (i : ℕ) (sent : Sent) (states : List InitiatorState) → Are
 unfolding initiators_received
 initiators_tell i sent states =
     let s = slice_index_or states i (new_state 0 false) in
-    listed_tells i (receive_step sent.generation sent.bytes empty_outbox s) states (initiators.receives sent.generation sent.bytes empty_outbox s tt)
+    listed_tells i (receive_step sent.generation sent.bytes empty_outbox s) states (own_formed _ (initiators.receives sent.generation sent.bytes empty_outbox s tt))
 
 -- what a node hands out has the form, and so have the notes before it
 record Arrives (r : Option Arrival × (OutboxState × Scene)) (s : Scene) : Type 0 where
@@ -166,7 +166,7 @@ acts_by (None, (outbox, state)) line i action w f h = hands_out (i + 1) (weight_
 acts : (line i : ℕ) (action : Action) (w : WorldState) → HaveForm w → HaveForm (acted line i action w)
 unfolding acted
 acts line i action w h =
-    acts_by (act_step action empty_outbox (initiator_at w i)) line i action w (initiators.acts action empty_outbox (initiator_at w i) tt) h
+    acts_by (act_step action empty_outbox (initiator_at w i)) line i action w (own_formed _ (initiators.acts action empty_outbox (initiator_at w i) tt)) h
 
 keys : (line unit : ℕ) (key : List ℕ) (w : WorldState) → HaveForm w → HaveForm (keyed line unit key w)
 unfolding keyed
@@ -208,7 +208,7 @@ learns node w =
     let r = see_step latest.generation (id_of latest node) (id_of latest 0) empty_outbox (initiator_at w (node - 1)) in
     pick_learns (node == 0) (target_learns w) (initiator_learns node w) w
     (target_pair (target_sees latest.generation (id_of latest 0) w.target) w (sight_tells latest.generation (id_of latest 0) w.target))
-    (initiator_pair (node - 1) r w (initiators.sees latest.generation (id_of latest node) (id_of latest 0) empty_outbox (initiator_at w (node - 1)) tt))
+    (initiator_pair (node - 1) r w (own_formed _ (initiators.sees latest.generation (id_of latest node) (id_of latest 0) empty_outbox (initiator_at w (node - 1)) tt)))
 
 sees_form : (node : ℕ) (w : WorldState) → HaveForm w → HaveForm (see_line node w)
 unfolding see_line
@@ -254,7 +254,7 @@ ends_at_initiator : (request : Request) (w : WorldState) → Ends (initiator_exp
 ends_at_initiator request w =
     let r = expire_step request.label empty_outbox (initiator_at w (request.node - 1)) in
     pick_ends (nat_lt (request.node - 1) (length w.initiators)) (packets.at_initiator (request.node - 1) r w) (false, (empty_outbox, w)) w
-    (initiator_ends (request.node - 1) r w (initiators.expires request.label empty_outbox (initiator_at w (request.node - 1)) tt))
+    (initiator_ends (request.node - 1) r w (own_formed _ (initiators.expires request.label empty_outbox (initiator_at w (request.node - 1)) tt)))
     (record { sides = tt; before = refl })
 
 ends : (request : Request) (w : WorldState) → Ends (expires request w) w

@@ -1,5 +1,6 @@
 ghost use Rattle.std.specs.Prelude.{◌≡◌, ◌+◌, ◌^◌, ◌<◌, length, map, IfOk, OnOk};
 ghost use Rattle.sbp_journal.specs.Outgoings.{empty_outbox};
+ghost use Rattle.sbp_target.specs.Faults.{NoneFell};
 ghost use Rattle.sbp_world.specs.Delivering.{Delivers, Receives, TargetReceives, arrived, arrived_by, initiators_received, judged_note, marked};
 ghost use Rattle.sbp_world.specs.Worlds.{scene};
 
@@ -22,6 +23,7 @@ pub struct Arrival {
 }
 
 /// The target receives a packet. Want of memory is answered too where it counts no further call.
+#[tactic(auto, using(sbp_target::proofs::Faults::fell_steps))]
 fn target_receives(
     target: &mut Target,
     media: &mut Vec<Box<dyn Medium>>,
@@ -31,6 +33,7 @@ fn target_receives(
     requires media { length media.old.items ≡ length target.old.node.units }
     requires outbox { outbox.old ≡ empty_outbox }
     ensures size { length media.new.items ≡ length media.old.items }
+    ensures fell { NoneFell (map media_faults media.old.items) (map media_faults media.new.items) }
     ensures units { length target.new.node.units ≡ length target.old.node.units }
     ensures received { IfOk result (λ judged. TargetReceives sent.now target.old.node (held (map disk media.old.items) (map media_faults media.old.items)) judged outbox.new target.new.node (held (map disk media.new.items) (map media_faults media.new.items))) }
 {
@@ -87,6 +90,7 @@ fn judged_note(serial: u64, judged: Judged) -> Note
 
 impl Parts {
     /// The node that a packet was sent to judges it. A packet that is not kept comes to no node.
+    #[tactic(auto, using(sbp_target::proofs::Faults::fell_steps))]
     fn receive(
         &mut self,
         media: &mut Vec<Box<dyn Medium>>,
@@ -96,6 +100,7 @@ impl Parts {
         requires media { length media.old.items ≡ length self.old.target.units }
         requires outbox { outbox.old ≡ empty_outbox }
         ensures size { length media.new.items ≡ length media.old.items }
+        ensures fell { NoneFell (map media_faults media.old.items) (map media_faults media.new.items) }
         ensures units { length self.new.target.units ≡ length self.old.target.units }
         ensures received { IfOk result (λ arrival. Receives serial (scene self.old (map disk media.old.items) (map media_faults media.old.items)) arrival outbox.new (scene self.new (map disk media.new.items) (map media_faults media.new.items))) }
         ensures node { IfOk result (λ arrival. IfSome arrival (λ a. a.node < length self.new.generations.seen)) }
@@ -180,6 +185,7 @@ impl Parts {
     ) -> Result<(), NoMemory>
         requires media { length media.old.items ≡ length self.old.target.units }
         ensures size { length media.new.items ≡ length media.old.items }
+        ensures fell { NoneFell (map media_faults media.old.items) (map media_faults media.new.items) }
         ensures units { length self.new.target.units ≡ length self.old.target.units }
         ensures delivers { OnOk result (Delivers serial again (scene self.old (map disk media.old.items) (map media_faults media.old.items)) (scene self.new (map disk media.new.items) (map media_faults media.new.items))) }
     {

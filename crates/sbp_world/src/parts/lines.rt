@@ -1,5 +1,6 @@
 ghost use Rattle.std.specs.Prelude.{◌≡◌, ◌+◌, ◌<◌, ◌≤◌, length, map, IfOk, OnOk};
 ghost use Rattle.sbp_initiator.specs.Acting.{IsAction, act_step};
+ghost use Rattle.sbp_target.specs.Faults.{NoneFell};
 ghost use Rattle.sbp_world.specs.Lines.{Happens, HappensTo, IsEvent, acted, keyed, weight_in};
 ghost use Rattle.sbp_world.specs.Packets.{refused};
 ghost use Rattle.sbp_world.specs.Worlds.{scene};
@@ -117,6 +118,7 @@ impl Parts {
     }
 
     /// Does what the event of a line says, beside the notes that there are.
+    #[tactic(auto, using(sbp_target::proofs::Faults::fell_steps))]
     fn run(
         &mut self,
         media: &mut Vec<Box<dyn Medium>>,
@@ -127,6 +129,7 @@ impl Parts {
         requires event { IsEvent event.now (length self.old.initiators) }
         requires media { length media.old.items ≡ length self.old.target.units }
         ensures size { length media.new.items ≡ length media.old.items }
+        ensures fell { NoneFell (map media_faults media.old.items) (map media_faults media.new.items) }
         ensures units { length self.new.target.units ≡ length self.old.target.units }
         ensures happens { OnOk result (HappensTo line event.now (scene self.old (map disk media.old.items) (map media_faults media.old.items)) (scene self.new (map disk media.new.items) (map media_faults media.new.items))) }
     {
@@ -162,6 +165,7 @@ impl Parts {
         requires event { IsEvent event.now (length self.old.initiators) }
         requires media { length media.old.items ≡ length self.old.target.units }
         ensures size { length media.new.items ≡ length media.old.items }
+        ensures fell { NoneFell (map media_faults media.old.items) (map media_faults media.new.items) }
         ensures units { length self.new.target.units ≡ length self.old.target.units }
         ensures happens { OnOk result (Happens line event.now (scene self.old (map disk media.old.items) (map media_faults media.old.items)) (scene self.new (map disk media.new.items) (map media_faults media.new.items))) }
     {

@@ -1,6 +1,7 @@
 ghost use Rattle.std.specs.Prelude.{◌≡◌, ◌+◌, ◌<◌, length, map, IfOk, IfSome, OnOk};
 ghost use Rattle.sbp_journal.specs.Outgoings.{empty_outbox};
 ghost use Rattle.sbp_initiator.specs.Receiving as initiators;
+ghost use Rattle.sbp_target.specs.Faults.{NoneFell};
 ghost use Rattle.sbp_world.specs.Packets.{Delivered, Repeated, expires, inject_line, injected_to, lose_line, may_repeat, timeout_line};
 ghost use Rattle.sbp_world.specs.Worlds.{scene};
 
@@ -71,6 +72,7 @@ fn initiator_expires(
 
 impl Parts {
     /// Delivers a packet in flight.
+    #[tactic(auto, using(sbp_target::proofs::Faults::fell_steps))]
     pub(super) fn deliver_line(
         &mut self,
         media: &mut Vec<Box<dyn Medium>>,
@@ -80,6 +82,7 @@ impl Parts {
     ) -> Result<(), NoMemory>
         requires media { length media.old.items ≡ length self.old.target.units }
         ensures size { length media.new.items ≡ length media.old.items }
+        ensures fell { NoneFell (map media_faults media.old.items) (map media_faults media.new.items) }
         ensures units { length self.new.target.units ≡ length self.old.target.units }
         ensures delivered { OnOk result (Delivered line serial (scene self.old (map disk media.old.items) (map media_faults media.old.items)) (scene self.new (map disk media.new.items) (map media_faults media.new.items))) }
     {
@@ -99,6 +102,7 @@ impl Parts {
     }
 
     /// Delivers a packet once more.
+    #[tactic(auto, using(sbp_target::proofs::Faults::fell_steps))]
     pub(super) fn repeat_line(
         &mut self,
         media: &mut Vec<Box<dyn Medium>>,
@@ -108,6 +112,7 @@ impl Parts {
     ) -> Result<(), NoMemory>
         requires media { length media.old.items ≡ length self.old.target.units }
         ensures size { length media.new.items ≡ length media.old.items }
+        ensures fell { NoneFell (map media_faults media.old.items) (map media_faults media.new.items) }
         ensures units { length self.new.target.units ≡ length self.old.target.units }
         ensures repeated { OnOk result (Repeated line serial (scene self.old (map disk media.old.items) (map media_faults media.old.items)) (scene self.new (map disk media.new.items) (map media_faults media.new.items))) }
     {

@@ -1,4 +1,5 @@
 ghost use Rattle.std.specs.Prelude.{◌≡◌, ◌+◌, ◌*◌, ◌<◌, ◌≤◌, is_none, length, map, min, IfOk, IfSome, OnOk};
+ghost use Rattle.sbp_target.specs.Faults.{NoneFell};
 ghost use Rattle.sbp_world.specs.Settling.{DeliversUpTo, Settles, budget, end_note, is_settled, lowest};
 ghost use Rattle.sbp_world.specs.Worlds.{scene, with_note};
 
@@ -31,6 +32,7 @@ impl Parts {
     ) -> Result<(), NoMemory>
         requires media { length media.old.items ≡ length self.old.target.units }
         ensures size { length media.new.items ≡ length media.old.items }
+        ensures fell { NoneFell (map media_faults media.old.items) (map media_faults media.new.items) }
         ensures units { length self.new.target.units ≡ length self.old.target.units }
         ensures delivers { OnOk result (DeliversUpTo most (scene self.old (map disk media.old.items) (map media_faults media.old.items)) (scene self.new (map disk media.new.items) (map media_faults media.new.items))) }
     {
@@ -63,6 +65,7 @@ impl Parts {
     ) -> Result<bool, NoMemory>
         requires media { length media.old.items ≡ length self.old.target.units }
         ensures size { length media.new.items ≡ length media.old.items }
+        ensures fell { NoneFell (map media_faults media.old.items) (map media_faults media.new.items) }
         ensures units { length self.new.target.units ≡ length self.old.target.units }
         ensures settles { IfOk result (λ settled. Settles settled (scene self.old (map disk media.old.items) (map media_faults media.old.items)) (scene self.new (map disk media.new.items) (map media_faults media.new.items))) }
     {

@@ -2,7 +2,7 @@
 use Rattle.std.proofs.Common.{◌∙◌, sym, ap, length}
 use Rattle.std.proofs.lemmas.List.{length-map}
 use Rattle.sbp_world.proofs.Delivered.{on_ok}
-use Rattle.sbp_command.proofs.Running.{began_can, began_ran, begins_some, both_ok, opened_can, opened_stands, same_length, went_can, went_on}
+use Rattle.sbp_command.proofs.Running.{began_can, began_ran, begins_some, both_ok, opened_can, opened_stands, same_length, went_can, went_on, may_leave, may_leave_same}
 use Rattle.sbp_command.proofs.runner.ScriptRunner.run_event.Goals as goal
 
 pub returns-in-Some-clause-can : goal.returns-in-Some-clause-can
@@ -20,13 +20,19 @@ returns-in-Some-clause-ran g c =
 
 pub returns-clause-can : goal.returns-clause-can
 returns-clause-can g c =
-    let some = (begins_some c.args.self.now.world c.args.event.now c.in-Begin.initiators c.in-Begin.ready c.in-Begin.is c.requires.event).1 in
+    let some = (begins_some c.args.self.now.world c.args.event.now c.in-Begin.initiators c.in-Begin.ready c.in-Begin.is c.requires.event).1.0 in
     on_ok c.begin.result _ _ (λ a. began_can _ _ _ _ _ _ a some (ap length c.as_slice.ensures.value ∙ sym (length-map _ _)) c.requires.can) c.begin.ensures.state
 
 pub returns-clause-ran : goal.returns-clause-ran
 returns-clause-ran g c =
-    let none = (begins_some c.args.self.now.world c.args.event.now c.in-Begin.initiators c.in-Begin.ready c.in-Begin.is c.requires.event).0 in
+    let begun = begins_some c.args.self.now.world c.args.event.now c.in-Begin.initiators c.in-Begin.ready c.in-Begin.is c.requires.event in
     both_ok c.begin.result _ _ _
-    (λ a e start happened front h. began_ran c.args.self.now _ _ _ _ start _ happened front _ _ _ _ a none e c.in-Begin.is (ap length c.as_slice.ensures.value ∙ sym (length-map _ _)) h)
+    (λ a e start happened front h. began_ran c.args.self.now _ _ _ _ start _ happened front _ _ _ _ a begun.0 begun.1.1 e c.in-Begin.is (ap length c.as_slice.ensures.value ∙ sym (length-map _ _)) h)
     c.begin.ensures.state
     c.begin.ensures.text
+
+pub returns-in-Some-clause-left : goal.returns-in-Some-clause-left
+returns-in-Some-clause-left g c = may_leave _ _ _ _ _ c.step_world.ensures.size c.step_world.ensures.fell
+
+pub returns-clause-left : goal.returns-clause-left
+returns-clause-left g c = may_leave_same _

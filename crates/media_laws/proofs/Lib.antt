@@ -1,0 +1,13 @@
+pub mod Lists
+pub mod Seats
+pub mod Tables
+pub mod Ticks
+pub mod Decisions
+pub mod Ledgers
+pub mod Owned
+pub mod Following
+pub mod Targets
+pub mod Replies
+pub mod Lines
+pub mod Folds
+pub mod Runs
