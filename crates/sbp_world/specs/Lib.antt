@@ -15,3 +15,4 @@ pub mod Lines
 pub mod Making
 pub mod Runs
 pub mod Forms
+pub mod Histories
