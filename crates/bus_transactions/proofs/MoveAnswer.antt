@@ -69,7 +69,7 @@ module _ (w : Wire) (h : Stands w) (d : Due) (rcode : ℕ) (given : List ℕ) (o
   abbrev q : Sending
   q = outgoing w i j (canon p) false
 
-  due : IsDue T w.layer d
+  pub due : IsDue T w.layer d
   due = o.due_is
 
   abbrev v : Transaction
@@ -90,16 +90,16 @@ module _ (w : Wire) (h : Stands w) (d : Due) (rcode : ℕ) (given : List ℕ) (o
   read_is : reading (canon p) ≡ Ok p
   read_is = reading_spelled (canon p) p (canon_spells p valid)
 
-  part_is : part_of (canon p) ≡ response due.label due.kind
+  pub part_is : part_of (canon p) ≡ response due.label due.kind
   part_is = part_read (canon p) p read_is ∙ packet_is.part ∙ ap (λ l. response l due.kind) asking
 
-  generation_is : (w.layer i).generation ≡ d.request.generation
+  pub generation_is : (w.layer i).generation ≡ d.request.generation
   generation_is = (o.nodes i).generation ∙ sym due.now
 
   none : begun_by q ≡ None
   none = none_begun q (response_asked q due.label due.kind part_is)
 
-  from_is : (header_in d.packet).source ≡ T.ids d.request.generation j
+  pub from_is : (header_in d.packet).source ≡ T.ids d.request.generation j
   from_is = (o.facts.honest d.serial d.request due.sent_is).source d.packet due.read
 
   honest : Honest T.ids T.generation T.injects q

@@ -1,5 +1,5 @@
 -- The lines of the bus: a packet is lost, the bus is reset, bytes are injected.
-use Rattle.std.specs.Prelude.{◌≡◌, ◌≤◌, ◌<◌, ℕ, suc, ◌+◌, ◌%◌, ◌&&◌, not, nat_eq, nat_lt, Bool, true, false, if◌then◌else◌, List, ◌∷◌, ◌++◌, length, map, position, slice_index_or, Option, Some, None, refl}
+use Rattle.std.specs.Prelude.{◌≡◌, ◌≤◌, ◌<◌, ℕ, suc, ◌+◌, ◌%◌, ◌&&◌, not, nat_eq, nat_lt, Bool, true, false, cond, if◌then◌else◌, List, ◌∷◌, ◌++◌, length, map, position, slice_index_or, Option, Some, None, refl}
 use Rattle.std.specs.List.{All}
 use Rattle.std.proofs.Common.{arith, sym, ◌∙◌, ap, subst}
 use Rattle.std.proofs.lemmas.Grind.{get_or_default_zero}
@@ -12,7 +12,11 @@ use Rattle.bus_transactions.specs.Moves.{lose, reset, inject}
 use Rattle.bus_transactions.specs.Reached.{Reached}
 use Rattle.bus_transactions.specs.Wire.{Wire, as_sent, id_for, outgoing}
 use Rattle.bus_transactions.proofs.All.{all_stand}
+use Rattle.bus_transactions.proofs.Facts.{injected_begun}
 use Rattle.bus_transactions.proofs.FactsReset.{ids_before}
+use Rattle.bus_transactions.proofs.Follows.{last_is}
+use Rattle.orb_layout.proofs.Spelled.{small_anywhere}
+use Rattle.sbp_world.specs.Requests.{RequestsState}
 use Rattle.bus_transactions.proofs.Stands.{Stands as Holds}
 use Rattle.sbp_journal.specs.Run.{Moment, asked, said}
 use Rattle.sbp_journal.specs.Transactions.{Transaction, Sending, begun_by}
@@ -25,8 +29,11 @@ use Rattle.sbp_world.specs.Nodes.{reset_line}
 use Rattle.sbp_world.specs.Packets.{destination_in, source_in, inject_line, injected, injected_to, lose_line, lost, no_node, no_packet, other_node, refused}
 use Rattle.sbp_world.specs.Sending.{posted}
 use Rattle.sbp_world.specs.Worlds.{WorldState, without_notes}
-use Rattle.world_laws.specs.Quiet.{HasIds}
+use Rattle.world_laws.specs.Lines.{HasIds}
+use Rattle.world_laws.specs.Knows.{Knows}
 use Rattle.world_laws.specs.Wires.{Stands}
+use Rattle.world_laws.proofs.Agrees.{reset_knows, sent_knows}
+use Rattle.world_laws.proofs.Latest.{other_knows}
 use Rattle.world_laws.proofs.Tells.{leads, tells}
 
 -- what holds of every wire that is reached
@@ -59,6 +66,7 @@ loses_by past w line serial true e h = leads w (lost serial w) h (lose serial) (
   sizes = h.is.sizes;
   sights = h.is.sights;
   known_ids = h.is.known_ids;
+  knows = h.is.knows;
 })
 
 pub loses : (past : List Moment) (w : WorldState) (line serial : ℕ) → Stands past w → Stands past (lose_line line serial w)
@@ -98,6 +106,7 @@ resets past w line physical ids h =
           let g = (topology_at w.generations node).generation in
           let a : g ≤ t.bus = subst (λ x. x ≤ t.bus) (h.is.sights node l) (aged h.wire node h.reached) in
           ap (λ (ids : ℕ → ℕ). ids peer) (ids_before all.facts (ids_of physical) g a) ∙ h.is.known_ids node peer l m;
+      knows = let b = all.bus_is in reset_knows t _ (h.wire.bus + 1) (omega arith) (ids_before all.facts (ids_of physical)) h.is.knows;
     })
 
 -- ---- bytes are injected
@@ -116,7 +125,7 @@ begins_ids (Some u) s q t = refl
 pub sends_ids : (s : ℕ) (q : Sending) (t : Terms) → (sends s q t).ids ≡ t.ids
 sends_ids s q t = pays_ids t.owes t.sent s q _ ∙ begins_ids (begun_by q) s q _
 
-sent_ids : (s generation from to : ℕ) (bytes : List ℕ) (t : Terms) → (noted (notes.Sent s generation from to bytes) t).ids ≡ t.ids
+pub sent_ids : (s generation from to : ℕ) (bytes : List ℕ) (t : Terms) → (noted (notes.Sent s generation from to bytes) t).ids ≡ t.ids
 sent_ids s generation from to bytes t =
     sends_ids s (record { generation = generation; from = from; to = to; bytes = bytes; injected = t.injected s }) t
 
@@ -130,6 +139,16 @@ record Injects (w : WorldState) (from to : ℕ) (bytes : List ℕ) : Type 0 wher
   to_there : to ≤ length w.initiators
   source : (header_of bytes).source ≡ id_of (topology_at w.generations from) from
   destination : (header_of bytes).destination ≡ id_of (topology_at w.generations from) to
+
+-- the packet is no request of a node's own
+injected_knows : {requests : RequestsState} {nodes : ℕ} → (wire : Wire) → Reached wire → (from to : ℕ) (bytes : List ℕ) → from ≤ nodes → All (λ byte. byte < 256) bytes → Knows requests nodes (terms wire.past) → Knows requests nodes (terms (sent_past from to bytes wire.store (wire.layer from).generation wire.past))
+unfolding sent_past
+injected_knows wire r from to bytes there fit k =
+    let s = wire.store.last + 1 in
+    let t : Terms = terms (said (notes.Injected s) ∷ wire.past) in
+    let marks : t.injected s ≡ true = ap (λ b. cond b true ((terms wire.past).injected s)) (let e : nat_eq s s ≡ true = grind arith in e) in
+    let q : Sending = record { generation = (wire.layer from).generation; from = from; to = to; bytes = bytes; injected = t.injected s } in
+    sent_knows s q t None (injected_begun q marks) (ap (λ x. x + 1) (last_is (holds wire r).follows)) (other_knows k q (record { from = there; bytes = small_anywhere bytes fit }))
 
 injects_to : (past : List Moment) (w : WorldState) (from to : ℕ) (bytes : List ℕ) → All (λ byte. byte < 256) bytes → Injects w from to bytes → Stands past w → Stands past (posted from to true bytes w)
 unfolding posted sent_past
@@ -167,6 +186,7 @@ injects_to past w from to bytes fit i h =
           ap (λ (ids : ℕ → ℕ → ℕ). ids (topology_at w.generations node).generation peer)
           (sent_ids (h.wire.store.last + 1) (h.wire.layer from).generation from to bytes (terms (said (notes.Injected (h.wire.store.last + 1)) ∷ h.wire.past)))
           ∙ h.is.known_ids node peer l m;
+      knows = injected_knows h.wire h.reached from to bytes a fit h.is.knows;
     })
 
 -- who has an ID

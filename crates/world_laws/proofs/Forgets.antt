@@ -34,7 +34,7 @@ use Rattle.sbp_target.specs.Receiving.{cleared_node, expired_from, held_all, hel
 use Rattle.sbp_target.specs.Sending.{with_side}
 use Rattle.sbp_target.specs.Units.{cut_all, cut_at, cut_from, is_cut}
 use Rattle.bus_transactions.specs.May.{is_plain}
-use Rattle.world_laws.proofs.Tells.{ArePlainSides, IsPlainSide}
+use Rattle.bus_transactions.specs.Steps.{ArePlainSides, IsPlainSide}
 
 -- ---- an outbox that holds no packet, and tells nothing that the wire reads
 pub record IsSilent (outbox : OutboxState) : Type 0 where

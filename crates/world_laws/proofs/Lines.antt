@@ -1,23 +1,14 @@
 -- The quiet lines, one by one.
-use Rattle.std.specs.Prelude.{◌≡◌, ◌≤◌, ◌<◌, ℕ, zero, suc, ◌-◌, nat_eq, nat_lt, Bool, true, false, if◌then◌else◌, List, [], ◌∷◌, ◌++◌, length, map, slice_set, Option, refl, is_some, Some, None}
+use Rattle.std.specs.Prelude.{◌≡◌, ◌≤◌, ◌<◌, ℕ, zero, suc, ◌-◌, nat_eq, nat_lt, Bool, true, false, if◌then◌else◌, List, [], length, slice_set, refl}
 use Rattle.std.proofs.Common.{arith, sym, ◌∙◌, ap, subst}
-use Rattle.std.proofs.lemmas.List.{length-set, set-get_or}
-use Rattle.rbc_disk.specs.Runs.{Told}
+use Rattle.std.proofs.lemmas.List.{length-set}
 use Rattle.label_table.specs.Layer.{seeing_step}
 use Rattle.bus_transactions.specs.Bare.{bare}
 use Rattle.bus_transactions.specs.May.{is_plain}
-use Rattle.sbp_journal.specs.Run.{Moment, asked, said}
-use Rattle.sbp_journal.specs.Wire.{terms}
+use Rattle.sbp_journal.specs.Run.{Moment}
 use Rattle.sbp_journal.specs.Outgoings.{OutboxState, empty_outbox}
-use Rattle.sbp_journal.specs.declared.event.Event.{Event}
-use Rattle.sbp_journal.specs.declared.event.Event.TheVariants as events
 use Rattle.sbp_journal.specs.declared.note.Note.TheVariants as notes
 use Rattle.sbp_journal.specs.declared.outbox.Outgoing.{Outgoing}
-use Rattle.sbp_journal.specs.declared.event.Action.{Action}
-use Rattle.sbp_initiator.specs.Acting.{act_step}
-use Rattle.sbp_initiator.specs.Initiators.{new_state}
-use Rattle.sbp_initiator.specs.declared.state.InitiatorState.{InitiatorState}
-use Rattle.initiator_laws.proofs.Refused.{refusal_law}
 use Rattle.sbp_initiator.specs.Effects.{Turn}
 use Rattle.sbp_initiator.specs.Seeing.{see_step}
 use Rattle.sbp_target.specs.Nodes.{NodeState}
@@ -25,20 +16,20 @@ use Rattle.sbp_target.specs.Nodes as target
 use Rattle.sbp_target.specs.Receiving.{seen, ticked, with_key}
 use Rattle.sbp_world.specs.Generations.{id_of}
 use Rattle.sbp_world.specs.Handing.{handed_out}
-use Rattle.sbp_world.specs.Lines.{acted, acted_by, happens, keyed, no_unit}
+use Rattle.sbp_world.specs.Lines.{keyed, no_unit}
 use Rattle.sbp_world.specs.Nodes.{at_initiator, handed_all, initiator_learns, see_line, sees, target_learns, target_sees, target_ticks, tick_line, told_seen, with_seen}
-use Rattle.packet_store.specs.Kept.{found_sent, is_flying}
-use Rattle.sbp_world.specs.Packets.{may_repeat, refused}
+use Rattle.sbp_world.specs.Packets.{refused}
 use Rattle.sbp_world.specs.Sending.{sent_all}
 use Rattle.sbp_world.specs.Telling.{told_all}
-use Rattle.sbp_world.specs.Worlds.{WorldState, Scene, begun, initiator_at, with_initiator, with_note, with_target, without_notes}
-use Rattle.world_laws.specs.Quiet.{IsQuiet, IsRefused}
+use Rattle.sbp_world.specs.Worlds.{WorldState, initiator_at, with_initiator, with_note, with_target}
 use Rattle.world_laws.specs.Wires.{Stands, layer_in}
-use Rattle.world_laws.proofs.Bus.{injects, loses, refuses, resets}
+use Rattle.world_laws.proofs.Bus.{refuses}
 use Rattle.world_laws.proofs.Forgets.{IsSilent, seen_stays, sees_rests, ticked_stays}
+use Rattle.world_laws.proofs.Alike.{told_alike}
+use Rattle.world_laws.proofs.Asks.{relayered}
+use Rattle.world_laws.proofs.Nodes.{layers_alike}
 use Rattle.world_laws.proofs.See.{initiator_layers, saw, seen_layer, target_layers}
-use Rattle.world_laws.proofs.Unheard.{delivers_if, unheard_still}
-use Rattle.world_laws.proofs.Tells.{starts, tells, told_plain}
+use Rattle.world_laws.proofs.Tells.{tells, told_plain}
 
 -- what a node hands out in which no packet leaves
 none_sent : (past : List Moment) (node : ℕ) (packets : List Outgoing) (w : WorldState) → packets ≡ [] → Stands past w → Stands past (sent_all node packets w)
@@ -47,7 +38,9 @@ none_sent past node packets w e h = subst (λ ps. Stands past (sent_all node ps 
 
 pub hands_out : (past : List Moment) (node weight : ℕ) (outbox : OutboxState) (w : WorldState) → IsSilent outbox → Stands past w → Stands past (handed_out node weight outbox w)
 hands_out past node weight outbox w s h =
-    none_sent past node outbox.packets (told_all weight outbox.sides w) s.unsent (told_plain past weight outbox.sides w s.plain h)
+    let v = told_all weight outbox.sides w in
+    none_sent past node outbox.packets v s.unsent
+    (relayered v (told_plain past weight outbox.sides w s.plain h) (λ k l. layers_alike w v (told_alike weight outbox.sides w) k))
 
 -- the target changes in what is not its layer
 same_layer : (past : List Moment) (w : WorldState) (node : NodeState) → node.layer ≡ w.target.layer → Stands past w → Stands past (with_target node w)
@@ -67,11 +60,12 @@ same_layer past w node e h = record {
     sizes = h.is.sizes;
     sights = h.is.sights;
     known_ids = h.is.known_ids;
+    knows = h.is.knows;
   };
 }
 
 -- ---- a second passes
-ticks : (past : List Moment) (w : WorldState) → Stands past w → Stands past (tick_line w)
+pub ticks : (past : List Moment) (w : WorldState) → Stands past w → Stands past (tick_line w)
 unfolding tick_line target_ticks is_plain
 ticks past w h =
     let s = ticked (target.scene w.target empty_outbox) in
@@ -85,7 +79,7 @@ unfolding is_plain
 keys_by past w line unit key true h = tells past (with_target (with_key unit key w.target) w) (notes.Key unit) refl (same_layer past w (with_key unit key w.target) refl h)
 keys_by past w line unit key false h = refuses past w line no_unit h
 
-keys : (past : List Moment) (w : WorldState) (line unit : ℕ) (key : List ℕ) → Stands past w → Stands past (keyed line unit key w)
+pub keys : (past : List Moment) (w : WorldState) (line unit : ℕ) (key : List ℕ) → Stands past w → Stands past (keyed line unit key w)
 unfolding keyed
 keys past w line unit key h = keys_by past w line unit key (nat_lt unit (length w.target.units)) h
 
@@ -105,7 +99,7 @@ target_saw past w h =
     h.is.layers_are))
 
 -- initiator i, whose number as a node is i + 1
-learns_at : ℕ → ℕ → WorldState → OutboxState × WorldState
+unfoldable pub learns_at : ℕ → ℕ → WorldState → OutboxState × WorldState
 learns_at i j w =
     at_initiator j (see_step w.generations.latest.generation (id_of w.generations.latest (suc i)) (id_of w.generations.latest 0) empty_outbox (initiator_at w j)) w
 
@@ -140,38 +134,3 @@ pub sees_line : (past : List Moment) (w : WorldState) (node : ℕ) → node ≤ 
 unfolding see_line sees
 sees_line past w zero l h = target_saw past w h
 sees_line past w (suc i) l h = saw_by past w i (nat_eq (suc i) 0) (not_target i) l h
-
--- ---- an action is refused
-acts_as : (past : List Moment) (w : WorldState) (line i : ℕ) (action : Action) (r : Option ℕ × Turn) → is_some r.0 ≡ true → ((number : ℕ) → r.0 ≡ Some number → r.1 ≡ (empty_outbox, initiator_at w i)) → Stands past w → Stands past (acted_by r line i action w)
-acts_as past w line i action (None, turn) e same h = cc
-acts_as past w line i action (Some number, turn) e same h =
-    let back : slice_set w.initiators i turn.1 ≡ w.initiators =
-    ap (λ (t : Turn). slice_set w.initiators i t.1) (same number refl) ∙ set-get_or w.initiators i (new_state 0 false) in
-    refuses past (with_initiator i turn.1 w) line number (subst (λ (xs : List InitiatorState). Stands past (record w { initiators = xs })) (sym back) h)
-
-acts : (past : List Moment) (w : WorldState) (line i : ℕ) (action : Action) → IsRefused action (initiator_at w i) → Stands past w → Stands past (acted line i action w)
-unfolding acted
-acts past w line i action e h =
-    acts_as past w line i action (act_step action empty_outbox (initiator_at w i)) e (λ number f. refusal_law.unchanged action empty_outbox (initiator_at w i) number f) h
-
--- ---- all of them
-pub goes : (past : List Moment) (line : ℕ) (event : Event) (told : List (Option Told)) (s : Scene) → IsQuiet event s.world → Stands past s.world → Stands (asked line event ∷ (map said s.world.fresh ++ past)) (happens line event told s).world
-unfolding happens
-goes past line (events.Begin initiators ready) told s q h = absurd q
-goes past line (events.Act initiator action) told s q h =
-    acts _ (without_notes s.world) line initiator action q (starts past s.world line (events.Act initiator action) refl h)
-goes past line (events.Reset physical) told s q h = resets past s.world line physical q h
-goes past line (events.See node) told s q h = sees_line _ (without_notes s.world) node q (starts past s.world line (events.See node) refl h)
-goes past line (events.Deliver serial) told s q h =
-    let t = starts past s.world line (events.Deliver serial) refl h in
-    delivers_if _ line serial false (is_flying serial s.world.store.kept) told (begun s) t (unheard_still (found_sent serial s.world.store.kept) s.world q) (ap (λ p. (terms p).repeats) t.is.past_is) (λ e. refl)
-goes past line (events.Repeat serial) told s q h =
-    let t = starts past s.world line (events.Repeat serial) refl h in
-    delivers_if _ line serial true (may_repeat serial (begun s).world) told (begun s) t (unheard_still (found_sent serial s.world.store.kept) s.world q) (ap (λ p. (terms p).repeats) t.is.past_is) (λ e. cc)
-goes past line (events.Lose serial) told s q h = loses _ (without_notes s.world) line serial (starts past s.world line (events.Lose serial) refl h)
-goes past line (events.Timeout serial) told s q h = absurd q
-goes past line (events.Step count) told s q h = absurd q
-goes past line events.Settle told s q h = absurd q
-goes past line events.Tick told s q h = ticks _ (without_notes s.world) (starts past s.world line events.Tick refl h)
-goes past line (events.Inject initiator bytes) told s q h = injects _ (without_notes s.world) line initiator bytes q.0 q.1 (starts past s.world line (events.Inject initiator bytes) refl h)
-goes past line (events.Key unit key) told s q h = keys _ (without_notes s.world) line unit key (starts past s.world line (events.Key unit key) refl h)

@@ -20,6 +20,7 @@ use Rattle.sbp_world.specs.declared.generations.Topology.{Topology}
 use Rattle.sbp_world.specs.Generations.{id_of, no_topology, topology_at}
 use Rattle.sbp_world.specs.Nodes.{told_seen, with_seen}
 use Rattle.sbp_world.specs.Worlds.{WorldState}
+use Rattle.world_laws.specs.Knows.{Knows}
 use Rattle.world_laws.specs.Wires.{Stands, layer_in}
 use Rattle.world_laws.proofs.Bus.{aged, holds}
 use Rattle.world_laws.proofs.Tells.{leads}
@@ -100,13 +101,14 @@ module _ (past : List Moment) (w : WorldState) (node : ℕ) (there : node ≤ le
             ap (λ (t : Topology). (terms h.wire.past).ids t.generation peer) (new_topology k)
             ∙ ids_case k peer (nat_eq k node) (omega arith) (omega arith)
             ∙ ap (λ (t : Topology). id_of t peer) (sym (new_topology k));
+        knows = subst (λ m. Knows w.requests m (terms h.wire.past)) (sym n) h.is.knows;
       })
 
 -- the other nodes have the layers that they had
-not_zero : (k : ℕ) → nat_eq (suc k) 0 ≡ false
+pub not_zero : (k : ℕ) → nat_eq (suc k) 0 ≡ false
 not_zero k = grind arith
 
-zero_not : (k : ℕ) → nat_eq 0 (suc k) ≡ false
+pub zero_not : (k : ℕ) → nat_eq 0 (suc k) ≡ false
 zero_not k = grind arith
 
 pub target_layers : (wire : Wire) (new : Node) (target old : Layer Purpose) (initiators : List InitiatorState) → new ≡ bare target → ((k : ℕ) → k ≤ length initiators → wire.layer k ≡ layer_in old initiators k) → (k : ℕ) → k ≤ length initiators → upd wire.layer 0 new k ≡ layer_in target initiators k

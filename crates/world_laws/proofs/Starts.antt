@@ -14,8 +14,6 @@ use Rattle.bus_transactions.specs.Judging.{JudgementLaw}
 use Rattle.bus_transactions.specs.Sent.{SentLaw}
 use Rattle.bus_transactions.specs.Reached.{Reached}
 use Rattle.bus_transactions.specs.Wire.{Wire, beginning as no_wire}
-use Rattle.sbp_world.specs.Lines.{happens}
-use Rattle.sbp_world.specs.Runs.{AreEntries, Entry, Run, after, beginning}
 use Rattle.sbp_world.specs.Worlds.{WorldState}
 use Rattle.bus_transactions.proofs.AnswerLaws.{answers_always}
 use Rattle.bus_transactions.proofs.JudgementLaws.{judged_always}
@@ -31,9 +29,8 @@ use Rattle.sbp_world.specs.declared.generations.Topology.{Topology}
 use Rattle.sbp_world.specs.Generations.{first_ids, first_topology, id_of, local_node, no_topology}
 use Rattle.sbp_world.specs.Making.{new_initiators, new_world, notes_begin}
 use Rattle.sbp_world.proofs.Making.{ids_size, initiators_size}
-use Rattle.world_laws.specs.Quiet.{AreQuiet, IsOfWire, QuietLaw, first_moments, history_behind}
+use Rattle.world_laws.specs.History.{IsOfWire}
 use Rattle.world_laws.specs.Wires.{Stands, layer_in}
-use Rattle.world_laws.proofs.Lines.{goes}
 
 -- one more behind a list
 last_at : {A : Type 0} (xs : List A) (y d : A) (k : ℕ) → k ≡ length xs → slice_index_or (xs ++ y ∷ []) k d ≡ y
@@ -51,7 +48,7 @@ ids_at (suc n) k l = by_test (nat_eq k n) refl (λ m. ids_at n k m)
         let m : k < n = grind arith in
         get_or_append_left (first_ids n) (n ∷ []) 0 k (omega arith) ∙ before m
 
-states_at : (n k : ℕ) (ready : Bool) (d : InitiatorState) → k < n → slice_index_or (new_initiators n ready) k d ≡ new_state k ready
+pub states_at : (n k : ℕ) (ready : Bool) (d : InitiatorState) → k < n → slice_index_or (new_initiators n ready) k d ≡ new_state k ready
 unfolding new_initiators
 states_at zero k ready d l = absurd (omega arith)
 states_at (suc n) k ready d l = by_test (nat_eq k n) refl (λ m. states_at n k ready d m)
@@ -69,7 +66,7 @@ states_at (suc n) k ready d l = by_test (nat_eq k n) refl (λ m. states_at n k r
 few_rest : (n : ℕ) → n ≤ 4 → n % 64 ≡ n
 few_rest n l = grind arith
 
-first_id : (nodes k : ℕ) → k < nodes → k ≤ 4 → local_id k ≡ id_of (first_topology nodes) k
+pub first_id : (nodes k : ℕ) → k < nodes → k ≤ 4 → local_id k ≡ id_of (first_topology nodes) k
 first_id nodes k l small = ap (λ x. 65472 + x) (sym (few_rest k small)) ∙ ap (λ x. local_node x) (sym (ids_at nodes k l))
 
 state_layer : (i : ℕ) (ready : Bool) → new_layer (local_id (suc i)) ≡ bare (new_state i ready).layer
@@ -90,7 +87,7 @@ started_reached line initiators ready =
     goes_on.more (moved (start line (events.Begin initiators ready)) no_wire) (tell (notes_begin initiators ready))
     (goes_on.more no_wire (start line (events.Begin initiators ready)) goes_on.begins (record { free = refl; other = refl })) refl
 
-begins : (line initiators : ℕ) (ready : Bool) (units : ℕ) → initiators ≤ 4 → Stands (asked line (events.Begin initiators ready) ∷ []) (new_world initiators ready units)
+pub begins : (line initiators : ℕ) (ready : Bool) (units : ℕ) → initiators ≤ 4 → Stands (asked line (events.Begin initiators ready) ∷ []) (new_world initiators ready units)
 unfolding new_world started
 begins line initiators ready units few =
     let n = initiators_size initiators ready in
@@ -114,6 +111,7 @@ begins line initiators ready units few =
         sizes = λ k l. ap (λ (t : Topology). length t.ids) (known k l) ∙ ids_size nodes ∙ omega arith;
         sights = λ k l. ap (λ (t : Topology). t.generation) (sym (known k l));
         known_ids = λ k peer l m. ids peer m ∙ ap (λ (t : Topology). id_of t peer) (sym (known k l));
+        knows = record { ours = λ s q e. cc; size = length-replicate {A = ℕ} 1600 0; rise = tt; latest = λ s request e. cc };
       };
     }
 
@@ -127,40 +125,5 @@ of_wire wire r = record {
   sent = law_of SentLaw sent_always wire r;
 }
 
--- ---- runs
-record StandsAfter (first : List Moment) (entries : List Entry) (w : WorldState) : Type 0 where
-  past : List Moment
-  stands : Stands past w
-  is : map said w.fresh ++ past ≡ history_behind first entries
-
-runs_first : (line : ℕ) (run : Run) → run.initiators ≤ 4 → StandsAfter (first_moments line run) [] (beginning run).world
-unfolding new_world
-runs_first line run few = record {
-  past = asked line (events.Begin run.initiators run.ready) ∷ [];
-  stands = begins line run.initiators run.ready run.units few;
-  is = refl;
-}
-
-runs_after : (line : ℕ) (run : Run) (entries : List Entry) → run.initiators ≤ 4 → AreEntries (beginning run) entries → AreQuiet run entries → StandsAfter (first_moments line run) entries (after (beginning run) entries).world
-runs_after line run [] few all quiet = runs_first line run few
-runs_after line run (e ∷ before) few all quiet =
-    let b = runs_after line run before few all.1 quiet.1 in
-    let s = after (beginning run) before in
-    let now = happens e.line e.event e.told s in
-    record {
-      past = asked e.line e.event ∷ (map said s.world.fresh ++ b.past);
-      stands = goes b.past e.line e.event e.told s quiet.0 b.stands;
-      is = ap (λ ns. map said ns ++ asked e.line e.event ∷ (map said s.world.fresh ++ b.past)) (sym all.0.notes_are)
-          ∙ ap (λ ms. map said e.notes ++ asked e.line e.event ∷ ms) b.is;
-    }
-
-laws_of : (past : List Moment) (w : WorldState) → Stands past w → IsOfWire (map said w.fresh ++ past)
+pub laws_of : (past : List Moment) (w : WorldState) → Stands past w → IsOfWire (map said w.fresh ++ past)
 laws_of past w h = subst IsOfWire h.is.past_is (of_wire h.wire h.reached)
-
-runs : (line : ℕ) (run : Run) → run.initiators ≤ 4 → AreEntries (beginning run) run.entries → AreQuiet run run.entries → IsOfWire (history_behind (first_moments line run) run.entries)
-runs line run few all quiet =
-    let r = runs_after line run run.entries few all quiet in
-    subst IsOfWire r.is (laws_of r.past (after (beginning run) run.entries).world r.stands)
-
-pub quiet_law : QuietLaw
-quiet_law = record { begins = begins; goes = goes; has_laws = laws_of; runs = runs }

@@ -3,6 +3,8 @@ use Rattle.std.specs.Prelude.{◌≡◌, ℕ, true, false, List, [], ◌∷◌, 
 use Rattle.std.proofs.Common.{◌∙◌, ap}
 use Rattle.bus_transactions.specs.May.{May, is_plain, is_reset}
 use Rattle.bus_transactions.specs.Moves.{Move, tell, start, moved}
+use Rattle.bus_transactions.specs.Steps.{ArePlainSides, IsPlainSide}
+use Rattle.bus_transactions.specs.Wire.{Due, Node}
 use Rattle.bus_transactions.proofs.MoveOthers.{plain_terms}
 use Rattle.bus_transactions.proofs.Reaches.{goes_on}
 use Rattle.sbp_journal.specs.Run.{Moment, asked, said}
@@ -17,10 +19,11 @@ use Rattle.sbp_world.specs.declared.places.Holder.{Holder}
 use Rattle.sbp_world.specs.Generations.{topology_at}
 use Rattle.sbp_world.specs.Telling.{counted, told, told_all}
 use Rattle.sbp_world.specs.Worlds.{WorldState, with_note, without_notes}
-use Rattle.world_laws.specs.Wires.{IsWireOf, Stands}
+use Rattle.world_laws.proofs.Agrees.{opened_agrees, plain_agrees, still_knows}
+use Rattle.world_laws.specs.Wires.{IsWireAt, Stands, StandsAt}
 
 -- one move leads on
-pub leads : {past later : List Moment} (w new : WorldState) (h : Stands past w) (move : Move) → May move h.wire → IsWireOf later new (moved move h.wire) → Stands later new
+pub leads : {past later : List Moment} {layers left : ℕ → Node} {due owed : Option Due} (w new : WorldState) (h : StandsAt past layers due w) (move : Move) → May move h.wire → IsWireAt later left owed new (moved move h.wire) → StandsAt later left owed new
 leads w new h move may is = record {
   wire = moved move h.wire;
   reached = goes_on.more h.wire move h.reached may;
@@ -28,7 +31,7 @@ leads w new h move may is = record {
 }
 
 -- a note that the wire does not read
-pub tells : (past : List Moment) (w : WorldState) (note : Note) → is_plain note ≡ true → Stands past w → Stands past (with_note note w)
+pub tells : {layers : ℕ → Node} {due : Option Due} (past : List Moment) (w : WorldState) (note : Note) → is_plain note ≡ true → StandsAt past layers due w → StandsAt past layers due (with_note note w)
 tells past w note plain h = leads w (with_note note w) h (tell note) plain (record {
   store_is = h.is.store_is;
   bus_is = h.is.bus_is;
@@ -43,10 +46,11 @@ tells past w note plain h = leads w (with_note note w) h (tell note) plain (reco
   sights = h.is.sights;
   known_ids = λ node peer l m.
       ap (λ (t : Terms). t.ids (topology_at w.generations node).generation peer) (plain_terms note (terms h.wire.past) plain) ∙ h.is.known_ids node peer l m;
+  knows = still_knows (plain_agrees note (terms h.wire.past) plain) h.is.knows;
 })
 
 -- places and loads are no part of the wire
-pub places_beside : (past : List Moment) (w : WorldState) (places : List (Option Holder)) (loads : List ListLoad) → Stands past w → Stands past (record w { places = places; loads = loads })
+pub places_beside : {layers : ℕ → Node} {due : Option Due} (past : List Moment) (w : WorldState) (places : List (Option Holder)) (loads : List ListLoad) → StandsAt past layers due w → StandsAt past layers due (record w { places = places; loads = loads })
 places_beside past w places loads h = record {
   wire = h.wire;
   reached = h.reached;
@@ -63,6 +67,7 @@ places_beside past w places loads h = record {
     sizes = h.is.sizes;
     sights = h.is.sights;
     known_ids = h.is.known_ids;
+    knows = h.is.knows;
   };
 }
 
@@ -97,19 +102,11 @@ starts past w line event other h = leads w (without_notes w) h (start line event
   sights = h.is.sights;
   known_ids = λ node peer l m.
       ap (λ (ids : ℕ → ℕ → ℕ). ids (topology_at w.generations node).generation peer) (opened_ids event (terms h.wire.past) other) ∙ h.is.known_ids node peer l m;
+  knows = still_knows (opened_agrees event (terms h.wire.past) other) h.is.knows;
 })
 
 -- ---- what a node tells
--- of an initiator only notes that the wire does not read
-abbrev pub IsPlainSide : Side → Type 0
-IsPlainSide (sides.Own note) = is_plain note ≡ true
-IsPlainSide _ = Unit {0}
-
-abbrev pub ArePlainSides : List Side → Type 0
-ArePlainSides [] = Unit {0}
-ArePlainSides (side ∷ later) = IsPlainSide side × ArePlainSides later
-
-told_one : (past : List Moment) (weight : ℕ) (side : Side) (w : WorldState) → IsPlainSide side → Stands past w → Stands past (told weight side w)
+told_one : {layers : ℕ → Node} {due : Option Due} (past : List Moment) (weight : ℕ) (side : Side) (w : WorldState) → IsPlainSide side → StandsAt past layers due w → StandsAt past layers due (told weight side w)
 unfolding told is_plain
 told_one past weight (sides.Own note) w p h = tells past _ note p (places_beside past w w.places (counted weight note w.loads) h)
 told_one past weight (sides.Opened place orb) w p h = places_beside past w _ w.loads h
@@ -127,7 +124,7 @@ told_one past weight (sides.Cleared unit) w p h = tells past w _ refl h
 told_one past weight (sides.Unsolicited place) w p h = tells past w _ refl h
 told_one past weight (sides.Unsent place) w p h = tells past w _ refl h
 
-pub told_plain : (past : List Moment) (weight : ℕ) (told_now : List Side) (w : WorldState) → ArePlainSides told_now → Stands past w → Stands past (told_all weight told_now w)
+pub told_plain : {layers : ℕ → Node} {due : Option Due} (past : List Moment) (weight : ℕ) (told_now : List Side) (w : WorldState) → ArePlainSides told_now → StandsAt past layers due w → StandsAt past layers due (told_all weight told_now w)
 unfolding told_all
 told_plain past weight [] w p h = h
 told_plain past weight (side ∷ later) w p h = told_plain past weight later (told weight side w) p.1 (told_one past weight side w p.0 h)

@@ -1,2 +1,4 @@
+pub mod Knows
 pub mod Wires
-pub mod Quiet
+pub mod History
+pub mod Lines

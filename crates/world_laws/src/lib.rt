@@ -3,4 +3,4 @@
 
 mod laws;
 
-pub use laws::quiet_lines_are_moves;
+pub use laws::lines_are_moves;
