@@ -2,6 +2,8 @@ mod Fits
 mod Kept
 mod ScriptLines
 mod Running
+mod DrillEvents
+pub mod Drilling
 mod Listings
 mod Roms
 mod Words

@@ -1,6 +1,7 @@
 //! The top call of the program.
 #![tactic(auto)]
 
+mod drill;
 mod runner;
 mod script;
 mod status;

@@ -451,7 +451,7 @@ fn words_are_read(rt: HostRuntime) {
         (["run", "run"].as_slice(), Status::Words, USAGE),
         (["Run"].as_slice(), Status::Words, USAGE),
         (["decode", "-"].as_slice(), Status::Words, USAGE),
-        (["drill", "1", "5"].as_slice(), Status::Words, USAGE),
+        (["drill", "1"].as_slice(), Status::Words, USAGE),
         (["tasks"].as_slice(), Status::Words, USAGE),
         (["queue"].as_slice(), Status::Words, USAGE),
     ] {
