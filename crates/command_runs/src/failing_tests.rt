@@ -42,24 +42,21 @@ fn usual_lines() -> Result<&'static str, Fail> {
 fn padded(alloc: Global, lines: &str) -> Result<String, Fail> {
     let mut script = String::new(alloc);
     for line in lines.split(" / ") {
-        script.push_str(line)?;
-        script.push_str("\n")?;
-        for _ in 0..1022usize.saturating_sub(line.len()) {
-            script.push_str("#")?;
-        }
-        script.push_str("\n")?;
+        let rest = vec![in alloc; b'#'; 1022usize.saturating_sub(line.len())]?;
+        let comment = String::from_utf8(rest)?;
+        script.push_str(format!(in alloc; "{line}\n{comment}\n")?.as_str())?;
     }
     Ok(script)
 }
 
-/// What the first lines of a usual session leave.
-fn left_by(alloc: Global, lines: &str, most: u32) -> Result<Left, Fail> {
-    run_failing(
-        alloc,
-        first_lines(alloc, lines, most as usize)?.as_str(),
-        &[],
-        &[],
-    )
+/// What the first lines of a usual session leave: none, one, and so on up to forty.
+fn fronts(alloc: Global, lines: &str) -> Result<Vec<Left>, Fail> {
+    let mut fronts = Vec::new(alloc);
+    for most in 0..41usize {
+        let script = first_lines(alloc, lines, most)?;
+        fronts.push(run_failing(alloc, script.as_str(), &[], &[])?)?;
+    }
+    Ok(fronts)
 }
 
 /// The source fails at its call `n`: the lines that were read whole have run, their text is written, and
@@ -69,9 +66,10 @@ fn source_fails(rt: HostRuntime) -> Result<(), Fail> {
     let alloc = rt.alloc();
     let lines = usual_lines()?;
     let script = padded(alloc, lines)?;
+    let fronts = fronts(alloc, lines)?;
     for n in 1..41u32 {
         let left = run_failing(alloc, script.as_str(), &[n], &[])?;
-        let read = left_by(alloc, lines, n / 2)?;
+        let read = fronts.get((n / 2) as usize).ok_or("front")?;
         assert_eq!(rt; left.status, Status::ReadFault, "at call {n}");
         assert_eq!(rt; left.written.as_str(), read.written.as_str(), "at call {n}");
         assert_eq!(rt; left.found.as_str(), read.found.as_str(), "at call {n}");
@@ -86,10 +84,11 @@ fn sink_fails(rt: HostRuntime) -> Result<(), Fail> {
     let alloc = rt.alloc();
     let lines = usual_lines()?;
     let script = padded(alloc, lines)?;
+    let fronts = fronts(alloc, lines)?;
     for n in 1..41u32 {
         let left = run_failing(alloc, script.as_str(), &[], &[n])?;
-        let written = left_by(alloc, lines, n - 1)?;
-        let run = left_by(alloc, lines, n)?;
+        let written = fronts.get(n as usize - 1).ok_or("front")?;
+        let run = fronts.get(n as usize).ok_or("front")?;
         let status = if n <= LINES {
             Status::WriteFault
         } else {

@@ -50,6 +50,7 @@ ran ended taken cut dead drop mgmt held expired back left cleared op stuck unsol
 seen tick refused settled";
 
 /// Numbers that look random, and are the same in each run.
+#[derive(Drop)]
 struct Draws {
     x: u64,
 }

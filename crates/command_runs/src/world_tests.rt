@@ -24,6 +24,7 @@ fn read_state(world: &mut World, media: &mut Vec<Box<dyn Medium>>) -> Result<(),
 }
 
 /// A world keeps 1,024 packets at most where none is in flight.
+#[tactic(auto, using(sbp_command::proofs::Kept::world_units))]
 #[test]
 fn old_packets_go(rt: HostRuntime) -> Result<(), Fail> {
     let mut media = program_media(rt.alloc())?;
