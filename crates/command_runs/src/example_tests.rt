@@ -14,7 +14,7 @@ fn holds(alloc: Global, status: Status, case: &str) -> Result<bool, Fail> {
     let script = script_of(alloc, lines)?;
     let ended = run(alloc, script.as_str())?;
     let told = lines_of(alloc, kind, ended.written.as_str())?;
-    Ok(ended.status == status && has_form(told.as_str(), form))
+    Ok(ended.status == status && has_form(alloc, told.as_str(), form)?)
 }
 
 /// Scripts without a faulty line.
@@ -90,7 +90,7 @@ fn much_is_used_up(rt: HostRuntime) -> Result<(), Fail> {
         let script = repeated(alloc, "begin 1 ready", times, lines, last)?;
         let ended = run(alloc, script.as_str())?;
         assert!(rt; ended.status == Status::Done);
-        assert!(rt; has_form(ended.written.as_str(), form), "{last}");
+        assert!(rt; has_form(alloc, ended.written.as_str(), form)?, "{last}");
     }
     Ok(())
 }

@@ -5,11 +5,11 @@ use sbp_command::Status;
 use std::alloc::Global;
 use std::test::Fail;
 
+/// The lines of a usual session.
+const LINES: usize = 20;
+
 /// A READ of the blocks that a usual session writes.
 const LOOK: &str = "begin 1 ready\nappend 0 read 8 2\nsettle\n";
-
-/// The lines of a usual session.
-const LINES: u32 = 20;
 
 /// What a call leaves: its status, what it wrote, and what a READ behind it finds.
 #[derive(Drop)]
@@ -49,58 +49,51 @@ fn padded(alloc: Global, lines: &str) -> Result<String, Fail> {
     Ok(script)
 }
 
-/// What the first lines of a usual session leave: none, one, and so on up to forty.
+/// What the first lines of a usual session leave: none, one, and so on up to all.
 fn fronts(alloc: Global, lines: &str) -> Result<Vec<Left>, Fail> {
     let mut fronts = Vec::new(alloc);
-    for most in 0..41usize {
+    for most in 0..LINES + 1 {
         let script = first_lines(alloc, lines, most)?;
         fronts.push(run_failing(alloc, script.as_str(), &[], &[])?)?;
     }
     Ok(fronts)
 }
 
-/// The source fails at its call `n`: the lines that were read whole have run, their text is written, and
-/// the disks are as they left them.
-#[test]
-fn source_fails(rt: HostRuntime) -> Result<(), Fail> {
-    let alloc = rt.alloc();
-    let lines = usual_lines()?;
-    let script = padded(alloc, lines)?;
-    let fronts = fronts(alloc, lines)?;
-    for n in 1..41u32 {
-        let left = run_failing(alloc, script.as_str(), &[n], &[])?;
-        let read = fronts.get((n / 2) as usize).ok_or("front")?;
-        assert_eq!(rt; left.status, Status::ReadFault, "at call {n}");
-        assert_eq!(rt; left.written.as_str(), read.written.as_str(), "at call {n}");
-        assert_eq!(rt; left.found.as_str(), read.found.as_str(), "at call {n}");
-    }
-    Ok(())
+/// Whether a call left what the first lines of a usual session do: the text of so many, and the disk of so
+/// many.
+fn is_left(left: &Left, fronts: &[Left], written: usize, run: usize) -> Result<bool, Fail> {
+    let front = fronts.get(written.min(LINES)).ok_or("front")?;
+    let behind = fronts.get(run.min(LINES)).ok_or("front")?;
+    Ok(
+        left.written.as_str() == front.written.as_str()
+            && left.blocks.as_slice() == behind.blocks.as_slice(),
+    )
 }
 
-/// The sink fails at its call `n`, which writes the text of line `n`: those before are written, and the
-/// disks are as the lines up to `n` left them.
+/// The source or the sink fails at its call `n`. The source gives a line by two calls: those that were read
+/// whole have run, and their text is written. The sink takes the text of line `n` by its call `n`: that of
+/// the lines before is written, and line `n` has run. It has one call a line.
 #[test]
-fn sink_fails(rt: HostRuntime) -> Result<(), Fail> {
+fn calls_fail(rt: HostRuntime) -> Result<(), Fail> {
     let alloc = rt.alloc();
     let lines = usual_lines()?;
     let script = padded(alloc, lines)?;
     let fronts = fronts(alloc, lines)?;
     for n in 1..41u32 {
-        let left = run_failing(alloc, script.as_str(), &[], &[n])?;
-        let written = fronts.get(n as usize - 1).ok_or("front")?;
-        let run = fronts.get(n as usize).ok_or("front")?;
-        let status = if n <= LINES {
-            Status::WriteFault
-        } else {
-            Status::Done
-        };
-        assert_eq!(rt; left.status, status, "at call {n}");
-        assert_eq!(rt;
-            left.written.as_str(),
-            written.written.as_str(),
-            "at call {n}"
+        let count = n as usize;
+        let read = run_failing(alloc, script.as_str(), &[n], &[])?;
+        assert_eq!(rt; read.status, Status::ReadFault, "at call {n}");
+        assert!(rt;
+            is_left(&read, fronts.as_slice(), count / 2, count / 2)?,
+            "read {n}"
         );
-        assert_eq!(rt; left.found.as_str(), run.found.as_str(), "at call {n}");
+        let written = run_failing(alloc, script.as_str(), &[], &[n])?;
+        let fails = written.status == Status::WriteFault;
+        assert_eq!(rt; fails, count <= LINES, "at call {n}");
+        assert!(rt;
+            is_left(&written, fronts.as_slice(), count - 1, count)?,
+            "written {n}"
+        );
     }
     Ok(())
 }

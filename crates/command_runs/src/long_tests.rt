@@ -1,3 +1,5 @@
+ghost use Rattle.std.specs.Prelude.{◌<◌, ◌≤◌};
+
 use crate::calls::run;
 use crate::scripts::lines_of;
 use sbp_command::Status;
@@ -101,9 +103,9 @@ fn add_line(alloc: Global, draws: &mut Draws, last: u64, script: &mut String) ->
     Ok(())
 }
 
-/// Adds ten lines, behind those of a script that has sent so many packets.
+/// Adds thirty lines that are drawn, behind those of a script that has sent so many packets.
 fn add_lines(alloc: Global, draws: &mut Draws, last: u64, script: &mut String) -> Result<(), Fail> {
-    for _ in 0..10 {
+    for _ in 0..30 {
         add_line(alloc, draws, last, script)?;
     }
     Ok(())
@@ -116,7 +118,7 @@ fn packets(alloc: Global, script: &str) -> Result<u64, Fail> {
     Ok(sent.as_str().lines().count() as u64)
 }
 
-/// A script of four initiators, of some hundred lines: each ten lines are drawn when those before have run.
+/// A script of four initiators, of some hundred lines: each thirty are drawn when those before have run.
 fn long_script(alloc: Global, number: u64) -> Result<String, Fail> {
     let mut draws = Draws { x: number };
     let begin = if number % 2 == 0 {
@@ -125,7 +127,7 @@ fn long_script(alloc: Global, number: u64) -> Result<String, Fail> {
         COLD
     };
     let mut script = String::from_str(alloc, begin)?;
-    for _ in 0..20 {
+    for _ in 0..4 {
         let last = packets(alloc, script.as_str())?;
         add_lines(alloc, &mut draws, last, &mut script)?;
     }

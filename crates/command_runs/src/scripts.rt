@@ -10,7 +10,12 @@ pub(crate) fn script_of(alloc: Global, lines: &str) -> Result<String, Fail> {
 /// The same of the first lines alone, so many at most.
 pub(crate) fn first_lines(alloc: Global, lines: &str, most: usize) -> Result<String, Fail> {
     let mut script = String::new(alloc);
-    for line in lines.split(" / ").take(most) {
+    let mut left = most;
+    for line in lines.split(" / ") {
+        if left == 0 {
+            break;
+        }
+        left -= 1;
         script.push_str(line)?;
         script.push_str("\n")?;
     }
@@ -43,18 +48,20 @@ pub(crate) fn lines_of(alloc: Global, kind: &str, text: &str) -> Result<String, 
 }
 
 /// Whether a text is of a form, in which `...` stands for anything.
-pub(crate) fn has_form(text: &str, form: &str) -> bool {
+pub(crate) fn has_form(alloc: Global, text: &str, form: &str) -> Result<bool, Fail> {
     let Some((front, last)) = form.rsplit_once("...") else {
-        return text == form;
+        return Ok(text == form);
     };
-    let Some(mut rest) = text.strip_suffix(last) else {
-        return false;
+    let Some(body) = text.strip_suffix(last) else {
+        return Ok(false);
     };
+    let mut rest = String::from_str(alloc, body)?;
     for piece in front.split("...") {
-        match rest.split_once(piece) {
-            Some((_, behind)) => rest = behind,
-            None => return false,
-        }
+        let behind = match rest.as_str().split_once(piece) {
+            Some((_, behind)) => String::from_str(alloc, behind)?,
+            None => return Ok(false),
+        };
+        rest = behind;
     }
-    true
+    Ok(true)
 }
