@@ -66,7 +66,7 @@ fn is_left(left: &Left, fronts: &[Left], written: usize, run: usize) -> Result<b
     let behind = fronts.get(run.min(LINES)).ok_or("front")?;
     Ok(
         left.written.as_str() == front.written.as_str()
-            && left.blocks.as_slice() == behind.blocks.as_slice(),
+            && left.found.as_str() == behind.found.as_str(),
     )
 }
 
