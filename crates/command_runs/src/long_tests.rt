@@ -15,16 +15,15 @@ const LINES: &str =
 append I tur\nappend I tur\nappend I read B 1\nappend I read B 2 seg 1000,24 pay 7\n\
 append I write B 5a*512\nappend I write B 11*500+22*12 seg 500,12 pay 7\nappend I write12 B 33*1024\n\
 append I read12 B 2 pay 8\nappend I inquiry\nappend I capacity\nappend I sync\nappend I verify B 1\n\
-append I stop/append I tur/append I start\nappend I eject/step C/append I load\nappend I prevent\n\
-append I allow\nput I tur/low I/step C/link I/ring I\nput I read B 1\nlow I\nlink I\nring I\ndummy I K\n\
+append I stop/append I tur/append I start\nenable 1/settle/append I eject/append I load/settle\nappend I prevent\n\
+append I allow\nput I tur/low I/step C/link I/ring I\nput I read B 1\nlow I\nlink I\nring I\nappend I tur/dummy I K\n\
 abort I K\nabort I K/step C\nabortset I\nlureset I\ntreset I/settle\nagentreset I\nagentreset I/settle\n\
 state I\nenable I/settle\nquery I U/settle\nrom I\nlogin I U 2\nlogin I 0 3 excl\n\
 login I U 1 pass 0102030405060708\nlogout I/settle\nreconnect I\nkey U 0102030405060708\n\
-key U 0000000000000000\ntick\ntick/tick\ndeliver S\ndeliver S\ndeliver S\nrepeat S\nrepeat S\nlose S\n\
-timeout S\nlose S/timeout S\nsee I\nsee t\n\
-reset 9 8 7 6 5/see I/step C/see t/see 0/see 1/see 2/see 3\n\
-reset 0 1 2 3 4/see t/see 0/see 1/see 2/see 3/reconnect 0/settle/reconnect 1/settle/reconnect 2/settle\n\
-reset 0 1 2 3 4/see 0/see 1/see 2/see 3/see t/reconnect 3/settle/reconnect 2/settle/login 1 0 0/settle\n\
+key U 0000000000000000\ntick\nlogin I 0 3/settle\nsee I\nsee t\n\
+reset 9 8 7 6 5/see I/step C/see t/see 0/see 1/see 2/see 3/reconnect 0/settle/reconnect 1/settle\n\
+reset 0 1 2 3 4/see t/see 0/see 1/see 2/see 3/reconnect 0/settle/reconnect 1/settle/reconnect 2/settle/reconnect 3/settle\n\
+reset 0 1 2 3 4/see 0/see 1/see 2/see 3/see t/reconnect 3/settle/reconnect 2/settle/reconnect 1/settle/reconnect 0/settle\n\
 inject I ffc00L00ffcJfffff00400P400000001\ninject I ffc00L10ffcJfffff00400P8000800000000000010000000\n\
 inject I ffc00L00ffcJfffff00400Q000000007\ninject I ffc00L10ffcJfffff0010000000800000000000012000000\n\
 inject I ffc00L50ffcJfffff000040400080000\ninject I ffc00L90ffcJfffff0000400000800020000000000000001\n\
@@ -33,7 +32,14 @@ inject I ffc00L20ffcJ000000000000\ninject I ffc00L30ffcJ00\ninject I ffc10L00ffc
 inject I ffc00L00ffc9fffff004000400000001";
 
 /// How many there are.
-const COUNT: u64 = 76;
+const COUNT: u64 = 68;
+
+/// The lines that say what becomes of a packet.
+const FATES: &str =
+    "deliver S\ndeliver S\nrepeat S\nlose S\ntimeout S\nlose S/timeout S\ntimeout S/deliver S\nstep C";
+
+/// How many there are.
+const FATES_COUNT: u64 = 8;
 
 /// How a script begins whose initiators log in by themselves.
 const COLD: &str =
@@ -87,10 +93,14 @@ impl Draws {
     }
 }
 
-/// Adds a line that is drawn.
-fn add_line(alloc: Global, draws: &mut Draws, last: u64, script: &mut String) -> Result<(), Fail> {
-    let place = draws.below(COUNT) as usize;
-    let line = LINES.lines().nth(place).ok_or("line")?;
+/// Adds a line, or a few, with numbers that are drawn. So many packets were sent.
+fn add_line(
+    alloc: Global,
+    draws: &mut Draws,
+    line: &str,
+    last: u64,
+    script: &mut String,
+) -> Result<(), Fail> {
     let initiator = draws.below(4);
     for letter in line.chars() {
         match draws.number(letter, initiator, last) {
@@ -103,10 +113,15 @@ fn add_line(alloc: Global, draws: &mut Draws, last: u64, script: &mut String) ->
     Ok(())
 }
 
-/// Adds thirty lines that are drawn, behind those of a script that has sent so many packets.
+/// Adds thirty lines that are drawn, of which the first ones say what becomes of the last packets.
 fn add_lines(alloc: Global, draws: &mut Draws, last: u64, script: &mut String) -> Result<(), Fail> {
-    for _ in 0..30 {
-        add_line(alloc, draws, last, script)?;
+    for place in 0..30u32 {
+        let line = if place < 6 {
+            FATES.lines().nth(draws.below(FATES_COUNT) as usize)
+        } else {
+            LINES.lines().nth(draws.below(COUNT) as usize)
+        };
+        add_line(alloc, draws, line.ok_or("line")?, last, script)?;
     }
     Ok(())
 }

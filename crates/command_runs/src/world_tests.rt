@@ -1,38 +1,63 @@
-ghost use Rattle.std.specs.Prelude.{◌≡◌, length};
-
 use crate::calls::program_media;
 use rbc_disk::Medium;
 use sbp_journal::{Action, Event};
 use sbp_world::World;
+use std::alloc::Global;
+use std::marker::Model;
 use std::test::Fail;
 
-/// An initiator reads the state of its agent, and all packets are delivered.
-fn read_state(world: &mut World, media: &mut Vec<Box<dyn Medium>>) -> Result<(), Fail>
-    requires { length media.old.items ≡ length world.old.target.units }
-    ensures { length media.new.items ≡ length world.new.target.units }
-{
-    if world.initiators() == 0 {
-        return Err("initiators".into());
+/// A world over its media, as many as its units.
+#[derive(Drop)]
+struct Bus {
+    world: World,
+    media: Vec<Box<dyn Medium>>,
+}
+
+impl Model for Bus {
+    ghost use Rattle.std.specs.Prelude.{◌≡◌, length};
+    ghost use Rattle.sbp_world.specs.Worlds.{WorldState};
+
+    ghost Value = { WorldState };
+
+    ghost view = { λ bus. bus.world };
+
+    ghost invariant = { λ bus. length bus.media.items ≡ length bus.world.target.units };
+}
+
+impl Bus {
+    /// One initiator, over the media of the program.
+    #[tactic(auto, using(sbp_command::proofs::Kept::world_units))]
+    fn new(alloc: Global) -> Result<Bus, Fail> {
+        let media = program_media(alloc)?;
+        let world = World::begin(alloc, 1, true, 3)?;
+        if media.len() != 3 {
+            return Err("media".into());
+        }
+        Ok(Bus { world, media })
     }
-    let state = Event::Act {
-        initiator: 0,
-        action: Action::State,
-    };
-    world.step(media, 2, &state)?;
-    world.settle(media, 3)?;
-    Ok(())
+
+    /// An initiator reads the state of its agent, and all packets are delivered.
+    fn read_state(&mut self) -> Result<(), Fail> {
+        if self.world.initiators() == 0 {
+            return Err("initiators".into());
+        }
+        let state = Event::Act {
+            initiator: 0,
+            action: Action::State,
+        };
+        self.world.step(&mut self.media, 2, &state)?;
+        self.world.settle(&mut self.media, 3)?;
+        Ok(())
+    }
 }
 
 /// A world keeps 1,024 packets at most where none is in flight.
-#[tactic(auto, using(sbp_command::proofs::Kept::world_units))]
 #[test]
 fn old_packets_go(rt: HostRuntime) -> Result<(), Fail> {
-    let mut media = program_media(rt.alloc())?;
-    let mut world = World::begin(rt.alloc(), 1, true, 3)?;
-    assert_eq!(rt; media.len(), 3);
+    let mut bus = Bus::new(rt.alloc())?;
     for _ in 0..2000 {
-        read_state(&mut world, &mut media)?;
-        assert!(rt; world.kept() <= 1024);
+        bus.read_state()?;
+        assert!(rt; bus.world.kept() <= 1024);
     }
     Ok(())
 }
