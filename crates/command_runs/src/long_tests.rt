@@ -54,7 +54,7 @@ state enable";
 /// The first words of the notes that the ten long scripts bring.
 const NOTE_WORDS: &str =
     "begin append low linked rung dummied sent injected got ignored lost timedout \
-ran ended taken cut dead drop mgmt held expired back left cleared op stuck unsolicited told key reset \
+ran ended taken cut dead drop mgmt held back left cleared op stuck key reset \
 seen tick refused settled";
 
 /// Numbers that look random, and are the same in each run.
