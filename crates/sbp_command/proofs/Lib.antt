@@ -1,5 +1,5 @@
 mod Fits
-mod Kept
+pub mod Kept
 mod ScriptLines
 mod Running
 mod DrillEvents

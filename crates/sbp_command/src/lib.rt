@@ -10,6 +10,3 @@ mod top;
 pub use rom_listing::rom_tree_is_listed;
 pub use status::Status;
 pub use top::sbp2;
-
-#[cfg(test)]
-mod tests;
