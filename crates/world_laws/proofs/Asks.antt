@@ -123,9 +123,6 @@ module _ {P : Type 0} {past : List Moment} {layers : ℕ → Node} {due : Option
       g ∙ ap (λ (l : Node). l.generation) (sym own_layer) ∙ ap (λ x. (h.wire.layer x).generation) (let x : from ≡ k = grind arith in x)
   sight_by new k false e g = refl
 
-  left_layers : Layer P → ℕ → Node
-  left_layers new = upd layers from (bare new)
-
   -- a transaction is given up
   gives_up_known : (id : ℕ) (label : LabelParts) (k : IsKnown w from id) → StandsAt past (upd layers from (bare (disowning_step layer id label))) due w
   gives_up_known id label k =

@@ -1,4 +1,4 @@
--- The quiet lines, one by one.
+-- The lines in which nothing leaves a node.
 use Rattle.std.specs.Prelude.{◌≡◌, ◌≤◌, ◌<◌, ℕ, zero, suc, ◌-◌, nat_eq, nat_lt, Bool, true, false, if◌then◌else◌, List, [], length, slice_set, refl}
 use Rattle.std.proofs.Common.{arith, sym, ◌∙◌, ap, subst}
 use Rattle.std.proofs.lemmas.List.{length-set}

@@ -40,9 +40,6 @@ pub record IsWireAt (past : List Moment) (layers : ℕ → Node) (due : Option D
   pub known_ids : (node peer : ℕ) → node ≤ length w.initiators → peer ≤ length w.initiators → (terms wire.past).ids (topology_at w.generations node).generation peer ≡ id_of (topology_at w.generations node) peer
   pub knows : Knows w.requests (length w.initiators) (terms wire.past)
 
-abbrev pub IsWireOf : List Moment → WorldState → Wire → Type 0
-IsWireOf past w wire = IsWireAt past (layers_of w) None w wire
-
 -- A world stands for a wire that moves lead to, with these layers of its nodes, and this request to be answered.
 pub record StandsAt (past : List Moment) (layers : ℕ → Node) (due : Option Due) (w : WorldState) : Type 0 where
   pub wire : Wire
