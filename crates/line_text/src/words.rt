@@ -24,13 +24,22 @@ pub fn push_number(out: &mut Bytes, number: u64) -> Result<(), NoMemory>
     push_decimal(out, number)
 }
 
-/// Adds a number in decimal.
+/// Adds a number in decimal. Most numbers of a line have one digit.
 pub fn push_decimal(out: &mut Bytes, number: u64) -> Result<(), NoMemory>
     ensures { OnOk result (out.new ≡ out.old ++ decimal number) }
 {
     if number < 10 {
-        return out.push(b'0' + number as u8);
+        out.push(b'0' + number as u8)
+    } else {
+        push_long(out, number)
     }
+}
+
+/// The same of any number. It stands apart, so that a single digit needs none of its room.
+#[inline(never)]
+fn push_long(out: &mut Bytes, number: u64) -> Result<(), NoMemory>
+    ensures { OnOk result (out.new ≡ out.old ++ decimal number) }
+{
     let mut digits = itoa::Buffer::new();
     out.extend_from_slice(digits.format(number).as_bytes())
 }
