@@ -31,11 +31,10 @@ flights() {
     }'
 }
 
-# WRITEs of 16 KiB at four initiators, sixteen each
+# WRITEs of 16 KiB that wait at four initiators, as many as they have slots
 writes() {
     echo "begin 4 ready"
-    awk 'BEGIN { for (i = 0; i < 16; i++) for (k = 0; k < 4; k++) print "append " k " write 0 A5*16384" }'
-    echo settle
+    awk 'BEGIN { for (i = 0; i < 32; i++) for (k = 0; k < 4; k++) print "append " k " write 0 A5*16384" }'
 }
 
 all=$(appends 10000 | count run)
