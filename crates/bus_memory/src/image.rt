@@ -215,8 +215,8 @@ impl Image {
         }
     }
 
-    /// Writes bytes into a window, from place `at` in it on.
-    fn put(&mut self, window: Window, at: usize, bytes: &[u8])
+    /// Writes bytes into a window, from place `at` in it on, whether its slot is armed or not.
+    pub fn put(&mut self, window: Window, at: usize, bytes: &[u8])
         requires exists { IsWindow window }
         requires inside { at + length bytes.now ≤ length (bytes_in self.old window) }
         ensures { self.new ≡ with_bytes self.old window at bytes.now }

@@ -1,31 +1,48 @@
--- Bytes that are written as digits one by one.
-use Rattle.std.proofs.Common.{◌≡◌, ◌∙◌, refl, sym, ap, ℕ, ◌+◌, ◌/◌, ◌%◌, ◌<◌, List, [], ◌∷◌, ◌++◌, take, length, get_or, append_assoc, append-nil}
-use Rattle.std.specs.Prelude.{slice_index}
-use Rattle.std.proofs.lemmas.List.{take_more}
+-- Bytes that are written as digits, piece by piece.
+use Rattle.std.proofs.Common.{◌≡◌, ◌∙◌, refl, sym, ap, arith, ℕ, zero, suc, ◌+◌, ◌-◌, ◌/◌, ◌%◌, ◌<◌, ◌==◌, ◌&&◌, Bool, true, inl, inr, List, [], ◌∷◌, ◌++◌, take, drop, length, length-drop, append_assoc}
+use Rattle.std.specs.Prelude.{slice_index, nat_lt, if◌then◌else◌}
+use Rattle.std.proofs.lemmas.Bool.{and_parts, cases_lt, eqb-true}
+use Rattle.std.proofs.lemmas.List.{take-append-drop, take_all}
 use Rattle.hex.specs.Hex.{encode_with, encode_upper, upper_digits}
-
-pub encode-nil : (out : List ℕ) → out ≡ out ++ encode_upper []
-unfolding encode_with
-encode-nil out = simp append-nil
 
 encode_with-append : (t xs ys : List ℕ) → encode_with t (xs ++ ys) ≡ encode_with t xs ++ encode_with t ys
 unfolding encode_with
 encode_with-append t [] ys = refl
 encode_with-append t (x ∷ xs) ys = ap (λ zs. slice_index t (x / 16) ∷ slice_index t (x % 16) ∷ zs) (encode_with-append t xs ys)
 
-encode-one : (byte : ℕ) → encode_upper (byte ∷ []) ≡ slice_index upper_digits (byte / 16) ∷ slice_index upper_digits (byte % 16) ∷ []
-unfolding encode_with
-encode-one byte = refl
+-- the digits of a piece, and then those of the others
+pub in_pieces : (n : ℕ) (bytes : List ℕ) → encode_upper (take n bytes) ++ encode_upper (drop n bytes) ≡ encode_upper bytes
+in_pieces n bytes = sym (encode_with-append upper_digits (take n bytes) (drop n bytes)) ∙ ap (λ l. encode_upper l) (take-append-drop n bytes)
 
--- one byte more
-pub encode-more : (out bytes : List ℕ) (i : ℕ) → i < length bytes
-    → ((out ++ encode_upper (take i bytes)) ++ slice_index upper_digits (get_or bytes i 0 / 16) ∷ []) ++ slice_index upper_digits (get_or bytes i 0 % 16) ∷ [] ≡ out ++ encode_upper (take (i + 1) bytes)
-encode-more out bytes i h =
-    let byte = get_or bytes i 0 in
-    regroup out (encode_upper (take i bytes)) (slice_index upper_digits (byte / 16)) (slice_index upper_digits (byte % 16))
-    ∙ ap (λ x. out ++ (encode_upper (take i bytes) ++ x)) (sym (encode-one byte))
-    ∙ ap (λ x. out ++ x) (sym (encode_with-append upper_digits (take i bytes) (byte ∷ [])))
-    ∙ ap (λ x. out ++ encode_upper x) (sym (take_more bytes i 0 h))
-  where
-    regroup : (a b : List ℕ) (x y : ℕ) → ((a ++ b) ++ x ∷ []) ++ y ∷ [] ≡ a ++ (b ++ x ∷ y ∷ [])
-    regroup a b x y = simp append_assoc
+-- a piece is added, and the others are left
+pub piece_more : (out more all behind : List ℕ) → more ≡ out ++ encode_upper (take 64 behind) → out ++ encode_upper behind ≡ all
+    → more ++ encode_upper (take (length behind - 64) (drop 64 behind)) ≡ all
+piece_more out more all behind e inv =
+    let t = take_all (length behind - 64) (drop 64 behind) (simp length-drop (omega arith)) in
+    ap (λ l. more ++ encode_upper l) t
+    ∙ ap (λ l. l ++ encode_upper (drop 64 behind)) e
+    ∙ append_assoc out (encode_upper (take 64 behind)) (encode_upper (drop 64 behind))
+    ∙ ap (λ l. out ++ l) (in_pieces 64 behind)
+    ∙ inv
+
+-- the digits below a number are those that are made, which computes
+abbrev made : ℕ → ℕ
+made n = if nat_lt n 10 then 48 + n else 55 + n
+
+abbrev all_made : ℕ → Bool
+all_made zero = true
+all_made (suc n) = (slice_index upper_digits n == made n) && all_made n
+
+made_below : (n k : ℕ) → all_made n ≡ true → k < n → slice_index upper_digits k ≡ made k
+made_below zero k h lt = absurd (omega arith)
+made_below (suc n) k h lt =
+    let parts = and_parts (slice_index upper_digits n == made n) (all_made n) h in
+    elim (cases_lt k n) [
+      | inl below ↦ made_below n k parts.1 below
+      | inr top ↦
+          let e : k ≡ n = omega arith in
+          rw e (eqb-true _ _ parts.0)
+    ]
+
+pub digit_made : (n : ℕ) → n < 16 → made n ≡ slice_index upper_digits n
+digit_made n h = sym (made_below 16 n refl h)

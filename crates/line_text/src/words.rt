@@ -1,12 +1,12 @@
-ghost use Rattle.std.specs.Prelude.{◌≡◌, ◌<◌, ◌∷◌, ◌++◌, [], OnOk, slice_index};
+ghost use Rattle.std.specs.Prelude.{◌≡◌, ◌*◌, ◌<◌, ◌≤◌, ◌∷◌, ◌++◌, [], length, OnOk, slice_index};
 ghost use Rattle.std.specs.Fmt.{decimal};
 ghost use Rattle.hex.specs.Hex.{encode_upper, upper_digits};
 ghost use Rattle.line_text.specs.Fields.{Field, word};
 
 use sbp_base::{Bytes, NoMemory};
 
-/// The sixteen digits.
-const DIGITS: &[u8; 16] = b"0123456789ABCDEF";
+/// How many bytes are made digits at a time.
+const PIECE: usize = 64;
 
 /// Adds a blank and a word.
 pub fn push_name(out: &mut Bytes, name: &str) -> Result<(), NoMemory>
@@ -24,15 +24,24 @@ pub fn push_number(out: &mut Bytes, number: u64) -> Result<(), NoMemory>
     push_decimal(out, number)
 }
 
-/// Adds a number in decimal.
+/// Adds a number in decimal. Most numbers of a line have one digit.
 pub fn push_decimal(out: &mut Bytes, number: u64) -> Result<(), NoMemory>
     ensures { OnOk result (out.new ≡ out.old ++ decimal number) }
 {
     if number < 10 {
-        return out.push(b'0' + number as u8);
+        out.push(b'0' + number as u8)
+    } else {
+        push_long(out, number)
     }
-    push_decimal(out, number / 10)?;
-    out.push(b'0' + (number % 10) as u8)
+}
+
+/// The same of any number. It stands apart, so that a single digit needs none of its room.
+#[inline(never)]
+fn push_long(out: &mut Bytes, number: u64) -> Result<(), NoMemory>
+    ensures { OnOk result (out.new ≡ out.old ++ decimal number) }
+{
+    let mut digits = itoa::Buffer::new();
+    out.extend_from_slice(digits.format(number).as_bytes())
 }
 
 /// Adds a blank and bytes as digits, two for each.
@@ -47,11 +56,49 @@ pub fn push_digits(out: &mut Bytes, bytes: &[u8]) -> Result<(), NoMemory>
 pub fn push_hexadecimal(out: &mut Bytes, bytes: &[u8]) -> Result<(), NoMemory>
     ensures { OnOk result (out.new ≡ out.old ++ encode_upper bytes.now) }
 {
-    for byte in bytes {
-        out.push(DIGITS[(*byte / 16) as usize])?;
-        out.push(DIGITS[(*byte % 16) as usize])?;
+    let mut behind = bytes;
+    while PIECE < behind.len() {
+        push_piece(out, &behind[..PIECE])?;
+        behind = &behind[PIECE..];
     }
-    Ok(())
+    push_piece(out, behind)
+}
+
+/// Adds a few bytes as digits, which are made in room of their own first: so room is asked for once.
+fn push_piece(out: &mut Bytes, bytes: &[u8]) -> Result<(), NoMemory>
+    requires { length bytes.now ≤ 64 }
+    ensures { OnOk result (out.new ≡ out.old ++ encode_upper bytes.now) }
+{
+    let mut room = [0; 2 * PIECE];
+    let digits = &mut room[..2 * bytes.len()];
+    put_digits(bytes, digits);
+    out.extend_from_slice(digits)
+}
+
+/// The digit of a number below 16. It is made without a table, so that those of many bytes are made in
+/// one step.
+#[tactic(auto, using(crate::proofs::Hexadecimal::digit_made))]
+fn digit(number: u8) -> u8
+    requires { number < 16 }
+    ensures { result ≡ slice_index upper_digits number }
+{
+    if number < 10 {
+        b'0' + number
+    } else {
+        b'A' - 10 + number
+    }
+}
+
+/// Writes the digits of bytes, two for each.
+fn put_digits(bytes: &[u8], digits: &mut [u8])
+    requires { length digits.old ≡ 2 * length bytes.now }
+    ensures { digits.new ≡ encode_upper bytes.now }
+{
+    for at in 0..bytes.len() {
+        let byte = bytes[at];
+        digits[2 * at] = digit(byte / 16);
+        digits[2 * at + 1] = digit(byte % 16);
+    }
 }
 
 /// Adds a blank and bytes as digits, or `-` for none.

@@ -1,5 +1,5 @@
 -- Quadlets of slots, at their addresses.
-use Rattle.std.proofs.Common.{arith, ◌≡◌, refl, sym, ◌∙◌, ap, subst, ℕ, ◌+◌, ◌-◌, ◌<◌, ◌≤◌, true, false, List, [], ◌∷◌, length, take, drop, Option, Some, Result, Ok}
+use Rattle.std.proofs.Common.{arith, ◌≡◌, refl, ◌∙◌, ap, ℕ, ◌+◌, ◌-◌, ◌<◌, ◌≤◌, true, false, List, [], ◌∷◌, length, take, drop, Option, Some, Result, Ok}
 use Rattle.std.proofs.lemmas.Bool.Decides.{nat_tests}
 use Rattle.byteorder.specs.Endian.{big_bytes, big_number}
 use Rattle.sbp_base.specs.Quadlets.{quad}
@@ -9,14 +9,14 @@ use Rattle.bus_memory.specs.declared.access.Rcode.{Rcode}
 use Rattle.bus_memory.specs.declared.window.Window.{Window}
 use Rattle.bus_memory.specs.declared.window.Window.TheVariants as windows
 use Rattle.bus_memory.specs.Windows.{IsWindow, start, is_fifo}
-use Rattle.bus_memory.specs.Memory.{Memory, slot_at, with_bytes}
-use Rattle.bus_memory.specs.Access.{IsOwn, IsQuadlet, is_open, judged, judged_at, read_at, read_step, spot_of, set_at, set_step}
+use Rattle.bus_memory.specs.Memory.{Memory, slot_at, bytes_in, with_bytes}
+use Rattle.bus_memory.specs.Access.{is_open, judged, judged_at, read_at, read_step, spot_of}
 use Rattle.bus_memory.specs.Laws.{size, IsWhole, IsInside}
 use Rattle.bus_memory.proofs.Found.{window_law}
 use Rattle.bus_memory.proofs.Written.{whole_set}
 use Rattle.orb_list.specs.Layout.{IsSlotWindow, slot_size}
 
-slot_window : (window : Window) → IsSlotWindow window → IsWindow window
+pub slot_window : (window : Window) → IsSlotWindow window → IsWindow window
 slot_window (windows.Orb slot) w = w
 slot_window (windows.Table slot) w = w
 slot_window windows.Rom w = absurd w
@@ -32,13 +32,12 @@ slot_sizes m (windows.Buffer slot) w = absurd w
 slot_sizes m (windows.Management place) w = absurd w
 slot_sizes m (windows.Response place) w = absurd w
 
-own_window : (window : Window) → IsSlotWindow window → IsOwn window
-own_window (windows.Orb slot) w = tt
-own_window (windows.Table slot) w = tt
-own_window windows.Rom w = absurd w
-own_window (windows.Buffer slot) w = absurd w
-own_window (windows.Management place) w = absurd w
-own_window (windows.Response place) w = absurd w
+-- A quadlet fits into a window of a slot.
+pub quad_fits : (m : Memory) (window : Window) (at : ℕ) → IsWhole m → IsSlotWindow window → at + 4 ≤ slot_size window → at + 4 ≤ length (bytes_in m window)
+quad_fits m window at whole w h =
+    let l = whole.sizes window in
+    let s = slot_sizes m window w in
+    omega (arith, l, s)
 
 -- A quadlet of an open window of a slot is found there.
 pub spot_here : (m : Memory) (window : Window) (at : ℕ) → IsWhole m → IsSlotWindow window → is_open m window ≡ true → at + 4 ≤ slot_size window → spot_of m (start window + at) 4 ≡ Some (record { window = window; at = at })
@@ -47,18 +46,6 @@ spot_here m window at whole w o h =
     let i : IsInside m (start window + at) 4 window = record { exists = slot_window window w; begins = omega arith; ends = omega arith } in
     let n : start window + at - start window ≡ at = omega arith in
     window_law.found m (start window + at) 4 window whole (omega arith) i o ∙ ap (λ (k : ℕ). Some (record { window = window; at = k })) n
-
-own_at : (m : Memory) (window : Window) (at : ℕ) → IsWhole m → IsSlotWindow window → is_open m window ≡ true → at + 4 ≤ slot_size window → IsQuadlet m (start window + at)
-own_at m window at whole w o h = rw (spot_here m window at whole w o h) (own_window window w)
-
-set_here : (m : Memory) (window : Window) (at value : ℕ) → IsWhole m → IsSlotWindow window → is_open m window ≡ true → at + 4 ≤ slot_size window → set_step m (start window + at) value ≡ with_bytes m window at (big_bytes 4 value)
-set_here m window at value whole w o h = ap (λ (s : Option Spot). set_at m value s) (spot_here m window at whole w o h)
-
-pub quad_is_own : (m : Memory) (window : Window) (at offset : ℕ) → offset ≡ start window + at → IsWhole m → IsSlotWindow window → is_open m window ≡ true → at + 4 ≤ slot_size window → IsQuadlet m offset
-quad_is_own m window at offset e whole w o h = subst (λ (n : ℕ). IsQuadlet m n) (sym e) (own_at m window at whole w o h)
-
-pub quad_is_set : (m : Memory) (window : Window) (at value offset : ℕ) → offset ≡ start window + at → IsWhole m → IsSlotWindow window → is_open m window ≡ true → at + 4 ≤ slot_size window → set_step m offset value ≡ with_bytes m window at (big_bytes 4 value)
-quad_is_set m window at value offset e whole w o h = ap (λ (n : ℕ). set_step m n value) e ∙ set_here m window at value whole w o h
 
 -- The ORB of an armed slot is read.
 no_fifo : (slot at : ℕ) → slot < 32 → at + 4 ≤ 32 → is_fifo (start (windows.Orb slot) + at) ≡ false

@@ -1,17 +1,15 @@
 -- Bytes that are written quadlet by quadlet.
-use Rattle.std.proofs.Common.{arith, ◌≡◌, refl, sym, ◌∙◌, ap, ℕ, zero, suc, ◌+◌, ◌-◌, ◌*◌, ◌^◌, ◌<◌, ◌≤◌, List, [], ◌∷◌, ◌++◌, length, take, drop, get_or, append_assoc, add-zero, length-append, length-take, length-drop}
+use Rattle.std.proofs.Common.{arith, ◌≡◌, refl, sym, ◌∙◌, ap, ℕ, zero, suc, ◌+◌, ◌-◌, ◌*◌, ◌^◌, ◌<◌, ◌≤◌, List, [], ◌∷◌, ◌++◌, length, take, drop, get_or, append_assoc, add-zero, length-append, length-take}
 use Rattle.std.proofs.Math.ListN.{set}
 use Rattle.std.proofs.Math.Seq.{drop-append_seam, take-append_seam}
-use Rattle.std.proofs.lemmas.List.{set-get_or, get_or-set_same, get_or-drop, take-append-drop, drop-drop, drop_all, take_all, append-nil}
+use Rattle.std.proofs.lemmas.List.{set-get_or, get_or-set_same, take-append-drop, drop-drop, drop_all, take_all, append-nil}
 use Rattle.byteorder.specs.Endian.{big_bytes}
-use Rattle.sbp_base.specs.Quadlets.{quad}
 use Rattle.bus_memory.specs.declared.slot.SlotMemory.{SlotMemory}
 use Rattle.bus_memory.specs.declared.window.Window.{Window}
 use Rattle.bus_memory.specs.declared.window.Window.TheVariants as windows
 use Rattle.bus_memory.specs.Windows.{start}
 use Rattle.bus_memory.specs.Memory.{Memory, empty_slot, slot_at, with_slot, with_bytes, patch}
 use Rattle.bus_memory.specs.Laws.{IsWhole}
-use Rattle.orb_layout.proofs.Spelled.{quad_spelled}
 use Rattle.orb_list.specs.Layout.{IsSlotWindow, behind, slot_size, table_bytes}
 
 -- Nothing written is no change, and what is written behind other bytes joins them.
@@ -85,21 +83,6 @@ written_behind m windows.Rom n xs ys whole w h = absurd w
 written_behind m (windows.Buffer k) n xs ys whole w h = absurd w
 written_behind m (windows.Management k) n xs ys whole w h = absurd w
 written_behind m (windows.Response k) n xs ys whole w h = absurd w
-
--- An ORB that is written from a quadlet on is that quadlet, and the ORB from the next one on.
-pub quad_behind : (m : Memory) (k at : ℕ) (bytes : List ℕ) → IsWhole m → k < 32 → length bytes ≡ 32 → at + 4 ≤ 32 → ((i : ℕ) → get_or bytes i 0 < 256) → with_bytes (with_bytes m (windows.Orb k) at (big_bytes 4 (quad bytes at))) (windows.Orb k) (at + 4) (drop (at + 4) bytes) ≡ with_bytes m (windows.Orb k) at (drop at bytes)
-quad_behind m k at bytes whole s l h small =
-    let d : 4 ≤ length (drop at bytes) = simp length-drop (omega arith) in
-    let q : big_bytes 4 (quad bytes at) ≡ take 4 (drop at bytes) = quad_spelled (drop at bytes) d (λ i. rw (get_or-drop at bytes i 0) (small (at + i))) in
-    let r : drop (at + 4) bytes ≡ drop 4 (drop at bytes) = sym (drop-drop 4 at bytes) in
-    written_behind m (windows.Orb k) at (big_bytes 4 (quad bytes at)) (drop (at + 4) bytes) whole s h
-    ∙ ap (λ (l : List ℕ). with_bytes m (windows.Orb k) at (l ++ drop (at + 4) bytes)) q
-    ∙ ap (λ (l : List ℕ). with_bytes m (windows.Orb k) at (take 4 (drop at bytes) ++ l)) r
-    ∙ ap (λ (l : List ℕ). with_bytes m (windows.Orb k) at l) (take-append-drop 4 (drop at bytes))
-
-pub orb_end : (m : Memory) (k at : ℕ) (bytes : List ℕ) → k < 32 → length bytes ≡ 32 → 32 ≤ at → m ≡ with_bytes m (windows.Orb k) at (drop at bytes)
-orb_end m k at bytes s l h =
-    sym (ap (λ (l : List ℕ). with_bytes m (windows.Orb k) at l) (drop_all at bytes (omega arith)) ∙ none_written m (windows.Orb k) at s)
 
 -- An ORB that fills its room.
 pub orb_alone : (out bytes room : List ℕ) → out ≡ bytes ++ drop 32 room → length room ≡ 32 → out ≡ bytes

@@ -65,7 +65,6 @@ fn orb_of(request: &Request<'_>, slot: u8) -> CommandOrb
 }
 
 /// Sets a quadlet in the ORB or the page table of an armed slot, `at` bytes into it.
-#[tactic(auto, using(crate::proofs::Places::quad_is_set))]
 pub(crate) fn put_slot_quad(image: &mut Image, window: Window, at: u32, value: u32)
     requires whole { IsWhole image.old }
     requires window { IsSlotWindow window }
@@ -75,7 +74,7 @@ pub(crate) fn put_slot_quad(image: &mut Image, window: Window, at: u32, value: u
     ensures whole { IsWhole image.new }
     ensures open { is_open image.new window ≡ true }
 {
-    image.set_quad(place(window, at), value);
+    image.put(window, at as usize, &value.to_be_bytes());
 }
 
 /// Writes an ORB into an armed slot.
@@ -91,26 +90,7 @@ fn put_orb(image: &mut Image, slot: u8, orb: &CommandOrb)
 {
     let mut bytes = [0u8; 32];
     orb.write(&mut bytes);
-    put_orb_bytes(image, slot, 0, &bytes);
-}
-
-/// Writes the 32 bytes of an ORB into an armed slot, from quadlet place `at` on.
-fn put_orb_bytes(image: &mut Image, slot: u8, at: u32, bytes: &[u8])
-    requires whole { IsWhole image.old }
-    requires small { slot < 32 }
-    requires armed { (slot_at image.old slot).is_armed ≡ true }
-    requires size { length bytes.now ≡ 32 }
-    requires place { at % 4 ≡ 0 }
-    requires inside { at ≤ 32 }
-    ensures written { image.new ≡ with_bytes image.old (Window.Orb slot) at (drop at bytes.now) }
-    ensures whole { IsWhole image.new }
-    ensures armed { (slot_at image.new slot).is_armed ≡ true }
-{
-    if at == 32 {
-        return;
-    }
-    put_slot_quad(image, Window::Orb(slot), at, quad_at(bytes, at as usize));
-    put_orb_bytes(image, slot, at + 4, bytes);
+    image.put(Window::Orb(slot), 0, &bytes);
 }
 
 /// Writes a page table into an armed slot, from element `number` on: the segments stand in the slot's

@@ -53,14 +53,14 @@ impl Slot {
         }
     }
 
-    /// The slot, freed where its ORB is over in the present list.
+    /// Frees the slot where its ORB is over in the present list.
     #[tactic(auto, unfolding(crate::specs::Table::released))]
-    pub(crate) fn released(self, present: &Option<PresentList>, pinned: &Option<Ticket>) -> Slot
-        ensures { result ≡ released present.now pinned.now self }
+    pub(crate) fn release(&mut self, present: &Option<PresentList>, pinned: &Option<Ticket>)
+        ensures { self.new ≡ released present.now pinned.now self.old }
     {
         match present {
-            Some(list) if self.is_over(list, pinned) => self.freed(),
-            _ => self,
+            Some(list) if self.is_over(list, pinned) => self.state = SlotState::Free,
+            _ => {}
         }
     }
 

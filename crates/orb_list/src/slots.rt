@@ -464,7 +464,7 @@ fn release_all(slots: &mut [Slot], present: &Option<PresentList>, pinned: &Optio
     ensures { slots.new ≡ map (released present.now pinned.now) slots.old }
 {
     for slot in slots.iter_mut() {
-        *slot = slot.released(present, pinned);
+        slot.release(present, pinned);
     }
 }
 

@@ -88,11 +88,11 @@ impl Index {
             transaction,
             serial: 0,
         };
-        let high = Place {
-            transaction,
-            serial: end,
-        };
-        let place = self.places.range(low..high).next()?;
-        Some(place.serial)
+        let place = self.places.range(low..).next()?;
+        if place.transaction == transaction && place.serial < end {
+            Some(place.serial)
+        } else {
+            None
+        }
     }
 }

@@ -5,13 +5,14 @@ use crate::role::Role;
 use crate::sent::Sent;
 
 /// A transaction, by the generation in which it was sent, its requester, its responder and its
-/// label (IEEE 1394-1995, transaction layer).
+/// label (IEEE 1394-1995, transaction layer). Transactions are in order by the label first, in which
+/// those of a bus differ most.
 #[derive(Clone, Copy, PartialEq, Eq, PartialOrd, Ord)]
 pub struct Transaction {
-    pub generation: u32,
+    pub label: u8,
     pub requester: u8,
     pub responder: u8,
-    pub label: u8,
+    pub generation: u32,
 }
 
 /// The transaction that a packet of this role belongs to. A request belongs to one of its sender,

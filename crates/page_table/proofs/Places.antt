@@ -5,7 +5,6 @@ use Rattle.std.proofs.Math.Seq.{drop-append-add}
 use Rattle.std.proofs.lemmas.Bool.{ltb-true, ltb-false}
 use Rattle.page_table.specs.declared.segment.Segment.{Segment}
 use Rattle.page_table.specs.Buffer.{chunk, chunk_from, addresses, buffer_addresses, ChunkInPlace}
-use Rattle.page_table.proofs.Chunks.{addresses-plus}
 
 length-addresses : (base count : ℕ) → length (addresses base count) ≡ count
 length-addresses base zero = refl

@@ -47,7 +47,7 @@ impl SegmentTable {
         requires { base + length ≤ 2 ^ 48 }
         ensures { self.new ≡ single base length }
     {
-        *self = SegmentTable::new();
+        self.clear();
         if length != 0 {
             self.push(Segment {
                 base: base.value(),
@@ -75,6 +75,13 @@ impl SegmentTable {
         ensures some { IfSome result (λ chunk. 0 < chunk.length) }
     {
         chunk_at(&self.segments[0..self.count], done, limit)
+    }
+
+    /// Removes all segments; their room keeps what was in it.
+    fn clear(&mut self)
+        ensures { self.new ≡ [] }
+    {
+        self.count = 0;
     }
 
     /// Adds a segment behind the others.
@@ -117,7 +124,7 @@ pub fn elements(bytes: &[u8], out: &mut SegmentTable) -> Result<(), PageFault>
     if let Some(fault) = fault_from(bytes, 0) {
         return Err(fault);
     }
-    *out = SegmentTable::new();
+    out.clear();
     out.fill(bytes, 0);
     Ok(())
 }

@@ -55,19 +55,19 @@ act_rows =
 -- of what else an initiator does
 unfoldable pub list_rows : List (List ℕ × Row)
 list_rows =
-    (codes "login", rows.Login)
+    (codes "append", rows.Command placings.Append)
+    ∷ (codes "login", rows.Login)
     ∷ (codes "query", rows.Query)
     ∷ (codes "abort", rows.OnOrb orb_acts.Abort)
     ∷ (codes "dummy", rows.OnOrb orb_acts.Dummy)
     ∷ (codes "put", rows.Command placings.Put)
-    ∷ (codes "append", rows.Command placings.Append)
     ∷ (codes "low", rows.Act acts.Low)
     ∷ (codes "link", rows.Act acts.Link)
     ∷ (codes "ring", rows.Act acts.Ring)
     ∷ []
 
 abbrev pub row_of : List ℕ → Option Row
-row_of word = look (bus_rows ++ packet_rows ++ act_rows ++ list_rows) word
+row_of word = look (list_rows ++ bus_rows ++ packet_rows ++ act_rows) word
 
 -- LBA is 0 to 4294967295, COUNT is 0 to 32
 abbrev pub verb_columns : Option Verb → List Column

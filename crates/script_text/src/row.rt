@@ -66,21 +66,22 @@ pub enum Fate {
     Timeout,
 }
 
-/// The row of a line that begins with this word.
+/// The row of a line that begins with this word. The lines that most scripts have most of are looked up
+/// first.
 #[tactic(auto, using(crate::proofs::Tables::look_in_turn))]
 pub(crate) fn row_of(word: &[u8]) -> Option<Row>
     ensures { result ≡ tables.row_of word.now }
 {
+    if let Some(row) = list_row(word) {
+        return Some(row);
+    }
     if let Some(row) = bus_row(word) {
         return Some(row);
     }
     if let Some(row) = packet_row(word) {
         return Some(row);
     }
-    if let Some(row) = act_row(word) {
-        return Some(row);
-    }
-    list_row(word)
+    act_row(word)
 }
 
 #[tactic(auto, unfolding(crate::specs::Rows::bus_rows))]
@@ -156,7 +157,9 @@ fn act_row(word: &[u8]) -> Option<Row>
 fn list_row(word: &[u8]) -> Option<Row>
     ensures { result ≡ look list_rows word.now }
 {
-    if word == b"login".as_slice() {
+    if word == b"append".as_slice() {
+        Some(Row::Command(Placing::Append))
+    } else if word == b"login".as_slice() {
         Some(Row::Login)
     } else if word == b"query".as_slice() {
         Some(Row::Query)
@@ -166,8 +169,6 @@ fn list_row(word: &[u8]) -> Option<Row>
         Some(Row::OnOrb(OrbAct::Dummy))
     } else if word == b"put".as_slice() {
         Some(Row::Command(Placing::Put))
-    } else if word == b"append".as_slice() {
-        Some(Row::Command(Placing::Append))
     } else if word == b"low".as_slice() {
         Some(Row::Act(Act::Low))
     } else if word == b"link".as_slice() {

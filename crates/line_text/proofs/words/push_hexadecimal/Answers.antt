@@ -1,8 +1,12 @@
-use Rattle.line_text.proofs.Hexadecimal.{encode-nil, encode-more}
+use Rattle.std.proofs.Common.{arith, length-take}
+use Rattle.line_text.proofs.Hexadecimal.{piece_more}
 use Rattle.line_text.proofs.words.push_hexadecimal.Goals as goal
 
-pub loop-byte-init : goal.loop-byte-init
-loop-byte-init c = record { so_far = encode-nil c.args.out.now }
+pub slice_bounds-push_piece-end : goal.slice_bounds-push_piece-end
+slice_bounds-push_piece-end c = simp length-take (omega (arith, c.loop-behind-test.true))
 
-pub loop-byte-preserved : goal.loop-byte-preserved
-loop-byte-preserved c = record { so_far = rw (c.in_ok-push-2.ensures.ok, c.in_ok-push.ensures.ok, c.loop-byte.invariant.so_far) (encode-more c.args.out.now c.args.bytes.now c.loop-byte.byte-index c.loop-byte-test.true) }
+pub push_piece-requires : goal.push_piece-requires
+push_piece-requires c = simp length-take (omega arith)
+
+pub loop-behind-preserved : goal.loop-behind-preserved
+loop-behind-preserved c = piece_more c.loop-behind.out c.push_piece.new.out _ c.loop-behind.behind.now c.in_ok-push_piece.ensures c.loop-behind.invariant

@@ -1,9 +1,10 @@
--- The digits so far are added.
-use Rattle.std.proofs.Common.{◌≡◌, ◌++◌, take}
+-- What was added, with the digits of the others behind it, is all.
+use Rattle.std.proofs.Common.{◌≡◌, ◌++◌, length}
 use Rattle.hex.specs.Hex.{encode_upper}
 use Rattle.line_text.proofs.words.push_hexadecimal.Given as goal
 
-abbrev pub invariant-loop-byte : goal.invariant-loop-byte
-invariant-loop-byte l = record {
-  so_far : l.out ≡ l.initial.out ++ encode_upper (take l.byte-index l.bytes);
-}
+abbrev pub invariant-loop-behind : goal.invariant-loop-behind
+invariant-loop-behind l = l.out ++ encode_upper l.behind ≡ l.fn.out ++ encode_upper l.bytes
+
+abbrev pub decreases-loop-behind : goal.decreases-loop-behind
+decreases-loop-behind l = length l.behind

@@ -1,17 +1,30 @@
-use Rattle.std.proofs.Common.{◌≡◌, subst, true}
+use Rattle.std.proofs.Common.{arith, ◌≡◌, ◌∙◌, sym, subst, true}
 use Rattle.std.specs.BTreeSet.{contains}
 use Rattle.packet_store.specs.Indexes.{has, place, place_cmp}
-use Rattle.packet_store.proofs.Orders.{within, ranged}
+use Rattle.packet_store.proofs.Orders.{behind, not_below, not_same, same_of, unless}
 use Rattle.packet_store.proofs.index.Index.first_below.Goals as goal
+use Rattle.packet_store.proofs.index.Index.first_below.Goals.{else-eq-via-then-eq+else-place-end, else-eq-via-else-eq}
 
 pub returns-in_err-place-clause-none : goal.returns-in_err-place-clause-none
 unfolding has
 returns-in_err-place-clause-none c =
-    rw (c.from_residual.ensures) (λ q h. let w = within c.args.transaction c.args.end q h in (c.range.ensures.in_range tt).5 (c.in_err-place.ensures.steps.0) (place c.args.transaction q) (w.from, w.upto))
+    rw (c.from_residual.ensures) (λ q h. (c.range.ensures.in_range tt).5 (c.in_err-place.ensures.steps.0) (place c.args.transaction q) (behind c.args.transaction q, tt))
 
-pub returns-clause-found : goal.returns-clause-found
+pub returns-then-place-end-clause-found : goal.returns-then-place-end-clause-found
 unfolding has
-returns-clause-found c =
+returns-then-place-end-clause-found c =
     let e = rw (c.in_ok-place.ensures.steps) at (c.range.ensures.in_range tt).1 in
-    let r = ranged c.args.transaction c.args.end c.in_ok-place.place.now e.0.0 e.0.1 in
-    (subst (λ x. contains place_cmp c.args.self.now.places x ≡ true) r.same e.1, r.below)
+    let same = same_of c.in_ok-place.place.now c.args.transaction (sym c.eq.ensures ∙ c.if-eq.true) in
+    (subst (λ x. contains place_cmp c.args.self.now.places x ≡ true) same e.1, c.if-place-end.true)
+
+pub returns-else-eq-clause-none : goal.returns-else-eq-clause-none
+unfolding has
+returns-else-eq-clause-none c = λ q h. unless _ (λ e.
+    let t = c.args.transaction in
+    let p = c.in_ok-place.place.now in
+    let least = rw (c.in_ok-place.ensures.steps) at (c.range.ensures.in_range tt).1 in
+    let upto = rw (c.in_ok-place.ensures.steps) at ((c.range.ensures.in_range tt).2 (place t q) (behind t q, tt) e) in
+    elim c.else-eq.branch [
+      | else-eq-via-then-eq+else-place-end w ↦ not_below t c.args.end q p least.0.0 upto h (omega (arith, w.if-place-end.false))
+      | else-eq-via-else-eq w ↦ not_same t q p least.0.0 upto (sym c.eq.ensures ∙ w.if-eq.false)
+    ])

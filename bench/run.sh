@@ -1,0 +1,57 @@
+#!/usr/bin/env bash
+# What a run over the bus costs, in instructions as valgrind counts them: a script of 10,000 lines, the drills of
+# 1,000 and 10,000 lines with their ratio, and a line at the beginning and at the end of a long script, beside few
+# packets in flight and beside 60,000 (a script has at most 65,536 lines; bench/store.sh goes to 100,000). And the
+# peak of the heap, by massif, of five nodes with WRITEs of 16 KiB that wait.
+# First build the program: cd crates/sbp2 && rt run -- run < stdin
+cd "$(dirname "$0")/.." || exit 1
+program=${1:-crates/sbp2/out/sbp2}
+work=$(mktemp -d)
+trap 'rm -r "$work"' EXIT
+
+# the instructions of the program with these words, over its input
+count() {
+    valgrind --tool=callgrind --callgrind-out-file=/dev/null "$program" "$@" 2>&1 > "$work/out" |
+        awk '/Collected/ { print $4 }'
+}
+
+# fifteen lines `append 0 tur` and a `settle`, so many lines in all
+appends() {
+    echo "begin 1 ready"
+    awk -v n="$1" 'BEGIN { for (i = 1; i <= n; i++) print i % 16 ? "append 0 tur" : "settle" }'
+}
+
+# so many packets in flight, injected, and then so many pairs of lines that send one more and lose it
+flights() {
+    awk -v flying="$1" -v n="$2" 'BEGIN {
+        packet = "inject 0 FFC00140FFC1FFFFF0000400"
+        print "begin 1 ready"
+        for (i = 1; i <= flying; i++) print packet
+        for (i = flying + 1; i <= flying + n; i++) { print packet; print "lose " i }
+    }'
+}
+
+# WRITEs of 16 KiB that wait at four initiators, as many as they have slots
+writes() {
+    echo "begin 4 ready"
+    awk 'BEGIN { for (i = 0; i < 32; i++) for (k = 0; k < 4; k++) print "append " k " write 0 A5*16384" }'
+}
+
+all=$(appends 10000 | count run)
+notes=$(wc -l < "$work/out")
+awk -v a="$all" -v n="$notes" 'BEGIN { printf "10,000 lines: %d instructions, %d notes, %d a note\n", a, n, a / n }'
+
+few=$(count drill 1 1000 < /dev/null) many=$(count drill 1 10000 < /dev/null)
+awk -v a="$few" -v b="$many" 'BEGIN { printf "drill 1 1000: %d, drill 1 10000: %d, ratio %.2f\n", a, b, b / a }'
+
+early=$(($(appends 3200 | count run) - $(appends 1600 | count run)))
+late=$(($(appends 64000 | count run) - $(appends 62400 | count run)))
+awk -v a="$early" -v b="$late" 'BEGIN { printf "a line: %d at the beginning, %d behind 62,400 lines, ratio %.2f\n", a / 1600, b / 1600, b / a }'
+
+few=$(($(flights 10 2000 | count run) - $(flights 10 1000 | count run)))
+many=$(($(flights 60000 2000 | count run) - $(flights 60000 1000 | count run)))
+awk -v a="$few" -v b="$many" 'BEGIN { printf "two lines: %d beside 10 packets in flight, %d beside 60,000, ratio %.2f\n", a / 1000, b / 1000, b / a }'
+
+writes > "$work/writes"
+valgrind --tool=massif --massif-out-file="$work/massif" "$program" run < "$work/writes" > "$work/out" 2> "$work/log"
+awk -F= '/mem_heap_B/ && $2 > peak { peak = $2 } END { printf "five nodes with WRITEs of 16 KiB: %.1f MB on the heap at the peak\n", peak / 1000000 }' "$work/massif"

@@ -1,5 +1,0 @@
--- The number gets shorter.
-use Rattle.line_text.proofs.words.+push_decimal.Given as goal
-
-abbrev pub decreases-push_decimal : goal.decreases-push_decimal
-decreases-push_decimal l = l.number
