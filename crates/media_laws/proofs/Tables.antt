@@ -48,8 +48,8 @@ login_leaves places k login s e =
     let here : seat_has login.login (get_or (seats_of places) k None) ≡ true = ap (seat_has login.login) (seat_at places k ∙ ap seat_of e) ∙ same in
     let before : (j : ℕ) → j < k → seat_has login.login (get_or (seats_of places) j None) ≡ false
     = λ j less.
-        let d : j ≢ k = λ same. omega arith in
-        ap (seat_has login.login) (seat_at places j) ∙ other_id login.login (place_at places j) (apart_at places j k login (place_at places j) s e d refl) in
+    let d : j ≢ k = λ same. omega arith in
+    ap (seat_has login.login) (seat_at places j) ∙ other_id login.login (place_at places j) (apart_at places j k login (place_at places j) s e d refl) in
     map-set seat_of places k None ∙ sym (replaced_at (seat_has login.login) None None (seats_of places) k below here before)
 
 -- ---- a login is entered
