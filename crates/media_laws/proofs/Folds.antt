@@ -1,13 +1,11 @@
 -- The disk fold of the laws holds, medium by medium, what the notes of the runs leave; and each count rises by the failing runs.
-use Rattle.std.proofs.Common.{◌≡◌, ◌≢◌, ◌∙◌, refl, sym, ap, subst, ℕ, zero, suc, ◌+◌, ◌-◌, ◌<◌, ◌≤◌, ◌==◌, nat_eq, min, not, is_none, Bool, true, false, cond, List, [], ◌∷◌, ◌++◌, length, map, get_or, set, position, Option, Some, None, Result, Ok, Err, arith}
-use Rattle.std.specs.Prelude.{slice_index, slice_set, unwrap_or, ◌&&◌}
+use Rattle.std.proofs.Common.{◌≡◌, ◌≢◌, ◌∙◌, refl, sym, ap, subst, ℕ, suc, ◌<◌, ◌==◌, nat_eq, not, Bool, true, false, cond, List, [], ◌∷◌, length, map, set, Option, Some, None, Result, Ok, Err, arith}
+use Rattle.std.specs.Prelude.{slice_index, slice_set}
 use Rattle.std.proofs.Math.ListN.{get_or-map, length-set}
 use Rattle.std.proofs.Math.Seq.{map-set_same}
 use Rattle.std.proofs.lemmas.Bool.Decides.{nat_tests}
-use Rattle.std.proofs.lemmas.Grind.{common_steps}
-use Rattle.std.proofs.lemmas.List.{get_or-set_same, get_or-set_other, length-map, map-set}
+use Rattle.std.proofs.lemmas.List.{get_or-set_same, get_or-set_other, map-set}
 use Rattle.login_table.specs.declared.login.Login.{Login}
-use Rattle.login_table.specs.Table.{held, revived}
 use Rattle.mgmt_agent.specs.declared.decision.Effect.{Effect}
 use Rattle.mgmt_agent.specs.declared.decision.Effect.TheVariants as effects
 use Rattle.mgmt_agent.specs.declared.decision.ManagerStep.{ManagerStep}
@@ -15,16 +13,14 @@ use Rattle.mgmt_agent.specs.declared.operation.Busy.{Busy}
 use Rattle.mgmt_agent.specs.Machine as manager
 use Rattle.login_table.specs.Table.{Table}
 use Rattle.orb_layout.specs.declared.ask.Ask.{Ask}
-use Rattle.orb_layout.specs.declared.ask.FailCause.{FailCause}
 use Rattle.orb_layout.specs.declared.ask.FailCause.TheVariants as causes
 use Rattle.orb_layout.specs.Replies.{Answer, Expired}
 use Rattle.rbc_command.specs.declared.sense.Sense.{Sense}
-use Rattle.rbc_disk.specs.Disk.{Disk, disk_at, no_disk}
+use Rattle.rbc_disk.specs.Disk.{Disk, disk_at}
 use Rattle.rbc_disk.specs.Held.{Held, held as holding}
 use Rattle.rbc_disk.specs.Runs.{Told, count_after_run, is_failure, medium_after}
 use Rattle.rbc_disk.specs.Units.{PlainDisk, new_unit, plain_disk}
 use Rattle.sbp_base.specs.Faults.{count_up}
-use Rattle.sbp_base.specs.Update.{upd}
 use Rattle.sbp_journal.specs.Addresses.{Access, Register, agent_state, agent_reset, orb_pointer, doorbell, unsolicited_enable, Start, rom_start, management_agent, register, no_start, start_at, start_serves}
 use Rattle.sbp_journal.specs.Run.{Moment, asked, said}
 use Rattle.sbp_journal.specs.Transactions.{Part, part_of, request, response, no_packet}
@@ -37,8 +33,8 @@ use Rattle.sbp_journal.specs.declared.note.Note.TheVariants as notes
 use Rattle.sbp_laws.specs.DiskFold.{failed_runs, first_units, left_by_reset, left_by_run, marked, moves_disc, unit_at}
 use Rattle.sbp_laws.specs.Packets.{answered_at}
 use Rattle.sbp_laws.specs.Turns.{event_of}
-use Rattle.sbp_laws.specs.Targets.{Decided, Purpose, Reply, Target, disk_of, effect_on, enters_in, entered_by, for_agent, for_manager, for_nobody, going_on, got_by, is_serial, key_by, knows, known_at, managed_by, manager_step, over, ran_by, register_got, replied, replied_to, request_got, reset_seen, sent_as, sent_for, start_got, started_by, taken_on, target_at, target_by, told_in, with_untold}
-use Rattle.media_laws.specs.Media.{DisksAre, FailuresFit, LeavesMedia, left_by_note, media_after, run_on}
+use Rattle.sbp_laws.specs.Targets.{Decided, Purpose, Reply, Target, effect_on, enters_in, entered_by, for_agent, for_manager, for_nobody, going_on, got_by, key_by, known_at, managed_by, manager_step, over, register_got, replied_to, request_got, reset_seen, sent_as, sent_for, start_got, started_by, taken_on, target_at, target_by, told_in, with_untold}
+use Rattle.media_laws.specs.Media.{LeavesMedia, left_by_note, media_after}
 
 -- ---- what leaves the units
 

@@ -1,14 +1,10 @@
 -- What the sides that a node tells do to the places of the target's logins and to the media, and that the notes of these sides say the same.
-use Rattle.std.proofs.Common.{◌≡◌, ◌∙◌, refl, sym, ap, subst, ℕ, zero, suc, ◌+◌, ◌%◌, ◌==◌, Bool, true, false, cond, List, [], ◌∷◌, ◌++◌, length, map, get_or, set, Option, Some, None}
+use Rattle.std.proofs.Common.{◌≡◌, ◌∙◌, refl, sym, ap, ℕ, zero, suc, ◌+◌, ◌%◌, ◌==◌, Bool, true, false, cond, List, [], ◌∷◌, ◌++◌, map, Option, Some, None}
 use Rattle.std.specs.Prelude.{position}
 use Rattle.std.proofs.Math.Seq.{map-set_same}
-use Rattle.std.proofs.lemmas.List.{map-set}
 use Rattle.async_packet.specs.Labels.{LabelParts}
-use Rattle.login_table.specs.declared.login.Login.{Login}
 use Rattle.rbc_disk.specs.Held.{Held}
 use Rattle.rbc_disk.specs.Runs.{check_in}
-use Rattle.sbp_journal.specs.declared.note.Note.{Note}
-use Rattle.sbp_journal.specs.declared.note.Note.TheVariants as notes
 use Rattle.sbp_journal.specs.declared.operation.FunctionWord.{FunctionWord}
 use Rattle.sbp_journal.specs.declared.operation.FunctionWord.TheVariants as functions
 use Rattle.sbp_journal.specs.declared.outbox.Outgoing.{Outgoing}
@@ -20,11 +16,11 @@ use Rattle.sbp_world.specs.Generations.{node_of}
 use Rattle.sbp_world.specs.Handing.{handed_out}
 use Rattle.sbp_world.specs.Places.{back_at, back_step, enter_step, has_login, holder_of, is_free, left_step, opened_by, opened_step, or_nobody, place_in, put_at, taken_by}
 use Rattle.sbp_world.specs.Sending.{asked, posted, sent, sent_all, sent_to}
-use Rattle.sbp_world.specs.Telling.{decided_places, holder, initiator_of, managed_places, told, told_all}
+use Rattle.sbp_world.specs.Telling.{holder, initiator_of, managed_places, told, told_all}
 use Rattle.sbp_world.specs.Words.{function_word}
 use Rattle.sbp_world.specs.Worlds.{WorldState}
 use Rattle.media_laws.specs.Media.{left_by_note, media_after, run_on}
-use Rattle.media_laws.proofs.Lists.{put, put_first, replaced, replaced_map}
+use Rattle.media_laws.proofs.Lists.{put, put_first, replaced_map}
 use Rattle.media_laws.proofs.Seats.{Seat, decided_seats, is_empty, seat, seat_has, seats_by, unit_at, unit_of, with_seat, without}
 
 -- ---- the places and the media

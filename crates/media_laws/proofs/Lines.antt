@@ -1,5 +1,5 @@
 -- Each line of a world leaves the media as its notes say, and the places of the target's logins as the world says.
-use Rattle.std.proofs.Common.{◌≡◌, ◌∙◌, refl, sym, ap, subst, ℕ, ◌+◌, ◌-◌, ◌==◌, ◌≤◌, ◌||◌, not, nat_lt, Bool, true, false, cond, List, [], ◌∷◌, ◌++◌, length, slice_index_or, Option, Some, None, Result, Ok, Err}
+use Rattle.std.proofs.Common.{◌≡◌, ◌∙◌, refl, sym, ap, subst, ℕ, ◌+◌, ◌-◌, ◌==◌, ◌||◌, not, nat_lt, Bool, true, false, cond, List, [], ◌∷◌, length, slice_index_or, Option, Some, None, Result, Ok, Err}
 use Rattle.label_table.specs.declared.reply.Stale.{Stale}
 use Rattle.login_table.specs.Sound.{IsTable}
 use Rattle.packet_store.specs.declared.sent.Sent.{Sent}
@@ -22,10 +22,10 @@ use Rattle.sbp_journal.specs.declared.note.Note.TheVariants as notes
 use Rattle.sbp_journal.specs.Outgoings.{OutboxState, empty_outbox}
 use Rattle.sbp_target.specs.Nodes.{NodeState}
 use Rattle.sbp_target.specs.Nodes as target
-use Rattle.sbp_target.specs.Receiving.{expired, seen, ticked, with_key}
+use Rattle.sbp_target.specs.Receiving.{expired, with_key}
 use Rattle.sbp_world.specs.declared.parts.delivering.Arrival.{Arrival}
 use Rattle.sbp_world.specs.declared.requests.Request.{Request}
-use Rattle.sbp_world.specs.Delivering.{arrived, arrived_by, at_initiator, at_none, at_target, delivered, delivered_by, initiator_received, initiators_received, judged_note, listed, marked, received_at, received_by, received_step, target_received}
+use Rattle.sbp_world.specs.Delivering.{arrived, at_initiator, at_none, at_target, delivered, delivered_by, initiator_received, initiators_received, judged_note, listed, marked, received_at, received_by, received_step, target_received}
 use Rattle.sbp_world.specs.Generations.{id_of}
 use Rattle.sbp_world.specs.Handing.{handed_out}
 use Rattle.sbp_world.specs.Lines.{acted, acted_by, happens, happens_to, keyed, no_unit, weight_in}
@@ -42,7 +42,6 @@ use Rattle.media_laws.specs.Media.{media_after}
 use Rattle.media_laws.proofs.Ledgers.{Ledger, after_sides, hands_out, hands_target, ledger, ledger_in, posts, seats_in, target_posts}
 use Rattle.media_laws.proofs.Owned.{own_leave}
 use Rattle.media_laws.proofs.Replies.{target_tracks}
-use Rattle.media_laws.proofs.Tables.{seats_of}
 use Rattle.media_laws.proofs.Targets as targets
 use Rattle.media_laws.proofs.Targets.{Tracks, ledger_of}
 

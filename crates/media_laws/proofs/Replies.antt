@@ -1,19 +1,18 @@
 -- A packet that the target receives: a command that runs changes its unit's medium as its note says.
-use Rattle.std.proofs.Common.{◌≡◌, ◌∙◌, refl, sym, ap, subst, ℕ, ◌<◌, nat_lt, Bool, true, false, cond, List, [], ◌∷◌, length, get_or, set, Option, Some, None, Result, Ok, Err, arith}
+use Rattle.std.proofs.Common.{◌≡◌, ◌∙◌, refl, sym, ap, subst, ℕ, ◌<◌, nat_lt, Bool, true, false, cond, List, [], length, Option, Some, None, arith}
 use Rattle.std.specs.Prelude.{slice_index, slice_index_or, slice_set}
 use Rattle.std.proofs.Math.ListN.{length-set}
 use Rattle.std.proofs.lemmas.List.{get_or-set_same, set-get_or}
 use Rattle.async_packet.specs.Labels.{LabelParts}
-use Rattle.async_packet.specs.Packet.{Packet, header_in}
-use Rattle.label_table.specs.Layer.{Layer, Finding, of_generation, of_grammar, of_label, of_response, of_again, of_request, judging_step}
+use Rattle.async_packet.specs.Packet.{header_in}
+use Rattle.label_table.specs.Layer.{Finding, of_generation, of_grammar, of_label, of_response, of_again, of_request, judging_step}
 use Rattle.login_table.specs.declared.login.Login.{Login}
-use Rattle.login_table.specs.Sound.{IsTable}
-use Rattle.login_table.specs.Table.{Table, place_at}
+use Rattle.login_table.specs.Table.{Table}
 use Rattle.login_table.proofs.Searching.{within}
 use Rattle.orb_layout.specs.Replies.{Answer}
 use Rattle.packet_store.specs.declared.sent.Sent.{Sent}
 use Rattle.rbc_disk.specs.declared.command.Outcome.{Outcome}
-use Rattle.rbc_disk.specs.Disk.{Disk, disk_at, no_disk}
+use Rattle.rbc_disk.specs.Disk.{disk_at, no_disk}
 use Rattle.rbc_disk.specs.Held.{Held, held}
 use Rattle.rbc_disk.specs.Runs.{Told, check_in, left_by}
 use Rattle.rbc_disk.specs.Units.{UnitState, plain_disk}
@@ -28,17 +27,17 @@ use Rattle.sbp_journal.specs.Outgoings.{OutboxState, empty_outbox}
 use Rattle.sbp_target.specs.declared.desk.Desk.{Desk}
 use Rattle.sbp_target.specs.declared.purpose.Purpose.{Purpose}
 use Rattle.sbp_target.specs.declared.purpose.Purpose.TheVariants as purposes
-use Rattle.sbp_target.specs.Agents.{follow, noted}
+use Rattle.sbp_target.specs.Agents.{follow}
 use Rattle.sbp_target.specs.Desks.{new_desk, taken, which_in}
-use Rattle.sbp_target.specs.Nodes.{NodeState, Scene, desk_at, login_at, scene, with_desk}
+use Rattle.sbp_target.specs.Nodes.{NodeState, Scene, desk_at, login_at, scene}
 use Rattle.sbp_target.specs.Receiving.{answer_in, concluded, judged_scene, received, received_as, with_layer}
-use Rattle.sbp_target.specs.Replies.{Stage, Whole, advance, advanced_with, agent_step, came, changed_by, follow_all, if_served, plain_at, replied, replied_by, replied_to, replied_with, scene_of, served_login, stage}
+use Rattle.sbp_target.specs.Replies.{Whole, advance, advanced_with, came, changed_by, follow_all, if_served, plain_at, replied, replied_by, replied_to, replied_with, scene_of, served_login, stage}
 use Rattle.sbp_target.specs.Serving.{answered, request_step as served_step}
 use Rattle.sbp_target.specs.Telling.{tell_ran}
 use Rattle.sbp_world.specs.Delivering.{faults_after, faults_at, faults_by, faults_in, left_target, target_received, whole_of}
 use Rattle.media_laws.specs.Media.{run_on}
 use Rattle.media_laws.proofs.Following.{Fits, In, Is, announces_by, answers, follows, notes_tell, tells}
-use Rattle.media_laws.proofs.Ledgers.{Ledger, after_sides, ledger}
+use Rattle.media_laws.proofs.Ledgers.{Ledger, ledger}
 use Rattle.media_laws.proofs.Seats.{Seat, seat_of, unit_at, unit_of}
 use Rattle.media_laws.proofs.Tables.{seat_at, seats_of}
 use Rattle.media_laws.proofs.Targets.{Tracks, in_tracks, ledger_of, manages, request_tells, tracks_in}

@@ -1,7 +1,6 @@
 -- The table of logins through its calls, by the units and the IDs of its logins.
-use Rattle.std.proofs.Common.{◌≡◌, ◌≢◌, ◌∙◌, refl, sym, ap, subst, ℕ, zero, suc, ◌+◌, ◌<◌, ◌%◌, ◌==◌, ◌&&◌, nat_eq, nat_lt, not, Bool, true, false, cond, List, [], ◌∷◌, ◌++◌, length, map, get_or, set, Option, Some, None, Result, Ok, Err, arith, append_assoc}
+use Rattle.std.proofs.Common.{◌≡◌, ◌≢◌, ◌∙◌, refl, sym, ap, subst, ℕ, ◌<◌, ◌&&◌, nat_eq, Bool, true, false, cond, List, [], ◌∷◌, length, map, get_or, set, Option, Some, None, Result, Ok, Err, arith}
 use Rattle.std.specs.Prelude.{IfSome, is_none, position}
-use Rattle.std.specs.List.{AllByRecursion, filter_map}
 use Rattle.std.proofs.Math.ListN.{get_or-map}
 use Rattle.std.proofs.Math.Seq.{map-set_same}
 use Rattle.std.proofs.lemmas.Bool.Decides.{nat_tests}
@@ -16,7 +15,7 @@ use Rattle.login_table.specs.Sound.{IsSound, IsTable}
 use Rattle.login_table.specs.Table as table
 use Rattle.login_table.specs.Table.{Table, back_step, enter_step, entered, expired_id, expired_ids, find, held, hold_step, id_at, id_of, is_held, is_last, is_live, is_live_of, is_old, leave_step, left_for, one_less, place_at, revived, tick_step, ticked}
 use Rattle.login_table.proofs.Kept.{after_kept}
-use Rattle.login_table.proofs.Searching.{Found, found, within}
+use Rattle.login_table.proofs.Searching.{found, within}
 use Rattle.media_laws.proofs.Seats.{Seat, is_empty, seat, seat_has, seat_of, with_seat, without}
 use Rattle.media_laws.proofs.Lists.{put, put_first, replaced, replaced_at, replaced_map}
 

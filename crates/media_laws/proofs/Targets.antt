@@ -1,33 +1,27 @@
 -- Each call of the target changes the logins and the media as what it tells says.
-use Rattle.std.proofs.Common.{◌≡◌, ◌∙◌, refl, sym, ap, subst, ℕ, zero, suc, ◌+◌, ◌<◌, ◌≤◌, nat_lt, Bool, true, false, cond, List, [], ◌∷◌, ◌++◌, length, map, get_or, set, Option, Some, None, Result, Ok, Err, arith}
-use Rattle.std.specs.Prelude.{slice_index, slice_index_or, slice_set}
-use Rattle.std.proofs.Math.ListN.{length-set}
-use Rattle.std.proofs.lemmas.List.{get_or-set_same, length-map, set-get_or}
+use Rattle.std.proofs.Common.{◌≡◌, ◌∙◌, refl, sym, ap, subst, ℕ, zero, suc, ◌+◌, ◌<◌, Bool, true, false, cond, List, [], ◌∷◌, length, get_or, Option, Some, None, Result, Ok, Err, arith}
+use Rattle.std.specs.Prelude.{slice_index_or}
+use Rattle.std.proofs.lemmas.List.{length-map}
 use Rattle.async_packet.specs.Labels.{LabelParts}
 use Rattle.async_packet.specs.Packet.{Packet, header_in}
 use Rattle.label_table.specs.declared.reply.Stale.{Stale}
 use Rattle.label_table.specs.Bodies.{Body}
-use Rattle.label_table.specs.Layer.{Layer, Finding, of_generation, of_grammar, of_label, of_response, of_again, of_request, expiring_step, judging_step, seeing_step}
+use Rattle.label_table.specs.Layer.{Layer, expiring_step, seeing_step}
 use Rattle.login_table.specs.declared.login.Login.{Login}
 use Rattle.login_table.specs.Sound.{IsTable}
 use Rattle.login_table.specs.Table.{Table, expired_ids, hold_step, is_live, place_at, tick_step}
 use Rattle.login_table.proofs.Kept.{hold_kept, tick_kept}
-use Rattle.login_table.proofs.Searching.{within}
 use Rattle.orb_layout.specs.declared.ask.Ask.{Ask}
 use Rattle.orb_layout.specs.declared.ask.FailCause.{FailCause}
 use Rattle.orb_layout.specs.declared.ask.FailCause.TheVariants as causes
 use Rattle.orb_layout.specs.declared.pointer.OrbPointer.{OrbPointer}
 use Rattle.orb_layout.specs.Replies.{Answer, Expired, NoLabel}
-use Rattle.rbc_disk.specs.declared.command.Outcome.{Outcome}
-use Rattle.rbc_disk.specs.Disk.{disk_at}
-use Rattle.rbc_disk.specs.Held.{Held, held}
-use Rattle.rbc_disk.specs.Runs.{Told, check_in, left_by}
+use Rattle.rbc_disk.specs.Held.{Held}
 use Rattle.command_agent.specs.declared.step.AgentStep.{AgentStep}
 use Rattle.command_agent.specs.declared.step.PointRefusal.{PointRefusal}
 use Rattle.command_agent.specs.declared.step.Which.{Which}
 use Rattle.command_agent.specs.Machine.{Machine}
-use Rattle.command_agent.specs.Runs.{count_after}
-use Rattle.command_agent.specs.Steps.{asks, doorbell_step, lost_step, reply_step}
+use Rattle.command_agent.specs.Steps.{asks, doorbell_step}
 use Rattle.mgmt_agent.specs.declared.decision.Decision.{Decision}
 use Rattle.mgmt_agent.specs.declared.decision.Effect.{Effect}
 use Rattle.mgmt_agent.specs.declared.decision.Effect.TheVariants as effects
@@ -37,11 +31,10 @@ use Rattle.mgmt_agent.specs.declared.operation.Operation.{Operation}
 use Rattle.mgmt_agent.specs.declared.operation.Phase.{Phase}
 use Rattle.mgmt_agent.specs.declared.operation.Phase.TheVariants as phases
 use Rattle.mgmt_agent.specs.Machine as management
-use Rattle.sbp_journal.specs.declared.cause.CutCause.{CutCause}
 use Rattle.sbp_journal.specs.declared.cause.CutCause.TheVariants as cuts
 use Rattle.sbp_journal.specs.declared.cause.Judged.{Judged}
 use Rattle.sbp_journal.specs.declared.side.Side.TheVariants as sides
-use Rattle.sbp_journal.specs.Outgoings.{OutboxState, empty_outbox}
+use Rattle.sbp_journal.specs.Outgoings.{OutboxState}
 use Rattle.sbp_target.specs.declared.address.Access.{Access}
 use Rattle.sbp_target.specs.declared.address.Access.TheVariants as accesses
 use Rattle.sbp_target.specs.declared.address.Demand.{Demand}
@@ -50,23 +43,20 @@ use Rattle.sbp_target.specs.declared.desk.Desk.{Desk}
 use Rattle.sbp_target.specs.declared.purpose.Purpose.{Purpose}
 use Rattle.sbp_target.specs.declared.purpose.Purpose.TheVariants as purposes
 use Rattle.sbp_target.specs.Addresses.{demand_of}
-use Rattle.sbp_target.specs.Agents.{cut, follow, noted}
-use Rattle.sbp_target.specs.Desks.{disabled, expired_desk, new_desk, point_desk, taken, which_in}
-use Rattle.sbp_target.specs.Management.{ask_manager, clear_one, cut_placed, decided_by, effect_by, lose_operation, lost_in, manage, managed_in, managed_with, manager_asked, manager_body, manager_lost, manager_sent, place_in, tell_failed, tell_left, with_manager}
+use Rattle.sbp_target.specs.Agents.{cut}
+use Rattle.sbp_target.specs.Desks.{disabled, expired_desk, point_desk, which_in}
+use Rattle.sbp_target.specs.Management.{ask_manager, cut_placed, decided_by, effect_by, lose_operation, lost_in, manage, managed_in, managed_with, manager_asked, manager_body, manager_lost, manager_sent, place_in, tell_failed, tell_left, with_manager}
 use Rattle.sbp_target.specs.Nodes.{NodeState, Scene, desk_at, login_at, scene, with_agent, with_desk}
-use Rattle.sbp_target.specs.Receiving.{answer_in, cleared_node, concluded, expire_agent, expired, expired_by, expired_from, expired_in, expired_with, held_from, judged_scene, received, received_as, reset_by, seen, tell_held, ticked, ticked_by, timed_out, with_layer}
-use Rattle.sbp_target.specs.Replies.{Stage, Whole, advance, advanced_with, agent_step, came, changed_by, follow_all, plain_at, replied, replied_by, replied_to, replied_with, scene_of, served_login, if_served, stage}
+use Rattle.sbp_target.specs.Receiving.{cleared_node, expire_agent, expired, expired_by, expired_from, expired_in, expired_with, held_from, reset_by, seen, tell_held, ticked, ticked_by, timed_out}
 use Rattle.sbp_target.specs.Sending.{request_step, with_side}
 use Rattle.sbp_target.specs.Serving.{accessed_by, answered, asked_in, enabled, is_barred, point, pointed_by, request_step as served_step, ring, rung_by, serve, served_as, start, started_by}
-use Rattle.sbp_target.specs.Telling.{orb_of, tell_ran}
+use Rattle.sbp_target.specs.Telling.{orb_of}
 use Rattle.sbp_target.specs.Units.{cut_all}
-use Rattle.sbp_world.specs.Delivering.{faults_at, faults_by, faults_in}
-use Rattle.media_laws.specs.Media.{run_on}
 use Rattle.media_laws.proofs.Decisions.{after_decision, effect_seats, reply_keeps, reply_tells}
-use Rattle.media_laws.proofs.Following.{Fits, In, Is, announces_by, answers, clears_from, clears_one, cuts_all, cuts_at, cuts_placed, fits_desk, follows, lost_runs, notes_tell, pick, quiet_tells, requests, tells}
-use Rattle.media_laws.proofs.Ledgers.{Ledger, after_sides, by_side, ledger}
-use Rattle.media_laws.proofs.Seats.{Seat, decided_seats, seat_of, unit_at, unit_of, without}
-use Rattle.media_laws.proofs.Tables.{left_seats, logins_held, seat_at, seats_of}
+use Rattle.media_laws.proofs.Following.{Fits, In, Is, answers, clears_from, clears_one, cuts_all, cuts_at, cuts_placed, fits_desk, follows, lost_runs, quiet_tells, requests, tells}
+use Rattle.media_laws.proofs.Ledgers.{Ledger, after_sides, ledger}
+use Rattle.media_laws.proofs.Seats.{Seat, without}
+use Rattle.media_laws.proofs.Tables.{left_seats, logins_held, seats_of}
 use Rattle.media_laws.proofs.Ticks.{after_expired, logins_tick}
 
 -- What was told since makes of the logins and the media at first those of now.

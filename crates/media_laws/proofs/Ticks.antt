@@ -1,11 +1,11 @@
 -- The seconds of held logins: a second removes the logins that it tells.
-use Rattle.std.proofs.Common.{◌≡◌, ◌≢◌, ◌∙◌, refl, sym, ap, subst, ℕ, zero, suc, ◌+◌, nat_eq, Bool, true, false, cond, List, [], ◌∷◌, ◌++◌, length, map, get_or, Option, Some, None, arith}
-use Rattle.std.specs.List.{AllByRecursion, cons_option, filter_map}
+use Rattle.std.proofs.Common.{◌≡◌, ◌≢◌, ◌∙◌, refl, ap, ℕ, suc, nat_eq, Bool, true, false, cond, List, [], ◌∷◌, map, Option, Some, None, arith}
+use Rattle.std.specs.List.{AllByRecursion, cons_option}
 use Rattle.std.proofs.lemmas.Bool.Decides.{nat_tests}
 use Rattle.login_table.specs.declared.login.Login.{Login}
 use Rattle.login_table.specs.Sound.{IsSound}
 use Rattle.login_table.specs.Table.{expired_id, expired_ids, is_last, one_less, place_at, ticked}
-use Rattle.media_laws.proofs.Seats.{Seat, seat, seat_has, seat_of, without}
+use Rattle.media_laws.proofs.Seats.{Seat, seat_has, seat_of, without}
 use Rattle.media_laws.proofs.Tables.{seats_of}
 
 -- the places behind some logins that leave, one after the other
