@@ -2,8 +2,6 @@ mod Fits
 pub mod Kept
 mod ScriptLines
 mod Running
-mod DrillEvents
-pub mod Drilling
 mod Listings
 mod Roms
 mod Words

@@ -1,7 +1,6 @@
 //! The top call of the program.
 #![tactic(auto)]
 
-mod drill;
 mod runner;
 mod script;
 mod status;
