@@ -5,14 +5,11 @@ use Rattle.std.proofs.lemmas.Fmt.{decimal_injective}
 use Rattle.std.proofs.lemmas.Slice.Eq.{bytes_eq-Decides}
 use Rattle.drill_text.specs.Words.{IsDrill}
 use Rattle.sbp_command.specs.declared.status.Status.{Status as CallStatus}
-use Rattle.std.proofs.Common.{◌≡◌, ◌^◌, codes, ◌∙◌, refl, sym, ap, subst, ℕ, ◌+◌, ◌≤◌, ◌<◌, inl, inr, Bool, true, false, List, [], ◌∷◌, ◌++◌, take, drop, length, map, reverse, Option, Some, None, Result, Ok, Err, append_assoc, append-nil, arith}
-use Rattle.std.specs.Prelude.{OnOk, slice_set, slice_index}
+use Rattle.std.proofs.Common.{◌≡◌, ◌^◌, codes, ◌∙◌, refl, sym, ap, subst, ℕ, ◌+◌, ◌<◌, inr, true, false, List, [], ◌∷◌, ◌++◌, drop, length, reverse, Option, Some, None, Ok, Err, append_assoc, append-nil, arith}
 use Rattle.std.specs.List.{AllByRecursion, slice_get}
 use Rattle.std.specs.Io.KnownBytes.{Appends}
-use Rattle.rbc_disk.specs.Disk.{Disk, disk_at}
-use Rattle.rbc_disk.specs.Held.{Held, held}
+use Rattle.rbc_disk.specs.Held.{Held}
 use Rattle.sbp_journal.specs.declared.event.Event.{Event}
-use Rattle.sbp_journal.specs.declared.event.Event.TheVariants as events
 use Rattle.sbp_journal.specs.declared.note.Note.{Note}
 use Rattle.sbp_world.specs.Lines.{Happens}
 use Rattle.sbp_world.specs.Making.{new_world, notes_begin}
@@ -20,11 +17,10 @@ use Rattle.sbp_world.specs.Runs.{entry, with_entry}
 use Rattle.sbp_world.specs.Worlds.{WorldState}
 use Rattle.sbp_world.proofs.Standing.{begins, goes_on}
 use Rattle.script_text.specs.Drill.{generated, turns}
-use Rattle.line_session.specs.Outside.{Outside, outside}
+use Rattle.line_session.specs.Outside.{Outside}
 use Rattle.line_session.specs.Session.{WritesFront}
 use Rattle.line_session.specs.declared.status.Status.{Status}
 use Rattle.line_session.specs.declared.status.Status.TheVariants as stream_statuses
-use Rattle.drill_text.specs.Disks.{SumsUp}
 use Rattle.drill_text.specs.Summary.{summary_text}
 use Rattle.drill_text.specs.Tally.{TallyState, tally_of}
 use Rattle.sbp_command.specs.Drill.{DrillEnds, DrillWrites, RanDrill, SumsFirst, numbered_from}

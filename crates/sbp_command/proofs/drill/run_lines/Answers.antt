@@ -1,5 +1,5 @@
 -- One more line was run, or all were.
-use Rattle.std.proofs.Common.{◌≡◌, ◌∙◌, sym, ap, subst, ◌∷◌, drop, length, arith}
+use Rattle.std.proofs.Common.{◌∙◌, sym, ap, subst, ◌∷◌, drop, length, arith}
 use Rattle.std.specs.List.{AllByRecursion}
 use Rattle.sbp_world.specs.Lines.{IsEvent}
 use Rattle.sbp_command.proofs.Drilling.{drill_more, drill_over, first_left, fits_first, none_left}
