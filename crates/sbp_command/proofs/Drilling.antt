@@ -5,14 +5,11 @@ use Rattle.std.proofs.lemmas.Fmt.{decimal_injective}
 use Rattle.std.proofs.lemmas.Slice.Eq.{bytes_eq-Decides}
 use Rattle.drill_text.specs.Words.{IsDrill}
 use Rattle.sbp_command.specs.declared.status.Status.{Status as CallStatus}
-use Rattle.std.proofs.Common.{◌≡◌, ◌^◌, codes, ◌∙◌, refl, sym, ap, subst, ℕ, ◌+◌, ◌≤◌, ◌<◌, inl, inr, Bool, true, false, List, [], ◌∷◌, ◌++◌, take, drop, length, map, reverse, Option, Some, None, Result, Ok, Err, append_assoc, append-nil, arith}
-use Rattle.std.specs.Prelude.{OnOk, slice_set, slice_index}
+use Rattle.std.proofs.Common.{◌≡◌, ◌^◌, codes, ◌∙◌, refl, sym, ap, subst, ℕ, ◌+◌, ◌<◌, inr, true, false, List, [], ◌∷◌, ◌++◌, drop, length, reverse, Option, Some, None, Ok, Err, append_assoc, append-nil, arith}
 use Rattle.std.specs.List.{AllByRecursion, slice_get}
 use Rattle.std.specs.Io.KnownBytes.{Appends}
-use Rattle.rbc_disk.specs.Disk.{Disk, disk_at}
-use Rattle.rbc_disk.specs.Held.{Held, held}
+use Rattle.rbc_disk.specs.Held.{Held}
 use Rattle.sbp_journal.specs.declared.event.Event.{Event}
-use Rattle.sbp_journal.specs.declared.event.Event.TheVariants as events
 use Rattle.sbp_journal.specs.declared.note.Note.{Note}
 use Rattle.sbp_world.specs.Lines.{Happens}
 use Rattle.sbp_world.specs.Making.{new_world, notes_begin}
@@ -20,11 +17,10 @@ use Rattle.sbp_world.specs.Runs.{entry, with_entry}
 use Rattle.sbp_world.specs.Worlds.{WorldState}
 use Rattle.sbp_world.proofs.Standing.{begins, goes_on}
 use Rattle.script_text.specs.Drill.{generated, turns}
-use Rattle.line_session.specs.Outside.{Outside, outside}
+use Rattle.line_session.specs.Outside.{Outside}
 use Rattle.line_session.specs.Session.{WritesFront}
 use Rattle.line_session.specs.declared.status.Status.{Status}
 use Rattle.line_session.specs.declared.status.Status.TheVariants as stream_statuses
-use Rattle.drill_text.specs.Disks.{SumsUp}
 use Rattle.drill_text.specs.Summary.{summary_text}
 use Rattle.drill_text.specs.Tally.{TallyState, tally_of}
 use Rattle.sbp_command.specs.Drill.{DrillEnds, DrillWrites, RanDrill, SumsFirst, numbered_from}
@@ -34,6 +30,7 @@ use Rattle.sbp_command.specs.Served.{Serves}
 use Rattle.sbp_command.specs.Machine.{events_of, journal}
 use Rattle.sbp_command.specs.Runner.{scene_of}
 use Rattle.sbp_command.proofs.Kept.{world_fresh}
+use Rattle.sbp_command.proofs.Media.{run_fits, run_leaves}
 
 -- ---- the lines that are left
 
@@ -97,21 +94,23 @@ drill_over start media all left line tally w l h = record {
     events_are = sym (append-nil (events_of 1 h.run)) ∙ subst (λ es. events_of 1 h.run ++ numbered_from (line + 1) es ≡ numbered_from 1 all) l h.events_are;
     notes_are = refl;
     media_are = ap (λ s. s.media) h.stands.state;
+    media_fit = run_fits h.run start media h.start_is h.few h.stands.lines (ap (λ s. s.media) h.stands.state);
+    leaves = run_leaves 1 h.run start media h.start_is h.few h.stands.lines (ap (λ s. s.media) h.stands.state);
   };
   tally_is = h.tally_is;
 }
 
 -- ---- the summary
 
-pub drill_summed : (seed count : ℕ) (start media now : Held) (tally : TallyState) (disk : Option ℕ) (output : List ℕ) → TalliedRun start (generated seed count) tally media → SumsFirst disk media now
-    → output ≡ summary_text (record { seed = seed; count = count; tally = tally; disk = disk }) → RanDrill seed count start now output
-drill_summed seed count start media now tally disk output h s e = record {
+pub drill_summed : (seed count : ℕ) (start media now : Held) (tally : TallyState) (disk : Option ℕ) (old output : List ℕ) → TalliedRun start (generated seed count) tally media → SumsFirst disk media now → old ≡ []
+    → output ≡ old ++ summary_text (record { seed = seed; count = count; tally = tally; disk = disk }) → RanDrill seed count start now output
+drill_summed seed count start media now tally disk old output h s n e = record {
   notes = h.notes;
   media = media;
   disk = disk;
   ran = h.ran;
   summed = s;
-  output_is = e ∙ ap (λ t. summary_text (record { seed = seed; count = count; tally = t; disk = disk })) h.tally_is;
+  output_is = e ∙ ap (λ lines. lines ++ summary_text (record { seed = seed; count = count; tally = tally; disk = disk })) n ∙ ap (λ t. summary_text (record { seed = seed; count = count; tally = t; disk = disk })) h.tally_is;
 }
 
 -- ---- how it ends
@@ -207,5 +206,3 @@ serves_usage words status before now run decode rom drill r = record {
   rom = λ h. absurd (rom h);
   others = λ a b c d. r;
 }
-
-pub ruleset serving = (serves_run, serves_decode, serves_rom, serves_drill, serves_usage)

@@ -3,7 +3,7 @@ pub mod Kept
 mod ScriptLines
 mod Running
 mod DrillEvents
-pub mod Drilling
+mod Drilling
 mod Listings
 mod Roms
 mod Words

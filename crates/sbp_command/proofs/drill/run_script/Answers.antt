@@ -1,10 +1,9 @@
 -- The run begins, and its lines follow.
-use Rattle.std.proofs.Common.{◌≡◌, ◌∙◌, sym, ap, subst, [], drop, length, reverse, arith}
+use Rattle.std.proofs.Common.{◌∙◌, sym, ap, subst, true, [], drop, length, reverse, arith}
 use Rattle.std.specs.List.{AllByRecursion}
 use Rattle.std.proofs.lemmas.List.{length-map}
 use Rattle.sbp_journal.specs.Form.{HasForm}
 use Rattle.sbp_journal.proofs.Each.{all_reverse}
-use Rattle.script_text.specs.Drill.{turns}
 use Rattle.sbp_world.specs.Lines.{IsEvent}
 use Rattle.sbp_world.proofs.Delivered.{on_ok}
 use Rattle.sbp_world.proofs.LineForms.{form_law}
