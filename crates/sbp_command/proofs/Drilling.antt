@@ -34,6 +34,7 @@ use Rattle.sbp_command.specs.Served.{Serves}
 use Rattle.sbp_command.specs.Machine.{events_of, journal}
 use Rattle.sbp_command.specs.Runner.{scene_of}
 use Rattle.sbp_command.proofs.Kept.{world_fresh}
+use Rattle.sbp_command.proofs.Media.{run_fits, run_leaves}
 
 -- ---- the lines that are left
 
@@ -97,6 +98,8 @@ drill_over start media all left line tally w l h = record {
     events_are = sym (append-nil (events_of 1 h.run)) ∙ subst (λ es. events_of 1 h.run ++ numbered_from (line + 1) es ≡ numbered_from 1 all) l h.events_are;
     notes_are = refl;
     media_are = ap (λ s. s.media) h.stands.state;
+    media_fit = run_fits h.run start media h.start_is h.few h.stands.lines (ap (λ s. s.media) h.stands.state);
+    leaves = run_leaves 1 h.run start media h.start_is h.few h.stands.lines (ap (λ s. s.media) h.stands.state);
   };
   tally_is = h.tally_is;
 }
