@@ -3,7 +3,7 @@ ghost use Rattle.script_text.specs.Line.{reading};
 ghost use Rattle.sbp_command.specs.Runner.{HasBytes};
 ghost use Rattle.sbp_command.specs.Script.{Hears, error_of, heard};
 
-use crate::typed::event_fits;
+use crate::typed::said_fits;
 use line_session::LineError;
 use sbp_journal::Event;
 use script_text::LineFault;
@@ -34,11 +34,10 @@ pub fn read_event(alloc: Global, line: &[u8], initiators: u8) -> Result<Option<E
     ensures bytes { IfOk result (λ said. IfSome said HasBytes) }
 {
     match script_text::read_line(alloc, line, initiators) {
-        Ok(Some(event)) => {
-            event_fits(&event);
-            Ok(Some(event))
+        Ok(said) => {
+            said_fits(&said);
+            Ok(said)
         }
-        Ok(None) => Ok(None),
         Err(fault) => Err(line_error(fault)),
     }
 }

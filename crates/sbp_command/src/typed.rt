@@ -1,6 +1,6 @@
 //! The bytes of an event are bytes. A proof knows what the type of a number says where the number is
 //! read, so they are read here once; nothing else is done.
-ghost use Rattle.std.specs.Prelude.{◌<◌};
+ghost use Rattle.std.specs.Prelude.{◌<◌, IfSome};
 ghost use Rattle.std.specs.List.{All};
 ghost use Rattle.bus_transactions.specs.Fitting.{AreBytes};
 ghost use Rattle.initiator_laws.specs.Fitting.{BytesAction, BytesCommand};
@@ -37,12 +37,21 @@ fn action_fits(action: &Action)
 }
 
 /// An event.
-pub(crate) fn event_fits(event: &Event)
+fn event_fits(event: &Event)
     ensures { HasBytes event.now }
 {
     match event {
         Event::Act { action, .. } => action_fits(action),
         Event::Inject { bytes, .. } => bytes_fit(bytes.as_slice()),
         _ => {}
+    }
+}
+
+/// What a line says: an event, or nothing.
+pub(crate) fn said_fits(said: &Option<Event>)
+    ensures { IfSome said.now HasBytes }
+{
+    if let Some(event) = said {
+        event_fits(event);
     }
 }
