@@ -113,15 +113,15 @@ drill_over start media all left line tally w l few h = record {
 
 -- ---- the summary
 
-pub drill_summed : (seed count : ℕ) (start media now : Held) (tally : TallyState) (disk : Option ℕ) (output : List ℕ) → TalliedRun start (generated seed count) tally media → SumsFirst disk media now
-    → output ≡ summary_text (record { seed = seed; count = count; tally = tally; disk = disk }) → RanDrill seed count start now output
-drill_summed seed count start media now tally disk output h s e = record {
+pub drill_summed : (seed count : ℕ) (start media now : Held) (tally : TallyState) (disk : Option ℕ) (old output : List ℕ) → TalliedRun start (generated seed count) tally media → SumsFirst disk media now → old ≡ []
+    → output ≡ old ++ summary_text (record { seed = seed; count = count; tally = tally; disk = disk }) → RanDrill seed count start now output
+drill_summed seed count start media now tally disk old output h s n e = record {
   notes = h.notes;
   media = media;
   disk = disk;
   ran = h.ran;
   summed = s;
-  output_is = e ∙ ap (λ t. summary_text (record { seed = seed; count = count; tally = t; disk = disk })) h.tally_is;
+  output_is = e ∙ ap (λ lines. lines ++ summary_text (record { seed = seed; count = count; tally = tally; disk = disk })) n ∙ ap (λ t. summary_text (record { seed = seed; count = count; tally = t; disk = disk })) h.tally_is;
 }
 
 -- ---- how it ends
@@ -217,5 +217,3 @@ serves_usage words status before now run decode rom drill r = record {
   rom = λ h. absurd (rom h);
   others = λ a b c d. r;
 }
-
-pub ruleset serving = (serves_run, serves_decode, serves_rom, serves_drill, serves_usage)

@@ -6,7 +6,7 @@ pub mod Kept
 mod ScriptLines
 mod Running
 mod DrillEvents
-pub mod Drilling
+mod Drilling
 mod Listings
 mod Roms
 mod Words

@@ -102,7 +102,6 @@ fn list_rom<S: Source, K: Sink>(
 /// `rom` reads the quadlets of one configuration ROM in hexadecimal lines and writes its listing;
 /// `drill` reads nothing, runs a script that is drawn from a seed and writes six lines on it. The words
 /// are read as they are.
-#[tactic(auto, using(crate::proofs::Drilling::serving))]
 pub fn sbp2<S: Source, K: Sink>(
     alloc: Global,
     words: &[String],
