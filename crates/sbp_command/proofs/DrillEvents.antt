@@ -13,7 +13,7 @@ use Rattle.script_text.specs.Drill.{is_due, settle, turns}
 use Rattle.sbp_initiator.specs.Lists.{IsCommand}
 use Rattle.sbp_world.specs.Lines.{IsEvent}
 use Rattle.bus_transactions.specs.Fitting.{AreBytes}
-use Rattle.bus_transactions.proofs.Fits.{bytes_append, bytes_quad, bytes_zeros, no_bytes}
+use Rattle.bus_transactions.proofs.Fits.{bytes_append, bytes_quad, no_bytes}
 use Rattle.initiator_laws.specs.Fitting.{BytesCommand}
 use Rattle.world_laws.specs.Lines.{IsLine}
 
@@ -44,9 +44,9 @@ turn_fits x = turn_of_fits (next x) (next (next x)) (next (next (next x)))
 
 -- ---- lines of the wire
 
-small_of : (m x : ℕ) → 0 < m → m ≤ 256 → drawn x m < 256
+drawn_byte : (x : ℕ) → drawn x 256 < 256
 unfolding drawn
-small_of m x some few = omega arith
+drawn_byte x = omega arith
 
 with_byte : (byte : ℕ) (bytes : List ℕ) → byte < 256 → AreBytes bytes → AreBytes (byte ∷ bytes)
 with_byte byte bytes small a zero = small
@@ -64,9 +64,12 @@ pair_bytes x (suc (suc k)) = omega arith
 
 block_bytes : (opcode lba count : ℕ) → opcode < 256 → AreBytes (addressed_block Ten opcode lba count)
 block_bytes opcode lba count small =
-    with_byte opcode _ small (with_byte 0 _ (omega arith)
-    (bytes_append (big_bytes 4 lba) _ (bytes_quad lba) (with_byte 0 _ (omega arith)
-    (bytes_append (big_bytes 2 count) _ (pair_bytes count) (bytes_zeros 3)))))
+    let zeros : AreBytes (0 ∷ 0 ∷ 0 ∷ []) = with_byte 0 (0 ∷ 0 ∷ []) (omega arith) (with_byte 0 (0 ∷ []) (omega arith) (with_byte 0 [] (omega arith) no_bytes)) in
+    let blocks : AreBytes (big_bytes 2 count ++ (0 ∷ 0 ∷ 0 ∷ [])) = bytes_append (big_bytes 2 count) (0 ∷ 0 ∷ 0 ∷ []) (pair_bytes count) zeros in
+    let behind : AreBytes (big_bytes 4 lba ++ (0 ∷ (big_bytes 2 count ++ (0 ∷ 0 ∷ 0 ∷ []))))
+    = bytes_append (big_bytes 4 lba) (0 ∷ (big_bytes 2 count ++ (0 ∷ 0 ∷ 0 ∷ []))) (bytes_quad lba) (with_byte 0 (big_bytes 2 count ++ (0 ∷ 0 ∷ 0 ∷ [])) (omega arith) blocks) in
+    with_byte opcode (0 ∷ (big_bytes 4 lba ++ (0 ∷ (big_bytes 2 count ++ (0 ∷ 0 ∷ 0 ∷ []))))) small
+    (with_byte 0 (big_bytes 4 lba ++ (0 ∷ (big_bytes 2 count ++ (0 ∷ 0 ∷ 0 ∷ [])))) (omega arith) behind)
 
 write_bytes : (lba byte : ℕ) → byte < 256 → BytesCommand (block_write lba byte)
 unfolding block_write block_of
@@ -79,7 +82,7 @@ read_bytes lba = record { cdb = block_bytes 0x28 lba 1 (omega arith); payload = 
 turn_of_is : (x1 x2 x3 : ℕ) → IsLine (turn_of x1 x2 x3).event 2
 turn_of_is x1 x2 x3 =
     elim (drawn x2 2 == 0) as (λ t. IsLine (cond t (appending (drawn x1 2) (block_write (drawn x3 64) (drawn (next x3) 256)) (next x3)) (appending (drawn x1 2) (block_read (drawn x3 64)) x3)).event 2) [
-      | true ↦ (drawn_two x1, write_bytes (drawn x3 64) (drawn (next x3) 256) (small_of 256 (next x3) (omega arith) (omega arith)))
+      | true ↦ (drawn_two x1, write_bytes (drawn x3 64) (drawn (next x3) 256) (drawn_byte (next x3)))
       | false ↦ (drawn_two x1, read_bytes (drawn x3 64))
     ]
 

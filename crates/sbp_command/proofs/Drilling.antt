@@ -5,7 +5,7 @@ use Rattle.std.proofs.lemmas.Fmt.{decimal_injective}
 use Rattle.std.proofs.lemmas.Slice.Eq.{bytes_eq-Decides}
 use Rattle.drill_text.specs.Words.{IsDrill}
 use Rattle.sbp_command.specs.declared.status.Status.{Status as CallStatus}
-use Rattle.std.proofs.Common.{◌≡◌, ◌^◌, codes, ◌∙◌, refl, sym, ap, subst, ℕ, ◌+◌, ◌≤◌, ◌<◌, inl, inr, Bool, true, false, List, [], ◌∷◌, ◌++◌, take, drop, length, map, reverse, Option, Some, None, Result, Ok, Err, append_assoc, append-nil, arith}
+use Rattle.std.proofs.Common.{◌≡◌, ◌^◌, codes, ◌∙◌, refl, sym, ap, subst, ℕ, suc, ◌+◌, ◌≤◌, ◌<◌, inl, inr, Bool, true, false, List, [], ◌∷◌, ◌++◌, take, drop, length, map, reverse, Option, Some, None, Result, Ok, Err, append_assoc, append-nil, arith}
 use Rattle.std.specs.Prelude.{OnOk, slice_set, slice_index}
 use Rattle.std.specs.List.{AllByRecursion, slice_get}
 use Rattle.std.specs.Io.KnownBytes.{Appends}
@@ -88,7 +88,7 @@ drill_more start old media all left rest line event before after w v l k t i h =
   tally_is = t (journal h.run) h.tally_is;
   stands = goes_on h.run (line + 1) event (scene_of w old) (scene_of v media) h.stands k;
   lines = more_lines h.run (entry (line + 1) event k.told v.fresh) (scene_of w old) h.stands.state i h.lines;
-  count = ap (λ n. n + 1) h.count;
+  count = let before : length h.run.entries + 1 ≡ line = h.count in let now : suc (length h.run.entries) + 1 ≡ line + 1 = omega (arith, before) in now;
 }
 
 -- all was run
