@@ -5,22 +5,27 @@ use Rattle.std.proofs.lemmas.Fmt.{decimal_injective}
 use Rattle.std.proofs.lemmas.Slice.Eq.{bytes_eq-Decides}
 use Rattle.drill_text.specs.Words.{IsDrill}
 use Rattle.sbp_command.specs.declared.status.Status.{Status as CallStatus}
-use Rattle.std.proofs.Common.{◌≡◌, ◌^◌, codes, ◌∙◌, refl, sym, ap, subst, ℕ, ◌+◌, ◌<◌, inr, true, false, List, [], ◌∷◌, ◌++◌, drop, length, reverse, Option, Some, None, Ok, Err, append_assoc, append-nil, arith}
+use Rattle.std.proofs.Common.{◌≡◌, ◌^◌, codes, ◌∙◌, refl, sym, ap, subst, ℕ, suc, ◌+◌, ◌≤◌, ◌<◌, inl, inr, Bool, true, false, List, [], ◌∷◌, ◌++◌, take, drop, length, map, reverse, Option, Some, None, Result, Ok, Err, append_assoc, append-nil, arith}
+use Rattle.std.specs.Prelude.{OnOk, slice_set, slice_index}
 use Rattle.std.specs.List.{AllByRecursion, slice_get}
 use Rattle.std.specs.Io.KnownBytes.{Appends}
-use Rattle.rbc_disk.specs.Held.{Held}
+use Rattle.rbc_disk.specs.Disk.{Disk, disk_at}
+use Rattle.rbc_disk.specs.Held.{Held, held}
 use Rattle.sbp_journal.specs.declared.event.Event.{Event}
+use Rattle.sbp_journal.specs.declared.event.Event.TheVariants as events
 use Rattle.sbp_journal.specs.declared.note.Note.{Note}
 use Rattle.sbp_world.specs.Lines.{Happens}
 use Rattle.sbp_world.specs.Making.{new_world, notes_begin}
 use Rattle.sbp_world.specs.Runs.{entry, with_entry}
 use Rattle.sbp_world.specs.Worlds.{WorldState}
 use Rattle.sbp_world.proofs.Standing.{begins, goes_on}
+use Rattle.world_laws.specs.Lines.{IsLine}
 use Rattle.script_text.specs.Drill.{generated, turns}
-use Rattle.line_session.specs.Outside.{Outside}
+use Rattle.line_session.specs.Outside.{Outside, outside}
 use Rattle.line_session.specs.Session.{WritesFront}
 use Rattle.line_session.specs.declared.status.Status.{Status}
 use Rattle.line_session.specs.declared.status.Status.TheVariants as stream_statuses
+use Rattle.drill_text.specs.Disks.{SumsUp}
 use Rattle.drill_text.specs.Summary.{summary_text}
 use Rattle.drill_text.specs.Tally.{TallyState, tally_of}
 use Rattle.sbp_command.specs.Drill.{DrillEnds, DrillWrites, RanDrill, SumsFirst, numbered_from}
@@ -31,6 +36,7 @@ use Rattle.sbp_command.specs.Machine.{events_of, journal}
 use Rattle.sbp_command.specs.Runner.{scene_of}
 use Rattle.sbp_command.proofs.Kept.{world_fresh}
 use Rattle.sbp_command.proofs.Media.{run_fits, run_leaves}
+use Rattle.sbp_command.proofs.Wires.{more_lines, run_of_wire}
 
 -- ---- the lines that are left
 
@@ -58,6 +64,8 @@ drill_begins seed count units start tally u e = record {
   events_are = refl;
   tally_is = e;
   stands = begins 2 true units start;
+  lines = tt;
+  count = refl;
 }
 
 -- the same, of a script, a world and a tally that are these
@@ -70,8 +78,8 @@ drill_begun seed count units start script tally world said s w u t n =
 
 -- a line was run
 pub drill_more : (start old media : Held) (all left rest : List Event) (line : ℕ) (event : Event) (before after : TallyState) (w v : WorldState) → left ≡ event ∷ rest → Happens (line + 1) event (scene_of w old) (scene_of v media)
-    → ((notes : List Note) → before ≡ tally_of notes → after ≡ tally_of (notes ++ reverse v.fresh)) → InDrill start all line left before w old → InDrill start all (line + 1) rest after v media
-drill_more start old media all left rest line event before after w v l k t h = record {
+    → ((notes : List Note) → before ≡ tally_of notes → after ≡ tally_of (notes ++ reverse v.fresh)) → IsLine event (length w.initiators) → InDrill start all line left before w old → InDrill start all (line + 1) rest after v media
+drill_more start old media all left rest line event before after w v l k t i h = record {
   run = with_entry h.run (entry (line + 1) event k.told v.fresh);
   start_is = h.start_is;
   units_are = h.units_are;
@@ -79,11 +87,13 @@ drill_more start old media all left rest line event before after w v l k t h = r
   events_are = append_assoc (events_of 1 h.run) ((line + 1, event) ∷ []) (numbered_from (line + 1 + 1) rest) ∙ subst (λ es. events_of 1 h.run ++ numbered_from (line + 1) es ≡ numbered_from 1 all) l h.events_are;
   tally_is = t (journal h.run) h.tally_is;
   stands = goes_on h.run (line + 1) event (scene_of w old) (scene_of v media) h.stands k;
+  lines = more_lines h.run (entry (line + 1) event k.told v.fresh) (scene_of w old) h.stands.state i h.lines;
+  count = let before : length h.run.entries + 1 ≡ line = h.count in let now : suc (length h.run.entries) + 1 ≡ line + 1 = omega (arith, before) in now;
 }
 
 -- all was run
-pub drill_over : (start media : Held) (all left : List Event) (line : ℕ) (tally : TallyState) (w : WorldState) → left ≡ [] → InDrill start all line left tally w media → TalliedRun start all tally media
-drill_over start media all left line tally w l h = record {
+pub drill_over : (start media : Held) (all left : List Event) (line : ℕ) (tally : TallyState) (w : WorldState) → left ≡ [] → line ≤ 20001 → InDrill start all line left tally w media → TalliedRun start all tally media
+drill_over start media all left line tally w l few h = record {
   notes = journal h.run;
   ran = record {
     line = 1;
@@ -96,6 +106,7 @@ drill_over start media all left line tally w l h = record {
     media_are = ap (λ s. s.media) h.stands.state;
     media_fit = run_fits h.run start media h.start_is h.few h.stands.lines (ap (λ s. s.media) h.stands.state);
     leaves = run_leaves 1 h.run start media h.start_is h.few h.stands.lines (ap (λ s. s.media) h.stands.state);
+    of_wire = run_of_wire 1 h.run h.few (let count = h.count in omega (arith, count, few)) h.stands.lines h.lines;
   };
   tally_is = h.tally_is;
 }

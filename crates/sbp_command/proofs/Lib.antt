@@ -1,4 +1,7 @@
+mod EventBytes
+mod OwnIds
 mod Fits
+mod Wires
 pub mod Kept
 mod ScriptLines
 mod Running

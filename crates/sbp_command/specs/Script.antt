@@ -1,5 +1,5 @@
 -- The script of `run`, line by line.
-use Rattle.std.specs.Prelude.{◌≡◌, ℕ, List, [], ◌∷◌, Option, Some, Result, Ok, Err}
+use Rattle.std.specs.Prelude.{◌≡◌, ℕ, List, [], ◌∷◌, Option, Some, None, Result, Ok, Err}
 use Rattle.sbp_journal.specs.declared.event.Event.{Event}
 use Rattle.script_text.specs.Line.{reading}
 use Rattle.script_text.specs.Script.{Script, fault_number, initiators_after, line_says, numbered, script_from}

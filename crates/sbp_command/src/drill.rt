@@ -8,6 +8,7 @@ ghost use Rattle.sbp_journal.specs.declared.note.Note as notes;
 ghost use Rattle.sbp_world.specs.Lines.{Happens, IsEvent};
 ghost use Rattle.sbp_world.specs.Making.{new_world};
 ghost use Rattle.sbp_world.specs.Worlds.{scene};
+ghost use Rattle.world_laws.specs.Lines.{IsLine};
 ghost use Rattle.drill_text.specs.Tally.{tally_of};
 ghost use Rattle.sbp_command.specs.Drill.{DrillEnds, RanDrill};
 ghost use Rattle.sbp_command.specs.Drilling.{InDrill, TalliedRun};
@@ -57,6 +58,7 @@ fn run_lines(
     requires initiators { length world.old.initiators ≡ 2 }
     requires few { length script.old ≤ 20000 }
     requires events { AllByRecursion (λ event. IsEvent event 2) script.old }
+    requires wire { AllByRecursion (λ event. IsLine event 2) script.old }
     ensures size { length media.new.items ≡ length media.old.items }
     ensures ran { OnOk result ((start : Held) (all : List events.Event) → InDrill start all 1 script.old tally.old world.old (held (map disk media.old.items) (map media_faults media.old.items)) → TalliedRun start all tally.new (held (map disk media.new.items) (map media_faults media.new.items))) }
 {

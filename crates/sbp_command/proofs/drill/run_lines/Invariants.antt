@@ -4,6 +4,7 @@ use Rattle.std.specs.List.{AllByRecursion}
 use Rattle.rbc_disk.specs.Held.{Held, held}
 use Rattle.sbp_journal.specs.declared.event.Event.{Event}
 use Rattle.sbp_world.specs.Lines.{IsEvent}
+use Rattle.world_laws.specs.Lines.{IsLine}
 use Rattle.sbp_command.specs.Drilling.{InDrill}
 use Rattle.sbp_command.proofs.drill.run_lines.Given as goal
 
@@ -14,6 +15,7 @@ invariant-lines g l = record {
   initiators : length l.world.initiators ≡ 2;
   few : l.line + length l.script ≤ 20001;
   events : AllByRecursion (λ event. IsEvent event 2) l.script;
+  lines : AllByRecursion (λ event. IsLine event 2) l.script;
   so_far : (start : Held) (all : List Event)
       → InDrill start all 1 l.initial.script l.initial.tally l.initial.world (held (map (λ b. (goal.Medium-dyn g (b.vtable, b.value)).disk b.value) l.initial.media.items) (map (λ b. (goal.Medium-dyn g (b.vtable, b.value)).media_faults b.value) l.initial.media.items))
       → InDrill start all l.line l.script l.tally l.world (held (map (λ b. (goal.Medium-dyn g (b.vtable, b.value)).disk b.value) l.media.items) (map (λ b. (goal.Medium-dyn g (b.vtable, b.value)).media_faults b.value) l.media.items));

@@ -1,13 +1,15 @@
 -- The run begins, and its lines follow.
-use Rattle.std.proofs.Common.{◌∙◌, sym, ap, subst, true, [], drop, length, reverse, arith}
+use Rattle.std.proofs.Common.{◌≡◌, ◌∙◌, sym, ap, subst, true, [], drop, length, reverse, arith}
 use Rattle.std.specs.List.{AllByRecursion}
 use Rattle.std.proofs.lemmas.List.{length-map}
 use Rattle.sbp_journal.specs.Form.{HasForm}
 use Rattle.sbp_journal.proofs.Each.{all_reverse}
+use Rattle.script_text.specs.Drill.{turns}
 use Rattle.sbp_world.specs.Lines.{IsEvent}
+use Rattle.world_laws.specs.Lines.{IsLine}
 use Rattle.sbp_world.proofs.Delivered.{on_ok}
 use Rattle.sbp_world.proofs.LineForms.{form_law}
-use Rattle.sbp_command.proofs.DrillEvents.{lines_few, lines_fit}
+use Rattle.sbp_command.proofs.DrillEvents.{lines_are, lines_few, lines_fit}
 use Rattle.sbp_command.proofs.Drilling.{drill_begun}
 use Rattle.sbp_command.proofs.Kept.{world_count, world_units}
 use Rattle.sbp_command.proofs.drill.run_script.Goals as goal
@@ -31,6 +33,9 @@ run_lines-requires-clause-few g c =
 
 pub run_lines-requires-clause-events : goal.run_lines-requires-clause-events
 run_lines-requires-clause-events g c = subst (AllByRecursion (λ event. IsEvent event 2)) (sym (c.in_ok-world.ensures.rest ∙ ap (λ es. drop 1 es) c.new-script.ensures)) (lines_fit c.args.words.count 1 c.args.words.seed)
+
+pub run_lines-requires-clause-wire : goal.run_lines-requires-clause-wire
+run_lines-requires-clause-wire g c = subst (AllByRecursion (λ event. IsLine event 2)) (sym (c.in_ok-world.ensures.rest ∙ ap (λ es. drop 1 es) c.new-script.ensures)) (lines_are c.args.words.count 1 c.args.words.seed)
 
 pub returns-clause-ran : goal.returns-clause-ran
 returns-clause-ran g c =
