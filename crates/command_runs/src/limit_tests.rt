@@ -94,7 +94,6 @@ fn words_are_read(rt: HostRuntime) -> Result<(), Fail> {
         ("run run", Status::Words, USAGE),
         ("Run", Status::Words, USAGE),
         ("decode -", Status::Words, USAGE),
-        ("drill 1 5", Status::Words, USAGE),
         ("tasks", Status::Words, USAGE),
         ("queue", Status::Words, USAGE),
     ] {

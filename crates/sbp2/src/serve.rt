@@ -1,6 +1,6 @@
 ghost use Rattle.std.specs.Prelude.{◌≡◌, map, length, IfOk};
 ghost use Rattle.std.specs.String.{string_bytes};
-ghost use Rattle.sbp_command.specs.Headline.{RunEnds, ListingEnds, RomEnds, UsageEnds, IsRun, IsDecode, IsRom};
+ghost use Rattle.sbp_command.specs.Served.{Serves};
 ghost use Rattle.rbc_disk.specs.Held.{held};
 ghost use Rattle.sbp2.specs.ProgramMedia as spec;
 ghost use Rattle.sbp2.specs.ProgramMedia.{two_discs, second_fails, program_media, beside, EndsOver};
@@ -18,10 +18,7 @@ pub(crate) fn serve<S: Source, K: Sink>(
     source: &mut S,
     sink: &mut K,
 ) -> Result<Status, NoMemory>
-    ensures run { IfOk result (λ status. IsRun (map string_bytes words.now) → EndsOver (RunEnds status) (beside (S.left source.old) (S.faults source.old) (K.written sink.old) (K.faults sink.old)) (beside (S.left source.new) (S.faults source.new) (K.written sink.new) (K.faults sink.new))) }
-    ensures decode { IfOk result (λ status. IsDecode (map string_bytes words.now) → EndsOver (ListingEnds status) (beside (S.left source.old) (S.faults source.old) (K.written sink.old) (K.faults sink.old)) (beside (S.left source.new) (S.faults source.new) (K.written sink.new) (K.faults sink.new))) }
-    ensures rom { IfOk result (λ status. IsRom (map string_bytes words.now) → EndsOver (RomEnds status) (beside (S.left source.old) (S.faults source.old) (K.written sink.old) (K.faults sink.old)) (beside (S.left source.new) (S.faults source.new) (K.written sink.new) (K.faults sink.new))) }
-    ensures words { IfOk result (λ status. ¬ IsRun (map string_bytes words.now) → ¬ IsDecode (map string_bytes words.now) → ¬ IsRom (map string_bytes words.now) → EndsOver (UsageEnds status) (beside (S.left source.old) (S.faults source.old) (K.written sink.old) (K.faults sink.old)) (beside (S.left source.new) (S.faults source.new) (K.written sink.new) (K.faults sink.new))) }
+    ensures { IfOk result (λ status. EndsOver (Serves (map string_bytes words.now) status) (beside (S.left source.old) (S.faults source.old) (K.written sink.old) (K.faults sink.old)) (beside (S.left source.new) (S.faults source.new) (K.written sink.new) (K.faults sink.new))) }
 {
     let bay: Box<dyn Medium> = Box::new(alloc, two_discs(alloc)?)?;
     let locked: Box<dyn Medium> = Box::new(alloc, locked(alloc)?)?;

@@ -36,7 +36,9 @@ use Rattle.script_text.specs.Line.{action_of, all_differ, arguments, event_of, f
 use Rattle.sbp_initiator.specs.Lists.{IsCommand}
 use Rattle.sbp_initiator.specs.Acting.{IsAction}
 use Rattle.sbp_world.specs.Lines.{IsEvent}
-use Rattle.sbp_command.specs.Runner.{IsBeginning}
+use Rattle.world_laws.specs.Lines.{IsLine}
+use Rattle.sbp_command.specs.Runner.{HasBytes, IsBeginning}
+use Rattle.sbp_command.proofs.OwnIds.{AreAtMost, HasOwnIds, ids_apart, is_line}
 
 -- ---- words
 
@@ -188,11 +190,25 @@ cmd_fits (Some verb) ws = then_command (command verb ws) (plain_command verb ws)
     then_command (Ok cmd) p = end_fits ws cmd p
     then_command (Err fault) p = tt
 
+-- ---- the IDs of a reset
+
+numbers_small : (low high : ℕ) (ws : List (List ℕ)) (ids : List ℕ) → numbers low high ws ≡ Ok ids → AreAtMost high ids
+numbers_small low high ws ids e =
+    let c = chosen_is (list_all (is_between low high) ws) (map value ws) ids faults.Range e in
+    subst (AreAtMost high) c.1 (each ws c.0)
+  where
+    each : (words : List (List ℕ)) → list_all (is_between low high) words ≡ true → AreAtMost high (map value words)
+    each [] all i there = absurd (omega arith)
+    each (word ∷ words) all zero there =
+        let first = (both (is_between low high word) (list_all (is_between low high) words) all).0 in
+        leb-true (value word) high (both (nat_le low (value word)) (nat_le (value word) high) first).1
+    each (word ∷ words) all (suc i) there = each words (both (is_between low high word) (list_all (is_between low high) words) all).1 i (omega arith)
+
 -- ---- events
 
--- an event that names an initiator there is
+-- an event that names an initiator there is; the IDs of a reset are physical ones
 abbrev Fits : ℕ → Event → Type 0
-Fits n event = names_none n event ≡ false → IsEvent event n
+Fits n event = names_none n event ≡ false → IsEvent event n × HasOwnIds event
 
 turned : (b : Bool) → not b ≡ false → b ≡ true
 turned true e = refl
@@ -224,13 +240,13 @@ placed_fits placings.Put cmd h = h
 placed_fits placings.Append cmd h = h
 
 fate_fits : (fate : Fate) (serial n : ℕ) → Fits n (fated fate serial)
-fate_fits fates.Deliver serial n = λ e. tt
-fate_fits fates.Repeat serial n = λ e. tt
-fate_fits fates.Lose serial n = λ e. tt
-fate_fits fates.Timeout serial n = λ e. tt
+fate_fits fates.Deliver serial n = λ e. (tt, tt)
+fate_fits fates.Repeat serial n = λ e. (tt, tt)
+fate_fits fates.Lose serial n = λ e. (tt, tt)
+fate_fits fates.Timeout serial n = λ e. (tt, tt)
 
 act_fits : (n i : ℕ) (action : Action) → IsAction action → Fits n (events.Act i action)
-act_fits n i action h = λ e. (named i n e, h)
+act_fits n i action h = λ e. ((named i n e, h), tt)
 
 row_act : (n : ℕ) (act : Act) (ws : List (List ℕ)) → IfOk (event_of (rows.Act act) ws) (Fits n)
 row_act n act [] = tt
@@ -282,14 +298,14 @@ reset_length n ws e =
     let count = numbers_in (suc n) ws all in omega arith
 
 row_reset : (n : ℕ) (ws : List (List ℕ)) → has_shape rows.Reset n ws ≡ true → IfOk (event_of rows.Reset ws) (Fits n)
-row_reset n ws h = then_fits (Fits n) (numbers 0 62 ws) reset (λ ids e. differ ids (all_differ ids) (numbers_length 0 62 ws ids e ∙ reset_length n ws h))
+row_reset n ws h = then_fits (Fits n) (numbers 0 62 ws) reset (λ ids e. differ ids (all_differ ids) refl (numbers_length 0 62 ws ids e ∙ reset_length n ws h) (numbers_small 0 62 ws ids e))
   where
-    differ : (ids : List ℕ) (t : Bool) → length ids ≡ n + 1 → IfOk (cond t (Ok (events.Reset ids)) (Err faults.Range)) (Fits n)
-    differ ids true count = λ e. count
-    differ ids false count = tt
+    differ : (ids : List ℕ) (t : Bool) → t ≡ all_differ ids → length ids ≡ n + 1 → AreAtMost 62 ids → IfOk (cond t (Ok (events.Reset ids)) (Err faults.Range)) (Fits n)
+    differ ids true e count small = λ names. (count, record { small = small; apart = ids_apart ids (sym e) })
+    differ ids false e count small = tt
 
 see_fits : (n node : ℕ) → Fits n (events.See node)
-see_fits n node = λ e. ltb-false n node e
+see_fits n node = λ e. (ltb-false n node e, tt)
 
 row_see : (n : ℕ) (ws : List (List ℕ)) → IfOk (event_of rows.See ws) (Fits n)
 row_see n [] = tt
@@ -303,7 +319,7 @@ row_see n (node ∷ w ∷ ws) = tt
 row_key : (n : ℕ) (ws : List (List ℕ)) → IfOk (event_of rows.Key ws) (Fits n)
 row_key n [] = tt
 row_key n (u ∷ []) = tt
-row_key n (u ∷ key ∷ []) = then_fits (Fits n) (number 0 3 u) _ (λ k e. λ names. tt)
+row_key n (u ∷ key ∷ []) = then_fits (Fits n) (number 0 3 u) _ (λ k e. λ names. (tt, tt))
 row_key n (u ∷ key ∷ w ∷ ws) = tt
 
 row_fate : (n : ℕ) (fate : Fate) (ws : List (List ℕ)) → IfOk (event_of (rows.Fate fate) ws) (Fits n)
@@ -313,15 +329,15 @@ row_fate n fate (s ∷ w ∷ ws) = tt
 
 row_step : (n : ℕ) (ws : List (List ℕ)) → IfOk (event_of rows.Step ws) (Fits n)
 row_step n [] = tt
-row_step n (k ∷ []) = then_fits (Fits n) (number 1 10000 k) _ (λ c e. λ names. tt)
+row_step n (k ∷ []) = then_fits (Fits n) (number 1 10000 k) _ (λ c e. λ names. (tt, tt))
 row_step n (k ∷ w ∷ ws) = tt
 
 row_settle : (n : ℕ) (ws : List (List ℕ)) → IfOk (event_of rows.Settle ws) (Fits n)
-row_settle n [] = λ names. tt
+row_settle n [] = λ names. (tt, tt)
 row_settle n (w ∷ ws) = tt
 
 row_tick : (n : ℕ) (ws : List (List ℕ)) → IfOk (event_of rows.Tick ws) (Fits n)
-row_tick n [] = λ names. tt
+row_tick n [] = λ names. (tt, tt)
 row_tick n (w ∷ ws) = tt
 
 row_inject : (n : ℕ) (ws : List (List ℕ)) → IfOk (event_of rows.Inject ws) (Fits n)
@@ -330,7 +346,7 @@ row_inject n (i ∷ []) = tt
 row_inject n (i ∷ word ∷ []) = then_fits (Fits n) (number 0 3 i) _ (λ k e. sized k (nat_le 8 (length word) && nat_le (length word) 4128))
   where
     sized : (k : ℕ) (t : Bool) → IfOk (cond t (Ok (events.Inject k (hex_bytes word))) (Err faults.Range)) (Fits n)
-    sized k true = λ names. named k n names
+    sized k true = λ names. (named k n names, tt)
     sized k false = tt
 row_inject n (i ∷ word ∷ w ∷ ws) = tt
 
@@ -428,11 +444,20 @@ goes_on n r some e = by_test (n == 0) refl e
     by_test true t f = let none : n ≡ 0 = eqb-true n 0 t in absurd (omega arith)
     by_test false t f = f
 
--- a line of a run that has begun
-pub line_fits : (line : List ℕ) (n : ℕ) (event : Event) → 0 < n → reading line n ≡ Ok (Some event) → IsEvent event n
-line_fits line n event some e =
+fits_whole : (line : List ℕ) (n : ℕ) (event : Event) → 0 < n → reading line n ≡ Ok (Some event) → IsEvent event n × HasOwnIds event
+fits_whole line n event some e =
     let s = says_so line n event e in
     subst (λ x. IfOk x (Fits n)) s.is (row_fits s.r n (arguments line) (goes_on n s.r some s.place) s.shape) s.names
+
+-- a line of a run that has begun
+pub line_fits : (line : List ℕ) (n : ℕ) (event : Event) → 0 < n → reading line n ≡ Ok (Some event) → IsEvent event n
+line_fits line n event some e = (fits_whole line n event some e).0
+
+-- its event is a line of the wire, where its bytes are bytes
+pub line_is : (line : List ℕ) (n : ℕ) (event : Event) → 0 < n → reading line n ≡ Ok (Some event) → HasBytes event → IsLine event n
+line_is line n event some e bytes =
+    let f = fits_whole line n event some e in
+    is_line event n f.0 f.1 bytes
 
 -- a line that begins one
 pub line_begins : (line : List ℕ) (event : Event) → reading line 0 ≡ Ok (Some event) → IsBeginning event

@@ -4,7 +4,7 @@ use Rattle.std.specs.Prelude.{IfSome, OnOk}
 use Rattle.std.specs.Io.KnownBytes.{Appends}
 use Rattle.std.specs.Str.Lines.{lines}
 use Rattle.std.proofs.Math.Seq.{take-append_seam}
-use Rattle.std.proofs.lemmas.List.{length-map}
+use Rattle.std.proofs.lemmas.List.{length-append, length-map}
 use Rattle.std.proofs.lemmas.List.Concat.{flat_map-append}
 use Rattle.rbc_disk.specs.Disk.{Disk}
 use Rattle.rbc_disk.specs.Held.{Held, held}
@@ -18,6 +18,7 @@ use Rattle.sbp_world.specs.Making.{new_world, notes_begin}
 use Rattle.sbp_world.specs.Runs.{entry, with_entry}
 use Rattle.sbp_world.specs.Worlds.{WorldState}
 use Rattle.sbp_world.proofs.Standing.{begins, goes_on}
+use Rattle.world_laws.specs.Lines.{IsLine}
 use Rattle.line_session.specs.Outside.{Outside}
 use Rattle.line_session.specs.Meaning.{Serves, fault_text}
 use Rattle.line_session.specs.Ends.{Ends, Brings}
@@ -31,18 +32,20 @@ use Rattle.script_text.specs.Line.{reading}
 use Rattle.script_text.specs.Script.{initiators_after, script}
 use Rattle.sbp_command.specs.Machine.{MayLeave, Runs, journal}
 use Rattle.sbp_command.specs.Script.{Hears, begun_by, heard, of_lines, says}
-use Rattle.sbp_command.specs.Runner.{CanGoOn, CanRun, GoesOn, IsBeginning, MayHappenIn, RanSo, RunnerState, Stands, not_begun, run_meaning, running, scene_of}
+use Rattle.sbp_command.specs.Runner.{CanGoOn, CanRun, GoesOn, HasBytes, IsBeginning, IsLineIn, MayHappenIn, RanSo, RunnerState, Stands, not_begun, run_meaning, running, scene_of}
 use Rattle.sbp_command.specs.Headline.{ending, status_of, Torn, RunEnds}
-use Rattle.sbp_command.proofs.Fits.{line_begins, line_fits}
+use Rattle.sbp_command.proofs.Fits.{line_begins, line_fits, line_is}
 use Rattle.sbp_command.proofs.Media.{left_by_notes, run_fits, run_leaves}
 use Rattle.sbp_command.proofs.Kept.{happens_keeps, world_count, world_units}
-use Rattle.sbp_command.proofs.ScriptLines.{begun_by-more, served-next, served-more, served-fault, says-within, refused-says}
+use Rattle.sbp_command.proofs.Wires.{entries_few, more_lines, run_of_wire}
+use Rattle.sbp_command.proofs.ScriptLines.{begun_by-more, events_few, served-next, served-more, served-fault, says-within, refused-says}
 
 -- ---- how a run begins
 
 -- no line was run
 pub fresh : (disks : List Disk) (faults : List ℕ) → RanSo (held disks faults) [] [] not_begun (held disks faults)
 fresh disks faults = record {
+  count = omega arith;
   clean = refl;
   initiators = refl;
   stands = record { events_are = refl; text_is = refl; media_are = refl };
@@ -63,6 +66,7 @@ begun_so initiators units ready start media happened front out next number few u
   start_is = h.media_are;
   units_are = u ∙ ap (λ m. length m.disks) h.media_are;
   few = few;
+  lines = tt;
   events_are = ap (λ es. es ++ (number, events.Begin initiators ready) ∷ []) (sym h.events_are);
   text_is = ap (λ t. front ++ t) e ∙ sym (append_assoc front out _) ∙ ap (λ t. t ++ text_of (notes_begin initiators ready ∷ [])) h.text_is;
   stands = begins initiators ready units media;
@@ -85,9 +89,9 @@ entry_text : (xs ys : List Note) → text_of xs ++ text_of ys ≡ text_of (xs ++
 entry_text xs ys = sym (flat_map-append note_text xs ys)
 
 -- a world goes on
-pub went_on : (start old media : Held) (happened : List (ℕ × Event)) (front out next : List ℕ) (number : ℕ) (event : Event) (w v : WorldState) → Happens number event (scene_of w old) (scene_of v media) → next ≡ out ++ text_of (reverse v.fresh)
+pub went_on : (start old media : Held) (happened : List (ℕ × Event)) (front out next : List ℕ) (number : ℕ) (event : Event) (w v : WorldState) → Happens number event (scene_of w old) (scene_of v media) → next ≡ out ++ text_of (reverse v.fresh) → IsLine event (length w.initiators)
     → Stands start happened (front ++ out) (Some w) old → Stands start (happened ++ (number, event) ∷ []) (front ++ next) (Some v) media
-went_on start old media happened front out next number event w v k e h = record {
+went_on start old media happened front out next number event w v k e l h = record {
   line = h.line;
   run = with_entry h.run (entry number event k.told v.fresh);
   start_is = h.start_is;
@@ -96,6 +100,7 @@ went_on start old media happened front out next number event w v k e h = record 
   events_are = ap (λ es. es ++ (number, event) ∷ []) h.events_are;
   text_is = ap (λ t. front ++ t) e ∙ sym (append_assoc front out _) ∙ ap (λ t. t ++ text_of (reverse v.fresh)) h.text_is ∙ entry_text (journal h.run) (reverse v.fresh);
   stands = goes_on h.run number event (scene_of w old) (scene_of v media) h.stands k;
+  lines = more_lines h.run (entry number event k.told v.fresh) (scene_of w old) h.stands.state l h.lines;
 }
 
 pub goes_more : (i number : ℕ) (old media : Held) (event : Event) (w v : WorldState) → Happens number event (scene_of w old) (scene_of v media) → length v.target.units ≡ length w.target.units → length media.disks ≡ length old.disks
@@ -154,6 +159,9 @@ pub opened_stands : (now : RunnerState) (i : ℕ) (o : Option WorldState) (w : W
     → Stands start happened text now.world media → Stands start happened text (Some w) media
 opened_stands now i o w start happened text media v e h = subst (λ x. Stands start happened text x media) (sym (ap (λ s. s.world) v) ∙ e) h
 
+pub opened_line : (now : RunnerState) (i : ℕ) (o : Option WorldState) (w : WorldState) (event : Event) → record { initiators = i; world = o } ≡ now → o ≡ Some w → IsLineIn now.world event → IsLine event (length w.initiators)
+opened_line now i o w event v e h = subst (λ x. IsLineIn x event) (sym (ap (λ s. s.world) v) ∙ e) h
+
 -- a run begins where there is none
 pub begins_some : (o : Option WorldState) (event : Event) (i : ℕ) (ready : Bool) → event ≡ events.Begin i ready → MayHappenIn o event → (o ≡ None) × ((1 ≤ i) × (i ≤ 4))
 begins_some None event i ready e h = (refl, subst IsBeginning e h)
@@ -173,6 +181,10 @@ began_ran before after i units ready start media happened front out next number 
 
 -- ---- one more line
 
+-- the lines are as many as the number of the last one
+served_few : (served : List (List ℕ)) (line : List ℕ) (number : ℕ) → number ≡ 1 + length served → number ≤ 65536 → length (served ++ line ∷ []) ≤ 65536
+served_few served line number e few = let more = length-append served (line ∷ []) in omega (arith, more, e, few)
+
 -- the event of a line may happen
 may_happen : (line : List ℕ) (i : ℕ) (o : Option WorldState) (media : Held) (event : Event) → CanGoOn i o media → reading line i ≡ Ok (Some event) → MayHappenIn o event
 may_happen line i None media event h e = line_begins line event (subst (λ n. reading line n ≡ Ok (Some event)) h e)
@@ -181,6 +193,15 @@ may_happen line i (Some w) media event h e = subst (λ n. IsEvent event n) (sym 
 pub may_happen_at : (now : RunnerState) (line : List ℕ) (i : ℕ) (o : Option WorldState) (media : Held) (event : Event) → record { initiators = i; world = o } ≡ now → CanRun now media → reading line i ≡ Ok (Some event) → MayHappenIn now.world event
 may_happen_at now line i o media event v h e =
     may_happen line now.initiators now.world media event h.world (subst (λ n. reading line n ≡ Ok (Some event)) (ap (λ s. s.initiators) v) e)
+
+-- it is a line of the wire
+may_be_line : (line : List ℕ) (i : ℕ) (o : Option WorldState) (media : Held) (event : Event) → CanGoOn i o media → reading line i ≡ Ok (Some event) → HasBytes event → IsLineIn o event
+may_be_line line i None media event h e bytes = tt
+may_be_line line i (Some w) media event h e bytes = subst (λ n. IsLine event n) (sym h.count) (line_is line i event h.begun e bytes)
+
+pub line_at : (now : RunnerState) (line : List ℕ) (i : ℕ) (o : Option WorldState) (media : Held) (event : Event) → record { initiators = i; world = o } ≡ now → CanRun now media → reading line i ≡ Ok (Some event) → HasBytes event → IsLineIn now.world event
+line_at now line i o media event v h e bytes =
+    may_be_line line now.initiators now.world media event h.world (subst (λ n. reading line n ≡ Ok (Some event)) (ap (λ s. s.initiators) v) e) bytes
 
 -- the event of a line was run
 pub ran_event : (start old media : Held) (served : List (List ℕ)) (line front out next : List ℕ) (before after : RunnerState) (number : ℕ) (event : Event) → number ≡ 1 + length served → number ≤ 65536
@@ -194,6 +215,7 @@ ran_event start old media served line front out next before after number event e
     let behind : (of_lines (served ++ line ∷ [])).events ≡ (of_lines served).events ++ (number, event) ∷ []
     = ap (λ s. s.events) found ∙ ap (λ n. (of_lines served).events ++ (n, event) ∷ []) (sym e) in
     record {
+      count = served_few served line number e few;
       clean = ap (λ s. s.fault) found;
       initiators = grown ∙ ap (λ n. initiators_after n (Ok (Some event))) h.initiators ∙ sym (begun_by-more 0 (of_lines served).events (number, event)) ∙ ap (begun_by 0) (sym behind);
       stands = subst (λ es. Stands start es (front ++ next) after.world media) (sym behind) (stands start (of_lines served).events front h.stands);
@@ -209,6 +231,7 @@ ran_nothing start media served line text state number e few read h =
     let behind : (of_lines (served ++ line ∷ [])).events ≡ (of_lines served).events
     = ap (λ s. s.events) found ∙ append-nil (of_lines served).events in
     record {
+      count = served_few served line number e few;
       clean = ap (λ s. s.fault) found;
       initiators = h.initiators ∙ ap (begun_by 0) (sym behind);
       stands = subst (λ es. Stands start es text state.world media) (sym behind) h.stands;
@@ -230,13 +253,13 @@ record Tells (start : Held) (happened : List (ℕ × Event)) (text : List ℕ) (
   runs : Runs start happened notes media
   text_is : text ≡ text_of notes
 
-tells_by : (start media : Held) (happened : List (ℕ × Event)) (text : List ℕ) (o : Option WorldState) → Stands start happened text o media → Tells start happened text media
-tells_by start media happened text None h = record {
+tells_by : (start media : Held) (happened : List (ℕ × Event)) (text : List ℕ) (o : Option WorldState) → length happened ≤ 65536 → Stands start happened text o media → Tells start happened text media
+tells_by start media happened text None few h = record {
   notes = [];
   runs = inl (record { events_are = h.events_are; notes_are = refl; media_are = h.media_are });
   text_is = h.text_is;
 }
-tells_by start media happened text (Some w) h = record {
+tells_by start media happened text (Some w) few h = record {
   notes = journal h.run;
   runs = inr (record {
     line = h.line;
@@ -249,12 +272,16 @@ tells_by start media happened text (Some w) h = record {
     media_are = ap (λ s. s.media) h.stands.state;
     media_fit = run_fits h.run start media h.start_is h.few h.stands.lines (ap (λ s. s.media) h.stands.state);
     leaves = run_leaves h.line h.run start media h.start_is h.few h.stands.lines (ap (λ s. s.media) h.stands.state);
+    of_wire = run_of_wire h.line h.run h.few (entries_few h.line h.run happened h.events_are few) h.stands.lines h.lines;
   });
   text_is = h.text_is;
 }
 
 tells : (start media : Held) (served : List (List ℕ)) (text : List ℕ) (state : RunnerState) → RanSo start served text state media → Tells start (of_lines served).events text media
-tells start media served text state h = tells_by start media (of_lines served).events text state.world h.stands
+tells start media served text state h =
+    let few = events_few 1 0 served in
+    let count = h.count in
+    tells_by start media (of_lines served).events text state.world (omega (arith, few, count)) h.stands
 
 -- the first events of the input
 front_events : (happened more all : List (ℕ × Event)) → all ≡ happened ++ more → happened ≡ take (length happened) all

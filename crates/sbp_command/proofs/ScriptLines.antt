@@ -34,6 +34,18 @@ pub begun_by-more : (i : ℕ) (happened : List (ℕ × Event)) (line : ℕ × Ev
 begun_by-more i [] line = refl
 begun_by-more i (first ∷ rest) line = begun_by-more (initiators_after i (Ok (Some first.1))) rest line
 
+-- no more events than lines
+onto_few : (n count : ℕ) (said : Result (Option Event) ℕ) (rest : Script) → length rest.events ≤ count → length (onto_script n said rest).events ≤ suc count
+onto_few n count (Ok None) rest few = omega (arith, few)
+onto_few n count (Ok (Some event)) rest few = omega (arith, few)
+onto_few n count (Err fault) rest few = omega arith
+
+pub events_few : (n i : ℕ) (ls : List (List ℕ)) → length (script_from n i ls).events ≤ length ls
+events_few n i [] = omega arith
+events_few n i (line ∷ ls) =
+    let said = line_says n line i in
+    onto_few n (length ls) said (script_from (suc n) (initiators_after i said) ls) (events_few (suc n) (initiators_after i said) ls)
+
 -- behind lines without a fault the script goes on
 script_from-append : (n i : ℕ) (ls ms : List (List ℕ)) → (script_from n i ls).fault ≡ None → script_from n i (ls ++ ms) ≡ behind (script_from n i ls) (script_from (n + length ls) (begun_by i (script_from n i ls).events) ms)
 script_from-append n i [] ms h = ap (λ number. script_from number i ms) (sym (add-zero n))

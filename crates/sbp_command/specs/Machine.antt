@@ -9,6 +9,7 @@ use Rattle.sbp_world.specs.Histories.{history_of}
 use Rattle.sbp_target.specs.Faults.{NoneFell}
 use Rattle.sbp_world.specs.Making.{notes_begin}
 use Rattle.sbp_world.specs.Runs.{AreEntries, Entry, Run, after, beginning}
+use Rattle.world_laws.specs.History.{IsOfWire}
 
 -- the numbered events of some lines, in their order
 abbrev pub events_in : List Entry → List (ℕ × Event)
@@ -29,7 +30,8 @@ abbrev pub journal : Run → List Note
 journal run = notes_begin run.initiators run.ready ∷ notes_in run.entries
 
 -- A run of the machine, over exactly these events and from what the media held at first: its notes, and what it leaves of the media. That is
--- what the notes alone say of them: each medium holds what the disk fold gives, and each failing run raised its count.
+-- what the notes alone say of them: each medium holds what the disk fold gives, and each failing run raised its count. And its history
+-- keeps the laws of the wire.
 pub record HasRun (start : Held) (happened : List (ℕ × Event)) (notes : List Note) (now : Held) : Type 0 where
   pub line : ℕ
   pub run : Run
@@ -41,6 +43,7 @@ pub record HasRun (start : Held) (happened : List (ℕ × Event)) (notes : List 
   pub media_are : now ≡ (after (beginning run) run.entries).media
   pub media_fit : now ≡ media_after (reverse notes) start
   pub leaves : LeavesMedia start (history_of line run) now
+  pub of_wire : IsOfWire (history_of line run)
 
 -- No run begins: there is no event and no note, and the media are as they were.
 pub record HasNone (start : Held) (happened : List (ℕ × Event)) (notes : List Note) (now : Held) : Type 0 where

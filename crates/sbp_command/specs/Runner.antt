@@ -1,5 +1,6 @@
 -- What `run` does with lines.
 use Rattle.std.specs.Prelude.{◌≡◌, ℕ, ◌+◌, ◌<◌, ◌≤◌, List, [], ◌∷◌, length, slice_index, refl, Option, Some, None, Err}
+use Rattle.std.specs.List.{All}
 use Rattle.std.proofs.Math.Nat.{le_refl}
 use Rattle.rbc_disk.specs.Held.{Held}
 use Rattle.sbp_journal.specs.declared.event.Event.{Event}
@@ -9,6 +10,8 @@ use Rattle.sbp_world.specs.Lines.{IsEvent}
 use Rattle.sbp_world.specs.Runs.{Run, StandsFor}
 use Rattle.sbp_world.specs.Worlds.{Scene, WorldState}
 use Rattle.line_session.specs.Meaning.{Meaning}
+use Rattle.initiator_laws.specs.Fitting.{BytesAction}
+use Rattle.world_laws.specs.Lines.{AreLines, IsLine}
 use Rattle.sbp_command.specs.Machine.{MayLeave, events_of, journal}
 use Rattle.sbp_command.specs.Script.{begun_by, of_lines, says}
 
@@ -36,6 +39,7 @@ pub record InRun (start : Held) (happened : List (ℕ × Event)) (text : List �
   pub events_are : events_of line run ≡ happened
   pub text_is : text ≡ text_of (journal run)
   pub stands : StandsFor run (scene_of world media)
+  pub lines : AreLines run run.entries
 
 -- No run has begun.
 pub record IsIdle (start : Held) (happened : List (ℕ × Event)) (text : List ℕ) (media : Held) : Type 0 where
@@ -47,8 +51,10 @@ abbrev pub Stands : Held → List (ℕ × Event) → List ℕ → Option WorldSt
 Stands start happened text None media = IsIdle start happened text media
 Stands start happened text (Some world) media = InRun start happened text world media
 
--- The lines have no fault, and the world and the media stand for a run over their events, whose journal has this text.
+-- The lines are as many as there may be, and have no fault, and the world and the media stand for a run over their events, whose journal
+-- has this text.
 pub record RanSo (start : Held) (served : List (List ℕ)) (text : List ℕ) (state : RunnerState) (media : Held) : Type 0 where
+  pub count : length served ≤ 65536
   pub clean : (of_lines served).fault ≡ None
   pub initiators : state.initiators ≡ begun_by 0 (of_lines served).events
   pub stands : Stands start (of_lines served).events text state.world media
@@ -78,6 +84,17 @@ IsBeginning _ = ⊥
 abbrev pub MayHappenIn : Option WorldState → Event → Type 0
 MayHappenIn None event = IsBeginning event
 MayHappenIn (Some world) event = IsEvent event (length world.initiators)
+
+-- the bytes of an event are below 256
+abbrev pub HasBytes : Event → Type 0
+HasBytes (events.Act initiator action) = BytesAction action
+HasBytes (events.Inject initiator bytes) = All (λ byte. byte < 256) bytes
+HasBytes _ = Unit {0}
+
+-- what happens in a world is a line of the wire
+abbrev pub IsLineIn : Option WorldState → Event → Type 0
+IsLineIn None event = Unit {0}
+IsLineIn (Some world) event = IsLine event (length world.initiators)
 
 abbrev pub run_meaning : Meaning RunnerState
 run_meaning = record {

@@ -10,7 +10,7 @@ ghost use Rattle.sbp_world.specs.Lines.{Happens, IsEvent};
 ghost use Rattle.sbp_world.specs.Making.{new_world, notes_begin};
 ghost use Rattle.sbp_world.specs.Worlds.{scene};
 ghost use Rattle.sbp_command.specs.Machine.{MayLeave};
-ghost use Rattle.sbp_command.specs.Runner.{CanRun, MayHappenIn, Stands, not_begun, running};
+ghost use Rattle.sbp_command.specs.Runner.{CanRun, IsLineIn, MayHappenIn, Stands, not_begun, running};
 
 use crate::script::read_event;
 use line_session::{LineError, Serve};
@@ -117,6 +117,7 @@ impl ScriptRunner {
     ) -> Result<(), NoMemory>
         requires can { CanRun self.old (held (map disk media.old.items) (map media_faults media.old.items)) }
         requires event { MayHappenIn self.old.world event.now }
+        requires line { IsLineIn self.old.world event.now }
         ensures left { MayLeave (held (map disk media.old.items) (map media_faults media.old.items)) (held (map disk media.new.items) (map media_faults media.new.items)) }
         ensures can { OnOk result (CanRun self.new (held (map disk media.new.items) (map media_faults media.new.items))) }
         ensures initiators { OnOk result (self.new.initiators ≡ initiators_after self.old.initiators (Ok (Some event.now))) }

@@ -1,7 +1,9 @@
 ghost use Rattle.std.specs.Prelude.{◌≡◌, ◌≤◌, Some, Ok, IfOk, IfSome};
 ghost use Rattle.script_text.specs.Line.{reading};
+ghost use Rattle.sbp_command.specs.Runner.{HasBytes};
 ghost use Rattle.sbp_command.specs.Script.{Hears, error_of, heard};
 
+use crate::typed::said_fits;
 use line_session::LineError;
 use sbp_journal::Event;
 use script_text::LineFault;
@@ -29,9 +31,13 @@ pub fn read_event(alloc: Global, line: &[u8], initiators: u8) -> Result<Option<E
     requires { initiators ≤ 4 }
     ensures reads { Hears result (heard initiators line.now) }
     ensures event { IfOk result (λ said. IfSome said (λ event. reading line.now initiators ≡ Ok (Some event))) }
+    ensures bytes { IfOk result (λ said. IfSome said HasBytes) }
 {
     match script_text::read_line(alloc, line, initiators) {
-        Ok(said) => Ok(said),
+        Ok(said) => {
+            said_fits(&said);
+            Ok(said)
+        }
         Err(fault) => Err(line_error(fault)),
     }
 }

@@ -2,10 +2,13 @@ ghost use Rattle.std.specs.Prelude.{◌≡◌, ◌≤◌, ◌<◌, ℕ, List, ma
 ghost use Rattle.std.specs.String.{string_bytes};
 ghost use Rattle.rbc_disk.specs.Disk.{Disk};
 ghost use Rattle.line_session.specs.Outside.{outside};
-ghost use Rattle.sbp_command.specs.Headline.{status_of, RunEnds, ListingEnds, RomEnds, UsageEnds, IsRun, IsDecode, IsRom};
+ghost use Rattle.sbp_command.specs.Headline.{status_of, RunEnds, ListingEnds, RomEnds, UsageEnds};
+ghost use Rattle.sbp_command.specs.Served.{Serves};
 
+use crate::drill::run_drill;
 use crate::runner::ScriptRunner;
 use crate::status::Status;
+use drill_text::drill_words;
 use line_session::{Status as LineStatus, serve_lines, write_all};
 use packet_listing::PacketLister;
 use rbc_disk::Medium;
@@ -37,7 +40,7 @@ fn tell_usage<K: Sink>(sink: &mut K) -> Status
 }
 
 /// The status of a call whose lines were served.
-fn status_of(ended: LineStatus) -> Status
+pub(crate) fn status_of(ended: LineStatus) -> Status
     ensures { result ≡ status_of ended }
 {
     match ended {
@@ -96,8 +99,9 @@ fn list_rom<S: Source, K: Sink>(
 
 /// Does what the words say over one to four media: `run` reads a script from `source`, runs it, and
 /// writes the journal to `sink`; `decode` reads packets in hexadecimal lines and writes their listing;
-/// `rom` reads the quadlets of one configuration ROM in hexadecimal lines and writes its listing.
-/// The words are read as they are.
+/// `rom` reads the quadlets of one configuration ROM in hexadecimal lines and writes its listing;
+/// `drill` reads nothing, runs a script that is drawn from a seed and writes six lines on it. The words
+/// are read as they are.
 pub fn sbp2<S: Source, K: Sink>(
     alloc: Global,
     words: &[String],
@@ -107,10 +111,7 @@ pub fn sbp2<S: Source, K: Sink>(
 ) -> Status
     requires some { 1 ≤ length media.old.items }
     requires few { length media.old.items ≤ 4 }
-    ensures run { IsRun (map string_bytes words.now) → RunEnds result (outside (S.left source.old) (S.faults source.old) (K.written sink.old) (K.faults sink.old) (map disk media.old.items) (map media_faults media.old.items)) (outside (S.left source.new) (S.faults source.new) (K.written sink.new) (K.faults sink.new) (map disk media.new.items) (map media_faults media.new.items)) }
-    ensures decode { IsDecode (map string_bytes words.now) → ListingEnds result (outside (S.left source.old) (S.faults source.old) (K.written sink.old) (K.faults sink.old) (map disk media.old.items) (map media_faults media.old.items)) (outside (S.left source.new) (S.faults source.new) (K.written sink.new) (K.faults sink.new) (map disk media.new.items) (map media_faults media.new.items)) }
-    ensures rom { IsRom (map string_bytes words.now) → RomEnds result (outside (S.left source.old) (S.faults source.old) (K.written sink.old) (K.faults sink.old) (map disk media.old.items) (map media_faults media.old.items)) (outside (S.left source.new) (S.faults source.new) (K.written sink.new) (K.faults sink.new) (map disk media.new.items) (map media_faults media.new.items)) }
-    ensures words { ¬ IsRun (map string_bytes words.now) → ¬ IsDecode (map string_bytes words.now) → ¬ IsRom (map string_bytes words.now) → UsageEnds result (outside (S.left source.old) (S.faults source.old) (K.written sink.old) (K.faults sink.old) (map disk media.old.items) (map media_faults media.old.items)) (outside (S.left source.new) (S.faults source.new) (K.written sink.new) (K.faults sink.new) (map disk media.new.items) (map media_faults media.new.items)) }
+    ensures { Serves (map string_bytes words.now) result (outside (S.left source.old) (S.faults source.old) (K.written sink.old) (K.faults sink.old) (map disk media.old.items) (map media_faults media.old.items)) (outside (S.left source.new) (S.faults source.new) (K.written sink.new) (K.faults sink.new) (map disk media.new.items) (map media_faults media.new.items)) }
 {
     if is_alone(words, "run") {
         run_script(alloc, media, source, sink)
@@ -118,6 +119,8 @@ pub fn sbp2<S: Source, K: Sink>(
         list_packets(alloc, media, source, sink)
     } else if is_alone(words, "rom") {
         list_rom(alloc, media, source, sink)
+    } else if let Some(drill) = drill_words(words) {
+        run_drill(alloc, drill, media, sink)
     } else {
         tell_usage(sink)
     }

@@ -2,7 +2,7 @@
 use Rattle.std.proofs.Common.{◌∙◌, sym, ap, length}
 use Rattle.std.proofs.lemmas.List.{length-map}
 use Rattle.sbp_world.proofs.Delivered.{on_ok}
-use Rattle.sbp_command.proofs.Running.{began_can, began_ran, begins_some, both_ok, opened_can, opened_stands, same_length, went_can, went_on, may_leave, may_leave_same}
+use Rattle.sbp_command.proofs.Running.{began_can, began_ran, begins_some, both_ok, opened_can, opened_line, opened_stands, same_length, went_can, went_on, may_leave, may_leave_same}
 use Rattle.sbp_command.proofs.runner.ScriptRunner.run_event.Goals as goal
 
 pub returns-in-Some-clause-can : goal.returns-in-Some-clause-can
@@ -14,7 +14,7 @@ returns-in-Some-clause-can g c =
 pub returns-in-Some-clause-ran : goal.returns-in-Some-clause-ran
 returns-in-Some-clause-ran g c =
     both_ok c.step_world.result _ _ _
-    (λ k e start happened front h. went_on start _ _ happened front _ _ _ _ _ _ k e (opened_stands _ _ _ _ start happened _ _ c.self.view_is c.in-Some.is h))
+    (λ k e start happened front h. went_on start _ _ happened front _ _ _ _ _ _ k e (opened_line _ _ _ _ _ c.self.view_is c.in-Some.is c.requires.line) (opened_stands _ _ _ _ start happened _ _ c.self.view_is c.in-Some.is h))
     c.step_world.ensures.happens
     c.step_world.ensures.text
 

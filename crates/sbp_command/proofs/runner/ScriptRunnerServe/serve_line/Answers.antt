@@ -1,12 +1,16 @@
 -- The event of the line was run, or the line says nothing, or it has a fault.
 use Rattle.std.proofs.Common.{◌∙◌, sym, ap}
 use Rattle.sbp_command.specs.Script.{heard}
-use Rattle.sbp_command.proofs.Running.{may_happen_at, ran_event, ran_nothing}
+use Rattle.sbp_command.proofs.Running.{line_at, may_happen_at, ran_event, ran_nothing}
 use Rattle.sbp_command.proofs.runner.ScriptRunnerServe.serve_line.Goals as goal
 
 pub run_event-requires-clause-event : goal.run_event-requires-clause-event
 run_event-requires-clause-event g c =
     may_happen_at c.args.self.now c.args.line.now _ _ _ c.in-Ok-Some.event c.self.view_is c.requires.ready (rw (c.in-Ok-Some.field-0-is) at c.in-Ok-Some.ensures.event)
+
+pub run_event-requires-clause-line : goal.run_event-requires-clause-line
+run_event-requires-clause-line g c =
+    line_at c.args.self.now c.args.line.now _ _ _ c.in-Ok-Some.event c.self.view_is c.requires.ready (rw (c.in-Ok-Some.field-0-is) at c.in-Ok-Some.ensures.event) (rw (c.in-Ok-Some.field-0-is) at c.in-Ok-Some.ensures.bytes)
 
 pub returns-in-Ok-clause-served : goal.returns-in-Ok-clause-served
 returns-in-Ok-clause-served g c = λ start before front e h.

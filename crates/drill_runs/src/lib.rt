@@ -1,0 +1,5 @@
+//! Worked drills, as tests beside the crates.
+#![tactic(auto)]
+
+#[cfg(test)]
+mod tests;

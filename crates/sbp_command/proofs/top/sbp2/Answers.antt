@@ -1,0 +1,15 @@
+-- The words bring what they are to bring.
+use Rattle.sbp_command.proofs.Drilling.{serves_decode, serves_drill, serves_rom, serves_run, serves_usage}
+use Rattle.sbp_command.proofs.top.sbp2.Goals as goal
+
+pub returns-then-is_alone : goal.returns-then-is_alone
+returns-then-is_alone g c = serves_run _ c.run_script.result _ _ (c.is_alone.ensures.0 c.if-is_alone.true) c.run_script.ensures
+
+pub returns-then-is_alone-2 : goal.returns-then-is_alone-2
+returns-then-is_alone-2 g c = serves_decode _ c.list_packets.result _ _ (c.is_alone-else-is_alone.ensures.0 c.if-is_alone-2.true) c.list_packets.ensures
+
+pub returns-then-is_alone-3 : goal.returns-then-is_alone-3
+returns-then-is_alone-3 g c = serves_rom _ c.list_rom.result _ _ (c.is_alone-else-is_alone-2.ensures.0 c.if-is_alone-3.true) c.list_rom.ensures
+
+pub returns-in-Some : goal.returns-in-Some
+returns-in-Some g c = serves_drill _ c.in-Some.drill.seed c.in-Some.drill.count c.run_drill.result _ _ c.in-Some.ensures.some (c.run_drill.ensures (g.S.Source.left c.args.source.now) (g.S.Source.faults c.args.source.now))
