@@ -7,3 +7,4 @@ pub mod Received
 pub mod Making
 pub mod Leaving
 pub mod Faults
+pub mod Acting
