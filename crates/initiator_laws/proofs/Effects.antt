@@ -41,7 +41,7 @@ use Rattle.sbp_initiator.proofs.Asked.{none_asked}
 use Rattle.initiator_laws.specs.Drops.{IfGone, present_list, drop_if, state_drops, ends_the_list}
 use Rattle.initiator_laws.specs.Numbers.{is_numbered}
 use Rattle.initiator_laws.proofs.Lives.{read_act}
-use Rattle.initiator_laws.specs.Ends.{own, OpEnd, drops, notes_of, is_managed, is_word_of, read_ends, state_word, OpMove}
+use Rattle.initiator_laws.specs.Ends.{own, OpEnd, drops, notes_of, is_managed, is_word_of, read_ends, state_word, is_failed, is_managed_failed, fails_write, sticks_by, OpMove}
 
 -- ---- lists of notes
 
@@ -97,10 +97,9 @@ relisted lists new pointing e f g x h = record {
   places = g ∙ h.places;
 }
 
--- What a step tells, with the list that it drops and the end of a read of AGENT_STATE; what it makes of the operation under way; and what it leaves as it was.
-pub record Does (o : OutboxState) (s : InitiatorState) (drop : Option ℕ) (state : Option OpWord) (asking : Option Asking) (t : Turn) : Type 0 where
+-- What a step tells, with the list that it drops, the end of a read of AGENT_STATE and whether the session becomes Stuck; what it makes of the operation under way; and what it leaves as it was.
+pub record Does (o : OutboxState) (s : InitiatorState) (drop : Option ℕ) (state : Option OpWord) (stuck : Bool) (asking : Option Asking) (t : Turn) : Type 0 where
   pub op : Option OpEnd
-  pub stuck : Bool
   pub sides : t.0.sides ≡ o.sides ++ own (notes_of s.number drop op state stuck)
   pub move : OpMove s.operation op t.1.operation
   pub wire : Wired asking s.layer o.packets s.target t.1.layer t.0.packets
@@ -116,10 +115,9 @@ pub record IsOwn (is_kind : Operation → Bool) (act : ℕ) (operation : Option 
 
 module _ (o : OutboxState) (s : InitiatorState) where
   -- nothing is told, and the operation, the layer and the counts are as they were
-  pub idle : (t : InitiatorState) → t.operation ≡ s.operation → t.layer ≡ s.layer → t.counts ≡ s.counts → t.number ≡ s.number → t.target ≡ s.target → KeepsMarks s t → Does o s None None None (o, t)
+  pub idle : (t : InitiatorState) → t.operation ≡ s.operation → t.layer ≡ s.layer → t.counts ≡ s.counts → t.number ≡ s.number → t.target ≡ s.target → KeepsMarks s t → Does o s None None false None (o, t)
   idle t op layer counts number target marks = record {
     op = None;
-    stuck = false;
     sides = sym (append-nil o.sides);
     move = op;
     wire = (layer, refl);
@@ -130,14 +128,13 @@ module _ (o : OutboxState) (s : InitiatorState) where
     gone = tt;
   }
 
-  pub stays : Does o s None None None (o, s)
+  pub stays : Does o s None None false None (o, s)
   stays = idle s refl refl refl refl refl (λ x h. h)
 
-  stuck_as : (c : Bool) → Does o s None None None (cond c o (told o (notes.Stuck s.number)), record s { seat = goes failed s.seat })
+  stuck_as : (c : Bool) → Does o s None None (not c) None (cond c o (told o (notes.Stuck s.number)), record s { seat = goes failed s.seat })
   stuck_as true = idle (record s { seat = goes failed s.seat }) refl refl refl refl refl (λ x h. h)
   stuck_as false = record {
     op = None;
-    stuck = true;
     sides = refl;
     move = refl;
     wire = (refl, refl);
@@ -148,7 +145,7 @@ module _ (o : OutboxState) (s : InitiatorState) where
     gone = tt;
   }
 
-  pub sticks_does : Does o s None None None (stick_step o s)
+  pub sticks_does : Does o s None None (not (is_stuck_seat s.seat)) None (stick_step o s)
   sticks_does = stuck_as (is_stuck_seat s.seat)
 
 -- a pin that ends leaves the list
@@ -176,10 +173,9 @@ unpin_places : (lists : ListState) → length (unpin_lists lists).memory.places 
 unpin_places lists = ap length (unpin_memory lists)
 
 -- the operation under way ends
-pub end_does : (running : Running) (word : OpWord) (o : OutboxState) (s t : InitiatorState) → s.operation ≡ Some running → is_word_of running.operation word ≡ true → t.layer ≡ s.layer → t.counts ≡ s.counts → t.number ≡ s.number → t.target ≡ s.target → KeepsMarks s t → Does o s None None None (end_step running.operation word o t)
+pub end_does : (running : Running) (word : OpWord) (o : OutboxState) (s t : InitiatorState) → s.operation ≡ Some running → is_word_of running.operation word ≡ true → t.layer ≡ s.layer → t.counts ≡ s.counts → t.number ≡ s.number → t.target ≡ s.target → KeepsMarks s t → Does o s None None false None (end_step running.operation word o t)
 end_does running word o s t e w layer counts number target marks = record {
   op = Some (record { operation = running.operation; word = word });
-  stuck = false;
   sides = ap (λ (n : ℕ). o.sides ++ own (notes.Op n running.operation word ∷ [])) number;
   move = (record { running = running; under_way = e; same = refl; word = w }, refl);
   wire = (layer, refl);
@@ -190,17 +186,17 @@ end_does running word o s t e w layer counts number target marks = record {
   gone = tt;
 }
 
-own_as : (c : Bool) (running : Running) (word : OpWord) (o : OutboxState) (s t : InitiatorState) → t.operation ≡ s.operation → s.operation ≡ Some running → (c ≡ true → is_word_of running.operation word ≡ true) → t.layer ≡ s.layer → t.counts ≡ s.counts → t.number ≡ s.number → t.target ≡ s.target → KeepsMarks s t → Does o s None None None (cond c (end_step running.operation word o t) (o, t))
+own_as : (c : Bool) (running : Running) (word : OpWord) (o : OutboxState) (s t : InitiatorState) → t.operation ≡ s.operation → s.operation ≡ Some running → (c ≡ true → is_word_of running.operation word ≡ true) → t.layer ≡ s.layer → t.counts ≡ s.counts → t.number ≡ s.number → t.target ≡ s.target → KeepsMarks s t → Does o s None None false None (cond c (end_step running.operation word o t) (o, t))
 own_as true running word o s t op e w layer counts number target marks = end_does running word o s t e (w refl) layer counts number target marks
 own_as false running word o s t op e w layer counts number target marks = idle o s t op layer counts number target marks
 
-own_for : (r : Option Running) (act : ℕ) (word : OpWord) (o : OutboxState) (s t : InitiatorState) → s.operation ≡ r → t.operation ≡ s.operation → IsOwn (λ operation. is_word_of operation word) act s.operation → t.layer ≡ s.layer → t.counts ≡ s.counts → t.number ≡ s.number → t.target ≡ s.target → KeepsMarks s t → Does o s None None None (end_own_for r act word o t)
+own_for : (r : Option Running) (act : ℕ) (word : OpWord) (o : OutboxState) (s t : InitiatorState) → s.operation ≡ r → t.operation ≡ s.operation → IsOwn (λ operation. is_word_of operation word) act s.operation → t.layer ≡ s.layer → t.counts ≡ s.counts → t.number ≡ s.number → t.target ≡ s.target → KeepsMarks s t → Does o s None None false None (end_own_for r act word o t)
 own_for None act word o s t e op w layer counts number target marks = idle o s t op layer counts number target marks
 own_for (Some running) act word o s t e op w layer counts number target marks =
     own_as (nat_eq running.act act) running word o s t op e (λ c. w.kind running e (nat_is running.act act c)) layer counts number target marks
 
 -- the operation that an action began ends, with a state that differs in none of these
-pub own_does : (act : ℕ) (word : OpWord) (o : OutboxState) (s t : InitiatorState) → t.operation ≡ s.operation → IsOwn (λ operation. is_word_of operation word) act s.operation → t.layer ≡ s.layer → t.counts ≡ s.counts → t.number ≡ s.number → t.target ≡ s.target → KeepsMarks s t → Does o s None None None (end_own_step act word o t)
+pub own_does : (act : ℕ) (word : OpWord) (o : OutboxState) (s t : InitiatorState) → t.operation ≡ s.operation → IsOwn (λ operation. is_word_of operation word) act s.operation → t.layer ≡ s.layer → t.counts ≡ s.counts → t.number ≡ s.number → t.target ≡ s.target → KeepsMarks s t → Does o s None None false None (end_own_step act word o t)
 own_does act word o s t op w layer counts number target marks =
     own_for t.operation act word o s t (sym op) op w layer counts number target marks
 
@@ -237,12 +233,11 @@ gone_on : (drop : Option ℕ) (present new : Option PresentList) → new ≡ pre
 gone_on None present new e h = tt
 gone_on (Some list) present new e h = e ∙ h
 
-pub behind : (o : OutboxState) (s : InitiatorState) (drop : Option ℕ) (state : Option OpWord) (t u : Turn) → Drops o s drop t → u.1.lists.slots.present ≡ t.1.lists.slots.present → Does t.0 t.1 None state None u → Does o s drop state None u
+pub behind : (o : OutboxState) (s : InitiatorState) (drop : Option ℕ) (state : Option OpWord) (t u : Turn) → Drops o s drop t → u.1.lists.slots.present ≡ t.1.lists.slots.present → Does t.0 t.1 None state false None u → Does o s drop state false None u
 behind o s drop state t u k e d = record {
   op = d.op;
-  stuck = d.stuck;
-  sides = told_twice o.sides t.0.sides u.0.sides (drops s.number drop) (notes_of s.number None d.op state d.stuck) k.sides
-      (subst (λ (n : ℕ). u.0.sides ≡ t.0.sides ++ own (notes_of n None d.op state d.stuck)) k.number d.sides);
+  sides = told_twice o.sides t.0.sides u.0.sides (drops s.number drop) (notes_of s.number None d.op state false) k.sides
+      (subst (λ (n : ℕ). u.0.sides ≡ t.0.sides ++ own (notes_of n None d.op state false)) k.number d.sides);
   move = subst (λ (r : Option Running). OpMove r d.op u.1.operation) k.operation d.move;
   wire = (d.wire.0 ∙ k.layer, d.wire.1 ∙ k.packets);
   counts = d.counts ∙ k.counts;
@@ -254,10 +249,9 @@ behind o s drop state t u k e d = record {
 
 -- ---- an operation ends, and the session becomes Stuck
 
-stuck_end : (c : Bool) (running : Running) (o : OutboxState) (s : InitiatorState) (lists : ListState) → s.operation ≡ Some running → KeepsMarks s (record s { lists = lists }) → Does o s None None None (cond c (told o (notes.Op s.number running.operation words.Error)) (told (told o (notes.Op s.number running.operation words.Error)) (notes.Stuck s.number)), record s { operation = None; lists = lists; seat = goes failed s.seat })
+stuck_end : (c : Bool) (running : Running) (o : OutboxState) (s : InitiatorState) (lists : ListState) → s.operation ≡ Some running → KeepsMarks s (record s { lists = lists }) → Does o s None None (not c) None (cond c (told o (notes.Op s.number running.operation words.Error)) (told (told o (notes.Op s.number running.operation words.Error)) (notes.Stuck s.number)), record s { operation = None; lists = lists; seat = goes failed s.seat })
 stuck_end true running o s lists e marks = record {
   op = Some (record { operation = running.operation; word = words.Error });
-  stuck = false;
   sides = refl;
   move = (record { running = running; under_way = e; same = refl; word = refl }, refl);
   wire = (refl, refl);
@@ -269,7 +263,6 @@ stuck_end true running o s lists e marks = record {
 }
 stuck_end false running o s lists e marks = record {
   op = Some (record { operation = running.operation; word = words.Error });
-  stuck = true;
   sides = append_assoc o.sides (own (notes.Op s.number running.operation words.Error ∷ [])) (own (notes.Stuck s.number ∷ []));
   move = (record { running = running; under_way = e; same = refl; word = refl }, refl);
   wire = (refl, refl);
@@ -280,17 +273,17 @@ stuck_end false running o s lists e marks = record {
   gone = tt;
 }
 
-fail_as : (c : Bool) (running : Running) (o : OutboxState) (s : InitiatorState) → s.operation ≡ Some running → Does o s None None None (then_step stick_step (cond c (end_step running.operation words.Error o s) (o, s)))
+fail_as : (c : Bool) (running : Running) (o : OutboxState) (s : InitiatorState) → s.operation ≡ Some running → Does o s None None (not (is_stuck_seat s.seat)) None (then_step stick_step (cond c (end_step running.operation words.Error o s) (o, s)))
 fail_as true running o s e =
     stuck_end (is_stuck_seat s.seat) running o s (unpin_lists s.lists) e
     (relisted s.lists (unpin_lists s.lists) s.marks.pointing (unpin_present s.lists) (unpin_orbs s.lists) (unpin_places s.lists))
 fail_as false running o s e = sticks_does o s
 
-fail_for : (r : Option Running) (act : ℕ) (o : OutboxState) (s : InitiatorState) → s.operation ≡ r → Does o s None None None (then_step stick_step (end_own_for r act words.Error o s))
+fail_for : (r : Option Running) (act : ℕ) (o : OutboxState) (s : InitiatorState) → s.operation ≡ r → Does o s None None (not (is_stuck_seat s.seat)) None (then_step stick_step (end_own_for r act words.Error o s))
 fail_for None act o s e = sticks_does o s
 fail_for (Some running) act o s e = fail_as (nat_eq running.act act) running o s e
 
-fail_does : (act : ℕ) (o : OutboxState) (s : InitiatorState) → Does o s None None None (fail_step act o s)
+fail_does : (act : ℕ) (o : OutboxState) (s : InitiatorState) → Does o s None None (not (is_stuck_seat s.seat)) None (fail_step act o s)
 fail_does act o s = fail_for s.operation act o s refl
 
 -- an operation that ends leaves the list
@@ -339,52 +332,52 @@ answered_marks None list e = absurd (untrue e)
     untrue e = cc
 answered_marks (Some known) list e = tt
 
-pointed_as : (c : Bool) (list : ℕ) (o : OutboxState) (s : InitiatorState) → is_list s.lists.slots.present list ≡ c → Does o s None None None (o, cond c (with_answered (record s { seat = goes pointed s.seat })) (record s { seat = goes pointed s.seat }))
+pointed_as : (c : Bool) (list : ℕ) (o : OutboxState) (s : InitiatorState) → is_list s.lists.slots.present list ≡ c → Does o s None None false None (o, cond c (with_answered (record s { seat = goes pointed s.seat })) (record s { seat = goes pointed s.seat }))
 pointed_as true list o s e =
     idle o s (with_answered (record s { seat = goes pointed s.seat })) refl refl refl refl refl (λ x h. record { marks = answered_marks s.lists.slots.present list e; orbs = h.orbs; places = h.places })
 pointed_as false list o s e = idle o s (record s { seat = goes pointed s.seat }) refl refl refl refl refl (λ x h. h)
 
-pointer_does : (list : ℕ) (ending : Ending) (o : OutboxState) (s : InitiatorState) → Does o s None None None (pointer_ended list ending o s)
+pointer_does : (list : ℕ) (ending : Ending) (o : OutboxState) (s : InitiatorState) → Does o s None None (sticks_by (is_failed ending) s.seat) None (pointer_ended list ending o s)
 pointer_does list (endings.Complete value) o s = pointed_as (is_list s.lists.slots.present list) list o s refl
 pointer_does list (endings.Refused rcode) o s = sticks_does o s
 pointer_does list endings.Expired o s = sticks_does o s
 
-doorbell_does : (ending : Ending) (o : OutboxState) (s : InitiatorState) → Does o s None None None (doorbell_ended ending o s)
+doorbell_does : (ending : Ending) (o : OutboxState) (s : InitiatorState) → Does o s None None (sticks_by (is_failed ending) s.seat) None (doorbell_ended ending o s)
 doorbell_does (endings.Complete value) o s = stays o s
 doorbell_does (endings.Refused rcode) o s = sticks_does o s
 doorbell_does endings.Expired o s = sticks_does o s
 
-reset_does : (act value : ℕ) (o : OutboxState) (s : InitiatorState) → IsFor operations.AgentReset act s.operation → Does o s (present_list s.lists.slots.present) None None (reset_ended act (endings.Complete value) o s)
+reset_does : (act value : ℕ) (o : OutboxState) (s : InitiatorState) → IsFor operations.AgentReset act s.operation → Does o s (present_list s.lists.slots.present) None false None (reset_ended act (endings.Complete value) o s)
 reset_does act value o s f =
     let k = list_drops o s in
     let t = drop_list_step o s in
     behind o s (present_list s.lists.slots.present) None t (end_own_step act words.Done t.0 t.1) k (own_present t.1.operation act words.Done t.0 t.1)
     (own_does act words.Done t.0 t.1 t.1 refl (subst (λ (r : Option Running). IsOwn (λ (op : Operation). is_word_of op words.Done) act r) (sym k.operation) (own_word operations.AgentReset act words.Done s.operation refl f)) refl refl refl refl (λ x h. h))
 
-enable_does : (act : ℕ) (ending : Ending) (o : OutboxState) (s : InitiatorState) → IsFor operations.Enable act s.operation → Does o s None None None (enable_ended act ending o s)
+enable_does : (act : ℕ) (ending : Ending) (o : OutboxState) (s : InitiatorState) → IsFor operations.Enable act s.operation → Does o s None None (sticks_by (is_failed ending) s.seat) None (enable_ended act ending o s)
 enable_does act (endings.Complete value) o s f = own_does act words.Done o s s refl (own_word operations.Enable act words.Done s.operation refl f) refl refl refl refl (λ x h. h)
 enable_does act (endings.Refused rcode) o s f = fail_does act o s
 enable_does act endings.Expired o s f = fail_does act o s
 
 -- an operation ends, as the session moves or not
-pub moved_does : (c : Bool) (event : Event) (running : Running) (word : OpWord) (o : OutboxState) (s : InitiatorState) → s.operation ≡ Some running → is_word_of running.operation word ≡ true → Does o s None None None (end_step running.operation word o (cond c (record s { seat = goes event s.seat }) s))
+pub moved_does : (c : Bool) (event : Event) (running : Running) (word : OpWord) (o : OutboxState) (s : InitiatorState) → s.operation ≡ Some running → is_word_of running.operation word ≡ true → Does o s None None false None (end_step running.operation word o (cond c (record s { seat = goes event s.seat }) s))
 moved_does true event running word o s e w = end_does running word o s (record s { seat = goes event s.seat }) e w refl refl refl refl (λ x h. h)
 moved_does false event running word o s e w = end_does running word o s s e w refl refl refl refl (λ x h. h)
 
-conflict_as : (c : Bool) (running : Running) (o : OutboxState) (s : InitiatorState) → s.operation ≡ Some running → (c ≡ true → is_managed running.operation ≡ true) → Does o s None None None (cond c (end_step running.operation words.Conflict o (moved running.operation conflict s)) (o, s))
+conflict_as : (c : Bool) (running : Running) (o : OutboxState) (s : InitiatorState) → s.operation ≡ Some running → (c ≡ true → is_managed running.operation ≡ true) → Does o s None None false None (cond c (end_step running.operation words.Conflict o (moved running.operation conflict s)) (o, s))
 conflict_as true running o s e w = moved_does (moves_session running.operation) conflict running words.Conflict o s e (w refl)
 conflict_as false running o s e w = stays o s
 
-conflicts : (r : Option Running) (act : ℕ) (o : OutboxState) (s : InitiatorState) → s.operation ≡ r → IsForOrb act s.operation → Does o s None None None (conflict_for r act o s)
+conflicts : (r : Option Running) (act : ℕ) (o : OutboxState) (s : InitiatorState) → s.operation ≡ r → IsForOrb act s.operation → Does o s None None false None (conflict_for r act o s)
 conflicts None act o s e f = stays o s
 conflicts (Some running) act o s e f =
     conflict_as (nat_eq running.act act) running o s e (λ c. f.managed running e (nat_is running.act act c))
 
-refused_as : (c : Bool) (act : ℕ) (o : OutboxState) (s : InitiatorState) → IsForOrb act s.operation → Does o s None None None (cond c (conflict_step act o s) (fail_step act o s))
+refused_as : (c : Bool) (act : ℕ) (o : OutboxState) (s : InitiatorState) → IsForOrb act s.operation → Does o s None None (sticks_by (not c) s.seat) None (cond c (conflict_step act o s) (fail_step act o s))
 refused_as true act o s f = conflicts s.operation act o s refl f
 refused_as false act o s f = fail_does act o s
 
-management_does : (act : ℕ) (ending : Ending) (o : OutboxState) (s : InitiatorState) → IsForOrb act s.operation → Does o s None None None (management_ended act ending o s)
+management_does : (act : ℕ) (ending : Ending) (o : OutboxState) (s : InitiatorState) → IsForOrb act s.operation → Does o s None None (sticks_by (is_managed_failed ending) s.seat) None (management_ended act ending o s)
 management_does act (endings.Complete value) o s f = stays o s
 management_does act (endings.Refused rcode) o s f = refused_as (is_conflict rcode) act o s f
 management_does act endings.Expired o s f = fail_does act o s
@@ -409,7 +402,7 @@ where_drops : (c : Bool) (o : OutboxState) (s : InitiatorState) → Drops o s (d
 where_drops true o s = list_drops o s
 where_drops false o s = none_drops o s
 
-good_does : (running : Running) (o : OutboxState) (s : InitiatorState) → s.operation ≡ Some running → Does o s (drop_if (ends_list (Some running.operation)) s.lists.slots.present) None None (then_step (good_end running) (drop_where (ends_list (Some running.operation)) o s))
+good_does : (running : Running) (o : OutboxState) (s : InitiatorState) → s.operation ≡ Some running → Does o s (drop_if (ends_list (Some running.operation)) s.lists.slots.present) None false None (then_step (good_end running) (drop_where (ends_list (Some running.operation)) o s))
 good_does running o s e =
     let c = ends_list (Some running.operation) in
     let t = drop_where c o s in
@@ -422,34 +415,34 @@ refused_word true false h e = refl
 refused_word true true h e = cc
 refused_word false is_zero h e = cc
 
-managed_as : (c : Bool) (running : Running) (status : ℕ) (o : OutboxState) (s : InitiatorState) → nat_eq status 0 ≡ c → s.operation ≡ Some running → is_managed running.operation ≡ true → Does o s (drop_if (c && ends_list (Some running.operation)) s.lists.slots.present) None None (cond c (then_step (good_end running) (drop_where (ends_list (Some running.operation)) o s)) (end_step running.operation (words.Refused status) o (moved running.operation bad s)))
+managed_as : (c : Bool) (running : Running) (status : ℕ) (o : OutboxState) (s : InitiatorState) → nat_eq status 0 ≡ c → s.operation ≡ Some running → is_managed running.operation ≡ true → Does o s (drop_if (c && ends_list (Some running.operation)) s.lists.slots.present) None false None (cond c (then_step (good_end running) (drop_where (ends_list (Some running.operation)) o s)) (end_step running.operation (words.Refused status) o (moved running.operation bad s)))
 managed_as true running status o s z e m = good_does running o s e
 managed_as false running status o s z e m =
     moved_does (moves_session running.operation) bad running (words.Refused status) o s e (refused_word (is_managed running.operation) (nat_eq status 0) m z)
 
-pub managed_does : (running : Running) (status : ℕ) (o : OutboxState) (s : InitiatorState) → s.operation ≡ Some running → is_managed running.operation ≡ true → Does o s (drop_if (nat_eq status 0 && ends_list (Some running.operation)) s.lists.slots.present) None None (managed_step running status o s)
+pub managed_does : (running : Running) (status : ℕ) (o : OutboxState) (s : InitiatorState) → s.operation ≡ Some running → is_managed running.operation ≡ true → Does o s (drop_if (nat_eq status 0 && ends_list (Some running.operation)) s.lists.slots.present) None false None (managed_step running status o s)
 managed_does running status o s e m = managed_as (nat_eq status 0) running status o s refl e m
 
 -- ---- the target's ROM
 
-unit_does : (unit : Option SbpUnit) (act : ℕ) (o : OutboxState) (s t : InitiatorState) → t.operation ≡ s.operation → IsFor operations.Rom act s.operation → t.layer ≡ s.layer → t.counts ≡ s.counts → t.number ≡ s.number → t.target ≡ s.target → KeepsMarks s t → Does o s None None None (with_unit unit act o t)
+unit_does : (unit : Option SbpUnit) (act : ℕ) (o : OutboxState) (s t : InitiatorState) → t.operation ≡ s.operation → IsFor operations.Rom act s.operation → t.layer ≡ s.layer → t.counts ≡ s.counts → t.number ≡ s.number → t.target ≡ s.target → KeepsMarks s t → Does o s None None false None (with_unit unit act o t)
 unit_does None act o s t op f layer counts number target marks =
     own_does act words.NoUnit o s t op (own_word operations.Rom act words.NoUnit s.operation refl f) layer counts number target marks
 unit_does (Some unit) act o s t op f layer counts number target marks =
     own_does act words.Done o s (record t { management = Some (management_at unit.management) }) op (own_word operations.Rom act words.Done s.operation refl f) layer counts number target marks
 
-rom_does : (read : Result Tree RomFault) (act : ℕ) (o : OutboxState) (s t : InitiatorState) → t.operation ≡ s.operation → IsFor operations.Rom act s.operation → t.layer ≡ s.layer → t.counts ≡ s.counts → t.number ≡ s.number → t.target ≡ s.target → KeepsMarks s t → Does o s None None None (with_rom read act o t)
+rom_does : (read : Result Tree RomFault) (act : ℕ) (o : OutboxState) (s t : InitiatorState) → t.operation ≡ s.operation → IsFor operations.Rom act s.operation → t.layer ≡ s.layer → t.counts ≡ s.counts → t.number ≡ s.number → t.target ≡ s.target → KeepsMarks s t → Does o s None None false None (with_rom read act o t)
 rom_does (Ok tree) act o s t op f layer counts number target marks = unit_does (sbp_unit_of tree.blocks tree.entries) act o s t op f layer counts number target marks
 rom_does (Err fault) act o s t op f layer counts number target marks =
     own_does act (words.Bad (fault_number fault)) o s t op (own_word operations.Rom act (words.Bad (fault_number fault)) s.operation refl f) layer counts number target marks
 
 -- what a step does, with what it asks for: nothing, or the next quadlet of a ROM for the same action
-pub record Ends (purpose : Purpose) (o : OutboxState) (s : InitiatorState) (drop : Option ℕ) (state : Option OpWord) (t : Turn) : Type 0 where
+pub record Ends (purpose : Purpose) (o : OutboxState) (s : InitiatorState) (drop : Option ℕ) (state : Option OpWord) (stuck : Bool) (t : Turn) : Type 0 where
   pub asking : Option Asking
   pub same : (a : Asking) → asking ≡ Some a → a.purpose ≡ purpose
   pub plain : (a : Asking) → asking ≡ Some a → is_numbered a.purpose ≡ false
   pub unread : (a : Asking) → asking ≡ Some a → read_act a.purpose ≡ None
-  pub does : Does o s drop state asking t
+  pub does : Does o s drop state stuck asking t
 
 none_some : {A B : Type 0} {a : A} → None ≡ Some a → B
 none_some e = absurd (differ e)
@@ -457,15 +450,15 @@ none_some e = absurd (differ e)
     differ : {A : Type 0} {a : A} → None ≡ Some a → ⊥
     differ e = cc
 
-ends_plainly : (purpose : Purpose) (o : OutboxState) (s : InitiatorState) (drop : Option ℕ) (state : Option OpWord) (t : Turn) → Does o s drop state None t → Ends purpose o s drop state t
-ends_plainly purpose o s drop state t d = record { asking = None; same = λ a e. none_some e; plain = λ a e. none_some e; unread = λ a e. none_some e; does = d }
+ends_plainly : (purpose : Purpose) (o : OutboxState) (s : InitiatorState) (drop : Option ℕ) (state : Option OpWord) (stuck : Bool) (t : Turn) → Does o s drop state stuck None t → Ends purpose o s drop state stuck t
+ends_plainly purpose o s drop state stuck t d = record { asking = None; same = λ a e. none_some e; plain = λ a e. none_some e; unread = λ a e. none_some e; does = d }
 
 some_is : {A : Type 0} (a b : A) → Some a ≡ Some b → a ≡ b
 some_is a b e = cc
 
-asked_does : (r : Option Asked × Layer Purpose) (act : ℕ) (o : OutboxState) (s t : InitiatorState) → asking_step s.layer s.target (next_quad t.quads) (purposes.Rom act) ≡ r → IsFor operations.Rom act s.operation → t.operation ≡ s.operation → t.layer ≡ s.layer → t.counts ≡ s.counts → t.number ≡ s.number → t.target ≡ s.target → KeepsMarks s t → Ends (purposes.Rom act) o s None None (asked_quad r act o t)
+asked_does : (r : Option Asked × Layer Purpose) (act : ℕ) (o : OutboxState) (s t : InitiatorState) → asking_step s.layer s.target (next_quad t.quads) (purposes.Rom act) ≡ r → IsFor operations.Rom act s.operation → t.operation ≡ s.operation → t.layer ≡ s.layer → t.counts ≡ s.counts → t.number ≡ s.number → t.target ≡ s.target → KeepsMarks s t → Ends (purposes.Rom act) o s None None false (asked_quad r act o t)
 asked_does (None, layer) act o s t e f op same_layer counts number target marks =
-    ends_plainly (purposes.Rom act) o s None None (asked_quad (None, layer) act o t)
+    ends_plainly (purposes.Rom act) o s None None false (asked_quad (None, layer) act o t)
     (own_does act words.Error o s (record t { layer = layer }) op (fails_own act s.operation) (none_asked s.layer layer s.target (next_quad t.quads) (purposes.Rom act) (sym e)) counts number target marks)
 asked_does (Some asked, layer) act o s t e f op same_layer counts number target marks =
     let a : Asking = record { body = next_quad t.quads; purpose = purposes.Rom act; asked = asked } in
@@ -476,7 +469,6 @@ asked_does (Some asked, layer) act o s t e f op same_layer counts number target 
       unread = λ b g. ap (λ (x : Asking). read_act x.purpose) (sym (some_is a b g));
       does = record {
         op = None;
-        stuck = false;
         sides = sym (append-nil o.sides);
         move = op;
         wire = (e, ap (λ (n : ℕ). o.packets ++ outgoing n asked ∷ []) target);
@@ -488,35 +480,34 @@ asked_does (Some asked, layer) act o s t e f op same_layer counts number target 
       };
     }
 
-asks_does : (act : ℕ) (o : OutboxState) (s t : InitiatorState) → IsFor operations.Rom act s.operation → t.operation ≡ s.operation → t.layer ≡ s.layer → t.counts ≡ s.counts → t.number ≡ s.number → t.target ≡ s.target → KeepsMarks s t → Ends (purposes.Rom act) o s None None (ask_quad act o t)
+asks_does : (act : ℕ) (o : OutboxState) (s t : InitiatorState) → IsFor operations.Rom act s.operation → t.operation ≡ s.operation → t.layer ≡ s.layer → t.counts ≡ s.counts → t.number ≡ s.number → t.target ≡ s.target → KeepsMarks s t → Ends (purposes.Rom act) o s None None false (ask_quad act o t)
 asks_does act o s t f op layer counts number target marks =
     asked_does (asking_step t.layer t.target (next_quad t.quads) (purposes.Rom act)) act o s t
     (ap (λ (l : Layer Purpose). asking_step l s.target (next_quad t.quads) (purposes.Rom act)) (sym layer) ∙ ap (λ (n : ℕ). asking_step t.layer n (next_quad t.quads) (purposes.Rom act)) (sym target))
     f op layer counts number target marks
 
-quad_as : (c : Bool) (act : ℕ) (o : OutboxState) (s t : InitiatorState) → IsFor operations.Rom act s.operation → t.operation ≡ s.operation → t.layer ≡ s.layer → t.counts ≡ s.counts → t.number ≡ s.number → t.target ≡ s.target → KeepsMarks s t → Ends (purposes.Rom act) o s None None (cond c (finish_rom act o t) (ask_quad act o t))
+quad_as : (c : Bool) (act : ℕ) (o : OutboxState) (s t : InitiatorState) → IsFor operations.Rom act s.operation → t.operation ≡ s.operation → t.layer ≡ s.layer → t.counts ≡ s.counts → t.number ≡ s.number → t.target ≡ s.target → KeepsMarks s t → Ends (purposes.Rom act) o s None None false (cond c (finish_rom act o t) (ask_quad act o t))
 quad_as true act o s t f op layer counts number target marks =
-    ends_plainly (purposes.Rom act) o s None None (finish_rom act o t) (rom_does (reading t.quads) act o s t op f layer counts number target marks)
+    ends_plainly (purposes.Rom act) o s None None false (finish_rom act o t) (rom_does (reading t.quads) act o s t op f layer counts number target marks)
 quad_as false act o s t f op layer counts number target marks = asks_does act o s t f op layer counts number target marks
 
-refused_rom : (c : Bool) (act : ℕ) (o : OutboxState) (s : InitiatorState) → IsFor operations.Rom act s.operation → Does o s None None None (cond c (finish_rom act o s) (end_own_step act words.Error o s))
+refused_rom : (c : Bool) (act : ℕ) (o : OutboxState) (s : InitiatorState) → IsFor operations.Rom act s.operation → Does o s None None false None (cond c (finish_rom act o s) (end_own_step act words.Error o s))
 refused_rom true act o s f = rom_does (reading s.quads) act o s s refl f refl refl refl refl (λ x h. h)
 refused_rom false act o s f = own_does act words.Error o s s refl (fails_own act s.operation) refl refl refl refl (λ x h. h)
 
-rom_ends : (act : ℕ) (ending : Ending) (o : OutboxState) (s : InitiatorState) → IsFor operations.Rom act s.operation → Ends (purposes.Rom act) o s None None (rom_ended act ending o s)
+rom_ends : (act : ℕ) (ending : Ending) (o : OutboxState) (s : InitiatorState) → IsFor operations.Rom act s.operation → Ends (purposes.Rom act) o s None None false (rom_ended act ending o s)
 rom_ends act (endings.Complete value) o s f =
     let t = record s { quads = with_quad s.quads value } in
     quad_as (nat_eq (length t.quads) 256) act o s t f refl refl refl refl refl (λ x h. h)
-rom_ends act (endings.Refused rcode) o s f = ends_plainly (purposes.Rom act) o s None None _ (refused_rom (is_address rcode) act o s f)
+rom_ends act (endings.Refused rcode) o s f = ends_plainly (purposes.Rom act) o s None None false _ (refused_rom (is_address rcode) act o s f)
 rom_ends act endings.Expired o s f =
-    ends_plainly (purposes.Rom act) o s None None _ (own_does act words.Error o s s refl (fails_own act s.operation) refl refl refl refl (λ x h. h))
+    ends_plainly (purposes.Rom act) o s None None false _ (own_does act words.Error o s s refl (fails_own act s.operation) refl refl refl refl (λ x h. h))
 
 -- ---- the state of the agent
 
-state_told_does : (act : ℕ) (word : OpWord) (o : OutboxState) (s : InitiatorState) → Does o s None (Some word) None (state_told act word o s)
+state_told_does : (act : ℕ) (word : OpWord) (o : OutboxState) (s : InitiatorState) → Does o s None (Some word) false None (state_told act word o s)
 state_told_does act word o s = record {
   op = None;
-  stuck = false;
   sides = refl;
   move = refl;
   wire = (refl, refl);
@@ -539,7 +530,7 @@ counted_drops : (counts : Bool) (value : ℕ) (o : OutboxState) (s : InitiatorSt
 counted_drops true value o s = known_drops (nat_eq value 0) value o s
 counted_drops false value o s = none_drops o s
 
-state_does : (act : ℕ) (list : Option ℕ) (ending : Ending) (o : OutboxState) (s : InitiatorState) → Does o s (drop_if (state_drops list ending s.lists.slots.present) s.lists.slots.present) (Some (state_word ending)) None (state_ended act list ending o s)
+state_does : (act : ℕ) (list : Option ℕ) (ending : Ending) (o : OutboxState) (s : InitiatorState) → Does o s (drop_if (state_drops list ending s.lists.slots.present) s.lists.slots.present) (Some (state_word ending)) false None (state_ended act list ending o s)
 state_does act list (endings.Complete value) o s =
     let c = counts_for s.lists.slots.present list in
     let t = known_where c value o s in
@@ -549,16 +540,16 @@ state_does act list endings.Expired o s = state_told_does act words.Error o s
 
 -- ---- all of them
 
-pub ended_does : (purpose : Purpose) (ending : Ending) (o : OutboxState) (s : InitiatorState) → Fits purpose s.operation → Ends purpose o s (drop_if (ends_the_list purpose ending s.lists.slots.present) s.lists.slots.present) (read_ends purpose ending) (ended_step purpose ending o s)
+pub ended_does : (purpose : Purpose) (ending : Ending) (o : OutboxState) (s : InitiatorState) → Fits purpose s.operation → Ends purpose o s (drop_if (ends_the_list purpose ending s.lists.slots.present) s.lists.slots.present) (read_ends purpose ending) (sticks_by (fails_write purpose ending) s.seat) (ended_step purpose ending o s)
 unfolding ended_step
-ended_does (purposes.Pointer list) ending o s f = ends_plainly (purposes.Pointer list) o s None None _ (pointer_does list ending o s)
-ended_does purposes.Doorbell ending o s f = ends_plainly purposes.Doorbell o s None None _ (doorbell_does ending o s)
+ended_does (purposes.Pointer list) ending o s f = ends_plainly (purposes.Pointer list) o s None None _ _ (pointer_does list ending o s)
+ended_does purposes.Doorbell ending o s f = ends_plainly purposes.Doorbell o s None None _ _ (doorbell_does ending o s)
 ended_does (purposes.AgentReset act) (endings.Complete value) o s f =
-    ends_plainly (purposes.AgentReset act) o s (present_list s.lists.slots.present) None _ (reset_does act value o s f)
-ended_does (purposes.AgentReset act) (endings.Refused rcode) o s f = ends_plainly (purposes.AgentReset act) o s None None _ (fail_does act o s)
-ended_does (purposes.AgentReset act) endings.Expired o s f = ends_plainly (purposes.AgentReset act) o s None None _ (fail_does act o s)
-ended_does (purposes.Enable act) ending o s f = ends_plainly (purposes.Enable act) o s None None _ (enable_does act ending o s f)
-ended_does (purposes.Management act) ending o s f = ends_plainly (purposes.Management act) o s None None _ (management_does act ending o s f)
+    ends_plainly (purposes.AgentReset act) o s (present_list s.lists.slots.present) None false _ (reset_does act value o s f)
+ended_does (purposes.AgentReset act) (endings.Refused rcode) o s f = ends_plainly (purposes.AgentReset act) o s None None _ _ (fail_does act o s)
+ended_does (purposes.AgentReset act) endings.Expired o s f = ends_plainly (purposes.AgentReset act) o s None None _ _ (fail_does act o s)
+ended_does (purposes.Enable act) ending o s f = ends_plainly (purposes.Enable act) o s None None _ _ (enable_does act ending o s f)
+ended_does (purposes.Management act) ending o s f = ends_plainly (purposes.Management act) o s None None _ _ (management_does act ending o s f)
 ended_does (purposes.Rom act) ending o s f = rom_ends act ending o s f
 ended_does (purposes.State act list) ending o s f =
-    ends_plainly (purposes.State act list) o s (drop_if (state_drops list ending s.lists.slots.present) s.lists.slots.present) (Some (state_word ending)) _ (state_does act list ending o s)
+    ends_plainly (purposes.State act list) o s (drop_if (state_drops list ending s.lists.slots.present) s.lists.slots.present) (Some (state_word ending)) false _ (state_does act list ending o s)

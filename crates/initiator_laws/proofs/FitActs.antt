@@ -1,5 +1,5 @@
 -- What an action asks for fits a packet, and what it does leaves what fits.
-use Rattle.std.proofs.Common.{arith, ◌≡◌, ◌≢◌, refl, sym, ap, ◌∙◌, subst, ℕ, zero, suc, ◌+◌, ◌*◌, ◌%◌, ◌^◌, ◌<◌, ◌≤◌, ◌==◌, unwrap_or, Bool, true, false, cond, List, [], ◌∷◌, ◌++◌, length, Option, Some, None, Result, Ok, Err}
+use Rattle.std.proofs.Common.{arith, ◌≡◌, refl, sym, ap, subst, ℕ, zero, suc, ◌+◌, ◌^◌, ◌<◌, ◌≤◌, ◌==◌, unwrap_or, Bool, true, false, List, [], ◌∷◌, ◌++◌, length, Option, Some, None}
 use Rattle.byteorder.specs.Endian.{big_bytes}
 use Rattle.bus_memory.specs.declared.window.Window.TheVariants as windows
 use Rattle.bus_memory.specs.Windows.{start}
@@ -8,7 +8,7 @@ use Rattle.bus_transactions.specs.May.{is_plain}
 use Rattle.bus_transactions.specs.Steps.{ArePlainSides, IsAsking, request_to, with_asked}
 use Rattle.bus_transactions.proofs.FitCalls.{Asking, asking_asks, no_ask, plain_append}
 use Rattle.label_table.specs.declared.judgement.Asked.{Asked}
-use Rattle.label_table.specs.Layer.{Layer, asking_step}
+use Rattle.label_table.specs.Layer.{Layer}
 use Rattle.orb_layout.specs.declared.management.ManagementOrb.{ManagementOrb}
 use Rattle.orb_list.specs.declared.list.PresentList.{PresentList}
 use Rattle.orb_list.specs.Table.{find_in}
@@ -18,7 +18,7 @@ use Rattle.sbp_initiator.specs.declared.purpose.Purpose.{Purpose}
 use Rattle.sbp_initiator.specs.declared.purpose.Wanted.{Wanted}
 use Rattle.sbp_initiator.specs.declared.purpose.Wanted.TheVariants as wants
 use Rattle.sbp_initiator.specs.declared.state.InitiatorState.{InitiatorState}
-use Rattle.sbp_initiator.specs.Acting.{act_step, append_step, asked_as, asked_for, begun, counted, demand_of, demanded_as, done_as, done_step, dummy_for, facts_with, first_in, judged_as, link_as, link_step, login_id, login_orb, low_as, low_step, manage_demand, managed_by, orb_by, pinned_for, put_as, put_step, register_of, register_start, ring_demand, ring_for, sent_with, with_first, with_pin, with_ring, with_running}
+use Rattle.sbp_initiator.specs.Acting.{act_step, append_step, asked_as, asked_for, begun, counted, demand_of, demanded_as, done_step, dummy_for, facts_with, judged_as, link_as, link_step, login_id, login_orb, low_as, low_step, manage_demand, managed_by, orb_by, pinned_for, put_as, put_step, register_of, register_start, ring_demand, ring_for, with_first, with_pin, with_ring, with_running}
 use Rattle.sbp_initiator.specs.Effects.{Turn, told, with_request}
 use Rattle.sbp_initiator.specs.Lists.{ListState, dummy_lists, high_lists, low_lists, pin_lists, put_lists}
 use Rattle.sbp_initiator.specs.Refusals.{refusal}
@@ -32,10 +32,9 @@ use Rattle.sbp_journal.specs.declared.note.NoteBuffer.{NoteBuffer}
 use Rattle.sbp_journal.specs.declared.operation.Operation.{Operation}
 use Rattle.sbp_journal.specs.declared.operation.Operation.TheVariants as operations
 use Rattle.sbp_journal.specs.declared.outbox.Outgoing.{Outgoing}
-use Rattle.sbp_journal.specs.declared.side.Side.{Side}
 use Rattle.sbp_journal.specs.Buffers.{buffer_of}
 use Rattle.sbp_journal.specs.Outgoings.{OutboxState, empty_outbox}
-use Rattle.initiator_laws.specs.Fitting.{AreIds, BytesAction, BytesCommand, Fits, FitsMemory, FitsState}
+use Rattle.initiator_laws.specs.Fitting.{AreIds, BytesAction, BytesCommand, FitsMemory, FitsState}
 use Rattle.initiator_laws.proofs.FitMemory.{dummy_fits, high_fits, low_fits, manage_fits, pin_fits, put_fits}
 use Rattle.initiator_laws.proofs.FitTurns.{At, Said, Tells, fits_memory}
 

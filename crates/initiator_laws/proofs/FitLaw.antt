@@ -1,12 +1,12 @@
 -- Each call of an initiator is what the wire takes a call of a node for.
-use Rattle.std.proofs.Common.{arith, ◌≡◌, ◌≢◌, refl, sym, ap, ◌∙◌, subst, ℕ, zero, suc, ◌+◌, ◌^◌, ◌<◌, ◌≤◌, ◌==◌, nat_lt, Bool, true, false, cond, List, [], ◌∷◌, ◌++◌, Option, Some, None, Result, Ok, Err}
+use Rattle.std.proofs.Common.{arith, ◌≡◌, refl, sym, subst, ℕ, ◌+◌, ◌^◌, ◌<◌, ◌≤◌, ◌==◌, nat_lt, Bool, true, false, cond, List, [], ◌∷◌, Option, Some, None, Result, Ok, Err}
 use Rattle.std.proofs.lemmas.Bool.Decides.{nat_tests}
 use Rattle.async_packet.specs.Labels.{LabelParts}
 use Rattle.async_packet.specs.Packet.{Packet, header_in}
-use Rattle.bus_transactions.specs.Fitting.{AreBytes, AreSmall, FitsAnswer, IsLayer}
+use Rattle.bus_transactions.specs.Fitting.{AreBytes, AreSmall, IsLayer}
 use Rattle.bus_transactions.specs.May.{may_ignore}
 use Rattle.bus_transactions.specs.Steps.{ArePlainSides, IsDelivery, IsExpiry, answer_to, judged_for}
-use Rattle.bus_transactions.specs.Wire.{as_before, as_decided, is_reply}
+use Rattle.bus_transactions.specs.Wire.{as_before, as_decided}
 use Rattle.bus_transactions.proofs.FitCalls.{Answering, Asking, Calm, answering_answers, asking_asks, asking_tells, calm_tells, no_ask, no_leaving}
 use Rattle.bus_transactions.proofs.FitJudged.{IsFoundAs, bytes_of, found_as, source_fits}
 use Rattle.bus_transactions.proofs.FitSteps.{expires_same, goes, judges_same, new_goes, sees_goes}
@@ -17,26 +17,23 @@ use Rattle.label_table.specs.History as wire
 use Rattle.sbp_initiator.specs.declared.purpose.Ending.TheVariants as endings
 use Rattle.sbp_initiator.specs.declared.purpose.Purpose.{Purpose}
 use Rattle.sbp_initiator.specs.declared.state.InitiatorState.{InitiatorState}
-use Rattle.sbp_initiator.specs.Acting.{IsAction, act_step}
+use Rattle.sbp_initiator.specs.Acting.{act_step}
 use Rattle.sbp_initiator.specs.Effects.{Turn, drop_list_step, dropped_as}
 use Rattle.sbp_initiator.specs.Initiators.{first_management, new_state, own_rom}
 use Rattle.sbp_initiator.specs.Lists.{ListState, drop_lists, free_lists}
-use Rattle.sbp_initiator.specs.Receiving.{called, expire_step, expired_as, receive_step, received, request_step, respond_step, responded_as}
+use Rattle.sbp_initiator.specs.Receiving.{called, expire_step, expired_as, receive_step, received, request_step, responded_as}
 use Rattle.sbp_initiator.specs.Seeing.{interrupted, reset_step, resets_told, see_step, seen_as}
 use Rattle.sbp_initiator.specs.States.{ending_of}
 use Rattle.initiator_laws.proofs.Refused.{refusal_law}
-use Rattle.sbp_journal.specs.declared.cause.Cause.{Cause}
 use Rattle.sbp_journal.specs.declared.cause.Judged.{Judged}
 use Rattle.sbp_journal.specs.declared.cause.Judged.TheVariants as judgements
 use Rattle.sbp_journal.specs.declared.event.Action.{Action}
-use Rattle.sbp_journal.specs.declared.outbox.Outgoing.{Outgoing}
-use Rattle.sbp_journal.specs.declared.side.Side.{Side}
 use Rattle.sbp_journal.specs.Outgoings.{OutboxState, empty_outbox}
-use Rattle.initiator_laws.specs.Fitting.{Acts, AreIds, BytesAction, Expires, Fits, FitsState, FittingLaw, Holds, InitiatorFits, Receives}
+use Rattle.initiator_laws.specs.Fitting.{Acts, AreIds, BytesAction, Expires, FitsState, FittingLaw, Holds, InitiatorFits, Receives}
 use Rattle.initiator_laws.proofs.FitActs.{acts_fit}
 use Rattle.initiator_laws.proofs.FitMemory.{free_fits, new_memory_fits}
-use Rattle.initiator_laws.proofs.FitRequests.{Answers, IsStated, cause_of, requested}
-use Rattle.initiator_laws.proofs.FitTurns.{At, Keeps, Said, Tells, drops, ends_for, fits_memory}
+use Rattle.initiator_laws.proofs.FitRequests.{Answers, cause_of, requested}
+use Rattle.initiator_laws.proofs.FitTurns.{Keeps, Said, Tells, drops, ends_for, fits_memory}
 
 -- what is known of an initiator with so many actions, by its own count
 renews : (known : ℕ → Type 0) (acts : ℕ) (s : InitiatorState) → FitsState known acts (acts + 1) s → FitsState known s.counts.acts (s.counts.acts + 1) s

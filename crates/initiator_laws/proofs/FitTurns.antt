@@ -1,6 +1,6 @@
 -- What is kept by telling and by asking the target for what fits a packet is kept by all that follows the end of a transaction; and what fits stays so.
-use Rattle.std.proofs.Common.{arith, ◌≡◌, refl, sym, ap, ◌∙◌, subst, ℕ, ◌+◌, ◌*◌, ◌%◌, ◌^◌, ◌<◌, ◌≤◌, ◌==◌, Bool, true, false, cond, List, [], ◌∷◌, ◌++◌, length, Option, Some, None, Result, Ok, Err}
-use Rattle.bus_transactions.specs.Fitting.{AreBytes, FitsRequest}
+use Rattle.std.proofs.Common.{arith, ◌≡◌, refl, subst, ℕ, ◌^◌, ◌<◌, ◌==◌, Bool, true, false, cond, List, [], ◌∷◌, ◌++◌, length, Option, Some, None, Result, Ok, Err}
+use Rattle.bus_transactions.specs.Fitting.{FitsRequest}
 use Rattle.bus_transactions.specs.May.{is_plain}
 use Rattle.bus_transactions.specs.Steps.{with_asked}
 use Rattle.config_rom.specs.declared.fault.RomFault.{RomFault}
@@ -17,7 +17,7 @@ use Rattle.sbp_initiator.specs.declared.purpose.Purpose.{Purpose}
 use Rattle.sbp_initiator.specs.declared.purpose.Purpose.TheVariants as purposes
 use Rattle.sbp_initiator.specs.declared.purpose.Running.{Running}
 use Rattle.sbp_initiator.specs.declared.state.InitiatorState.{InitiatorState}
-use Rattle.sbp_initiator.specs.Effects.{Turn, ask_quad, asked_quad, conflict_for, conflict_step, doorbell_ended, drop_list_step, drop_where, dropped_as, enable_ended, end_own_for, end_own_step, end_step, ended_for, ended_step, fail_step, fault_number, finish_rom, good_end, good_event, good_word, is_address, is_conflict, known_step, known_where, managed_step, management_ended, moved, moves_session, next_quad, pointed_step, pointer_ended, quad_got, reset_ended, response_of, rom_ended, state_ended, state_told, stick_step, then_step, told, with_answered, with_dead, with_request, with_rom, with_unit}
+use Rattle.sbp_initiator.specs.Effects.{Turn, ask_quad, asked_quad, conflict_for, conflict_step, doorbell_ended, drop_list_step, drop_where, dropped_as, enable_ended, end_own_for, end_own_step, end_step, ended_for, ended_step, fail_step, fault_number, finish_rom, good_end, good_event, good_word, is_address, is_conflict, known_where, managed_step, management_ended, moved, moves_session, next_quad, pointer_ended, quad_got, reset_ended, response_of, rom_ended, state_ended, state_told, stick_step, then_step, told, with_answered, with_dead, with_rom, with_unit}
 use Rattle.sbp_initiator.specs.Lists.{ListState, drop_lists, unpin_lists}
 use Rattle.sbp_initiator.specs.Quads.{with_quad}
 use Rattle.sbp_initiator.specs.Refusals.{ends_list}

@@ -177,8 +177,7 @@ pub record HasOrb (operation : Option Running) : Type 0 where
 -- What a delivery tells before its answer, with what a block tells and the list that is dropped, and what it leaves.
 pub record Handles (o : OutboxState) (s : InitiatorState) (first : Option Note) (drop : Option ℕ) (t : Turn) : Type 0 where
   pub op : Option OpEnd
-  pub stuck : Bool
-  pub sides : t.0.sides ≡ o.sides ++ own (block_notes first ++ notes_of s.number drop op None stuck)
+  pub sides : t.0.sides ≡ o.sides ++ own (block_notes first ++ notes_of s.number drop op None false)
   pub move : OpMove s.operation op t.1.operation
   pub layer : t.1.layer ≡ s.layer
   pub packets : t.0.packets ≡ o.packets
@@ -191,8 +190,7 @@ pub record Handles (o : OutboxState) (s : InitiatorState) (first : Option Note) 
 -- And with its answer.
 pub record Answers (p : Packet) (bytes : List ℕ) (o : OutboxState) (s : InitiatorState) (first : Option Note) (drop : Option ℕ) (t : Turn) : Type 0 where
   pub op : Option OpEnd
-  pub stuck : Bool
-  pub sides : t.0.sides ≡ o.sides ++ own (block_notes first ++ notes_of s.number drop op None stuck)
+  pub sides : t.0.sides ≡ o.sides ++ own (block_notes first ++ notes_of s.number drop op None false)
   pub move : OpMove s.operation op t.1.operation
   pub rcode : ℕ
   pub given : List ℕ
@@ -208,7 +206,6 @@ module _ (p : Packet) (bytes : List ℕ) (o : OutboxState) (s : InitiatorState) 
   answered : (rcode : ℕ) (given : List ℕ) (first : Option Note) (drop : Option ℕ) (t : Turn) → Handles o s first drop t → Answers p bytes o s first drop (respond_step p bytes rcode given t)
   answered rcode given first drop t h = record {
     op = h.op;
-    stuck = h.stuck;
     sides = h.sides;
     move = h.move;
     rcode = rcode;
@@ -228,7 +225,6 @@ module _ (o : OutboxState) (s : InitiatorState) where
   quiet : (t : InitiatorState) → t.operation ≡ s.operation → t.layer ≡ s.layer → t.counts.running ≡ s.counts.running → t.counts.acts ≡ s.counts.acts → t.number ≡ s.number → KeepsMarks s t → Handles o s None None (o, t)
   quiet t op layer running acts number marks = record {
     op = None;
-    stuck = false;
     sides = sym (append-nil o.sides);
     move = op;
     layer = layer;
@@ -244,7 +240,6 @@ module _ (o : OutboxState) (s : InitiatorState) where
   tells : (note : Note) (t : InitiatorState) → t.operation ≡ s.operation → t.layer ≡ s.layer → t.counts.running ≡ s.counts.running → t.counts.acts ≡ s.counts.acts → t.number ≡ s.number → KeepsMarks s t → Handles o s (Some note) None (told o note, t)
   tells note t op layer running acts number marks = record {
     op = None;
-    stuck = false;
     sides = refl;
     move = op;
     layer = layer;
@@ -272,7 +267,6 @@ module _ (p : Packet) (bytes : List ℕ) (o : OutboxState) (s : InitiatorState) 
       answered p bytes o s 0 [] None drop (managed_step running code o (called s))
       (record {
         op = d.op;
-        stuck = d.stuck;
         sides = d.sides;
         move = d.move;
         layer = d.wire.0;

@@ -5,6 +5,7 @@ use Rattle.async_packet.specs.Packet.{Packet}
 use Rattle.label_table.specs.declared.reply.Stale.{Stale}
 use Rattle.label_table.specs.Layer.{Layer, Finding, of_generation, of_grammar, of_label, of_response, of_again, of_request, answering_step, expiring_step, judging_step}
 use Rattle.orb_list.specs.declared.list.PresentList.{PresentList}
+use Rattle.sbp_session.specs.declared.seat.Seat.{Seat}
 use Rattle.sbp_journal.specs.declared.note.Note.{Note}
 use Rattle.sbp_journal.specs.declared.operation.OpWord.{OpWord}
 use Rattle.sbp_journal.specs.declared.outbox.Outgoing.{Outgoing}
@@ -26,10 +27,10 @@ use Rattle.sbp_initiator.specs.Receiving.{called, expire_step, expired_as, recei
 use Rattle.sbp_initiator.specs.Judged.{IsSame}
 use Rattle.sbp_initiator.proofs.Layers.{judged_same}
 use Rattle.initiator_laws.specs.Drops.{IfGone, drop_if, ends_the_list}
-use Rattle.initiator_laws.specs.Ends.{own, OpEnd, notes_of, OpMove, read_ends}
+use Rattle.initiator_laws.specs.Ends.{own, OpEnd, notes_of, OpMove, read_ends, fails_write, sticks_by}
 use Rattle.initiator_laws.specs.Marks.{CountsFor, expired_reads, finding_reads, read_over}
 use Rattle.initiator_laws.specs.Numbers.{is_numbered, carried, RisesTo}
-use Rattle.initiator_laws.specs.Taking.{block_notes, call_drops, call_note, call_read, expired_read, finding_drops, finding_note, finding_read, purpose_read}
+use Rattle.initiator_laws.specs.Taking.{block_notes, call_drops, call_fails, call_note, call_read, expired_fails, expired_read, finding_drops, finding_fails, finding_note, finding_read, purpose_fails, purpose_read}
 use Rattle.initiator_laws.specs.Tells.{is_heard, Tells}
 use Rattle.initiator_laws.proofs.Effects.{Asking, Fits, Holds, Wired, ended_does}
 use Rattle.initiator_laws.proofs.Brings.{request_left}
@@ -143,10 +144,9 @@ expired_drops (purposes.Pointer list) present = refl
 expired_drops purposes.Doorbell present = refl
 
 -- what is told, and what holds afterwards
-pub record Heard (node : ℕ) (held : ℕ → List ℕ) (counted : ℕ → Option ℕ) (first : Option Note) (drop : Option ℕ) (read : Option OpWord) (old new : Turn) : Type 0 where
+pub record Heard (node : ℕ) (held : ℕ → List ℕ) (counted : ℕ → Option ℕ) (first : Option Note) (drop : Option ℕ) (read : Option OpWord) (fails : Bool) (old new : Turn) : Type 0 where
   pub op : Option OpEnd
-  pub stuck : Bool
-  pub sides : new.0.sides ≡ old.0.sides ++ own (block_notes first ++ notes_of old.1.number drop op read stuck)
+  pub sides : new.0.sides ≡ old.0.sides ++ own (block_notes first ++ notes_of old.1.number drop op read (sticks_by fails old.1.seat))
   pub move : OpMove old.1.operation op new.1.operation
   pub gone : IfGone drop new.1.lists.slots.present
   pub sound : Sound node held counted new
@@ -166,22 +166,21 @@ drop_for_purpose None ending s = None
 drop_for_purpose (Some purpose) ending s = drop_if (ends_the_list purpose ending s.lists.slots.present) s.lists.slots.present
 
 -- the layer of a state is another, by a call that closed a transaction
-ended_heard : (node : ℕ) (held : ℕ → List ℕ) (counted : ℕ → Option ℕ) (old : Turn) (u : InitiatorState) (purpose : Option Purpose) (ending : Ending) → Sound node held counted old → u.operation ≡ old.1.operation → u.number ≡ old.1.number → u.counts.acts ≡ old.1.counts.acts → u.counts.running ≡ old.1.counts.running → Holds held u.lists u.marks.pointing → Wire (FitsNow u.operation u.counts.acts counted) (read_over purpose u.states) node u.counts.running u.layer old.0.packets → IfFor (FitsNow u.operation u.counts.acts counted) purpose → Heard node held counted None (drop_for_purpose purpose ending u) (purpose_read purpose ending) old (ended_for purpose ending old.0 u)
-ended_heard node held counted old u None ending k op number acts running marks w f = record {
+ended_heard : (node : ℕ) (held : ℕ → List ℕ) (counted : ℕ → Option ℕ) (old : Turn) (u : InitiatorState) (purpose : Option Purpose) (ending : Ending) → Sound node held counted old → u.operation ≡ old.1.operation → u.number ≡ old.1.number → u.seat ≡ old.1.seat → u.counts.acts ≡ old.1.counts.acts → u.counts.running ≡ old.1.counts.running → Holds held u.lists u.marks.pointing → Wire (FitsNow u.operation u.counts.acts counted) (read_over purpose u.states) node u.counts.running u.layer old.0.packets → IfFor (FitsNow u.operation u.counts.acts counted) purpose → Heard node held counted None (drop_for_purpose purpose ending u) (purpose_read purpose ending) (purpose_fails purpose ending) old (ended_for purpose ending old.0 u)
+ended_heard node held counted old u None ending k op number seat acts running marks w f = record {
   op = None;
-  stuck = false;
   sides = sym (append-nil old.0.sides);
   move = op;
   gone = tt;
   sound = kept_sound node held counted u None (old.0, u) u.states refl old k (sym op) (sym acts) refl refl refl marks w;
 }
-ended_heard node held counted old u (Some purpose) ending k op number acts running marks w f =
+ended_heard node held counted old u (Some purpose) ending k op number seat acts running marks w f =
     let d = ended_does purpose ending old.0 u f.fits in
     let t = ended_step purpose ending old.0 u in
     record {
       op = d.does.op;
-      stuck = d.does.stuck;
-      sides = subst (λ (n : ℕ). t.0.sides ≡ old.0.sides ++ own (notes_of n (drop_if (ends_the_list purpose ending u.lists.slots.present) u.lists.slots.present) d.does.op (read_ends purpose ending) d.does.stuck)) number d.does.sides;
+      sides = subst (λ (x : Seat). t.0.sides ≡ old.0.sides ++ own (notes_of old.1.number (drop_if (ends_the_list purpose ending u.lists.slots.present) u.lists.slots.present) d.does.op (read_ends purpose ending) (sticks_by (fails_write purpose ending) x))) seat
+          (subst (λ (n : ℕ). t.0.sides ≡ old.0.sides ++ own (notes_of n (drop_if (ends_the_list purpose ending u.lists.slots.present) u.lists.slots.present) d.does.op (read_ends purpose ending) (sticks_by (fails_write purpose ending) u.seat))) number d.does.sides);
       move = subst (λ (r : Option Running). OpMove r d.does.op t.1.operation) op d.does.move;
       gone = d.does.gone;
       sound = kept_sound node held counted u d.does.op t (read_over (Some purpose) u.states) (for_leaves (Some purpose) ending old.0 u).states old k (sym op) (sym acts) d.does.move (ap (λ (c : Counts). c.acts) d.does.counts) (ap (λ (c : Counts). c.running) d.does.counts) (d.does.marks held marks)
@@ -199,11 +198,10 @@ expired_for node P reads running layer packets peer label purpose w e =
     expires_asked P node w.calls peer label purpose w.asks (ap (λ (l : Layer Purpose). (expiring_step l peer label).0) w.layer_is ∙ e)
 
 -- a request is answered
-request_heard : (node : ℕ) (held : ℕ → List ℕ) (counted : ℕ → Option ℕ) (p : Packet) (bytes : List ℕ) (old : Turn) (u : InitiatorState) (first : Option Note) (drop : Option ℕ) (t : Turn) → Sound node held counted old → u.operation ≡ old.1.operation → u.number ≡ old.1.number → u.counts ≡ old.1.counts → Holds held u.lists u.marks.pointing → Wire (FitsNow u.operation u.counts.acts counted) u.states node u.counts.running u.layer old.0.packets → t.1.states ≡ u.states → Answers p bytes old.0 u first drop t → Heard node held counted first drop None old t
+request_heard : (node : ℕ) (held : ℕ → List ℕ) (counted : ℕ → Option ℕ) (p : Packet) (bytes : List ℕ) (old : Turn) (u : InitiatorState) (first : Option Note) (drop : Option ℕ) (t : Turn) → Sound node held counted old → u.operation ≡ old.1.operation → u.number ≡ old.1.number → u.counts ≡ old.1.counts → Holds held u.lists u.marks.pointing → Wire (FitsNow u.operation u.counts.acts counted) u.states node u.counts.running u.layer old.0.packets → t.1.states ≡ u.states → Answers p bytes old.0 u first drop t → Heard node held counted first drop None false old t
 request_heard node held counted p bytes old u first drop t k op number counts marks w x a = record {
   op = a.op;
-  stuck = a.stuck;
-  sides = subst (λ (n : ℕ). t.0.sides ≡ old.0.sides ++ own (block_notes first ++ notes_of n drop a.op None a.stuck)) number a.sides;
+  sides = subst (λ (n : ℕ). t.0.sides ≡ old.0.sides ++ own (block_notes first ++ notes_of n drop a.op None false)) number a.sides;
   move = subst (λ (r : Option Running). OpMove r a.op t.1.operation) op a.move;
   gone = a.gone;
   sound = kept_sound node held counted u a.op t u.states x old k (sym op) (ap (λ (c : Counts). c.acts) (sym counts)) a.move a.acts a.running (a.marks held marks)
@@ -214,31 +212,30 @@ request_heard node held counted p bytes old u first drop t k op number counts ma
 
 module _ (node : ℕ) (held : ℕ → List ℕ) (counted : ℕ → Option ℕ) (o : OutboxState) (s : InitiatorState) (k : Sound node held counted (o, s)) where
   -- nothing is told
-  nothing_heard : (u : InitiatorState) → u.operation ≡ s.operation → u.counts.acts ≡ s.counts.acts → u.counts.running ≡ s.counts.running → Holds held u.lists u.marks.pointing → u.states ≡ s.states → Wire (FitsNow s.operation s.counts.acts counted) s.states node s.counts.running u.layer o.packets → Heard node held counted None None None (o, s) (o, u)
+  nothing_heard : (u : InitiatorState) → u.operation ≡ s.operation → u.counts.acts ≡ s.counts.acts → u.counts.running ≡ s.counts.running → Holds held u.lists u.marks.pointing → u.states ≡ s.states → Wire (FitsNow s.operation s.counts.acts counted) s.states node s.counts.running u.layer o.packets → Heard node held counted None None None false (o, s) (o, u)
   nothing_heard u op acts running marks x w = record {
     op = None;
-    stuck = false;
     sides = sym (append-nil o.sides);
     move = op;
     gone = tt;
     sound = kept_sound node held counted s None (o, u) s.states x (o, s) k refl refl op acts running marks w;
   }
 
-  received_heard : (finding : Finding Purpose) (layer : Layer Purpose) (bytes : List ℕ) → IsSame finding s.layer layer → Wire (FitsNow s.operation s.counts.acts counted) (finding_reads finding s.states) node s.counts.running layer o.packets → ((p : Packet) (label : LabelParts) (purpose : Option Purpose) → finding ≡ of_response p label purpose → IfFor (FitsNow s.operation s.counts.acts counted) purpose) → Heard node held counted (finding_note finding s) (drop_if (finding_drops finding s) s.lists.slots.present) (finding_read finding) (o, s) (received (finding, layer) bytes o s).1
+  received_heard : (finding : Finding Purpose) (layer : Layer Purpose) (bytes : List ℕ) → IsSame finding s.layer layer → Wire (FitsNow s.operation s.counts.acts counted) (finding_reads finding s.states) node s.counts.running layer o.packets → ((p : Packet) (label : LabelParts) (purpose : Option Purpose) → finding ≡ of_response p label purpose → IfFor (FitsNow s.operation s.counts.acts counted) purpose) → Heard node held counted (finding_note finding s) (drop_if (finding_drops finding s) s.lists.slots.present) (finding_read finding) (finding_fails finding) (o, s) (received (finding, layer) bytes o s).1
   received_heard of_generation layer bytes same w f = nothing_heard (record s { layer = layer }) refl refl refl k.marks refl w
   received_heard of_grammar layer bytes same w f = nothing_heard (record s { layer = layer }) refl refl refl k.marks refl w
   received_heard of_label layer bytes same w f = nothing_heard (record s { layer = layer }) refl refl refl k.marks refl w
   received_heard (of_response p label None) layer bytes same w f =
-      ended_heard node held counted (o, s) (called (record s { layer = layer })) None (ending_of p) k refl refl refl refl k.marks w tt
+      ended_heard node held counted (o, s) (called (record s { layer = layer })) None (ending_of p) k refl refl refl refl refl k.marks w tt
   received_heard (of_response p label (Some purpose)) layer bytes same w f =
-      ended_heard node held counted (o, s) (called (record s { layer = layer })) (Some purpose) (ending_of p) k refl refl refl refl k.marks w (f p label (Some purpose) refl)
+      ended_heard node held counted (o, s) (called (record s { layer = layer })) (Some purpose) (ending_of p) k refl refl refl refl refl k.marks w (f p label (Some purpose) refl)
   received_heard (of_again p rcode) layer bytes same w f =
       request_heard node held counted p bytes (o, s) (record s { layer = layer }) None None _ k refl refl refl k.marks w refl (ignored_again p bytes o (record s { layer = layer }) rcode)
   received_heard (of_request p) layer bytes same w f =
-      subst (λ (l : Layer Purpose). Heard node held counted (finding_note (of_request p) s) (drop_if (finding_drops (of_request p) s) s.lists.slots.present) None (o, s) (received (of_request p, l) bytes o s).1) (sym same)
+      subst (λ (l : Layer Purpose). Heard node held counted (finding_note (of_request p) s) (drop_if (finding_drops (of_request p) s) s.lists.slots.present) None false (o, s) (received (of_request p, l) bytes o s).1) (sym same)
       (request_heard node held counted p bytes (o, s) s _ _ _ k refl refl refl k.marks k.wires (request_left bytes o s p).states (request_answers bytes o s k.orb p))
 
-  receive_heard : (generation : ℕ) (bytes : List ℕ) → Heard node held counted (call_note (receives generation bytes) s) (drop_if (call_drops (receives generation bytes) s) s.lists.slots.present) (call_read (receives generation bytes) s) (o, s) (done (receives generation bytes) (o, s))
+  receive_heard : (generation : ℕ) (bytes : List ℕ) → Heard node held counted (call_note (receives generation bytes) s) (drop_if (call_drops (receives generation bytes) s) s.lists.slots.present) (call_read (receives generation bytes) s) (call_fails (receives generation bytes) s) (o, s) (done (receives generation bytes) (o, s))
   unfolding receive_step
   receive_heard generation bytes =
       received_heard (judging_step s.layer generation bytes).0 (judging_step s.layer generation bytes).1 bytes (judged_same (judging_step s.layer generation bytes).0 s.layer (judging_step s.layer generation bytes).1 generation bytes refl) (judge_wire generation bytes k.wires)
@@ -246,23 +243,23 @@ module _ (node : ℕ) (held : ℕ → List ℕ) (counted : ℕ → Option ℕ) (
 
   -- ---- a time-out
 
-  expired_heard : (r : Result (Option Purpose) Stale) (layer : Layer Purpose) → Wire (FitsNow s.operation s.counts.acts counted) (expired_reads r s.states) node s.counts.running layer o.packets → ((purpose : Option Purpose) → r ≡ Ok purpose → IfFor (FitsNow s.operation s.counts.acts counted) purpose) → Heard node held counted None None (expired_read r) (o, s) (expired_as (r, layer) o s).1
+  expired_heard : (r : Result (Option Purpose) Stale) (layer : Layer Purpose) → Wire (FitsNow s.operation s.counts.acts counted) (expired_reads r s.states) node s.counts.running layer o.packets → ((purpose : Option Purpose) → r ≡ Ok purpose → IfFor (FitsNow s.operation s.counts.acts counted) purpose) → Heard node held counted None None (expired_read r) (expired_fails r) (o, s) (expired_as (r, layer) o s).1
   expired_heard (Err stale) layer w f = nothing_heard (record s { layer = layer }) refl refl refl k.marks refl w
   expired_heard (Ok None) layer w f =
-      ended_heard node held counted (o, s) (called (record s { layer = layer })) None endings.Expired k refl refl refl refl k.marks w tt
+      ended_heard node held counted (o, s) (called (record s { layer = layer })) None endings.Expired k refl refl refl refl refl k.marks w tt
   expired_heard (Ok (Some purpose)) layer w f =
-      subst (λ (c : Bool). Heard node held counted None (drop_if c s.lists.slots.present) (read_ends purpose endings.Expired) (o, s) (expired_as (Ok (Some purpose), layer) o s).1) (expired_drops purpose s.lists.slots.present)
-      (ended_heard node held counted (o, s) (called (record s { layer = layer })) (Some purpose) endings.Expired k refl refl refl refl k.marks w (f (Some purpose) refl))
+      subst (λ (c : Bool). Heard node held counted None (drop_if c s.lists.slots.present) (read_ends purpose endings.Expired) (fails_write purpose endings.Expired) (o, s) (expired_as (Ok (Some purpose), layer) o s).1) (expired_drops purpose s.lists.slots.present)
+      (ended_heard node held counted (o, s) (called (record s { layer = layer })) (Some purpose) endings.Expired k refl refl refl refl refl k.marks w (f (Some purpose) refl))
 
-  expire_heard : (label : LabelParts) → Heard node held counted None None (call_read (lets_expire label) s) (o, s) (done (lets_expire label) (o, s))
+  expire_heard : (label : LabelParts) → Heard node held counted None None (call_read (lets_expire label) s) (call_fails (lets_expire label) s) (o, s) (done (lets_expire label) (o, s))
   unfolding expire_step
   expire_heard label =
       expired_heard (expiring_step s.layer s.target label).0 (expiring_step s.layer s.target label).1 (expire_wire s.target label k.wires)
       (λ purpose e. expired_for node (FitsNow s.operation s.counts.acts counted) s.states s.counts.running s.layer o.packets s.target label purpose k.wires e)
 
 -- what is told, as the law says it
-heard_tells : (node : ℕ) (held : ℕ → List ℕ) (counted : ℕ → Option ℕ) (call : Call) (old new : Turn) → Heard node held counted (call_note call old.1) (drop_if (call_drops call old.1) old.1.lists.slots.present) (call_read call old.1) old new → Tells call old new
-heard_tells node held counted call old new h = record { op = h.op; stuck = h.stuck; sides = h.sides; move = h.move; gone = h.gone }
+heard_tells : (node : ℕ) (held : ℕ → List ℕ) (counted : ℕ → Option ℕ) (call : Call) (old new : Turn) → Heard node held counted (call_note call old.1) (drop_if (call_drops call old.1) old.1.lists.slots.present) (call_read call old.1) (call_fails call old.1) old new → Tells call old new
+heard_tells node held counted call old new h = record { op = h.op; sides = h.sides; move = h.move; gone = h.gone }
 
 pub call_tells : (node : ℕ) (held : ℕ → List ℕ) (counted : ℕ → Option ℕ) (call : Call) (old : Turn) → Sound node held counted old → is_heard call ≡ true → Tells call old (done call old)
 call_tells node held counted (receives generation bytes) old k e = heard_tells node held counted (receives generation bytes) old _ (receive_heard node held counted old.0 old.1 k generation bytes)

@@ -11,11 +11,13 @@ use Rattle.sbp_journal.specs.declared.operation.OpWord.{OpWord}
 use Rattle.sbp_journal.specs.declared.operation.OpWord.TheVariants as words
 use Rattle.sbp_journal.specs.declared.side.Side.{Side}
 use Rattle.sbp_journal.specs.declared.side.Side.TheVariants as sides
+use Rattle.sbp_session.specs.declared.seat.Seat.{Seat}
 use Rattle.sbp_initiator.specs.declared.purpose.Ending.{Ending}
 use Rattle.sbp_initiator.specs.declared.purpose.Ending.TheVariants as endings
 use Rattle.sbp_initiator.specs.declared.purpose.Purpose.{Purpose}
 use Rattle.sbp_initiator.specs.declared.purpose.Purpose.TheVariants as purposes
 use Rattle.sbp_initiator.specs.declared.purpose.Running.{Running}
+use Rattle.sbp_initiator.specs.States.{is_stuck_seat}
 
 -- ---- notes
 
@@ -94,6 +96,34 @@ state_word endings.Expired = words.Error
 abbrev pub read_ends : Purpose → Ending → Option OpWord
 read_ends (purposes.State act list) ending = Some (state_word ending)
 read_ends _ ending = None
+
+-- ---- the session
+
+-- A write request of the initiator's own fails: it times out, or is answered by another rcode than 0.
+abbrev pub is_failed : Ending → Bool
+is_failed (endings.Complete value) = false
+is_failed (endings.Refused rcode) = true
+is_failed endings.Expired = true
+
+-- A write to MANAGEMENT_AGENT that is answered conflict_error, 4, ends the operation alone.
+abbrev pub is_managed_failed : Ending → Bool
+is_managed_failed (endings.Complete value) = false
+is_managed_failed (endings.Refused rcode) = not (rcode == 4)
+is_managed_failed endings.Expired = true
+
+-- a read is no write
+abbrev pub fails_write : Purpose → Ending → Bool
+fails_write (purposes.Pointer list) ending = is_failed ending
+fails_write purposes.Doorbell ending = is_failed ending
+fails_write (purposes.AgentReset act) ending = is_failed ending
+fails_write (purposes.Enable act) ending = is_failed ending
+fails_write (purposes.Management act) ending = is_managed_failed ending
+fails_write (purposes.Rom act) ending = false
+fails_write (purposes.State act list) ending = false
+
+-- The session becomes Stuck as a write fails; one that is Stuck stays so, without a second note.
+abbrev pub sticks_by : Bool → Seat → Bool
+sticks_by fails seat = fails && not (is_stuck_seat seat)
 
 -- ---- operations
 

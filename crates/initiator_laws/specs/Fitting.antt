@@ -1,7 +1,7 @@
 -- What an initiator asks for fits a packet, and goes to the target (IEEE 1394-1995, asynchronous packets; NCITS 325-1998, sessions). Each
 -- address has 48 bits, each value 32, and all that its memory holds, and gives, are bytes. So each call is what a call of a node is to the
 -- wire: it judges, and then answers or asks as the wire lets it.
-use Rattle.std.specs.Prelude.{◌≡◌, ◌<◌, ◌≤◌, ℕ, ◌+◌, ◌^◌, nat_lt, Bool, true, false, List, length, Option, Some, None}
+use Rattle.std.specs.Prelude.{◌≡◌, ◌<◌, ◌≤◌, ℕ, ◌+◌, ◌^◌, nat_lt, Bool, true, false, List, Option, Some, None}
 use Rattle.async_packet.specs.Labels.{LabelParts}
 use Rattle.bus_memory.specs.declared.slot.PlaceMemory.{PlaceMemory}
 use Rattle.bus_memory.specs.declared.slot.SlotMemory.{SlotMemory}

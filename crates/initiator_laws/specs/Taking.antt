@@ -30,7 +30,7 @@ use Rattle.sbp_initiator.specs.Receiving.{answer_of, present_for}
 use Rattle.initiator_laws.specs.Laws.{Call, acts, receives, lets_expire, sees}
 use Rattle.initiator_laws.specs.Judging.{facts_at, fifo_for}
 use Rattle.initiator_laws.specs.Drops.{ends_the_list}
-use Rattle.initiator_laws.specs.Ends.{read_ends}
+use Rattle.initiator_laws.specs.Ends.{fails_write, read_ends}
 
 -- ---- what a request brings
 
@@ -137,6 +137,24 @@ abbrev pub call_read : Call → InitiatorState → Option OpWord
 call_read (receives generation bytes) s = finding_read (judging_step s.layer generation bytes).0
 call_read (lets_expire label) s = expired_read (expiring_step s.layer s.target label).0
 call_read _ s = None
+
+-- a write request of the initiator's own that fails in a call
+abbrev pub purpose_fails : Option Purpose → Ending → Bool
+purpose_fails None ending = false
+purpose_fails (Some purpose) ending = fails_write purpose ending
+
+abbrev pub finding_fails : Finding Purpose → Bool
+finding_fails (of_response p label purpose) = purpose_fails purpose (ending_of p)
+finding_fails _ = false
+
+abbrev pub expired_fails : Result (Option Purpose) Stale → Bool
+expired_fails (Ok purpose) = purpose_fails purpose endings.Expired
+expired_fails (Err stale) = false
+
+abbrev pub call_fails : Call → InitiatorState → Bool
+call_fails (receives generation bytes) s = finding_fails (judging_step s.layer generation bytes).0
+call_fails (lets_expire label) s = expired_fails (expiring_step s.layer s.target label).0
+call_fails _ s = false
 
 -- what a call tells of a block that it brings
 abbrev pub call_note : Call → InitiatorState → Option Note

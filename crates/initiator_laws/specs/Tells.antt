@@ -1,9 +1,10 @@
 -- What the calls of an initiator tell (NCITS 325-1998, tasks, task management and status blocks). Over every list of calls: an action
 -- that is done tells of the steps of its list, and begins an operation only while none is under way. A delivery and a time-out tell at
 -- most one block, then `drop`, `op` and `stuck`, at most once each and in this order: the block and the drop are where the rules of
--- statuses and of lists say so, no list is present after a drop, with the `op` of an operation this operation ends, and a read of
--- AGENT_STATE has one `op`, with its word, exactly where its transaction ends. A generation that is seen ends the operation and the
--- reads of AGENT_STATE, in the order of the actions that began them, and then drops the list.
+-- statuses and of lists say so, no list is present after a drop, with the `op` of an operation this operation ends, a read of
+-- AGENT_STATE has one `op`, with its word, exactly where its transaction ends, and `stuck` comes exactly where a write request of the
+-- initiator's own fails, but for a conflict at MANAGEMENT_AGENT, while the session is not Stuck. A generation that is seen ends the
+-- operation and the reads of AGENT_STATE, in the order of the actions that began them, and then drops the list.
 use Rattle.std.specs.Prelude.{◌≡◌, ◌↔◌, ℕ, nat_lt, Bool, true, false, if◌then◌else◌, List, [], ◌∷◌, ◌++◌, Option, Some, None}
 use Rattle.bus_memory.specs.declared.window.Window.TheVariants as windows
 use Rattle.bus_memory.specs.Windows.{slot_of, start}
@@ -22,9 +23,9 @@ use Rattle.sbp_initiator.specs.Initiators.{own_rom}
 use Rattle.initiator_laws.specs.Laws.{Call, acts, receives, lets_expire, sees, AreCalls, IsCall, after, done}
 use Rattle.initiator_laws.specs.Begins.{Begins}
 use Rattle.initiator_laws.specs.Drops.{IfGone, drop_if, present_list}
-use Rattle.initiator_laws.specs.Ends.{own, OpEnd, OpMove, drops, notes_of}
+use Rattle.initiator_laws.specs.Ends.{own, OpEnd, OpMove, drops, notes_of, sticks_by}
 use Rattle.initiator_laws.specs.Slots.{slot_calls_after}
-use Rattle.initiator_laws.specs.Taking.{block_notes, call_drops, call_note, call_read, waiting_at}
+use Rattle.initiator_laws.specs.Taking.{block_notes, call_drops, call_fails, call_note, call_read, waiting_at}
 
 -- a delivery or a time-out
 abbrev pub is_heard : Call → Bool
@@ -35,8 +36,7 @@ is_heard _ = false
 -- What a delivery or a time-out tells.
 pub record Tells (call : Call) (old new : Turn) : Type 0 where
   pub op : Option OpEnd
-  pub stuck : Bool
-  pub sides : new.0.sides ≡ old.0.sides ++ own (block_notes (call_note call old.1) ++ notes_of old.1.number (drop_if (call_drops call old.1) old.1.lists.slots.present) op (call_read call old.1) stuck)
+  pub sides : new.0.sides ≡ old.0.sides ++ own (block_notes (call_note call old.1) ++ notes_of old.1.number (drop_if (call_drops call old.1) old.1.lists.slots.present) op (call_read call old.1) (sticks_by (call_fails call old.1) old.1.seat))
   pub move : OpMove old.1.operation op new.1.operation
   pub gone : IfGone (drop_if (call_drops call old.1) old.1.lists.slots.present) new.1.lists.slots.present
 
