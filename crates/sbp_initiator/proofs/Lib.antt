@@ -4,3 +4,6 @@ pub mod Roms
 pub mod Asked
 pub mod Layers
 pub mod Again
+pub mod Sound
+pub mod Answered
+pub mod Refused

@@ -4,7 +4,7 @@ ghost use Rattle.sbp_journal.specs.Buffers.{buffer_of, out_buffer};
 ghost use Rattle.orb_list.specs.Table.{find_in};
 ghost use Rattle.sbp_session.specs.Moves.{goes, pointing, sent};
 ghost use Rattle.sbp_journal.specs.declared.note.Note.TheVariants as notes;
-ghost use Rattle.sbp_initiator.specs.Acting.{HasActed, IsAction, act_step, append_step, begun, counted, done_as, done_step, dummy_for, link_step, low_step, manage_start, managed_by, orb_by, put_step, register_start, ring_step, sent_with, with_first, with_pin, with_ring};
+ghost use Rattle.sbp_initiator.specs.Acting.{HasActed, IsAction, act_step, append_step, asked_as, asked_for, begun, counted, demand_of, demanded_as, done_as, done_step, dummy_for, link_step, low_step, manage_start, managed_by, orb_by, put_step, register_start, ring_step, sent_with, with_first, with_pin, with_ring};
 ghost use Rattle.sbp_initiator.specs.Counted.{Acts, Counts, HasRoom};
 ghost use Rattle.sbp_initiator.specs.Effects.{Keeps, told};
 ghost use Rattle.sbp_initiator.specs.Lists.{IsCommand};
@@ -12,7 +12,7 @@ ghost use Rattle.sbp_initiator.specs.Lists.{IsCommand};
 use crate::answer::front;
 use crate::effects::{send_request, tell};
 use crate::fault::ActFault;
-use crate::purpose::{ListMarks, Pointing, Running};
+use crate::purpose::{Demand, ListMarks, Pointing, Running};
 use crate::seats;
 use crate::state::{InitiatorState, last_linked};
 use label_table::Asked;
@@ -374,6 +374,56 @@ impl InitiatorState {
         send_request(outbox, target, asked)
     }
 
+    /// Does an action whose request asks for this, where it finds a label.
+    fn demanded(
+        &mut self,
+        alloc: Global,
+        action: &Action,
+        demand: &Demand,
+        outbox: &mut Outbox,
+    ) -> Result<(), ActFault>
+        requires action { IsAction action.now }
+        requires room { HasRoom self.old }
+        requires calls { self.old.counts.calls < 2 ^ 48 }
+        requires acts { self.old.counts.acts < 2 ^ 31 }
+        requires labels { self.old.layer.calls < 2 ^ 54 }
+        ensures step { HasActed result (outbox.new, self.new) (asked_as (asked_for demand.now self.old) action.now outbox.old self.old) }
+        ensures counts { Counts self.old self.new }
+    {
+        match self.ask(alloc, demand) {
+            Ok(Some(asked)) => match self.do_asked(alloc, action, asked, outbox) {
+                Ok(()) => Ok(()),
+                Err(NoMemory) => Err(ActFault::NoMemory),
+            },
+            Ok(None) => Err(ActFault::Refused(NO_LABEL)),
+            Err(NoMemory) => Err(ActFault::NoMemory),
+        }
+    }
+
+    /// Does an action that is not refused, but for want of a label.
+    fn allowed(
+        &mut self,
+        alloc: Global,
+        action: &Action,
+        outbox: &mut Outbox,
+    ) -> Result<(), ActFault>
+        requires action { IsAction action.now }
+        requires room { HasRoom self.old }
+        requires calls { self.old.counts.calls < 2 ^ 48 }
+        requires acts { self.old.counts.acts < 2 ^ 31 }
+        requires labels { self.old.layer.calls < 2 ^ 54 }
+        ensures step { HasActed result (outbox.new, self.new) (demanded_as (demand_of action.now self.old) action.now outbox.old self.old) }
+        ensures counts { Counts self.old self.new }
+    {
+        match self.demand(action) {
+            Some(demand) => self.demanded(alloc, action, &demand, outbox),
+            None => match self.do_alone(alloc, action, outbox) {
+                Ok(()) => Ok(()),
+                Err(NoMemory) => Err(ActFault::NoMemory),
+            },
+        }
+    }
+
     /// Acts: the action is refused by the first row that holds, and then changes nothing, or it is done.
     #[tactic(auto, unfolding(crate::specs::Acting::act_step))]
     pub(crate) fn act(
@@ -393,14 +443,6 @@ impl InitiatorState {
         if let Some(number) = self.refusal(action) {
             return Err(ActFault::Refused(number));
         }
-        let Some(demand) = self.demand(action) else {
-            self.do_alone(alloc, action, outbox)?;
-            return Ok(());
-        };
-        let Some(asked) = self.ask(alloc, &demand)? else {
-            return Err(ActFault::Refused(NO_LABEL));
-        };
-        self.do_asked(alloc, action, asked, outbox)?;
-        Ok(())
+        self.allowed(alloc, action, outbox)
     }
 }

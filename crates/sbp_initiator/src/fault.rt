@@ -3,7 +3,7 @@ ghost use Rattle.std.specs.Prelude.{◌≡◌};
 use sbp_base::NoMemory;
 
 /// Why an action is not done.
-#[derive(Clone, Copy, Debug, PartialEq, Eq)]
+#[derive(Clone, Copy)]
 pub enum ActFault {
     /// It is refused by the row of this number, 1 to 10.
     Refused(u8),

@@ -1,5 +1,6 @@
 ghost use Rattle.std.specs.Prelude.{◌≡◌, ◌+◌, ◌*◌, ◌^◌, ◌<◌, ◌≤◌, IfOk, OnOk};
 ghost use Rattle.sbp_initiator.specs.Acting.{HasActed, IsAction, act_step};
+ghost use Rattle.label_table.specs.Layer.{new_layer};
 ghost use Rattle.sbp_initiator.specs.Counted.{IsSound};
 ghost use Rattle.sbp_initiator.specs.Initiators.{first_counts, first_management, first_seat, new_state, own_rom, ready_response};
 ghost use Rattle.sbp_initiator.specs.Lists.{last_at, new_lists};
@@ -8,7 +9,7 @@ ghost use Rattle.sbp_initiator.specs.Seeing.{see_step};
 
 use crate::fault::ActFault;
 use crate::lists::Lists;
-use crate::purpose::ListMarks;
+use crate::purpose::{ListMarks, Purpose};
 use crate::reads::StateReads;
 use crate::rom::RomQuads;
 use crate::state::{Counts, InitiatorState};
@@ -108,28 +109,46 @@ fn first_lists(alloc: Global, number: u8) -> Result<Lists, NoMemory>
     Lists::new(alloc, rom.as_slice())
 }
 
+/// An initiator as a run begins, with its transaction layer and its lists.
+#[tactic(auto, unfolding(crate::specs::Initiators::new_state))]
+fn first_state(
+    alloc: Global,
+    number: u8,
+    ready: bool,
+    layer: Transactions<Purpose>,
+    lists: Lists,
+) -> InitiatorState
+    requires number { number < 4 }
+    requires layer { layer ≡ new_layer (0xffc1 + number) }
+    requires lists { lists ≡ new_lists (own_rom number) }
+    ensures { result ≡ new_state number ready }
+{
+    InitiatorState {
+        number,
+        target: NodeId::from_raw(0xffc0),
+        layer,
+        seat: first_seat(ready, number),
+        lists,
+        marks: ListMarks::none(),
+        operation: None,
+        states: StateReads::new(alloc),
+        quads: RomQuads::new(alloc),
+        management: first_management(ready),
+        counts: first_counts(ready),
+    }
+}
+
 impl Initiator {
     /// The initiator of a number below 4, as a run begins: logged in on unit 0 where it is ready, with the
     /// target's ROM read, and else Out.
-    #[tactic(auto, unfolding(crate::specs::Initiators::new_state))]
     pub fn new(alloc: Global, number: u8, ready: bool) -> Result<Initiator, NoMemory>
         requires { number < 4 }
         ensures { IfOk result (λ initiator. initiator ≡ new_state number ready) }
     {
         let node = NodeId::from_raw(0xffc1 + u16::from(number));
-        let state = InitiatorState {
-            number,
-            target: NodeId::from_raw(0xffc0),
-            layer: Transactions::new(alloc, node)?,
-            seat: first_seat(ready, number),
-            lists: first_lists(alloc, number)?,
-            marks: ListMarks::none(),
-            operation: None,
-            states: StateReads::new(alloc),
-            quads: RomQuads::new(alloc),
-            management: first_management(ready),
-            counts: first_counts(ready),
-        };
+        let layer = Transactions::new(alloc, node)?;
+        let lists = first_lists(alloc, number)?;
+        let state = first_state(alloc, number, ready, layer, lists);
         Ok(Initiator { alloc, state })
     }
 

@@ -103,28 +103,8 @@ impl InitiatorState {
         })
     }
 
-    /// Ignores a request, and answers it with an rcode other than complete.
-    fn refuse(
-        &mut self,
-        alloc: Global,
-        packet: &PacketRef<'_>,
-        bytes: &[u8],
-        cause: Cause,
-        rcode: u8,
-        outbox: &mut Outbox,
-    ) -> Result<Judged, NoMemory>
-        requires request { IsRequestOf bytes.now (view packet.now) }
-        requires rcode { rcode < 2 ^ 4 }
-        requires other { 0 < rcode }
-        ensures step { IfOk result (λ judged. (judged, (outbox.new, self.new)) ≡ ignored_step cause rcode (view packet.now) bytes.now (outbox.old, self.old)) }
-        ensures counts { Counts self.old self.new }
-    {
-        self.respond(alloc, packet, bytes, rcode, &[], outbox)?;
-        Ok(Judged::Ignored(cause))
-    }
-
-    /// Ignores a write, and answers it with an rcode.
-    fn ignore_write(
+    /// Ignores a request, and answers it with an rcode and no bytes.
+    fn ignore(
         &mut self,
         alloc: Global,
         packet: &PacketRef<'_>,
@@ -141,6 +121,25 @@ impl InitiatorState {
     {
         self.respond(alloc, packet, bytes, rcode, &[], outbox)?;
         Ok(Judged::Ignored(cause))
+    }
+
+    /// Ignores a request, and answers it with an rcode other than complete.
+    fn refuse(
+        &mut self,
+        alloc: Global,
+        packet: &PacketRef<'_>,
+        bytes: &[u8],
+        cause: Cause,
+        rcode: u8,
+        outbox: &mut Outbox,
+    ) -> Result<Judged, NoMemory>
+        requires request { IsRequestOf bytes.now (view packet.now) }
+        requires rcode { rcode < 2 ^ 4 }
+        requires other { 0 < rcode }
+        ensures step { IfOk result (λ judged. (judged, (outbox.new, self.new)) ≡ ignored_step cause rcode (view packet.now) bytes.now (outbox.old, self.old)) }
+        ensures counts { Counts self.old self.new }
+    {
+        self.ignore(alloc, packet, bytes, cause, rcode, outbox)
     }
 
     /// A write was got, and is answered complete.
@@ -228,7 +227,7 @@ impl InitiatorState {
         ensures counts { Counts self.old self.new }
     {
         let Some(ticket) = self.lists.take_status(block) else {
-            return self.ignore_write(alloc, packet, bytes, Cause::Slot, COMPLETE, outbox);
+            return self.ignore(alloc, packet, bytes, Cause::Slot, COMPLETE, outbox);
         };
         self.call();
         self.note_taken(alloc, &ticket, block.kind, outbox)?;
@@ -253,7 +252,7 @@ impl InitiatorState {
         ensures counts { Counts self.old self.new }
     {
         let Some(running) = present_for(orb, self.operation) else {
-            return self.ignore_write(alloc, packet, bytes, Cause::Slot, COMPLETE, outbox);
+            return self.ignore(alloc, packet, bytes, Cause::Slot, COMPLETE, outbox);
         };
         self.call();
         self.managed(running, status, outbox)?;
@@ -278,7 +277,7 @@ impl InitiatorState {
         ensures counts { Counts self.old self.new }
     {
         let Ok(block) = read_status(payload, names_place(payload)) else {
-            return self.ignore_write(alloc, packet, bytes, Cause::Grammar, DATA_ERROR, outbox);
+            return self.ignore(alloc, packet, bytes, Cause::Grammar, DATA_ERROR, outbox);
         };
         match block.kind {
             StatusKind::Management(status) => {
@@ -320,6 +319,28 @@ impl InitiatorState {
         self.complete(alloc, packet, bytes, outbox)
     }
 
+    /// A request for the memory was got, and is answered with an rcode and what it is given.
+    fn got(
+        &mut self,
+        alloc: Global,
+        packet: &PacketRef<'_>,
+        bytes: &[u8],
+        rcode: u8,
+        given: &[u8],
+        outbox: &mut Outbox,
+    ) -> Result<Judged, NoMemory>
+        requires request { IsRequestOf bytes.now (view packet.now) }
+        requires rcode { rcode < 2 ^ 4 }
+        requires given { Gives (view packet.now) rcode given.now }
+        requires calls { self.old.counts.calls < 2 ^ 48 }
+        ensures step { IfOk result (λ judged. (judged, (outbox.new, self.new)) ≡ read_as (rcode, given.now) (view packet.now) bytes.now outbox.old self.old) }
+        ensures counts { Counts self.old self.new }
+    {
+        self.call();
+        self.respond(alloc, packet, bytes, rcode, given, outbox)?;
+        Ok(Judged::Got)
+    }
+
     /// A read of the memory.
     fn read(
         &mut self,
@@ -338,9 +359,7 @@ impl InitiatorState {
     {
         let mut out = vec![in alloc; 0; count]?;
         let rcode = self.lists.serve_read(offset, &mut out);
-        self.call();
-        self.respond(alloc, packet, bytes, rcode, &out, outbox)?;
-        Ok(Judged::Got)
+        self.got(alloc, packet, bytes, rcode, &out, outbox)
     }
 
     /// A write of the memory.
@@ -360,9 +379,7 @@ impl InitiatorState {
         ensures counts { Counts self.old self.new }
     {
         let rcode = self.lists.serve_write(offset, payload);
-        self.call();
-        self.respond(alloc, packet, bytes, rcode, &[], outbox)?;
-        Ok(Judged::Got)
+        self.got(alloc, packet, bytes, rcode, &[], outbox)
     }
 
     /// A request for the memory; no lock is served.
@@ -393,11 +410,7 @@ impl InitiatorState {
                 payload,
                 ..
             } => self.write(alloc, *offset, payload, packet, bytes, outbox),
-            _ => {
-                self.call();
-                self.respond(alloc, packet, bytes, TYPE_ERROR, &[], outbox)?;
-                Ok(Judged::Got)
-            }
+            _ => self.got(alloc, packet, bytes, TYPE_ERROR, &[], outbox),
         }
     }
 
@@ -556,8 +569,7 @@ impl InitiatorState {
                 Ok(Judged::Got)
             }
             Judgement::Again { packet, rcode } => {
-                self.respond(alloc, &packet, bytes, rcode, &[], outbox)?;
-                Ok(Judged::Ignored(Cause::Again))
+                self.ignore(alloc, &packet, bytes, Cause::Again, rcode, outbox)
             }
             Judgement::Request { packet } => self.request(alloc, &packet, bytes, outbox),
         }

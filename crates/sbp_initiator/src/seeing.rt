@@ -1,7 +1,7 @@
 //! What an initiator does when it sees a reset.
 ghost use Rattle.std.specs.Prelude.{◌≡◌, ◌+◌, ◌*◌, ◌^◌, ◌<◌, ◌≤◌, length, None, OnOk};
 ghost use Rattle.sbp_initiator.specs.Counted.{Counts};
-ghost use Rattle.sbp_initiator.specs.Effects.{drop_list_step};
+ghost use Rattle.sbp_initiator.specs.Effects.{Keeps, drop_list_step};
 ghost use Rattle.sbp_initiator.specs.Seeing.{all_end, freed_step, interrupted, reset_step, reset_told, resets_told, see_step, states_end};
 
 use crate::effects::tell;
@@ -86,6 +86,18 @@ impl InitiatorState {
         seats::reset(&mut self.seat);
     }
 
+    /// The present list is dropped, and every slot is free.
+    fn free(&mut self, outbox: &mut Outbox) -> Result<(), NoMemory>
+        requires called { self.old.lists.slots.calls < 2 ^ 55 }
+        ensures step { OnOk result ((outbox.new, self.new) ≡ freed_step (drop_list_step outbox.old self.old)) }
+        ensures keeps { Keeps 2 0 self.old self.new }
+    {
+        self.drop_list(outbox)?;
+        self.lists.free_all();
+        self.marks = ListMarks::none();
+        Ok(())
+    }
+
     /// A reset was seen.
     fn reset(&mut self, target: NodeId, outbox: &mut Outbox) -> Result<(), NoMemory>
         requires calls { self.old.counts.calls < 2 ^ 48 }
@@ -100,10 +112,7 @@ impl InitiatorState {
         let told = tell_resets(outbox, number, operation, self.states.as_slice());
         self.interrupt(target);
         told?;
-        self.drop_list(outbox)?;
-        self.lists.free_all();
-        self.marks = ListMarks::none();
-        Ok(())
+        self.free(outbox)
     }
 
     /// Sees a generation, with its ID and the target's in it.
