@@ -48,43 +48,60 @@ fn cold_runs(rt: HostRuntime) -> Result<(), Fail> {
     Ok(())
 }
 
+/// Whether an initiator that is logged in tells the end of each row where its line is done so many times.
+fn ends_so(alloc: Global, rows: &[(&str, u32, &str)]) -> Result<bool, NoMemory> {
+    let mut trial = Trial::new(alloc, true)?;
+    for (line, times, end) in rows {
+        trial.repeat(line, *times)?;
+        if !trial.ends_with(end) {
+            return Ok(false);
+        }
+    }
+    Ok(true)
+}
+
 /// The 33rd ORB finds no slot; that is told before the want of a label, and a ring wants only that; and behind
 /// that the list is marked dead, which is told before.
 #[test]
 fn slots_run_out(rt: HostRuntime) -> Result<(), Fail> {
-    let mut trial = Trial::new(rt.alloc(), true)?;
-    trial.repeat("append 0 tur", 32)?;
-    assert!(rt; trial.ends_with("sent FFC07D00FFC1FFFFF00400100000001F\n"));
-    trial.repeat("append 0 tur", 1)?;
-    assert!(rt; trial.ends_with("refused 0 9\n"));
-    trial.repeat("state 0", 32)?;
-    trial.repeat("put 0 tur", 1)?;
-    trial.repeat("append 0 tur", 1)?;
-    trial.repeat("ring 0", 1)?;
-    assert!(rt; trial.ends_with("refused 0 9\nrefused 0 9\nrefused 0 10\n"));
-    trial.repeat(
-        "receive 0 FFC10110FFC0000013000000000800006901000010000000",
-        1,
-    )?;
-    trial.repeat("put 0 tur", 1)?;
-    trial.repeat("append 0 tur", 1)?;
-    assert!(rt; trial.ends_with("refused 0 7\nrefused 0 7\n"));
+    let rows = [
+        (
+            "append 0 tur",
+            32,
+            "sent FFC07D00FFC1FFFFF00400100000001F\n",
+        ),
+        ("append 0 tur", 1, "refused 0 9\n"),
+        ("state 0", 32, "sent FFC0FD40FFC1FFFFF0040000\n"),
+        ("put 0 tur", 1, "refused 0 9\n"),
+        ("append 0 tur", 1, "refused 0 9\n"),
+        ("ring 0", 1, "refused 0 10\n"),
+        (
+            "receive 0 FFC10110FFC0000013000000000800006901000010000000",
+            1,
+            "sent FFC00120FFC1000000000000\n",
+        ),
+        ("put 0 tur", 1, "refused 0 7\n"),
+        ("append 0 tur", 1, "refused 0 7\n"),
+    ];
+    assert!(rt; ends_so(rt.alloc(), &rows)?);
     Ok(())
 }
 
 /// 64 requests take all labels; those that timed out rest until a reset is seen.
 #[test]
 fn labels_run_out(rt: HostRuntime) -> Result<(), Fail> {
-    let mut trial = Trial::new(rt.alloc(), true)?;
-    trial.repeat("state 0", 64)?;
-    assert!(rt; trial.ends_with("sent FFC0FD40FFC1FFFFF0040000\n"));
-    trial.expire_all()?;
-    assert!(rt; trial.ends_with("op 0 state error\n"));
-    trial.repeat("state 0", 1)?;
-    trial.repeat("ring 0", 1)?;
-    assert!(rt; trial.ends_with("refused 0 10\nrefused 0 8\n"));
-    trial.repeat("see 1 1 0", 1)?;
-    trial.repeat("reconnect 0", 1)?;
-    assert!(rt; trial.ends_with("sent FFC00110FFC1FFFFF0010000000800000000000012000000\n"));
+    let rows = [
+        ("state 0", 64, "sent FFC0FD40FFC1FFFFF0040000\n"),
+        ("expire_all", 1, "op 0 state error\n"),
+        ("state 0", 1, "refused 0 10\n"),
+        ("ring 0", 1, "refused 0 8\n"),
+        ("see 1 1 0", 1, "refused 0 8\n"),
+        (
+            "reconnect 0",
+            1,
+            "sent FFC00110FFC1FFFFF0010000000800000000000012000000\n",
+        ),
+    ];
+    assert!(rt; ends_so(rt.alloc(), &rows)?);
     Ok(())
 }

@@ -201,7 +201,7 @@ impl Trial {
         }
     }
 
-    /// Does what a line says: `receive G HEX`, `expire K`, `see G ID TARGET`, or an action of a script.
+    /// Does what a line says: `receive G HEX`, `expire K`, `expire_all`, `see G ID TARGET`, or an action of a script.
     fn serve(&mut self, line: &[u8]) -> Result<(), NoMemory> {
         let words = parts_of(self.alloc, line, b' ')?;
         match words.as_slice() {
@@ -211,6 +211,7 @@ impl Trial {
             [verb, place] if is_word(verb, "expire") => {
                 self.expire(numeral(place, MOST) as usize)
             }
+            [verb] if is_word(verb, "expire_all") => self.expire_all(),
             [verb, generation, id, target] if is_word(verb, "see") => self.see(
                 generation_of(numeral(generation, 2)),
                 node_of(id),
@@ -229,7 +230,7 @@ impl Trial {
     }
 
     /// Lets all requests expire, in their order.
-    pub(crate) fn expire_all(&mut self) -> Result<(), NoMemory> {
+    fn expire_all(&mut self) -> Result<(), NoMemory> {
         for place in 0..self.labels.len() {
             self.expire(place)?;
         }
