@@ -1,5 +1,9 @@
 pub mod Orders
-pub mod Shelves
+pub mod Rings
+pub mod Rows
+pub mod Indexed
+pub mod Listed
+pub mod Shelved
 pub mod Sound
 pub mod Flights
 pub mod Calls

@@ -10,7 +10,7 @@ use Rattle.std.specs.Cmp.{unsigned_ties, nat_cmp_total}
 use Rattle.std.proofs.lemmas.Cmp.{tied_itself}
 use Rattle.packet_store.specs.declared.transaction.Transaction.{Transaction}
 use Rattle.packet_store.specs.Transactions.{is_same}
-use Rattle.packet_store.specs.declared.index.Place.{Place}
+use Rattle.packet_store.specs.declared.row.Place.{Place}
 use Rattle.packet_store.specs.Indexes.{place_cmp, place}
 
 -- equal in two steps: equal in each

@@ -1,6 +1,7 @@
 pub mod Roles
 pub mod Transactions
 pub mod Indexes
+pub mod Rings
 pub mod Kept
 pub mod Shelves
 pub mod Sound

@@ -1,24 +1,23 @@
--- The slots of a slab, with the keys of its packets by rising serial, as the list of the packets.
-use Rattle.std.specs.Prelude.{◌≡◌, ℕ, ◌<◌, List, [], ◌∷◌, Option, Some, None, slice_index_or}
-use Rattle.std.specs.List.{filter_map}
+-- The packets of a shelf as a list by rising serial: what its ring has under each serial up to the last one.
+use Rattle.std.specs.Prelude.{◌≡◌, ℕ, zero, suc, ◌<◌, List, [], ◌∷◌, ◌++◌, Option, Some, None, length}
 use Rattle.packet_store.specs.declared.sent.Kept.{Kept}
+use Rattle.packet_store.specs.declared.ring.Ring.{Ring}
+use Rattle.packet_store.specs.Rings.{holds, Placed}
 
--- what a key has
-abbrev pub slot : List (Option Kept) → ℕ → Option Kept
-slot slots key = slice_index_or slots key None
+-- what there is, as a list
+abbrev pub entry : Option Kept → List Kept
+entry None = []
+entry (Some k) = k ∷ []
 
--- the packets under these keys
-abbrev pub shelved : List (Option Kept) → List (ℕ × ℕ) → List Kept
-shelved slots keys = filter_map (λ e. slot slots e.1) keys
+-- what there is under the serials from 1 up to the last one
+abbrev pub listed : (ℕ → Option Kept) → ℕ → List Kept
+listed f zero = []
+listed f (suc last) = listed f last ++ entry (f (suc last))
 
--- a key has a packet of its serial, which is above another one
-pub record Holds (slots : List (Option Kept)) (low : ℕ) (e : ℕ × ℕ) : Type 0 where
-  pub kept : Kept
-  pub here : slot slots e.1 ≡ Some kept
-  pub named : kept.serial ≡ e.0
-  pub above : low < e.0
-
--- each key has a packet of its serial, and the serials rise
-abbrev pub HoldsAll : List (Option Kept) → ℕ → List (ℕ × ℕ) → Type 0
-HoldsAll slots low [] = Unit {0}
-HoldsAll slots low (e ∷ keys) = Holds slots low e × HoldsAll slots e.0 keys
+-- the fields of a shelf fit each other: a packet stands under its serial, from 1 up to the last one
+pub record IsShelf (ring : Ring) (last count : ℕ) : Type 0 where
+  pub placed : Placed ring.slots.items
+  pub named : (q : ℕ) (k : Kept) → holds ring q ≡ Some k → k.serial ≡ q
+  pub first : holds ring 0 ≡ None
+  pub ends : (q : ℕ) → last < q → holds ring q ≡ None
+  pub counted : count ≡ length (listed (holds ring) last)

@@ -4,7 +4,9 @@
 
 mod index;
 mod laws;
+mod ring;
 mod role;
+mod row;
 mod sent;
 mod shelf;
 mod store;

@@ -2,30 +2,31 @@ ghost use Rattle.std.specs.Prelude.{◌≡◌, ◌<◌, ◌++◌, [], ◌∷◌,
 ghost use Rattle.std.specs.Option.{option_copied};
 ghost use Rattle.packet_store.specs.Kept.{without, with_delivered, found, AreBelow};
 
+use crate::ring::Ring;
 use crate::sent::Kept;
 use sbp_base::NoMemory;
-use slab::Slab;
 use std::alloc::Global;
-use std::collections::BTreeMap;
 use std::marker::Model;
 
-/// Packets in a slab, with an ordered map from serial to key.
+/// Packets in a ring, with the serial of the last one that was put there, and how many there are.
 #[derive(Drop)]
 pub(crate) struct Shelf {
-    packets: Slab<Kept>,
-    keys: BTreeMap<u64, usize>,
+    ring: Ring,
+    last: u64,
+    count: usize,
 }
 
 impl Model for Shelf {
     ghost use Rattle.std.specs.Prelude.{List};
     ghost use Rattle.packet_store.specs.declared.sent.Kept.{Kept};
-    ghost use Rattle.packet_store.specs.Shelves.{shelved, HoldsAll};
+    ghost use Rattle.packet_store.specs.Rings.{holds};
+    ghost use Rattle.packet_store.specs.Shelves.{listed, IsShelf};
 
     ghost Value = { List Kept };
 
-    ghost view = { λ a. shelved a.packets.slots a.keys.entries };
+    ghost view = { λ a. listed (holds a.ring) a.last };
 
-    ghost invariant = { λ a. HoldsAll a.packets.slots 0 a.keys.entries };
+    ghost invariant = { λ a. IsShelf a.ring a.last a.count };
 }
 
 impl Shelf {
@@ -34,8 +35,9 @@ impl Shelf {
         ensures { result ≡ [] }
     {
         Shelf {
-            packets: Slab::new(alloc),
-            keys: BTreeMap::new(alloc),
+            ring: Ring::new(alloc),
+            last: 0,
+            count: 0,
         }
     }
 
@@ -43,15 +45,14 @@ impl Shelf {
     pub(crate) fn len(&self) -> usize
         ensures { result ≡ length self.now }
     {
-        self.keys.len()
+        self.count
     }
 
     /// The packet of a serial.
     pub(crate) fn get(&self, serial: u64) -> Option<&Kept>
         ensures { option_copied result ≡ found serial self.now }
     {
-        let key = self.keys.get(&serial)?;
-        self.packets.get(*key)
+        self.ring.get(serial)
     }
 
     /// Puts a packet with a new serial, from 1 on, behind all others.
@@ -61,10 +62,10 @@ impl Shelf {
         ensures pushed { OnOk result (self.new ≡ self.old ++ kept ∷ []) }
         ensures failed { OnErr result (self.new ≡ self.old) }
     {
-        self.packets.reserve(1)?;
-        let key = self.packets.vacant_key();
-        self.keys.insert(kept.serial, key)?;
-        self.packets.insert_reserved(kept);
+        let serial = kept.serial;
+        self.ring.put(kept)?;
+        self.last = serial;
+        self.count += 1;
         Ok(())
     }
 
@@ -72,22 +73,16 @@ impl Shelf {
     pub(crate) fn remove(&mut self, serial: u64)
         ensures { self.new ≡ without serial self.old }
     {
-        let Some(key) = self.keys.remove(&serial) else {
-            return
-        };
-        self.packets.try_remove(key);
+        if self.ring.has(serial) {
+            self.ring.remove(serial);
+            self.count -= 1;
+        }
     }
 
     /// The packet of a serial becomes delivered.
     pub(crate) fn deliver(&mut self, serial: u64)
         ensures { self.new ≡ with_delivered serial self.old }
     {
-        let Some(key) = self.keys.get(&serial) else {
-            return
-        };
-        let Some(kept) = self.packets.get_mut(*key) else {
-            return
-        };
-        kept.in_flight = false;
+        self.ring.deliver(serial);
     }
 }

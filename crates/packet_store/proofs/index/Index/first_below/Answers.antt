@@ -1,30 +1,18 @@
-use Rattle.std.proofs.Common.{arith, ◌≡◌, ◌∙◌, sym, subst, true}
-use Rattle.std.specs.BTreeSet.{contains}
-use Rattle.packet_store.specs.Indexes.{has, place, place_cmp}
-use Rattle.packet_store.proofs.Orders.{behind, not_below, not_same, same_of, unless}
+use Rattle.packet_store.specs.Indexes.{has}
+use Rattle.packet_store.proofs.Rows.{or_left, or_right}
+use Rattle.packet_store.proofs.Indexed.{found_on, none_on}
 use Rattle.packet_store.proofs.index.Index.first_below.Goals as goal
-use Rattle.packet_store.proofs.index.Index.first_below.Goals.{else-eq-via-then-eq+else-place-end, else-eq-via-else-eq}
 
-pub returns-in_err-place-clause-none : goal.returns-in_err-place-clause-none
+pub returns-in-Some-clause-found : goal.returns-in-Some-clause-found
 unfolding has
-returns-in_err-place-clause-none c =
-    rw (c.from_residual.ensures) (λ q h. (c.range.ensures.in_range tt).5 (c.in_err-place.ensures.steps.0) (place c.args.transaction q) (behind c.args.transaction q, tt))
+returns-in-Some-clause-found c = (or_left _ _ c.in-Some.ensures.found.0, c.in-Some.ensures.found.1)
 
-pub returns-then-place-end-clause-found : goal.returns-then-place-end-clause-found
+pub returns-in-Some-below-clause-found : goal.returns-in-Some-below-clause-found
 unfolding has
-returns-then-place-end-clause-found c =
-    let e = rw (c.in_ok-place.ensures.steps) at (c.range.ensures.in_range tt).1 in
-    let same = same_of c.in_ok-place.place.now c.args.transaction (sym c.eq.ensures ∙ c.if-eq.true) in
-    (subst (λ x. contains place_cmp c.args.self.now.places x ≡ true) same e.1, c.if-place-end.true)
+returns-in-Some-below-clause-found c = (or_right _ _ (or_left _ _ c.in-Some-below.ensures.found.0), c.in-Some-below.ensures.found.1)
 
-pub returns-else-eq-clause-none : goal.returns-else-eq-clause-none
-unfolding has
-returns-else-eq-clause-none c = λ q h. unless _ (λ e.
-    let t = c.args.transaction in
-    let p = c.in_ok-place.place.now in
-    let least = rw (c.in_ok-place.ensures.steps) at (c.range.ensures.in_range tt).1 in
-    let upto = rw (c.in_ok-place.ensures.steps) at ((c.range.ensures.in_range tt).2 (place t q) (behind t q, tt) e) in
-    elim c.else-eq.branch [
-      | else-eq-via-then-eq+else-place-end w ↦ not_below t c.args.end q p least.0.0 upto h (omega (arith, w.if-place-end.false))
-      | else-eq-via-else-eq w ↦ not_same t q p least.0.0 upto (sym c.eq.ensures ∙ w.if-eq.false)
-    ])
+pub returns-clause-found : goal.returns-clause-found
+returns-clause-found c = found_on c.args.self.now c.args.transaction c.args.end c.place_below.result c.place_below.ensures.found
+
+pub returns-clause-none : goal.returns-clause-none
+returns-clause-none c = none_on c.args.self.now c.args.transaction c.args.end c.place_below.result c.in_default.ensures.none c.in_default-below.ensures.none c.place_below.ensures.none

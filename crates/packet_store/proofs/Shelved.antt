@@ -1,0 +1,106 @@
+-- The fields of a shelf fit each other after each change of its ring.
+use Rattle.std.proofs.Common.{◌≡◌, ◌∙◌, refl, sym, ap, ℕ, ◌+◌, ◌-◌, ◌<◌, ◌≤◌, Bool, true, false, [], ◌∷◌, ◌++◌, length, None, Some, cond, arith, length-append}
+use Rattle.std.specs.Prelude.{◌==◌, nat_lt, Option}
+use Rattle.std.specs.Option.{is_some}
+use Rattle.std.proofs.lemmas.Bool.Decides.{nat_tests}
+use Rattle.packet_store.specs.declared.sent.Kept.{Kept}
+use Rattle.packet_store.specs.declared.ring.Ring.{Ring}
+use Rattle.packet_store.specs.Kept.{without, with_delivered, AreBelow}
+use Rattle.packet_store.specs.Rings.{holds, marked, Placed}
+use Rattle.packet_store.specs.Shelves.{listed, IsShelf}
+use Rattle.packet_store.proofs.Listed.{Puts, listed_same, listed_pushed, named_put, first_put, ends_put, listed_without, without_none, named_less, none_less, listed_less, listed_few, listed_delivered, named_delivered, none_delivered, delivered_length}
+
+-- ---- the same under each serial
+pub same_shelf : (ring after : Ring) (last count : ℕ) → IsShelf ring last count → Placed after.slots.items → ((q : ℕ) → holds after q ≡ holds ring q) → IsShelf after last count
+same_shelf ring after last count i p e = record {
+  placed = p;
+  named = λ q k h. i.named q k (sym (e q) ∙ h);
+  first = e 0 ∙ i.first;
+  ends = λ q l. e q ∙ i.ends q l;
+  counted = i.counted ∙ ap length (sym (listed_same (holds ring) (holds after) last (λ q l. e q)));
+}
+
+pub same_list : (ring after : Ring) (last : ℕ) → ((q : ℕ) → holds after q ≡ holds ring q) → listed (holds after) last ≡ listed (holds ring) last
+same_list ring after last e = listed_same (holds ring) (holds after) last (λ q l. e q)
+
+-- ---- a packet more
+pub pushed_list : (ring after : Ring) (k : Kept) (last count : ℕ) → IsShelf ring last count → ((q : ℕ) → holds after q ≡ cond (k.serial == q) (Some k) (holds ring q)) → 0 < k.serial → AreBelow k.serial (listed (holds ring) last) → listed (holds after) k.serial ≡ listed (holds ring) last ++ k ∷ []
+pushed_list ring after k last count i e l b = listed_pushed (holds ring) (holds after) k last (record { put = e }) l i.named i.first i.ends b
+
+pub pushed_count : (ring after : Ring) (k : Kept) (last count : ℕ) → IsShelf ring last count → ((q : ℕ) → holds after q ≡ cond (k.serial == q) (Some k) (holds ring q)) → 0 < k.serial → AreBelow k.serial (listed (holds ring) last) → count + 1 ≡ length (listed (holds after) k.serial)
+pushed_count ring after k last count i e l b =
+    let a : length (listed (holds ring) last ++ k ∷ []) ≡ length (listed (holds ring) last) + 1 = length-append (listed (holds ring) last) (k ∷ []) in
+    ap (λ n. n + 1) i.counted ∙ sym a ∙ ap length (sym (pushed_list ring after k last count i e l b))
+
+-- there is room to count one more
+pub pushed_few : (ring after : Ring) (k : Kept) (last count : ℕ) → IsShelf ring last count → ((q : ℕ) → holds after q ≡ cond (k.serial == q) (Some k) (holds ring q)) → 0 < k.serial → AreBelow k.serial (listed (holds ring) last) → count + 1 ≤ k.serial
+pushed_few ring after k last count i e l b =
+    let few = listed_few (holds after) k.serial in
+    let eq = pushed_count ring after k last count i e l b in
+    omega (arith, few, eq)
+
+pub pushed_shelf : (ring after : Ring) (k : Kept) (last count : ℕ) → IsShelf ring last count → Placed after.slots.items → ((q : ℕ) → holds after q ≡ cond (k.serial == q) (Some k) (holds ring q)) → 0 < k.serial → AreBelow k.serial (listed (holds ring) last) → IsShelf after k.serial (count + 1)
+pushed_shelf ring after k last count i p e l b =
+    let puts : Puts (holds ring) (holds after) k = record { put = e } in
+    record {
+      placed = p;
+      named = named_put (holds ring) (holds after) k puts i.named;
+      first = first_put (holds ring) (holds after) k puts l i.first;
+      ends = ends_put (holds ring) (holds after) k last puts i.named i.first i.ends b;
+      counted = pushed_count ring after k last count i e l b;
+    }
+
+-- ---- a packet less
+pub removed_list : (ring after : Ring) (s last count : ℕ) → IsShelf ring last count → ((q : ℕ) → holds after q ≡ cond (s == q) None (holds ring q)) → listed (holds after) last ≡ without s (listed (holds ring) last)
+removed_list ring after s last count i e = listed_without (holds ring) (holds after) s last i.named e
+
+pub absent_list : (ring : Ring) (s last count : ℕ) → IsShelf ring last count → holds ring s ≡ None → listed (holds ring) last ≡ without s (listed (holds ring) last)
+absent_list ring s last count i e = sym (without_none (holds ring) s last i.named e)
+
+inside_by : (ring : Ring) (s last count : ℕ) (k : Kept) (b : Bool) → nat_lt last s ≡ b → IsShelf ring last count → holds ring s ≡ Some k → s ≤ last
+inside_by ring s last count k true e i h =
+    let l : last < s = grind (arith, nat_tests) in
+    let x : None ≡ Some k = sym (i.ends s l) ∙ h in
+    cc x
+inside_by ring s last count k false e i h = grind (arith, nat_tests)
+
+pub removed_count : (ring after : Ring) (s last count : ℕ) (k : Kept) → IsShelf ring last count → ((q : ℕ) → holds after q ≡ cond (s == q) None (holds ring q)) → holds ring s ≡ Some k → length (listed (holds after) last) + 1 ≡ count
+removed_count ring after s last count k i e h =
+    listed_less (holds ring) (holds after) s last k i.first e h (inside_by ring s last count k (nat_lt last s) refl i h) ∙ sym i.counted
+
+pub removed_shelf : (ring after : Ring) (s last count : ℕ) (k : Kept) → IsShelf ring last count → Placed after.slots.items → ((q : ℕ) → holds after q ≡ cond (s == q) None (holds ring q)) → holds ring s ≡ Some k → IsShelf after last (count - 1)
+removed_shelf ring after s last count k i p e h =
+    let n = removed_count ring after s last count k i e h in
+    record {
+      placed = p;
+      named = named_less (holds ring) (holds after) s i.named e;
+      first = none_less (holds ring) (holds after) s 0 e i.first;
+      ends = λ q l. none_less (holds ring) (holds after) s q e (i.ends q l);
+      counted = omega (arith, n);
+    }
+
+-- ---- a packet delivered
+pub delivered_list : (ring after : Ring) (s last count : ℕ) → IsShelf ring last count → ((q : ℕ) → holds after q ≡ cond (s == q) (marked (holds ring q)) (holds ring q)) → listed (holds after) last ≡ with_delivered s (listed (holds ring) last)
+delivered_list ring after s last count i e = listed_delivered (holds ring) (holds after) s last i.named e
+
+pub delivered_shelf : (ring after : Ring) (s last count : ℕ) → IsShelf ring last count → Placed after.slots.items → ((q : ℕ) → holds after q ≡ cond (s == q) (marked (holds ring q)) (holds ring q)) → IsShelf after last count
+delivered_shelf ring after s last count i p e = record {
+  placed = p;
+  named = named_delivered (holds ring) (holds after) s i.named e;
+  first = none_delivered (holds ring) (holds after) s 0 e i.first;
+  ends = λ q l. none_delivered (holds ring) (holds after) s q e (i.ends q l);
+  counted = i.counted ∙ sym (delivered_length s (listed (holds ring) last)) ∙ ap length (sym (delivered_list ring after s last count i e));
+}
+
+-- ---- what there is
+pub record Has (o : Option Kept) : Type 0 where
+  pub kept : Kept
+  pub is : o ≡ Some kept
+
+pub some_of : (o : Option Kept) → is_some o ≡ true → Has o
+some_of None e = cc e
+some_of (Some k) e = record { kept = k; is = refl }
+
+pub none_of : (o : Option Kept) → is_some o ≡ false → o ≡ None
+none_of None e = refl
+none_of (Some k) e = cc e
