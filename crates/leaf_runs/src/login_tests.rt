@@ -4,83 +4,123 @@ use std::test::Fail;
 
 const EUI: u64 = 0x0011_2233_4455_6677;
 
-/// A login of node FFC0h + `physical`, with an EUI-64 of its own and hold 3.
-fn enter(
-    logins: &mut Logins,
-    unit: u8,
-    physical: u8,
-    exclusive: bool,
-) -> Result<Result<Entered, LoginRefusal>, &'static str> {
-    let node = NodeId::local(physical).ok_or("node")?;
-    let fifo = Offset::new(0x1_0000).ok_or("offset")?;
-    let eui = EUI ^ u64::from(physical);
-    Ok(logins.enter(unit, node, eui, fifo, 3, exclusive))
+/// What is done with the logins. A node FFC0h + `physical` has an EUI-64 of its own.
+#[derive(Clone, Copy)]
+enum Turn {
+    /// A login to a unit, with hold 3, which is exclusive or not.
+    Enter(u8, u8, bool),
+    /// A reconnect of a login of a node.
+    Back(u16, u8),
+    /// A logout of a login of a node.
+    Leave(u16, u8),
+    /// The login that the agent at a place serves a node by.
+    Agent(u8, u8),
+    /// A reset.
+    Hold,
+    /// A second.
+    Tick,
 }
 
-/// A reconnect of the node.
-fn back(
-    logins: &mut Logins,
-    login: u16,
-    physical: u8,
-) -> Result<Result<u8, LoginRefusal>, &'static str> {
-    let node = NodeId::local(physical).ok_or("node")?;
-    Ok(logins.back(login, node, EUI ^ u64::from(physical)))
+/// What comes of it: a place, a login ID and the login that was replaced, 0 where there is none. Of a
+/// second: how many logins it ends, and the first of them.
+type Told = Result<(u8, u16, u16), LoginRefusal>;
+
+/// Nothing is told.
+const NOTHING: Told = Ok((0, 0, 0));
+
+/// Does a turn.
+fn told(logins: &mut Logins, turn: Turn) -> Result<Told, &'static str> {
+    let told = match turn {
+        Turn::Enter(unit, physical, exclusive) => {
+            let fifo = Offset::new(0x1_0000).ok_or("offset")?;
+            let eui = EUI ^ u64::from(physical);
+            let entered = logins.enter(unit, node(physical)?, eui, fifo, 3, exclusive);
+            entered.map(|entered| (entered.place, entered.login, entered.replaced.unwrap_or(0)))
+        }
+        Turn::Back(login, physical) => {
+            let eui = EUI ^ u64::from(physical);
+            let place = logins.back(login, node(physical)?, eui);
+            place.map(|place| (place, 0, 0))
+        }
+        Turn::Leave(login, physical) => {
+            let place = logins.leave(login, node(physical)?);
+            place.map(|place| (place, 0, 0))
+        }
+        Turn::Agent(place, physical) => {
+            let login = logins.by_agent(place, node(physical)?);
+            Ok((place, login.map_or(0, |login| login.login), 0))
+        }
+        Turn::Hold => {
+            logins.hold();
+            NOTHING
+        }
+        Turn::Tick => {
+            let ended = logins.tick();
+            let ended = ended.as_slice();
+            Ok((
+                ended.len().min(8) as u8,
+                ended.first().copied().unwrap_or(0),
+                0,
+            ))
+        }
+    };
+    Ok(told)
+}
+
+/// The node FFC0h + `physical`.
+fn node(physical: u8) -> Result<NodeId, &'static str> {
+    NodeId::local(physical).ok_or("node")
 }
 
 /// A reconnect in the last second of a hold of 3 + 1 seconds.
-#[test]
-fn last_second(rt: HostRuntime) -> Result<(), Fail> {
-    let mut logins = Logins::new();
-    let entered = Entered {
-        place: 0,
-        login: 1,
-        replaced: None,
-    };
-    assert_eq!(rt; enter(&mut logins, 0, 1, false)?, Ok(entered));
-    logins.hold();
-    for _ in 0..3 {
-        assert_eq!(rt; logins.tick().as_slice().len(), 0);
-    }
-    assert_eq!(rt; back(&mut logins, 1, 1)?, Ok(0));
-    assert_eq!(rt; back(&mut logins, 1, 1)?, Err(LoginRefusal::Unknown));
-    Ok(())
-}
+const LAST_SECOND: [(Turn, Told); 7] = [
+    (Turn::Enter(0, 1, false), Ok((0, 1, 0))),
+    (Turn::Hold, NOTHING),
+    (Turn::Tick, NOTHING),
+    (Turn::Tick, NOTHING),
+    (Turn::Tick, NOTHING),
+    (Turn::Back(1, 1), Ok((0, 0, 0))),
+    (Turn::Back(1, 1), Err(LoginRefusal::Unknown)),
+];
 
 /// A reconnect after the last second, and a live login, which no second takes.
-#[test]
-fn after_the_last_second(rt: HostRuntime) -> Result<(), Fail> {
-    let mut logins = Logins::new();
-    enter(&mut logins, 0, 1, false)?.map_err(|_| "login")?;
-    logins.hold();
-    enter(&mut logins, 0, 2, false)?.map_err(|_| "login")?;
-    for _ in 0..3 {
-        assert_eq!(rt; logins.tick().as_slice().len(), 0);
-    }
-    assert_eq!(rt; logins.tick().as_slice(), [1_u16].as_slice());
-    assert_eq!(rt; back(&mut logins, 1, 1)?, Err(LoginRefusal::Unknown));
-    let node = NodeId::local(2).ok_or("node")?;
-    assert_eq!(rt; logins.by_agent(1, node).map(|login| login.login), Some(2));
-    Ok(())
-}
+const AFTER_THE_LAST_SECOND: [(Turn, Told); 9] = [
+    (Turn::Enter(0, 1, false), Ok((0, 1, 0))),
+    (Turn::Hold, NOTHING),
+    (Turn::Enter(0, 2, false), Ok((1, 2, 0))),
+    (Turn::Tick, NOTHING),
+    (Turn::Tick, NOTHING),
+    (Turn::Tick, NOTHING),
+    (Turn::Tick, Ok((1, 1, 0))),
+    (Turn::Back(1, 1), Err(LoginRefusal::Unknown)),
+    (Turn::Agent(1, 2), Ok((1, 2, 0))),
+];
 
 /// An exclusive login keeps others out, live and held, until it is gone; its own node comes back to
 /// its unit by a new login in place of the held one.
+const EXCLUSIVE: [(Turn, Told); 7] = [
+    (Turn::Enter(0, 1, true), Ok((0, 1, 0))),
+    (Turn::Enter(0, 2, false), Err(LoginRefusal::Denied)),
+    (Turn::Hold, NOTHING),
+    (Turn::Enter(0, 2, false), Err(LoginRefusal::Denied)),
+    (Turn::Enter(0, 1, false), Ok((0, 2, 1))),
+    (Turn::Enter(0, 2, true), Err(LoginRefusal::Denied)),
+    (Turn::Enter(0, 2, false), Ok((1, 3, 0))),
+];
+
+/// Courses from no logins on.
 #[test]
-fn exclusive(rt: HostRuntime) -> Result<(), Fail> {
-    let mut logins = Logins::new();
-    enter(&mut logins, 0, 1, true)?.map_err(|_| "login")?;
-    assert_eq!(rt; enter(&mut logins, 0, 2, false)?, Err(LoginRefusal::Denied));
-    logins.hold();
-    assert_eq!(rt; enter(&mut logins, 0, 2, false)?, Err(LoginRefusal::Denied));
-    let again = Entered {
-        place: 0,
-        login: 2,
-        replaced: Some(1),
-    };
-    assert_eq!(rt; enter(&mut logins, 0, 1, false)?, Ok(again));
-    assert_eq!(rt; enter(&mut logins, 0, 2, true)?, Err(LoginRefusal::Denied));
-    let other = enter(&mut logins, 0, 2, false)?.map_err(|_| "login")?;
-    assert_eq!(rt; (other.place, other.login), (1, 3));
+fn courses(rt: HostRuntime) -> Result<(), Fail> {
+    for course in [
+        LAST_SECOND.as_slice(),
+        AFTER_THE_LAST_SECOND.as_slice(),
+        EXCLUSIVE.as_slice(),
+    ] {
+        let mut logins = Logins::new();
+        for (turn, expected) in course {
+            assert_eq!(rt; told(&mut logins, *turn)?, *expected);
+        }
+    }
     Ok(())
 }
 
@@ -88,17 +128,19 @@ fn exclusive(rt: HostRuntime) -> Result<(), Fail> {
 #[test]
 fn ids_go_round(rt: HostRuntime) -> Result<(), Fail> {
     let mut logins = Logins::new();
-    let node = NodeId::local(2).ok_or("node")?;
-    enter(&mut logins, 0, 1, false)?.map_err(|_| "login")?;
+    told(&mut logins, Turn::Enter(0, 1, false))?.map_err(|_| "login")?;
     for login in 2..=u16::MAX {
-        let entered = enter(&mut logins, 1, 2, false)?.map_err(|_| "login")?;
-        assert_eq!(rt; (entered.place, entered.login), (1, login));
-        assert_eq!(rt; logins.leave(login, node), Ok(1));
+        let entered = told(&mut logins, Turn::Enter(1, 2, false))?;
+        assert_eq!(rt; entered, Ok((1, login, 0)));
+        let left = told(&mut logins, Turn::Leave(login, 2))?;
+        assert_eq!(rt; left, Ok((1, 0, 0)));
     }
-    for (login, physical) in (2..9_u16).zip(2..9_u8) {
-        let entered = enter(&mut logins, 1, physical, false)?.map_err(|_| "login")?;
-        assert_eq!(rt; entered.login, login);
+    for physical in 2..9_u8 {
+        let entered = told(&mut logins, Turn::Enter(1, physical, false))?;
+        let login = entered.map(|(_place, login, _replaced)| login);
+        assert_eq!(rt; login, Ok(u16::from(physical)));
     }
-    assert_eq!(rt; enter(&mut logins, 1, 9, false)?, Err(LoginRefusal::NoRoom));
+    let ninth = told(&mut logins, Turn::Enter(1, 9, false))?;
+    assert_eq!(rt; ninth, Err(LoginRefusal::NoRoom));
     Ok(())
 }
