@@ -1,5 +1,6 @@
 mod Orders
 mod Added
+mod Parts
 mod OnceTries
 mod OrderTries
 mod ExecutionTries

@@ -80,15 +80,18 @@ pub record AreDeliveries (past : List Moment) (most : ℕ) (told : List Note) : 
   pub few : deliveries told ≤ most
   pub all : (deliveries told ≡ most) ⊎ NoneFlies (once_told past told)
 
--- a settle: the same up to its budget, and whether it came to rest
+-- a settle: the same up to a budget, and whether it came to rest; and up to its own budget
 abbrev pub EndsSettle : List Moment → (most : ℕ) → List Note → Note → Type 0
 EndsSettle past most told notes.Settled = NoneFlies (once_told past told)
 EndsSettle past most told notes.Stopped = (deliveries told ≡ most) × (NoneFlies (once_told past told) → ⊥)
 EndsSettle past most told note = ⊥
 
-pub record Settles (past : List Moment) (told : List Note) : Type 0 where
+pub record SettlesWithin (most : ℕ) (past : List Moment) (told : List Note) : Type 0 where
   pub before : List Note
   pub last : Note
   pub is : told ≡ before ++ last ∷ []
-  pub delivers : AreDeliveries past (settle_deliveries past) before
-  pub ends : EndsSettle past (settle_deliveries past) before last
+  pub delivers : AreDeliveries past most before
+  pub ends : EndsSettle past most before last
+
+abbrev pub Settles : List Moment → List Note → Type 0
+Settles past told = SettlesWithin (settle_deliveries past) past told

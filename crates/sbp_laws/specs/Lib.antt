@@ -29,8 +29,10 @@ pub mod SentRequests
 pub mod SentLaw
 pub mod Budget
 pub mod Deliveries
+pub mod LineLaw
 pub mod ActionLaw
 pub mod Lawful
+pub mod OnTheBus
 pub mod Adds
 pub mod Readings
 pub mod Journals

@@ -1,4 +1,5 @@
 ghost use Rattle.sbp_laws.specs.Adds.{AddsLawfully};
+ghost use Rattle.sbp_laws.specs.OnTheBus.{IsPartOfLawful};
 ghost use Rattle.sbp_laws.specs.Readings.{InTurnLaw};
 
 /// What the order law says in the order of time, of each initiator that injected no packets: of each
@@ -10,4 +11,10 @@ pub fn ends_in_order()
 /// A run with one more entry is lawful exactly where the run was and the entry adds lawfully.
 pub fn lawful_entry_by_entry()
     ensures { AddsLawfully }
+{}
+
+/// What `LawfulOnTheBus` says of a run is a part of what `LawfulBut` says of it.
+#[tactic(auto, using(crate::proofs::Parts::part_of_lawful))]
+pub fn lawful_runs_are_so_on_the_bus()
+    ensures { IsPartOfLawful }
 {}
