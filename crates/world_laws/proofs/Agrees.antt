@@ -1,5 +1,5 @@
 -- Notes that change nothing of what the history says of IDs, packets, requests and the generation of the bus.
-use Rattle.std.specs.Prelude.{◌≡◌, ◌≤◌, ℕ, ◌+◌, Bool, true, false, Option, Some, None, refl}
+use Rattle.std.specs.Prelude.{◌≡◌, ◌≤◌, ℕ, ◌+◌, Bool, true, false, if◌then◌else◌, Option, Some, None, refl}
 use Rattle.std.proofs.Common.{arith, sym, ◌∙◌, ap, subst}
 use Rattle.bus_transactions.specs.May.{is_plain, is_reset}
 use Rattle.bus_transactions.proofs.MoveOthers.{plain_terms}
@@ -22,9 +22,10 @@ pub record Agrees (t u : Terms) : Type 0 where
   pub current : u.current ≡ t.current
   pub bus : u.bus ≡ t.bus
   pub count : u.count ≡ t.count
+  pub injects : u.injects ≡ t.injects
 
 pub same : (t : Terms) → Agrees t t
-same t = record { ids = refl; sent = refl; current = refl; bus = refl; count = refl }
+same t = record { ids = refl; sent = refl; current = refl; bus = refl; count = refl; injects = refl }
 
 pub still_knows : {requests : RequestsState} {nodes : ℕ} {t u : Terms} → Agrees t u → Knows requests nodes t → Knows requests nodes u
 still_knows {requests} {nodes} {t} {u} a k =
@@ -62,24 +63,24 @@ plain_agrees note t e = subst (λ u. Agrees t u) (sym (plain_terms note t e)) (s
 
 -- ---- lines that begin, but for a reset
 pub opened_agrees : (event : Event) (t : Terms) → is_reset event ≡ false → Agrees t (opened event t)
-opened_agrees (events.Begin initiators ready) t e = record { ids = refl; sent = refl; current = refl; bus = refl; count = refl }
-opened_agrees (events.Act initiator action) t e = record { ids = refl; sent = refl; current = refl; bus = refl; count = refl }
+opened_agrees (events.Begin initiators ready) t e = record { ids = refl; sent = refl; current = refl; bus = refl; count = refl; injects = refl }
+opened_agrees (events.Act initiator action) t e = record { ids = refl; sent = refl; current = refl; bus = refl; count = refl; injects = refl }
 opened_agrees (events.Reset physical) t e = cc
-opened_agrees (events.See node) t e = record { ids = refl; sent = refl; current = refl; bus = refl; count = refl }
-opened_agrees (events.Deliver s) t e = record { ids = refl; sent = refl; current = refl; bus = refl; count = refl }
-opened_agrees (events.Repeat s) t e = record { ids = refl; sent = refl; current = refl; bus = refl; count = refl }
-opened_agrees (events.Lose s) t e = record { ids = refl; sent = refl; current = refl; bus = refl; count = refl }
-opened_agrees (events.Timeout s) t e = record { ids = refl; sent = refl; current = refl; bus = refl; count = refl }
-opened_agrees (events.Step count) t e = record { ids = refl; sent = refl; current = refl; bus = refl; count = refl }
-opened_agrees events.Settle t e = record { ids = refl; sent = refl; current = refl; bus = refl; count = refl }
-opened_agrees events.Tick t e = record { ids = refl; sent = refl; current = refl; bus = refl; count = refl }
-opened_agrees (events.Inject initiator bytes) t e = record { ids = refl; sent = refl; current = refl; bus = refl; count = refl }
-opened_agrees (events.Key unit key) t e = record { ids = refl; sent = refl; current = refl; bus = refl; count = refl }
+opened_agrees (events.See node) t e = record { ids = refl; sent = refl; current = refl; bus = refl; count = refl; injects = refl }
+opened_agrees (events.Deliver s) t e = record { ids = refl; sent = refl; current = refl; bus = refl; count = refl; injects = refl }
+opened_agrees (events.Repeat s) t e = record { ids = refl; sent = refl; current = refl; bus = refl; count = refl; injects = refl }
+opened_agrees (events.Lose s) t e = record { ids = refl; sent = refl; current = refl; bus = refl; count = refl; injects = refl }
+opened_agrees (events.Timeout s) t e = record { ids = refl; sent = refl; current = refl; bus = refl; count = refl; injects = refl }
+opened_agrees (events.Step count) t e = record { ids = refl; sent = refl; current = refl; bus = refl; count = refl; injects = refl }
+opened_agrees events.Settle t e = record { ids = refl; sent = refl; current = refl; bus = refl; count = refl; injects = refl }
+opened_agrees events.Tick t e = record { ids = refl; sent = refl; current = refl; bus = refl; count = refl; injects = refl }
+opened_agrees (events.Inject initiator bytes) t e = record { ids = refl; sent = refl; current = refl; bus = refl; count = refl; injects = refl }
+opened_agrees (events.Key unit key) t e = record { ids = refl; sent = refl; current = refl; bus = refl; count = refl; injects = refl }
 
 -- ---- packets that are delivered
 judges_agrees : (began : Option Transaction) (cause : Option Cause) (s : ℕ) (q : Sending) (t u : Terms) → Agrees t u → Agrees t (judges began cause s q u)
 judges_agrees None cause s q t u a = a
-judges_agrees (Some v) cause s q t u a = record { ids = a.ids; sent = a.sent; current = a.current; bus = a.bus; count = a.count }
+judges_agrees (Some v) cause s q t u a = record { ids = a.ids; sent = a.sent; current = a.current; bus = a.bus; count = a.count; injects = a.injects }
 
 if_agrees : (b : Bool) (began : Option Transaction) (s : ℕ) (q : Sending) (t u : Terms) → Agrees t u → Agrees t (judges_if b began s q u)
 if_agrees true began s q t u a = judges_agrees began (Some causes.Grammar) s q t u a
@@ -88,22 +89,22 @@ if_agrees false began s q t u a = a
 ignores_agrees : (cause : Cause) (s : ℕ) (q : Sending) (t u : Terms) → Agrees t u → Agrees t (ignores cause s q u)
 ignores_agrees causes.Generation s q t u a = a
 ignores_agrees causes.Grammar s q t u a =
-    if_agrees (is_to q.bytes (u.ids q.generation q.to)) (asked_by q) s q t _ (record { ids = a.ids; sent = a.sent; current = a.current; bus = a.bus; count = a.count })
-ignores_agrees causes.Label s q t u a = record { ids = a.ids; sent = a.sent; current = a.current; bus = a.bus; count = a.count }
+    if_agrees (is_to q.bytes (u.ids q.generation q.to)) (asked_by q) s q t _ (record { ids = a.ids; sent = a.sent; current = a.current; bus = a.bus; count = a.count; injects = a.injects })
+ignores_agrees causes.Label s q t u a = record { ids = a.ids; sent = a.sent; current = a.current; bus = a.bus; count = a.count; injects = a.injects }
 ignores_agrees causes.Again s q t u a = judges_agrees (asked_by q) (Some causes.Again) s q t u a
 ignores_agrees causes.Source s q t u a =
-    judges_agrees (asked_by q) (Some causes.Source) s q t _ (record { ids = a.ids; sent = a.sent; current = a.current; bus = a.bus; count = a.count })
+    judges_agrees (asked_by q) (Some causes.Source) s q t _ (record { ids = a.ids; sent = a.sent; current = a.current; bus = a.bus; count = a.count; injects = a.injects })
 ignores_agrees causes.Login s q t u a =
-    judges_agrees (asked_by q) (Some causes.Login) s q t _ (record { ids = a.ids; sent = a.sent; current = a.current; bus = a.bus; count = a.count })
+    judges_agrees (asked_by q) (Some causes.Login) s q t _ (record { ids = a.ids; sent = a.sent; current = a.current; bus = a.bus; count = a.count; injects = a.injects })
 ignores_agrees causes.Slot s q t u a =
-    judges_agrees (asked_by q) (Some causes.Slot) s q t _ (record { ids = a.ids; sent = a.sent; current = a.current; bus = a.bus; count = a.count })
+    judges_agrees (asked_by q) (Some causes.Slot) s q t _ (record { ids = a.ids; sent = a.sent; current = a.current; bus = a.bus; count = a.count; injects = a.injects })
 
 pub ignored_agrees : (so : Option Sending) (cause : Cause) (s : ℕ) (t : Terms) → Agrees t (ignores_that so cause s t)
 ignored_agrees None cause s t = same t
-ignored_agrees (Some q) cause s t = ignores_agrees cause s q t _ (record { ids = refl; sent = refl; current = refl; bus = refl; count = refl })
+ignored_agrees (Some q) cause s t = ignores_agrees cause s q t _ (record { ids = refl; sent = refl; current = refl; bus = refl; count = refl; injects = refl })
 
 closed_agrees : (b : Bool) (s : ℕ) (v : Transaction) (rcode : ℕ) (t u : Terms) → Agrees t u → Agrees t (closes_if b s v rcode u)
-closed_agrees true s v rcode t u a = record { ids = a.ids; sent = a.sent; current = a.current; bus = a.bus; count = a.count }
+closed_agrees true s v rcode t u a = record { ids = a.ids; sent = a.sent; current = a.current; bus = a.bus; count = a.count; injects = a.injects }
 closed_agrees false s v rcode t u a = a
 
 closes_agrees : (held : Held) (v : Transaction) (kind : Kind) (rcode : ℕ) (t u : Terms) → Agrees t u → Agrees t (closes held v kind rcode u)
@@ -118,12 +119,12 @@ gets_agrees no_packet s q t u a = a
 
 pub got_agrees : (so : Option Sending) (s : ℕ) (t : Terms) → Agrees t (gets so s t)
 got_agrees None s t = same t
-got_agrees (Some q) s t = gets_agrees (part_of q.bytes) s q t _ (record { ids = refl; sent = refl; current = refl; bus = refl; count = refl })
+got_agrees (Some q) s t = gets_agrees (part_of q.bytes) s q t _ (record { ids = refl; sent = refl; current = refl; bus = refl; count = refl; injects = refl })
 
 -- ---- a transaction times out
 times_agrees : (began : Option Transaction) (t : Terms) → Agrees t (times_out began t)
 times_agrees None t = same t
-times_agrees (Some v) t = record { ids = refl; sent = refl; current = refl; bus = refl; count = refl }
+times_agrees (Some v) t = record { ids = refl; sent = refl; current = refl; bus = refl; count = refl; injects = refl }
 
 pub timed_agrees : (so : Option Sending) (t : Terms) → Agrees t (times_out (begun_in so) t)
 timed_agrees so t = times_agrees (begun_in so) t
@@ -131,13 +132,13 @@ timed_agrees so t = times_agrees (begun_in so) t
 -- ---- a packet is sent
 gives_agrees : (began : Option Transaction) (rcode : ℕ) (t u : Terms) → Agrees t u → Agrees t (gives began rcode u)
 gives_agrees None rcode t u a = a
-gives_agrees (Some v) rcode t u a = record { ids = a.ids; sent = a.sent; current = a.current; bus = a.bus; count = a.count }
+gives_agrees (Some v) rcode t u a = record { ids = a.ids; sent = a.sent; current = a.current; bus = a.bus; count = a.count; injects = a.injects }
 
 pays_agrees : (owed : Option Owed) (sent : ℕ → Option Sending) (s : ℕ) (q : Sending) (t u : Terms) → Agrees t u → Agrees t (pays owed sent s q u)
 pays_agrees None sent s q t u a = a
 pays_agrees (Some owed) sent s q t u a =
     let b = gives_agrees (asked_in (sent owed.serial)) (rcode_of q.bytes) t u a in
-    record { ids = b.ids; sent = b.sent; current = b.current; bus = b.bus; count = b.count }
+    record { ids = b.ids; sent = b.sent; current = b.current; bus = b.bus; count = b.count; injects = b.injects }
 
 -- it is the present request of the transaction that it begins
 abbrev pub with_begun : Option Transaction → ℕ → (Transaction → ℕ) → Transaction → ℕ
@@ -145,11 +146,11 @@ with_begun None s current = current
 with_begun (Some u) s current = at current u s
 
 abbrev pub with_sent : Option Transaction → ℕ → Sending → Terms → Terms
-with_sent begun s q t = record t { sent = upd t.sent s (Some q); current = with_begun begun s t.current; count = t.count + 1 }
+with_sent begun s q t = record t { sent = upd t.sent s (Some q); current = with_begun begun s t.current; count = t.count + 1; injects = if q.injected then upd t.injects q.from true else t.injects }
 
 begins_agrees : (begun : Option Transaction) (s : ℕ) (q : Sending) (t : Terms) → Agrees (with_sent begun s q t) (begins begun s q (puts begun s q t))
-begins_agrees None s q t = record { ids = refl; sent = refl; current = refl; bus = refl; count = refl }
-begins_agrees (Some u) s q t = record { ids = refl; sent = refl; current = refl; bus = refl; count = refl }
+begins_agrees None s q t = record { ids = refl; sent = refl; current = refl; bus = refl; count = refl; injects = refl }
+begins_agrees (Some u) s q t = record { ids = refl; sent = refl; current = refl; bus = refl; count = refl; injects = refl }
 
 sends_agrees : (s : ℕ) (q : Sending) (t : Terms) → Agrees (with_sent (begun_by q) s q t) (sends s q t)
 sends_agrees s q t = pays_agrees t.owes t.sent s q (with_sent (begun_by q) s q t) _ (begins_agrees (begun_by q) s q t)

@@ -190,7 +190,7 @@ module _ {P : Type 0} {past : List Moment} {layers : ℕ → Node} (w : WorldSta
       let peer_is : id ≡ t.ids asked.label.generation k.node = sym (id_is w h from there layer own id k) ∙ ap (λ g. t.ids g k.node) (sym same_generation) in
       subst (λ m. Knows (add_step m k.node (request_of from id asked.label) w.requests) (length w.initiators) (sends s q t)) (sym serial_now)
       (sent_knows s q t (Some u) begun serial
-      (asked_knows h.is.knows from k.node id asked.label q (omega arith) (omega arith) a.small (record { from = there; bytes = small }) aimed past_now peer_is))
+      (asked_knows h.is.knows from k.node id asked.label q (omega arith) (omega arith) a.small (record { from = there; to = to_there; bytes = small }) aimed past_now peer_is))
 
   asks_as : (asked : Asked) (new : Layer P) → asking_step layer id body purpose ≡ (Some asked, new) → ((n : ℕ) → slice_index_or asked.bytes n 0 < 256) → StandsAt past (upd layers from (bare new)) None (with_request (w.store.last + 1) k.node (request_of from id asked.label) (posted from k.node false asked.bytes w))
   unfolding posted

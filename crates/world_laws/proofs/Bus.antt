@@ -141,14 +141,14 @@ record Injects (w : WorldState) (from to : ℕ) (bytes : List ℕ) : Type 0 wher
   destination : (header_of bytes).destination ≡ id_of (topology_at w.generations from) to
 
 -- the packet is no request of a node's own
-injected_knows : {requests : RequestsState} {nodes : ℕ} → (wire : Wire) → Reached wire → (from to : ℕ) (bytes : List ℕ) → from ≤ nodes → All (λ byte. byte < 256) bytes → Knows requests nodes (terms wire.past) → Knows requests nodes (terms (sent_past from to bytes wire.store (wire.layer from).generation wire.past))
+injected_knows : {requests : RequestsState} {nodes : ℕ} → (wire : Wire) → Reached wire → (from to : ℕ) (bytes : List ℕ) → from ≤ nodes → to ≤ nodes → All (λ byte. byte < 256) bytes → Knows requests nodes (terms wire.past) → Knows requests nodes (terms (sent_past from to bytes wire.store (wire.layer from).generation wire.past))
 unfolding sent_past
-injected_knows wire r from to bytes there fit k =
+injected_knows wire r from to bytes there to_there fit k =
     let s = wire.store.last + 1 in
     let t : Terms = terms (said (notes.Injected s) ∷ wire.past) in
     let marks : t.injected s ≡ true = ap (λ b. cond b true ((terms wire.past).injected s)) (let e : nat_eq s s ≡ true = grind arith in e) in
     let q : Sending = record { generation = (wire.layer from).generation; from = from; to = to; bytes = bytes; injected = t.injected s } in
-    sent_knows s q t None (injected_begun q marks) (ap (λ x. x + 1) (last_is (holds wire r).follows)) (other_knows k q (record { from = there; bytes = small_anywhere bytes fit }))
+    sent_knows s q t None (injected_begun q marks) (ap (λ x. x + 1) (last_is (holds wire r).follows)) (other_knows k q (record { from = there; to = to_there; bytes = small_anywhere bytes fit }))
 
 injects_to : (past : List Moment) (w : WorldState) (from to : ℕ) (bytes : List ℕ) → All (λ byte. byte < 256) bytes → Injects w from to bytes → Stands past w → Stands past (posted from to true bytes w)
 unfolding posted sent_past
@@ -186,13 +186,13 @@ injects_to past w from to bytes fit i h =
           ap (λ (ids : ℕ → ℕ → ℕ). ids (topology_at w.generations node).generation peer)
           (sent_ids (h.wire.store.last + 1) (h.wire.layer from).generation from to bytes (terms (said (notes.Injected (h.wire.store.last + 1)) ∷ h.wire.past)))
           ∙ h.is.known_ids node peer l m;
-      knows = injected_knows h.wire h.reached from to bytes a fit h.is.knows;
+      knows = injected_knows h.wire h.reached from to bytes a b fit h.is.knows;
     })
 
 -- who has an ID
-record Has (topology : Topology) (id node : ℕ) : Type 0 where
-  there : node < length topology.ids
-  id_is : id_of topology node ≡ id
+pub record Has (topology : Topology) (id node : ℕ) : Type 0 where
+  pub there : node < length topology.ids
+  pub id_is : id_of topology node ≡ id
 
 five_is : (found : Option ℕ) (node : ℕ) → one_of_five found ≡ Some node → found ≡ Some node
 five_is None node e = cc
@@ -202,7 +202,7 @@ five_is (Some other) node e = by_test (nat_lt other 5) refl e
     by_test true f e = e
     by_test false f e = cc
 
-node_has : (topology : Topology) (id node : ℕ) → node_in topology id ≡ Some node → Has topology id node
+pub node_has : (topology : Topology) (id node : ℕ) → node_in topology id ≡ Some node → Has topology id node
 node_has topology id node e =
     let p = position-Some (is_at id) topology.ids node 0 (five_is (position (is_at id) topology.ids) node e) in
     record { there = p.0; id_is = let x = p.1 in grind arith }

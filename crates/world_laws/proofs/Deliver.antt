@@ -185,7 +185,7 @@ module _ {P : Type 0} {past : List Moment} {layers : ℕ → Node} (w : WorldSta
         let q : Sending = record { generation = (wire.layer sent.to).generation; from = sent.to; to = sent.from; bytes = answer_now.0; injected = t.injected s } in
         let due = answers.due wire all due_of rcode given h.is.due_is valid_wire in
         let part = ap part_of (sym (ap (λ (r : List ℕ × Node). r.0) answer_is)) ∙ answers.part_is wire all due_of rcode given h.is.due_is valid_wire in
-        sent_knows s q t None (none_begun q (response_asked q due.label due.kind part)) (ap (λ x. x + 1) (last_is all.follows)) (other_knows h.is.knows q (record { from = there; bytes = small }))
+        sent_knows s q t None (none_begun q (response_asked q due.label due.kind part)) (ap (λ x. x + 1) (last_is all.follows)) (other_knows h.is.knows q (record { from = there; to = from_there; bytes = small }))
 
     answers_in : is_reply reply rcode ≡ true → Gives p rcode given → StandsAt past (upd layers sent.to (bare answer_now.1)) None (posted sent.to sent.from false answer_now.0 w)
     unfolding posted

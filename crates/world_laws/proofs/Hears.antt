@@ -41,7 +41,7 @@ module _ {past : List Moment} (w : WorldState) (h : Stands past w) (serial : ℕ
       let k = found_kept (holds h.wire h.reached).follows serial (record { serial = serial; in_flight = is_flying serial h.wire.store.kept; sent = sent }) wire_found in
       k.sent ∙ ap Some (sym (ap as_sending k.is))
 
-  ours : IsOurs (length w.initiators) (as_sending sent)
+  pub ours : IsOurs (length w.initiators) (as_sending sent)
   ours = h.is.knows.ours serial (as_sending sent) was_sent
 
   is_of : IsOf (terms h.wire.past) (as_sending sent)

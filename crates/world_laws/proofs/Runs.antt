@@ -27,10 +27,10 @@ use Rattle.world_laws.proofs.Sound.{line_goes}
 use Rattle.world_laws.proofs.ToldBytes.{happened_fits}
 use Rattle.world_laws.proofs.Starts.{begins, first_id, laws_of, states_at}
 
-record SoundAfter (line : ℕ) (run : Run) (entries : List Entry) (w : WorldState) : Type 0 where
-  past : List Moment
-  sound : Sound past (length entries) w
-  is : map said w.fresh ++ past ≡ moments_behind line run entries
+pub record SoundAfter (line : ℕ) (run : Run) (entries : List Entry) (w : WorldState) : Type 0 where
+  pub past : List Moment
+  pub sound : Sound past (length entries) w
+  pub is : map said w.fresh ++ past ≡ moments_behind line run entries
 
 module _ (targets : FittingLaw) (initiators : OwnFittingLaw) where
   module _ (n : ℕ) (ready : Bool) (units : ℕ) (few : n ≤ 4) where
@@ -81,7 +81,7 @@ module _ (targets : FittingLaw) (initiators : OwnFittingLaw) where
     is = refl;
   }
 
-  sound_after : (line : ℕ) (run : Run) (entries : List Entry) → run.initiators ≤ 4 → length entries + 2 < 2 ^ 32 → AreEntries (beginning run) entries → AreLines run entries → SoundAfter line run entries (after (beginning run) entries).world
+  pub sound_after : (line : ℕ) (run : Run) (entries : List Entry) → run.initiators ≤ 4 → length entries + 2 < 2 ^ 32 → AreEntries (beginning run) entries → AreLines run entries → SoundAfter line run entries (after (beginning run) entries).world
   sound_after line run [] few most all fit = sound_first line run few
   sound_after line run (e ∷ before) few most all fit =
       let b = sound_after line run before few (omega arith) all.1 fit.1 in

@@ -74,7 +74,7 @@ injects_line {past} {lines} w line initiator bytes l fit s = record {
 }
 
 -- ---- a line begins, or there is one more
-opens : {past : List Moment} {lines : ℕ} (line : ℕ) (event : Event) (w : WorldState) → is_reset event ≡ false → Sound past lines w → Sound (asked line event ∷ (map said w.fresh ++ past)) lines (without_notes w)
+pub opens : {past : List Moment} {lines : ℕ} (line : ℕ) (event : Event) (w : WorldState) → is_reset event ≡ false → Sound past lines w → Sound (asked line event ∷ (map said w.fresh ++ past)) lines (without_notes w)
 opens {past} line event w e s = record { stands = starts past w line event e s.stands; nodes = s.nodes }
 
 more_lines : {past : List Moment} {lines : ℕ} {w : WorldState} → Sound past lines w → Sound past (lines + 1) w
@@ -89,7 +89,7 @@ first_fits : (told : List (Option Told)) → AreTold told → BytesTold (first_t
 first_fits [] t = tt
 first_fits (told ∷ before) t = t.0
 
-first_flies : (xs : List ℕ) (serial : ℕ) → first xs ≡ Some serial → list_any (λ s. serial == s) xs ≡ true
+pub first_flies : (xs : List ℕ) (serial : ℕ) → first xs ≡ Some serial → list_any (λ s. serial == s) xs ≡ true
 first_flies [] serial e = cc
 first_flies (x ∷ xs) serial e = here x serial (let f : x ≡ serial = cc in f) (list_any (λ s. serial == s) xs)
   where
@@ -179,7 +179,7 @@ module _ (targets : FittingLaw) (initiators : OwnFittingLaw) where
   delivers_line line serial again true told s sound t r f = hears targets initiators s sound serial again (first_told told) (first_fits told t) r f
   delivers_line line serial again false told s sound t r f = refuses_line s.world line no_packet sound
 
-  next_heard : {past : List Moment} {lines : ℕ} (told : Option Told) → BytesTold told → (s : Scene) → Sound past lines s.world → (terms past).repeats ≡ false → (o : Option ℕ) → lowest s.world ≡ o → Sound past lines (delivered_at o told s).world
+  pub next_heard : {past : List Moment} {lines : ℕ} (told : Option Told) → BytesTold told → (s : Scene) → Sound past lines s.world → (terms past).repeats ≡ false → (o : Option ℕ) → lowest s.world ≡ o → Sound past lines (delivered_at o told s).world
   next_heard told t s sound r None e = sound
   next_heard {past} told t s sound r (Some serial) e =
       hears targets initiators s sound serial false told t

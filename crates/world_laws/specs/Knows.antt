@@ -1,4 +1,4 @@
--- What the history tells of the packets and the requests of a world: each packet that was sent is from one of its nodes, and has bytes; and
+-- What the history tells of the packets and the requests of a world: each packet that was sent is from one of its nodes to one of them, and has bytes; and
 -- each request that the world finds by its serial is the present one of its transaction, with the node whose ID its sender asked. An
 -- initiator asks the target alone.
 use Rattle.std.specs.Prelude.{◌≡◌, ◌≤◌, ◌<◌, ℕ, ◌+◌, suc, List, [], ◌∷◌, length, Option, Some}
@@ -11,6 +11,7 @@ use Rattle.sbp_world.specs.Requests.{RequestsState, find, serial_at}
 
 pub record IsOurs (nodes : ℕ) (packet : Sending) : Type 0 where
   pub from : packet.from ≤ nodes
+  pub to : packet.to ≤ nodes
   pub bytes : AreBytes packet.bytes
 
 -- the request with a serial

@@ -2,14 +2,16 @@
 use Rattle.std.specs.Prelude.{◌≡◌, ◌≤◌, ◌<◌, ℕ, suc, ◌+◌, ◌^◌, Bool, List, [], ◌∷◌, ◌++◌, length, map, slice_index_or}
 use Rattle.std.specs.List.{All}
 use Rattle.initiator_laws.specs.Fitting.{BytesAction}
-use Rattle.sbp_journal.specs.Run.{Moment, asked, said}
+use Rattle.sbp_journal.specs.Run.{Moment, asked, said, history}
 use Rattle.sbp_journal.specs.declared.event.Event.{Event}
 use Rattle.sbp_journal.specs.declared.event.Event.TheVariants as events
-use Rattle.sbp_world.specs.Histories.{moments_behind}
+use Rattle.sbp_world.specs.Histories.{history_of, moments_behind}
 use Rattle.sbp_world.specs.Making.{new_world}
 use Rattle.sbp_world.specs.Runs.{AreEntries, Entry, Run, after, beginning}
 use Rattle.sbp_world.specs.Worlds.{WorldState}
+use Rattle.sbp_laws.specs.LineLaw.{LineLaw}
 use Rattle.world_laws.specs.History.{IsOfWire}
+use Rattle.world_laws.specs.Journal.{journal_run}
 use Rattle.world_laws.specs.Wires.{Stands}
 
 -- the physical IDs of a reset: one from 0 to 62 for each node, and no two the same
@@ -45,3 +47,9 @@ pub record RunLaw : Type 0 where
   pub begins : (line initiators : ℕ) (ready : Bool) (units : ℕ) → initiators ≤ 4 → Stands (asked line (events.Begin initiators ready) ∷ []) (new_world initiators ready units)
   pub has_laws : (past : List Moment) (w : WorldState) → Stands past w → IsOfWire (map said w.fresh ++ past)
   pub runs : (line : ℕ) (run : Run) → run.initiators ≤ 4 → length run.entries + 2 < 2 ^ 32 → AreEntries (beginning run) run.entries → AreLines run run.entries → StandsAfter line run run.entries (after (beginning run) run.entries).world
+
+-- The history of a run of the machine is that of its journal. And of such a run, over as many media as it has units, each line of the bus brings
+-- what the laws say of it: which packets are delivered, and which lines are refused.
+pub record BusLaw : Type 0 where
+  pub tie : (line : ℕ) (run : Run) → history (journal_run line run).entries ≡ history_of line run
+  pub lines : (line : ℕ) (run : Run) → run.initiators ≤ 4 → run.units ≡ length run.start.disks → length run.entries + 2 < 2 ^ 32 → AreEntries (beginning run) run.entries → AreLines run run.entries → LineLaw run.start.disks (journal_run line run).entries

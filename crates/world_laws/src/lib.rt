@@ -1,6 +1,6 @@
-//! The laws of the wire over the lines of a world.
+//! The laws of the wire, and of the lines of the bus, over the lines of a world.
 #![tactic(auto)]
 
 mod laws;
 
-pub use laws::lines_are_moves;
+pub use laws::{lines_are_moves, lines_bring_their_deliveries};
