@@ -152,7 +152,7 @@ begins_agrees : (begun : Option Transaction) (s : ℕ) (q : Sending) (t : Terms)
 begins_agrees None s q t = record { ids = refl; sent = refl; current = refl; bus = refl; count = refl; injects = refl }
 begins_agrees (Some u) s q t = record { ids = refl; sent = refl; current = refl; bus = refl; count = refl; injects = refl }
 
-sends_agrees : (s : ℕ) (q : Sending) (t : Terms) → Agrees (with_sent (begun_by q) s q t) (sends s q t)
+pub sends_agrees : (s : ℕ) (q : Sending) (t : Terms) → Agrees (with_sent (begun_by q) s q t) (sends s q t)
 sends_agrees s q t = pays_agrees t.owes t.sent s q (with_sent (begun_by q) s q t) _ (begins_agrees (begun_by q) s q t)
 
 pub sent_knows : {requests : RequestsState} {nodes : ℕ} → (s : ℕ) (q : Sending) (t : Terms) (begun : Option Transaction) → begun_by q ≡ begun → s ≡ t.count + 1 → KnowsBy requests nodes t.ids (upd t.sent (t.count + 1) (Some q)) (with_begun begun (t.count + 1) t.current) t.bus (t.count + 1) → Knows requests nodes (sends s q t)

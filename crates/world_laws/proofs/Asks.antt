@@ -1,5 +1,5 @@
 -- What a node asks, and what it gives up, is a list of moves of the wire: the packets leave for the nodes that have the IDs.
-use Rattle.std.specs.Prelude.{◌≡◌, ◌≤◌, ◌<◌, ℕ, ◌+◌, nat_eq, Bool, true, false, cond, List, [], ◌∷◌, ◌++◌, length, slice_index_or, Option, Some, None, Result, Ok, Err, refl}
+use Rattle.std.specs.Prelude.{◌≡◌, ◌≤◌, ◌<◌, ℕ, ◌+◌, nat_eq, Bool, true, false, cond, if◌then◌else◌, List, [], ◌∷◌, ◌++◌, length, slice_index_or, Option, Some, None, Result, Ok, Err, refl}
 use Rattle.std.proofs.Common.{arith, sym, ◌∙◌, ap, subst}
 use Rattle.sbp_base.specs.Update.{upd}
 use Rattle.async_packet.specs.Canon.{IsValid}
@@ -15,7 +15,8 @@ use Rattle.bus_transactions.specs.Bare.{bare, bare_after, same}
 use Rattle.bus_transactions.specs.Fitting.{AreSmall}
 use Rattle.bus_transactions.specs.Moves.{ask, asking, disown}
 use Rattle.bus_transactions.specs.Steps.{AreAsks, AreGivenUp, GivesUp, of_known, of_none, IsAsking, layer_after, request_to, requests_of, with_asked}
-use Rattle.bus_transactions.specs.Wire.{Due, Node, as_sent, id_for, outgoing, transaction}
+use Rattle.bus_transactions.specs.Reached.{Reached}
+use Rattle.bus_transactions.specs.Wire.{Wire, Due, Node, as_sent, id_for, outgoing, transaction}
 use Rattle.bus_transactions.proofs.Bares.{takes_steps}
 use Rattle.bus_transactions.proofs.Facts.{asked_begun, request_asked}
 use Rattle.bus_transactions.proofs.Follows.{last_is}
@@ -33,7 +34,7 @@ use Rattle.sbp_world.specs.Worlds.{WorldState}
 use Rattle.world_laws.specs.Knows.{Knows}
 use Rattle.world_laws.specs.Wires.{IsWireAt, StandsAt}
 use Rattle.world_laws.proofs.Alike.{IsAlike, all_alike, sent_more}
-use Rattle.world_laws.proofs.Agrees.{sent_knows}
+use Rattle.world_laws.proofs.Agrees.{sends_agrees, sent_knows}
 use Rattle.world_laws.proofs.Bus.{aged, holds, sent_ids}
 use Rattle.world_laws.proofs.Found.{IsKnown, id_known, node_found}
 use Rattle.world_laws.proofs.Handles.{asked_generation}
@@ -77,6 +78,7 @@ relayered w h e = record {
     sights = h.is.sights;
     known_ids = h.is.known_ids;
     knows = h.is.knows;
+    fair = h.is.fair;
   };
 }
 
@@ -109,6 +111,18 @@ module _ {P : Type 0} where
 -- ---- one step of a node's layer
 abbrev pub sent_past : (from to : ℕ) (bytes : List ℕ) → Stored → (generation : ℕ) → List Moment → List Moment
 sent_past from to bytes store generation past = said (notes.Sent (store.last + 1) generation from to bytes) ∷ past
+
+-- a packet of a node's own leaves who injected packets as it was
+pub still_fair : (wire : Wire) → Reached wire → (from to : ℕ) (bytes : List ℕ) → (terms wire.past).injects 0 ≡ false → (terms (sent_past from to bytes wire.store (wire.layer from).generation wire.past)).injects 0 ≡ false
+still_fair wire r from to bytes e =
+    let t : Terms = terms wire.past in
+    let all = holds wire r in
+    let s = wire.store.last + 1 in
+    let serial : s ≡ t.count + 1 = ap (λ x. x + 1) (last_is all.follows) in
+    let q : Sending = record { generation = (wire.layer from).generation; from = from; to = to; bytes = bytes; injected = t.injected s } in
+    ap (λ (f : ℕ → Bool). f 0) (sends_agrees s q t).injects
+    ∙ ap (λ b. (if b then upd t.injects from true else t.injects) 0) (all.facts.unsent s (omega (arith, serial))).honest
+    ∙ e
 
 module _ {P : Type 0} {past : List Moment} {layers : ℕ → Node} {due : Option Due} (w : WorldState) (h : StandsAt past layers due w) (from : ℕ) (there : from ≤ length w.initiators) (layer : Layer P) (own : layers from ≡ bare layer) where
   pub own_layer : h.wire.layer from ≡ bare layer
@@ -148,6 +162,7 @@ module _ {P : Type 0} {past : List Moment} {layers : ℕ → Node} {due : Option
             ∙ h.is.sights k l;
         known_ids = h.is.known_ids;
         knows = h.is.knows;
+        fair = h.is.fair;
       })
 
   gives_up : (known : ℕ → Type 0) → ((id : ℕ) → known id → IsKnown w from id) → (id : ℕ) (label : LabelParts) → GivesUp known layer id label → StandsAt past (upd layers from (bare (disowning_step layer id label))) due w
@@ -227,6 +242,7 @@ module _ {P : Type 0} {past : List Moment} {layers : ℕ → Node} (w : WorldSta
             (sent_ids (wire.store.last + 1) (wire.layer from).generation from k.node asked.bytes (terms wire.past))
             ∙ h.is.known_ids n peer l m;
         knows = asks_know asked (bare new) step small;
+        fair = still_fair wire h.reached from k.node asked.bytes h.is.fair;
       }))
 
   asks_by : (r : Option Asked × Layer P) → asking_step layer id body purpose ≡ r → IfSmall r.0 → StandsAt past (upd layers from (bare r.1)) None (sent_all from (with_asked id r.0 []) w)

@@ -4,6 +4,7 @@ use Rattle.std.specs.List.{All}
 use Rattle.std.proofs.Common.{arith, sym, ◌∙◌, ap, subst}
 use Rattle.std.proofs.lemmas.Grind.{get_or_default_zero}
 use Rattle.std.proofs.lemmas.List.Quantifiers.{position-Some}
+use Rattle.sbp_base.specs.Update.{upd}
 use Rattle.async_packet.specs.Fields.{header_of}
 use Rattle.packet_store.specs.Kept.{is_flying}
 use Rattle.packet_store.specs.Stored.{Stored, lose_step, send_step}
@@ -32,7 +33,7 @@ use Rattle.sbp_world.specs.Worlds.{WorldState, without_notes}
 use Rattle.world_laws.specs.Lines.{HasIds}
 use Rattle.world_laws.specs.Knows.{Knows}
 use Rattle.world_laws.specs.Wires.{Stands}
-use Rattle.world_laws.proofs.Agrees.{reset_knows, sent_knows}
+use Rattle.world_laws.proofs.Agrees.{reset_knows, sends_agrees, sent_knows}
 use Rattle.world_laws.proofs.Latest.{other_knows}
 use Rattle.world_laws.proofs.Tells.{leads, tells}
 
@@ -67,6 +68,7 @@ loses_by past w line serial true e h = leads w (lost serial w) h (lose serial) (
   sights = h.is.sights;
   known_ids = h.is.known_ids;
   knows = h.is.knows;
+  fair = h.is.fair;
 })
 
 pub loses : (past : List Moment) (w : WorldState) (line serial : ℕ) → Stands past w → Stands past (lose_line line serial w)
@@ -107,6 +109,7 @@ resets past w line physical ids h =
           let a : g ≤ t.bus = subst (λ x. x ≤ t.bus) (h.is.sights node l) (aged h.wire node h.reached) in
           ap (λ (ids : ℕ → ℕ). ids peer) (ids_before all.facts (ids_of physical) g a) ∙ h.is.known_ids node peer l m;
       knows = let b = all.bus_is in reset_knows t _ (h.wire.bus + 1) (omega arith) (ids_before all.facts (ids_of physical)) h.is.knows;
+      fair = h.is.fair;
     })
 
 -- ---- bytes are injected
@@ -135,6 +138,7 @@ sent_past from to bytes store generation past = said (notes.Sent (store.last + 1
 
 -- both nodes are there, and the bytes have their IDs, as the sender knows them
 record Injects (w : WorldState) (from to : ℕ) (bytes : List ℕ) : Type 0 where
+  other : nat_eq 0 from ≡ false
   from_there : from ≤ length w.initiators
   to_there : to ≤ length w.initiators
   source : (header_of bytes).source ≡ id_of (topology_at w.generations from) from
@@ -149,6 +153,19 @@ injected_knows wire r from to bytes there to_there fit k =
     let marks : t.injected s ≡ true = ap (λ b. cond b true ((terms wire.past).injected s)) (let e : nat_eq s s ≡ true = grind arith in e) in
     let q : Sending = record { generation = (wire.layer from).generation; from = from; to = to; bytes = bytes; injected = t.injected s } in
     sent_knows s q t None (injected_begun q marks) (ap (λ x. x + 1) (last_is (holds wire r).follows)) (other_knows k q (record { from = there; to = to_there; bytes = small_anywhere bytes fit }))
+
+-- an injected packet is not the target's
+injected_fair : (wire : Wire) (from to : ℕ) (bytes : List ℕ) → nat_eq 0 from ≡ false → (terms wire.past).injects 0 ≡ false → (terms (sent_past from to bytes wire.store (wire.layer from).generation wire.past)).injects 0 ≡ false
+unfolding sent_past
+injected_fair wire from to bytes n e =
+    let s = wire.store.last + 1 in
+    let t : Terms = terms (said (notes.Injected s) ∷ wire.past) in
+    let q : Sending = record { generation = (wire.layer from).generation; from = from; to = to; bytes = bytes; injected = t.injected s } in
+    ap (λ (f : ℕ → Bool). f 0) (sends_agrees s q t).injects ∙ by_test (t.injected s) ∙ e
+  where
+    by_test : (b : Bool) → (if b then upd (terms wire.past).injects from true else (terms wire.past).injects) 0 ≡ (terms wire.past).injects 0
+    by_test true = ap (λ x. cond x true ((terms wire.past).injects 0)) n
+    by_test false = refl
 
 injects_to : (past : List Moment) (w : WorldState) (from to : ℕ) (bytes : List ℕ) → All (λ byte. byte < 256) bytes → Injects w from to bytes → Stands past w → Stands past (posted from to true bytes w)
 unfolding posted sent_past
@@ -187,6 +204,7 @@ injects_to past w from to bytes fit i h =
           (sent_ids (h.wire.store.last + 1) (h.wire.layer from).generation from to bytes (terms (said (notes.Injected (h.wire.store.last + 1)) ∷ h.wire.past)))
           ∙ h.is.known_ids node peer l m;
       knows = injected_knows h.wire h.reached from to bytes a b fit h.is.knows;
+      fair = injected_fair h.wire from to bytes i.other h.is.fair;
     })
 
 -- who has an ID
@@ -222,25 +240,28 @@ others from (Some to) (Some sender) node e = by_test (nat_eq sender from) (not (
     by_test true false f e = cc
     by_test false b f e = cc
 
-injects_from : (w : WorldState) (past : List Moment) (from to : ℕ) (bytes : List ℕ) → from ≤ length w.initiators → Stands past w → other_node from (node_of w.generations from (destination_in bytes)) (node_of w.generations from (source_in bytes)) ≡ Some to → Injects w from to bytes
+injects_from : (w : WorldState) (past : List Moment) (from to : ℕ) (bytes : List ℕ) → nat_eq 0 from ≡ false → from ≤ length w.initiators → Stands past w → other_node from (node_of w.generations from (destination_in bytes)) (node_of w.generations from (source_in bytes)) ≡ Some to → Injects w from to bytes
 unfolding header_of
-injects_from w past from to bytes l h e =
+injects_from w past from to bytes n l h e =
     let o = others from _ _ to e in
     let a = node_has (topology_at w.generations from) (destination_in bytes) to o.to_is in
     let b = node_has (topology_at w.generations from) (source_in bytes) from o.sender_is in
     let size = h.is.sizes from l in
     let there = a.there in
-    record { from_there = l; to_there = omega arith; source = sym b.id_is; destination = sym a.id_is }
+    record { other = n; from_there = l; to_there = omega arith; source = sym b.id_is; destination = sym a.id_is }
 
 injected_by : (past : List Moment) (w : WorldState) (line from : ℕ) (bytes : List ℕ) (to : Option ℕ) → All (λ byte. byte < 256) bytes → ((node : ℕ) → to ≡ Some node → Injects w from node bytes) → Stands past w → Stands past (injected to line from bytes w)
 injected_by past w line from bytes None fit i h = refuses past w line no_node h
 injected_by past w line from bytes (Some to) fit i h = injects_to past w from to bytes fit (i to refl) h
 
-injected_if : (past : List Moment) (w : WorldState) (from : ℕ) (bytes : List ℕ) (short : Bool) (to : Option ℕ) → from ≤ length w.initiators → Stands past w → (if short then None else to) ≡ (if short then None else other_node from (node_of w.generations from (destination_in bytes)) (node_of w.generations from (source_in bytes))) → (node : ℕ) → (if short then None else to) ≡ Some node → Injects w from node bytes
-injected_if past w from bytes true to l h e node f = cc
-injected_if past w from bytes false to l h e node f = injects_from w past from node bytes l h (sym e ∙ f)
+injected_if : (past : List Moment) (w : WorldState) (from : ℕ) (bytes : List ℕ) (short : Bool) (to : Option ℕ) → nat_eq 0 from ≡ false → from ≤ length w.initiators → Stands past w → (if short then None else to) ≡ (if short then None else other_node from (node_of w.generations from (destination_in bytes)) (node_of w.generations from (source_in bytes))) → (node : ℕ) → (if short then None else to) ≡ Some node → Injects w from node bytes
+injected_if past w from bytes true to n l h e node f = cc
+injected_if past w from bytes false to n l h e node f = injects_from w past from node bytes n l h (sym e ∙ f)
+
+not_zero_node : (i : ℕ) → nat_eq 0 (i + 1) ≡ false
+not_zero_node i = grind arith
 
 pub injects : (past : List Moment) (w : WorldState) (line initiator : ℕ) (bytes : List ℕ) → initiator < length w.initiators → All (λ byte. byte < 256) bytes → Stands past w → Stands past (inject_line line initiator bytes w)
 unfolding inject_line injected_to
 injects past w line initiator bytes l fit h =
-    injected_by past w line (initiator + 1) bytes (injected_to (initiator + 1) bytes w) fit (injected_if past w (initiator + 1) bytes (nat_lt (length bytes) 8) _ (omega arith) h refl) h
+    injected_by past w line (initiator + 1) bytes (injected_to (initiator + 1) bytes w) fit (injected_if past w (initiator + 1) bytes (nat_lt (length bytes) 8) _ (not_zero_node initiator) (omega arith) h refl) h

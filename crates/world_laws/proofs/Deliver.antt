@@ -40,7 +40,7 @@ use Rattle.sbp_world.specs.Worlds.{WorldState, with_note}
 use Rattle.world_laws.specs.Knows.{Knows}
 use Rattle.world_laws.specs.Wires.{IsWireAt, StandsAt}
 use Rattle.world_laws.proofs.Agrees.{Agrees, got_agrees, ignored_agrees, sent_knows, still_knows}
-use Rattle.world_laws.proofs.Asks.{own_layer, sent_past, sight_by}
+use Rattle.world_laws.proofs.Asks.{own_layer, sent_past, sight_by, still_fair}
 use Rattle.world_laws.proofs.Bus.{holds, sent_ids}
 use Rattle.world_laws.proofs.Found.{IsKnown, id_known, node_found}
 use Rattle.world_laws.proofs.Latest.{other_knows}
@@ -135,6 +135,7 @@ module _ {P : Type 0} {past : List Moment} {layers : ℕ → Node} (w : WorldSta
         sights = λ n l. sight_by w h sent.to there layer own found_now.1 n (nat_eq n sent.to) refl (judging_stays layer sent.generation sent.bytes) ∙ h.is.sights n l;
         known_ids = λ n peer l m. ap (λ (ids : ℕ → ℕ → ℕ). ids (topology_at w.generations n).generation peer) agrees.ids ∙ h.is.known_ids n peer l m;
         knows = still_knows agrees h.is.knows;
+        fair = ap (λ (f : ℕ → Bool). f 0) agrees.injects ∙ h.is.fair;
       }))
 
   pub judged_marked : (cause : Option Cause) → may_ignore cause ≡ true → found_sent serial w.store.kept ≡ Some sent → (again : Bool) → (terms h.wire.past).repeats ≡ again → (again ≡ false → is_flying serial w.store.kept ≡ true) → StandsAt past (upd layers sent.to (bare found_now.1)) (due_now cause) (with_note (note_now cause) (marked serial again w))
@@ -215,6 +216,7 @@ module _ {P : Type 0} {past : List Moment} {layers : ℕ → Node} (w : WorldSta
               (sent_ids (wire.store.last + 1) (wire.layer sent.to).generation sent.to sent.from answer_now.0 (terms wire.past))
               ∙ h.is.known_ids n peer l m;
           knows = answer_knows;
+          fair = still_fair wire h.reached sent.to sent.from answer_now.0 h.is.fair;
         })))
 
     pub answers_one : is_reply reply rcode ≡ true → Gives p rcode given → StandsAt past (upd layers sent.to (bare answer_now.1)) None (leaves sent.to (answer_to p answer_now.0) w)

@@ -1,8 +1,8 @@
 -- The lines of the bus, over every run.
-use Rattle.std.specs.Prelude.{◌≡◌, ◌≤◌, ◌<◌, ℕ, suc, ◌+◌, ◌^◌, ◌==◌, nat_lt, Bool, true, false, cond, if◌then◌else◌, List, [], ◌∷◌, ◌++◌, length, map, reverse, slice_index_or, Option, Some, None, refl}
+use Rattle.std.specs.Prelude.{◌≡◌, ◌≤◌, ◌<◌, ℕ, zero, suc, ◌+◌, ◌^◌, ◌==◌, nat_lt, Bool, true, false, cond, if◌then◌else◌, List, [], ◌∷◌, ◌++◌, length, map, reverse, slice_index_or, Option, Some, None, refl}
 use Rattle.std.proofs.Common.{arith, sym, ◌∙◌, ap, subst, inl, inr}
 use Rattle.std.proofs.lemmas.List.{reverse-reverse}
-use Rattle.bus_transactions.specs.May.{is_reset}
+use Rattle.std.specs.List.{AllByRecursion}
 use Rattle.rbc_disk.specs.Disk.{Disk}
 use Rattle.rbc_disk.specs.Runs.{Told}
 use Rattle.sbp_initiator.specs.Acting.{act_step}
@@ -20,7 +20,14 @@ use Rattle.sbp_journal.specs.declared.note.Note.{Note}
 use Rattle.sbp_journal.specs.declared.note.Note.TheVariants as notes
 use Rattle.sbp_journal.specs.declared.side.Side.{Side}
 use Rattle.sbp_journal.specs.declared.side.Side.TheVariants as sides
+use Rattle.sbp_journal.specs.Form.{HasForm}
 use Rattle.sbp_laws.specs.Budget.{flies, initiators}
+use Rattle.sbp_laws.specs.Lawful.{injectors}
+use Rattle.sbp_laws.specs.OnceLaw.{OnceLaw, is_wild}
+use Rattle.sbp_laws.specs.OnTheBus.{HasFormAt, LawfulOnTheBus}
+use Rattle.sbp_laws.specs.Turns.{EachMoment}
+use Rattle.sbp_world.proofs.LineForms.{form_law}
+use Rattle.sbp_world.specs.Forms.{AreForms}
 use Rattle.sbp_laws.specs.Deliveries.{AreDeliveries, AreLowest, EndsSettle, IsDelivery, IsTurnOf, SettlesWithin}
 use Rattle.sbp_laws.specs.LineLaw.{BringsLine, Either, LineLaw, TimesOut, injected as law_injected, may_inject, may_repeat as law_repeats, refused as law_refused}
 use Rattle.sbp_world.specs.Handing.{handed_out}
@@ -44,6 +51,7 @@ use Rattle.world_laws.proofs.Brings.{deliver_brings, inject_brings, key_brings, 
 use Rattle.world_laws.proofs.Gains.{all_sent}
 use Rattle.world_laws.proofs.Holding.{Sound, own_has, to_target}
 use Rattle.world_laws.proofs.Lowest.{reversed}
+use Rattle.world_laws.proofs.OnceHere.{once_here}
 use Rattle.world_laws.proofs.OwnActs.{AreStepSides, IsStepSide, acts}
 use Rattle.world_laws.proofs.Received.{IsTarget}
 use Rattle.world_laws.proofs.Runs.{SoundAfter, sound_after}
@@ -261,8 +269,34 @@ module _ (targets : FittingLaw) (own_fits : OwnFittingLaw) where
         counted = same_initiators e.notes (asked e.line e.event ∷ moments_behind line run before) (subst NoneBegins (sym all.0.notes_are) none) ∙ so_far.counted;
       }
 
+-- ---- each note has its form
+forms_of : (notes_now : List Note) (past : List Moment) → AllByRecursion HasForm notes_now → EachMoment HasFormAt past → EachMoment HasFormAt (map said notes_now ++ past)
+forms_of [] past f e = e
+forms_of (note ∷ ns) past f e = (f.0, forms_of ns past f.1 e)
+
+all_forms : (line : ℕ) (run : Run) (entries : List Entry) → AllByRecursion AreForms entries → EachMoment HasFormAt (moments_behind line run entries)
+all_forms line run [] f = (tt, (tt, tt))
+all_forms line run (e ∷ before) f = forms_of e.notes (asked e.line e.event ∷ moments_behind line run before) f.0 (tt, all_forms line run before f.1)
+
+-- ---- a write is taken as new once
+covers : (past : List Moment) → (terms past).injects 0 ≡ false → (n : ℕ) → (terms past).injects n ≡ true → is_wild (injectors past) n ≡ true
+covers past fair zero e = cc
+covers past fair (suc i) e = e
+
+once_behind : {past : List Moment} (w : WorldState) (h : Stands past w) (now : List Moment) → map said w.fresh ++ past ≡ now → OnceLaw (injectors now) now
+once_behind w h now e =
+    let is = h.is.past_is ∙ e in
+    subst (λ p. OnceLaw (injectors p) p) is (once_here (injectors h.wire.past) h.wire h.reached (covers h.wire.past h.is.fair))
+
+run_lawful : (line : ℕ) (run : Run) → run.initiators ≤ 4 → run.units ≡ length run.start.disks → length run.entries + 2 < 2 ^ 32 → AreEntries (beginning run) run.entries → AreLines run run.entries → LawfulOnTheBus (injectors (history_of line run)) (journal_run line run)
+run_lawful line run few units most all fit =
+    let tie = tie_all line run run.entries in
+    let b = sound_after fitting_law own_fitting_law line run run.entries few most all fit in
+    record {
+      form = subst (λ p. EachMoment HasFormAt p) (sym tie) (all_forms line run run.entries (form_law.runs run (after (beginning run) run.entries) (record { state = refl; lines = all })));
+      once = subst (λ p. OnceLaw (injectors (history_of line run)) p) (sym tie) (once_behind (after (beginning run) run.entries).world b.sound.stands (history_of line run) b.is);
+      lines = (run_brings fitting_law own_fitting_law line run run.entries few units most all fit).lines;
+    }
+
 pub bus_law : BusLaw
-bus_law = record {
-  tie = λ line run. tie_all line run run.entries;
-  lines = λ line run few units most all fit. (run_brings fitting_law own_fitting_law line run run.entries few units most all fit).lines;
-}
+bus_law = record { tie = λ line run. tie_all line run run.entries; lawful = run_lawful }

@@ -1,5 +1,5 @@
 -- A transaction times out: the request that is found by the serial is the present one of its transaction.
-use Rattle.std.specs.Prelude.{◌≡◌, ◌≤◌, ℕ, nat_eq, is_ok, cond, List, ◌∷◌, length, Option, Some, None, Result, Ok, Err, refl}
+use Rattle.std.specs.Prelude.{◌≡◌, ◌≤◌, ℕ, nat_eq, is_ok, Bool, cond, List, ◌∷◌, length, Option, Some, None, Result, Ok, Err, refl}
 use Rattle.std.proofs.Common.{sym, ◌∙◌, ap, subst}
 use Rattle.sbp_base.specs.Update.{upd}
 use Rattle.async_packet.specs.Labels.{LabelParts}
@@ -111,6 +111,7 @@ module _ {P : Type 0} {past : List Moment} {layers : ℕ → Node} (w : WorldSta
         sights = λ n l. sight_by w h request.node there layer own new n (nat_eq n request.node) refl stays ∙ h.is.sights n l;
         known_ids = λ n peer l m. ap (λ (ids : ℕ → ℕ → ℕ). ids (topology_at w.generations n).generation peer) agrees.ids ∙ h.is.known_ids n peer l m;
         knows = still_knows agrees h.is.knows;
+        fair = ap (λ (f : ℕ → Bool). f 0) agrees.injects ∙ h.is.fair;
       }))
 
   -- and then nodes are asked

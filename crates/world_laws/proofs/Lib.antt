@@ -37,5 +37,6 @@ pub mod UnderWay
 pub mod TargetSizes
 pub mod Sizes
 pub mod Begun
+pub mod OnceHere
 pub mod Brings
 pub mod Entries

@@ -44,6 +44,7 @@ nodes_beside w h target initiators n = record {
     sights = λ k l. h.is.sights k (subst (λ m. k ≤ m) n l);
     known_ids = λ k peer l m. h.is.known_ids k peer (subst (λ x. k ≤ x) n l) (subst (λ x. peer ≤ x) n m);
     knows = subst (λ m. Knows w.requests m (terms h.wire.past)) (sym n) h.is.knows;
+    fair = h.is.fair;
   };
 }
 

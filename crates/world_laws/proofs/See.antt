@@ -102,6 +102,7 @@ module _ (past : List Moment) (w : WorldState) (node : ℕ) (there : node ≤ le
             ∙ ids_case k peer (nat_eq k node) (omega arith) (omega arith)
             ∙ ap (λ (t : Topology). id_of t peer) (sym (new_topology k));
         knows = subst (λ m. Knows w.requests m (terms h.wire.past)) (sym n) h.is.knows;
+        fair = h.is.fair;
       })
 
 -- the other nodes have the layers that they had

@@ -112,6 +112,7 @@ begins line initiators ready units few =
         sights = λ k l. ap (λ (t : Topology). t.generation) (sym (known k l));
         known_ids = λ k peer l m. ids peer m ∙ ap (λ (t : Topology). id_of t peer) (sym (known k l));
         knows = record { ours = λ s q e. cc; size = length-replicate {A = ℕ} 1600 0; rise = tt; latest = λ s request e. cc };
+        fair = refl;
       };
     }
 

@@ -1,5 +1,5 @@
 -- What is told of other things than the wire, and the lines that begin.
-use Rattle.std.specs.Prelude.{◌≡◌, ℕ, true, false, List, [], ◌∷◌, ◌++◌, map, Option, refl}
+use Rattle.std.specs.Prelude.{◌≡◌, ℕ, Bool, true, false, List, [], ◌∷◌, ◌++◌, map, Option, refl}
 use Rattle.std.proofs.Common.{◌∙◌, ap}
 use Rattle.bus_transactions.specs.May.{May, is_plain, is_reset}
 use Rattle.bus_transactions.specs.Moves.{Move, tell, start, moved}
@@ -47,6 +47,7 @@ tells past w note plain h = leads w (with_note note w) h (tell note) plain (reco
   known_ids = λ node peer l m.
       ap (λ (t : Terms). t.ids (topology_at w.generations node).generation peer) (plain_terms note (terms h.wire.past) plain) ∙ h.is.known_ids node peer l m;
   knows = still_knows (plain_agrees note (terms h.wire.past) plain) h.is.knows;
+  fair = ap (λ (f : ℕ → Bool). f 0) (plain_agrees note (terms h.wire.past) plain).injects ∙ h.is.fair;
 })
 
 -- places and loads are no part of the wire
@@ -68,6 +69,7 @@ places_beside past w places loads h = record {
     sights = h.is.sights;
     known_ids = h.is.known_ids;
     knows = h.is.knows;
+    fair = h.is.fair;
   };
 }
 
@@ -103,6 +105,7 @@ starts past w line event other h = leads w (without_notes w) h (start line event
   known_ids = λ node peer l m.
       ap (λ (ids : ℕ → ℕ → ℕ). ids (topology_at w.generations node).generation peer) (opened_ids event (terms h.wire.past) other) ∙ h.is.known_ids node peer l m;
   knows = still_knows (opened_agrees event (terms h.wire.past) other) h.is.knows;
+  fair = ap (λ (f : ℕ → Bool). f 0) (opened_agrees event (terms h.wire.past) other).injects ∙ h.is.fair;
 })
 
 -- ---- what a node tells

@@ -9,7 +9,8 @@ use Rattle.sbp_world.specs.Histories.{history_of, moments_behind}
 use Rattle.sbp_world.specs.Making.{new_world}
 use Rattle.sbp_world.specs.Runs.{AreEntries, Entry, Run, after, beginning}
 use Rattle.sbp_world.specs.Worlds.{WorldState}
-use Rattle.sbp_laws.specs.LineLaw.{LineLaw}
+use Rattle.sbp_laws.specs.Lawful.{injectors}
+use Rattle.sbp_laws.specs.OnTheBus.{LawfulOnTheBus}
 use Rattle.world_laws.specs.History.{IsOfWire}
 use Rattle.world_laws.specs.Journal.{journal_run}
 use Rattle.world_laws.specs.Wires.{Stands}
@@ -48,8 +49,8 @@ pub record RunLaw : Type 0 where
   pub has_laws : (past : List Moment) (w : WorldState) → Stands past w → IsOfWire (map said w.fresh ++ past)
   pub runs : (line : ℕ) (run : Run) → run.initiators ≤ 4 → length run.entries + 2 < 2 ^ 32 → AreEntries (beginning run) run.entries → AreLines run run.entries → StandsAfter line run run.entries (after (beginning run) run.entries).world
 
--- The history of a run of the machine is that of its journal. And of such a run, over as many media as it has units, each line of the bus brings
--- what the laws say of it: which packets are delivered, and which lines are refused.
+-- The history of a run of the machine is that of its journal. And such a run, over as many media as it has units, has the part of the laws that is
+-- of the bus, for the initiators that injected no packets: the form of its notes, the once law, and what each line of the bus brings.
 pub record BusLaw : Type 0 where
   pub tie : (line : ℕ) (run : Run) → history (journal_run line run).entries ≡ history_of line run
-  pub lines : (line : ℕ) (run : Run) → run.initiators ≤ 4 → run.units ≡ length run.start.disks → length run.entries + 2 < 2 ^ 32 → AreEntries (beginning run) run.entries → AreLines run run.entries → LineLaw run.start.disks (journal_run line run).entries
+  pub lawful : (line : ℕ) (run : Run) → run.initiators ≤ 4 → run.units ≡ length run.start.disks → length run.entries + 2 < 2 ^ 32 → AreEntries (beginning run) run.entries → AreLines run run.entries → LawfulOnTheBus (injectors (history_of line run)) (journal_run line run)

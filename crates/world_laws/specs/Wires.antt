@@ -23,7 +23,7 @@ abbrev pub layers_of : WorldState → ℕ → Node
 layers_of w = layer_in w.target.layer w.initiators
 
 -- What has happened before the notes of the world's present line stands in `past`. Each node is in the generation that the bus tells the
--- world of it, and knows the IDs that the history gives to the nodes in that generation. The nodes have these layers: those of the world,
+-- world of it, and knows the IDs that the history gives to the nodes in that generation. The target injects nothing. The nodes have these layers: those of the world,
 -- but for a node whose packets are still to leave; and a request may have to be answered first.
 pub record IsWireAt (past : List Moment) (layers : ℕ → Node) (due : Option Due) (w : WorldState) (wire : Wire) : Type 0 where
   pub store_is : wire.store ≡ w.store
@@ -39,6 +39,7 @@ pub record IsWireAt (past : List Moment) (layers : ℕ → Node) (due : Option D
   pub sights : (node : ℕ) → node ≤ length w.initiators → (wire.layer node).generation ≡ (topology_at w.generations node).generation
   pub known_ids : (node peer : ℕ) → node ≤ length w.initiators → peer ≤ length w.initiators → (terms wire.past).ids (topology_at w.generations node).generation peer ≡ id_of (topology_at w.generations node) peer
   pub knows : Knows w.requests (length w.initiators) (terms wire.past)
+  pub fair : (terms wire.past).injects 0 ≡ false
 
 -- A world stands for a wire that moves lead to, with these layers of its nodes, and this request to be answered.
 pub record StandsAt (past : List Moment) (layers : ℕ → Node) (due : Option Due) (w : WorldState) : Type 0 where

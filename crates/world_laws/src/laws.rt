@@ -8,9 +8,9 @@ pub fn lines_are_moves()
     ensures { RunLaw }
 {}
 
-/// The lines of the bus bring what the action law says of them, in every run: which packets they deliver, and when
-/// they are refused; of a settle, up to a number of deliveries.
+/// Every run of the machine has the part of the laws that is of the bus: each note has its form, a write is taken as
+/// new at most once, and the lines bring the deliveries, refusals and ends that they ask for.
 #[tactic(auto, using(crate::proofs::Entries::bus_law))]
-pub fn lines_bring_their_deliveries()
+pub fn runs_are_lawful_on_the_bus()
     ensures { BusLaw }
 {}

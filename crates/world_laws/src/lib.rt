@@ -3,4 +3,4 @@
 
 mod laws;
 
-pub use laws::{lines_are_moves, lines_bring_their_deliveries};
+pub use laws::{lines_are_moves, runs_are_lawful_on_the_bus};
