@@ -36,7 +36,7 @@ use Rattle.sbp_command.specs.Machine.{events_of, journal}
 use Rattle.sbp_command.specs.Runner.{scene_of}
 use Rattle.sbp_command.proofs.Kept.{world_fresh}
 use Rattle.sbp_command.proofs.Media.{run_fits, run_leaves}
-use Rattle.sbp_command.proofs.Wires.{more_lines, run_of_wire}
+use Rattle.sbp_command.proofs.Wires.{more_lines, run_of_wire, run_on_bus}
 
 -- ---- the lines that are left
 
@@ -107,6 +107,7 @@ drill_over start media all left line tally w l few h = record {
     media_fit = run_fits h.run start media h.start_is h.few h.stands.lines (ap (λ s. s.media) h.stands.state);
     leaves = run_leaves 1 h.run start media h.start_is h.few h.stands.lines (ap (λ s. s.media) h.stands.state);
     of_wire = run_of_wire 1 h.run h.few (let count = h.count in omega (arith, count, few)) h.stands.lines h.lines;
+    on_the_bus = run_on_bus 1 h.run start h.start_is h.units_are h.few (let count = h.count in omega (arith, count, few)) h.stands.lines h.lines;
   };
   tally_is = h.tally_is;
 }

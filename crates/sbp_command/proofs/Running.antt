@@ -37,7 +37,7 @@ use Rattle.sbp_command.specs.Headline.{ending, status_of, Torn, RunEnds}
 use Rattle.sbp_command.proofs.Fits.{line_begins, line_fits, line_is}
 use Rattle.sbp_command.proofs.Media.{left_by_notes, run_fits, run_leaves}
 use Rattle.sbp_command.proofs.Kept.{happens_keeps, world_count, world_units}
-use Rattle.sbp_command.proofs.Wires.{entries_few, more_lines, run_of_wire}
+use Rattle.sbp_command.proofs.Wires.{entries_few, more_lines, run_of_wire, run_on_bus}
 use Rattle.sbp_command.proofs.ScriptLines.{begun_by-more, events_few, served-next, served-more, served-fault, says-within, refused-says}
 
 -- ---- how a run begins
@@ -273,6 +273,7 @@ tells_by start media happened text (Some w) few h = record {
     media_fit = run_fits h.run start media h.start_is h.few h.stands.lines (ap (λ s. s.media) h.stands.state);
     leaves = run_leaves h.line h.run start media h.start_is h.few h.stands.lines (ap (λ s. s.media) h.stands.state);
     of_wire = run_of_wire h.line h.run h.few (entries_few h.line h.run happened h.events_are few) h.stands.lines h.lines;
+    on_the_bus = run_on_bus h.line h.run start h.start_is h.units_are h.few (entries_few h.line h.run happened h.events_are few) h.stands.lines h.lines;
   });
   text_is = h.text_is;
 }

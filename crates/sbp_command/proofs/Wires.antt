@@ -1,12 +1,17 @@
--- The history of a run of the machine keeps the laws of the wire, where its events are those of lines.
-use Rattle.std.proofs.Common.{◌≡◌, refl, ap, subst, ℕ, suc, ◌+◌, ◌^◌, ◌<◌, ◌≤◌, List, [], ◌∷◌, ◌++◌, length, arith}
+-- The history of a run of the machine keeps the laws of the wire, and those of the bus, where its events are those of lines.
+use Rattle.std.proofs.Common.{◌≡◌, ◌∙◌, refl, sym, ap, subst, ℕ, suc, ◌+◌, ◌^◌, ◌<◌, ◌≤◌, List, [], ◌∷◌, ◌++◌, length, arith}
 use Rattle.std.proofs.lemmas.List.{length-append}
 use Rattle.sbp_journal.specs.declared.event.Event.{Event}
 use Rattle.sbp_world.specs.Histories.{history_of}
 use Rattle.sbp_world.specs.Runs.{AreEntries, Entry, Run, after, beginning, with_entry}
 use Rattle.sbp_world.specs.Worlds.{Scene}
+use Rattle.rbc_disk.specs.Held.{Held}
+use Rattle.sbp_laws.specs.Lawful.{injectors}
+use Rattle.sbp_laws.specs.OnTheBus.{LawfulOnTheBus}
 use Rattle.world_laws.specs.History.{IsOfWire}
+use Rattle.world_laws.specs.Journal.{journal_run}
 use Rattle.world_laws.specs.Lines.{AreLines, IsLine}
+use Rattle.world_laws.proofs.Entries.{bus_law}
 use Rattle.world_laws.proofs.Runs.{all_runs}
 use Rattle.sbp_command.specs.Machine.{events_in, events_of}
 
@@ -42,3 +47,8 @@ pub run_of_wire : (line : ℕ) (run : Run) → run.initiators ≤ 4 → length r
 run_of_wire line run few count all lines =
     let most : length run.entries + 2 < 2 ^ 32 = omega arith in
     (all_runs.runs line run few most all lines).has_laws
+
+pub run_on_bus : (line : ℕ) (run : Run) (start : Held) → run.start ≡ start → run.units ≡ length start.disks → run.initiators ≤ 4 → length run.entries ≤ 65535 → AreEntries (beginning run) run.entries → AreLines run run.entries → LawfulOnTheBus (injectors (history_of line run)) (journal_run line run)
+run_on_bus line run start same units few count all lines =
+    let most : length run.entries + 2 < 2 ^ 32 = omega arith in
+    bus_law.lawful line run few (units ∙ ap (λ m. length m.disks) (sym same)) most all lines

@@ -9,7 +9,10 @@ use Rattle.sbp_world.specs.Histories.{history_of}
 use Rattle.sbp_target.specs.Faults.{NoneFell}
 use Rattle.sbp_world.specs.Making.{notes_begin}
 use Rattle.sbp_world.specs.Runs.{AreEntries, Entry, Run, after, beginning}
+use Rattle.sbp_laws.specs.Lawful.{injectors}
+use Rattle.sbp_laws.specs.OnTheBus.{LawfulOnTheBus}
 use Rattle.world_laws.specs.History.{IsOfWire}
+use Rattle.world_laws.specs.Journal.{journal_run}
 
 -- the numbered events of some lines, in their order
 abbrev pub events_in : List Entry → List (ℕ × Event)
@@ -31,7 +34,7 @@ journal run = notes_begin run.initiators run.ready ∷ notes_in run.entries
 
 -- A run of the machine, over exactly these events and from what the media held at first: its notes, and what it leaves of the media. That is
 -- what the notes alone say of them: each medium holds what the disk fold gives, and each failing run raised its count. And its history
--- keeps the laws of the wire.
+-- keeps the laws of the wire, and its journal the part of the laws that is of the bus.
 pub record HasRun (start : Held) (happened : List (ℕ × Event)) (notes : List Note) (now : Held) : Type 0 where
   pub line : ℕ
   pub run : Run
@@ -44,6 +47,7 @@ pub record HasRun (start : Held) (happened : List (ℕ × Event)) (notes : List 
   pub media_fit : now ≡ media_after (reverse notes) start
   pub leaves : LeavesMedia start (history_of line run) now
   pub of_wire : IsOfWire (history_of line run)
+  pub on_the_bus : LawfulOnTheBus (injectors (history_of line run)) (journal_run line run)
 
 -- No run begins: there is no event and no note, and the media are as they were.
 pub record HasNone (start : Held) (happened : List (ℕ × Event)) (notes : List Note) (now : Held) : Type 0 where
