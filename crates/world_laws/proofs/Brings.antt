@@ -1,21 +1,16 @@
 -- What each line of the bus brings, in the words of the laws: which packets it delivers, and when it is refused.
-use Rattle.std.specs.Prelude.{◌≡◌, ◌⊎◌, ◌≤◌, ◌<◌, ℕ, zero, suc, ◌+◌, ◌-◌, ◌&&◌, nat_lt, is_none, is_some, Bool, true, false, cond, if◌then◌else◌, List, [], ◌∷◌, ◌++◌, length, map, reverse, Option, Some, None, refl}
+use Rattle.std.specs.Prelude.{◌≡◌, ◌⊎◌, ◌≤◌, ◌<◌, ℕ, suc, ◌+◌, ◌-◌, ◌&&◌, nat_lt, is_none, is_some, Bool, true, false, if◌then◌else◌, List, [], ◌∷◌, ◌++◌, length, map, reverse, Option, Some, None, refl}
 use Rattle.std.proofs.Common.{arith, sym, ◌∙◌, ap, subst, inl, inr}
-use Rattle.std.proofs.lemmas.List.{reverse-append}
 use Rattle.packet_store.specs.declared.sent.Sent.{Sent}
 use Rattle.packet_store.specs.Kept.{found_sent, first, flying, is_flying}
 use Rattle.packet_store.specs.Stored.{Stored}
-use Rattle.rbc_disk.specs.Disk.{Disk}
 use Rattle.rbc_disk.specs.Runs.{Told}
-use Rattle.sbp_journal.specs.Run.{Moment, asked, said}
+use Rattle.sbp_journal.specs.Run.{Moment, said}
 use Rattle.sbp_journal.specs.Wire.{Terms, terms}
-use Rattle.sbp_journal.specs.declared.event.Event.TheVariants as events
-use Rattle.sbp_journal.specs.declared.note.Note.{Note}
 use Rattle.sbp_journal.specs.declared.note.Note.TheVariants as notes
 use Rattle.sbp_laws.specs.Budget.{flies, lowest_in_flight}
 use Rattle.sbp_laws.specs.Deliveries.{AreDeliveries, EndsSettle, IsDelivery, IsTurnOf, NoneFlies, SettlesWithin, deliveries, once_told}
 use Rattle.sbp_laws.specs.LineLaw.{Either, TimesOut, injected as law_injected, may_inject, may_repeat as law_repeats, node_from, refused as law_refused}
-use Rattle.sbp_laws.specs.Packets.{is_under_way}
 use Rattle.sbp_world.specs.declared.requests.Request.{Request}
 use Rattle.sbp_world.specs.Delivering.{delivered}
 use Rattle.sbp_world.specs.Generations.{topology_at}
@@ -24,7 +19,7 @@ use Rattle.sbp_world.specs.Nodes.{reset_line, see_line, tick_line}
 use Rattle.sbp_world.specs.Packets.{delivered_if, destination_in, expires, first_told, inject_line, injected, injected_to, is_in_flight, lose_line, lost, may_repeat, no_packet, refused, timed_out, timeout_line, timeout_of}
 use Rattle.sbp_world.specs.Requests.{find}
 use Rattle.sbp_world.specs.Sending.{posted}
-use Rattle.sbp_world.specs.Settling.{AreUpTo, MayAll, MayAt, MayNext, after_all, budget, delivered_at, delivered_next, end_note, is_settled, lowest, settled}
+use Rattle.sbp_world.specs.Settling.{AreUpTo, MayAll, MayAt, MayNext, after_all, delivered_at, delivered_next, end_note, is_settled, lowest, settled}
 use Rattle.sbp_target.specs.Receiving.{with_key}
 use Rattle.sbp_world.specs.Worlds.{Scene, WorldState, initiator_at, with_note, with_target, without_notes}
 use Rattle.initiator_laws.specs.Fitting.{FittingLaw as OwnFittingLaw}
@@ -123,9 +118,11 @@ module _ {past : List Moment} (w : WorldState) (h : Stands past w) (line serial 
   module _ (aimed : (i : ℕ) → i < length w.initiators → IsTarget w (suc i) (initiator_at w i).target) (none : w.fresh ≡ []) where
     lapse_by : (request : Request) (b : Bool) → find w.requests serial ≡ Some request → (expires request w).0 ≡ b → TimesOut terms_now line serial (reverse (timed_out line serial request.node (expires request w)).fresh)
     lapse_by request true found e =
-        inl (expired_was w h serial request found aimed e,
-        turn_alone (notes.TimedOut serial) (timed_out line serial request.node (expires request w)).fresh
-        (subst (λ ns. Turned (notes.TimedOut serial) ns (timed_out line serial request.node (expires request w)).fresh) none (lapse_turns line serial request w e)))
+        inl (
+          expired_was w h serial request found aimed e,
+          turn_alone (notes.TimedOut serial) (timed_out line serial request.node (expires request w)).fresh
+              (subst (λ ns. Turned (notes.TimedOut serial) ns (timed_out line serial request.node (expires request w)).fresh) none (lapse_turns line serial request w e)),
+        )
     lapse_by request false found e =
         inr (ap reverse (stale_refuses line serial request w e) ∙ ap (λ ns. reverse (notes.Refused line no_packet ∷ ns)) none)
 
@@ -210,9 +207,10 @@ module _ (targets : FittingLaw) (initiators : OwnFittingLaw) {past : List Moment
       let h = r.sound_now.stands in
       let low : lowest_in_flight (terms (map said s.world.fresh ++ past)) ≡ Some serial =
       ap (λ ms. lowest_in_flight (terms ms)) (sym h.is.past_is) ∙ sym (lowest_here s.world h) ∙ e in
-      let flown : is_flying serial s.world.store.kept ≡ true = first_flies (flying s.world.store.kept) serial e in
-      (next_heard targets initiators told fits s r.sound_now once (Some serial) e,
-      one_more past (length before) serial s.world.fresh (delivered serial false told s).world.fresh r.many low (kept_delivers s h serial false told (found_here s.world h serial flown)))
+      let flown : is_flying serial s.world.store.kept ≡ true = first_flies (flying s.world.store.kept) serial e in (
+        next_heard targets initiators told fits s r.sound_now once (Some serial) e,
+        one_more past (length before) serial s.world.fresh (delivered serial false told s).world.fresh r.many low (kept_delivers s h serial false told (found_here s.world h serial flown)),
+      )
 
   ran : (told : List (Option Told)) → AreTold told → MayAll told start → Ran told
   unfolding delivered_next MayNext

@@ -1,15 +1,12 @@
 -- The lines of the bus, over every run.
-use Rattle.std.specs.Prelude.{◌≡◌, ◌≤◌, ◌<◌, ℕ, zero, suc, ◌+◌, ◌^◌, ◌==◌, nat_lt, Bool, true, false, cond, if◌then◌else◌, List, [], ◌∷◌, ◌++◌, length, map, reverse, slice_index_or, Option, Some, None, refl}
+use Rattle.std.specs.Prelude.{◌≡◌, ◌≤◌, ◌<◌, ℕ, zero, suc, ◌+◌, ◌^◌, nat_lt, Bool, true, false, if◌then◌else◌, List, [], ◌∷◌, ◌++◌, length, map, reverse, Option, Some, None, refl}
 use Rattle.std.proofs.Common.{arith, sym, ◌∙◌, ap, subst, inl, inr}
 use Rattle.std.proofs.lemmas.List.{reverse-reverse}
 use Rattle.std.specs.List.{AllByRecursion}
 use Rattle.rbc_disk.specs.Disk.{Disk}
 use Rattle.rbc_disk.specs.Runs.{Told}
 use Rattle.sbp_initiator.specs.Acting.{act_step}
-use Rattle.sbp_initiator.specs.Effects.{Turn}
-use Rattle.sbp_initiator.specs.Initiators.{new_state}
 use Rattle.sbp_initiator.specs.declared.state.InitiatorState.{InitiatorState}
-use Rattle.sbp_journal.specs.Run as journal
 use Rattle.sbp_journal.specs.Run.{Moment, asked, said, history}
 use Rattle.sbp_journal.specs.Wire.{Terms, terms}
 use Rattle.sbp_journal.specs.Outgoings.{OutboxState, empty_outbox}
@@ -28,13 +25,10 @@ use Rattle.sbp_laws.specs.OnTheBus.{HasFormAt, LawfulOnTheBus}
 use Rattle.sbp_laws.specs.Turns.{EachMoment}
 use Rattle.sbp_world.proofs.LineForms.{form_law}
 use Rattle.sbp_world.specs.Forms.{AreForms}
-use Rattle.sbp_laws.specs.Deliveries.{AreDeliveries, AreLowest, EndsSettle, IsDelivery, IsTurnOf, SettlesWithin}
+use Rattle.sbp_laws.specs.Deliveries.{AreLowest, EndsSettle, IsDelivery, IsTurnOf, SettlesWithin}
 use Rattle.sbp_laws.specs.LineLaw.{BringsLine, Either, LineLaw, TimesOut, injected as law_injected, may_inject, may_repeat as law_repeats, refused as law_refused}
-use Rattle.sbp_world.specs.Handing.{handed_out}
 use Rattle.sbp_world.specs.Histories.{history_of, moments_behind}
 use Rattle.sbp_world.specs.Lines.{MayHappen, MayTellIn, acted, acted_by, happens, happens_to, weight_in}
-use Rattle.sbp_world.specs.Making.{notes_begin}
-use Rattle.sbp_world.specs.Packets.{may_repeat}
 use Rattle.sbp_world.specs.Runs.{AreEntries, Entry, Run, after, beginning}
 use Rattle.sbp_world.specs.Settling.{budget}
 use Rattle.sbp_world.specs.Telling.{told, told_all}
@@ -54,7 +48,7 @@ use Rattle.world_laws.proofs.Lowest.{reversed}
 use Rattle.world_laws.proofs.OnceHere.{once_here}
 use Rattle.world_laws.proofs.OwnActs.{AreStepSides, IsStepSide, acts}
 use Rattle.world_laws.proofs.Received.{IsTarget}
-use Rattle.world_laws.proofs.Runs.{SoundAfter, sound_after}
+use Rattle.world_laws.proofs.Runs.{sound_after}
 use Rattle.world_laws.proofs.Sizes.{Sizes, happens_keeps, new_sizes, sizes}
 use Rattle.world_laws.proofs.Sound.{opens}
 use Rattle.world_laws.proofs.ToldBytes.{AreTold, happened_fits}
@@ -263,7 +257,7 @@ module _ (targets : FittingLaw) (own_fits : OwnFittingLaw) where
       record {
         lines = (
           subst (λ ns. BringsLine run.start.disks (history (journal_entries line run before)) e.line e.event (reverse ns)) (sym all.0.notes_are)
-          (subst (λ p. BringsLine run.start.disks p e.line e.event (reverse (happens e.line e.event e.told s).world.fresh)) (b.is ∙ sym (tie_all line run before)) brings),
+              (subst (λ p. BringsLine run.start.disks p e.line e.event (reverse (happens e.line e.event e.told s).world.fresh)) (b.is ∙ sym (tie_all line run before)) brings),
           so_far.lines,
         );
         counted = same_initiators e.notes (asked e.line e.event ∷ moments_behind line run before) (subst NoneBegins (sym all.0.notes_are) none) ∙ so_far.counted;

@@ -1,6 +1,6 @@
 -- What the history says of the packets of a world: its store has in flight exactly those that are in flight, the lowest of them is the lowest, and
 -- those that may be repeated are exactly those that it has among the last 1,024 serials.
-use Rattle.std.specs.Prelude.{◌≡◌, ◌≤◌, ◌<◌, ℕ, zero, suc, ◌+◌, ◌-◌, ◌==◌, ◌&&◌, nat_eq, nat_lt, is_some, Bool, true, false, cond, if◌then◌else◌, List, [], ◌∷◌, Option, Some, None, IfSome, IfNone, refl}
+use Rattle.std.specs.Prelude.{◌≡◌, ◌≤◌, ◌<◌, ℕ, zero, suc, ◌+◌, ◌-◌, ◌==◌, ◌&&◌, nat_eq, nat_lt, is_some, Bool, true, false, cond, List, [], ◌∷◌, Option, Some, None, IfSome, IfNone, refl}
 use Rattle.std.proofs.Common.{arith, sym, ◌∙◌, ap, subst}
 use Rattle.packet_store.specs.declared.sent.Sent.{Sent}
 use Rattle.packet_store.specs.declared.sent.Kept.{Kept}
@@ -18,7 +18,7 @@ use Rattle.bus_transactions.proofs.Follows.{Follows, kept_is, last_is}
 use Rattle.sbp_journal.specs.Transactions.{Sending}
 use Rattle.sbp_journal.specs.Wire.{Flight, Terms, unsent, in_flight, delivered, lost, withdrawn}
 use Rattle.sbp_laws.specs.Budget.{flies, lowest_flying, lowest_in_flight}
-use Rattle.sbp_laws.specs.LineLaw.{is_known, may_repeat}
+use Rattle.sbp_laws.specs.LineLaw.{is_known}
 
 -- ---- a packet in flight, or delivered, was sent
 abbrev is_there : StoreFlight → Bool

@@ -1,16 +1,15 @@
 -- The node that an injected packet names, as the law and as the world find it.
 use Rattle.std.specs.Prelude.{◌≡◌, ◌≤◌, ◌<◌, ℕ, zero, suc, ◌+◌, ◌==◌, ◌&&◌, ◌||◌, not, nat_eq, nat_lt, nat_le, Bool, true, false, cond, if◌then◌else◌, List, length, Option, Some, None, refl}
-use Rattle.std.proofs.Common.{arith, sym, ◌∙◌, ap, subst}
-use Rattle.sbp_base.specs.Quadlets.{quad}
+use Rattle.std.proofs.Common.{arith, sym, ◌∙◌, ap}
 use Rattle.sbp_journal.specs.Run.{Moment}
 use Rattle.sbp_journal.specs.Wire.{Terms, terms}
-use Rattle.sbp_laws.specs.LineLaw.{high_half, may_inject, names_node, node_from}
+use Rattle.sbp_laws.specs.LineLaw.{may_inject, names_node, node_from}
 use Rattle.sbp_laws.specs.Packets.{id_for, id_of}
-use Rattle.sbp_world.specs.Generations.{id_of as world_id, node_in, node_of, topology_at}
+use Rattle.sbp_world.specs.Generations.{id_of as world_id, node_of, topology_at}
 use Rattle.sbp_world.specs.Packets.{destination_in, injected_to, other_node, source_in}
 use Rattle.sbp_world.specs.Worlds.{WorldState}
 use Rattle.world_laws.specs.Wires.{Stands}
-use Rattle.world_laws.proofs.Bus.{Has, holds, node_has}
+use Rattle.world_laws.proofs.Bus.{holds, node_has}
 use Rattle.world_laws.proofs.Found.{node_found}
 
 -- ---- by the terms

@@ -1,5 +1,5 @@
 -- The once law of the laws, over every list of moves: it follows from that of the wire.
-use Rattle.std.specs.Prelude.{◌≡◌, ◌≤◌, ℕ, zero, suc, ◌+◌, ◌==◌, ◌&&◌, not, nat_eq, Bool, true, false, cond, if◌then◌else◌, List, [], ◌∷◌, Option, Some, None, Result, Ok, Err, refl}
+use Rattle.std.specs.Prelude.{◌≡◌, ℕ, ◌+◌, ◌==◌, ◌&&◌, not, nat_eq, Bool, true, false, cond, if◌then◌else◌, List, [], ◌∷◌, Option, Some, None, Result, Ok, Err, refl}
 use Rattle.std.proofs.Common.{arith, sym, ◌∙◌, ap, subst}
 use Rattle.sbp_base.specs.Update.{upd}
 use Rattle.async_packet.specs.declared.fault.PacketFault.{PacketFault}
@@ -18,8 +18,8 @@ use Rattle.bus_transactions.specs.Wire.{Due, Node, Wire, decided, first_note, id
 use Rattle.bus_transactions.proofs.MoveOthers.{plain_terms}
 use Rattle.bus_transactions.proofs.PacketLaws.{once_always, served_always}
 use Rattle.bus_transactions.proofs.Reaches.{goes_on}
-use Rattle.orb_layout.specs.Replies.{Answer, Done, Payload, Refused}
-use Rattle.sbp_journal.specs.Run.{Moment, asked, said}
+use Rattle.orb_layout.specs.Replies.{Done, Refused}
+use Rattle.sbp_journal.specs.Run.{Moment, said}
 use Rattle.sbp_journal.specs.Transactions.{Kind, writing, reading_quadlet, reading_block, locking, is_same_kind, Part, request, response, no_packet, part_by, part_in, part_of, is_to, Sending, Transaction, asked_by, begun_by, between}
 use Rattle.sbp_journal.specs.Wire.{Held, Owed, Terms, arrives, begins, begun_in, closes, closes_if, free, gets, gets_as, gives, ignores, ignores_that, is_news, is_served, judges, judges_if, noted, opened, pays, puts, rests, sends, terms, times_out, waits, asked_in}
 use Rattle.sbp_journal.specs.declared.event.Event.{Event}
@@ -28,8 +28,8 @@ use Rattle.sbp_journal.specs.declared.cause.Cause.{Cause}
 use Rattle.sbp_journal.specs.declared.cause.Cause.TheVariants as causes
 use Rattle.sbp_journal.specs.declared.note.Note.{Note}
 use Rattle.sbp_journal.specs.declared.note.Note.TheVariants as notes
-use Rattle.sbp_laws.specs.OnceLaw.{ClosesOne, IsNew, OnceAt, OnceLaw, WasServed, is_between, is_done, is_fair, is_fair_write, is_wild, is_write_in}
-use Rattle.sbp_laws.specs.Packets.{access_at, access_in, answer_in, answer_of, answered_as, answered_at, answered_in, closed_by, packet_at, packet_in, spelled_by}
+use Rattle.sbp_laws.specs.OnceLaw.{ClosesOne, IsNew, OnceAt, OnceLaw, WasServed, is_between, is_done, is_fair, is_wild, is_write_in}
+use Rattle.sbp_laws.specs.Packets.{access_in, answer_in, answer_of, answered_as, answered_at, answered_in, closed_by, packet_at, packet_in, spelled_by}
 use Rattle.sbp_laws.specs.Turns.{EachMoment}
 use Rattle.world_laws.proofs.Agrees.{Agrees, got_agrees, ignored_agrees}
 
@@ -435,10 +435,11 @@ module _ (wild : ℕ → Bool) (moves : List Move) (may : MayAll moves) (before 
       (tt, (tt, before (sent_covers wild (said (notes.Injected (w.store.last + 1)) ∷ w.past) (w.store.last + 1) (w.layer node).generation node peer bytes c)))
   move_each (deliver kept cause) m c =
       let f = (judging_step (w.layer kept.sent.to) kept.sent.generation kept.sent.bytes).0 in
-      let a = first_agrees f cause kept.serial (terms w.past) in
-      (first_once wild w reached f cause kept.serial
-      (record { once = once_always (deliver kept cause ∷ moves) (m, may); served = served_always (deliver kept cause ∷ moves) (m, may); covers = c; agrees = a }),
-      before (λ n e. c n (ap (λ (x : ℕ → Bool). x n) a.injects ∙ e)))
+      let a = first_agrees f cause kept.serial (terms w.past) in (
+        first_once wild w reached f cause kept.serial
+            (record { once = once_always (deliver kept cause ∷ moves) (m, may); served = served_always (deliver kept cause ∷ moves) (m, may); covers = c; agrees = a }),
+        before (λ n e. c n (ap (λ (x : ℕ → Bool). x n) a.injects ∙ e)),
+      )
   move_each (lose s) m c = (tt, before c)
   move_each (expire node peer label) m c = expired_each node peer label.number (expiring_step (w.layer node) (id_for w node peer) label) c
   move_each (disown node peer label) m c = before c

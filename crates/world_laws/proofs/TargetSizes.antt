@@ -1,30 +1,27 @@
 -- No call of the target changes how many units it has.
-use Rattle.std.proofs.Common.{◌≡◌, refl, ◌∙◌, ap, ℕ, zero, suc, ◌+◌, nat_lt, is_some, Bool, true, false, cond, List, [], length, slice_index_or, Option, Some, None, Result, Ok, Err}
+use Rattle.std.proofs.Common.{◌≡◌, refl, ◌∙◌, ap, ℕ, zero, suc, ◌+◌, nat_lt, is_some, Bool, true, false, cond, List, [], length, Option, Some, None, Result, Ok, Err}
 use Rattle.std.proofs.lemmas.List.{length-set}
 use Rattle.async_packet.specs.Labels.{LabelParts}
 use Rattle.async_packet.specs.Packet.{Packet, header_in}
-use Rattle.label_table.specs.declared.judgement.Asked.{Asked}
 use Rattle.label_table.specs.declared.reply.Stale.{Stale}
 use Rattle.label_table.specs.Bodies.{Body, block_write}
-use Rattle.label_table.specs.Layer.{Layer, Finding, of_generation, of_grammar, of_label, of_response, of_again, of_request, asking_step, answering_step, expiring_step, free_labels, judging_step, seeing_step}
+use Rattle.label_table.specs.Layer.{Layer, Finding, of_generation, of_grammar, of_label, of_response, of_again, of_request, expiring_step, free_labels, judging_step, seeing_step}
 use Rattle.login_table.specs.declared.login.Login.{Login}
-use Rattle.login_table.specs.Table.{Table, is_live, place_at, tick_step}
+use Rattle.login_table.specs.Table.{Table, tick_step}
 use Rattle.media_bay.specs.Unsolicited.{block}
 use Rattle.orb_layout.specs.declared.ask.Ask.{Ask}
 use Rattle.orb_layout.specs.declared.ask.FailCause.{FailCause}
 use Rattle.orb_layout.specs.declared.ask.FailCause.TheVariants as causes
 use Rattle.orb_layout.specs.declared.pointer.OrbPointer.{OrbPointer}
-use Rattle.orb_layout.specs.declared.status.StatusKind.{StatusKind}
 use Rattle.orb_layout.specs.Replies.{Answer, NoLabel, Expired}
-use Rattle.rbc_disk.specs.declared.command.Outcome.{Outcome}
 use Rattle.rbc_disk.specs.Disk.{disk_at}
 use Rattle.rbc_disk.specs.Runs.{Told}
 use Rattle.command_agent.specs.declared.step.AgentStep.{AgentStep}
 use Rattle.command_agent.specs.declared.step.PointRefusal.{PointRefusal}
 use Rattle.command_agent.specs.declared.step.Which.{Which}
 use Rattle.command_agent.specs.declared.step.Which.TheVariants.{Main, Ahead}
-use Rattle.command_agent.specs.Machine.{Machine, is_under_way, state_in}
-use Rattle.command_agent.specs.Steps.{asks, doorbell_step, is_reset, lost_step}
+use Rattle.command_agent.specs.Machine.{Machine, is_under_way}
+use Rattle.command_agent.specs.Steps.{asks, doorbell_step, lost_step}
 use Rattle.mgmt_agent.specs.declared.decision.Decision.{Decision}
 use Rattle.mgmt_agent.specs.declared.decision.Effect.{Effect}
 use Rattle.mgmt_agent.specs.declared.decision.Effect.TheVariants as effects
@@ -45,15 +42,15 @@ use Rattle.sbp_target.specs.declared.purpose.Purpose.{Purpose}
 use Rattle.sbp_target.specs.declared.purpose.Purpose.TheVariants as purposes
 use Rattle.sbp_target.specs.Addresses.{demand_of}
 use Rattle.sbp_target.specs.Desks.{expired_desk, point_desk, which_in}
-use Rattle.sbp_target.specs.Sending.{answer_step, answered_by, request_step, sent_by, with_side}
-use Rattle.sbp_target.specs.Telling.{orb_of, tell_step, tell_ran, tell_dead, tell_ended}
+use Rattle.sbp_target.specs.Sending.{request_step, with_side}
+use Rattle.sbp_target.specs.Telling.{orb_of}
 use Rattle.sbp_target.specs.Nodes.{NodeState, Scene, scene, desk_at, login_at, with_agent, with_desk}
-use Rattle.sbp_target.specs.Agents.{agent_body, dropped_by, promoted_by, without_ahead, noted, main_sent, main_asked, ask_main, lost_by, lose, ahead_sent, ahead_asked, after_ahead, send_ahead, after_loss, lose_main, after_main, follow, told_cut, cut}
+use Rattle.sbp_target.specs.Agents.{agent_body, dropped_by, promoted_by, without_ahead, noted, main_sent, main_asked, ask_main, lost_by, lose, ahead_sent, ahead_asked, after_ahead, send_ahead, after_loss, lose_main, after_main, follow, cut}
 use Rattle.sbp_target.specs.Units.{is_pending, unsolicited_by, announce_to, announce_in, announce_at, announce_from, hears, is_cut, cut_at, cut_from, cut_all, clear_unit, clear_from}
-use Rattle.sbp_target.specs.Management.{manager_body, place_in, cut_placed, tell_left, tell_failed, clear_one, effect_by, decided_by, with_manager, manager_lost, lost_in, lose_operation, manager_sent, manager_asked, ask_manager, managed_with, managed_in, manage}
-use Rattle.sbp_target.specs.Replies.{Stage, stage, Tells, TellsBy, Whole, scene_of, came, changed_by, announced_by, follow_all, advanced_with, advance, agent_step, plain_at, replied, replied_with, replied_by, replied_to, served_login}
+use Rattle.sbp_target.specs.Management.{manager_body, place_in, cut_placed, tell_failed, clear_one, effect_by, decided_by, with_manager, manager_lost, lost_in, lose_operation, manager_sent, manager_asked, ask_manager, managed_with, managed_in, manage}
+use Rattle.sbp_target.specs.Replies.{Stage, stage, Whole, scene_of, came, changed_by, announced_by, follow_all, advanced_with, advance, agent_step, replied, replied_with, replied_by, replied_to, served_login}
 use Rattle.sbp_target.specs.Serving.{accessed_by, answered, asked_in, enabled, is_barred, point, pointed_by, request_step as served_step, ring, rung_by, serve, served_as, start, started_by}
-use Rattle.sbp_target.specs.Receiving.{TellsAt, TellsIn, answer_in, concluded, expired, expired_with, expired_by, expire_agent, expired_in, expired_from, held_from, judged_scene, received, received_as, reset_by, seen, tell_held, ticked, ticked_by, timed_out, cleared_node, with_layer}
+use Rattle.sbp_target.specs.Receiving.{answer_in, concluded, expired, expired_with, expired_by, expire_agent, expired_in, judged_scene, received, received_as, reset_by, seen, ticked, ticked_by, timed_out, cleared_node, with_layer}
 
 module _ (n : ℕ) where
   abbrev pub In : Scene → Type 0

@@ -50,9 +50,9 @@ use Rattle.sbp_target.specs.Nodes.{NodeState, Scene, scene, desk_at, login_at, w
 use Rattle.sbp_target.specs.Agents.{agent_body, noted, main_sent, main_asked, ask_main, lost_by, lose, ahead_sent, ahead_asked, after_ahead, send_ahead, after_loss, lose_main, after_main, follow, told_cut, cut}
 use Rattle.sbp_target.specs.Units.{is_pending, unsolicited_by, announce_to, announce_in, announce_at, announce_from, hears, is_cut, cut_at, cut_from, cut_all, clear_unit, clear_from}
 use Rattle.sbp_target.specs.Management.{manager_body, place_in, cut_placed, tell_left, tell_failed, clear_one, effect_by, decided_by, with_manager, manager_lost, lost_in, lose_operation, manager_sent, manager_asked, ask_manager, managed_with, managed_in, manage}
-use Rattle.sbp_target.specs.Replies.{Stage, stage, Tells, TellsBy, Whole, scene_of, came, changed_by, announced_by, follow_all, advanced_with, advance, agent_step, plain_at, replied, replied_by, replied_to, served_login}
+use Rattle.sbp_target.specs.Replies.{Stage, stage, Whole, scene_of, came, changed_by, announced_by, follow_all, advanced_with, advance, replied, replied_by, replied_to, served_login}
 use Rattle.sbp_target.specs.Serving.{accessed_by, answered, asked_in, enabled, is_barred, point, pointed_by, request_step as served_step, ring, rung_by, serve, served_as, start, started_by}
-use Rattle.sbp_target.specs.Receiving.{TellsAt, TellsIn, answer_in, concluded, expired, expired_with, expired_by, expire_agent, expired_in, expired_from, held_from, judged_scene, received, received_as, reset_by, seen, tell_held, ticked, ticked_by, timed_out, cleared_node, with_layer}
+use Rattle.sbp_target.specs.Receiving.{answer_in, concluded, expired, expired_with, expired_by, expire_agent, expired_in, expired_from, held_from, judged_scene, received, received_as, reset_by, seen, tell_held, ticked, ticked_by, timed_out, cleared_node, with_layer}
 use Rattle.world_laws.proofs.Effects.{AreEffectSides, more}
 
 abbrev pub In : Scene → Type 0

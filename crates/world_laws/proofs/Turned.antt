@@ -1,5 +1,5 @@
 -- A delivery, a time-out, a sight and a second: one note, and behind it effects.
-use Rattle.std.proofs.Common.{◌≡◌, refl, sym, ◌∙◌, ap, subst, ℕ, ◌-◌, ◌<◌, ◌≤◌, ◌==◌, nat_lt, nat_eq, Bool, true, false, cond, List, [], ◌∷◌, ◌++◌, length, slice_index_or, Option, Some, None, Result, Ok, Err, arith}
+use Rattle.std.proofs.Common.{◌≡◌, refl, sym, ap, subst, ℕ, ◌-◌, ◌≤◌, ◌==◌, nat_lt, nat_eq, Bool, true, false, cond, List, ◌∷◌, ◌++◌, length, slice_index_or, Option, Some, None, Result, Ok, Err, arith}
 use Rattle.label_table.specs.declared.reply.Stale.{Stale}
 use Rattle.packet_store.specs.declared.sent.Sent.{Sent}
 use Rattle.packet_store.specs.Kept.{found_sent}
@@ -22,7 +22,7 @@ use Rattle.sbp_target.specs.Receiving.{expired, received}
 use Rattle.sbp_target.specs.Replies.{Whole}
 use Rattle.sbp_world.specs.declared.parts.delivering.Arrival.{Arrival}
 use Rattle.sbp_world.specs.declared.requests.Request.{Request}
-use Rattle.sbp_world.specs.Delivering.{arrived, arrived_by, at_initiator, at_none, at_target, delivered, delivered_by, faults_after, initiator_received, initiators_received, judged_note, left_target, listed, marked, received_at, received_by, received_step, target_received, whole_of}
+use Rattle.sbp_world.specs.Delivering.{arrived, arrived_by, at_initiator, at_none, at_target, delivered, delivered_by, faults_after, initiator_received, initiators_received, judged_note, left_target, listed, marked, received_by, received_step, target_received, whole_of}
 use Rattle.sbp_world.specs.Generations.{id_of}
 use Rattle.sbp_world.specs.Handing.{handed_out}
 use Rattle.sbp_world.specs.Nodes.{handed_all, initiator_learns, see_line, sees, target_learns, target_sees, target_ticks, tick_line, told_seen, with_seen}

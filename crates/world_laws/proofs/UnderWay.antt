@@ -1,5 +1,5 @@
 -- A transaction that times out at its sender is under way, by what the history says.
-use Rattle.std.specs.Prelude.{◌≡◌, ◌≤◌, ◌<◌, ℕ, zero, suc, ◌-◌, ◌==◌, nat_eq, nat_lt, is_ok, Bool, true, false, cond, if◌then◌else◌, List, length, Option, Some, None, Result, Ok, Err, refl}
+use Rattle.std.specs.Prelude.{◌≡◌, ◌≤◌, ◌<◌, ℕ, zero, suc, ◌-◌, ◌==◌, nat_eq, nat_lt, is_ok, Bool, true, false, if◌then◌else◌, List, length, Option, Some, Result, Ok, Err, refl}
 use Rattle.std.proofs.Common.{arith, sym, ◌∙◌, ap, subst}
 use Rattle.async_packet.specs.Labels.{LabelParts}
 use Rattle.label_table.specs.declared.place.LabelState.TheVariants as states
@@ -9,7 +9,7 @@ use Rattle.label_table.specs.Layer.{Layer, expiring_step}
 use Rattle.label_table.specs.Peers.{state_for}
 use Rattle.bus_transactions.specs.Bare.{bare, bare_after, bare_result}
 use Rattle.bus_transactions.specs.Reached.{IsAwaited}
-use Rattle.bus_transactions.specs.Rows.{Shape, awaits, shape, shape_of}
+use Rattle.bus_transactions.specs.Rows.{awaits, shape, shape_of}
 use Rattle.bus_transactions.specs.Wire.{Node, id_for, transaction}
 use Rattle.bus_transactions.proofs.Bares.{takes_steps}
 use Rattle.bus_transactions.proofs.Reaches.{goes_on}
