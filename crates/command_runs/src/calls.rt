@@ -1,6 +1,6 @@
 //! Calls of the program over objects in memory.
 use media_bay::Bay;
-use rbc_disk::{FaultyMedium, Medium, ProtectedMedium, RamMedium};
+use rbc_disk::{EmptyMedium, FaultyMedium, Medium, ProtectedMedium, RamMedium};
 use sbp_base::{MemorySink, MemorySource};
 use sbp_command::{Status, sbp2};
 use std::alloc::Global;
@@ -30,7 +30,32 @@ pub(crate) fn program_media(alloc: Global) -> Result<Vec<Box<dyn Medium>>, Fail>
     Ok(media)
 }
 
-/// Serves words, which have blanks between them. `reads` and `writes` name the calls of the source and of
+/// The only medium of a program, of 64 blocks.
+#[derive(Clone, Copy)]
+pub(crate) enum Alone {
+    /// Each byte is 00h.
+    Blank,
+    /// Each byte is this one, and this call fails.
+    Failing(u8, u32),
+    /// It has no disc.
+    Absent,
+}
+
+/// A medium that stands alone.
+pub(crate) fn media_of(alloc: Global, medium: Alone) -> Result<Vec<Box<dyn Medium>>, Fail> {
+    let mut media: Vec<Box<dyn Medium>> = Vec::new(alloc);
+    match medium {
+        Alone::Blank => media.push(Box::new(alloc, RamMedium::new(alloc, 64, 0)?)?)?,
+        Alone::Failing(fill, call) => {
+            let calls = vec![in alloc; call; 1]?;
+            media.push(Box::new(alloc, FaultyMedium::new(alloc, 64, fill, calls)?)?)?
+        }
+        Alone::Absent => media.push(Box::new(alloc, EmptyMedium::new(64))?)?,
+    }
+    Ok(media)
+}
+
+/// Serves words, which have one blank between them. `reads` and `writes` name the calls of the source and of
 /// the sink that fail.
 pub(crate) fn call(
     alloc: Global,
@@ -44,8 +69,10 @@ pub(crate) fn call(
         return Err("media".into());
     }
     let mut given = Vec::new(alloc);
-    for word in words.split_whitespace() {
-        given.push(String::from_str(alloc, word)?)?;
+    if !words.is_empty() {
+        for word in words.split(" ") {
+            given.push(String::from_str(alloc, word)?)?;
+        }
     }
     let mut source = MemorySource::new(input.as_bytes().to_vec(alloc)?, reads.to_vec(alloc)?);
     let mut sink = MemorySink::new(alloc, writes.to_vec(alloc)?);

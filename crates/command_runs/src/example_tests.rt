@@ -1,7 +1,6 @@
-use crate::calls::{Ended, call, run};
+use crate::calls::{Alone, call, media_of, run};
 use crate::scripts::{has_form, lines_of, script_of};
 use crate::texts::{COMMANDS, FAULTY, LISTS, LOGINS, PACKETS, USUAL_SESSION};
-use rbc_disk::{FaultyMedium, Medium};
 use sbp_command::Status;
 use std::alloc::Global;
 use std::test::Fail;
@@ -95,21 +94,13 @@ fn much_is_used_up(rt: HostRuntime) -> Result<(), Fail> {
     Ok(())
 }
 
-/// Runs a script over one medium whose first call fails.
-fn run_over_failing(alloc: Global, script: &str) -> Result<Ended, Fail> {
-    let calls = vec![in alloc; 1u32; 1]?;
-    let faulty: Box<dyn Medium> = Box::new(alloc, FaultyMedium::new(alloc, 64, 0x5a, calls)?)?;
-    let mut media = Vec::new(alloc);
-    media.push(faulty)?;
-    call(alloc, "run", &mut media, script, &[], &[])
-}
-
 /// A medium whose first call fails: the command has a check, and the next one is served.
 #[test]
 fn first_read_fails(rt: HostRuntime) -> Result<(), Fail> {
     let alloc = rt.alloc();
     let script = "begin 1 ready\nappend 0 read 0 1\nappend 0 read 0 1\nsettle\n";
-    let ended = run_over_failing(alloc, script)?;
+    let mut media = media_of(alloc, Alone::Failing(0x5a, 1))?;
+    let ended = call(alloc, "run", &mut media, script, &[], &[])?;
     let taken = lines_of(alloc, "taken", ended.written.as_str())?;
     assert_eq!(rt; ended.status, Status::Done);
     assert_eq!(rt;

@@ -5,6 +5,8 @@
 #[cfg(test)]
 mod calls;
 #[cfg(test)]
+mod drill_tests;
+#[cfg(test)]
 mod example_tests;
 #[cfg(test)]
 mod failing_tests;

@@ -96,6 +96,15 @@ fn words_are_read(rt: HostRuntime) -> Result<(), Fail> {
         ("decode -", Status::Words, USAGE),
         ("tasks", Status::Words, USAGE),
         ("queue", Status::Words, USAGE),
+        ("drill 01 5", Status::Words, USAGE),
+        ("drill 1 0", Status::Words, USAGE),
+        ("drill 1 10001", Status::Words, USAGE),
+        ("drill 18446744073709551616 1", Status::Words, USAGE),
+        ("drill +1 1", Status::Words, USAGE),
+        ("drill  1", Status::Words, USAGE),
+        ("drill 1", Status::Words, USAGE),
+        ("drill 1 1 1", Status::Words, USAGE),
+        ("Drill 1 1", Status::Words, USAGE),
     ] {
         let mut media = program_media(alloc)?;
         let ended = call(alloc, words, &mut media, SCRIPT, &[], &[])?;

@@ -1,5 +1,0 @@
-//! Worked drills, as tests beside the crates.
-#![tactic(auto)]
-
-#[cfg(test)]
-mod tests;
