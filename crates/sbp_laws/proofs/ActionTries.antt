@@ -248,6 +248,14 @@ times_out : ActionLaw journals.one_disk (refused.third_entry (events.Timeout 1) 
 unfolding reading fault_of tcode_of header_of offset_of rcode_of value_of length_of extended_of three four part_of is_to is_same asked_by begun_by belongs start_at lowest_from label_for free_from count_flying lowest_flying label_of with_label is_write kind_of slot_of window_at is_fifo point_step doorbell_step reset_step abort_step reply_step lost_step refusal verdict request_of check_of blank_bytes command_kind elements_from made block_head decide reads_eui live_login response_bytes start_step reply_step_of_manager decide_step fresh_id left_for enter_step back_step leave_step
 times_out = record { brings = ((refl, (refl, tt)), (record { effects = refl; first = refl }, (refl, tt))); ordered = (record { effects = refl; first = refl }, (tt, (tt, (tt, tt)))) }
 
+ended_by_sight : ActionLaw journals.one_disk (refused.sees_then (notes.Refused 5 11 ∷ []))
+unfolding reading fault_of tcode_of header_of offset_of rcode_of value_of length_of extended_of three four part_of is_to is_same asked_by begun_by belongs start_at lowest_from label_for free_from count_flying lowest_flying label_of with_label is_write kind_of slot_of window_at is_fifo point_step doorbell_step reset_step abort_step reply_step lost_step refusal verdict request_of check_of blank_bytes command_kind elements_from made block_head decide reads_eui live_login response_bytes start_step reply_step_of_manager decide_step fresh_id left_for enter_step back_step leave_step
+ended_by_sight = record { brings = (refl, ((refl, (refl, tt)), (refl, (record { effects = refl; first = refl }, (refl, tt))))); ordered = (tt, (record { effects = refl; first = refl }, (tt, (tt, (tt, (tt, tt)))))) }
+
+times_out_behind_sight : ActionLaw journals.one_disk (refused.sees_then (notes.TimedOut 1 ∷ [])) → ⊥
+unfolding reading fault_of tcode_of header_of offset_of rcode_of value_of length_of extended_of three four part_of is_to is_same asked_by begun_by belongs start_at lowest_from label_for free_from count_flying lowest_flying label_of with_label is_write kind_of slot_of window_at is_fifo point_step doorbell_step reset_step abort_step reply_step lost_step refusal verdict request_of check_of blank_bytes command_kind elements_from made block_head decide reads_eui live_login response_bytes start_step reply_step_of_manager decide_step fresh_id left_for enter_step back_step leave_step
+times_out_behind_sight = λ law. let bad = law.brings.0 in cc bad
+
 resets : ActionLaw journals.one_disk (refused.one_entry (events.Reset (1 ∷ 0 ∷ [])) (notes.Reset 1 ∷ []))
 unfolding reading fault_of tcode_of header_of offset_of rcode_of value_of length_of extended_of three four part_of is_to is_same asked_by begun_by belongs start_at lowest_from label_for free_from count_flying lowest_flying label_of with_label is_write kind_of slot_of window_at is_fifo point_step doorbell_step reset_step abort_step reply_step lost_step refusal verdict request_of check_of blank_bytes command_kind elements_from made block_head decide reads_eui live_login response_bytes start_step reply_step_of_manager decide_step fresh_id left_for enter_step back_step leave_step
 resets = record { brings = (refl, (refl, tt)); ordered = (tt, (tt, tt)) }
@@ -261,4 +269,4 @@ unfolding reading fault_of tcode_of header_of offset_of rcode_of value_of length
 ticks = record { brings = ((refl, tt), (refl, tt)); ordered = (record { effects = refl; first = refl }, (tt, (tt, tt))) }
 
 pub tried : ActionTried
-tried = record { accepts = accepts; steps_once = steps_once; settles_at_rest = settles_at_rest; refuses_login = refuses_login; steps_not = steps_not; injects = injects; other_source = other_source; sets_key = sets_key; no_unit = no_unit; inject_refused = inject_refused; stops_early = stops_early; settles_early = settles_early; refuses_append = refuses_append; other_number = other_number; begins_otherwise = begins_otherwise; refuses_and_more = refuses_and_more; rung_left_out = rung_left_out; appends_otherwise = appends_otherwise; delivers_another = delivers_another; delivers_nothing_sent = delivers_nothing_sent; refuses_delivery = refuses_delivery; repeats_nothing_sent = repeats_nothing_sent; loses_not = loses_not; refuses_time_out = refuses_time_out; times_out_unasked = times_out_unasked; steps_twice = steps_twice; steps_higher = steps_higher; settles_untold = settles_untold; resets_twice = resets_twice; sees_unborn = sees_unborn; tick_left_out = tick_left_out; injected_unsent = injected_unsent; key_refused = key_refused; no_unit_keyed = no_unit_keyed; packets_first = packets_first; ends_before_run = ends_before_run; delivers = delivers; loses = loses; times_out = times_out; resets = resets; sees = sees; ticks = ticks }
+tried = record { accepts = accepts; steps_once = steps_once; settles_at_rest = settles_at_rest; refuses_login = refuses_login; steps_not = steps_not; injects = injects; other_source = other_source; sets_key = sets_key; no_unit = no_unit; inject_refused = inject_refused; stops_early = stops_early; settles_early = settles_early; refuses_append = refuses_append; other_number = other_number; begins_otherwise = begins_otherwise; refuses_and_more = refuses_and_more; rung_left_out = rung_left_out; appends_otherwise = appends_otherwise; delivers_another = delivers_another; delivers_nothing_sent = delivers_nothing_sent; refuses_delivery = refuses_delivery; repeats_nothing_sent = repeats_nothing_sent; loses_not = loses_not; refuses_time_out = refuses_time_out; times_out_unasked = times_out_unasked; steps_twice = steps_twice; steps_higher = steps_higher; settles_untold = settles_untold; resets_twice = resets_twice; sees_unborn = sees_unborn; tick_left_out = tick_left_out; injected_unsent = injected_unsent; key_refused = key_refused; no_unit_keyed = no_unit_keyed; packets_first = packets_first; ends_before_run = ends_before_run; delivers = delivers; loses = loses; times_out = times_out; ended_by_sight = ended_by_sight; times_out_behind_sight = times_out_behind_sight; resets = resets; sees = sees; ticks = ticks }

@@ -77,9 +77,13 @@ is_waiting_for (waits kind other) serial = other == serial
 is_waiting_for free serial = false
 is_waiting_for rests serial = false
 
+-- its requester is still in its generation: a reset that a node sees ends its transactions, and its labels are new (IEEE 1394-1995, bus reset)
+abbrev pub is_of_now : Terms → Transaction → Bool
+is_of_now wire transaction = wire.generation transaction.requester == transaction.generation
+
 abbrev pub waits_for : Terms → Option Transaction → ℕ → Bool
 waits_for wire None serial = false
-waits_for wire (Some transaction) serial = is_waiting_for (wire.held transaction) serial
+waits_for wire (Some transaction) serial = is_of_now wire transaction && is_waiting_for (wire.held transaction) serial
 
 abbrev pub begun_in : Option Sending → Option Transaction
 begun_in None = None
@@ -96,7 +100,7 @@ is_resting (waits kind serial) = false
 
 abbrev pub rests_for : Terms → Option Transaction → ℕ → Bool
 rests_for wire None serial = false
-rests_for wire (Some transaction) serial = is_resting (wire.held transaction) && (wire.current transaction == serial)
+rests_for wire (Some transaction) serial = is_of_now wire transaction && is_resting (wire.held transaction) && (wire.current transaction == serial)
 
 abbrev pub has_resting_label : Terms → ℕ → Bool
 has_resting_label wire serial = rests_for wire (begun_in (wire.sent serial)) serial

@@ -232,6 +232,12 @@ one_entry event more = entry 2 event more ∷ begin_entry ∷ []
 abbrev pub third_entry : Event → List Note → List Entry
 third_entry event more = entry 3 event more ∷ append_entry ∷ begin_entry ∷ []
 
+-- a time-out of the first packet, behind a reset that its sender has seen
+abbrev pub sees_then : List Note → List Entry
+sees_then more =
+    entry 5 (events.Timeout 1) more ∷ entry 4 (events.See 1) (notes.Seen 1 1 ∷ notes.Drop 0 0 ∷ [])
+    ∷ third_entry (events.Reset (0 ∷ 1 ∷ [])) (notes.Reset 1 ∷ [])
+
 abbrev pub appends_with : Event
 appends_with = events.Act 0 (actions.Append test_ready)
 

@@ -321,6 +321,8 @@ pub record ActionTried : Type 0 where
   pub delivers : ActionLaw journals.one_disk (refused.third_entry (events.Deliver 1) (notes.Got 1 ∷ refused.answers_first))
   pub loses : ActionLaw journals.one_disk (refused.third_entry (events.Lose 1) (notes.Lost 1 ∷ []))
   pub times_out : ActionLaw journals.one_disk (refused.third_entry (events.Timeout 1) (notes.TimedOut 1 ∷ notes.Stuck 0 ∷ []))
+  pub ended_by_sight : ActionLaw journals.one_disk (refused.sees_then (notes.Refused 5 11 ∷ []))
+  pub times_out_behind_sight : ActionLaw journals.one_disk (refused.sees_then (notes.TimedOut 1 ∷ [])) → ⊥
   pub resets : ActionLaw journals.one_disk (refused.one_entry (events.Reset (1 ∷ 0 ∷ [])) (notes.Reset 1 ∷ []))
   pub sees : ActionLaw journals.one_disk (refused.one_entry (events.See 0) (notes.Seen 0 0 ∷ []))
   pub ticks : ActionLaw journals.one_disk (refused.one_entry events.Tick (notes.Tick ∷ []))
