@@ -1,5 +1,5 @@
 -- A transaction that times out at its sender is under way, by what the history says.
-use Rattle.std.specs.Prelude.{◌≡◌, ◌≤◌, ◌<◌, ℕ, zero, suc, ◌-◌, ◌==◌, nat_eq, nat_lt, is_ok, Bool, true, false, if◌then◌else◌, List, length, Option, Some, Result, Ok, Err, refl}
+use Rattle.std.specs.Prelude.{◌≡◌, ◌≤◌, ◌<◌, ℕ, zero, suc, ◌-◌, ◌==◌, ◌&&◌, nat_eq, nat_lt, is_ok, Bool, true, false, if◌then◌else◌, List, length, Option, Some, Result, Ok, Err, refl}
 use Rattle.std.proofs.Common.{arith, sym, ◌∙◌, ap, subst}
 use Rattle.async_packet.specs.Labels.{LabelParts}
 use Rattle.label_table.specs.declared.place.LabelState.TheVariants as states
@@ -51,10 +51,11 @@ held_waits free kind e = cc
 held_waits rests kind e = cc
 held_waits (waits k s) kind e = record { kind = k; serial = s; is = refl }
 
-waits_as : (t : Terms) (u : Transaction) (packet : Sending) (serial : ℕ) (kind : Kind) → t.sent serial ≡ Some packet → begun_in (Some packet) ≡ Some u → t.held u ≡ waits kind serial → laws.is_under_way t serial ≡ true
-waits_as t u packet serial kind sent begun held =
+waits_as : (t : Terms) (u : Transaction) (packet : Sending) (serial : ℕ) (kind : Kind) → t.sent serial ≡ Some packet → begun_in (Some packet) ≡ Some u → t.generation u.requester ≡ u.generation → t.held u ≡ waits kind serial → laws.is_under_way t serial ≡ true
+waits_as t u packet serial kind sent begun now held =
     ap (λ so. laws.waits_for t (begun_in so) serial) sent
     ∙ ap (λ o. laws.waits_for t o serial) begun
+    ∙ ap (λ b. b && laws.is_waiting_for (t.held u) serial) (let e : laws.is_of_now t u ≡ true = grind arith in e)
     ∙ ap (λ x. laws.is_waiting_for x serial) held
     ∙ (let e : (serial == serial) ≡ true = grind arith in e)
 
@@ -106,7 +107,7 @@ module _ {P : Type 0} {past : List Moment} (w : WorldState) (h : Stands past w) 
       let generation : request.label.generation ≡ t.generation request.node = same_generation ∙ node.generation in
       let current : waiting.serial ≡ serial =
       a.current ∙ ap (λ g. t.current (transaction g request.node entry.to number)) (sym generation) ∙ entry.current_is in
-      waits_as t u a.packet serial waiting.kind (ap t.sent (sym current) ∙ a.sent) a.begun (waiting.is ∙ ap (λ s. waits waiting.kind s) current)
+      waits_as t u a.packet serial waiting.kind (ap t.sent (sym current) ∙ a.sent) a.begun refl (waiting.is ∙ ap (λ s. waits waiting.kind s) current)
 
 -- ---- at the target, and at an initiator
 target_ok : (r : Result (Option Purpose) Stale × Layer Purpose) (peer : ℕ) (label : LabelParts) (s : target.Scene) (old : NodeState) → is_ok r.0 ≡ (target_left (expired_in r peer label s) old).0
