@@ -1,0 +1,10 @@
+pub mod Places
+pub mod Offices
+pub mod Sides
+pub mod Told
+pub mod Deciding
+pub mod Calm
+pub mod Managing
+pub mod Asking
+pub mod Resting
+pub mod Calls

@@ -1,0 +1,6 @@
+//! The terms that the laws read off a history are the state of the target.
+#![tactic(auto)]
+
+mod laws;
+
+pub use laws::calls_change_the_management;
