@@ -1,5 +1,5 @@
 -- What the management operation asks for leaves where it finds a label, and else the operation ends.
-use Rattle.std.proofs.Common.{◌≡◌, ◌∙◌, refl, sym, ap, subst, ℕ, is_some, Bool, true, false, List, [], ◌∷◌, ◌++◌, Option, Some, None, Result, Ok, Err}
+use Rattle.std.proofs.Common.{◌≡◌, ◌∙◌, refl, sym, ap, subst, ℕ, is_some, true, false, List, [], ◌∷◌, ◌++◌, Option, Some, None, Result, Ok, Err}
 use Rattle.async_packet.specs.Labels.{LabelParts}
 use Rattle.async_packet.specs.Packet.{Packet, header_in}
 use Rattle.label_table.specs.declared.judgement.Asked.{Asked}
@@ -27,29 +27,30 @@ use Rattle.sbp_target.specs.Management.{ask_manager, failed_by, lose_operation, 
 use Rattle.sbp_target.specs.Management as target
 use Rattle.sbp_target.specs.Serving.{answered, start, started_by as target_started}
 use Rattle.sbp_target.specs.Nodes.{NodeState, Scene, scene}
-use Rattle.sbp_target.specs.Sending.{request_step, sent_by, with_side}
+use Rattle.sbp_target.specs.Sending.{request_step, sent_by}
 use Rattle.target_laws.proofs.Managing.{unlabelled}
 use Rattle.target_laws.proofs.Primitives.{none_known}
 use Rattle.target_laws.proofs.Seats.{Lives}
 use Rattle.target_laws.specs.Layers.{request}
 use Rattle.target_terms.proofs.Calm.{AreQuiet, Calm, From, answers}
 use Rattle.target_terms.proofs.Deciding.{by_decision, reply_steps}
-use Rattle.target_terms.proofs.Managing.{FailsClean, Says, Stands, decision_stands, failed_if, failing_stands, fails_clean, quiet_says, says_more}
+use Rattle.target_terms.proofs.Managing.{FailsClean, Says, decision_stands, failed_if, failing_stands, fails_clean, quiet_says, says_more}
 use Rattle.target_terms.specs.Offices.{Agrees, Office, failed, replied, started, started_by, stepped}
 
 -- the one request that left for the operation, under a label that it found
-pub record Leaves (old : Lives) (source : ℕ) (now : Office) (node : NodeState) (before packets : List Outgoing) : Type 0 where
+pub record Leaves (first : Office) (old : Lives) (source : ℕ) (now : Office) (node : NodeState) (before packets : List Outgoing) : Type 0 where
   pub asked : Asked
   pub body : Body
   pub layer : Layer Purpose
   pub from : From old layer
   pub step : asking_step layer source body purposes.Management ≡ (Some asked, node.layer)
   pub body_is : manager_body now.asks now.manager.outgoing ≡ Some body
+  pub asks_are : now.asks ≡ first.asks
   pub packets_are : packets ≡ before ++ request source asked ∷ []
 
-pub data MayLeave (old : Lives) (source : ℕ) (now : Office) (node : NodeState) (before packets : List Outgoing) : Type 0 where
-  silent : From old node.layer → packets ≡ before → MayLeave old source now node before packets
-  leaves : Leaves old source now node before packets → MayLeave old source now node before packets
+pub data MayLeave (first : Office) (old : Lives) (source : ℕ) (now : Office) (node : NodeState) (before packets : List Outgoing) : Type 0 where
+  silent : From old node.layer → packets ≡ before → MayLeave first old source now node before packets
+  leaves : Leaves first old source now node before packets → MayLeave first old source now node before packets
 
 -- What a turn of the operation makes of an office and of the node.
 pub record Turned (first : Office) (old : Lives) (source : ℕ) (before : List Outgoing) (s : Scene) : Type 0 where
@@ -57,7 +58,7 @@ pub record Turned (first : Office) (old : Lives) (source : ℕ) (before : List O
   pub says : Says first now s.outbox.sides
   pub agrees : Agrees now s.node
   pub idle : first.manages ≡ None → now.manages ≡ None
-  pub sends : MayLeave old source now s.node before s.outbox.packets
+  pub sends : MayLeave first old source now s.node before s.outbox.packets
 
 -- ---- an operation that is lost
 
@@ -80,7 +81,7 @@ has_source : (operation : Option Operation) (source : ℕ) → management.source
 has_source None source e = absurd (let no : None ≡ Some source = e in cc)
 has_source (Some operation) source e = refl
 
-module _ (first now : Office) (old : Lives) (source : ℕ) (idle : first.manages ≡ None → now.manages ≡ None) where
+module _ (first now : Office) (old : Lives) (source : ℕ) (idle : first.manages ≡ None → now.manages ≡ None) (same_asks : now.asks ≡ first.asks) where
   lost_with : (packets : List Outgoing) (other : ℕ) (s : Scene) (r : ManagerStep × (management.Machine × Table)) → Says first now s.outbox.sides → Agrees now s.node → From old s.node.layer → s.outbox.packets ≡ packets → r.0.failed ≡ Some causes.Label → r.1 ≡ (record s.node.manager { operation = None }, s.node.logins) → Turned first old source packets (manager_lost other s r)
   lost_with packets other s (step, (m, t)) says agrees f p e g =
       let cause : Option FailCause → OutboxState = λ x. target.tell_failed other x s.outbox in
@@ -123,6 +124,7 @@ module _ (first now : Office) (old : Lives) (source : ℕ) (idle : first.manages
       from = f;
       step = e;
       body_is = b;
+      asks_are = same_asks;
       packets_are = ap (λ ps. ps ++ request source asked ∷ []) p;
     });
   }
@@ -169,7 +171,7 @@ replied_with o old source answer s (step, (m, t)) none f agrees d clean =
     let before : Behind (by_decision step.decided step.effect first) m t s.node.keys step.ask = subst (λ (x : Office). Behind x m t s.node.keys step.ask) (sym d) (record { table = refl; keys_are = agrees.keys; manager = refl; idle = refl; asks_are = refl }) in
     let b = failed_behind step.failed (by_decision step.decided step.effect first) m t s.node.keys step.ask before clean in
     subst (λ (a : Ask). Turned first old source s.outbox.packets (ask_manager source a told)) b.asks_are
-    (asks_turn first now old source (λ e. b.idle) s.outbox.packets told h.says (record { table = b.table ∙ sym h.logins; keys = b.keys_are ∙ sym h.keys; manager = b.manager ∙ sym h.manager }) h.from h.packets_are)
+    (asks_turn first now old source (λ e. b.idle) b.asks_are s.outbox.packets told h.says (record { table = b.table ∙ sym h.logins; keys = b.keys_are ∙ sym h.keys; manager = b.manager ∙ sym h.manager }) h.from h.packets_are)
 
 pub replied_turn : (o : Office) (old : Lives) (source : ℕ) (answer : Answer) (s : Scene) → s.outbox.sides ≡ [] → From old s.node.layer → Agrees o s.node → IsSound o.table.places → management.source_in s.node.manager.operation ≡ Some source → Turned (replied answer o) old source s.outbox.packets (manage answer s)
 unfolding manage
@@ -204,7 +206,7 @@ module _ (o : Office) (old : Lives) (orb : ℕ) (request : Packet) (bytes : List
   source = (header_in request).source
 
   calm_with : (m : management.Machine) → Calm old (record s.node { manager = m }) (scene (record s.node { manager = m }) s.outbox)
-  calm_with m = record { logins = refl; keys = refl; manager = refl; quiet = subst AreQuiet (sym none) tt; from = f }
+  calm_with m = record { logins = refl; keys = refl; manager = refl; rom = refl; quiet = subst AreQuiet (sym none) tt; from = f }
 
   starts_as : (operation : Option Operation) → Turned (started_by (management.start_with operation s.node.manager source orb) o) old source (answered request bytes (start_rcode operation) [] s).outbox.packets (target_started source request bytes (management.start_with operation s.node.manager source orb) s)
   starts_as None =
@@ -212,15 +214,60 @@ module _ (o : Office) (old : Lives) (orb : ℕ) (request : Packet) (bytes : List
       let first : Office = record o { manager = m; asks = ask.Read orb 32 } in
       let t = answered request bytes 0 [] (scene (record s.node { manager = m }) s.outbox) in
       let c = answers old (record s.node { manager = m }) request bytes 0 [] (scene (record s.node { manager = m }) s.outbox) (calm_with m) in
-      asks_turn first first old source (λ e. e) t.outbox.packets t (quiet_says t.outbox.sides first c.quiet)
+      asks_turn first first old source (λ e. e) refl t.outbox.packets t (quiet_says t.outbox.sides first c.quiet)
       (record { table = agrees.table ∙ sym c.logins; keys = agrees.keys ∙ sym c.keys; manager = sym c.manager }) c.from refl
   starts_as (Some operation) =
       let t = answered request bytes 4 [] (scene (record s.node { manager = s.node.manager }) s.outbox) in
       let c = answers old (record s.node { manager = s.node.manager }) request bytes 4 [] (scene (record s.node { manager = s.node.manager }) s.outbox) (calm_with s.node.manager) in
-      calm_turn o old source s.node t agrees (record { logins = c.logins; keys = c.keys; manager = c.manager; quiet = c.quiet; from = c.from })
+      calm_turn o old source s.node t agrees (record { logins = c.logins; keys = c.keys; manager = c.manager; rom = c.rom; quiet = c.quiet; from = c.from })
 
   pub started_turn : Turned (started (header_in request).source orb o) old (header_in request).source (answered request bytes (start_rcode s.node.manager.operation) [] s).outbox.packets (start orb request bytes s)
   unfolding start management.start_step
   started_turn =
       subst (λ m. Turned (started_by (management.start_with m.operation m source orb) o) old source (answered request bytes (start_rcode s.node.manager.operation) [] s).outbox.packets (start orb request bytes s)) (sym agrees.manager)
       (starts_as s.node.manager.operation)
+
+-- ---- the ROM stays
+
+sent_rom : (node : NodeState) (r : Option LabelParts × (Layer Purpose × OutboxState)) → (manager_sent node r).node.rom ≡ node.rom
+unfolding lose_operation
+sent_rom node (Some label, (layer, outbox)) = refl
+sent_rom node (None, (layer, outbox)) = lost_rom (management.source_in node.manager.operation) (scene (record node { layer = layer }) outbox)
+  where
+    lost_with_rom : (other : ℕ) (s : Scene) (r : ManagerStep × (management.Machine × Table)) → (manager_lost other s r).node.rom ≡ s.node.rom
+    lost_with_rom other s (step, (m, t)) = refl
+
+    lost_rom : (other : Option ℕ) (s : Scene) → (lost_in other s).node.rom ≡ s.node.rom
+    lost_rom None s = refl
+    lost_rom (Some other) s = lost_with_rom other s (management.reply_step s.node.manager s.node.logins s.node.keys NoLabel)
+
+asked_rom : (body : Option Body) (source : ℕ) (s : Scene) → (manager_asked body source s).node.rom ≡ s.node.rom
+asked_rom None peer s = refl
+asked_rom (Some body) peer s = sent_rom s.node (request_step s.node.layer s.outbox peer body purposes.Management)
+
+ask_rom : (source : ℕ) (a : Ask) (s : Scene) → (ask_manager source a s).node.rom ≡ s.node.rom
+unfolding ask_manager
+ask_rom source a s = asked_rom (manager_body a s.node.manager.outgoing) source s
+
+managed_rom : (source : ℕ) (o : Office) (old : Lives) (s : Scene) (r : ManagerStep × (management.Machine × Table)) → s.outbox.sides ≡ [] → From old s.node.layer → (managed_with source s r).node.rom ≡ s.node.rom
+managed_rom source o old s (step, (m, t)) none f =
+    let node = with_manager s.node (m, t) in
+    let decided = target.decided_by step.decided step.effect source (scene node s.outbox) in
+    let h = failing_stands o (by_decision step.decided step.effect o) old node s.outbox.packets source step.failed decided (decision_stands o old node s.outbox none f step.decided step.effect source) in
+    ask_rom source step.ask (failed_by source step.failed decided) ∙ h.rom
+
+manages_rom : (other : Option ℕ) (answer : Answer) (o : Office) (old : Lives) (s : Scene) → s.outbox.sides ≡ [] → From old s.node.layer → (managed_in other answer s).node.rom ≡ s.node.rom
+manages_rom None answer o old s none f = refl
+manages_rom (Some source) answer o old s none f = managed_rom source o old s (management.reply_step s.node.manager s.node.logins s.node.keys answer) none f
+
+pub manage_rom : (answer : Answer) (o : Office) (old : Lives) (s : Scene) → s.outbox.sides ≡ [] → From old s.node.layer → (manage answer s).node.rom ≡ s.node.rom
+unfolding manage
+manage_rom answer o old s none f = manages_rom (management.source_in s.node.manager.operation) answer o old s none f
+
+started_rom : (source : ℕ) (request : Packet) (bytes : List ℕ) (r : Result Ask Busy × management.Machine) (s : Scene) → (target_started source request bytes r s).node.rom ≡ s.node.rom
+started_rom peer request bytes (Ok a, m) s = ask_rom peer a (answered request bytes 0 [] (scene (record s.node { manager = m }) s.outbox))
+started_rom peer request bytes (Err busy, m) s = refl
+
+pub start_rom : (orb : ℕ) (request : Packet) (bytes : List ℕ) (s : Scene) → (start orb request bytes s).node.rom ≡ s.node.rom
+unfolding start
+start_rom orb request bytes s = started_rom (header_in request).source request bytes (management.start_step s.node.manager (header_in request).source orb) s

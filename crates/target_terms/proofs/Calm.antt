@@ -1,5 +1,5 @@
 -- What an agent does leaves the management alone: it tells nothing of logins or of the operation, and no transaction is for the operation that was not before.
-use Rattle.std.proofs.Common.{◌≡◌, ◌≢◌, ◌∙◌, refl, sym, ap, subst, ℕ, zero, suc, ◌+◌, nat_lt, is_some, Bool, true, false, cond, List, [], ◌∷◌, ◌++◌, length, Option, Some, None, Result, Ok, Err}
+use Rattle.std.proofs.Common.{◌≡◌, ◌≢◌, ◌∙◌, refl, ℕ, zero, suc, ◌+◌, nat_lt, is_some, Bool, true, false, cond, List, [], ◌∷◌, ◌++◌, length, Option, Some, None, Result, Ok, Err}
 use Rattle.async_packet.specs.Labels.{LabelParts}
 use Rattle.async_packet.specs.Packet.{Packet, header_in}
 use Rattle.label_table.specs.declared.judgement.Asked.{Asked}
@@ -9,16 +9,13 @@ use Rattle.label_table.specs.Layer.{Layer, asking_step, answering_step, disownin
 use Rattle.label_table.specs.History as wire
 use Rattle.label_table.specs.History.{Life, not_begun, under_way, over, is_same, for_nobody}
 use Rattle.login_table.specs.declared.login.Login.{Login}
-use Rattle.login_table.specs.Table.{Table}
 use Rattle.media_bay.specs.Unsolicited.{block}
-use Rattle.mgmt_agent.specs.Machine as management
 use Rattle.orb_layout.specs.declared.ask.Ask.{Ask}
 use Rattle.orb_layout.specs.declared.ask.FailCause.{FailCause}
 use Rattle.orb_layout.specs.declared.ask.FailCause.TheVariants as causes
 use Rattle.orb_layout.specs.declared.pointer.OrbPointer.{OrbPointer}
 use Rattle.orb_layout.specs.declared.status.StatusKind.{StatusKind}
 use Rattle.orb_layout.specs.Replies.{Answer}
-use Rattle.rbc_disk.specs.Disk.{Disk, disk_at}
 use Rattle.rbc_disk.specs.Runs.{Told}
 use Rattle.rbc_disk.specs.declared.command.Outcome.{Outcome}
 use Rattle.command_agent.specs.declared.step.AgentStep.{AgentStep}
@@ -40,17 +37,17 @@ use Rattle.sbp_target.specs.declared.purpose.Purpose.TheVariants as purposes
 use Rattle.sbp_target.specs.declared.purpose.Sent.{Sent}
 use Rattle.sbp_target.specs.Agents.{after_ahead, after_loss, after_main, agent_body, ahead_asked, ahead_sent, ask_main, cut, cut_node, disowned, dropped_by, follow, lose, lose_main, lost_by, main_asked, main_sent, noted, promoted_by, send_ahead, told_cut, without_ahead}
 use Rattle.sbp_target.specs.Desks.{expired_desk, point_desk, which_in}
-use Rattle.sbp_target.specs.Management.{clear_one, cut_placed, place_in}
+use Rattle.sbp_target.specs.Management.{clear_one, cut_placed}
 use Rattle.sbp_target.specs.Nodes.{NodeState, Scene, desk_at, login_at, scene, with_agent, with_desk}
 use Rattle.sbp_target.specs.Receiving.{expire_agent, expired_by, expired_with}
-use Rattle.sbp_target.specs.Replies.{Stage, Whole, advance, advanced_with, announced_by, changed_by, follow_all, plain_at, replied as step_replied, replied_by, replied_to, replied_with, scene_of, served_login, stage, whole}
+use Rattle.sbp_target.specs.Replies.{Stage, Whole, advance, advanced_with, announced_by, changed_by, follow_all, plain_at, replied as step_replied, replied_by, replied_to, replied_with, scene_of, served_login, stage}
 use Rattle.sbp_target.specs.Sending.{answer_step, answered_by, request_step, sent_by, with_side}
 use Rattle.sbp_target.specs.Serving.{accessed_by, answered, asked_in, enabled, point, pointed_by, ring, rung_by}
 use Rattle.sbp_target.specs.Telling.{orb_of, tell_dead, tell_ended, tell_ran, tell_step}
 use Rattle.sbp_target.specs.Units.{announce_at, announce_from, announce_in, announce_to, clear_from, clear_unit, cut_all, cut_at, cut_from, hears, is_cut, is_pending, unsolicited_by}
 use Rattle.target_laws.proofs.Calling.{answer_known}
 use Rattle.target_laws.proofs.Primitives.{Known, asks_known, disowns_known, live_on, nobody_is, none_known}
-use Rattle.target_laws.proofs.Seats.{IsNot, Lives}
+use Rattle.target_laws.proofs.Seats.{Lives}
 
 -- ---- what is told
 
@@ -131,6 +128,7 @@ pub record Calm (old : Lives) (first : NodeState) (s : Scene) : Type 0 where
   pub logins : s.node.logins ≡ first.logins
   pub keys : s.node.keys ≡ first.keys
   pub manager : s.node.manager ≡ first.manager
+  pub rom : s.node.rom ≡ first.rom
   pub quiet : AreQuiet s.outbox.sides
   pub from : From old s.node.layer
 
@@ -149,11 +147,11 @@ module _ (old : Lives) (first : NodeState) where
   pick false x y h i = i
 
   -- the node is another in what is not the management's
-  other_node : (s : Scene) (node : NodeState) → node.logins ≡ s.node.logins → node.keys ≡ s.node.keys → node.manager ≡ s.node.manager → From old node.layer → C s → C (scene node s.outbox)
-  other_node s node l k m f h = record { logins = l ∙ h.logins; keys = k ∙ h.keys; manager = m ∙ h.manager; quiet = h.quiet; from = f }
+  other_node : (s : Scene) (node : NodeState) → node.logins ≡ s.node.logins → node.keys ≡ s.node.keys → node.manager ≡ s.node.manager → node.rom ≡ s.node.rom → From old node.layer → C s → C (scene node s.outbox)
+  other_node s node l k m r f h = record { logins = l ∙ h.logins; keys = k ∙ h.keys; manager = m ∙ h.manager; rom = r ∙ h.rom; quiet = h.quiet; from = f }
 
   pub tells : (side : Side) (s : Scene) → IsQuiet side → Calm old first s → Calm old first (scene s.node (with_side s.outbox side))
-  tells side s q h = record { logins = h.logins; keys = h.keys; manager = h.manager; quiet = quiet_more s.outbox.sides side h.quiet q; from = h.from }
+  tells side s q h = record { logins = h.logins; keys = h.keys; manager = h.manager; rom = h.rom; quiet = quiet_more s.outbox.sides side h.quiet q; from = h.from }
 
   ran_tells : (place : ℕ) (m : Machine) (x : Option Outcome) (s : Scene) → C s → C (scene s.node (tell_ran place m x s.outbox))
   ran_tells place m None s h = h
@@ -177,11 +175,11 @@ module _ (old : Lives) (first : NodeState) where
   dropped : (x : Option FailCause) (place : ℕ) (s : Scene) → C s → C (scene (dropped_by x place s.node) s.outbox)
   unfolding without_ahead
   dropped None place s h = h
-  dropped (Some cause) place s h = other_node s (without_ahead place s.node) refl refl refl (from_disowned old (desk_at s.node place).ahead s.node.layer h.from) h
+  dropped (Some cause) place s h = other_node s (without_ahead place s.node) refl refl refl refl (from_disowned old (desk_at s.node place).ahead s.node.layer h.from) h
 
   promoted : (b : Bool) (place : ℕ) (s : Scene) → C s → C (scene (promoted_by b place s.node) s.outbox)
   promoted false place s h = h
-  promoted true place s h = other_node s (promoted_by true place s.node) refl refl refl h.from h
+  promoted true place s h = other_node s (promoted_by true place s.node) refl refl refl refl h.from h
 
   notes : (place : ℕ) (step : AgentStep) (s : Scene) → C s → C (noted place step s)
   unfolding noted
@@ -212,11 +210,11 @@ module _ (old : Lives) (first : NodeState) where
   unfolding answer_step
   answers request bytes rcode given s h =
       let a = answers_by (answering_step s.node.layer request bytes rcode given) s.outbox (header_in request).source (from_answering old s.node.layer request bytes rcode given h.from) h.quiet in
-      record { logins = h.logins; keys = h.keys; manager = h.manager; quiet = a.1; from = a.0 }
+      record { logins = h.logins; keys = h.keys; manager = h.manager; rom = h.rom; quiet = a.1; from = a.0 }
 
   main_leaves : (place peer : ℕ) (s : Scene) (r : Option LabelParts × (Layer Purpose × OutboxState)) → Asks r → C s → C (main_sent place peer s.node r).1
-  main_leaves place peer s (Some label, (layer, outbox)) a h = record { logins = h.logins; keys = h.keys; manager = h.manager; quiet = a.1; from = a.0 }
-  main_leaves place peer s (None, (layer, outbox)) a h = record { logins = h.logins; keys = h.keys; manager = h.manager; quiet = a.1; from = a.0 }
+  main_leaves place peer s (Some label, (layer, outbox)) a h = record { logins = h.logins; keys = h.keys; manager = h.manager; rom = h.rom; quiet = a.1; from = a.0 }
+  main_leaves place peer s (None, (layer, outbox)) a h = record { logins = h.logins; keys = h.keys; manager = h.manager; rom = h.rom; quiet = a.1; from = a.0 }
 
   main_asks : (body : Option Body) (place : ℕ) (login : Login) (s : Scene) → C s → C (main_asked body place login s).1
   main_asks None place login s h = h
@@ -232,15 +230,15 @@ module _ (old : Lives) (first : NodeState) where
   loses_if true place login which s h =
       let x = lost_step (desk_at s.node place).agent which causes.Label in
       let t = scene (with_agent s.node place x.1) s.outbox in
-      asks_main place login x.0 (noted place x.0 t) (notes place x.0 t (other_node s (with_agent s.node place x.1) refl refl refl h.from h))
+      asks_main place login x.0 (noted place x.0 t) (notes place x.0 t (other_node s (with_agent s.node place x.1) refl refl refl refl h.from h))
 
   loses : (place : ℕ) (login : Login) (which : Which) (s : Scene) → C s → C (lose place login which s).1
   unfolding lose
   loses place login which s h = loses_if (is_under_way which (desk_at s.node place).agent) place login which s h
 
   ahead_leaves : (place peer : ℕ) (s : Scene) (r : Option LabelParts × (Layer Purpose × OutboxState)) → Asks r → C s → C (ahead_sent place peer s.node r).1
-  ahead_leaves place peer s (Some label, (layer, outbox)) a h = record { logins = h.logins; keys = h.keys; manager = h.manager; quiet = a.1; from = a.0 }
-  ahead_leaves place peer s (None, (layer, outbox)) a h = record { logins = h.logins; keys = h.keys; manager = h.manager; quiet = a.1; from = a.0 }
+  ahead_leaves place peer s (Some label, (layer, outbox)) a h = record { logins = h.logins; keys = h.keys; manager = h.manager; rom = h.rom; quiet = a.1; from = a.0 }
+  ahead_leaves place peer s (None, (layer, outbox)) a h = record { logins = h.logins; keys = h.keys; manager = h.manager; rom = h.rom; quiet = a.1; from = a.0 }
 
   ahead_if : (b : Bool) (body : Body) (place : ℕ) (login : Login) (s : Scene) → C s → C (cond b (false, s) (ahead_sent place login.node s.node (request_step s.node.layer s.outbox login.node body (purposes.Agent place)))).1
   ahead_if true body place login s h = h
@@ -288,7 +286,7 @@ module _ (old : Lives) (first : NodeState) where
       let b = is_reset (state_in (desk_at s.node place).agent.phase) in
       let told = scene s.node (told_cut b place cause s.outbox) in
       let d = desk_at s.node place in
-      other_node told (cut_node place s.node) refl refl refl (from_disowned old d.ahead (disowned d.main s.node.layer) (from_disowned old d.main s.node.layer h.from)) (cut_tells b place cause s h)
+      other_node told (cut_node place s.node) refl refl refl refl (from_disowned old d.ahead (disowned d.main s.node.layer) (from_disowned old d.main s.node.layer h.from)) (cut_tells b place cause s h)
 
   cuts_one : (cause : CutCause) (unit : Option ℕ) (place : ℕ) (s : Scene) → C s → C (cut_at cause unit place s)
   unfolding cut_at
@@ -309,7 +307,7 @@ module _ (old : Lives) (first : NodeState) where
   clears : (unit : ℕ) (s : Scene) → C s → C (clear_unit unit s)
   unfolding clear_unit
   clears unit s h =
-      record { logins = h.logins; keys = h.keys; manager = h.manager; quiet = quiet_more s.outbox.sides (sides.Cleared unit) h.quiet tt; from = h.from }
+      record { logins = h.logins; keys = h.keys; manager = h.manager; rom = h.rom; quiet = quiet_more s.outbox.sides (sides.Cleared unit) h.quiet tt; from = h.from }
 
   pub clears_from : (left unit : ℕ) (s : Scene) → Calm old first s → Calm old first (clear_from left unit s)
   unfolding clear_from
@@ -323,9 +321,9 @@ module _ (old : Lives) (first : NodeState) where
 
   announced : (place peer : ℕ) (s : Scene) (r : Option LabelParts × (Layer Purpose × OutboxState)) → Asks r → C s → C (unsolicited_by place peer s.node r)
   announced place peer s (Some label, (layer, outbox)) a h =
-      record { logins = h.logins; keys = h.keys; manager = h.manager; quiet = quiet_more outbox.sides (sides.Unsolicited place) a.1 tt; from = a.0 }
+      record { logins = h.logins; keys = h.keys; manager = h.manager; rom = h.rom; quiet = quiet_more outbox.sides (sides.Unsolicited place) a.1 tt; from = a.0 }
   announced place peer s (None, (layer, outbox)) a h =
-      record { logins = h.logins; keys = h.keys; manager = h.manager; quiet = quiet_more outbox.sides (sides.Unsent place) a.1 tt; from = a.0 }
+      record { logins = h.logins; keys = h.keys; manager = h.manager; rom = h.rom; quiet = quiet_more outbox.sides (sides.Unsent place) a.1 tt; from = a.0 }
 
   announces_to : (place : ℕ) (login : Login) (s : Scene) → C s → C (announce_to place login s)
   unfolding announce_to
@@ -357,7 +355,7 @@ module _ (old : Lives) (first : NodeState) where
 
   changes_by : (b : Bool) (unit place : ℕ) (s : Scene) → C s → C (scene (changed_by b unit place s.node) s.outbox)
   changes_by false unit place s h = h
-  changes_by true unit place s h = other_node s (changed_by true unit place s.node) refl refl refl h.from h
+  changes_by true unit place s h = other_node s (changed_by true unit place s.node) refl refl refl refl h.from h
 
   follows_all : (loaded : Bool) (place : ℕ) (login : Login) (step : AgentStep) (s : Scene) → C s → C (follow_all loaded place login step s)
   unfolding follow_all
@@ -367,7 +365,7 @@ module _ (old : Lives) (first : NodeState) where
 
   -- the step itself changes the desk and the unit
   steps_with : (place unit : ℕ) (which : Which) (r : AgentStep × Machine) (s : Stage) (o : OutboxState) → C (scene s.node o) → C (scene (replied_with place unit which r s).1.node o)
-  steps_with place unit which (step, m) s o h = record { logins = h.logins; keys = h.keys; manager = h.manager; quiet = h.quiet; from = h.from }
+  steps_with place unit which (step, m) s o h = record { logins = h.logins; keys = h.keys; manager = h.manager; rom = h.rom; quiet = h.quiet; from = h.from }
 
   steps : (told : Option Told) (place unit : ℕ) (which : Which) (answer : Answer) (s : Stage) (o : OutboxState) → C (scene s.node o) → C (scene (step_replied told place unit which answer s).1.node o)
   unfolding step_replied
@@ -392,7 +390,7 @@ module _ (old : Lives) (first : NodeState) where
 
   expires_with : (place : ℕ) (login : Login) (r : AgentStep × Desk) (s : Scene) → C s → C (expired_with place login r s)
   expires_with place login (step, desk) s h =
-      follows place login step (scene (with_desk s.node place desk) s.outbox) (other_node s (with_desk s.node place desk) refl refl refl h.from h)
+      follows place login step (scene (with_desk s.node place desk) s.outbox) (other_node s (with_desk s.node place desk) refl refl refl refl h.from h)
 
   expires_by : (place : ℕ) (login : Option Login) (which : Option Which) (s : Scene) → C s → C (expired_by place login which s)
   expires_by place (Some login) (Some which) s h = expires_with place login (expired_desk which (desk_at s.node place)) s h
@@ -415,9 +413,9 @@ module _ (old : Lives) (first : NodeState) where
       let t = answered request bytes 0 [] opened in
       let told = tells (sides.Opened place (orb_of desk.agent)) s tt h in
       asks_in place ask (login_at t.node place) t
-      (answers request bytes 0 [] opened (record { logins = told.logins; keys = told.keys; manager = told.manager; quiet = told.quiet; from = told.from }))
+      (answers request bytes 0 [] opened (record { logins = told.logins; keys = told.keys; manager = told.manager; rom = told.rom; quiet = told.quiet; from = told.from }))
   points_by place request bytes (Err refusal, desk) s h =
-      answers request bytes _ [] (scene (with_desk s.node place desk) s.outbox) (other_node s (with_desk s.node place desk) refl refl refl h.from h)
+      answers request bytes _ [] (scene (with_desk s.node place desk) s.outbox) (other_node s (with_desk s.node place desk) refl refl refl refl h.from h)
 
   points : (place : ℕ) (pointer : OrbPointer) (request : Packet) (bytes : List ℕ) (s : Scene) → C s → C (point place pointer request bytes s)
   unfolding point
@@ -427,7 +425,7 @@ module _ (old : Lives) (first : NodeState) where
   rings_by place request bytes (ask, m) s h =
       let rung = scene (with_agent s.node place m) s.outbox in
       let t = answered request bytes 0 [] rung in
-      asks_in place ask (login_at t.node place) t (answers request bytes 0 [] rung (other_node s (with_agent s.node place m) refl refl refl h.from h))
+      asks_in place ask (login_at t.node place) t (answers request bytes 0 [] rung (other_node s (with_agent s.node place m) refl refl refl refl h.from h))
 
   rings : (place : ℕ) (request : Packet) (bytes : List ℕ) (s : Scene) → C s → C (ring place request bytes s)
   unfolding ring
@@ -439,4 +437,4 @@ module _ (old : Lives) (first : NodeState) where
   accesses_by (accesses.Point pointer) place request bytes s h = points place pointer request bytes s h
   accesses_by accesses.Pointer place request bytes s h = answers request bytes 0 _ s h
   accesses_by accesses.Ring place request bytes s h = rings place request bytes s h
-  accesses_by accesses.Enable place request bytes s h = answers request bytes 0 [] (enabled place s) (other_node s (enabled place s).node refl refl refl h.from h)
+  accesses_by accesses.Enable place request bytes s h = answers request bytes 0 [] (enabled place s) (other_node s (enabled place s).node refl refl refl refl h.from h)

@@ -1,5 +1,5 @@
 -- A decision of the management agent changes the table of logins as its notes do, by the ORB that it was made on.
-use Rattle.std.proofs.Common.{◌≡◌, ◌∙◌, refl, sym, ap, subst, ℕ, ◌+◌, ◌*◌, ◌^◌, ◌<◌, ◌==◌, ◌&&◌, nat_eq, not, Bool, true, false, cond, List, length, map, set, Option, Some, None, Result, Ok, Err, arith}
+use Rattle.std.proofs.Common.{◌≡◌, ◌∙◌, refl, sym, ap, subst, ℕ, ◌+◌, ◌*◌, ◌^◌, ◌==◌, ◌&&◌, nat_eq, not, Bool, true, false, cond, List, length, map, set, Option, Some, None, Result, Ok, Err, arith}
 use Rattle.std.specs.Prelude.{is_none, position}
 use Rattle.std.proofs.lemmas.Bool.Decides.{nat_tests}
 use Rattle.sbp_base.specs.Quadlets.{quad}
@@ -7,8 +7,7 @@ use Rattle.login_table.specs.declared.login.Entered.{Entered}
 use Rattle.login_table.specs.declared.login.Login.{Login}
 use Rattle.login_table.specs.declared.login.LoginRefusal.{LoginRefusal}
 use Rattle.login_table.specs.declared.login.LoginRefusal.TheVariants as refusals
-use Rattle.login_table.specs.Requests.{LoginRequest}
-use Rattle.login_table.specs.Sound.{IsSound, IsTable}
+use Rattle.login_table.specs.Sound.{IsSound}
 use Rattle.login_table.specs.Table as table
 use Rattle.login_table.specs.Table.{Table, back_step, enter_step, entered, find, id_at, id_of, is_held, is_live, is_live_of, is_old, leave_step, left_for, place_at, revived}
 use Rattle.login_table.proofs.Searching.{found}
@@ -37,7 +36,7 @@ use Rattle.sbp_journal.specs.declared.operation.FunctionWord.TheVariants as word
 use Rattle.sbp_laws.specs.Targets.{Decided, at_id, bytes_in, decided_by, decided_in, keep_decided}
 use Rattle.sbp_world.specs.Words.{function_word, login_if}
 use Rattle.target_terms.specs.Offices.{Office, by_managed, by_note, placed}
-use Rattle.target_terms.proofs.Places.{AreApart, one_changed, sound_apart}
+use Rattle.target_terms.proofs.Places.{one_changed, sound_apart}
 
 -- ---- what the notes of a decision do
 

@@ -1,10 +1,5 @@
 -- What the management agent does at a reply: its notes change the office as its step does the node, and at most one request leaves for it.
 use Rattle.std.proofs.Common.{◌≡◌, ◌∙◌, refl, sym, ap, subst, ℕ, zero, suc, ◌+◌, ◌==◌, nat_lt, is_some, Bool, true, false, cond, List, [], ◌∷◌, ◌++◌, length, Option, Some, None, Result, Ok, Err}
-use Rattle.async_packet.specs.Labels.{LabelParts}
-use Rattle.label_table.specs.declared.judgement.Asked.{Asked}
-use Rattle.label_table.specs.Bodies.{Body}
-use Rattle.label_table.specs.Layer.{Layer, asking_step}
-use Rattle.login_table.specs.Sound.{IsSound}
 use Rattle.login_table.specs.Table.{Table}
 use Rattle.mgmt_agent.specs.declared.decision.Decision.{Decision}
 use Rattle.mgmt_agent.specs.declared.decision.Effect.{Effect}
@@ -16,31 +11,25 @@ use Rattle.mgmt_agent.specs.declared.operation.Phase.{Phase}
 use Rattle.mgmt_agent.specs.declared.operation.Phase.TheVariants as phases
 use Rattle.mgmt_agent.specs.Decisions.{decide, reads_eui}
 use Rattle.mgmt_agent.specs.Machine as management
-use Rattle.orb_layout.specs.declared.ask.Ask.{Ask}
 use Rattle.orb_layout.specs.declared.ask.Ask.TheVariants as ask
 use Rattle.orb_layout.specs.declared.ask.FailCause.{FailCause}
 use Rattle.orb_layout.specs.declared.management.ManagementOrb.{ManagementOrb}
 use Rattle.orb_layout.specs.ManagementOrbs.{management_orb}
-use Rattle.orb_layout.specs.Replies.{Answer, NoLabel, payload_of, write_failure}
+use Rattle.orb_layout.specs.Replies.{Answer, payload_of, write_failure}
 use Rattle.sbp_journal.specs.declared.cause.CutCause.{CutCause}
 use Rattle.sbp_journal.specs.declared.cause.CutCause.TheVariants as cuts
 use Rattle.sbp_journal.specs.declared.outbox.Outgoing.{Outgoing}
 use Rattle.sbp_journal.specs.declared.side.Side.{Side}
 use Rattle.sbp_journal.specs.declared.side.Side.TheVariants as sides
 use Rattle.sbp_journal.specs.Outgoings.{OutboxState}
-use Rattle.sbp_target.specs.declared.purpose.Purpose.{Purpose}
-use Rattle.sbp_target.specs.declared.purpose.Purpose.TheVariants as purposes
 use Rattle.sbp_target.specs.Agents.{cut, told_cut}
-use Rattle.sbp_target.specs.Management.{ask_manager, clear_one, clear_units, cut_place, cut_placed, decided_by as node_decided, effect_by, failed_by, lose_operation, lost_in, manager_asked, manager_body, manager_lost, manager_sent, place_in, tell_failed, tell_left, told_of, with_manager}
+use Rattle.sbp_target.specs.Management.{clear_one, cut_placed, decided_by as node_decided, effect_by, failed_by, place_in, tell_left}
 use Rattle.sbp_target.specs.Nodes.{NodeState, Scene, desk_at, login_at, scene}
-use Rattle.sbp_target.specs.Sending.{request_step, sent_by, with_side}
+use Rattle.sbp_target.specs.Sending.{with_side}
 use Rattle.sbp_target.specs.Units.{clear_from, clear_unit, cut_all, cut_at, cut_from, is_cut}
 use Rattle.command_agent.specs.Machine.{state_in}
 use Rattle.command_agent.specs.Steps.{is_reset}
-use Rattle.target_laws.proofs.Managing.{unlabelled}
-use Rattle.target_laws.proofs.Primitives.{asks_known}
 use Rattle.target_laws.proofs.Seats.{Lives}
-use Rattle.target_laws.specs.Layers.{request}
 use Rattle.target_terms.proofs.Calm.{AreQuiet, Calm, From, IsQuiet, clears_from, clears_one, cuts_all, cuts_placed}
 use Rattle.target_terms.proofs.Deciding.{by_decision, by_effect}
 use Rattle.target_terms.specs.Offices.{Office, by_side, by_sides, failed}
@@ -126,21 +115,22 @@ pub record Stands (first now : Office) (old : Lives) (node : NodeState) (packets
   pub logins : s.node.logins ≡ node.logins
   pub keys : s.node.keys ≡ node.keys
   pub manager : s.node.manager ≡ node.manager
+  pub rom : s.node.rom ≡ node.rom
   pub says : Says first now s.outbox.sides
   pub from : From old s.node.layer
   pub packets_are : s.outbox.packets ≡ packets
 
 calm_stands : (o : Office) (old : Lives) (node : NodeState) (packets : List Outgoing) (s : Scene) → Calm old node s → s.outbox.packets ≡ packets → Stands o o old node packets s
 calm_stands o old node packets s c p =
-    record { logins = c.logins; keys = c.keys; manager = c.manager; says = quiet_says s.outbox.sides o c.quiet; from = c.from; packets_are = p }
+    record { logins = c.logins; keys = c.keys; manager = c.manager; rom = c.rom; says = quiet_says s.outbox.sides o c.quiet; from = c.from; packets_are = p }
 
 tells_more : (first now : Office) (old : Lives) (node : NodeState) (packets : List Outgoing) (side : Side) (s : Scene) → TellsBehind side → Stands first now old node packets s → Stands first (by_side side now) old node packets (scene s.node (with_side s.outbox side))
 tells_more first now old node packets side s b h =
-    record { logins = h.logins; keys = h.keys; manager = h.manager; says = says_more first now s.outbox.sides side b h.says; from = h.from; packets_are = h.packets_are }
+    record { logins = h.logins; keys = h.keys; manager = h.manager; rom = h.rom; says = says_more first now s.outbox.sides side b h.says; from = h.from; packets_are = h.packets_are }
 
 module _ (first : Office) (old : Lives) (node : NodeState) (outbox : OutboxState) (silent : outbox.sides ≡ []) (f : From old node.layer) where
   calm : Calm old node (scene node outbox)
-  calm = record { logins = refl; keys = refl; manager = refl; quiet = subst AreQuiet (sym silent) tt; from = f }
+  calm = record { logins = refl; keys = refl; manager = refl; rom = refl; quiet = subst AreQuiet (sym silent) tt; from = f }
 
   begun : Stands first first old node outbox.packets (scene node outbox)
   begun = calm_stands first old node outbox.packets (scene node outbox) calm refl
@@ -152,14 +142,14 @@ module _ (first : Office) (old : Lives) (node : NodeState) (outbox : OutboxState
   effects_stand : (effect : Effect) (subject : ℕ) → Stands first (by_effect effect subject first) old node outbox.packets (effect_by effect subject (scene node outbox))
   effects_stand effects.Nothing subject = begun
   effects_stand (effects.Entered place replaced) subject =
-      let h = left_tells replaced place in record { logins = h.logins; keys = h.keys; manager = h.manager; says = h.says; from = h.from; packets_are = h.packets_are }
+      let h = left_tells replaced place in record { logins = h.logins; keys = h.keys; manager = h.manager; rom = h.rom; says = h.says; from = h.from; packets_are = h.packets_are }
   effects_stand (effects.Back place) subject = tells_more first first old node outbox.packets (sides.Back subject) (scene node outbox) tt begun
   effects_stand (effects.Left place) subject =
       let t = cut_placed (place_in place) cuts.Logout (scene node outbox) in
       let c = cuts_placed old node (place_in place) cuts.Logout (scene node outbox) calm in
       let h = tells_more first first old node outbox.packets (sides.Left subject) t tt (calm_stands first old node outbox.packets t c (placed_sends (place_in place) cuts.Logout (scene node outbox))) in
-      record { logins = h.logins; keys = h.keys; manager = h.manager; says = h.says; from = h.from; packets_are = h.packets_are }
-  effects_stand (effects.Abort place orb) subject = record { logins = refl; keys = refl; manager = refl; says = begun.says; from = f; packets_are = refl }
+      record { logins = h.logins; keys = h.keys; manager = h.manager; rom = h.rom; says = h.says; from = h.from; packets_are = h.packets_are }
+  effects_stand (effects.Abort place orb) subject = record { logins = refl; keys = refl; manager = refl; rom = refl; says = begun.says; from = f; packets_are = refl }
   effects_stand (effects.AbortSet place) subject =
       calm_stands first old node outbox.packets (cut_placed (place_in place) cuts.AbortSet (scene node outbox))
       (cuts_placed old node (place_in place) cuts.AbortSet (scene node outbox) calm) (placed_sends (place_in place) cuts.AbortSet (scene node outbox))

@@ -1,12 +1,6 @@
 -- What each note makes of the terms of the management: notes on agents, runs and units leave it.
-use Rattle.std.proofs.Common.{◌≡◌, ◌∙◌, refl, sym, ap, ℕ, Bool, true, false, cond, List, map, Option, Some, None}
-use Rattle.std.specs.Prelude.{is_none, position, slice_set}
-use Rattle.login_table.specs.declared.login.Login.{Login}
-use Rattle.login_table.specs.Table.{Table, entered, held, revived}
-use Rattle.mgmt_agent.specs.Decisions.{asked_by}
-use Rattle.mgmt_agent.specs.Machine as manager
-use Rattle.orb_layout.specs.declared.ask.Ask.{Ask}
-use Rattle.orb_layout.specs.declared.ask.Ask.TheVariants.{Nothing}
+use Rattle.std.proofs.Common.{◌≡◌, ◌∙◌, refl, ap, ℕ, List, Option, Some, None}
+use Rattle.std.specs.Prelude.{is_none, position}
 use Rattle.orb_layout.specs.declared.ask.FailCause.{FailCause}
 use Rattle.orb_layout.specs.declared.ask.FailCause.TheVariants as causes
 use Rattle.rbc_disk.specs.Runs.{Told}
@@ -16,8 +10,8 @@ use Rattle.sbp_journal.specs.declared.note.Note.{Note}
 use Rattle.sbp_journal.specs.declared.note.Note.TheVariants as notes
 use Rattle.sbp_journal.specs.declared.operation.FunctionWord.{FunctionWord}
 use Rattle.sbp_journal.specs.declared.operation.FunctionWord.TheVariants as functions
-use Rattle.sbp_laws.specs.Targets.{Decided, Reply, Target, agent_over, at_id, enters, enters_in, entered_by, going_on, over, taken_on, target_by, told_in, with_untold}
-use Rattle.target_terms.specs.Offices.{Office, at_rest, by_managed, by_note, changed, failed, office_of, placed, placed_by}
+use Rattle.sbp_laws.specs.Targets.{Decided, Reply, Target, enters_in, entered_by, going_on, over, taken_on, target_by, told_in, with_untold}
+use Rattle.target_terms.specs.Offices.{at_rest, by_managed, by_note, office_of, placed, placed_by}
 
 -- ---- what agents do leaves it
 

@@ -1,6 +1,6 @@
 -- Each call of a target changes its management as its notes do: the office of the terms that is a node's before a call is that node's after it,
 -- once the first note of the turn and the sides that the call told were taken in.
-use Rattle.std.specs.Prelude.{ℕ, ◌<◌, Bool, true, false, List, length, Option, Some, None, Result, Ok, Err}
+use Rattle.std.specs.Prelude.{ℕ, ◌<◌, Bool, true, false, List, length, Option, Some, Result, Ok}
 use Rattle.async_packet.specs.Labels.{LabelParts}
 use Rattle.async_packet.specs.Packet.{Packet, header_in}
 use Rattle.label_table.specs.declared.reply.Stale.{Stale}

@@ -1,6 +1,6 @@
 -- What the terms of the target say of its management (NCITS 325-1998, access and task management): the table of logins, the keys of the units,
 -- the operation with its request, and what was decided on. What a note makes of it, and so what a node makes of it that tells such a note.
-use Rattle.std.specs.Prelude.{◌≡◌, ℕ, Bool, List, [], ◌∷◌, map, is_none, position, slice_set, Option, Some, None, Result, Ok, Err}
+use Rattle.std.specs.Prelude.{◌≡◌, ℕ, List, [], ◌∷◌, map, is_none, position, slice_set, Option, Some, None, Result, Ok, Err}
 use Rattle.login_table.specs.declared.login.Login.{Login}
 use Rattle.login_table.specs.Table.{Table, entered, held, revived}
 use Rattle.mgmt_agent.specs.declared.decision.ManagerStep.{ManagerStep}

@@ -1,9 +1,16 @@
 //! The terms of the management and the target.
 ghost use Rattle.target_terms.specs.Calls.{ManagementLaw};
+ghost use Rattle.target_terms.specs.Terms.{TermsLaw};
 
 /// Each call of a target changes the table of logins, the keys and the operation as its notes tell: the first
 /// note of its turn, and then what the call tells, one after the other.
-
 pub fn calls_change_the_management()
     ensures { ManagementLaw }
+{}
+
+/// After every line of every run of a machine with a unit, the table of logins, the keys and the management's operation
+/// that the laws read off the history are the target's own; the operation waits for one request, the one that the history
+/// has for it.
+pub fn terms_are_the_management()
+    ensures { TermsLaw }
 {}
