@@ -1,0 +1,11 @@
+pub mod Over
+pub mod Sweeps
+pub mod Prepares
+pub mod Links
+pub mod Takes
+pub mod Drops
+pub mod Pins
+pub mod Appends
+pub mod Told
+pub mod Beside
+pub mod StepLaws
