@@ -1,9 +1,8 @@
 -- An ORB that is prepared is appended to its list.
-use Rattle.std.proofs.Common.{arith, ◌≡◌, refl, sym, ◌∙◌, ap, subst, inl, inr, ℕ, zero, suc, ◌+◌, ◌-◌, ◌<◌, ◌≤◌, ◌==◌, nat_eq, Bool, true, false, cond, List, [], ◌∷◌, length, map, slice_set, Option, Some, None, Result, Ok, Err}
+use Rattle.std.proofs.Common.{arith, ◌≡◌, refl, sym, ◌∙◌, ap, subst, inl, inr, ℕ, zero, suc, ◌+◌, ◌-◌, ◌<◌, nat_eq, Bool, true, false, cond, List, [], ◌∷◌, length, map, slice_set, Option, Some, None, Ok, Err}
 use Rattle.std.proofs.lemmas.Bool.Decides.{nat_tests}
 use Rattle.std.proofs.lemmas.List.{map-set}
 use Rattle.std.proofs.lemmas.List.Quantifiers.{position-Some}
-use Rattle.orb_list.specs.declared.fault.ListFault.{ListFault}
 use Rattle.orb_list.specs.declared.fault.ListFault.TheVariants as faults
 use Rattle.orb_list.specs.declared.list.Link.{Link}
 use Rattle.orb_list.specs.declared.list.Link.TheVariants as links
@@ -21,7 +20,7 @@ use Rattle.sbp_journal.specs.declared.note.NoteBuffer.{NoteBuffer}
 use Rattle.sbp_laws.specs.Lists as terms
 use Rattle.sbp_laws.specs.Lists.{orb, SlotState as Row, used, is_vacant, lowest_vacant}
 use Rattle.host_terms.specs.Rows.{name, row, row_by, used_by}
-use Rattle.host_terms.specs.Fits.{ListTerms, terms_at, over_at, IsOf, StateFits, linked_by, LoweredFits, over_now, ListFits, IfList, Fits, Frees, Swept, Rows, AreRows}
+use Rattle.host_terms.specs.Fits.{ListTerms, terms_at, over_at, IsOf, StateFits, linked_by, LoweredFits, over_now, ListFits, IfList, Frees, Rows, AreRows}
 use Rattle.host_terms.proofs.Sweeps.{frees, closes_still}
 use Rattle.host_terms.proofs.Prepares.{first_terms, next_terms, itself, Grows, list_of, added_fits, first_swept, next_swept}
 

@@ -79,7 +79,7 @@ turned i j e = let d : nat_eq i j ≡ false = not_here (nat_eq i j) e in grind (
 
 -- ---- the ORB of a number
 
-find_waits : (slots : List Slot) (number : ℕ) (u : TicketParts) → table.find_in slots number ≡ Some u → (k : ℕ) × ((k < length slots) × (waiting (slot_in slots k) ≡ Some u))
+pub find_waits : (slots : List Slot) (number : ℕ) (u : TicketParts) → table.find_in slots number ≡ Some u → (k : ℕ) × ((k < length slots) × (waiting (slot_in slots k) ≡ Some u))
 unfolding table.find_in
 find_waits [] number u e = absurd (none e)
   where

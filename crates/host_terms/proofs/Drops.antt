@@ -1,7 +1,6 @@
 -- The present list is dropped, and a generation frees every slot.
-use Rattle.std.proofs.Common.{arith, ◌≡◌, refl, sym, ◌∙◌, ap, subst, ℕ, zero, suc, ◌+◌, ◌<◌, ◌≤◌, Bool, true, false, cond, List, [], ◌∷◌, length, map, replicate, Option, Some, None}
+use Rattle.std.proofs.Common.{◌≡◌, refl, sym, ◌∙◌, ap, subst, ℕ, ◌+◌, ◌<◌, Bool, true, false, cond, List, [], ◌∷◌, length, map, replicate, Option, Some, None}
 use Rattle.std.proofs.lemmas.List.{length-map}
-use Rattle.orb_list.specs.declared.list.PresentList.{PresentList}
 use Rattle.orb_list.specs.declared.slot.SlotState.{SlotState}
 use Rattle.orb_list.specs.declared.slot.SlotState.TheVariants as states
 use Rattle.orb_list.specs.declared.slot.Slot.{Slot}
@@ -9,9 +8,9 @@ use Rattle.orb_list.specs.Tickets.{TicketParts}
 use Rattle.orb_list.specs.Table as table
 use Rattle.orb_list.specs.Table.{SlotTable, slot_in, is_free, free_state, rested}
 use Rattle.orb_list.proofs.Tied.{rested_last}
-use Rattle.sbp_laws.specs.Lists.{TakenStatus, SlotState as Row, vacant, used, resting, put_to_rest, new_slots}
-use Rattle.host_terms.specs.Rows.{name_in, row, row_by, used_by}
-use Rattle.host_terms.specs.Fits.{ListTerms, over_at, IfLast, StateFits, IfHeld, Fits, Frees, Swept, Rows}
+use Rattle.sbp_laws.specs.Lists.{TakenStatus, SlotState as Row, vacant, put_to_rest, new_slots}
+use Rattle.host_terms.specs.Rows.{name_in, row, row_by}
+use Rattle.host_terms.specs.Fits.{ListTerms, over_at, IfLast, StateFits, IfHeld, Fits, Frees, Rows}
 use Rattle.host_terms.proofs.Sweeps.{map_at, closes_still}
 
 -- the terms behind a drop, and behind a generation that is seen
@@ -57,7 +56,7 @@ module _ (t : ListTerms) (s : SlotTable) (f : Fits t s) where
     held = ap is_free (map_at rested s.slots p.slot f.size h.small) ∙ rest_held (slot_in s.slots p.slot) h.held;
   }
 
-  dropped_fits : Fits (drop_terms true t) (dropped_table s)
+  pub dropped_fits : Fits (drop_terms true t) (dropped_table s)
   dropped_fits = record {
     size = length-map s.slots rested ∙ f.size;
     present = refl;

@@ -8,4 +8,11 @@ pub mod Pins
 pub mod Appends
 pub mod Told
 pub mod Beside
+pub mod Listed
+pub mod Acts
 pub mod StepLaws
+pub mod Ends
+pub mod Hears
+pub mod Sees
+pub mod Readings
+pub mod CallLaws

@@ -1,18 +1,16 @@
 -- The last ORB of the present list is linked behind the one before it: first the low quadlet of its next pointer, then the high one.
-use Rattle.std.proofs.Common.{arith, ◌≡◌, refl, sym, ◌∙◌, ap, subst, ℕ, zero, suc, ◌+◌, ◌-◌, ◌<◌, ◌≤◌, ◌==◌, ◌&&◌, ◌||◌, not, nat_eq, nat_lt, Bool, true, false, cond, List, [], ◌∷◌, length, map, Option, Some, None}
+use Rattle.std.proofs.Common.{arith, ◌≡◌, refl, sym, ◌∙◌, ap, subst, ℕ, suc, ◌+◌, ◌<◌, ◌≤◌, ◌&&◌, ◌||◌, not, nat_eq, nat_lt, Bool, true, false, cond, List, map, Option, Some, None}
 use Rattle.std.proofs.lemmas.Bool.Decides.{nat_tests}
 use Rattle.orb_list.specs.declared.list.Link.{Link}
 use Rattle.orb_list.specs.declared.list.Link.TheVariants as links
 use Rattle.orb_list.specs.declared.list.PresentList.{PresentList}
 use Rattle.orb_list.specs.declared.slot.SlotState.{SlotState}
 use Rattle.orb_list.specs.declared.slot.SlotState.TheVariants as states
-use Rattle.orb_list.specs.declared.slot.Slot.{Slot}
 use Rattle.orb_list.specs.Tickets.{TicketParts}
 use Rattle.orb_list.specs.Table as table
 use Rattle.orb_list.specs.Table.{SlotTable, slot_in, is_done}
 use Rattle.sbp_laws.specs.Lists.{TakenStatus, SlotState as Row}
-use Rattle.host_terms.specs.Rows.{name_in, row}
-use Rattle.host_terms.specs.Fits.{ListTerms, over_at, IsOf, IsTaken, linked_by, LoweredFits, StateFits, ListFits, IfList, ToCome, Fits, Frees, over_now, Swept, Rows}
+use Rattle.host_terms.specs.Fits.{ListTerms, over_at, linked_by, LoweredFits, StateFits, Fits, Frees, Rows}
 use Rattle.host_terms.proofs.Sweeps.{closes, closes_still}
 use Rattle.host_terms.proofs.Prepares.{itself}
 

@@ -1,7 +1,6 @@
 -- A slot is over by the run terms exactly where it is by its table.
-use Rattle.std.proofs.Common.{arith, ◌≡◌, refl, sym, ◌∙◌, ap, subst, ℕ, zero, suc, ◌+◌, ◌-◌, ◌<◌, ◌==◌, ◌&&◌, ◌||◌, not, nat_lt, Bool, true, false, cond, List, [], ◌∷◌, length, map, Option, Some, None}
+use Rattle.std.proofs.Common.{arith, ◌≡◌, refl, sym, ◌∙◌, ap, subst, ℕ, suc, ◌+◌, ◌-◌, ◌<◌, ◌==◌, ◌&&◌, ◌||◌, not, nat_lt, Bool, true, false, cond, List, [], ◌∷◌, length, map, Option, Some, None}
 use Rattle.std.proofs.lemmas.Bool.Decides.{nat_tests}
-use Rattle.orb_layout.specs.StatusBlocks.{row_of}
 use Rattle.orb_list.specs.declared.list.Link.{Link}
 use Rattle.orb_list.specs.declared.list.Link.TheVariants as links
 use Rattle.orb_list.specs.declared.list.PresentList.{PresentList}
@@ -12,9 +11,9 @@ use Rattle.orb_list.specs.Tickets.{TicketParts, is_ticket}
 use Rattle.orb_list.specs.Table as table
 use Rattle.orb_list.specs.Table.{SlotTable, slot_in, is_done, next_is_linked, over_for, over_in, released}
 use Rattle.orb_list.proofs.Tied.{ticket_itself}
-use Rattle.sbp_laws.specs.Lists.{Orb, TakenStatus, SlotState as Row, vacant, used, resting, is_orb, is_over_by, is_pinned}
+use Rattle.sbp_laws.specs.Lists.{SlotState as Row, vacant, used, is_over_by, is_pinned}
 use Rattle.host_terms.specs.Rows.{name, name_in, row, row_by}
-use Rattle.host_terms.specs.Fits.{ListTerms, over_at, LastFits, IfLast, IsOf, IsTaken, StateFits, linked_by, ListFits, IfList, IsHeld, IfHeld, Fits, Frees, over_now, Swept}
+use Rattle.host_terms.specs.Fits.{ListTerms, over_at, LastFits, IfLast, IsTaken, StateFits, linked_by, ListFits, IfList, IfHeld, Fits, Frees}
 
 -- ---- the rule of the slots is that of the terms
 

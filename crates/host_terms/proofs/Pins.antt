@@ -1,5 +1,5 @@
 -- A slot is pinned, and the pin ends.
-use Rattle.std.proofs.Common.{arith, ◌≡◌, refl, sym, ◌∙◌, ap, subst, ℕ, ◌+◌, ◌<◌, ◌==◌, ◌&&◌, ◌||◌, not, nat_lt, Bool, true, false, cond, List, map, Option, Some, None}
+use Rattle.std.proofs.Common.{◌≡◌, refl, sym, ◌∙◌, ap, ◌+◌, ◌<◌, ◌&&◌, ◌||◌, not, nat_lt, Bool, true, false, cond, List, map, Option, Some, None}
 use Rattle.orb_list.specs.declared.list.PresentList.{PresentList}
 use Rattle.orb_list.specs.declared.slot.SlotState.{SlotState}
 use Rattle.orb_list.specs.declared.slot.SlotState.TheVariants as states
@@ -9,8 +9,8 @@ use Rattle.orb_list.specs.Table as table
 use Rattle.orb_list.specs.Table.{SlotTable, slot_in, is_free, waiting}
 use Rattle.orb_list.proofs.Tied.{free_waits, waits_last}
 use Rattle.sbp_laws.specs.Lists.{Orb, SlotState as Row}
-use Rattle.host_terms.specs.Rows.{name, name_in, row}
-use Rattle.host_terms.specs.Fits.{ListTerms, over_at, StateFits, IfList, IfHeld, Fits, Frees, over_now, Swept, Rows}
+use Rattle.host_terms.specs.Rows.{name, name_in}
+use Rattle.host_terms.specs.Fits.{ListTerms, over_at, IfList, IfHeld, Fits, Frees, over_now, Rows}
 use Rattle.host_terms.proofs.Sweeps.{closes, closes_still}
 
 abbrev pub pin_terms : Bool → Option Orb → ListTerms → ListTerms

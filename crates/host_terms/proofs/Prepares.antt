@@ -1,8 +1,7 @@
 -- An ORB is prepared: the first one of a list, or the next one of the present list.
-use Rattle.std.proofs.Common.{arith, ◌≡◌, refl, sym, ◌∙◌, ap, subst, inl, inr, ◌⊎◌, ℕ, zero, suc, ◌+◌, ◌-◌, ◌<◌, ◌≤◌, ◌==◌, ◌&&◌, ◌||◌, not, nat_eq, nat_lt, Bool, true, false, cond, List, [], ◌∷◌, length, map, slice_set, Option, Some, None}
+use Rattle.std.proofs.Common.{arith, ◌≡◌, refl, sym, ◌∙◌, ap, subst, inl, inr, ◌⊎◌, ℕ, suc, ◌+◌, ◌-◌, ◌<◌, ◌≤◌, ◌&&◌, ◌||◌, not, nat_eq, nat_lt, Bool, true, false, cond, List, length, slice_set, Option, Some, None}
 use Rattle.std.proofs.Math.ListN.{length-set}
 use Rattle.std.proofs.lemmas.Bool.Decides.{nat_tests}
-use Rattle.sbp_base.specs.Update.{upd, upd2, upd3}
 use Rattle.orb_list.specs.declared.list.Link.{Link}
 use Rattle.orb_list.specs.declared.list.Link.TheVariants as links
 use Rattle.orb_list.specs.declared.list.PresentList.{PresentList}
@@ -13,9 +12,9 @@ use Rattle.orb_list.specs.Tickets.{TicketParts}
 use Rattle.orb_list.specs.Table as table
 use Rattle.orb_list.specs.Table.{SlotTable, slot_in, is_free, is_done, is_mid_link, waiting, extended, next_ticket, added, lists_begun}
 use Rattle.orb_list.proofs.Tied.{free_waits, set_here, set_there}
-use Rattle.sbp_laws.specs.Lists.{Orb, orb, TakenStatus, SlotState as Row, used}
-use Rattle.host_terms.specs.Rows.{name, name_in, row, row_by}
-use Rattle.host_terms.specs.Fits.{ListTerms, LastFits, IfLast, IsOf, IsTaken, StateFits, linked_by, LoweredFits, Waits, ListFits, IfList, IsHeld, IfHeld, ToCome, Fits, over_now, Swept}
+use Rattle.sbp_laws.specs.Lists.{orb, TakenStatus}
+use Rattle.host_terms.specs.Rows.{name, name_in}
+use Rattle.host_terms.specs.Fits.{ListTerms, IfLast, IsOf, IsTaken, StateFits, linked_by, LoweredFits, Waits, IfList, IfHeld, ToCome, Fits, over_now}
 
 -- the terms behind an append, of the first ORB of a list or of another one, in the slot `low`; only the first one begins a list
 abbrev pub first_terms : Bool → (n low : ℕ) → ListTerms → ListTerms

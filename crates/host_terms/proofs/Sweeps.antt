@@ -1,6 +1,5 @@
 -- Slots whose ORBs are over become free, in the table and in the run terms.
-use Rattle.std.proofs.Common.{arith, ◌≡◌, refl, sym, ◌∙◌, ap, subst, ℕ, zero, suc, ◌+◌, ◌-◌, ◌<◌, ◌==◌, ◌&&◌, ◌||◌, not, nat_lt, Bool, true, false, cond, List, [], ◌∷◌, length, map, Option, Some, None}
-use Rattle.std.proofs.lemmas.Bool.Decides.{nat_tests}
+use Rattle.std.proofs.Common.{arith, ◌≡◌, refl, sym, ◌∙◌, ap, subst, ℕ, suc, ◌<◌, ◌&&◌, ◌||◌, not, nat_lt, Bool, true, false, cond, List, [], ◌∷◌, length, map, Option, Some, None}
 use Rattle.std.proofs.lemmas.List.{get_or-map, length-map}
 use Rattle.orb_list.specs.declared.list.PresentList.{PresentList}
 use Rattle.orb_list.specs.declared.slot.SlotState.{SlotState}
@@ -13,8 +12,8 @@ use Rattle.orb_list.proofs.Tied.{ticket_itself, released_last, released_waits}
 use Rattle.sbp_journal.specs.Run.{Moment}
 use Rattle.sbp_laws.specs.Lists as terms
 use Rattle.sbp_laws.specs.Lists.{Orb, TakenStatus, SlotState as Row, vacant, used, resting}
-use Rattle.host_terms.specs.Rows.{name, name_in, row, row_by}
-use Rattle.host_terms.specs.Fits.{ListTerms, terms_at, over_at, IfLast, StateFits, Waits, ListFits, IfList, IsHeld, IfHeld, Fits, Frees, over_now, Swept, Rows}
+use Rattle.host_terms.specs.Rows.{name_in, row}
+use Rattle.host_terms.specs.Fits.{ListTerms, terms_at, over_at, IfLast, StateFits, Waits, IfList, IfHeld, Fits, Frees, over_now, Swept, Rows}
 use Rattle.host_terms.proofs.Over.{settles}
 
 -- A term of the run frees a slot so.

@@ -1,5 +1,5 @@
 -- The status of an ORB is taken.
-use Rattle.std.proofs.Common.{arith, ◌≡◌, refl, sym, ◌∙◌, ap, subst, ℕ, zero, suc, ◌+◌, ◌-◌, ◌<◌, ◌≤◌, ◌==◌, ◌&&◌, ◌||◌, not, max, nat_eq, nat_lt, Bool, true, false, cond, List, [], ◌∷◌, length, map, slice_set, Option, Some, None}
+use Rattle.std.proofs.Common.{arith, ◌≡◌, refl, sym, ◌∙◌, ap, subst, ℕ, zero, suc, ◌+◌, ◌-◌, ◌<◌, ◌≤◌, ◌==◌, ◌&&◌, not, max, nat_eq, Bool, true, false, cond, List, [], ◌∷◌, length, map, slice_set, Option, Some, None}
 use Rattle.std.proofs.Math.ListN.{length-set}
 use Rattle.std.proofs.lemmas.Bool.Decides.{nat_tests}
 use Rattle.orb_layout.specs.declared.status.StatusKind.{StatusKind}
@@ -12,9 +12,9 @@ use Rattle.orb_list.specs.Tickets.{TicketParts}
 use Rattle.orb_list.specs.Table as table
 use Rattle.orb_list.specs.Table.{SlotTable, slot_in, is_free, waiting, waits_in}
 use Rattle.orb_list.proofs.Tied.{set_here, set_there, waits_last}
-use Rattle.sbp_laws.specs.Lists.{Orb, TakenStatus, SlotState as Row, vacant, used, resting, is_orb, rests_at}
+use Rattle.sbp_laws.specs.Lists.{TakenStatus, SlotState as Row, used, resting, rests_at}
 use Rattle.host_terms.specs.Rows.{name, name_in, row, row_by}
-use Rattle.host_terms.specs.Fits.{ListTerms, over_at, LastFits, IfLast, IsOf, IsTaken, StateFits, Waits, ListFits, IfList, IsHeld, IfHeld, ToCome, Fits, Frees, over_now, Swept, Rows}
+use Rattle.host_terms.specs.Fits.{ListTerms, over_at, LastFits, IfLast, StateFits, Waits, IfHeld, Fits, Frees, Rows}
 use Rattle.host_terms.proofs.Over.{one_ticket, last_at, slot_is, here}
 use Rattle.host_terms.proofs.Sweeps.{closes}
 use Rattle.host_terms.proofs.Prepares.{itself}

@@ -1,25 +1,20 @@
 -- Each step of the slots, with the note that tells it.
-use Rattle.std.proofs.Common.{arith, ◌≡◌, refl, sym, ◌∙◌, ap, subst, slice_set, ℕ, zero, suc, ◌+◌, ◌-◌, ◌<◌, ◌≤◌, ◌==◌, nat_eq, Bool, true, false, cond, List, [], ◌∷◌, map, max, Option, Some, None, Result, Ok, Err}
-use Rattle.std.proofs.lemmas.Bool.Decides.{nat_tests}
+use Rattle.std.proofs.Common.{arith, ◌≡◌, refl, sym, ◌∙◌, ap, subst, slice_set, ℕ, suc, ◌+◌, ◌<◌, ◌≤◌, ◌==◌, Bool, true, cond, List, ◌∷◌, map, max, Option, Some, None, Ok}
 use Rattle.bus_memory.specs.Memory.{Memory}
 use Rattle.bus_memory.specs.Windows.{slot_of}
 use Rattle.orb_layout.specs.declared.status.StatusBlock.{StatusBlock}
-use Rattle.orb_layout.specs.declared.status.StatusKind.{StatusKind}
-use Rattle.orb_list.specs.declared.fault.ListFault.{ListFault}
 use Rattle.orb_list.specs.declared.list.Link.{Link}
 use Rattle.orb_list.specs.declared.list.Link.TheVariants as links
 use Rattle.orb_list.specs.declared.list.Linking.{Linking}
 use Rattle.orb_list.specs.declared.list.PresentList.{PresentList}
 use Rattle.orb_list.specs.declared.slot.SlotState.{SlotState}
 use Rattle.orb_list.specs.declared.slot.SlotState.TheVariants as states
-use Rattle.orb_list.specs.declared.slot.Slot.{Slot}
 use Rattle.orb_list.specs.Tickets.{TicketParts}
 use Rattle.orb_list.specs.Table as table
 use Rattle.orb_list.specs.Table.{SlotTable, slot_in, waiting, low_in, high_in, low_for, high_for, waits_low, waits_high}
 use Rattle.orb_list.proofs.Tied.{past_slots, waits_last}
 use Rattle.sbp_journal.specs.Run.{Moment, said}
 use Rattle.sbp_journal.specs.Wire.{terms as wire_terms}
-use Rattle.sbp_journal.specs.declared.note.Note.{Note}
 use Rattle.sbp_journal.specs.declared.note.Note.TheVariants as notes
 use Rattle.sbp_journal.specs.declared.operation.Operation.TheVariants as operations
 use Rattle.sbp_journal.specs.declared.operation.OpWord.{OpWord}
@@ -27,16 +22,16 @@ use Rattle.sbp_laws.specs.Packets.{access_at}
 use Rattle.sbp_laws.specs.Lists as terms
 use Rattle.sbp_laws.specs.Lists.{TakenStatus, SlotState as Row, put_to_rest, last_got, src_in, pinned_orb}
 use Rattle.orb_layout.specs.StatusBlocks.{row_of}
-use Rattle.host_terms.specs.Rows.{name, name_in, row}
-use Rattle.host_terms.specs.Fits.{ListTerms, terms_at, over_at, IsOf, StateFits, ListFits, IfList, Fits, Frees, Swept, Rows, AreRows}
+use Rattle.host_terms.specs.Rows.{name_in}
+use Rattle.host_terms.specs.Fits.{terms_at, over_at, StateFits, Frees, Rows, AreRows}
 use Rattle.host_terms.specs.Steps.{MayTake}
 use Rattle.host_terms.proofs.Over.{last_at}
 use Rattle.host_terms.proofs.Sweeps.{frees, rests}
 use Rattle.host_terms.proofs.Prepares.{itself}
 use Rattle.host_terms.proofs.Links.{low_terms, link_terms, low_rows, high_rows}
-use Rattle.host_terms.proofs.Takes.{taken_terms, rows_taken, taken_rows, taken_table}
+use Rattle.host_terms.proofs.Takes.{taken_terms, rows_taken, taken_rows}
 use Rattle.host_terms.proofs.Drops.{drop_terms, dropped_rows, dropped_table}
-use Rattle.host_terms.proofs.Pins.{pin_terms, pinned_table, pinned_rows, unpinned_rows}
+use Rattle.host_terms.proofs.Pins.{pin_terms, pinned_table, unpinned_rows}
 
 -- a table with this present list
 abbrev pub with_present : SlotTable → Option PresentList → SlotTable

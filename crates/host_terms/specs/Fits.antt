@@ -14,7 +14,7 @@ use Rattle.sbp_journal.specs.Run.{Moment}
 use Rattle.sbp_laws.specs.Terms.{lists, appends}
 use Rattle.sbp_laws.specs.Lists as terms
 use Rattle.sbp_laws.specs.Lists.{Orb, TakenStatus, SlotState as Row, vacant, used, resting, present_list, linked, lowered, passed, taken_at, slot_at, prepared_in, pinned_orb, is_over_by, is_pinned}
-use Rattle.host_terms.specs.Rows.{name, name_in, row, present_in}
+use Rattle.host_terms.specs.Rows.{name_in, row, present_in}
 
 -- the terms of one initiator, but for its slots
 pub record ListTerms : Type 0 where

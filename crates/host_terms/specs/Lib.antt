@@ -1,3 +1,5 @@
 pub mod Rows
 pub mod Fits
 pub mod Steps
+pub mod Reading
+pub mod Calls

@@ -1,6 +1,6 @@
 -- What each step of an initiator's slots and the note that tells it keep (NCITS 325-1998, ORBs in the memory of the initiator): the run terms
 -- of the initiator are those of its slots before and behind it.
-use Rattle.std.specs.Prelude.{◌≡◌, ℕ, suc, ◌≤◌, ◌<◌, ◌==◌, not, nat_eq, Bool, true, false, List, [], ◌∷◌, Option, Some, None, Ok}
+use Rattle.std.specs.Prelude.{◌≡◌, ℕ, suc, ◌≤◌, ◌==◌, not, Bool, true, false, List, [], ◌∷◌, Option, Some, None, Ok}
 use Rattle.bus_memory.specs.Memory.{Memory}
 use Rattle.orb_layout.specs.declared.status.StatusBlock.{StatusBlock}
 use Rattle.orb_list.specs.declared.list.Linking.{Linking}

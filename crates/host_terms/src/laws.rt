@@ -1,8 +1,25 @@
-//! The laws of the terms of a run.
+//! The laws of the terms of a run: what they say of an initiator is what it holds.
+ghost use Rattle.host_terms.specs.Calls.{CallLaw};
+ghost use Rattle.host_terms.specs.Reading.{ReadLaw};
 ghost use Rattle.host_terms.specs.Steps.{StepLaw};
 
-/// The law of the steps of an initiator's slots.
+/// The law of the steps of an initiator's slots: with the note that tells each step, the run terms of its lists
+/// are the rows of its slots, and no other note changes them.
 #[tactic(auto, using(crate::proofs::StepLaws::step_law))]
 pub fn steps_keep_rows()
     ensures { StepLaw }
+{}
+
+/// The law of the calls of an initiator: behind what each of them tells, the run terms of its lists are the rows
+/// of its slots.
+#[tactic(auto, using(crate::proofs::CallLaws::call_law))]
+pub fn calls_keep_rows()
+    ensures { CallLaw }
+{}
+
+/// The law that the run terms of an initiator's lists are read off its slots: the links of the present list, the
+/// ORBs that wait, the free slots, the name of the next ORB, and the ORB that an address names.
+#[tactic(auto, using(crate::proofs::Readings::read_law))]
+pub fn terms_are_read()
+    ensures { ReadLaw }
 {}

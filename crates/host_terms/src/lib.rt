@@ -3,4 +3,4 @@
 
 mod laws;
 
-pub use laws::steps_keep_rows;
+pub use laws::{calls_keep_rows, steps_keep_rows, terms_are_read};

@@ -1,0 +1,19 @@
+-- The law of the calls of an initiator.
+use Rattle.std.proofs.Common.{refl, ℕ, Bool, [], ◌∷◌}
+use Rattle.sbp_journal.specs.Run.{asked, said}
+use Rattle.sbp_journal.specs.Outgoings.{empty_outbox}
+use Rattle.sbp_journal.specs.declared.event.Event.TheVariants as events
+use Rattle.sbp_journal.specs.declared.note.Note.TheVariants as notes
+use Rattle.sbp_initiator.specs.Initiators.{new_state}
+use Rattle.host_terms.specs.Calls.{CallLaw, Listed}
+use Rattle.host_terms.proofs.Acts.{act_left}
+use Rattle.host_terms.proofs.Beside.{begins}
+use Rattle.host_terms.proofs.Hears.{receive_listed, expire_listed}
+use Rattle.host_terms.proofs.Sees.{sees_listed}
+
+begins_listed : (line i initiators : ℕ) (ready logged_in : Bool) → Listed (said (notes.Begin initiators ready) ∷ asked line (events.Begin initiators ready) ∷ []) (empty_outbox, new_state i logged_in)
+unfolding new_state
+begins_listed line i initiators ready logged_in = record { rows = begins line i initiators ready; pin = refl }
+
+pub call_law : CallLaw
+call_law = record { begins = begins_listed; acts = act_left; receives = receive_listed; expires = expire_listed; sees = sees_listed }
