@@ -129,7 +129,7 @@ rows_set slots rows u slot n k same at of numbered =
     ∙ sym (map-set row slots u.slot (record { state = states.Waiting; last = Some u })))))
 
 -- the list that an ORB is added to, by the list before
-abbrev added_to : Option PresentList → SlotTable → TicketParts → SlotTable
+abbrev pub added_to : Option PresentList → SlotTable → TicketParts → SlotTable
 added_to present s u = record {
   slots = slice_set s.slots u.slot (record { state = states.Waiting; last = Some u });
   present = Some (extended present u);

@@ -16,3 +16,4 @@ pub mod Hears
 pub mod Sees
 pub mod Readings
 pub mod CallLaws
+pub mod Chains

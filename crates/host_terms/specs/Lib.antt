@@ -3,3 +3,4 @@ pub mod Fits
 pub mod Steps
 pub mod Reading
 pub mod Calls
+pub mod Keeping

@@ -1,5 +1,6 @@
 //! The laws of the terms of a run: what they say of an initiator is what it holds.
 ghost use Rattle.host_terms.specs.Calls.{CallLaw};
+ghost use Rattle.host_terms.specs.Keeping.{KeepingLaw};
 ghost use Rattle.host_terms.specs.Reading.{ReadLaw};
 ghost use Rattle.host_terms.specs.Steps.{StepLaw};
 
@@ -22,4 +23,12 @@ pub fn calls_keep_rows()
 #[tactic(auto, using(crate::proofs::Readings::read_law))]
 pub fn terms_are_read()
     ensures { ReadLaw }
+{}
+
+/// The law that over every list of calls of the slots an ORB that is not over is in its slot, with its request; its
+/// next pointer is null until the ORB behind it was linked, and then that ORB's address; and that it is
+/// not over before its status was taken, nor the last one of src 1 before a later one was.
+#[tactic(auto, using(crate::proofs::Chains::keeping_law))]
+pub fn orbs_have_slots()
+    ensures { KeepingLaw }
 {}
