@@ -345,7 +345,7 @@ left_layer actions.UnitReset past o s layer t l = l
 left_layer actions.TargetReset past o s layer t l = l
 
 -- no row reads the layer
-goes_layer : (action : Action) (s : InitiatorState) (layer : Layer Purpose) → Goes action s → Goes action (record s { layer = layer })
+pub goes_layer : (action : Action) (s : InitiatorState) (layer : Layer Purpose) → Goes action s → Goes action (record s { layer = layer })
 goes_layer action s layer g = record {
   allowed = record { free = free_same (operation_of action) g.allowed.free; prepares = g.allowed.prepares; rings = g.allowed.rings };
   rows = record { stuck = g.rows.stuck; wrong_state = g.rows.wrong_state; no_rom = g.rows.no_rom; waiting = g.rows.waiting; mid_link = g.rows.mid_link; not_linking = g.rows.not_linking; dead_seen = g.rows.dead_seen; no_orb = g.rows.no_orb; no_slot = g.rows.no_slot };

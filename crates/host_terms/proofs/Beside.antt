@@ -107,7 +107,7 @@ module _ {t : ListTerms} (s : SlotTable) (f : Fits t s) (u : TicketParts) (w : (
   found_here : waiting (slot_in s.slots u.slot) ≡ Some u
   found_here = ap (λ k. waiting (slot_in s.slots k)) at_slot ∙ w.1.1
 
-  found_list : IsOf s.present u
+  pub found_list : IsOf s.present u
   found_list = waits_of (slot_in s.slots w.0).state (slot_in s.slots w.0).last w.1.1 (f.states w.0 at_number)
     where
       waits_of : (state : SlotState) (last : Option TicketParts) → table.waits_in state last ≡ Some u → StateFits s.present t.taken state last → IsOf s.present u

@@ -1,15 +1,12 @@
 -- The slots of ORBs that are not over, and their next pointers.
-use Rattle.std.proofs.Common.{arith, ◌≡◌, refl, sym, ◌∙◌, ap, subst, ℕ, ◌+◌, ◌<◌, ◌≤◌, ◌==◌, ◌&&◌, ◌||◌, not, nat_eq, nat_lt, Bool, true, false, cond, List, [], ◌∷◌, length, map, slice_set, Option, Some, None, Result, Ok, Err}
+use Rattle.std.proofs.Common.{arith, ◌≡◌, refl, sym, ◌∙◌, ap, subst, ℕ, ◌+◌, ◌<◌, ◌≤◌, ◌==◌, ◌&&◌, ◌||◌, not, nat_eq, Bool, true, false, cond, List, [], ◌∷◌, length, map, slice_set, Option, Some, None, Result, Ok, Err}
 use Rattle.std.proofs.Math.ListN.{length-set}
 use Rattle.std.proofs.lemmas.Bool.Decides.{nat_tests}
 use Rattle.std.proofs.lemmas.List.Quantifiers.{position-Some}
 use Rattle.std.specs.Prelude.{unwrap_or}
 use Rattle.bus_memory.proofs.Written.{replicated}
-use Rattle.bus_memory.specs.declared.window.Window.TheVariants as windows
 use Rattle.bus_memory.specs.Memory.{Memory}
-use Rattle.bus_memory.specs.Windows.{slot_of, start}
-use Rattle.orb_layout.specs.declared.pointer.OrbPointer.{OrbPointer}
-use Rattle.orb_layout.specs.declared.pointer.OrbPointer.TheVariants.{Null, At}
+use Rattle.bus_memory.specs.Windows.{slot_of}
 use Rattle.orb_layout.specs.declared.status.StatusBlock.{StatusBlock}
 use Rattle.orb_layout.specs.StatusBlocks.{row_of}
 use Rattle.orb_list.specs.declared.fault.ListFault.{ListFault}
@@ -20,8 +17,8 @@ use Rattle.orb_list.specs.declared.list.PresentList.{PresentList}
 use Rattle.orb_list.specs.declared.slot.SlotState.{SlotState}
 use Rattle.orb_list.specs.declared.slot.SlotState.TheVariants as states
 use Rattle.orb_list.specs.declared.slot.Slot.{Slot}
-use Rattle.orb_list.specs.Frees.{dropped_at, free_by, is_linked, is_over_by, is_passed, over_by, prepared_in, status_of, pinned_by, PinsAlone}
-use Rattle.orb_list.specs.Holds.{HoldsLink, HoldsList, HoldsPresent, IsBefore, IsSound}
+use Rattle.orb_list.specs.Frees.{dropped_at, free_by, is_linked, is_over_by, is_passed, over_by, status_of, pinned_by, PinsAlone}
+use Rattle.orb_list.specs.Holds.{HoldsLink, HoldsPresent, IsBefore}
 use Rattle.orb_list.specs.Keeps.{was_prepared}
 use Rattle.orb_list.specs.Kept.{Kept, in_slot, is_dummy, kept_in, low_is, new_kept, next_is}
 use Rattle.orb_list.specs.Requests.{Asked}

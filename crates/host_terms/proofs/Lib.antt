@@ -17,3 +17,4 @@ pub mod Sees
 pub mod Readings
 pub mod CallLaws
 pub mod Chains
+pub mod Telling

@@ -4,3 +4,4 @@ pub mod Steps
 pub mod Reading
 pub mod Calls
 pub mod Keeping
+pub mod Acting

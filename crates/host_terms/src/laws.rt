@@ -1,4 +1,5 @@
 //! The laws of the terms of a run: what they say of an initiator is what it holds.
+ghost use Rattle.host_terms.specs.Acting.{ActionLaw};
 ghost use Rattle.host_terms.specs.Calls.{CallLaw};
 ghost use Rattle.host_terms.specs.Keeping.{KeepingLaw};
 ghost use Rattle.host_terms.specs.Reading.{ReadLaw};
@@ -31,4 +32,11 @@ pub fn terms_are_read()
 #[tactic(auto, using(crate::proofs::Chains::keeping_law))]
 pub fn orbs_have_slots()
     ensures { KeepingLaw }
+{}
+
+/// The law that an action of an initiator that is done tells the notes that the run asks for, and that the rows of
+/// a refusal that read its lists are those of the run.
+#[tactic(auto, using(crate::proofs::Telling::action_law))]
+pub fn actions_tell_their_notes()
+    ensures { ActionLaw }
 {}
