@@ -39,8 +39,8 @@ use Rattle.host_terms.specs.Fits.{AreRows}
 use Rattle.host_terms.proofs.Appends.{append_rows}
 use Rattle.host_terms.proofs.Beside.{beside_rests}
 use Rattle.host_terms.proofs.Told.{low_told, high_told}
-use Rattle.host_terms.specs.Calls.{behind, Left, Listed, Pinned, Pins}
-use Rattle.host_terms.proofs.Listed.{pin_of_none, tells, counted_rows}
+use Rattle.host_terms.specs.Calls.{behind, Beside, Left, Listed, Pinned, Pins}
+use Rattle.host_terms.proofs.Listed.{pin_of_none, tells, tells_beside, counted_rows}
 
 module _ (past : List Moment) where
   -- ---- steps of a list
@@ -50,10 +50,11 @@ module _ (past : List Moment) where
   first_listed true o s u n l p h = record {
     rows = subst (λ i. AreRows (behind o.sides past) i u.lists.slots) (sym n) (subst (λ x. AreRows (behind o.sides past) s.number x.slots) (sym l) h.rows);
     pin = subst (λ x. Pins u.operation x.slots.pinned) (sym l) (subst (λ x. Pins x s.lists.slots.pinned) (sym p) h.pin);
+    beside = subst (λ i. Beside past i o.sides) (sym n) h.beside;
   }
 
   put_cases : (cmd : Cmd) (asked : Asked) (o : OutboxState) (s : InitiatorState) (found : Result ℕ ListFault) → may_prepare s.lists.slots ≡ found → Listed past (o, s) → Listed past (put_as (prepared_as (table.prepare_at found s.lists.slots s.lists.memory asked) s.lists cmd) cmd o s)
-  put_cases cmd asked o s (Err fault) e h = record { rows = h.rows; pin = h.pin }
+  put_cases cmd asked o s (Err fault) e h = record { rows = h.rows; pin = h.pin; beside = h.beside }
   put_cases cmd asked o s (Ok slot) e h =
       let t = next_ticket s.lists.slots slot asked.login in
       let lists = (prepared_as (table.prepare_at (Ok slot) s.lists.slots s.lists.memory asked) s.lists cmd).1 in
@@ -61,6 +62,7 @@ module _ (past : List Moment) where
       (record {
         rows = tells past s.number (table.added s.lists.slots t) o (notes.Append s.number t.list t.number cmd.cdb (buffer_of cmd)) (append_rows (behind o.sides past) s.number cmd.cdb (buffer_of cmd) s.lists.slots slot asked.login h.rows e);
         pin = h.pin;
+        beside = tells_beside past s.number o (notes.Append s.number t.list t.number cmd.cdb (buffer_of cmd)) (λ j e. ap not e) h.beside;
       })
 
   put_listed : (cmd : Cmd) (o : OutboxState) (s : InitiatorState) → Listed past (o, s) → Listed past (put_step cmd o s)
@@ -69,11 +71,12 @@ module _ (past : List Moment) where
 
   low_cases : (o : OutboxState) (s : InitiatorState) (found : Option Linking) → waits_low s.lists.slots.present ≡ found → Listed past (o, s) → Listed past (low_as (stepped (table.low_for found s.lists.slots s.lists.memory) s.lists) o s)
   unfolding table.low_step
-  low_cases o s None e h = record { rows = h.rows; pin = h.pin }
+  low_cases o s None e h = record { rows = h.rows; pin = h.pin; beside = h.beside }
   low_cases o s (Some linking) e h = record {
     rows = tells past s.number _ o (notes.Low s.number linking.tail.list linking.tail.number)
         (subst (λ x. AreRows (said (notes.Low s.number linking.tail.list linking.tail.number) ∷ behind o.sides past) s.number (table.low_for x s.lists.slots s.lists.memory).1.0) e (low_told (behind o.sides past) s.number s.lists.slots h.rows linking s.lists.memory e));
     pin = h.pin;
+    beside = tells_beside past s.number o (notes.Low s.number linking.tail.list linking.tail.number) (λ j e. ap not e) h.beside;
   }
 
   low_listed : (o : OutboxState) (s : InitiatorState) → Listed past (o, s) → Listed past (low_step o s)
@@ -82,11 +85,12 @@ module _ (past : List Moment) where
 
   link_cases : (o : OutboxState) (s : InitiatorState) (found : Option Linking) → waits_high s.lists.slots.present ≡ found → Listed past (o, s) → Listed past (link_as (stepped (table.high_for found s.lists.slots s.lists.memory) s.lists) o s)
   unfolding table.high_step
-  link_cases o s None e h = record { rows = h.rows; pin = h.pin }
+  link_cases o s None e h = record { rows = h.rows; pin = h.pin; beside = h.beside }
   link_cases o s (Some linking) e h = record {
     rows = tells past s.number _ o (notes.Linked s.number linking.tail.list linking.tail.number)
         (subst (λ x. AreRows (said (notes.Linked s.number linking.tail.list linking.tail.number) ∷ behind o.sides past) s.number (table.high_for x s.lists.slots s.lists.memory).1.0) e (high_told (behind o.sides past) s.number s.lists.slots h.rows linking s.lists.memory e));
     pin = h.pin;
+    beside = tells_beside past s.number o (notes.Linked s.number linking.tail.list linking.tail.number) (λ j e. ap not e) h.beside;
   }
 
   link_listed : (o : OutboxState) (s : InitiatorState) → Listed past (o, s) → Listed past (link_step o s)
@@ -101,8 +105,8 @@ module _ (past : List Moment) where
       note_told = tells past s.number s.lists.slots o (notes.Rung s.number list.tail.list (last_linked list)) (beside_rests (behind o.sides past) s.number s.lists.slots h.rows (notes.Rung s.number list.tail.list (last_linked list)) refl)
 
       rung : (b : Bool) → Listed past ((ring_for (Some list) o s).0, cond b (record s { marks = record s.marks { pointing = pointings.Written }; seat = goes pointing s.seat }) (record s { counts = record s.counts { running = s.counts.running + 1 } }))
-      rung true = record { rows = note_told; pin = h.pin }
-      rung false = record { rows = note_told; pin = h.pin }
+      rung true = record { rows = note_told; pin = h.pin; beside = tells_beside past s.number o (notes.Rung s.number list.tail.list (last_linked list)) (λ j e. refl) h.beside }
+      rung false = record { rows = note_told; pin = h.pin; beside = tells_beside past s.number o (notes.Rung s.number list.tail.list (last_linked list)) (λ j e. refl) h.beside }
 
   ring_listed : (o : OutboxState) (s : InitiatorState) → Listed past (o, s) → Listed past (ring_step o s)
   ring_listed o s h = ring_cases o s s.lists.slots.present h
@@ -131,6 +135,7 @@ module _ (past : List Moment) where
       record {
         rows = tells past s.number _ o note (dummy_rows t s.number (said note ∷ behind o.sides past) s.lists.slots s.lists.memory found (beside_rests (behind o.sides past) s.number s.lists.slots h.rows note refl));
         pin = subst (Pins s.operation) (sym (dummy_pin t s.lists.slots s.lists.memory found)) h.pin;
+        beside = tells_beside past s.number o note (λ j e. refl) h.beside;
       }
 
   -- ---- an operation begins
@@ -139,6 +144,7 @@ module _ (past : List Moment) where
   begun_listed operation managed o s free h = record {
     rows = h.rows;
     pin = pin_of_none operation s.lists.slots.pinned (subst (λ x. Pins x s.lists.slots.pinned) free h.pin);
+    beside = h.beside;
   }
 
   managed_listed : (orb : ManagementOrb) (operation : Operation) (o : OutboxState) (s : InitiatorState) → s.operation ≡ None → Listed past (o, s) → Listed past (o, managed_by orb operation s)
@@ -146,6 +152,7 @@ module _ (past : List Moment) where
   managed_listed orb operation o s free h = record {
     rows = h.rows;
     pin = pin_of_none operation s.lists.slots.pinned (subst (λ x. Pins x s.lists.slots.pinned) free h.pin);
+    beside = h.beside;
   }
 
   beside_listed : (o : OutboxState) (s u : InitiatorState) → u.number ≡ s.number → u.lists ≡ s.lists → u.operation ≡ s.operation → Listed past (o, s) → Listed past (o, u)
@@ -264,15 +271,15 @@ done_left past actions.Low o s g h = low_listed past o s h
 done_left past actions.Link o s g h = link_listed past o s h
 done_left past actions.Ring o s g h = ring_listed past o s h
 done_left past (actions.Dummy orb) o s g h = dummy_listed past o s (find_in s.lists.slots.slots orb) h
-done_left past actions.Rom o s g h = let b = begun_listed past operations.Rom None o s g.allowed.free h in record { rows = b.rows; pin = b.pin }
-done_left past actions.AgentReset o s g h = let b = begun_listed past operations.AgentReset None o s g.allowed.free h in record { rows = b.rows; pin = b.pin }
-done_left past actions.State o s g h = record { rows = h.rows; pin = h.pin }
+done_left past actions.Rom o s g h = let b = begun_listed past operations.Rom None o s g.allowed.free h in record { rows = b.rows; pin = b.pin; beside = b.beside }
+done_left past actions.AgentReset o s g h = let b = begun_listed past operations.AgentReset None o s g.allowed.free h in record { rows = b.rows; pin = b.pin; beside = b.beside }
+done_left past actions.State o s g h = record { rows = h.rows; pin = h.pin; beside = h.beside }
 done_left past actions.Enable o s g h = begun_listed past operations.Enable None o s g.allowed.free h
 done_left past (actions.Login unit reconnect exclusive password) o s g h =
-    let b = managed_listed past (login_orb s unit reconnect exclusive password) operations.Login o s g.allowed.free h in record { rows = b.rows; pin = b.pin }
+    let b = managed_listed past (login_orb s unit reconnect exclusive password) operations.Login o s g.allowed.free h in record { rows = b.rows; pin = b.pin; beside = b.beside }
 done_left past (actions.Query unit) o s g h = managed_listed past (orb_by (actions.Query unit) s) operations.Query o s g.allowed.free h
-done_left past actions.Reconnect o s g h = let b = managed_listed past (orb_by actions.Reconnect s) operations.Reconnect o s g.allowed.free h in record { rows = b.rows; pin = b.pin }
-done_left past actions.Logout o s g h = let b = managed_listed past (orb_by actions.Logout s) operations.Logout o s g.allowed.free h in record { rows = b.rows; pin = b.pin }
+done_left past actions.Reconnect o s g h = let b = managed_listed past (orb_by actions.Reconnect s) operations.Reconnect o s g.allowed.free h in record { rows = b.rows; pin = b.pin; beside = b.beside }
+done_left past actions.Logout o s g h = let b = managed_listed past (orb_by actions.Logout s) operations.Logout o s g.allowed.free h in record { rows = b.rows; pin = b.pin; beside = b.beside }
 done_left past (actions.Abort number) o s g h = abort_pins number past o s g h
 done_left past actions.AbortSet o s g h = managed_listed past (orb_by actions.AbortSet s) operations.AbortSet o s g.allowed.free h
 done_left past actions.UnitReset o s g h = managed_listed past (orb_by actions.UnitReset s) operations.UnitReset o s g.allowed.free h
@@ -283,6 +290,7 @@ pub same_listed : (past : List Moment) (t u : Turn) → u.0.sides ≡ t.0.sides 
 same_listed past t u a b c d h = record {
   rows = subst (λ xs. AreRows (behind xs past) u.1.number u.1.lists.slots) (sym a) (subst (λ i. AreRows (behind t.0.sides past) i u.1.lists.slots) (sym b) (subst (λ (x : ListState). AreRows (behind t.0.sides past) t.1.number x.slots) (sym c) h.rows));
   pin = subst (λ x. Pins x u.1.lists.slots.pinned) (sym d) (subst (λ (x : ListState). Pins t.1.operation x.slots.pinned) (sym c) h.pin);
+  beside = subst (λ i. Beside past i u.0.sides) (sym b) (subst (Beside past t.1.number) (sym a) h.beside);
 }
 
 left_counted : (action : Action) (past : List Moment) (o : OutboxState) (s : InitiatorState) (t u : Turn) → u.0.sides ≡ t.0.sides → u.1.number ≡ t.1.number → u.1.lists ≡ t.1.lists → u.1.operation ≡ t.1.operation → Left action past o s t → Left action past o s u
@@ -364,7 +372,7 @@ asked_left past action o s (Some asked, layer) e g h =
     let t = done_step action o (record s { layer = layer }) in
     left_layer action past o s layer (asked_as (Some asked, layer) action o s).1
     (left_counted action past o (record s { layer = layer }) t (asked_as (Some asked, layer) action o s).1 refl refl refl refl
-    (done_left past action o (record s { layer = layer }) (goes_layer action s layer g) (record { rows = h.rows; pin = h.pin })))
+    (done_left past action o (record s { layer = layer }) (goes_layer action s layer g) (record { rows = h.rows; pin = h.pin; beside = h.beside })))
 
 demanded_left : (past : List Moment) (action : Action) (o : OutboxState) (s : InitiatorState) (demand : Option Demand) → (demanded_as demand action o s).0 ≡ None → Goes action s → Listed past (o, s) → Left action past o s (demanded_as demand action o s).1
 demanded_left past action o s None e g h =

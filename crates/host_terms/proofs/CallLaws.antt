@@ -13,7 +13,7 @@ use Rattle.host_terms.proofs.Sees.{sees_listed}
 
 begins_listed : (line i initiators : ℕ) (ready logged_in : Bool) → Listed (said (notes.Begin initiators ready) ∷ asked line (events.Begin initiators ready) ∷ []) (empty_outbox, new_state i logged_in)
 unfolding new_state
-begins_listed line i initiators ready logged_in = record { rows = begins line i initiators ready; pin = refl }
+begins_listed line i initiators ready logged_in = record { rows = begins line i initiators ready; pin = refl; beside = λ j s e r. r }
 
 pub call_law : CallLaw
 call_law = record { begins = begins_listed; acts = act_left; receives = receive_listed; expires = expire_listed; sees = sees_listed }

@@ -1,5 +1,5 @@
 -- The end of a transaction of an initiator.
-use Rattle.std.proofs.Common.{◌≡◌, refl, sym, ◌∙◌, ap, subst, ℕ, ◌==◌, Bool, true, false, cond, List, ◌∷◌, length, Option, Some, None, Result, Ok, Err}
+use Rattle.std.proofs.Common.{not, ◌≡◌, refl, sym, ◌∙◌, ap, subst, ℕ, ◌==◌, Bool, true, false, cond, List, ◌∷◌, length, Option, Some, None, Result, Ok, Err}
 use Rattle.bus_memory.specs.Memory.{Memory}
 use Rattle.config_rom.specs.declared.fault.RomFault.{RomFault}
 use Rattle.config_rom.specs.declared.unit.SbpUnit.{SbpUnit}
@@ -36,7 +36,7 @@ use Rattle.host_terms.specs.Steps.{is_beside}
 use Rattle.host_terms.proofs.Beside.{beside_rests}
 use Rattle.host_terms.proofs.Told.{dropped_told, unpins}
 use Rattle.host_terms.specs.Calls.{behind, Listed, PinOf, Pins}
-use Rattle.host_terms.proofs.Listed.{tells}
+use Rattle.host_terms.proofs.Listed.{tells, tells_beside}
 use Rattle.host_terms.proofs.Acts.{same_listed}
 
 module _ (past : List Moment) where
@@ -53,16 +53,17 @@ module _ (past : List Moment) where
   still_if false o s u v n l p m k q h = still o s v m k q h
 
   -- a note that says nothing of the slots
-  pub notes_it : (note : Note) (o : OutboxState) (s : InitiatorState) → is_beside s.number note ≡ true → Listed past (o, s) → Listed past (told o note, s)
+  pub notes_it : (note : Note) (o : OutboxState) (s : InitiatorState) → ((j : ℕ) → is_beside j note ≡ true) → Listed past (o, s) → Listed past (told o note, s)
   notes_it note o s e h = record {
-    rows = tells past s.number s.lists.slots o note (beside_rests (behind o.sides past) s.number s.lists.slots h.rows note e);
+    rows = tells past s.number s.lists.slots o note (beside_rests (behind o.sides past) s.number s.lists.slots h.rows note (e s.number));
     pin = h.pin;
+    beside = tells_beside past s.number o note (λ j f. e j) h.beside;
   }
 
   -- ---- a drop
   drop_cases : (o : OutboxState) (s : InitiatorState) (found : Option PresentList) → s.lists.slots.present ≡ found → Listed past (o, s) → Listed past (dropped_as ((table.drop_for found s.lists.slots).0, with_slots s.lists (table.drop_for found s.lists.slots).1) o s)
   unfolding table.drop_step
-  drop_cases o s None e h = record { rows = h.rows; pin = h.pin }
+  drop_cases o s None e h = record { rows = h.rows; pin = h.pin; beside = h.beside }
   drop_cases o s (Some list) e h =
       let note = notes.Drop s.number list.tail.list in
       record {
@@ -70,6 +71,7 @@ module _ (past : List Moment) where
             (subst (λ x. AreRows (said note ∷ behind o.sides past) s.number (table.drop_for x s.lists.slots).1) e
             (dropped_told (behind o.sides past) s.number s.lists.slots h.rows list.tail.list (ap (λ x. (table.drop_for x s.lists.slots).0) e)));
         pin = h.pin;
+        beside = tells_beside past s.number o note (λ j f. ap not f) h.beside;
       }
 
   pub drop_listed : (o : OutboxState) (s : InitiatorState) → Listed past (o, s) → Listed past (drop_list_step o s)
@@ -88,11 +90,26 @@ module _ (past : List Moment) where
   none_pinned s m None e = e
   none_pinned s m (Some t) e = refl
 
-  over_listed : (operation : Operation) (word : OpWord) (o : OutboxState) (s : InitiatorState) → AreRows (said (notes.Op s.number operation word) ∷ behind o.sides past) s.number (table.unpin_step s.lists.slots s.lists.memory).0 → Listed past (end_step operation word o s)
+  pub op_beside : (operation : Operation) (word : OpWord) (j i : ℕ) → (j == i) ≡ false → is_beside j (notes.Op i operation word) ≡ true
+  op_beside operations.Abort word j i e = ap not e
+  op_beside operations.Rom word j i e = refl
+  op_beside operations.Login word j i e = refl
+  op_beside operations.Query word j i e = refl
+  op_beside operations.Reconnect word j i e = refl
+  op_beside operations.Logout word j i e = refl
+  op_beside operations.AbortSet word j i e = refl
+  op_beside operations.UnitReset word j i e = refl
+  op_beside operations.TargetReset word j i e = refl
+  op_beside operations.AgentReset word j i e = refl
+  op_beside operations.State word j i e = refl
+  op_beside operations.Enable word j i e = refl
+
+  over_listed : (operation : Operation) (word : OpWord) (o : OutboxState) (s : InitiatorState) → AreRows (said (notes.Op s.number operation word) ∷ behind o.sides past) s.number (table.unpin_step s.lists.slots s.lists.memory).0 → Listed past (o, s) → Listed past (end_step operation word o s)
   unfolding unpin_lists table.unpin_step
-  over_listed operation word o s r = record {
+  over_listed operation word o s r h = record {
     rows = tells past s.number _ o (notes.Op s.number operation word) r;
     pin = none_pinned s.lists.slots s.lists.memory s.lists.slots.pinned refl;
+    beside = tells_beside past s.number o (notes.Op s.number operation word) (λ j e. op_beside operation word j s.number e) h.beside;
   }
 
   unpinned_rows : (note : Note) (o : OutboxState) (s : InitiatorState) → s.lists.slots.pinned ≡ None → is_beside s.number note ≡ true → Listed past (o, s) → AreRows (said note ∷ behind o.sides past) s.number (table.unpin_step s.lists.slots s.lists.memory).0
@@ -101,18 +118,18 @@ module _ (past : List Moment) where
       subst (λ x. AreRows (said note ∷ behind o.sides past) s.number (table.unpin_for x s.lists.slots s.lists.memory).0) (sym n) (beside_rests (behind o.sides past) s.number s.lists.slots h.rows note e)
 
   pub end_listed : (operation : Operation) (word : OpWord) (o : OutboxState) (s : InitiatorState) → PinOf operation s.lists.slots.pinned → Listed past (o, s) → Listed past (end_step operation word o s)
-  end_listed operations.Abort word o s n h = over_listed operations.Abort word o s (unpins (behind o.sides past) s.number s.lists.slots h.rows word s.lists.memory)
-  end_listed operations.Rom word o s n h = over_listed operations.Rom word o s (unpinned_rows (notes.Op s.number operations.Rom word) o s n refl h)
-  end_listed operations.Login word o s n h = over_listed operations.Login word o s (unpinned_rows (notes.Op s.number operations.Login word) o s n refl h)
-  end_listed operations.Query word o s n h = over_listed operations.Query word o s (unpinned_rows (notes.Op s.number operations.Query word) o s n refl h)
-  end_listed operations.Reconnect word o s n h = over_listed operations.Reconnect word o s (unpinned_rows (notes.Op s.number operations.Reconnect word) o s n refl h)
-  end_listed operations.Logout word o s n h = over_listed operations.Logout word o s (unpinned_rows (notes.Op s.number operations.Logout word) o s n refl h)
-  end_listed operations.AbortSet word o s n h = over_listed operations.AbortSet word o s (unpinned_rows (notes.Op s.number operations.AbortSet word) o s n refl h)
-  end_listed operations.UnitReset word o s n h = over_listed operations.UnitReset word o s (unpinned_rows (notes.Op s.number operations.UnitReset word) o s n refl h)
-  end_listed operations.TargetReset word o s n h = over_listed operations.TargetReset word o s (unpinned_rows (notes.Op s.number operations.TargetReset word) o s n refl h)
-  end_listed operations.AgentReset word o s n h = over_listed operations.AgentReset word o s (unpinned_rows (notes.Op s.number operations.AgentReset word) o s n refl h)
-  end_listed operations.State word o s n h = over_listed operations.State word o s (unpinned_rows (notes.Op s.number operations.State word) o s n refl h)
-  end_listed operations.Enable word o s n h = over_listed operations.Enable word o s (unpinned_rows (notes.Op s.number operations.Enable word) o s n refl h)
+  end_listed operations.Abort word o s n h = over_listed operations.Abort word o s (unpins (behind o.sides past) s.number s.lists.slots h.rows word s.lists.memory) h
+  end_listed operations.Rom word o s n h = over_listed operations.Rom word o s (unpinned_rows (notes.Op s.number operations.Rom word) o s n refl h) h
+  end_listed operations.Login word o s n h = over_listed operations.Login word o s (unpinned_rows (notes.Op s.number operations.Login word) o s n refl h) h
+  end_listed operations.Query word o s n h = over_listed operations.Query word o s (unpinned_rows (notes.Op s.number operations.Query word) o s n refl h) h
+  end_listed operations.Reconnect word o s n h = over_listed operations.Reconnect word o s (unpinned_rows (notes.Op s.number operations.Reconnect word) o s n refl h) h
+  end_listed operations.Logout word o s n h = over_listed operations.Logout word o s (unpinned_rows (notes.Op s.number operations.Logout word) o s n refl h) h
+  end_listed operations.AbortSet word o s n h = over_listed operations.AbortSet word o s (unpinned_rows (notes.Op s.number operations.AbortSet word) o s n refl h) h
+  end_listed operations.UnitReset word o s n h = over_listed operations.UnitReset word o s (unpinned_rows (notes.Op s.number operations.UnitReset word) o s n refl h) h
+  end_listed operations.TargetReset word o s n h = over_listed operations.TargetReset word o s (unpinned_rows (notes.Op s.number operations.TargetReset word) o s n refl h) h
+  end_listed operations.AgentReset word o s n h = over_listed operations.AgentReset word o s (unpinned_rows (notes.Op s.number operations.AgentReset word) o s n refl h) h
+  end_listed operations.State word o s n h = over_listed operations.State word o s (unpinned_rows (notes.Op s.number operations.State word) o s n refl h) h
+  end_listed operations.Enable word o s n h = over_listed operations.Enable word o s (unpinned_rows (notes.Op s.number operations.Enable word) o s n refl h) h
 
   own_cases : (found : Option Running) (act : ℕ) (word : OpWord) (o : OutboxState) (s : InitiatorState) → Pins found s.lists.slots.pinned → Listed past (o, s) → Listed past (end_own_for found act word o s)
   own_cases None act word o s n h = h
@@ -125,7 +142,7 @@ module _ (past : List Moment) where
   -- ---- the session becomes Stuck
   stuck_cases : (b : Bool) (o : OutboxState) (s u : InitiatorState) → u.number ≡ s.number → u.lists ≡ s.lists → u.operation ≡ s.operation → Listed past (o, s) → Listed past (cond b o (told o (notes.Stuck s.number)), u)
   stuck_cases true o s u n l p h = still o s u n l p h
-  stuck_cases false o s u n l p h = still (told o (notes.Stuck s.number)) s u n l p (notes_it (notes.Stuck s.number) o s refl h)
+  stuck_cases false o s u n l p h = still (told o (notes.Stuck s.number)) s u n l p (notes_it (notes.Stuck s.number) o s (λ j. refl) h)
 
   pub stick_listed : (o : OutboxState) (s : InitiatorState) → Listed past (o, s) → Listed past (stick_step o s)
   stick_listed o s h = stuck_cases (is_stuck_seat s.seat) o s (stick_step o s).1 refl refl refl h
@@ -214,7 +231,7 @@ module _ (past : List Moment) where
   rom_listed (Err fault) act o s h = own_listed act (words.Bad (fault_number fault)) o s h
 
   asked_listed : (r : Option Asked × Layer Purpose) (act : ℕ) (o : OutboxState) (s : InitiatorState) → Listed past (o, s) → Listed past (asked_quad r act o s)
-  asked_listed (Some asked, layer) act o s h = record { rows = h.rows; pin = h.pin }
+  asked_listed (Some asked, layer) act o s h = record { rows = h.rows; pin = h.pin; beside = h.beside }
   asked_listed (None, layer) act o s h = own_listed act words.Error o (record s { layer = layer }) (still o s (record s { layer = layer }) refl refl refl h)
 
   quad_listed : (act : ℕ) (o : OutboxState) (s : InitiatorState) → Listed past (o, s) → Listed past (quad_got act o s)
@@ -240,7 +257,7 @@ module _ (past : List Moment) where
 
   state_told_listed : (act : ℕ) (word : OpWord) (o : OutboxState) (s : InitiatorState) → Listed past (o, s) → Listed past (state_told act word o s)
   state_told_listed act word o s h =
-      let note = notes.Op s.number operations.State word in still (told o note) s (state_told act word o s).1 refl refl refl (notes_it note o s refl h)
+      let note = notes.Op s.number operations.State word in still (told o note) s (state_told act word o s).1 refl refl refl (notes_it note o s (λ j. refl) h)
 
   state_listed : (act : ℕ) (list : Option ℕ) (ending : Ending) (o : OutboxState) (s : InitiatorState) → Listed past (o, s) → Listed past (state_ended act list ending o s)
   state_listed act list (endings.Complete value) o s h =

@@ -1,5 +1,5 @@
 -- What an initiator tells behind a history, beside its slots.
-use Rattle.std.proofs.Common.{◌≡◌, refl, sym, subst, ℕ, List, [], ◌∷◌, ◌++◌, Option, None}
+use Rattle.std.proofs.Common.{true, false, ◌==◌, ◌≡◌, refl, sym, subst, ℕ, List, [], ◌∷◌, ◌++◌, Option, None}
 use Rattle.orb_list.specs.Tickets.{TicketParts}
 use Rattle.orb_list.specs.Table.{SlotTable}
 use Rattle.sbp_journal.specs.Run.{Moment, said}
@@ -11,7 +11,9 @@ use Rattle.sbp_journal.specs.declared.side.Side.{Side}
 use Rattle.sbp_journal.specs.declared.side.Side.TheVariants as sides
 use Rattle.sbp_initiator.specs.Effects.{told}
 use Rattle.host_terms.specs.Fits.{AreRows}
-use Rattle.host_terms.specs.Calls.{behind, by_side, PinOf}
+use Rattle.host_terms.specs.Calls.{behind, by_side, Beside, PinOf}
+use Rattle.host_terms.specs.Steps.{is_beside}
+use Rattle.host_terms.proofs.Beside.{beside_rests}
 
 pub behind_more : (told : List Side) (side : Side) (past : List Moment) → behind (told ++ side ∷ []) past ≡ by_side side (behind told past)
 behind_more [] side past = refl
@@ -34,6 +36,10 @@ pin_of_none operations.Enable pinned e = e
 module _ (past : List Moment) (i : ℕ) (s : SlotTable) where
   pub tells : (o : OutboxState) (note : Note) → AreRows (said note ∷ behind o.sides past) i s → AreRows (behind (told o note).sides past) i s
   tells o note r = subst (λ ms. AreRows ms i s) (sym (behind_more o.sides (sides.Own note) past)) r
+
+-- a note of an initiator says nothing of the lists of another one
+pub tells_beside : (past : List Moment) (number : ℕ) (o : OutboxState) (note : Note) → ((j : ℕ) → (j == number) ≡ false → is_beside j note ≡ true) → Beside past number o.sides → Beside past number (told o note).sides
+tells_beside past number o note n b j s e r = tells past j s o note (beside_rests (behind o.sides past) j s (b j s e r) note (n j e))
 
 -- the number of calls is no part of it
 pub counted_rows : (past : List Moment) (i : ℕ) (s : SlotTable) (calls : ℕ) → AreRows past i s → AreRows past i (record s { calls = calls })

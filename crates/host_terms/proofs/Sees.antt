@@ -30,8 +30,9 @@ use Rattle.host_terms.proofs.Pins.{pin_terms}
 use Rattle.host_terms.proofs.Sweeps.{frees, rests}
 use Rattle.host_terms.proofs.Prepares.{itself}
 use Rattle.host_terms.proofs.Drops.{drop_terms, seen_terms, dropped_fits, dropped_table, freed_fits}
-use Rattle.host_terms.specs.Calls.{behind, Listed, Pins}
-use Rattle.host_terms.proofs.Listed.{behind_more}
+use Rattle.host_terms.specs.Calls.{behind, Beside, Listed, Pins}
+use Rattle.host_terms.proofs.Ends.{op_beside}
+use Rattle.host_terms.proofs.Listed.{behind_more, tells_beside}
 
 -- what holds between the note of a later generation and the last of what is told then: the slots are new, nothing is pinned, and the other
 -- terms are those of before
@@ -195,6 +196,30 @@ fits_of i t past s r h = record {
 
 -- ---- a generation is seen
 
+-- what is told then says nothing of the lists of another initiator
+module _ (past : List Moment) (i : ℕ) where
+  reset_beside : (operation : Operation) (o : OutboxState) → Beside past i o.sides → Beside past i (reset_told i operation o).sides
+  reset_beside operation o h = tells_beside past i o (notes.Op i operation words.Reset) (λ j e. op_beside past operation words.Reset j i e) h
+
+  states_beside : (acts : List ℕ) (o : OutboxState) → Beside past i o.sides → Beside past i (states_end i acts o).sides
+  states_beside [] o h = h
+  states_beside (act ∷ acts) o h = states_beside acts (reset_told i operations.State o) (reset_beside operations.State o h)
+
+  pick_beside : (b : Bool) (o p : OutboxState) → Beside past i o.sides → Beside past i p.sides → Beside past i (cond b o p).sides
+  pick_beside true o p h k = h
+  pick_beside false o p h k = k
+
+  all_beside : (running : Running) (acts : List ℕ) (o : OutboxState) → Beside past i o.sides → Beside past i (all_end i running acts o).sides
+  all_beside running [] o h = reset_beside running.operation o h
+  all_beside running (act ∷ acts) o h =
+      pick_beside (nat_lt running.act act) (states_end i (act ∷ acts) (reset_told i running.operation o)) (all_end i running acts (reset_told i operations.State o))
+      (states_beside (act ∷ acts) (reset_told i running.operation o) (reset_beside running.operation o h))
+      (all_beside running acts (reset_told i operations.State o) (reset_beside operations.State o h))
+
+  resets_beside : (operation : Option Running) (acts : List ℕ) (o : OutboxState) → Beside past i o.sides → Beside past i (resets_told i operation acts o).sides
+  resets_beside None acts o h = states_beside acts o h
+  resets_beside (Some running) acts o h = all_beside running acts o h
+
 none_pins : (operation : Option Running) → operation ≡ None → Pins operation None
 none_pins None e = refl
 none_pins (Some running) e = absurd (some_none e)
@@ -203,18 +228,20 @@ none_pins (Some running) e = absurd (some_none e)
     some_none e = cc
 
 -- what is behind a drop
-dropped_fits_any : (past : List Moment) (i : ℕ) (t : ListTerms) (o : OutboxState) (s : InitiatorState) (found : Option PresentList) → s.operation ≡ None → s.number ≡ i → s.lists.slots.present ≡ found → Fits t s.lists.slots → Seen i t (present_in found) (behind o.sides past) → Listed past (freed_step (dropped_as ((table.drop_for found s.lists.slots).0, with_slots s.lists (table.drop_for found s.lists.slots).1) o s))
+dropped_fits_any : (past : List Moment) (i : ℕ) (t : ListTerms) (o : OutboxState) (s : InitiatorState) (found : Option PresentList) → Beside past i o.sides → s.operation ≡ None → s.number ≡ i → s.lists.slots.present ≡ found → Fits t s.lists.slots → Seen i t (present_in found) (behind o.sides past) → Listed past (freed_step (dropped_as ((table.drop_for found s.lists.slots).0, with_slots s.lists (table.drop_for found s.lists.slots).1) o s))
 unfolding free_lists table.free_all_step
-dropped_fits_any past i t o s None w n e f h = record {
+dropped_fits_any past i t o s None d w n e f h = record {
   rows = subst (λ j. AreRows (behind o.sides past) j (table.all_freed s.lists.slots)) (sym n) (fits_of i t (behind o.sides past) (table.all_freed s.lists.slots) (freed_fits t s.lists.slots f) h);
   pin = none_pins s.operation w;
+  beside = subst (λ j. Beside past j o.sides) (sym n) d;
 }
-dropped_fits_any past i t o s (Some list) w n e f h = record {
+dropped_fits_any past i t o s (Some list) d w n e f h = record {
   rows = subst (λ j. AreRows (behind (told o (notes.Drop s.number list.tail.list)).sides past) j (table.all_freed (table.drop_for (Some list) s.lists.slots).1)) (sym n)
       (subst (λ j. AreRows (behind (told o (notes.Drop j list.tail.list)).sides past) i (table.all_freed (table.drop_for (Some list) s.lists.slots).1)) (sym n)
       (subst (λ ms. AreRows ms i (table.all_freed (table.drop_for (Some list) s.lists.slots).1)) (sym (behind_more o.sides (sides.Own (notes.Drop i list.tail.list)) past))
       (fits_of i t (said (notes.Drop i list.tail.list) ∷ behind o.sides past) (table.all_freed (table.drop_for (Some list) s.lists.slots).1) (freed_fits (drop_terms true t) (dropped_table s.lists.slots) (dropped_fits t s.lists.slots f)) (seen_drop i t (Some list.tail.list) list.tail.list (behind o.sides past) h))));
   pin = none_pins s.operation w;
+  beside = tells_beside past s.number o (notes.Drop s.number list.tail.list) (λ j g. ap not g) (subst (λ j. Beside past j o.sides) (sym n) d);
 }
 
 -- A later generation, from its note on.
@@ -227,7 +254,7 @@ sees_new past generation target s new h =
     let first = seen_note past i generation new in
     let o = resets_told i s.operation s.states empty_outbox in
     let told = resets_seen i t (terms.present_list past i) now s.operation s.states empty_outbox first in
-    dropped_fits_any now i t o (interrupted s target) s.lists.slots.present refl refl refl h.rows.fits
+    dropped_fits_any now i t o (interrupted s target) s.lists.slots.present (resets_beside now i s.operation s.states empty_outbox (λ j x e r. r)) refl refl refl h.rows.fits
     (subst (λ p. Seen i t p (behind o.sides now)) h.rows.fits.present told)
 
 -- One that is not later, while no slot is pinned.
@@ -258,10 +285,11 @@ turned false false e = cc
 
 sees_as : (past : List Moment) (generation target : ℕ) (s : InitiatorState) (r : Bool × Layer Purpose) → r.0 ≡ not (generation == (wire_terms past).generation (suc s.number)) → (r.0 ≡ false → s.lists.slots.pinned ≡ None) → Listed past (empty_outbox, s) → Listed (said (notes.Seen (suc s.number) generation) ∷ past) (seen_as r target empty_outbox s)
 sees_as past generation target s (true, layer) e n h =
-    sees_new past generation target (record s { layer = layer }) (turned true (generation == (wire_terms past).generation (suc s.number)) e) (record { rows = h.rows; pin = h.pin })
+    sees_new past generation target (record s { layer = layer }) (turned true (generation == (wire_terms past).generation (suc s.number)) e) (record { rows = h.rows; pin = h.pin; beside = h.beside })
 sees_as past generation target s (false, layer) e n h = record {
   rows = sees_old past s.number generation s.lists.slots h.rows (n refl) (turned false (generation == (wire_terms past).generation (suc s.number)) e);
   pin = h.pin;
+  beside = λ j x e r. r;
 }
 
 pub sees_listed : (past : List Moment) (generation id target : ℕ) (s : InitiatorState) → (seeing_step s.layer generation id).0 ≡ not (generation == (wire_terms past).generation (suc s.number)) → ((seeing_step s.layer generation id).0 ≡ false → s.lists.slots.pinned ≡ None) → Listed past (empty_outbox, s) → Listed (said (notes.Seen (suc s.number) generation) ∷ past) (see_step generation id target empty_outbox s)
