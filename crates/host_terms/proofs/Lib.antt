@@ -18,3 +18,6 @@ pub mod Readings
 pub mod CallLaws
 pub mod Chains
 pub mod Telling
+pub mod Others
+pub mod TargetTells
+pub mod Hands

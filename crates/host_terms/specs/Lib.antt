@@ -5,3 +5,4 @@ pub mod Reading
 pub mod Calls
 pub mod Keeping
 pub mod Acting
+pub mod Handing

@@ -1,6 +1,7 @@
 //! The laws of the terms of a run: what they say of an initiator is what it holds.
 ghost use Rattle.host_terms.specs.Acting.{ActionLaw};
 ghost use Rattle.host_terms.specs.Calls.{CallLaw};
+ghost use Rattle.host_terms.specs.Handing.{HandLaw};
 ghost use Rattle.host_terms.specs.Keeping.{KeepingLaw};
 ghost use Rattle.host_terms.specs.Reading.{ReadLaw};
 ghost use Rattle.host_terms.specs.Steps.{StepLaw};
@@ -39,4 +40,11 @@ pub fn orbs_have_slots()
 #[tactic(auto, using(crate::proofs::Telling::action_law))]
 pub fn actions_tell_their_notes()
     ensures { ActionLaw }
+{}
+
+/// The law of what a node hands out: what the target tells, and each packet that leaves but that of an abort, leave
+/// the run terms of an initiator's lists; and what an initiator tells stands in the history as it was told.
+#[tactic(auto, using(crate::proofs::Hands::hand_law))]
+pub fn others_leave_rows()
+    ensures { HandLaw }
 {}
