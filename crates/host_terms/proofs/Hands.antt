@@ -71,7 +71,7 @@ module _ (past : List Moment) (weight i : ℕ) (s : SlotTable) where
   one_other (sides.Unsolicited place) w f r = beside_rests (history w past) i s r (notes.Unsolicited (holder w place).initiator) refl
   one_other (sides.Unsent place) w f r = beside_rests (history w past) i s r (notes.Unsent (holder w place).initiator) refl
 
-  all_others : (side : List Side) (w : WorldState) → AreOthers side → AreRows (history w past) i s → AreRows (history (told_all weight side w) past) i s
+  pub all_others : (side : List Side) (w : WorldState) → AreOthers side → AreRows (history w past) i s → AreRows (history (told_all weight side w) past) i s
   unfolding told_all
   all_others [] w f r = r
   all_others (side ∷ later) w f r = all_others later (told weight side w) f.1 (one_other side w f.0 r)
@@ -108,7 +108,7 @@ module _ (past : List Moment) (i : ℕ) (s : SlotTable) where
   unfolding sent
   sent_still from packet w h = to_still (node_of w.generations from packet.to) from packet w h
 
-  all_still : (from : ℕ) (packets : List Outgoing) (w : WorldState) → Still w → Still (sent_all from packets w)
+  pub all_still : (from : ℕ) (packets : List Outgoing) (w : WorldState) → Still w → Still (sent_all from packets w)
   unfolding sent_all
   all_still from [] w h = h
   all_still from (packet ∷ later) w h = all_still from later (sent from packet w) (sent_still from packet w h)
@@ -133,7 +133,7 @@ one_own past weight (sides.Cleared unit) w f = absurd f
 one_own past weight (sides.Unsolicited place) w f = absurd f
 one_own past weight (sides.Unsent place) w f = absurd f
 
-all_own : (past : List Moment) (weight : ℕ) (side : List Side) (w : WorldState) → AreNotes side → history (told_all weight side w) past ≡ behind side (history w past)
+pub all_own : (past : List Moment) (weight : ℕ) (side : List Side) (w : WorldState) → AreNotes side → history (told_all weight side w) past ≡ behind side (history w past)
 unfolding told_all
 all_own past weight [] w f = refl
 all_own past weight (side ∷ later) w f = all_own past weight later (told weight side w) f.1 ∙ ap (behind later) (one_own past weight side w f.0)

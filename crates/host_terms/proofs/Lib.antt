@@ -21,3 +21,4 @@ pub mod Telling
 pub mod Others
 pub mod TargetTells
 pub mod Hands
+pub mod Hosting

@@ -6,3 +6,4 @@ pub mod Calls
 pub mod Keeping
 pub mod Acting
 pub mod Handing
+pub mod Worlds

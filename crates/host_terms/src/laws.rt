@@ -5,6 +5,7 @@ ghost use Rattle.host_terms.specs.Handing.{HandLaw};
 ghost use Rattle.host_terms.specs.Keeping.{KeepingLaw};
 ghost use Rattle.host_terms.specs.Reading.{ReadLaw};
 ghost use Rattle.host_terms.specs.Steps.{StepLaw};
+ghost use Rattle.host_terms.specs.Worlds.{WorldLaw};
 
 /// The law of the steps of an initiator's slots: with the note that tells each step, the run terms of its lists
 /// are the rows of its slots, and no other note changes them.
@@ -47,4 +48,11 @@ pub fn actions_tell_their_notes()
 #[tactic(auto, using(crate::proofs::Hands::hand_law))]
 pub fn others_leave_rows()
     ensures { HandLaw }
+{}
+
+/// The law of the initiators of a world: as a node hands out what a call told and sent, the run terms of the lists
+/// of each initiator are the rows of its slots.
+#[tactic(auto, using(crate::proofs::Hosting::world_law))]
+pub fn worlds_keep_rows()
+    ensures { WorldLaw }
 {}
