@@ -1,19 +1,15 @@
 -- What a lawful run has of the bus.
-use Rattle.std.proofs.Common.{◌≡◌, refl, ℕ, Bool, true, false, List, [], ◌∷◌, reverse, inl, inr}
+use Rattle.std.proofs.Common.{ℕ, List, [], ◌∷◌, reverse}
 use Rattle.rbc_disk.specs.Disk.{Disk}
 use Rattle.sbp_journal.specs.Run.{Entry, Moment, asked, said, history}
-use Rattle.sbp_journal.specs.Wire.{terms}
 use Rattle.sbp_journal.specs.declared.event.Event.{Event}
 use Rattle.sbp_journal.specs.declared.event.Event.TheVariants as events
 use Rattle.sbp_journal.specs.declared.note.Note.{Note}
-use Rattle.sbp_journal.specs.declared.note.Note.TheVariants as notes
 use Rattle.sbp_laws.specs.ActionLaw.{Brings, BringsEach}
 use Rattle.sbp_laws.specs.Budget.{settle_deliveries}
-use Rattle.sbp_laws.specs.Deliveries.{IsTurnOf}
 use Rattle.sbp_laws.specs.Lawful.{FormAt}
-use Rattle.sbp_laws.specs.LineLaw.{BringsLine, Either, LineLaw, TimesOut, refused}
+use Rattle.sbp_laws.specs.LineLaw.{BringsLine, LineLaw}
 use Rattle.sbp_laws.specs.OnTheBus.{HasFormAt, IsPartOfLawful}
-use Rattle.sbp_laws.specs.Packets.{is_under_way}
 use Rattle.sbp_laws.specs.Turns.{EachMoment}
 
 each_form : (past : List Moment) → EachMoment FormAt past → EachMoment HasFormAt past
@@ -21,13 +17,8 @@ each_form [] f = tt
 each_form (asked line event ∷ past) f = (tt, each_form past f.1)
 each_form (said note ∷ past) f = (f.0.0, each_form past f.1)
 
-times_out : (past : List Moment) (line serial : ℕ) (told : List Note) (b : Bool) → is_under_way (terms past) serial ≡ b → Either b (IsTurnOf (notes.TimedOut serial) told) (told ≡ refused line 11) → TimesOut (terms past) line serial told
-times_out past line serial told true e t = inl (e, t)
-times_out past line serial told false e t = inr t
-
 brings_line : (disks : List Disk) (past : List Moment) (line : ℕ) (event : Event) (told : List Note) → Brings disks past line event told → BringsLine disks past line event told
 brings_line disks past line (events.Act i action) told b = tt
-brings_line disks past line (events.Timeout serial) told b = times_out past line serial told (is_under_way (terms past) serial) refl b
 brings_line disks past line events.Settle told b = (settle_deliveries (asked line events.Settle ∷ past), b)
 brings_line disks past line event told b = b
 

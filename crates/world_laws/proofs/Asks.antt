@@ -1,5 +1,5 @@
 -- What a node asks, and what it gives up, is a list of moves of the wire: the packets leave for the nodes that have the IDs.
-use Rattle.std.specs.Prelude.{◌≡◌, ◌≤◌, ◌<◌, ℕ, ◌+◌, nat_eq, Bool, true, false, cond, if◌then◌else◌, List, [], ◌∷◌, ◌++◌, length, slice_index_or, Option, Some, None, Result, Ok, Err, refl}
+use Rattle.std.specs.Prelude.{◌≡◌, ◌≤◌, ◌<◌, ℕ, ◌+◌, ◌&&◌, nat_eq, Bool, true, false, cond, if◌then◌else◌, List, [], ◌∷◌, ◌++◌, length, slice_index_or, Option, Some, None, Result, Ok, Err, refl}
 use Rattle.std.proofs.Common.{arith, sym, ◌∙◌, ap, subst}
 use Rattle.sbp_base.specs.Update.{upd}
 use Rattle.async_packet.specs.Canon.{IsValid}
@@ -9,7 +9,7 @@ use Rattle.label_table.specs.declared.reply.NoLabel.{NoLabel}
 use Rattle.label_table.specs.Bodies.{Body, header_to, request_with}
 use Rattle.label_table.specs.History as calls
 use Rattle.label_table.specs.Layer.{Layer, asked_at, asking_in, asking_step, disowning_in, disowning_step, peer_at, peer_place, unlabelled}
-use Rattle.label_table.specs.Peers.{PeerPlace, ask_place}
+use Rattle.label_table.specs.Peers.{PeerPlace, ask_place, state_for}
 use Rattle.packet_store.specs.Stored.{Stored, send_step}
 use Rattle.bus_transactions.specs.Bare.{bare, bare_after, same}
 use Rattle.bus_transactions.specs.Fitting.{AreSmall}
@@ -21,25 +21,32 @@ use Rattle.bus_transactions.proofs.Bares.{takes_steps}
 use Rattle.bus_transactions.proofs.Facts.{asked_begun, request_asked}
 use Rattle.bus_transactions.proofs.Follows.{last_is}
 use Rattle.bus_transactions.proofs.MoveAsk.{asked_bytes}
-use Rattle.bus_transactions.proofs.Steps.{AskedAs, asks}
+use Rattle.bus_transactions.proofs.Steps.{AskedAs, Asks, asks}
 use Rattle.sbp_journal.specs.Run.{Moment, said}
 use Rattle.sbp_journal.specs.Transactions.{Sending, begun_by, between}
 use Rattle.sbp_journal.specs.Wire.{Terms, sends, terms}
 use Rattle.sbp_journal.specs.declared.note.Note.TheVariants as notes
 use Rattle.sbp_journal.specs.declared.outbox.Outgoing.{Outgoing}
 use Rattle.sbp_world.specs.Generations.{id_of, topology_at}
-use Rattle.sbp_world.specs.Requests.{add_step}
+use Rattle.sbp_world.specs.Requests.{RequestsState, add_step, place_of}
 use Rattle.sbp_world.specs.Sending.{posted, request_of, sent, sent_all, sent_to, with_request}
 use Rattle.sbp_world.specs.Worlds.{WorldState}
-use Rattle.world_laws.specs.Knows.{Knows}
+use Rattle.world_laws.specs.Knows.{AreEntered, IsEntered, Knows}
 use Rattle.world_laws.specs.Wires.{IsWireAt, StandsAt}
 use Rattle.world_laws.proofs.Alike.{IsAlike, all_alike, sent_more}
 use Rattle.world_laws.proofs.Agrees.{sends_agrees, sent_knows}
 use Rattle.world_laws.proofs.Bus.{aged, holds, sent_ids}
 use Rattle.world_laws.proofs.Found.{IsKnown, id_known, node_found}
 use Rattle.world_laws.proofs.Handles.{asked_generation}
-use Rattle.world_laws.proofs.Latest.{asked_knows}
+use Rattle.world_laws.proofs.Latest.{asked_knows, new_entered, still_entered}
 use Rattle.world_laws.proofs.Tells.{leads}
+use Rattle.world_laws.proofs.Entered.{Waits, asked_waits, disowns_less, entered_by, less_entered}
+use Rattle.bus_transactions.proofs.Places.{Places}
+use Rattle.bus_transactions.proofs.Reaches.{goes_on}
+use Rattle.label_table.specs.declared.place.LabelState.TheVariants as states
+use Rattle.label_table.specs.declared.reply.ReplyKind.{ReplyKind}
+use Rattle.label_table.specs.Requests.{kind_of}
+use Rattle.sbp_world.specs.declared.requests.Request.{Request}
 
 -- ---- a function with another value at one node
 pub upd_own : {A : Type 0} (f : ℕ → A) (at : ℕ) (value : A) → upd f at value at ≡ value
@@ -78,6 +85,7 @@ relayered w h e = record {
     sights = h.is.sights;
     known_ids = h.is.known_ids;
     knows = h.is.knows;
+    entered = h.is.entered;
     fair = h.is.fair;
   };
 }
@@ -162,6 +170,7 @@ module _ {P : Type 0} {past : List Moment} {layers : ℕ → Node} {due : Option
             ∙ h.is.sights k l;
         known_ids = h.is.known_ids;
         knows = h.is.knows;
+        entered = less_entered h.wire.layer from (disowning_step (h.wire.layer from) (id_for h.wire from k.node) label) (disowns_less (h.wire.layer from) (id_for h.wire from k.node) label ((holds h.wire h.reached).nodes from).places) h.is.entered;
         fair = h.is.fair;
       })
 
@@ -174,6 +183,27 @@ module _ {P : Type 0} {past : List Moment} {layers : ℕ → Node} {due : Option
 abbrev IfSmall : Option Asked → Type 0
 IfSmall None = Unit {0}
 IfSmall (Some asked) = (n : ℕ) → slice_index_or asked.bytes n 0 < 256
+
+no_test : false ≡ true → ⊥
+no_test e = cc
+
+same_test : (a b : ℕ) → (nat_eq a a && nat_eq b b) ≡ true
+same_test a b = grind arith
+
+both_same : (a b c d : ℕ) → (nat_eq a b && nat_eq c d) ≡ true → (a ≡ b) × (c ≡ d)
+both_same a b c d e = (grind arith, grind arith)
+
+same_call : (kind other : ReplyKind) (call second : ℕ) → states.UnderWay kind call ≡ states.UnderWay other second → call ≡ second
+same_call kind other call second e = cc
+
+label_is : (label : LabelParts) (number generation call : ℕ) → number ≡ label.number → generation ≡ label.generation → call ≡ label.serial → record { number = number; generation = generation; serial = call } ≡ label
+label_is label number generation call n g c =
+    ap (λ x. record { number = x; generation = generation; serial = call }) n
+    ∙ ap (λ x. record { number = label.number; generation = x; serial = call }) g
+    ∙ ap (λ x. record { number = label.number; generation = label.generation; serial = x }) c
+
+same_places : (a b c x y z : ℕ) → a < 5 → b < 5 → c < 64 → x < 5 → y < 5 → z < 64 → place_of a b c ≡ place_of x y z → (a ≡ x) × ((b ≡ y) × (c ≡ z))
+same_places a b c x y z al bl cl xl yl zl e = (omega (arith, e), (omega (arith, e), omega (arith, e)))
 
 -- a request leaves, if it finds a label
 module _ {P : Type 0} {past : List Moment} {layers : ℕ → Node} (w : WorldState) (h : StandsAt past layers None w) (from : ℕ) (there : from ≤ length w.initiators) (layer : Layer P) (own : layers from ≡ bare layer) (id : ℕ) (body : Body) (purpose : P) (k : IsKnown w from id) (aimed : 0 < from → k.node ≡ 0) (valid : IsValid (request_with (header_to layer.node id 0) body)) where
@@ -206,6 +236,85 @@ module _ {P : Type 0} {past : List Moment} {layers : ℕ → Node} (w : WorldSta
       subst (λ m. Knows (add_step m k.node (request_of from id asked.label) w.requests) (length w.initiators) (sends s q t)) (sym serial_now)
       (sent_knows s q t (Some u) begun serial
       (asked_knows h.is.knows from k.node id asked.label q (omega arith) (omega arith) a.small (record { from = there; to = to_there; bytes = small }) aimed past_now peer_is))
+
+  -- its transaction waits, and it is found
+  asks_enter : (asked : Asked) (new : Node) → asking_step (h.wire.layer from) (id_for h.wire from k.node) body tt ≡ (Some asked, new) → AreEntered (add_step (w.store.last + 1) k.node (request_of from id asked.label) w.requests) (length w.initiators) (upd h.wire.layer from new) (terms h.wire.past).ids
+  asks_enter asked new step = record {
+    entry = λ node peer number kind call l m small s. by_node (nat_eq node from) node peer number kind call refl l m small s;
+  }
+    where
+      t : Terms
+      t = terms h.wire.past
+
+      old : Node
+      old = h.wire.layer from
+
+      now : RequestsState
+      now = add_step (w.store.last + 1) k.node (request_of from id asked.label) w.requests
+
+      places : Places old.generation old.peers
+      places = ((holds h.wire h.reached).nodes from).places
+
+      a : Asks old new (id_for h.wire from k.node) (unlabelled old (id_for h.wire from k.node) body) asked
+      a = subst (AskedAs old (id_for h.wire from k.node) (unlabelled old (id_for h.wire from k.node) body)) step (asks old (id_for h.wire from k.node) body places)
+
+      waits : Waits (id_for h.wire from k.node) asked.label new
+      waits = asked_waits old (id_for h.wire from k.node) body asked new places step
+
+      generation : new.generation ≡ old.generation
+      generation = a.shows.stays.generation
+
+      serial_now : w.store.last + 1 ≡ t.count + 1
+      serial_now = ap (λ (st : Stored). st.last + 1) (sym h.is.store_is) ∙ ap (λ x. x + 1) (last_is (holds h.wire h.reached).follows)
+
+      any : Sending
+      any = outgoing h.wire from k.node asked.bytes false
+
+      from_five : from < 5
+      from_five = let few = h.is.few in omega arith
+
+      to_five : k.node < 5
+      to_five = let few = h.is.few in let l = k.there in omega arith
+
+      kept : (node peer number : ℕ) (request : Request) → node < 5 → peer < 5 → number < 64 → (node ≡ from → peer ≡ k.node → number ≡ asked.label.number → ⊥) → IsEntered w.requests node peer number request → IsEntered now node peer number request
+      kept node peer number request x y z differs e =
+          subst (λ m. IsEntered (add_step m k.node (request_of from id asked.label) w.requests) node peer number request) (sym serial_now)
+          (still_entered h.is.knows from k.node id asked.label any from_five to_five a.small node peer number request
+          (λ same. let p = same_places node peer number from k.node asked.label.number x y z from_five to_five a.small same in differs p.0 p.1.0 p.1.1) e)
+
+      added : IsEntered now from k.node asked.label.number (request_of from id asked.label)
+      added =
+          subst (λ m. IsEntered (add_step m k.node (request_of from id asked.label) w.requests) from k.node asked.label.number (request_of from id asked.label)) (sym serial_now)
+          (new_entered h.is.knows from k.node id asked.label any from_five to_five a.small)
+
+      by_label : (b : Bool) (peer number : ℕ) (kind : ReplyKind) (call : ℕ) → (nat_eq (t.ids old.generation peer) (id_for h.wire from k.node) && nat_eq number asked.label.number) ≡ b → peer ≤ length w.initiators → number < 64 → state_for new.peers (t.ids old.generation peer) number ≡ states.UnderWay kind call → cond b (states.UnderWay (kind_of (unlabelled old (id_for h.wire from k.node) body)) a.serial) (state_for old.peers (t.ids old.generation peer) number) ≡ states.UnderWay kind call → IsEntered now from peer number (request_of from (t.ids old.generation peer) (record { number = number; generation = old.generation; serial = call }))
+      by_label true peer number kind call e m small here s =
+          let same = both_same (t.ids old.generation peer) (id_for h.wire from k.node) number asked.label.number e in
+          let peer_is : peer ≡ k.node = goes_on.apart h.wire old.generation peer k.node h.reached same.0 in
+          let call_is : call ≡ asked.label.serial = same_call kind waits.kind call asked.label.serial (sym here ∙ ap (λ i. state_for new.peers i number) same.0 ∙ ap (λ n. state_for new.peers (id_for h.wire from k.node) n) same.1 ∙ waits.is) in
+          let id_same : t.ids old.generation peer ≡ id = same.0 ∙ id_is w h from there layer own id k in
+          let label_same = label_is asked.label number old.generation call same.1 (sym (asked_generation old (id_for h.wire from k.node) body asked new places step)) call_is in
+          subst (λ (r : Request). IsEntered now from peer number r) (sym (ap (λ i. request_of from i (record { number = number; generation = old.generation; serial = call })) id_same ∙ ap (λ l. request_of from id l) label_same))
+          (subst (λ p. IsEntered now from p number (request_of from id asked.label)) (sym peer_is)
+          (subst (λ n. IsEntered now from k.node n (request_of from id asked.label)) (sym same.1) added))
+      by_label false peer number kind call e m small here s =
+          let few = h.is.few in
+          kept from peer number (request_of from (t.ids old.generation peer) (record { number = number; generation = old.generation; serial = call })) from_five (omega arith) small
+          (λ x y z. no_test (sym e ∙ ap (λ p. nat_eq (t.ids old.generation p) (id_for h.wire from k.node) && nat_eq number asked.label.number) y ∙ ap (λ n. nat_eq (id_for h.wire from k.node) (id_for h.wire from k.node) && nat_eq n asked.label.number) z ∙ same_test (id_for h.wire from k.node) asked.label.number))
+          (h.is.entered.entry from peer number kind call there m small s)
+
+      by_node : (b : Bool) (node peer number : ℕ) (kind : ReplyKind) (call : ℕ) → nat_eq node from ≡ b → node ≤ length w.initiators → peer ≤ length w.initiators → number < 64 → state_for (cond b new (h.wire.layer node)).peers (t.ids (cond b new (h.wire.layer node)).generation peer) number ≡ states.UnderWay kind call → IsEntered now node peer number (request_of node (t.ids (cond b new (h.wire.layer node)).generation peer) (record { number = number; generation = (cond b new (h.wire.layer node)).generation; serial = call }))
+      by_node true node peer number kind call e l m small s =
+          let node_is : node ≡ from = grind arith in
+          let here = ap (λ g. state_for new.peers (t.ids g peer) number) (sym generation) ∙ s in
+          subst (λ x. IsEntered now x peer number (request_of x (t.ids new.generation peer) (record { number = number; generation = new.generation; serial = call }))) (sym node_is)
+          (subst (λ g. IsEntered now from peer number (request_of from (t.ids g peer) (record { number = number; generation = g; serial = call }))) (sym generation)
+          (by_label (nat_eq (t.ids old.generation peer) (id_for h.wire from k.node) && nat_eq number asked.label.number) peer number kind call refl m small here (sym (a.shows.states_are (t.ids old.generation peer) number) ∙ here)))
+      by_node false node peer number kind call e l m small s =
+          let few = h.is.few in
+          kept node peer number (request_of node (t.ids (h.wire.layer node).generation peer) (record { number = number; generation = (h.wire.layer node).generation; serial = call })) (omega arith) (omega arith) small
+          (λ x y z. no_test (sym e ∙ ap (λ n. nat_eq n from) x ∙ (let f : nat_eq from from ≡ true = grind arith in f)))
+          (h.is.entered.entry node peer number kind call l m small s)
 
   asks_as : (asked : Asked) (new : Layer P) → asking_step layer id body purpose ≡ (Some asked, new) → ((n : ℕ) → slice_index_or asked.bytes n 0 < 256) → StandsAt past (upd layers from (bare new)) None (with_request (w.store.last + 1) k.node (request_of from id asked.label) (posted from k.node false asked.bytes w))
   unfolding posted
@@ -242,6 +351,7 @@ module _ {P : Type 0} {past : List Moment} {layers : ℕ → Node} (w : WorldSta
             (sent_ids (wire.store.last + 1) (wire.layer from).generation from k.node asked.bytes (terms wire.past))
             ∙ h.is.known_ids n peer l m;
         knows = asks_know asked (bare new) step small;
+        entered = entered_by (sym (sent_ids (wire.store.last + 1) (wire.layer from).generation from k.node asked.bytes (terms wire.past))) (asks_enter asked (bare new) step);
         fair = still_fair wire h.reached from k.node asked.bytes h.is.fair;
       }))
 

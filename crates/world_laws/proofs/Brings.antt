@@ -7,10 +7,12 @@ use Rattle.packet_store.specs.Stored.{Stored}
 use Rattle.rbc_disk.specs.Runs.{Told}
 use Rattle.sbp_journal.specs.Run.{Moment, said}
 use Rattle.sbp_journal.specs.Wire.{Terms, terms}
+use Rattle.sbp_journal.specs.declared.note.Note.{Note}
 use Rattle.sbp_journal.specs.declared.note.Note.TheVariants as notes
 use Rattle.sbp_laws.specs.Budget.{flies, lowest_in_flight}
 use Rattle.sbp_laws.specs.Deliveries.{AreDeliveries, EndsSettle, IsDelivery, IsTurnOf, NoneFlies, SettlesWithin, deliveries, once_told}
-use Rattle.sbp_laws.specs.LineLaw.{Either, TimesOut, injected as law_injected, may_inject, may_repeat as law_repeats, node_from, refused as law_refused}
+use Rattle.sbp_laws.specs.LineLaw.{Either, injected as law_injected, may_inject, may_repeat as law_repeats, node_from, refused as law_refused}
+use Rattle.sbp_laws.specs.Packets.{is_under_way}
 use Rattle.sbp_world.specs.declared.requests.Request.{Request}
 use Rattle.sbp_world.specs.Delivering.{delivered}
 use Rattle.sbp_world.specs.Generations.{topology_at}
@@ -36,7 +38,7 @@ use Rattle.world_laws.proofs.Received.{IsTarget}
 use Rattle.world_laws.proofs.Sound.{first_flies, next_heard}
 use Rattle.world_laws.proofs.ToldBytes.{AreTold}
 use Rattle.world_laws.proofs.Turned.{Delivered, Turned, delivers, lapse_turns, second_turns, sight_turns, stale_refuses}
-use Rattle.world_laws.proofs.UnderWay.{expired_was}
+use Rattle.world_laws.proofs.UnderWay.{expired_was, under_way_expires}
 
 either : (holds fails : Type 0) (b : Bool) → (b ≡ true → holds) → (b ≡ false → fails) → Either b holds fails
 either holds fails true h f = h refl
@@ -116,23 +118,28 @@ module _ {past : List Moment} (w : WorldState) (h : Stands past w) (line serial 
 
   -- ---- a time-out
   module _ (aimed : (i : ℕ) → i < length w.initiators → IsTarget w (suc i) (initiator_at w i).target) (none : w.fresh ≡ []) where
-    lapse_by : (request : Request) (b : Bool) → find w.requests serial ≡ Some request → (expires request w).0 ≡ b → TimesOut terms_now line serial (reverse (timed_out line serial request.node (expires request w)).fresh)
-    lapse_by request true found e =
-        inl (
-          expired_was w h serial request found aimed e,
-          turn_alone (notes.TimedOut serial) (timed_out line serial request.node (expires request w)).fresh
-              (subst (λ ns. Turned (notes.TimedOut serial) ns (timed_out line serial request.node (expires request w)).fresh) none (lapse_turns line serial request w e)),
-        )
-    lapse_by request false found e =
-        inr (ap reverse (stale_refuses line serial request w e) ∙ ap (λ ns. reverse (notes.Refused line no_packet ∷ ns)) none)
+    abbrev told_of : Option Request → List Note
+    told_of o = reverse (timeout_of o line serial w).fresh
 
-    times_out_by : (o : Option Request) → find w.requests serial ≡ o → TimesOut terms_now line serial (reverse (timeout_of o line serial w).fresh)
-    times_out_by None e = inr (ap (λ ns. reverse (notes.Refused line no_packet ∷ ns)) none)
-    times_out_by (Some request) e = lapse_by request (expires request w).0 e refl
+    stale_by : (request : Request) (b : Bool) → is_under_way terms_now serial ≡ false → find w.requests serial ≡ Some request → (expires request w).0 ≡ b → told_of (Some request) ≡ law_refused line 11
+    stale_by request true stale found e = let yes = expired_was w h serial request found aimed e in cc
+    stale_by request false stale found e = ap reverse (stale_refuses line serial request w e) ∙ ap (λ ns. reverse (notes.Refused line no_packet ∷ ns)) none
 
-    pub timeout_brings : TimesOut terms_now line serial (reverse (timeout_line line serial w).fresh)
+    refused_by : (o : Option Request) → is_under_way terms_now serial ≡ false → find w.requests serial ≡ o → told_of o ≡ law_refused line 11
+    refused_by None stale e = ap (λ ns. reverse (notes.Refused line no_packet ∷ ns)) none
+    refused_by (Some request) stale e = stale_by request (expires request w).0 stale e refl
+
+    times_out_by : (b : Bool) → is_under_way terms_now serial ≡ b → Either b (IsTurnOf (notes.TimedOut serial) (told_of (find w.requests serial))) (told_of (find w.requests serial) ≡ law_refused line 11)
+    times_out_by true e =
+        let f = under_way_expires w h serial aimed e in
+        subst (λ o. IsTurnOf (notes.TimedOut serial) (told_of o)) (sym f.found)
+        (turn_alone (notes.TimedOut serial) (timed_out line serial f.request.node (expires f.request w)).fresh
+        (subst (λ ns. Turned (notes.TimedOut serial) ns (timed_out line serial f.request.node (expires f.request w)).fresh) none (lapse_turns line serial f.request w f.expires)))
+    times_out_by false e = refused_by (find w.requests serial) e refl
+
+    pub timeout_brings : let told = reverse (timeout_line line serial w).fresh in Either (is_under_way terms_now serial) (IsTurnOf (notes.TimedOut serial) told) (told ≡ law_refused line 11)
     unfolding timeout_line
-    timeout_brings = times_out_by (find w.requests serial) refl
+    timeout_brings = times_out_by (is_under_way terms_now serial) refl
 
 -- ---- an injected packet
 module _ {past : List Moment} (w : WorldState) (h : Stands past w) (line i : ℕ) (inside : i < length w.initiators) (bytes : List ℕ) (none : w.fresh ≡ []) where

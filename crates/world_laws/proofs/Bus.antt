@@ -36,6 +36,7 @@ use Rattle.world_laws.specs.Wires.{Stands}
 use Rattle.world_laws.proofs.Agrees.{reset_knows, sends_agrees, sent_knows}
 use Rattle.world_laws.proofs.Latest.{other_knows}
 use Rattle.world_laws.proofs.Tells.{leads, tells}
+use Rattle.world_laws.proofs.Entered.{entered_before, entered_by}
 
 -- what holds of every wire that is reached
 pub holds : (wire : Wire) → Reached wire → Holds wire
@@ -68,6 +69,7 @@ loses_by past w line serial true e h = leads w (lost serial w) h (lose serial) (
   sights = h.is.sights;
   known_ids = h.is.known_ids;
   knows = h.is.knows;
+  entered = h.is.entered;
   fair = h.is.fair;
 })
 
@@ -109,6 +111,7 @@ resets past w line physical ids h =
           let a : g ≤ t.bus = subst (λ x. x ≤ t.bus) (h.is.sights node l) (aged h.wire node h.reached) in
           ap (λ (ids : ℕ → ℕ). ids peer) (ids_before all.facts (ids_of physical) g a) ∙ h.is.known_ids node peer l m;
       knows = let b = all.bus_is in reset_knows t _ (h.wire.bus + 1) (omega arith) (ids_before all.facts (ids_of physical)) h.is.knows;
+      entered = entered_before h.wire.layer (λ node l. ids_before all.facts (ids_of physical) (h.wire.layer node).generation (aged h.wire node h.reached)) h.is.entered;
       fair = h.is.fair;
     })
 
@@ -204,6 +207,7 @@ injects_to past w from to bytes fit i h =
           (sent_ids (h.wire.store.last + 1) (h.wire.layer from).generation from to bytes (terms (said (notes.Injected (h.wire.store.last + 1)) ∷ h.wire.past)))
           ∙ h.is.known_ids node peer l m;
       knows = injected_knows h.wire h.reached from to bytes a b fit h.is.knows;
+      entered = entered_by (sym (sent_ids (h.wire.store.last + 1) (h.wire.layer from).generation from to bytes (terms (said (notes.Injected (h.wire.store.last + 1)) ∷ h.wire.past)))) h.is.entered;
       fair = injected_fair h.wire from to bytes i.other h.is.fair;
     })
 

@@ -45,6 +45,7 @@ use Rattle.world_laws.proofs.Bus.{holds, sent_ids}
 use Rattle.world_laws.proofs.Found.{IsKnown, id_known, node_found}
 use Rattle.world_laws.proofs.Latest.{other_knows}
 use Rattle.world_laws.proofs.Tells.{leads}
+use Rattle.world_laws.proofs.Entered.{Less, answers_less, entered_by, judges_less, less_entered}
 
 -- ---- judging leaves a layer in its generation
 module _ {P : Type 0} where
@@ -135,6 +136,7 @@ module _ {P : Type 0} {past : List Moment} {layers : ℕ → Node} (w : WorldSta
         sights = λ n l. sight_by w h sent.to there layer own found_now.1 n (nat_eq n sent.to) refl (judging_stays layer sent.generation sent.bytes) ∙ h.is.sights n l;
         known_ids = λ n peer l m. ap (λ (ids : ℕ → ℕ → ℕ). ids (topology_at w.generations n).generation peer) agrees.ids ∙ h.is.known_ids n peer l m;
         knows = still_knows agrees h.is.knows;
+        entered = entered_by (sym agrees.ids) (less_entered wire.layer sent.to (bare found_now.1) (subst (λ (r : Finding (Unit {0}) × Node). Less (wire.layer sent.to) r.1) step (judges_less (wire.layer sent.to) sent.generation sent.bytes ((holds wire h.reached).nodes sent.to).places)) h.is.entered);
         fair = ap (λ (f : ℕ → Bool). f 0) agrees.injects ∙ h.is.fair;
       }))
 
@@ -216,6 +218,8 @@ module _ {P : Type 0} {past : List Moment} {layers : ℕ → Node} (w : WorldSta
               (sent_ids (wire.store.last + 1) (wire.layer sent.to).generation sent.to sent.from answer_now.0 (terms wire.past))
               ∙ h.is.known_ids n peer l m;
           knows = answer_knows;
+          entered = entered_by (sym (sent_ids (wire.store.last + 1) (wire.layer sent.to).generation sent.to sent.from answer_now.0 (terms wire.past)))
+              (less_entered wire.layer sent.to (bare answer_now.1) (subst (λ (r : List ℕ × Node). Less (wire.layer sent.to) r.1) answer_is (answers_less (wire.layer sent.to) p sent.bytes rcode given)) h.is.entered);
           fair = still_fair wire h.reached sent.to sent.from answer_now.0 h.is.fair;
         })))
 

@@ -22,11 +22,12 @@ use Rattle.sbp_laws.specs.Budget.{flies, initiators}
 use Rattle.sbp_laws.specs.Lawful.{injectors}
 use Rattle.sbp_laws.specs.OnceLaw.{OnceLaw, is_wild}
 use Rattle.sbp_laws.specs.OnTheBus.{HasFormAt, LawfulOnTheBus}
+use Rattle.sbp_laws.specs.Packets.{is_under_way}
 use Rattle.sbp_laws.specs.Turns.{EachMoment}
 use Rattle.sbp_world.proofs.LineForms.{form_law}
 use Rattle.sbp_world.specs.Forms.{AreForms}
 use Rattle.sbp_laws.specs.Deliveries.{AreLowest, EndsSettle, IsDelivery, IsTurnOf, SettlesWithin}
-use Rattle.sbp_laws.specs.LineLaw.{BringsLine, Either, LineLaw, TimesOut, injected as law_injected, may_inject, may_repeat as law_repeats, refused as law_refused}
+use Rattle.sbp_laws.specs.LineLaw.{BringsLine, Either, LineLaw, injected as law_injected, may_inject, may_repeat as law_repeats, refused as law_refused}
 use Rattle.sbp_world.specs.Histories.{history_of, moments_behind}
 use Rattle.sbp_world.specs.Lines.{MayHappen, MayTellIn, acted, acted_by, happens, happens_to, weight_in}
 use Rattle.sbp_world.specs.Runs.{AreEntries, Entry, Run, after, beginning}
@@ -76,6 +77,10 @@ none_turn : (first : Note) (told : List Note) → NoneBegins (first ∷ []) → 
 none_turn first [] n d = absurd d
 none_turn first (note ∷ rest) n d = ((subst (λ x. NoneBegins (x ∷ [])) (sym d.0) n).0, effects_none rest d.1)
 
+none_timed : (b : Bool) (line serial : ℕ) (told : List Note) → Either b (IsTurnOf (notes.TimedOut serial) told) (told ≡ law_refused line 11) → NoneBegins told
+none_timed true line serial told t = none_turn (notes.TimedOut serial) told (refl, tt) t
+none_timed false line serial told e = none_refused line 11 told e
+
 none_lowest : (past : List Moment) (ns : List Note) → AreLowest past ns → NoneBegins ns
 none_lowest past [] l = tt
 none_lowest past (notes.Got serial ∷ ns) l = (refl, none_lowest (said (notes.Got serial) ∷ past) ns l.1)
@@ -115,8 +120,7 @@ none_by disks past line (events.Act i action) told o b = absurd o
 none_by disks past line (events.Deliver serial) told o b = none_either (flies ((terms past).flight serial)) line serial told b
 none_by disks past line (events.Repeat serial) told o b = none_either (law_repeats (terms past) serial) line serial told b
 none_by disks past line (events.Lose serial) told o b = none_lost (flies ((terms past).flight serial)) line serial told b
-none_by disks past line (events.Timeout serial) told o (inl both) = none_turn (notes.TimedOut serial) told (refl, tt) both.1
-none_by disks past line (events.Timeout serial) told o (inr e) = none_refused line 11 told e
+none_by disks past line (events.Timeout serial) told o b = none_timed (is_under_way (terms past) serial) line serial told b
 none_by disks past line (events.Step count) told o b = none_lowest (asked line (events.Step count) ∷ past) told b.lowest
 none_by disks past line events.Settle told o b = none_settled b.0 (asked line events.Settle ∷ past) told b.1
 none_by disks past line (events.Reset physical) told o b = subst NoneBegins (sym b) (refl, tt)
@@ -201,7 +205,7 @@ module _ (targets : FittingLaw) (own_fits : OwnFittingLaw) where
     brings_line line (events.Timeout serial) told_now q t may =
         let o = opens line (events.Timeout serial) s.world refl sound in
         let new = reverse (happens_to line (events.Timeout serial) told_now (begun s)).world.fresh in
-        subst (λ p. TimesOut (terms p) line serial new) o.stands.is.past_is
+        subst (λ p. Either (is_under_way (terms p) serial) (IsTurnOf (notes.TimedOut serial) new) (new ≡ law_refused line 11)) o.stands.is.past_is
         (timeout_brings (without_notes s.world) o.stands line serial (aims (without_notes s.world) o) refl)
     brings_line line (events.Step count) told_now q t may =
         up_to_brings targets own_fits (begun s) (opens line (events.Step count) s.world refl sound) refl refl count told_now t may

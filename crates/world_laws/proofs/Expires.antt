@@ -29,6 +29,7 @@ use Rattle.world_laws.proofs.Bus.{holds}
 use Rattle.world_laws.proofs.Handing.{Knowing, asks_out}
 use Rattle.world_laws.proofs.Handles.{expired_generation}
 use Rattle.world_laws.proofs.Tells.{leads}
+use Rattle.world_laws.proofs.Entered.{entered_by, expires_less, less_entered}
 
 -- ---- a time-out leaves a layer in its generation
 module _ {P : Type 0} where
@@ -111,6 +112,7 @@ module _ {P : Type 0} {past : List Moment} {layers : ℕ → Node} (w : WorldSta
         sights = λ n l. sight_by w h request.node there layer own new n (nat_eq n request.node) refl stays ∙ h.is.sights n l;
         known_ids = λ n peer l m. ap (λ (ids : ℕ → ℕ → ℕ). ids (topology_at w.generations n).generation peer) agrees.ids ∙ h.is.known_ids n peer l m;
         knows = still_knows agrees h.is.knows;
+        entered = entered_by (sym agrees.ids) (less_entered wire.layer request.node (bare new) (expires_less (wire.layer request.node) id request.label (all.nodes request.node).places first) h.is.entered);
         fair = ap (λ (f : ℕ → Bool). f 0) agrees.injects ∙ h.is.fair;
       }))
 

@@ -16,7 +16,7 @@ use Rattle.sbp_journal.specs.Transactions.{Sending, Transaction, at, is_same}
 use Rattle.sbp_world.specs.declared.requests.Request.{Request}
 use Rattle.sbp_world.specs.Requests.{RequestsState, add_step, find, place_of, serial_at, without}
 use Rattle.sbp_world.specs.Sending.{request_of}
-use Rattle.world_laws.specs.Knows.{IsLatest, IsOurs, KnowsBy, Rise}
+use Rattle.world_laws.specs.Knows.{IsEntered, IsLatest, IsOurs, KnowsBy, Rise}
 
 -- ---- keys
 at_key : (s k : ℕ) → is_at (nat_cmp s) k ≡ nat_eq s k
@@ -119,6 +119,50 @@ found_more n from s request other (one ∷ es) r e =
     by_test true f behind e = is_old (ap (λ b. cond b (Some one.1) (at_serial s es)) f ∙ e)
     by_test false f behind e = later f (behind e)
 
+-- what is found after that
+apart_by : (a b : ℕ) → a < b → nat_eq a b ≡ false
+apart_by a b l = grind arith
+
+equal_by : (a b : ℕ) → nat_eq a b ≡ true → a ≡ b
+equal_by a b e = grind arith
+
+differ_by : (a b : ℕ) → nat_eq a b ≡ false → a ≡ b → ⊥
+differ_by a b e f = let x : nat_eq a b ≡ true = grind arith in cc
+
+other_by : (a b : ℕ) → (a ≡ b → ⊥) → nat_eq a b ≡ false
+other_by a b differs = by_test (nat_eq a b) refl
+  where
+    by_test : (x : Bool) → nat_eq a b ≡ x → nat_eq a b ≡ false
+    by_test true e = absurd (differs (equal_by a b e))
+    by_test false e = e
+
+still_there : (old s : ℕ) (es : Entries) → nat_eq s old ≡ false → at_serial s (without old es) ≡ at_serial s es
+still_there old s [] d = refl
+still_there old s (one ∷ es) d = by_test (nat_eq old one.0) refl (still_there old s es d)
+  where
+    by_test : (b : Bool) → nat_eq old one.0 ≡ b → at_serial s (without old es) ≡ at_serial s es → at_serial s (without old (one ∷ es)) ≡ at_serial s (one ∷ es)
+    by_test true e later =
+        let same : old ≡ one.0 = equal_by old one.0 e in
+        ap (λ b. at_serial s (cond b es (one ∷ without old es))) (at_key old one.0 ∙ e)
+        ∙ sym (ap (λ b. cond b (Some one.1) (at_serial s es)) (at_key s one.0 ∙ ap (nat_eq s) (sym same) ∙ d))
+    by_test false e later =
+        ap (λ b. at_serial s (cond b es (one ∷ without old es))) (at_key old one.0 ∙ e)
+        ∙ ap (λ o. cond (is_at (nat_cmp s) one.0) (Some one.1) o) later
+
+still_put : (n from s : ℕ) (request : Request) (es : Entries) → Rise from n es → nat_eq s n ≡ false → at_serial s (insert_entry nat_cmp es n request) ≡ at_serial s es
+still_put n from s request [] r d = ap (λ b. cond b (Some request) None) (at_key s n ∙ d)
+still_put n from s request (one ∷ es) r d =
+    ap (at_serial s) (put_behind n request one es r.1)
+    ∙ ap (λ o. cond (is_at (nat_cmp s) one.0) (Some one.1) o) (still_put n (suc one.0) s request es r.2 d)
+
+found_new : (n from : ℕ) (request : Request) (es : Entries) → Rise from n es → at_serial n (insert_entry nat_cmp es n request) ≡ Some request
+found_new n from request [] r = ap (λ b. cond b (Some request) None) (at_key n n ∙ (let e : nat_eq n n ≡ true = grind arith in e))
+found_new n from request (one ∷ es) r =
+    let l = r.1 in
+    ap (at_serial n) (put_behind n request one es l)
+    ∙ ap (λ b. cond b (Some one.1) (at_serial n (insert_entry nat_cmp es n request))) (at_key n one.0 ∙ other_by n one.0 (λ e. absurd (omega (arith, e))))
+    ∙ found_new n (suc one.0) request es r.2
+
 -- ---- a request of a node to another under a label
 place_same : (requests : RequestsState) (u v : Transaction) → u ≡ v → serial_at requests u.requester u.responder u.label ≡ serial_at requests v.requester v.responder v.label
 place_same requests u v e = ap (λ (t : Transaction). serial_at requests t.requester t.responder t.label) e
@@ -195,14 +239,81 @@ module _ {requests : RequestsState} {nodes : ℕ} {ids : ℕ → ℕ → ℕ} {s
           let f = found_less old_serial s 0 (count + 1) requests.requests other k.rise x in
           other_latest s other f.other (k.latest s other f.found)
 
+  -- serials stay below the next one, and apart
+  other_place : (place : ℕ) → (place ≡ place_of from to label.number → ⊥) → slice_index_or with_new.serials place 0 ≡ slice_index_or requests.serials place 0
+  unfolding add_step
+  other_place place differs = get_or-set_other requests.serials (place_of from to label.number) place (count + 1) 0 differs
+
+  own_place : slice_index_or with_new.serials (place_of from to label.number) 0 ≡ count + 1
+  unfolding add_step
+  own_place =
+      let size = k.size in
+      let small = small_place from to label.number from_small to_small number_small in
+      get_or-set_at requests.serials (place_of from to label.number) (place_of from to label.number) (count + 1) 0 refl (omega arith)
+
+  below_now : (place : ℕ) → slice_index_or with_new.serials place 0 ≤ count + 1
+  below_now place = by_test (nat_eq place (place_of from to label.number)) refl
+    where
+      by_test : (b : Bool) → nat_eq place (place_of from to label.number) ≡ b → slice_index_or with_new.serials place 0 ≤ count + 1
+      by_test true e = subst (λ x. slice_index_or with_new.serials x 0 ≤ count + 1) (sym (equal_by place (place_of from to label.number) e)) (let o = own_place in omega arith)
+      by_test false e = let o = other_place place (differ_by place (place_of from to label.number) e) in let l = k.below place in omega arith
+
+  apart_now : (one two : ℕ) → 0 < slice_index_or with_new.serials one 0 → slice_index_or with_new.serials one 0 ≡ slice_index_or with_new.serials two 0 → one ≡ two
+  apart_now one two written e = by_test (nat_eq one (place_of from to label.number)) (nat_eq two (place_of from to label.number)) refl refl
+    where
+      place : ℕ
+      place = place_of from to label.number
+
+      clash : (other : ℕ) → nat_eq other place ≡ false → slice_index_or with_new.serials other 0 ≡ count + 1 → ⊥
+      clash other f e = let o = other_place other (differ_by other place f) in let l = k.below other in omega (arith, e)
+
+      by_test : (a b : Bool) → nat_eq one place ≡ a → nat_eq two place ≡ b → one ≡ two
+      by_test true true f g = equal_by one place f ∙ sym (equal_by two place g)
+      by_test true false f g = absurd (clash two g (sym e ∙ ap (λ x. slice_index_or with_new.serials x 0) (equal_by one place f) ∙ own_place))
+      by_test false true f g = absurd (clash one f (e ∙ ap (λ x. slice_index_or with_new.serials x 0) (equal_by two place g) ∙ own_place))
+      by_test false false f g =
+          let o = other_place one (differ_by one place f) in
+          let p = other_place two (differ_by two place g) in
+          k.apart one two (subst (λ x. 0 < x) o written) (sym o ∙ e ∙ p)
+
   pub asked_knows : IsOurs nodes packet → (0 < from → to ≡ 0) → label.generation ≤ bus → id ≡ ids label.generation to → KnowsBy with_new nodes ids (upd sent (count + 1) (Some packet)) (at current now_present (count + 1)) bus (count + 1)
   unfolding add_step
   asked_knows o aimed past peer_is = record {
     ours = λ s q e. ours_now o s q (nat_eq s (count + 1)) e;
     size = length-set requests.serials (place_of from to label.number) (count + 1) ∙ k.size;
     rise = rise_more (count + 1) 0 new_request (without old_serial requests.requests) (omega arith) (rise_less old_serial 0 (count + 1) requests.requests k.rise);
+    below = below_now;
+    apart = apart_now;
     latest = latest_now aimed past peer_is;
   }
+
+  -- the new request is found, and so are the others but the one that it replaces
+  pub new_entered : IsEntered with_new from to label.number new_request
+  unfolding add_step
+  new_entered =
+      let size = k.size in
+      let small = small_place from to label.number from_small to_small number_small in
+      let here : serial_at with_new from to label.number ≡ count + 1 = get_or-set_at requests.serials (place_of from to label.number) (place_of from to label.number) (count + 1) 0 refl (omega arith) in
+      record {
+        written = omega (arith, here);
+        found = ap (find with_new) here ∙ found_new (count + 1) 0 new_request (without old_serial requests.requests) (rise_less old_serial 0 (count + 1) requests.requests k.rise);
+      }
+
+  pub still_entered : (node peer number : ℕ) (request : Request) → (place_of node peer number ≡ place_of from to label.number → ⊥) → IsEntered requests node peer number request → IsEntered with_new node peer number request
+  unfolding add_step
+  still_entered node peer number request differs e =
+      let s = serial_at requests node peer number in
+      let same = other_place (place_of node peer number) differs in
+      let b = k.below (place_of node peer number) in
+      let new : nat_eq s (count + 1) ≡ false = apart_by s (count + 1) (omega arith) in
+      let old : nat_eq s old_serial ≡ false = other_by s old_serial (λ x. differs (k.apart (place_of node peer number) (place_of from to label.number) e.written x)) in
+      record {
+        written = subst (λ x. 0 < x) (sym same) e.written;
+        found = ap (find with_new) same
+            ∙ still_put (count + 1) 0 s new_request (without old_serial requests.requests) (rise_less old_serial 0 (count + 1) requests.requests k.rise) new
+            ∙ still_there old_serial s requests.requests old
+            ∙ e.found;
+      }
 
 -- a packet that is no request of a node's own leaves the requests as they are
 rise_on : (below from : ℕ) (es : Entries) → Rise from below es → Rise from (below + 1) es
@@ -214,6 +325,8 @@ other_knows {nodes = nodes} {sent = sent} {count = count} k packet o = record {
   ours = λ s q e. by_test s q (nat_eq s (count + 1)) e;
   size = k.size;
   rise = rise_on (count + 1) 0 _ k.rise;
+  below = λ place. let l = k.below place in omega arith;
+  apart = k.apart;
   latest = k.latest;
 }
   where

@@ -10,6 +10,7 @@ pub mod Found
 pub mod Asks
 pub mod Agrees
 pub mod Latest
+pub mod Entered
 pub mod Handles
 pub mod Deliver
 pub mod Handing

@@ -61,6 +61,7 @@ same_layer past w node e h = record {
     sights = h.is.sights;
     known_ids = h.is.known_ids;
     knows = h.is.knows;
+    entered = h.is.entered;
     fair = h.is.fair;
   };
 }

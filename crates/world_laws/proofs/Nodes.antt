@@ -20,7 +20,7 @@ use Rattle.sbp_world.specs.Delivering.{marked}
 use Rattle.sbp_world.specs.Handing.{handed_out}
 use Rattle.sbp_world.specs.Telling.{told_all}
 use Rattle.sbp_world.specs.Worlds.{WorldState}
-use Rattle.world_laws.specs.Knows.{Knows}
+use Rattle.world_laws.specs.Knows.{AreEntered, Knows}
 use Rattle.world_laws.specs.Wires.{Stands, StandsAt, layer_in, layers_of}
 use Rattle.world_laws.proofs.Alike.{IsAlike, all_alike, alike_same, alike_then, told_alike}
 use Rattle.world_laws.proofs.Asks.{relayered}
@@ -44,6 +44,7 @@ nodes_beside w h target initiators n = record {
     sights = λ k l. h.is.sights k (subst (λ m. k ≤ m) n l);
     known_ids = λ k peer l m. h.is.known_ids k peer (subst (λ x. k ≤ x) n l) (subst (λ x. peer ≤ x) n m);
     knows = subst (λ m. Knows w.requests m (terms h.wire.past)) (sym n) h.is.knows;
+    entered = subst (λ m. AreEntered w.requests m h.wire.layer (terms h.wire.past).ids) (sym n) h.is.entered;
     fair = h.is.fair;
   };
 }

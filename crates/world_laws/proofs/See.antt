@@ -20,10 +20,11 @@ use Rattle.sbp_world.specs.declared.generations.Topology.{Topology}
 use Rattle.sbp_world.specs.Generations.{id_of, no_topology, topology_at}
 use Rattle.sbp_world.specs.Nodes.{told_seen, with_seen}
 use Rattle.sbp_world.specs.Worlds.{WorldState}
-use Rattle.world_laws.specs.Knows.{Knows}
+use Rattle.world_laws.specs.Knows.{AreEntered, Knows}
 use Rattle.world_laws.specs.Wires.{Stands, layer_in}
 use Rattle.world_laws.proofs.Bus.{aged, holds}
 use Rattle.world_laws.proofs.Tells.{leads}
+use Rattle.world_laws.proofs.Entered.{less_entered, sees_less}
 
 -- a layer that sees a generation is in it
 sees_generation : {P : Type 0} (layer : Layer P) (generation id : ℕ) → layer.generation ≤ generation → (seeing_step layer generation id).1.generation ≡ generation
@@ -102,6 +103,7 @@ module _ (past : List Moment) (w : WorldState) (node : ℕ) (there : node ≤ le
             ∙ ids_case k peer (nat_eq k node) (omega arith) (omega arith)
             ∙ ap (λ (t : Topology). id_of t peer) (sym (new_topology k));
         knows = subst (λ m. Knows w.requests m (terms h.wire.past)) (sym n) h.is.knows;
+        entered = subst (λ m. AreEntered w.requests m (upd h.wire.layer node seen_new) (terms h.wire.past).ids) (sym n) (less_entered h.wire.layer node seen_new (sees_less (h.wire.layer node) h.wire.bus (h.wire.ids node)) h.is.entered);
         fair = h.is.fair;
       })
 

@@ -31,6 +31,11 @@ use Rattle.sbp_world.specs.Making.{new_initiators, new_world, notes_begin}
 use Rattle.sbp_world.proofs.Making.{ids_size, initiators_size}
 use Rattle.world_laws.specs.History.{IsOfWire}
 use Rattle.world_laws.specs.Wires.{Stands, layer_in}
+use Rattle.bus_transactions.proofs.Places.{new_looked}
+use Rattle.label_table.proofs.Sources.{default_in}
+use Rattle.label_table.specs.declared.place.LabelState.TheVariants as states
+use Rattle.label_table.specs.declared.place.Place.{Place}
+use Rattle.label_table.specs.declared.reply.ReplyKind.{ReplyKind}
 
 -- one more behind a list
 last_at : {A : Type 0} (xs : List A) (y d : A) (k : ℕ) → k ≡ length xs → slice_index_or (xs ++ y ∷ []) k d ≡ y
@@ -87,6 +92,15 @@ started_reached line initiators ready =
     goes_on.more (moved (start line (events.Begin initiators ready)) no_wire) (tell (notes_begin initiators ready))
     (goes_on.more no_wire (start line (events.Begin initiators ready)) goes_on.begins (record { free = refl; other = refl })) refl
 
+first_below : (count place : ℕ) → slice_index_or {A = ℕ} (replicate 1600 0) place 0 ≤ count
+first_below count place = let z : slice_index_or {A = ℕ} (replicate 1600 0) place 0 ≡ 0 = default_in 1600 place 0 in omega (arith, z)
+
+first_apart : (one two : ℕ) → 0 < slice_index_or {A = ℕ} (replicate 1600 0) one 0 → slice_index_or {A = ℕ} (replicate 1600 0) one 0 ≡ slice_index_or {A = ℕ} (replicate 1600 0) two 0 → one ≡ two
+first_apart one two l e = let z : slice_index_or {A = ℕ} (replicate 1600 0) one 0 ≡ 0 = default_in 1600 one 0 in absurd (omega (arith, z, l))
+
+none_waits : (kind : ReplyKind) (call : ℕ) → states.Free ≡ states.UnderWay kind call → ⊥
+none_waits kind call e = cc
+
 pub begins : (line initiators : ℕ) (ready : Bool) (units : ℕ) → initiators ≤ 4 → Stands (asked line (events.Begin initiators ready) ∷ []) (new_world initiators ready units)
 unfolding new_world started
 begins line initiators ready units few =
@@ -111,7 +125,8 @@ begins line initiators ready units few =
         sizes = λ k l. ap (λ (t : Topology). length t.ids) (known k l) ∙ ids_size nodes ∙ omega arith;
         sights = λ k l. ap (λ (t : Topology). t.generation) (sym (known k l));
         known_ids = λ k peer l m. ids peer m ∙ ap (λ (t : Topology). id_of t peer) (sym (known k l));
-        knows = record { ours = λ s q e. cc; size = length-replicate {A = ℕ} 1600 0; rise = tt; latest = λ s request e. cc };
+        knows = record { ours = λ s q e. cc; size = length-replicate {A = ℕ} 1600 0; rise = tt; below = first_below 0; apart = first_apart; latest = λ s request e. cc };
+        entered = record { entry = λ node peer number kind call l m s e. absurd (none_waits kind call (sym (new_looked (λ (place : Place). place.state) states.Free refl (local_id peer) number) ∙ e)) };
         fair = refl;
       };
     }

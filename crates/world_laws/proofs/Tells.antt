@@ -1,6 +1,6 @@
 -- What is told of other things than the wire, and the lines that begin.
 use Rattle.std.specs.Prelude.{◌≡◌, ℕ, Bool, true, false, List, [], ◌∷◌, ◌++◌, map, Option, refl}
-use Rattle.std.proofs.Common.{◌∙◌, ap}
+use Rattle.std.proofs.Common.{sym, ◌∙◌, ap}
 use Rattle.bus_transactions.specs.May.{May, is_plain, is_reset}
 use Rattle.bus_transactions.specs.Moves.{Move, tell, start, moved}
 use Rattle.bus_transactions.specs.Steps.{ArePlainSides, IsPlainSide}
@@ -21,6 +21,7 @@ use Rattle.sbp_world.specs.Telling.{counted, told, told_all}
 use Rattle.sbp_world.specs.Worlds.{WorldState, with_note, without_notes}
 use Rattle.world_laws.proofs.Agrees.{opened_agrees, plain_agrees, still_knows}
 use Rattle.world_laws.specs.Wires.{IsWireAt, Stands, StandsAt}
+use Rattle.world_laws.proofs.Entered.{entered_by}
 
 -- one move leads on
 pub leads : {past later : List Moment} {layers left : ℕ → Node} {due owed : Option Due} (w new : WorldState) (h : StandsAt past layers due w) (move : Move) → May move h.wire → IsWireAt later left owed new (moved move h.wire) → StandsAt later left owed new
@@ -47,6 +48,7 @@ tells past w note plain h = leads w (with_note note w) h (tell note) plain (reco
   known_ids = λ node peer l m.
       ap (λ (t : Terms). t.ids (topology_at w.generations node).generation peer) (plain_terms note (terms h.wire.past) plain) ∙ h.is.known_ids node peer l m;
   knows = still_knows (plain_agrees note (terms h.wire.past) plain) h.is.knows;
+  entered = entered_by (sym (plain_agrees note (terms h.wire.past) plain).ids) h.is.entered;
   fair = ap (λ (f : ℕ → Bool). f 0) (plain_agrees note (terms h.wire.past) plain).injects ∙ h.is.fair;
 })
 
@@ -69,6 +71,7 @@ places_beside past w places loads h = record {
     sights = h.is.sights;
     known_ids = h.is.known_ids;
     knows = h.is.knows;
+    entered = h.is.entered;
     fair = h.is.fair;
   };
 }
@@ -105,6 +108,7 @@ starts past w line event other h = leads w (without_notes w) h (start line event
   known_ids = λ node peer l m.
       ap (λ (ids : ℕ → ℕ → ℕ). ids (topology_at w.generations node).generation peer) (opened_ids event (terms h.wire.past) other) ∙ h.is.known_ids node peer l m;
   knows = still_knows (opened_agrees event (terms h.wire.past) other) h.is.knows;
+  entered = entered_by (sym (opened_agrees event (terms h.wire.past) other).ids) h.is.entered;
   fair = ap (λ (f : ℕ → Bool). f 0) (opened_agrees event (terms h.wire.past) other).injects ∙ h.is.fair;
 })
 

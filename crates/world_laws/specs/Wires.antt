@@ -12,7 +12,7 @@ use Rattle.sbp_journal.specs.Wire.{terms}
 use Rattle.sbp_target.specs.declared.purpose.Purpose.{Purpose}
 use Rattle.sbp_world.specs.Generations.{id_of, topology_at}
 use Rattle.sbp_world.specs.Worlds.{WorldState}
-use Rattle.world_laws.specs.Knows.{Knows}
+use Rattle.world_laws.specs.Knows.{AreEntered, Knows}
 
 -- the layer of a node
 abbrev pub layer_in : Layer Purpose → List InitiatorState → ℕ → Node
@@ -39,6 +39,7 @@ pub record IsWireAt (past : List Moment) (layers : ℕ → Node) (due : Option D
   pub sights : (node : ℕ) → node ≤ length w.initiators → (wire.layer node).generation ≡ (topology_at w.generations node).generation
   pub known_ids : (node peer : ℕ) → node ≤ length w.initiators → peer ≤ length w.initiators → (terms wire.past).ids (topology_at w.generations node).generation peer ≡ id_of (topology_at w.generations node) peer
   pub knows : Knows w.requests (length w.initiators) (terms wire.past)
+  pub entered : AreEntered w.requests (length w.initiators) wire.layer (terms wire.past).ids
   pub fair : (terms wire.past).injects 0 ≡ false
 
 -- A world stands for a wire that moves lead to, with these layers of its nodes, and this request to be answered.
