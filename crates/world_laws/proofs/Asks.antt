@@ -40,7 +40,7 @@ use Rattle.world_laws.proofs.Found.{IsKnown, id_known, node_found}
 use Rattle.world_laws.proofs.Handles.{asked_generation}
 use Rattle.world_laws.proofs.Latest.{asked_knows, new_entered, still_entered}
 use Rattle.world_laws.proofs.Tells.{leads}
-use Rattle.world_laws.proofs.Entered.{Waits, asked_waits, disowns_less, entered_by, less_entered}
+use Rattle.world_laws.proofs.Entered.{Waits, same_test, asked_waits, disowns_less, entered_by, less_entered}
 use Rattle.bus_transactions.proofs.Places.{Places}
 use Rattle.bus_transactions.proofs.Reaches.{goes_on}
 use Rattle.label_table.specs.declared.place.LabelState.TheVariants as states
@@ -186,9 +186,6 @@ IfSmall (Some asked) = (n : ℕ) → slice_index_or asked.bytes n 0 < 256
 
 no_test : false ≡ true → ⊥
 no_test e = cc
-
-same_test : (a b : ℕ) → (nat_eq a a && nat_eq b b) ≡ true
-same_test a b = grind arith
 
 both_same : (a b c d : ℕ) → (nat_eq a b && nat_eq c d) ≡ true → (a ≡ b) × (c ≡ d)
 both_same a b c d e = (grind arith, grind arith)

@@ -38,7 +38,8 @@ use Rattle.world_laws.proofs.Received.{IsTarget}
 use Rattle.world_laws.proofs.Sound.{first_flies, next_heard}
 use Rattle.world_laws.proofs.ToldBytes.{AreTold}
 use Rattle.world_laws.proofs.Turned.{Delivered, Turned, delivers, lapse_turns, second_turns, sight_turns, stale_refuses}
-use Rattle.world_laws.proofs.UnderWay.{expired_was, under_way_expires}
+use Rattle.world_laws.proofs.Awaiting.{under_way_expires}
+use Rattle.world_laws.proofs.UnderWay.{expired_was}
 
 either : (holds fails : Type 0) (b : Bool) → (b ≡ true → holds) → (b ≡ false → fails) → Either b holds fails
 either holds fails true h f = h refl

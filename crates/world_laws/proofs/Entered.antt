@@ -131,7 +131,7 @@ abbrev WaitsThen : ℕ → Option Asked × Node → Type 0
 WaitsThen peer (Some asked, new) = Waits peer asked.label new
 WaitsThen peer (None, new) = Unit {0}
 
-same_test : (a b : ℕ) → (nat_eq a a && nat_eq b b) ≡ true
+pub same_test : (a b : ℕ) → (nat_eq a a && nat_eq b b) ≡ true
 same_test a b = grind arith
 
 waits_at : (layer : Node) (peer k n : ℕ) (bytes : List ℕ) → Places layer.generation layer.peers → owned_place peer_of peer layer.peers ≡ Some k → lowest_from 0 bytes (peer_at layer k).table.places ≡ Some n → WaitsThen peer (asked_at k layer (begun_for (peer_at layer k) peer tt (begin_at (Some n) (peer_at layer k).table bytes)))

@@ -291,9 +291,7 @@ module _ {requests : RequestsState} {nodes : ℕ} {ids : ℕ → ℕ → ℕ} {s
   pub new_entered : IsEntered with_new from to label.number new_request
   unfolding add_step
   new_entered =
-      let size = k.size in
-      let small = small_place from to label.number from_small to_small number_small in
-      let here : serial_at with_new from to label.number ≡ count + 1 = get_or-set_at requests.serials (place_of from to label.number) (place_of from to label.number) (count + 1) 0 refl (omega arith) in
+      let here : serial_at with_new from to label.number ≡ count + 1 = own_place in
       record {
         written = omega (arith, here);
         found = ap (find with_new) here ∙ found_new (count + 1) 0 new_request (without old_serial requests.requests) (rise_less old_serial 0 (count + 1) requests.requests k.rise);

@@ -35,6 +35,7 @@ pub mod Kept
 pub mod Lowest
 pub mod Names
 pub mod UnderWay
+pub mod Awaiting
 pub mod TargetSizes
 pub mod Sizes
 pub mod Begun

@@ -1,6 +1,6 @@
 -- What the history tells of the packets and the requests of a world: each packet that was sent is from one of its nodes to one of them, and has bytes; and
 -- each request that the world finds by its serial is the present one of its transaction, with the node whose ID its sender asked. An
--- initiator asks the target alone. And the request of each transaction that waits at its sender is found.
+-- initiator asks the target alone. And the request of each transaction that waits at a node's layer is found, with the handle that the layer takes.
 use Rattle.std.specs.Prelude.{◌≡◌, ◌≤◌, ◌<◌, ℕ, ◌+◌, suc, List, [], ◌∷◌, length, slice_index_or, Option, Some}
 use Rattle.sbp_journal.specs.Transactions.{Sending, Transaction}
 use Rattle.sbp_journal.specs.Wire.{Terms}

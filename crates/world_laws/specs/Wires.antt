@@ -23,7 +23,8 @@ abbrev pub layers_of : WorldState → ℕ → Node
 layers_of w = layer_in w.target.layer w.initiators
 
 -- What has happened before the notes of the world's present line stands in `past`. Each node is in the generation that the bus tells the
--- world of it, and knows the IDs that the history gives to the nodes in that generation. The target injects nothing. The nodes have these layers: those of the world,
+-- world of it, and knows the IDs that the history gives to the nodes in that generation. The target injects nothing. Of each
+-- transaction that waits at its requester the world has the request. The nodes have these layers: those of the world,
 -- but for a node whose packets are still to leave; and a request may have to be answered first.
 pub record IsWireAt (past : List Moment) (layers : ℕ → Node) (due : Option Due) (w : WorldState) (wire : Wire) : Type 0 where
   pub store_is : wire.store ≡ w.store
