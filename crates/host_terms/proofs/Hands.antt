@@ -36,7 +36,7 @@ use Rattle.host_terms.proofs.TargetTells as target
 left_tells : (r : Judged × Whole) (faults : List ℕ) → AreOthers r.1.outbox.sides → AreOthers (left_target r faults).1.0.sides
 left_tells (judged, w) faults h = h
 
-target_tells : (told : Option Told) (packet : Sent) (node : NodeState) (media : Held) → MayTell told packet node media → AreOthers (target_received told packet node media).1.0.sides
+pub target_tells : (told : Option Told) (packet : Sent) (node : NodeState) (media : Held) → MayTell told packet node media → AreOthers (target_received told packet node media).1.0.sides
 unfolding target_received MayTell
 target_tells told packet node media m =
     left_tells (received told packet.generation packet.bytes (whole_of node media)) (faults_after told packet node media)
@@ -46,7 +46,7 @@ sight_tells : (generation id : ℕ) (node : NodeState) → AreOthers (target_see
 unfolding target_sees
 sight_tells generation id node = target.sees generation id (scene node empty_outbox) tt
 
-second_tells : (node : NodeState) → AreOthers (target_ticks node).0.sides
+pub second_tells : (node : NodeState) → AreOthers (target_ticks node).0.sides
 unfolding target_ticks
 second_tells node = target.ticks (scene node empty_outbox) tt
 

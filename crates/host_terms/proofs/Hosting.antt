@@ -102,7 +102,7 @@ hosts_are past w x e h i b =
 
 -- ---- what the target hands out
 
-target_hosts : (past : List Moment) (w : WorldState) (node : NodeState) (from weight : ℕ) (outbox : OutboxState) → AreOthers outbox.sides → NoneAborts (history w past) → AreHosts past w → AreHosts past (handed_out from weight outbox (with_target node w))
+pub target_hosts : (past : List Moment) (w : WorldState) (node : NodeState) (from weight : ℕ) (outbox : OutboxState) → AreOthers outbox.sides → NoneAborts (history w past) → AreHosts past w → AreHosts past (handed_out from weight outbox (with_target node w))
 target_hosts past w node from weight outbox o n h =
     let v = with_target node w in
     let x = told_all weight outbox.sides v in
@@ -118,7 +118,7 @@ state_here states i state other b = grind (arith, common_steps)
 state_there : (states : List InitiatorState) (i j : ℕ) (state other : InitiatorState) → (j == i) ≡ false → i < length states → get_or (slice_set states i state) j other ≡ get_or states j other
 state_there states i j state other e b = grind (arith, common_steps)
 
-initiator_hosts : (past : List Moment) (w : WorldState) (i from weight : ℕ) (t : Turn) → i < length w.initiators → t.1.number ≡ i → AreNotes t.0.sides → NoneAborts (history w past) → Listed (history w past) t → AreBut past i w → AreHosts past (handed_out from weight t.0 (with_initiator i t.1 w))
+pub initiator_hosts : (past : List Moment) (w : WorldState) (i from weight : ℕ) (t : Turn) → i < length w.initiators → t.1.number ≡ i → AreNotes t.0.sides → NoneAborts (history w past) → Listed (history w past) t → AreBut past i w → AreHosts past (handed_out from weight t.0 (with_initiator i t.1 w))
 initiator_hosts past w i from weight t inside number own n listed but =
     let v = with_initiator i t.1 w in
     let x = told_all weight t.0.sides v in
@@ -138,7 +138,7 @@ initiator_hosts past w i from weight t inside number own n listed but =
         subst (IsHost (behind t.0.sides (history w past)) j) (sym (state_there w.initiators i j t.1 (new_state 0 false) e inside))
         (record { number = h.number; rows = listed.beside j (initiator_at w j).lists.slots (ap (nat_eq j) number ∙ e) h.rows; pin = h.pin })
 
-note_hosts : (past : List Moment) (w : WorldState) (note : Note) → ((i : ℕ) → is_beside i note ≡ true) → AreHosts past w → AreHosts past (with_note note w)
+pub note_hosts : (past : List Moment) (w : WorldState) (note : Note) → ((i : ℕ) → is_beside i note ≡ true) → AreHosts past w → AreHosts past (with_note note w)
 note_hosts past w note e h i b =
     record { number = (h i b).number; rows = beside_rests (history w past) i (initiator_at w i).lists.slots (h i b).rows note (e i); pin = (h i b).pin }
 

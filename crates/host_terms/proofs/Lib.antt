@@ -22,3 +22,4 @@ pub mod Others
 pub mod TargetTells
 pub mod Hands
 pub mod Hosting
+pub mod Liners

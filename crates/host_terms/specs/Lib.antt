@@ -7,3 +7,4 @@ pub mod Keeping
 pub mod Acting
 pub mod Handing
 pub mod Worlds
+pub mod Lines

@@ -3,6 +3,7 @@ ghost use Rattle.host_terms.specs.Acting.{ActionLaw};
 ghost use Rattle.host_terms.specs.Calls.{CallLaw};
 ghost use Rattle.host_terms.specs.Handing.{HandLaw};
 ghost use Rattle.host_terms.specs.Keeping.{KeepingLaw};
+ghost use Rattle.host_terms.specs.Lines.{LineLaw};
 ghost use Rattle.host_terms.specs.Reading.{ReadLaw};
 ghost use Rattle.host_terms.specs.Steps.{StepLaw};
 ghost use Rattle.host_terms.specs.Worlds.{WorldLaw};
@@ -55,4 +56,11 @@ pub fn others_leave_rows()
 #[tactic(auto, using(crate::proofs::Hosting::world_law))]
 pub fn worlds_keep_rows()
     ensures { WorldLaw }
+{}
+
+/// The law of single steps of a world: at a delivery, a second and an action that is no abort the run terms of the
+/// lists of each initiator stay or become the rows of its slots.
+#[tactic(auto, using(crate::proofs::Liners::line_law))]
+pub fn steps_of_worlds_keep_rows()
+    ensures { LineLaw }
 {}

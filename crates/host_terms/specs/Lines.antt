@@ -1,0 +1,39 @@
+-- What single steps of a world do to the lists of its initiators, by the history of its run: a delivery, a second, and an action that is no
+-- abort. Of a delivery it is asked that a status that is taken may be.
+use Rattle.std.specs.Prelude.{◌≡◌, ◌<◌, ℕ, ◌-◌, ◌==◌, Bool, true, false, List, ◌∷◌, length, Option, Some, None}
+use Rattle.label_table.specs.Layer.{judging_step}
+use Rattle.packet_store.specs.declared.sent.Sent.{Sent}
+use Rattle.packet_store.specs.Kept.{found_sent}
+use Rattle.rbc_disk.specs.Runs.{Told}
+use Rattle.sbp_journal.specs.Run.{Moment, said}
+use Rattle.sbp_journal.specs.Outgoings.{empty_outbox}
+use Rattle.sbp_journal.specs.declared.event.Action.{Action}
+use Rattle.sbp_journal.specs.declared.event.Action.TheVariants as actions
+use Rattle.sbp_initiator.specs.Acting.{IsAction}
+use Rattle.sbp_initiator.specs.Receiving.{receive_step}
+use Rattle.sbp_world.specs.Delivering.{MayReceive, delivered, judged_note}
+use Rattle.sbp_world.specs.Lines.{acted}
+use Rattle.sbp_world.specs.Nodes.{tick_line}
+use Rattle.sbp_world.specs.Worlds.{Scene, WorldState, initiator_at}
+use Rattle.host_terms.specs.Calls.{MayFind}
+use Rattle.host_terms.specs.Handing.{history}
+use Rattle.host_terms.specs.Worlds.{AreHosts, NoneAborts}
+
+-- what a packet brings to its initiator may be taken
+abbrev pub MayHear : List Moment → ℕ → Sent → WorldState → Type 0
+MayHear past serial sent w =
+    let old = initiator_at w (sent.to - 1) in
+    let r = receive_step sent.generation sent.bytes empty_outbox old in MayFind (said (judged_note serial r.0) ∷ history w past) (judging_step old.layer sent.generation sent.bytes).0 empty_outbox old r.1
+
+abbrev pub MayDeliver : List Moment → ℕ → Option Sent → WorldState → Type 0
+MayDeliver past serial None w = Unit {0}
+MayDeliver past serial (Some sent) w = (sent.to == 0) ≡ false → MayHear past serial sent w
+
+abbrev pub is_abort : Action → Bool
+is_abort (actions.Abort k) = true
+is_abort _ = false
+
+pub record LineLaw : Type 0 where
+  pub delivers : (past : List Moment) (serial : ℕ) (again : Bool) (told : Option Told) (s : Scene) → MayReceive told serial s → NoneAborts (history s.world past) → MayDeliver past serial (found_sent serial s.world.store.kept) s.world → AreHosts past s.world → AreHosts past (delivered serial again told s).world
+  pub ticks : (past : List Moment) (w : WorldState) → NoneAborts (history w past) → AreHosts past w → AreHosts past (tick_line w)
+  pub acts : (past : List Moment) (line i : ℕ) (action : Action) (w : WorldState) → i < length w.initiators → IsAction action → NoneAborts (history w past) → AreHosts past w → is_abort action ≡ false → AreHosts past (acted line i action w)
