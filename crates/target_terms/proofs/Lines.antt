@@ -117,7 +117,7 @@ module _ (units ready : ℕ) (has : 0 < units) (start : List Disk) where
 
   -- ---- a line begins
   module _ (line : ℕ) (event : Event) (w : WorldState) where
-    opens : {past : List Moment} {lines : ℕ} → is_reset event ≡ false → Holding units ready start past lines w → Holding units ready start (asked line event ∷ hist past w) (lines + 1) (without_notes w)
+    pub opens : {past : List Moment} {lines : ℕ} → is_reset event ≡ false → Holding units ready start past lines w → Holding units ready start (asked line event ∷ hist past w) (lines + 1) (without_notes w)
     opens {past} {lines} e h =
         carried units ready start w (without_notes w) h
         (record { stands = starts past w line event e h.sound.stands; nodes = later w lines h.sound.nodes }) refl
@@ -152,7 +152,7 @@ module _ (units ready : ℕ) (has : 0 < units) (start : List Disk) where
       (ap (λ p. (terms p).repeats) h.sound.stands.is.past_is ∙ said_same s.world.fresh past ∙ r)
       (λ x. first_flies (flying s.world.store.kept) serial e))
 
-  all_heard : {past : List Moment} {lines : ℕ} (told : List (Option Told)) → AreTold told → (s : Scene) → Holding units ready start past lines s.world → (terms past).repeats ≡ false → Holding units ready start past lines (after_all told s).world
+  pub all_heard : {past : List Moment} {lines : ℕ} (told : List (Option Told)) → AreTold told → (s : Scene) → Holding units ready start past lines s.world → (terms past).repeats ≡ false → Holding units ready start past lines (after_all told s).world
   unfolding delivered_next
   all_heard [] t s h r = h
   all_heard (told ∷ before) t s h r =
