@@ -42,7 +42,13 @@ fn drills_write_six_lines(rt: HostRuntime) -> Result<(), Fail> {
     let alloc = rt.alloc();
     for (words, medium, failing, status, written) in [
         ("drill 1 1", Alone::Blank, 0u32, Status::Done, ONE),
-        ("drill 1 1", Alone::Failing(0, 2), 0, Status::Done, UNREADABLE),
+        (
+            "drill 1 1",
+            Alone::Failing(0, 2),
+            0,
+            Status::Done,
+            UNREADABLE,
+        ),
         ("drill 1 1", Alone::Absent, 0, Status::Done, ABSENT),
         ("drill 1 1", Alone::Blank, 1, Status::WriteFault, ""),
         ("drill 1 1000", Alone::Blank, 0, Status::Done, THOUSAND),
