@@ -42,7 +42,7 @@ target_tells told packet node media m =
     left_tells (received told packet.generation packet.bytes (whole_of node media)) (faults_after told packet node media)
     (target.receives told packet.generation packet.bytes (whole_of node media) media.faults (faults_after told packet node media) m tt)
 
-sight_tells : (generation id : ℕ) (node : NodeState) → AreOthers (target_sees generation id node).0.sides
+pub sight_tells : (generation id : ℕ) (node : NodeState) → AreOthers (target_sees generation id node).0.sides
 unfolding target_sees
 sight_tells generation id node = target.sees generation id (scene node empty_outbox) tt
 

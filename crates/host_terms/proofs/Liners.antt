@@ -1,5 +1,29 @@
 -- Single lines of a world.
-use Rattle.std.proofs.Common.{arith, ◌≡◌, refl, sym, ◌∙◌, ap, subst, ℕ, ◌+◌, ◌-◌, ◌<◌, ◌==◌, ◌||◌, not, nat_lt, Bool, true, false, cond, List, [], ◌∷◌, length, slice_set, Option, Some, None}
+use Rattle.async_packet.specs.Labels.{LabelParts}
+use Rattle.label_table.specs.declared.reply.Stale.{Stale}
+use Rattle.label_table.specs.Layer.{Layer, expiring_step, seeing_step}
+use Rattle.sbp_initiator.specs.declared.purpose.Purpose.{Purpose}
+use Rattle.sbp_initiator.specs.Receiving.{expire_step, expired_as}
+use Rattle.sbp_initiator.specs.Seeing.{see_step}
+use Rattle.sbp_journal.specs.Wire.{terms as wire_terms}
+use Rattle.initiator_laws.specs.Laws.{lets_expire, sees as laws_sees}
+use Rattle.sbp_target.specs.Nodes.{scene}
+use Rattle.sbp_target.specs.Nodes as target
+use Rattle.sbp_target.specs.Receiving.{expired}
+use Rattle.sbp_world.specs.declared.requests.Request.{Request}
+use Rattle.sbp_world.specs.Generations.{id_of}
+use Rattle.sbp_world.specs.Nodes.{see_line}
+use Rattle.sbp_world.specs.Packets.{expires as world_expires, initiator_expires, no_packet, refused, target_expired, target_left, timed_out, timeout_line, timeout_of}
+use Rattle.sbp_world.specs.Packets as packets
+use Rattle.sbp_world.specs.Requests.{find}
+use Rattle.sbp_world.specs.Sending.{sent_all}
+use Rattle.sbp_world.specs.Telling.{told_all}
+use Rattle.host_terms.specs.Lines.{MaySee}
+use Rattle.host_terms.proofs.Hands.{sight_tells}
+use Rattle.host_terms.proofs.Hears.{expire_listed}
+use Rattle.host_terms.proofs.Sees.{sees_listed}
+use Rattle.host_terms.proofs.TargetTells as target_tell
+use Rattle.std.proofs.Common.{arith, ◌≡◌, refl, sym, ◌∙◌, ap, subst, ℕ, ◌+◌, ◌-◌, ◌<◌, ◌==◌, ◌||◌, not, nat_lt, Bool, true, false, cond, List, [], ◌∷◌, length, slice_set, Option, Some, None, Result, Ok, Err, suc}
 use Rattle.std.proofs.lemmas.Bool.Decides.{nat_tests}
 use Rattle.std.proofs.lemmas.List.{set-get_or}
 use Rattle.packet_store.specs.declared.sent.Sent.{Sent}
@@ -179,6 +203,124 @@ module _ (past : List Moment) (serial : ℕ) (again : Bool) where
   unfolding delivered received_step MayReceive
   delivers told s m n may h = received_found told (found_sent serial s.world.store.kept) s m n may h
 
+-- ---- a time-out
+
+module _ (past : List Moment) (line serial : ℕ) where
+  abbrev Ends : ℕ → Bool × (OutboxState × WorldState) → Type 0
+  Ends node r = AreHosts past (timed_out line serial node r)
+
+  pick_ends : (node : ℕ) (b : Bool) (x y : Bool × (OutboxState × WorldState)) → (b ≡ true → Ends node x) → (b ≡ false → Ends node y) → Ends node (cond b x y)
+  pick_ends node true x y h i = h refl
+  pick_ends node false x y h i = i refl
+
+  refuses : (w : WorldState) → AreHosts past w → AreHosts past (refused line no_packet w)
+  refuses w h = note_hosts past w (notes.Refused line no_packet) (λ i. refl) h
+
+  target_ends : (node : ℕ) (r : Result (Unit {0}) Stale × target.Scene) (w : WorldState) → AreOthers r.1.outbox.sides → NoneAborts (history w past) → AreHosts past w → Ends node (packets.at_target (target_left r w.target) w)
+  target_ends node (Ok done, s) w o n h = target_hosts past (with_note (notes.TimedOut serial) w) s.node node 0 s.outbox o n (note_hosts past w (notes.TimedOut serial) (λ i. refl) h)
+  target_ends node (Err stale, s) w o n h = refuses w h
+
+  own_ends : (i node : ℕ) (r : Bool × Turn) (w : WorldState) → i < length w.initiators → r.1.1.number ≡ i → AreNotes r.1.0.sides → NoneAborts (history w past) → Listed (said (notes.TimedOut serial) ∷ history w past) r.1 → Listed (history w past) r.1 → (r.0 ≡ false → r.1.0 ≡ empty_outbox) → AreHosts past w → Ends node (packets.at_initiator i r w)
+  unfolding told_all sent_all
+  own_ends i node (true, (outbox, state)) w inside number own n l before stale h =
+      initiator_hosts past (with_note (notes.TimedOut serial) w) i node 0 (outbox, state) inside number own n l (all_but past i (with_note (notes.TimedOut serial) w) (note_hosts past w (notes.TimedOut serial) (λ j. refl) h))
+  own_ends i node (false, (outbox, state)) w inside number own n l before stale h =
+      refuses (with_initiator i state w) (handed_nothing (stale refl) (initiator_hosts past w i node 0 (outbox, state) inside number own n before (all_but past i w h)))
+    where
+      handed_nothing : outbox ≡ empty_outbox → AreHosts past (handed_out node 0 outbox (with_initiator i state w)) → AreHosts past (with_initiator i state w)
+      handed_nothing e h = subst (λ x. AreHosts past (handed_out node 0 x (with_initiator i state w))) e h
+
+  stale_silent : (r : Result (Option Purpose) Stale × Layer Purpose) (s : InitiatorState) → (expired_as r empty_outbox s).0 ≡ false → (expired_as r empty_outbox s).1.0 ≡ empty_outbox
+  stale_silent (Err stale, layer) s e = refl
+  stale_silent (Ok purpose, layer) s e = absurd (untrue e)
+    where
+      untrue : true ≡ false → ⊥
+      untrue e = cc
+
+  silent : (label : LabelParts) (s : InitiatorState) → (expire_step label empty_outbox s).0 ≡ false → (expire_step label empty_outbox s).1.0 ≡ empty_outbox
+  unfolding expire_step
+  silent label s e = stale_silent (expiring_step s.layer s.target label) s e
+
+  own_expires : (request : Request) (w : WorldState) → NoneAborts (history w past) → AreHosts past w → Ends request.node (initiator_expires request w)
+  own_expires request w n h =
+      let i = request.node - 1 in
+      let old = initiator_at w i in
+      let r = expire_step request.label empty_outbox old in
+      pick_ends request.node (nat_lt i (length w.initiators)) (packets.at_initiator i r w) (false, (empty_outbox, w))
+      (λ e.
+      let inside : i < length w.initiators = grind (arith, nat_tests) in
+      let host = h i inside in
+      own_ends i request.node r w inside (number_call (lets_expire request.label) (empty_outbox, old) tt ∙ host.number) (own_notes r.1.0.sides (initiators.expires request.label empty_outbox old tt)) n
+      (expire_listed (said (notes.TimedOut serial) ∷ history w past) request.label empty_outbox old (host_listed (said (notes.TimedOut serial) ∷ history w past) i old (host_noted (history w past) i old (notes.TimedOut serial) refl host)))
+      (expire_listed (history w past) request.label empty_outbox old (host_listed (history w past) i old host))
+      (silent request.label old) h)
+      (λ e. refuses w h)
+
+  all_expires : (request : Request) (w : WorldState) → NoneAborts (history w past) → AreHosts past w → Ends request.node (world_expires request w)
+  unfolding world_expires target_expired
+  all_expires request w n h =
+      pick_ends request.node (request.node == 0) (packets.at_target (target_expired request w.target) w) (initiator_expires request w)
+      (λ e. target_ends request.node (expired request.peer request.label (scene w.target empty_outbox)) w (target_tell.expires request.peer request.label (scene w.target empty_outbox) tt) n h)
+      (λ e. own_expires request w n h)
+
+  found_expires : (request : Option Request) (w : WorldState) → NoneAborts (history w past) → AreHosts past w → AreHosts past (timeout_of request line serial w)
+  found_expires None w n h = refuses w h
+  found_expires (Some request) w n h = all_expires request w n h
+
+  line_expires : (w : WorldState) → NoneAborts (history w past) → AreHosts past w → AreHosts past (timeout_line line serial w)
+  unfolding timeout_line
+  line_expires w n h = found_expires (find w.requests serial) w n h
+
+-- ---- a sight
+
+module _ (past : List Moment) (node : ℕ) (w : WorldState) (n : NoneAborts (history w past)) (h : AreHosts past w) where
+  abbrev seen : WorldState
+  seen = nodes.with_seen node (nodes.told_seen node w)
+
+  abbrev Sees : OutboxState × WorldState → Type 0
+  Sees r = AreHosts past (nodes.handed_all node r)
+
+  pick_sees : (b : Bool) (x y : OutboxState × WorldState) → (b ≡ true → Sees x) → (b ≡ false → Sees y) → Sees (cond b x y)
+  pick_sees true x y h i = h refl
+  pick_sees false x y h i = i refl
+
+  others_seen : (i j : ℕ) → node ≡ suc i → (j == i) ≡ false → is_beside j (notes.Seen node w.generations.latest.generation) ≡ true
+  others_seen i j e f = let g : (node == suc j) ≡ false = grind (arith, nat_tests) in ap not g
+
+  zero_seen : (j : ℕ) → (node == 0) ≡ true → is_beside j (notes.Seen node w.generations.latest.generation) ≡ true
+  zero_seen j e = let g : (node == suc j) ≡ false = grind (arith, nat_tests) in ap not g
+
+  target_pair : (r : OutboxState × NodeState) → AreOthers r.0.sides → (node == 0) ≡ true → Sees (nodes.at_target r seen)
+  target_pair (outbox, state) o e =
+      target_hosts past seen state node 0 outbox o n (λ i b. host_noted (history w past) i (initiator_at w i) (notes.Seen node w.generations.latest.generation) (zero_seen i e) (h i b))
+
+  own_pair : (i : ℕ) (r : Turn) → node ≡ suc i → i < length w.initiators → r.1.number ≡ i → AreNotes r.0.sides → Listed (said (notes.Seen node w.generations.latest.generation) ∷ history w past) r → Sees (nodes.at_initiator i r seen)
+  own_pair i (outbox, state) e inside number own l =
+      initiator_hosts past seen i node 0 (outbox, state) inside number own n l
+      (λ j b f. host_noted (history w past) j (initiator_at w j) (notes.Seen node w.generations.latest.generation) (others_seen i j e f) (h j b))
+
+  line_sees : ((i : ℕ) → node ≡ suc i → i < length w.initiators) → ((i : ℕ) → node ≡ suc i → MaySee past i w) → AreHosts past (see_line node w)
+  unfolding see_line nodes.sees
+  line_sees inside may =
+      pick_sees (node == 0) (nodes.target_learns seen) (nodes.initiator_learns node seen)
+      (λ e. target_pair (nodes.target_sees w.generations.latest.generation (id_of w.generations.latest 0) w.target) (sight_tells w.generations.latest.generation (id_of w.generations.latest 0) w.target) e)
+      (λ e.
+      let i = node - 1 in
+      let is : node ≡ suc i = grind (arith, nat_tests) in
+      let old = initiator_at w i in
+      let host = h i (inside i is) in
+      let g = w.generations.latest.generation in
+      let id = id_of w.generations.latest node in
+      let other = id_of w.generations.latest 0 in
+      let m = may i is in
+      own_pair i (see_step g id other empty_outbox old) is (inside i is) (number_call (laws_sees g id other) (empty_outbox, old) tt ∙ host.number) (own_notes (see_step g id other empty_outbox old).0.sides (initiators.sees g id other empty_outbox old tt))
+      (subst (λ k. Listed (said (notes.Seen k g) ∷ history w past) (see_step g id other empty_outbox old)) (ap suc host.number ∙ sym is)
+      (sees_listed (history w past) g id other old
+      (subst (λ k. (seeing_step old.layer g (id_of w.generations.latest k)).0 ≡ not (g == (wire_terms (history w past)).generation (suc old.number))) (sym is)
+      (subst (λ k. (seeing_step old.layer g (id_of w.generations.latest (suc i))).0 ≡ not (g == (wire_terms (history w past)).generation (suc k))) (sym host.number) m.later))
+      (subst (λ k. (seeing_step old.layer g (id_of w.generations.latest k)).0 ≡ false → old.lists.slots.pinned ≡ None) (sym is) m.unpinned)
+      (host_listed (history w past) i old host))))
+
 -- ---- a second
 
 ticks : (past : List Moment) (w : WorldState) → NoneAborts (history w past) → AreHosts past w → AreHosts past (tick_line w)
@@ -239,4 +381,4 @@ module _ (past : List Moment) (line i : ℕ) (action : Action) (w : WorldState) 
   acts a = acts_by (act_step action empty_outbox old) refl a
 
 pub line_law : LineLaw
-line_law = record { delivers = λ past serial again told s m n may h. delivers past serial again told s m n may h; ticks = ticks; acts = acts }
+line_law = record { delivers = λ past serial again told s m n may h. delivers past serial again told s m n may h; expires = λ past line serial w n h. line_expires past line serial w n h; sees = λ past node w n inside may h. line_sees past node w n h inside may; ticks = ticks; acts = acts }

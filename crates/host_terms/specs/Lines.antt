@@ -1,19 +1,23 @@
--- What single steps of a world do to the lists of its initiators, by the history of its run: a delivery, a second, and an action that is no
--- abort. Of a delivery it is asked that a status that is taken may be.
-use Rattle.std.specs.Prelude.{◌≡◌, ◌<◌, ℕ, ◌-◌, ◌==◌, Bool, true, false, List, ◌∷◌, length, Option, Some, None}
-use Rattle.label_table.specs.Layer.{judging_step}
+-- What single steps of a world do to the lists of its initiators, by the history of its run: a delivery, a time-out, a sight, a second, and an
+-- action that is no abort. Of a delivery it is asked that a status that is taken may be; of a sight, that the initiator is in the generation
+-- that the history tells, and that one that is not later finds no slot pinned.
+use Rattle.std.specs.Prelude.{◌≡◌, ◌<◌, ℕ, ◌-◌, ◌==◌, Bool, true, false, List, ◌∷◌, length, Option, Some, None, suc, not}
+use Rattle.label_table.specs.Layer.{judging_step, seeing_step}
 use Rattle.packet_store.specs.declared.sent.Sent.{Sent}
 use Rattle.packet_store.specs.Kept.{found_sent}
 use Rattle.rbc_disk.specs.Runs.{Told}
 use Rattle.sbp_journal.specs.Run.{Moment, said}
 use Rattle.sbp_journal.specs.Outgoings.{empty_outbox}
+use Rattle.sbp_journal.specs.Wire.{terms as wire_terms}
 use Rattle.sbp_journal.specs.declared.event.Action.{Action}
 use Rattle.sbp_journal.specs.declared.event.Action.TheVariants as actions
 use Rattle.sbp_initiator.specs.Acting.{IsAction}
 use Rattle.sbp_initiator.specs.Receiving.{receive_step}
 use Rattle.sbp_world.specs.Delivering.{MayReceive, delivered, judged_note}
+use Rattle.sbp_world.specs.Generations.{id_of}
 use Rattle.sbp_world.specs.Lines.{acted}
-use Rattle.sbp_world.specs.Nodes.{tick_line}
+use Rattle.sbp_world.specs.Packets.{timeout_line}
+use Rattle.sbp_world.specs.Nodes.{see_line, tick_line}
 use Rattle.sbp_world.specs.Worlds.{Scene, WorldState, initiator_at}
 use Rattle.host_terms.specs.Calls.{MayFind}
 use Rattle.host_terms.specs.Handing.{history}
@@ -33,7 +37,14 @@ abbrev pub is_abort : Action → Bool
 is_abort (actions.Abort k) = true
 is_abort _ = false
 
+-- An initiator is in the generation that the history tells, and sees a later one, or no slot of it is pinned.
+pub record MaySee (past : List Moment) (i : ℕ) (w : WorldState) : Type 0 where
+  pub later : (seeing_step (initiator_at w i).layer w.generations.latest.generation (id_of w.generations.latest (suc i))).0 ≡ not (w.generations.latest.generation == (wire_terms (history w past)).generation (suc i))
+  pub unpinned : (seeing_step (initiator_at w i).layer w.generations.latest.generation (id_of w.generations.latest (suc i))).0 ≡ false → (initiator_at w i).lists.slots.pinned ≡ None
+
 pub record LineLaw : Type 0 where
   pub delivers : (past : List Moment) (serial : ℕ) (again : Bool) (told : Option Told) (s : Scene) → MayReceive told serial s → NoneAborts (history s.world past) → MayDeliver past serial (found_sent serial s.world.store.kept) s.world → AreHosts past s.world → AreHosts past (delivered serial again told s).world
+  pub expires : (past : List Moment) (line serial : ℕ) (w : WorldState) → NoneAborts (history w past) → AreHosts past w → AreHosts past (timeout_line line serial w)
+  pub sees : (past : List Moment) (node : ℕ) (w : WorldState) → NoneAborts (history w past) → ((i : ℕ) → node ≡ suc i → i < length w.initiators) → ((i : ℕ) → node ≡ suc i → MaySee past i w) → AreHosts past w → AreHosts past (see_line node w)
   pub ticks : (past : List Moment) (w : WorldState) → NoneAborts (history w past) → AreHosts past w → AreHosts past (tick_line w)
   pub acts : (past : List Moment) (line i : ℕ) (action : Action) (w : WorldState) → i < length w.initiators → IsAction action → NoneAborts (history w past) → AreHosts past w → is_abort action ≡ false → AreHosts past (acted line i action w)
