@@ -1,6 +1,6 @@
 //! The terms of the management and the target.
 ghost use Rattle.target_terms.specs.Calls.{ManagementLaw};
-ghost use Rattle.target_terms.specs.Terms.{TermsLaw};
+ghost use Rattle.target_terms.specs.Terms.{BetweenLaw, TermsLaw};
 
 /// Each call of a target changes the table of logins, the keys and the operation as its notes tell: the first
 /// note of its turn, and then what the call tells, one after the other.
@@ -13,4 +13,9 @@ pub fn calls_change_the_management()
 /// has for it.
 pub fn terms_are_the_management()
     ensures { TermsLaw }
+{}
+
+/// And behind each delivery of a line that may follow, as the packets in flight are delivered one after the other.
+pub fn deliveries_keep_the_terms()
+    ensures { BetweenLaw }
 {}

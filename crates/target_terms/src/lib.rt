@@ -3,4 +3,4 @@
 
 mod laws;
 
-pub use laws::{calls_change_the_management, terms_are_the_management};
+pub use laws::{calls_change_the_management, deliveries_keep_the_terms, terms_are_the_management};
