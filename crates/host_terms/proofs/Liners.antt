@@ -10,12 +10,12 @@ use Rattle.initiator_laws.specs.Laws.{lets_expire, sees as laws_sees}
 use Rattle.sbp_target.specs.Nodes.{scene}
 use Rattle.sbp_target.specs.Nodes as target
 use Rattle.sbp_target.specs.Receiving.{expired}
-use Rattle.sbp_world.specs.declared.requests.Request.{Request}
-use Rattle.sbp_world.specs.Generations.{id_of}
+use Rattle.sbp_bus.specs.declared.requests.Request.{Request}
+use Rattle.sbp_bus.specs.Generations.{id_of}
 use Rattle.sbp_world.specs.Nodes.{see_line}
 use Rattle.sbp_world.specs.Packets.{expires as world_expires, initiator_expires, no_packet, refused, target_expired, target_left, timed_out, timeout_line, timeout_of}
 use Rattle.sbp_world.specs.Packets as packets
-use Rattle.sbp_world.specs.Requests.{find}
+use Rattle.sbp_bus.specs.Requests.{find}
 use Rattle.sbp_world.specs.Sending.{sent_all}
 use Rattle.sbp_world.specs.Telling.{told_all}
 use Rattle.host_terms.specs.Lines.{MaySee}

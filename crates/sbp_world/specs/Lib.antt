@@ -1,7 +1,3 @@
-pub mod Generations
-pub mod Requests
-pub mod Places
-pub mod Loads
 pub mod Words
 pub mod Worlds
 pub mod Telling

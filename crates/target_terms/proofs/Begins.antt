@@ -13,9 +13,10 @@ use Rattle.sbp_journal.specs.declared.event.Event.TheVariants as events
 use Rattle.sbp_laws.specs.Targets.{first_table}
 use Rattle.sbp_target.specs.Receiving.{ready_from}
 use Rattle.sbp_target.proofs.Making.{rom_size}
-use Rattle.sbp_world.proofs.Making.{ids_size, initiators_size}
-use Rattle.sbp_world.specs.declared.generations.Topology.{Topology}
-use Rattle.sbp_world.specs.Generations.{first_topology, id_of, no_topology}
+use Rattle.sbp_bus.proofs.Making.{ids_size}
+use Rattle.sbp_world.proofs.Making.{initiators_size}
+use Rattle.sbp_bus.specs.declared.generations.Topology.{Topology}
+use Rattle.sbp_bus.specs.Generations.{first_topology, id_of, no_topology}
 use Rattle.sbp_world.specs.Making.{new_initiators, new_world, ready_logins}
 use Rattle.target_laws.proofs.FitLaw.{fitting_law}
 use Rattle.world_laws.proofs.Found.{known_has}

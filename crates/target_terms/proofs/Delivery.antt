@@ -30,7 +30,7 @@ use Rattle.sbp_target.specs.Receiving.{judged_scene, received, received_as, with
 use Rattle.sbp_target.specs.Replies.{Whole, whole}
 use Rattle.sbp_target.specs.Serving.{answered, is_barred, request_step, serve}
 use Rattle.sbp_world.specs.Delivering.{marked, whole_of}
-use Rattle.sbp_world.specs.Generations.{GenerationsState, node_of}
+use Rattle.sbp_bus.specs.Generations.{GenerationsState, node_of}
 use Rattle.sbp_world.specs.Worlds.{WorldState, with_target}
 use Rattle.target_laws.specs.Fitting.{FitsManager}
 use Rattle.target_laws.specs.Transactions.{TransactionLaw}

@@ -18,7 +18,7 @@ use Rattle.sbp_journal.specs.declared.side.Side.TheVariants as sides
 use Rattle.sbp_journal.specs.Outgoings.{OutboxState}
 use Rattle.sbp_target.specs.Nodes.{NodeState}
 use Rattle.sbp_world.specs.Delivering.{marked}
-use Rattle.sbp_world.specs.Generations.{id_of, node_of, topology_at}
+use Rattle.sbp_bus.specs.Generations.{id_of, node_of, topology_at}
 use Rattle.sbp_world.specs.Handing.{handed_out}
 use Rattle.sbp_world.specs.Sending.{asked, posted, sent, sent_all, sent_to}
 use Rattle.sbp_world.specs.Telling.{told, told_all}

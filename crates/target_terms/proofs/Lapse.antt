@@ -28,9 +28,9 @@ use Rattle.sbp_laws.specs.Targets.{Target, is_serial, over, replied as laws_repl
 use Rattle.sbp_target.specs.declared.purpose.Purpose.{Purpose}
 use Rattle.sbp_target.specs.declared.purpose.Purpose.TheVariants as purposes
 use Rattle.sbp_target.specs.Nodes.{NodeState, scene}
-use Rattle.sbp_world.specs.declared.requests.Request.{Request}
+use Rattle.sbp_bus.specs.declared.requests.Request.{Request}
 use Rattle.sbp_world.specs.Handing.{handed_out}
-use Rattle.sbp_world.specs.Requests.{find}
+use Rattle.sbp_bus.specs.Requests.{find}
 use Rattle.sbp_world.specs.Worlds.{WorldState, with_note, with_target}
 use Rattle.target_laws.specs.Fitting.{FitsManager}
 use Rattle.target_laws.specs.Transactions.{IsUnderWay, TransactionLaw}

@@ -20,11 +20,11 @@ use Rattle.sbp_target.specs.declared.purpose.Purpose.{Purpose}
 use Rattle.sbp_target.specs.declared.purpose.Purpose.TheVariants as purposes
 use Rattle.sbp_target.specs.Nodes.{NodeState, Scene, scene}
 use Rattle.sbp_target.specs.Receiving.{expired, expired_in}
-use Rattle.sbp_world.specs.declared.requests.Request.{Request}
-use Rattle.sbp_world.specs.Generations.{topology_at}
+use Rattle.sbp_bus.specs.declared.requests.Request.{Request}
+use Rattle.sbp_bus.specs.Generations.{topology_at}
 use Rattle.sbp_world.specs.Handing.{handed_out}
 use Rattle.sbp_world.specs.Packets.{at_initiator, at_target, expires, initiator_expires, no_packet, refused, target_expired, target_left, timed_out, timeout_line, timeout_of}
-use Rattle.sbp_world.specs.Requests.{find}
+use Rattle.sbp_bus.specs.Requests.{find}
 use Rattle.sbp_world.specs.Worlds.{WorldState, initiator_at, with_initiator, with_note}
 use Rattle.target_laws.specs.Calls.{after, lets_expire}
 use Rattle.target_laws.specs.Fitting.{FitsOperation}

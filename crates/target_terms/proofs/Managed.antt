@@ -18,7 +18,7 @@ use Rattle.sbp_laws.specs.Targets.{wants}
 use Rattle.sbp_target.specs.declared.purpose.Purpose.{Purpose}
 use Rattle.sbp_target.specs.declared.purpose.Purpose.TheVariants as purposes
 use Rattle.sbp_target.specs.Nodes.{NodeState, scene}
-use Rattle.sbp_world.specs.Generations.{GenerationsState, node_of}
+use Rattle.sbp_bus.specs.Generations.{GenerationsState, node_of}
 use Rattle.sbp_world.specs.Handing.{handed_out}
 use Rattle.sbp_world.specs.Sending.{sent, sent_all}
 use Rattle.sbp_world.specs.Telling.{told_all}

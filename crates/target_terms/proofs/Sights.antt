@@ -19,7 +19,7 @@ use Rattle.sbp_laws.specs.Turns.{event_of}
 use Rattle.sbp_target.specs.declared.purpose.Purpose.{Purpose}
 use Rattle.sbp_target.specs.Nodes.{NodeState, Scene, scene}
 use Rattle.sbp_target.specs.Receiving.{reset_by, seen, ticked, with_key}
-use Rattle.sbp_world.specs.Generations.{id_of}
+use Rattle.sbp_bus.specs.Generations.{id_of}
 use Rattle.sbp_world.specs.Handing.{handed_out}
 use Rattle.sbp_world.specs.Lines.{keyed, no_unit}
 use Rattle.sbp_world.specs.Nodes.{handed_all, initiator_learns, see_line, sees, target_learns, target_sees, target_ticks, tick_line, told_seen, with_seen}

@@ -12,7 +12,7 @@ use Rattle.sbp_journal.specs.declared.cause.Cause.TheVariants as causes
 use Rattle.sbp_journal.specs.declared.event.Event.{Event}
 use Rattle.sbp_journal.specs.declared.event.Event.TheVariants as events
 use Rattle.sbp_journal.specs.declared.note.Note.{Note}
-use Rattle.sbp_world.specs.Requests.{RequestsState}
+use Rattle.sbp_bus.specs.Requests.{RequestsState}
 use Rattle.world_laws.specs.Knows.{Knows, KnowsBy}
 
 -- the terms before and after

@@ -5,7 +5,7 @@ use Rattle.async_packet.specs.Labels.{LabelParts}
 use Rattle.sbp_journal.specs.declared.outbox.Outgoing.{Outgoing}
 use Rattle.sbp_journal.specs.declared.side.Side.{Side}
 use Rattle.sbp_journal.specs.declared.side.Side.TheVariants as sides
-use Rattle.sbp_world.specs.Generations.{node_of}
+use Rattle.sbp_bus.specs.Generations.{node_of}
 use Rattle.sbp_world.specs.Sending.{asked, posted, sent, sent_all, sent_to}
 use Rattle.sbp_world.specs.Telling.{told, told_all}
 use Rattle.sbp_world.specs.Worlds.{WorldState}

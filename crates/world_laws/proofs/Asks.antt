@@ -27,8 +27,8 @@ use Rattle.sbp_journal.specs.Transactions.{Sending, begun_by, between}
 use Rattle.sbp_journal.specs.Wire.{Terms, sends, terms}
 use Rattle.sbp_journal.specs.declared.note.Note.TheVariants as notes
 use Rattle.sbp_journal.specs.declared.outbox.Outgoing.{Outgoing}
-use Rattle.sbp_world.specs.Generations.{id_of, topology_at}
-use Rattle.sbp_world.specs.Requests.{RequestsState, add_step, place_of}
+use Rattle.sbp_bus.specs.Generations.{id_of, topology_at}
+use Rattle.sbp_bus.specs.Requests.{RequestsState, add_step, place_of}
 use Rattle.sbp_world.specs.Sending.{posted, request_of, sent, sent_all, sent_to, with_request}
 use Rattle.sbp_world.specs.Worlds.{WorldState}
 use Rattle.world_laws.specs.Knows.{AreEntered, IsEntered, Knows}
@@ -46,7 +46,7 @@ use Rattle.bus_transactions.proofs.Reaches.{goes_on}
 use Rattle.label_table.specs.declared.place.LabelState.TheVariants as states
 use Rattle.label_table.specs.declared.reply.ReplyKind.{ReplyKind}
 use Rattle.label_table.specs.Requests.{kind_of}
-use Rattle.sbp_world.specs.declared.requests.Request.{Request}
+use Rattle.sbp_bus.specs.declared.requests.Request.{Request}
 
 -- ---- a function with another value at one node
 pub upd_own : {A : Type 0} (f : ℕ → A) (at : ℕ) (value : A) → upd f at value at ≡ value

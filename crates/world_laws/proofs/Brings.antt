@@ -13,13 +13,13 @@ use Rattle.sbp_laws.specs.Budget.{flies, lowest_in_flight}
 use Rattle.sbp_laws.specs.Deliveries.{AreDeliveries, EndsSettle, IsDelivery, IsTurnOf, NoneFlies, SettlesWithin, deliveries, once_told}
 use Rattle.sbp_laws.specs.LineLaw.{Either, injected as law_injected, may_inject, may_repeat as law_repeats, node_from, refused as law_refused}
 use Rattle.sbp_laws.specs.Packets.{is_under_way}
-use Rattle.sbp_world.specs.declared.requests.Request.{Request}
+use Rattle.sbp_bus.specs.declared.requests.Request.{Request}
 use Rattle.sbp_world.specs.Delivering.{delivered}
-use Rattle.sbp_world.specs.Generations.{topology_at}
+use Rattle.sbp_bus.specs.Generations.{topology_at}
 use Rattle.sbp_world.specs.Lines.{keyed}
 use Rattle.sbp_world.specs.Nodes.{reset_line, see_line, tick_line}
 use Rattle.sbp_world.specs.Packets.{delivered_if, destination_in, expires, first_told, inject_line, injected, injected_to, is_in_flight, lose_line, lost, may_repeat, no_packet, refused, timed_out, timeout_line, timeout_of}
-use Rattle.sbp_world.specs.Requests.{find}
+use Rattle.sbp_bus.specs.Requests.{find}
 use Rattle.sbp_world.specs.Sending.{posted}
 use Rattle.sbp_world.specs.Settling.{AreUpTo, MayAll, MayAt, MayNext, after_all, delivered_at, delivered_next, end_note, is_settled, lowest, settled}
 use Rattle.sbp_target.specs.Receiving.{with_key}

@@ -17,15 +17,15 @@ use Rattle.bus_transactions.proofs.Facts.{injected_begun}
 use Rattle.bus_transactions.proofs.FactsReset.{ids_before}
 use Rattle.bus_transactions.proofs.Follows.{last_is}
 use Rattle.orb_layout.proofs.Spelled.{small_anywhere}
-use Rattle.sbp_world.specs.Requests.{RequestsState}
+use Rattle.sbp_bus.specs.Requests.{RequestsState}
 use Rattle.bus_transactions.proofs.Stands.{Stands as Holds}
 use Rattle.sbp_journal.specs.Run.{Moment, asked, said}
 use Rattle.sbp_journal.specs.Transactions.{Transaction, Sending, begun_by}
 use Rattle.sbp_journal.specs.Wire.{Terms, Owed, terms, ids_of, noted, begins, gives, pays, sends, asked_in}
 use Rattle.sbp_journal.specs.declared.event.Event.TheVariants as events
 use Rattle.sbp_journal.specs.declared.note.Note.TheVariants as notes
-use Rattle.sbp_world.specs.Generations.{id_of, node_in, one_of_five, is_at, node_of, topology_at}
-use Rattle.sbp_world.specs.declared.generations.Topology.{Topology}
+use Rattle.sbp_bus.specs.Generations.{id_of, node_in, one_of_five, is_at, node_of, topology_at}
+use Rattle.sbp_bus.specs.declared.generations.Topology.{Topology}
 use Rattle.sbp_world.specs.Nodes.{reset_line}
 use Rattle.sbp_world.specs.Packets.{destination_in, source_in, inject_line, injected, injected_to, lose_line, lost, no_node, no_packet, other_node, refused}
 use Rattle.sbp_world.specs.Sending.{posted}

@@ -34,7 +34,7 @@ use Rattle.sbp_journal.specs.declared.cause.Cause.{Cause}
 use Rattle.sbp_journal.specs.declared.cause.Cause.TheVariants as causes
 use Rattle.sbp_journal.specs.declared.note.Note.{Note}
 use Rattle.sbp_world.specs.Delivering.{marked}
-use Rattle.sbp_world.specs.Generations.{topology_at}
+use Rattle.sbp_bus.specs.Generations.{topology_at}
 use Rattle.sbp_world.specs.Sending.{posted, sent as leaves, sent_to}
 use Rattle.sbp_world.specs.Worlds.{WorldState, with_note}
 use Rattle.world_laws.specs.Knows.{Knows}

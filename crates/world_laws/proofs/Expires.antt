@@ -16,10 +16,10 @@ use Rattle.sbp_journal.specs.Run.{Moment, said}
 use Rattle.sbp_journal.specs.Outgoings.{OutboxState}
 use Rattle.sbp_journal.specs.Wire.{Terms, terms}
 use Rattle.sbp_journal.specs.declared.note.Note.TheVariants as notes
-use Rattle.sbp_world.specs.declared.requests.Request.{Request}
-use Rattle.sbp_world.specs.Generations.{topology_at}
+use Rattle.sbp_bus.specs.declared.requests.Request.{Request}
+use Rattle.sbp_bus.specs.Generations.{topology_at}
 use Rattle.sbp_world.specs.Handing.{handed_out}
-use Rattle.sbp_world.specs.Requests.{find}
+use Rattle.sbp_bus.specs.Requests.{find}
 use Rattle.sbp_world.specs.Worlds.{WorldState, with_note}
 use Rattle.world_laws.specs.Knows.{IsLatest}
 use Rattle.world_laws.specs.Wires.{IsWireAt, StandsAt}

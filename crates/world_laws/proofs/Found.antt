@@ -7,8 +7,8 @@ use Rattle.bus_transactions.specs.Wire.{Due, Node, id_for}
 use Rattle.bus_transactions.proofs.Reaches.{goes_on}
 use Rattle.sbp_journal.specs.Run.{Moment}
 use Rattle.sbp_journal.specs.Wire.{terms}
-use Rattle.sbp_world.specs.declared.generations.Topology.{Topology}
-use Rattle.sbp_world.specs.Generations.{id_of, is_at, node_of, one_of_five, topology_at}
+use Rattle.sbp_bus.specs.declared.generations.Topology.{Topology}
+use Rattle.sbp_bus.specs.Generations.{id_of, is_at, node_of, one_of_five, topology_at}
 use Rattle.sbp_world.specs.Worlds.{WorldState}
 use Rattle.world_laws.specs.Wires.{StandsAt}
 

@@ -7,8 +7,8 @@ use Rattle.sbp_journal.specs.Run.{Moment}
 use Rattle.sbp_initiator.specs.declared.state.InitiatorState.{InitiatorState}
 use Rattle.sbp_initiator.specs.Initiators.{new_state}
 use Rattle.sbp_target.specs.Nodes.{NodeState}
-use Rattle.sbp_world.specs.declared.generations.Topology.{Topology}
-use Rattle.sbp_world.specs.Generations.{GenerationsState, id_of, no_topology}
+use Rattle.sbp_bus.specs.declared.generations.Topology.{Topology}
+use Rattle.sbp_bus.specs.Generations.{GenerationsState, id_of, no_topology}
 use Rattle.sbp_world.specs.Worlds.{WorldState, with_initiator, with_target}
 use Rattle.initiator_laws.specs.Fitting.{Holds as OwnHolds}
 use Rattle.target_laws.specs.Fitting.{Holds}

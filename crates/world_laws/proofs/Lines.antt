@@ -14,7 +14,7 @@ use Rattle.sbp_initiator.specs.Seeing.{see_step}
 use Rattle.sbp_target.specs.Nodes.{NodeState}
 use Rattle.sbp_target.specs.Nodes as target
 use Rattle.sbp_target.specs.Receiving.{seen, ticked, with_key}
-use Rattle.sbp_world.specs.Generations.{id_of}
+use Rattle.sbp_bus.specs.Generations.{id_of}
 use Rattle.sbp_world.specs.Handing.{handed_out}
 use Rattle.sbp_world.specs.Lines.{keyed, no_unit}
 use Rattle.sbp_world.specs.Nodes.{at_initiator, handed_all, initiator_learns, see_line, sees, target_learns, target_sees, target_ticks, tick_line, told_seen, with_seen}

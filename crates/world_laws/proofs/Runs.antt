@@ -7,9 +7,10 @@ use Rattle.sbp_journal.specs.declared.event.Event.TheVariants as events
 use Rattle.sbp_initiator.specs.Initiators.{new_state}
 use Rattle.sbp_initiator.specs.declared.state.InitiatorState.{InitiatorState}
 use Rattle.sbp_journal.specs.Wire.{local_id}
-use Rattle.sbp_world.proofs.Making.{ids_size, initiators_size}
-use Rattle.sbp_world.specs.declared.generations.Topology.{Topology}
-use Rattle.sbp_world.specs.Generations.{first_topology, id_of, no_topology}
+use Rattle.sbp_bus.proofs.Making.{ids_size}
+use Rattle.sbp_world.proofs.Making.{initiators_size}
+use Rattle.sbp_bus.specs.declared.generations.Topology.{Topology}
+use Rattle.sbp_bus.specs.Generations.{first_topology, id_of, no_topology}
 use Rattle.sbp_world.specs.Histories.{moments_behind}
 use Rattle.sbp_world.specs.Making.{new_initiators, new_world, ready_logins}
 use Rattle.sbp_world.specs.Runs.{AreEntries, Entry, Run, after, beginning}

@@ -16,8 +16,8 @@ use Rattle.sbp_initiator.specs.declared.state.InitiatorState.{InitiatorState}
 use Rattle.sbp_initiator.specs.Initiators.{new_state}
 use Rattle.sbp_target.specs.Nodes.{NodeState}
 use Rattle.sbp_target.specs.declared.purpose.Purpose.{Purpose}
-use Rattle.sbp_world.specs.declared.generations.Topology.{Topology}
-use Rattle.sbp_world.specs.Generations.{id_of, no_topology, topology_at}
+use Rattle.sbp_bus.specs.declared.generations.Topology.{Topology}
+use Rattle.sbp_bus.specs.Generations.{id_of, no_topology, topology_at}
 use Rattle.sbp_world.specs.Nodes.{told_seen, with_seen}
 use Rattle.sbp_world.specs.Worlds.{WorldState}
 use Rattle.world_laws.specs.Knows.{AreEntered, Knows}

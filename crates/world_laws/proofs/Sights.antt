@@ -13,8 +13,8 @@ use Rattle.sbp_initiator.specs.declared.state.InitiatorState.{InitiatorState}
 use Rattle.sbp_target.specs.Nodes.{NodeState}
 use Rattle.sbp_target.specs.Nodes as target
 use Rattle.sbp_target.specs.Receiving.{seen}
-use Rattle.sbp_world.specs.declared.generations.Topology.{Topology}
-use Rattle.sbp_world.specs.Generations.{id_of, no_topology, topology_at}
+use Rattle.sbp_bus.specs.declared.generations.Topology.{Topology}
+use Rattle.sbp_bus.specs.Generations.{id_of, no_topology, topology_at}
 use Rattle.sbp_world.specs.Handing.{handed_out}
 use Rattle.sbp_world.specs.Nodes.{handed_all, initiator_learns, see_line, sees, target_learns, target_sees, told_seen, with_seen}
 use Rattle.sbp_world.specs.Worlds.{WorldState, initiator_at, with_initiator, with_target}

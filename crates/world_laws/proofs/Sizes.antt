@@ -25,10 +25,10 @@ use Rattle.sbp_target.specs.Nodes as target
 use Rattle.sbp_target.specs.Receiving.{expired, received, with_key}
 use Rattle.sbp_target.specs.Replies.{Whole}
 use Rattle.sbp_world.specs.declared.parts.delivering.Arrival.{Arrival}
-use Rattle.sbp_world.specs.declared.requests.Request.{Request}
+use Rattle.sbp_bus.specs.declared.requests.Request.{Request}
 use Rattle.sbp_world.specs.Delivering as delivering
 use Rattle.sbp_world.specs.Delivering.{arrived, arrived_by, delivered, delivered_by, initiators_received, marked, received_by, received_step, target_received}
-use Rattle.sbp_world.specs.Generations.{id_of}
+use Rattle.sbp_bus.specs.Generations.{id_of}
 use Rattle.sbp_world.specs.Handing.{handed_out}
 use Rattle.sbp_world.specs.Lines.{acted, acted_by, happens, happens_to, keyed, no_unit, weight_in}
 use Rattle.sbp_world.specs.Making.{new_initiators, new_world}
@@ -36,7 +36,7 @@ use Rattle.sbp_world.specs.Nodes as nodes
 use Rattle.sbp_world.specs.Nodes.{handed_all, reset_line, see_line, sees, tick_line}
 use Rattle.sbp_world.specs.Packets.{delivered_if, expires, first_told, inject_line, injected, injected_to, is_in_flight, lose_line, may_repeat, timed_out, timeout_line, timeout_of}
 use Rattle.sbp_world.specs.Packets as packets
-use Rattle.sbp_world.specs.Requests.{find}
+use Rattle.sbp_bus.specs.Requests.{find}
 use Rattle.sbp_world.specs.Sending.{posted}
 use Rattle.sbp_world.specs.Settling.{after_all, delivered_at, delivered_next, lowest}
 use Rattle.sbp_world.specs.Worlds.{Scene, WorldState, begun, initiator_at, with_initiator, with_note, with_target}

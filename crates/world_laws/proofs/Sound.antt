@@ -23,7 +23,7 @@ use Rattle.sbp_initiator.specs.Initiators.{new_state}
 use Rattle.sbp_initiator.specs.declared.state.InitiatorState.{InitiatorState}
 use Rattle.sbp_target.specs.Nodes as target
 use Rattle.sbp_target.specs.Receiving.{seen, ticked, with_key}
-use Rattle.sbp_world.specs.Generations.{id_of, topology_at}
+use Rattle.sbp_bus.specs.Generations.{id_of, topology_at}
 use Rattle.sbp_world.specs.Handing.{handed_out}
 use Rattle.sbp_world.specs.Lines.{acted, acted_by, happens, keyed, no_unit, weight_in}
 use Rattle.sbp_world.specs.Nodes.{reset_line, target_ticks, tick_line}

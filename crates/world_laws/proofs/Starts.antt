@@ -25,10 +25,11 @@ use Rattle.sbp_journal.specs.Wire.{local_id}
 use Rattle.sbp_journal.specs.declared.event.Event.TheVariants as events
 use Rattle.sbp_initiator.specs.declared.state.InitiatorState.{InitiatorState}
 use Rattle.sbp_initiator.specs.Initiators.{new_state}
-use Rattle.sbp_world.specs.declared.generations.Topology.{Topology}
-use Rattle.sbp_world.specs.Generations.{first_ids, first_topology, id_of, local_node, no_topology}
+use Rattle.sbp_bus.specs.declared.generations.Topology.{Topology}
+use Rattle.sbp_bus.specs.Generations.{first_ids, first_topology, id_of, local_node, no_topology}
 use Rattle.sbp_world.specs.Making.{new_initiators, new_world, notes_begin}
-use Rattle.sbp_world.proofs.Making.{ids_size, initiators_size}
+use Rattle.sbp_bus.proofs.Making.{ids_size}
+use Rattle.sbp_world.proofs.Making.{initiators_size}
 use Rattle.world_laws.specs.History.{IsOfWire}
 use Rattle.world_laws.specs.Wires.{Stands, layer_in}
 use Rattle.bus_transactions.proofs.Places.{new_looked}

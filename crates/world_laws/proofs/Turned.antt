@@ -21,9 +21,9 @@ use Rattle.sbp_target.specs.Nodes as target
 use Rattle.sbp_target.specs.Receiving.{expired, received}
 use Rattle.sbp_target.specs.Replies.{Whole}
 use Rattle.sbp_world.specs.declared.parts.delivering.Arrival.{Arrival}
-use Rattle.sbp_world.specs.declared.requests.Request.{Request}
+use Rattle.sbp_bus.specs.declared.requests.Request.{Request}
 use Rattle.sbp_world.specs.Delivering.{arrived, arrived_by, at_initiator, at_none, at_target, delivered, delivered_by, faults_after, initiator_received, initiators_received, judged_note, left_target, listed, marked, received_by, received_step, target_received, whole_of}
-use Rattle.sbp_world.specs.Generations.{id_of}
+use Rattle.sbp_bus.specs.Generations.{id_of}
 use Rattle.sbp_world.specs.Handing.{handed_out}
 use Rattle.sbp_world.specs.Nodes.{handed_all, initiator_learns, see_line, sees, target_learns, target_sees, target_ticks, tick_line, told_seen, with_seen}
 use Rattle.sbp_world.specs.Nodes as nodes

@@ -10,7 +10,7 @@ use Rattle.sbp_initiator.specs.Initiators.{new_state}
 use Rattle.sbp_journal.specs.Run.{Moment, said}
 use Rattle.sbp_journal.specs.Wire.{terms}
 use Rattle.sbp_target.specs.declared.purpose.Purpose.{Purpose}
-use Rattle.sbp_world.specs.Generations.{id_of, topology_at}
+use Rattle.sbp_bus.specs.Generations.{id_of, topology_at}
 use Rattle.sbp_world.specs.Worlds.{WorldState}
 use Rattle.world_laws.specs.Knows.{AreEntered, Knows}
 
