@@ -317,8 +317,7 @@ module _ (past : List Moment) (node : ℕ) (w : WorldState) (n : NoneAborts (his
       (subst (λ k. Listed (said (notes.Seen k g) ∷ history w past) (see_step g id other empty_outbox old)) (ap suc host.number ∙ sym is)
       (sees_listed (history w past) g id other old
       (subst (λ k. (seeing_step old.layer g (id_of w.generations.latest k)).0 ≡ not (g == (wire_terms (history w past)).generation (suc old.number))) (sym is)
-      (subst (λ k. (seeing_step old.layer g (id_of w.generations.latest (suc i))).0 ≡ not (g == (wire_terms (history w past)).generation (suc k))) (sym host.number) m.later))
-      (subst (λ k. (seeing_step old.layer g (id_of w.generations.latest k)).0 ≡ false → old.lists.slots.pinned ≡ None) (sym is) m.unpinned)
+      (subst (λ k. (seeing_step old.layer g (id_of w.generations.latest (suc i))).0 ≡ not (g == (wire_terms (history w past)).generation (suc k))) (sym host.number) m))
       (host_listed (history w past) i old host))))
 
 -- ---- a second
