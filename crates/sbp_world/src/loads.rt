@@ -1,5 +1,5 @@
 ghost use Rattle.std.specs.Prelude.{◌≡◌, ◌+◌, ◌*◌, ◌-◌, ◌/◌, ◌∷◌, ◌++◌, [], ◌<◌, ◌≤◌, ◌==◌, ◌^◌, length, replicate, IfOk, OnOk};
-ghost use Rattle.sbp_initiator.specs.Lists.{IsCommand};
+ghost use Rattle.sbp_initiator.specs.Commands.{IsCommand};
 ghost use Rattle.sbp_world.specs.Loads.{append_step, begun_step, capped, chunks_in, chunks_of, cut_step, drop_step, lists_weight, load_weight, new_load, new_loads, pieces_of, take_step, weight_of, weights, with_left, without_left, without_orb};
 
 use sbp_base::NoMemory;
