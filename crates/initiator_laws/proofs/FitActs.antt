@@ -20,7 +20,8 @@ use Rattle.sbp_initiator.specs.declared.purpose.Wanted.TheVariants as wants
 use Rattle.sbp_initiator.specs.declared.state.InitiatorState.{InitiatorState}
 use Rattle.sbp_initiator.specs.Acting.{act_step, append_step, asked_as, asked_for, begun, counted, demand_of, demanded_as, done_step, dummy_for, facts_with, judged_as, link_as, link_step, login_id, login_orb, low_as, low_step, manage_demand, managed_by, orb_by, pinned_for, put_as, put_step, register_of, register_start, ring_demand, ring_for, with_first, with_pin, with_ring, with_running}
 use Rattle.sbp_initiator.specs.Effects.{Turn, told, with_request}
-use Rattle.sbp_initiator.specs.Lists.{ListState, dummy_lists, high_lists, low_lists, pin_lists, put_lists}
+use Rattle.orb_list.specs.Lists.{ListState, dummy_lists, high_lists, low_lists, pin_lists}
+use Rattle.sbp_initiator.specs.Commands.{put_lists}
 use Rattle.sbp_initiator.specs.Refusals.{refusal}
 use Rattle.sbp_initiator.specs.States.{is_unwritten, place_of, wanted_body}
 use Rattle.sbp_journal.specs.declared.event.Action.{Action}

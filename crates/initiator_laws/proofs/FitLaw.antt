@@ -20,7 +20,7 @@ use Rattle.sbp_initiator.specs.declared.state.InitiatorState.{InitiatorState}
 use Rattle.sbp_initiator.specs.Acting.{act_step}
 use Rattle.sbp_initiator.specs.Effects.{Turn, drop_list_step, dropped_as}
 use Rattle.sbp_initiator.specs.Initiators.{first_management, new_state, own_rom}
-use Rattle.sbp_initiator.specs.Lists.{ListState, drop_lists, free_lists}
+use Rattle.orb_list.specs.Lists.{ListState, drop_lists, free_lists}
 use Rattle.sbp_initiator.specs.Receiving.{called, expire_step, expired_as, receive_step, received, request_step, responded_as}
 use Rattle.sbp_initiator.specs.Seeing.{interrupted, reset_step, resets_told, see_step, seen_as}
 use Rattle.sbp_initiator.specs.States.{ending_of}

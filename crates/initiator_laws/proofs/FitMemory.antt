@@ -31,7 +31,8 @@ use Rattle.orb_list.specs.Layout.{behind, data_in_segments, data_written, orb_of
 use Rattle.orb_list.specs.Requests.{Asked}
 use Rattle.orb_list.specs.Table.{SlotTable, checked, closed, closed_slots, dummy_at, dummy_step, free_all_step, high_for, high_step, low_for, low_step, may_prepare, pin_step, prepare_at, prepare_step, slot_in, status_at, status_for, status_step, unpin_for, unpin_step, waiting, waits_high, waits_low, with_orb_quad}
 use Rattle.orb_list.specs.Tickets.{TicketParts}
-use Rattle.sbp_initiator.specs.Lists.{ListState, drop_lists, dummy_lists, free_lists, high_lists, low_lists, manage_lists, pin_lists, prepared_as, put_lists, stepped, take_lists, unpin_lists, with_slots, write_lists}
+use Rattle.orb_list.specs.Lists.{ListState, drop_lists, dummy_lists, free_lists, high_lists, low_lists, manage_lists, pin_lists, stepped, take_lists, unpin_lists, with_slots, write_lists}
+use Rattle.sbp_initiator.specs.Commands.{prepared_as, put_lists}
 use Rattle.sbp_journal.specs.declared.event.Cmd.{Cmd}
 use Rattle.initiator_laws.specs.Fitting.{BytesCommand, FitsMemory, FitsPlace, FitsSlot}
 

@@ -1,5 +1,3 @@
-pub mod Counted
-pub mod Managed
 pub mod Roms
 pub mod Asked
 pub mod Layers

@@ -1,5 +1,4 @@
-pub mod Lists
-pub mod Quads
+pub mod Commands
 pub mod States
 pub mod Effects
 pub mod Refusals

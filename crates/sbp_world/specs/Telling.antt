@@ -12,7 +12,7 @@ use Rattle.sbp_journal.specs.declared.operation.FunctionWord.{FunctionWord}
 use Rattle.sbp_journal.specs.declared.operation.FunctionWord.TheVariants as functions
 use Rattle.sbp_journal.specs.declared.side.Side.{Side}
 use Rattle.sbp_journal.specs.declared.side.Side.TheVariants as sides
-use Rattle.sbp_initiator.specs.Lists.{last_at}
+use Rattle.orb_list.specs.Lists.{last_at}
 use Rattle.sbp_bus.specs.declared.loads.ListLoad.{ListLoad}
 use Rattle.sbp_bus.specs.declared.places.Holder.{Holder}
 use Rattle.sbp_bus.specs.Generations.{node_of}

@@ -24,7 +24,7 @@ use Rattle.sbp_initiator.specs.declared.purpose.Purpose.{Purpose as OwnPurpose}
 use Rattle.sbp_initiator.specs.declared.purpose.Running.{Running}
 use Rattle.sbp_initiator.specs.declared.state.InitiatorState.{InitiatorState}
 use Rattle.sbp_initiator.specs.Effects.{Turn, dropped_as, told}
-use Rattle.sbp_initiator.specs.Lists.{ListState, drop_lists}
+use Rattle.orb_list.specs.Lists.{ListState, drop_lists}
 use Rattle.sbp_initiator.specs.Seeing.{all_end, interrupted, reset_told, resets_told, see_step, seen_as, states_end}
 use Rattle.sbp_target.specs.declared.purpose.Sent.{Sent}
 use Rattle.sbp_target.specs.declared.purpose.Purpose.{Purpose}

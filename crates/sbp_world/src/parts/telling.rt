@@ -1,5 +1,5 @@
 ghost use Rattle.std.specs.Prelude.{◌≡◌, OnOk};
-ghost use Rattle.sbp_initiator.specs.Lists.{last_at};
+ghost use Rattle.orb_list.specs.Lists.{last_at};
 ghost use Rattle.sbp_world.specs.Telling.{counted, cut_loads, initiator_of, list_in, managed_places, opened, orb_in, ticket_of, told, told_cut, told_dead, told_ended, told_left, told_managed, told_own, told_ran};
 
 use super::Parts;
