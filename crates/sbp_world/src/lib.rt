@@ -12,7 +12,10 @@ mod words;
 mod world;
 
 pub use generations::Topology;
-pub use laws::{lines_have_form, runs_begin, runs_go_on, settles_go_on};
+pub use laws::{
+    initiator_calls_fit_the_wire, lines_are_moves, lines_have_form, runs_are_lawful_on_the_bus,
+    runs_begin, runs_go_on, settles_go_on, target_calls_fit_the_wire,
+};
 pub use loads::{LeftLists, ListLoad, OrbLoad, OrbLoads};
 pub use parts::{Arrival, Parts};
 pub use places::Holder;
