@@ -49,7 +49,7 @@ use Rattle.sbp_initiator.specs.Receiving.{receive_step}
 use Rattle.initiator_laws.specs.Laws.{Call, IsCall, acts as acts_call, receives as receives_call, done}
 use Rattle.initiator_laws.specs.Moves.{Move, Moves, Stage, staged, tells, sits, resets, relists, marks_as, works_at, reads_on, holds, learns, turns_to, counts_up, judges, answers, asks, fails, sends, expires, sees, stay, go_on}
 use Rattle.initiator_laws.proofs.Called.{call_moves}
-use Rattle.initiator_laws.proofs.Refused.{refusal_law}
+use Rattle.sbp_initiator.proofs.FirstRow.{refusal_law}
 use Rattle.sbp_target.specs.Nodes.{NodeState}
 use Rattle.sbp_world.specs.declared.parts.delivering.Arrival.{Arrival}
 use Rattle.sbp_world.specs.Delivering.{MayAt, MayReceive, MayTold, arrived, at_initiator, at_none, at_target, delivered, delivered_by, initiator_received, initiators_received, judged_note, listed, received_at, received_by, received_step, target_received}

@@ -36,7 +36,7 @@ use Rattle.script_text.specs.Line.{action_of, all_differ, arguments, event_of, f
 use Rattle.sbp_initiator.specs.Commands.{IsCommand}
 use Rattle.sbp_initiator.specs.Acting.{IsAction}
 use Rattle.sbp_world.specs.Lines.{IsEvent}
-use Rattle.world_laws.specs.Lines.{IsLine}
+use Rattle.sbp_world.specs.Wire.Lines.{IsLine}
 use Rattle.sbp_command.specs.Runner.{HasBytes, IsBeginning}
 use Rattle.sbp_command.proofs.OwnIds.{AreAtMost, HasOwnIds, ids_apart, is_line}
 

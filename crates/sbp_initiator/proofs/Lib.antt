@@ -5,3 +5,4 @@ pub mod Again
 pub mod Sound
 pub mod Answered
 pub mod Refused
+pub mod FirstRow

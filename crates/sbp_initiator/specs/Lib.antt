@@ -8,3 +8,5 @@ pub mod Receiving
 pub mod Seeing
 pub mod Judged
 pub mod Initiators
+pub mod Refusing
+pub mod Steps

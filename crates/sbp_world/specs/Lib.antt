@@ -12,3 +12,6 @@ pub mod Making
 pub mod Runs
 pub mod Forms
 pub mod Histories
+pub mod FitTarget
+pub mod FitInitiator
+pub mod Wire

@@ -7,6 +7,9 @@ mod parts;
 mod words;
 mod world;
 
-pub use laws::{lines_have_form, runs_begin, runs_go_on, settles_go_on};
+pub use laws::{
+    initiator_calls_fit_the_wire, lines_are_moves, lines_have_form, runs_are_lawful_on_the_bus,
+    runs_begin, runs_go_on, settles_go_on, target_calls_fit_the_wire,
+};
 pub use parts::{Arrival, Parts};
 pub use world::World;
