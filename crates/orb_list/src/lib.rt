@@ -1,5 +1,6 @@
 //! An initiator's command slots, and the lists of ORBs that it links in them (NCITS 325-1998, linked
-//! lists of ORBs); with the memory that holds the ORBs, and what the status of each brings.
+//! lists of ORBs), which take no memory; and both with the memory that holds the ORBs and what the
+//! status of each brings (`Lists`).
 #![tactic(auto)]
 
 mod answer;

@@ -1,13 +1,12 @@
 -- The state of an initiator, and what is read off it.
-use Rattle.std.specs.Prelude.{ℕ, ◌+◌, ◌-◌, ◌*◌, ◌%◌, ◌^◌, ◌==◌, ◌&&◌, ◌||◌, not, nat_le, nat_lt, Bool, true, false, unwrap_or, if◌then◌else◌, List, length, Option, Some, None, Result}
+use Rattle.std.specs.Prelude.{ℕ, ◌-◌, ◌%◌, ◌==◌, ◌&&◌, ◌||◌, not, nat_le, nat_lt, Bool, true, false, unwrap_or, if◌then◌else◌, List, Option, Some, None, Result}
 use Rattle.byteorder.specs.Endian.{big_bytes}
-use Rattle.async_packet.specs.Packet.{Packet, write_response, read_quadlet, read_block, read_quadlet_response, read_block_response, lock_response}
+use Rattle.async_packet.specs.Packet.{Packet, write_response, read_quadlet_response, read_block_response, lock_response}
 use Rattle.label_table.specs.Bodies.{Body, quadlet_write, block_write, quadlet_read}
 use Rattle.bus_memory.specs.declared.window.Window.TheVariants as windows
 use Rattle.bus_memory.specs.Windows.{start}
 use Rattle.orb_layout.specs.declared.status.StatusBlock.{StatusBlock}
 use Rattle.orb_layout.specs.declared.fault.OrbFault.{OrbFault}
-use Rattle.orb_layout.specs.Pointers.{offset_at}
 use Rattle.orb_layout.specs.StatusBlocks.{read_block as read_status_block}
 use Rattle.orb_list.specs.declared.list.PresentList.{PresentList}
 use Rattle.orb_list.specs.Table.{is_done}

@@ -95,11 +95,11 @@ impl InitiatorState {
     {
         let node = self.layer.node();
         let login = self.login();
-        if let Some(ticket) = put(&mut self.lists, alloc, cmd, node, login)? {
-            tell(outbox, append_note(alloc, self.number, cmd, &ticket)?)?;
-            self.begin_list(&ticket);
-        }
-        Ok(())
+        let Some(ticket) = put(&mut self.lists, alloc, cmd, node, login)? else {
+            return Ok(());
+        };
+        self.begin_list(&ticket);
+        tell(outbox, append_note(alloc, self.number, cmd, &ticket)?)
     }
 
     /// Writes the low quadlet of the ORB that waits for it.
@@ -108,17 +108,17 @@ impl InitiatorState {
         ensures step { OnOk result ((outbox.new, self.new) ≡ low_step outbox.old self.old) }
         ensures keeps { Keeps 1 0 self.old self.new }
     {
-        if let Some(ticket) = self.lists.low() {
-            tell(
-                outbox,
-                Note::Low {
-                    initiator: self.number,
-                    list: ticket.list(),
-                    orb: ticket.number(),
-                },
-            )?;
-        }
-        Ok(())
+        let Some(ticket) = self.lists.low() else {
+            return Ok(());
+        };
+        tell(
+            outbox,
+            Note::Low {
+                initiator: self.number,
+                list: ticket.list(),
+                orb: ticket.number(),
+            },
+        )
     }
 
     /// Writes the high quadlet of the ORB that waits for it.
@@ -127,17 +127,17 @@ impl InitiatorState {
         ensures step { OnOk result ((outbox.new, self.new) ≡ link_step outbox.old self.old) }
         ensures keeps { Keeps 1 0 self.old self.new }
     {
-        if let Some(ticket) = self.lists.high() {
-            tell(
-                outbox,
-                Note::Linked {
-                    initiator: self.number,
-                    list: ticket.list(),
-                    orb: ticket.number(),
-                },
-            )?;
-        }
-        Ok(())
+        let Some(ticket) = self.lists.high() else {
+            return Ok(());
+        };
+        tell(
+            outbox,
+            Note::Linked {
+                initiator: self.number,
+                list: ticket.list(),
+                orb: ticket.number(),
+            },
+        )
     }
 
     /// What a ring leaves.
@@ -166,18 +166,18 @@ impl InitiatorState {
         ensures counts { self.new.counts ≡ record self.old.counts { running = self.new.counts.running } }
         ensures running { self.new.counts.running ≤ self.old.counts.running + 1 }
     {
-        if let Some(list) = self.lists.present() {
-            tell(
-                outbox,
-                Note::Rung {
-                    initiator: self.number,
-                    list: list.tail.list(),
-                    orb: last_linked(&list),
-                },
-            )?;
-            self.rung();
-        }
-        Ok(())
+        let Some(list) = self.lists.present() else {
+            return Ok(());
+        };
+        self.rung();
+        tell(
+            outbox,
+            Note::Rung {
+                initiator: self.number,
+                list: list.tail.list(),
+                orb: last_linked(&list),
+            },
+        )
     }
 
     /// Prepares an ORB, links it where it has one before it, and rings.
@@ -199,18 +199,18 @@ impl InitiatorState {
         ensures step { OnOk result ((outbox.new, self.new) ≡ dummy_for (find_in self.old.lists.slots.slots orb) outbox.old self.old) }
         ensures keeps { Keeps 1 0 self.old self.new }
     {
-        if let Some(ticket) = self.lists.find(orb) {
-            self.lists.make_dummy(&ticket);
-            tell(
-                outbox,
-                Note::Dummied {
-                    initiator: self.number,
-                    list: ticket.list(),
-                    orb: ticket.number(),
-                },
-            )?;
-        }
-        Ok(())
+        let Some(ticket) = self.lists.find(orb) else {
+            return Ok(());
+        };
+        self.lists.make_dummy(&ticket);
+        tell(
+            outbox,
+            Note::Dummied {
+                initiator: self.number,
+                list: ticket.list(),
+                orb: ticket.number(),
+            },
+        )
     }
 
     /// An operation begins, with the number of its write to MANAGEMENT_AGENT, where it has one.

@@ -1,7 +1,6 @@
 //! What the end of a transaction does (NCITS 325-1998, sessions, operations and lists).
-ghost use Rattle.std.specs.Prelude.{◌≡◌, ◌+◌, ◌*◌, ◌^◌, ◌<◌, ◌≤◌, ◌==◌, length, Some, None, IfOk, OnOk};
+ghost use Rattle.std.specs.Prelude.{◌≡◌, ◌^◌, ◌<◌, OnOk};
 ghost use Rattle.config_rom.specs.Unit.{sbp_unit_of};
-ghost use Rattle.sbp_session.specs.Moves.{bad, conflict, goes, failed, pointed};
 ghost use Rattle.sbp_initiator.specs.Effects.{Keeps, ask_quad, conflict_step, doorbell_ended, drop_list_step, enable_ended, end_own_step, end_step, ended_step, fail_step, fault_number, finish_rom, good_end, good_event, good_word, known_step, managed_step, management_ended, moved, moves_session, pointed_step, pointer_ended, quad_got, reset_ended, response_of, rom_ended, state_ended, state_told, stick_step, told, with_request, with_unit};
 ghost use Rattle.sbp_initiator.specs.States.{counts_for};
 ghost use Rattle.sbp_journal.specs.declared.note.Note.TheVariants as notes;
@@ -78,16 +77,17 @@ impl InitiatorState {
         ensures step { OnOk result ((outbox.new, self.new) ≡ stick_step outbox.old self.old) }
         ensures keeps { Keeps 0 0 self.old self.new }
     {
-        if !self.seat.is_stuck() {
-            tell(
-                outbox,
-                Note::Stuck {
-                    initiator: self.number,
-                },
-            )?;
-        }
+        let was_stuck = self.seat.is_stuck();
         in_place::stick(&mut self.seat);
-        Ok(())
+        if was_stuck {
+            return Ok(());
+        }
+        tell(
+            outbox,
+            Note::Stuck {
+                initiator: self.number,
+            },
+        )
     }
 
     /// Drops the present list, where there is one.
@@ -96,17 +96,17 @@ impl InitiatorState {
         ensures step { OnOk result ((outbox.new, self.new) ≡ drop_list_step outbox.old self.old) }
         ensures keeps { Keeps 1 0 self.old self.new }
     {
-        if let Some(list) = self.lists.drop_list() {
-            tell(
-                outbox,
-                Note::Drop {
-                    initiator: self.number,
-                    list,
-                },
-            )?;
-            self.marks = ListMarks::none();
-        }
-        Ok(())
+        let Some(list) = self.lists.drop_list() else {
+            return Ok(());
+        };
+        self.marks = ListMarks::none();
+        tell(
+            outbox,
+            Note::Drop {
+                initiator: self.number,
+                list,
+            },
+        )
     }
 
     /// The operation under way ends, and with it the pin of an abort.
@@ -120,6 +120,8 @@ impl InitiatorState {
         ensures step { OnOk result ((outbox.new, self.new) ≡ end_step operation word outbox.old self.old) }
         ensures keeps { Keeps 1 0 self.old self.new }
     {
+        self.operation = None;
+        self.lists.unpin();
         tell(
             outbox,
             Note::Op {
@@ -127,10 +129,7 @@ impl InitiatorState {
                 operation,
                 word,
             },
-        )?;
-        self.operation = None;
-        self.lists.unpin();
-        Ok(())
+        )
     }
 
     /// The operation under way ends, where an action began it.
@@ -423,6 +422,7 @@ impl InitiatorState {
         ensures step { OnOk result ((outbox.new, self.new) ≡ state_told act word outbox.old self.old) }
         ensures keeps { Keeps 0 0 self.old self.new }
     {
+        self.states.remove(act);
         tell(
             outbox,
             Note::Op {
@@ -430,9 +430,7 @@ impl InitiatorState {
                 operation: Operation::State,
                 word,
             },
-        )?;
-        self.states.remove(act);
-        Ok(())
+        )
     }
 
     /// A read of AGENT_STATE ended.

@@ -195,6 +195,9 @@ impl InitiatorState {
         ensures labels { self.new.layer ≡ self.old.layer }
     {
         let answer = self.answer_of(alloc, kind, ticket.slot())?;
+        if is_dead_kind(kind) {
+            self.marks.is_dead = true;
+        }
         tell(
             outbox,
             Note::Taken {
@@ -204,11 +207,7 @@ impl InitiatorState {
                 status: kind,
                 answer,
             },
-        )?;
-        if is_dead_kind(kind) {
-            self.marks.is_dead = true;
-        }
-        Ok(())
+        )
     }
 
     /// The status of an ORB that is none of management.

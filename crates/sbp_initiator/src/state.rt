@@ -1,4 +1,4 @@
-ghost use Rattle.std.specs.Prelude.{◌≡◌, ◌+◌, ◌%◌, ◌^◌, ◌<◌, ◌≤◌, Some, None, IfSome};
+ghost use Rattle.std.specs.Prelude.{◌≡◌, ◌<◌};
 ghost use Rattle.sbp_initiator.specs.States.{fifo_at, is_answered, is_list, is_orb_of, is_present_orb, is_unwritten, last_linked, no_marks, place_in};
 
 use crate::fifo::Fifo;
