@@ -154,6 +154,7 @@ impl Places {
         if let Some(place) = login_place(&self.holders, login) {
             if let Some(holder) = &mut self.holders[place] {
                 holder.initiator = initiator;
+                holder.list = None;
             }
         }
     }
