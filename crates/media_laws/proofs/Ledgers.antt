@@ -95,7 +95,7 @@ opens place list places = opens_by (place_in places place) place list places ref
 
 takes_by : (x : Option Holder) (place initiator : ℕ) (places : List (Option Holder)) → place_in places place ≡ x → seats_in (taken_by x place initiator places) ≡ seats_in places
 takes_by None place initiator places e = refl
-takes_by (Some holder) place initiator places e = map-set_same seat_held places place (Some (record holder { initiator = initiator })) None (ap seat_held (sym e))
+takes_by (Some holder) place initiator places e = map-set_same seat_held places place (Some (record holder { initiator = initiator; list = None })) None (ap seat_held (sym e))
 
 backs_at : (place : Option ℕ) (initiator : ℕ) (places : List (Option Holder)) → seats_in (back_at place initiator places) ≡ seats_in places
 backs_at None initiator places = refl

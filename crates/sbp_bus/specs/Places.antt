@@ -59,12 +59,12 @@ left_step login places = put_at (position (has_login login) places) None places
 abbrev pub taken_by : Option Holder → ℕ → ℕ → List (Option Holder) → List (Option Holder)
 taken_by None place initiator places = places
 taken_by (Some holder) place initiator places =
-    slice_set places place (Some (record holder { initiator = initiator }))
+    slice_set places place (Some (record holder { initiator = initiator; list = None }))
 
 abbrev pub back_at : Option ℕ → ℕ → List (Option Holder) → List (Option Holder)
 back_at None initiator places = places
 back_at (Some place) initiator places = taken_by (place_in places place) place initiator places
 
--- A login is taken back by an initiator.
+-- A login is taken back by an initiator: no list is open there yet.
 unfoldable pub back_step : ℕ → ℕ → List (Option Holder) → List (Option Holder)
 back_step login initiator places = back_at (position (has_login login) places) initiator places

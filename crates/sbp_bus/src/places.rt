@@ -6,7 +6,8 @@ use std::alloc::Global;
 use std::marker::Model;
 
 /// Who has a place of the target's table of logins: an initiator, with the unit and the ID of its login.
-/// The list is that of the ORB to which ORB_POINTER pointed when it was last taken, where it has a name.
+/// The list is that of the ORB to which ORB_POINTER pointed when it was last taken, where it has a name
+/// and the login was not taken back since.
 #[derive(Clone, Copy, Drop)]
 pub struct Holder {
     pub initiator: u8,
@@ -146,7 +147,7 @@ impl Places {
         }
     }
 
-    /// A login is taken back by an initiator.
+    /// A login is taken back by an initiator: no list is open there yet.
     #[tactic(auto, unfolding(crate::specs::Places::back_step))]
     pub fn back(&mut self, login: u16, initiator: u8)
         ensures { self.new ≡ back_step login initiator self.old }
@@ -154,6 +155,7 @@ impl Places {
         if let Some(place) = login_place(&self.holders, login) {
             if let Some(holder) = &mut self.holders[place] {
                 holder.initiator = initiator;
+                holder.list = None;
             }
         }
     }

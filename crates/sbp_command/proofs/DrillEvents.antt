@@ -82,8 +82,8 @@ read_bytes lba = record { cdb = block_bytes 0x28 lba 1 (omega arith); payload = 
 turn_of_is : (x1 x2 x3 : ℕ) → IsLine (turn_of x1 x2 x3).event 2
 turn_of_is x1 x2 x3 =
     elim (drawn x2 2 == 0) as (λ t. IsLine (cond t (appending (drawn x1 2) (block_write (drawn x3 64) (drawn (next x3) 256)) (next x3)) (appending (drawn x1 2) (block_read (drawn x3 64)) x3)).event 2) [
-      | true ↦ (drawn_two x1, write_bytes (drawn x3 64) (drawn (next x3) 256) (drawn_byte (next x3)))
-      | false ↦ (drawn_two x1, read_bytes (drawn x3 64))
+      | true ↦ (drawn_two x1, write_bytes (drawn x3 64) (drawn (next x3) 256) (drawn_byte (next x3)), write_is (drawn x3 64) (drawn (next x3) 256))
+      | false ↦ (drawn_two x1, read_bytes (drawn x3 64), read_is (drawn x3 64))
     ]
 
 turn_is : (x : ℕ) → IsLine (turn x).event 2

@@ -53,7 +53,7 @@ ids_apart (n ∷ ns) e (suc i) (suc j) here there same =
 
 pub is_line : (event : Event) (n : ℕ) → IsEvent event n → HasOwnIds event → HasBytes event → IsLine event n
 is_line (events.Begin initiators ready) n h own bytes = absurd h
-is_line (events.Act initiator action) n h own bytes = (h.0, bytes)
+is_line (events.Act initiator action) n h own bytes = (h.0, bytes, h.1)
 is_line (events.Reset ids) n h own bytes = record { count = h ∙ (let e : n + 1 ≡ suc n = omega arith in e); small = own.small; apart = own.apart }
 is_line (events.See node) n h own bytes = h
 is_line (events.Deliver serial) n h own bytes = tt

@@ -6,7 +6,6 @@ use Rattle.sbp_journal.specs.declared.event.Event.{Event}
 use Rattle.sbp_journal.specs.declared.event.Event.TheVariants as events
 use Rattle.sbp_journal.specs.declared.note.Note.{Note}
 use Rattle.sbp_laws.specs.ActionLaw.{Brings, BringsEach}
-use Rattle.sbp_laws.specs.Budget.{settle_deliveries}
 use Rattle.sbp_laws.specs.Lawful.{FormAt}
 use Rattle.sbp_laws.specs.LineLaw.{BringsLine, LineLaw}
 use Rattle.sbp_laws.specs.OnTheBus.{HasFormAt, IsPartOfLawful}
@@ -19,7 +18,6 @@ each_form (said note ∷ past) f = (f.0.0, each_form past f.1)
 
 brings_line : (disks : List Disk) (past : List Moment) (line : ℕ) (event : Event) (told : List Note) → Brings disks past line event told → BringsLine disks past line event told
 brings_line disks past line (events.Act i action) told b = tt
-brings_line disks past line events.Settle told b = (settle_deliveries (asked line events.Settle ∷ past), b)
 brings_line disks past line event told b = b
 
 brings_lines : (disks : List Disk) (entries : List Entry) → BringsEach disks entries → LineLaw disks entries

@@ -17,7 +17,7 @@ use Rattle.sbp_laws.specs.LineLaw.{BringsLine, refused}
 use Rattle.sbp_laws.specs.NoteKinds.{of_kind, is_cut_note, is_cleared_note, is_failure_note, is_end_note, is_operation_note}
 use Rattle.sbp_laws.specs.LoginLaw.{is_login_note, is_decision_note}
 use Rattle.sbp_laws.specs.MediaLaw.{is_push_note, is_told_note}
-use Rattle.sbp_laws.specs.Deliveries.{is_run_note, is_taken_note, Settles}
+use Rattle.sbp_laws.specs.Deliveries.{is_run_note, is_taken_note}
 
 -- ---- lines
 -- an action that is not refused: its notes, and behind them its request, if it makes one
@@ -29,11 +29,10 @@ abbrev pub ActsOr : Option ℕ → List Moment → (line i : ℕ) → Action →
 ActsOr (Some number) past line i action told = told ≡ refused line number
 ActsOr None past line i action told = Acts past i action told
 
--- The notes of the line with this number, in the order of time, behind what stood before it: those of the lines of the bus, and a settle up to
--- its own budget.
+-- The notes of the line with this number, in the order of time, behind what stood before it: those of an action, and those of the lines of
+-- the bus.
 abbrev pub Brings : List Disk → List Moment → ℕ → Event → List Note → Type 0
 Brings disks past line (events.Act i action) told = ActsOr (refusal_at past i action) past line i action told
-Brings disks past line events.Settle told = Settles (asked line events.Settle ∷ past) told
 Brings disks past line event told = BringsLine disks past line event told
 
 abbrev pub BringsEach : List Disk → List Entry → Type 0

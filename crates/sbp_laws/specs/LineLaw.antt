@@ -1,7 +1,7 @@
 -- The lines of the bus, the part of the action law that is not of actions: `begin` brings its note; `deliver` and `repeat` one delivery of
 -- their packet, exactly where it is in flight, or may be repeated, and else refusal 11; `lose` its note exactly where the packet is in flight;
 -- `timeout` its note and effects exactly where the transaction is under way, and else refusal 11; `step` and `settle` deliveries of the lowest serial in
--- flight, up to a number or until none is in flight, and `settle` then `settled` or `stopped`; `reset` and `see` the latest generation, and
+-- flight, up to a number, that of `settle` its budget, or until none is in flight, and `settle` then `settled` or `stopped`; `reset` and `see` the latest generation, and
 -- where it is new its effects; `tick` the logins that expire; `inject` the injected packet, or refusal 12; `key` its note, or refusal 13.
 use Rattle.std.specs.Prelude.{◌≡◌, ℕ, zero, suc, ◌+◌, ◌-◌, ◌/◌, ◌^◌, ◌==◌, ◌&&◌, ◌||◌, not, nat_lt, nat_le, Bool, true, false, if◌then◌else◌, List, [], ◌∷◌, length, reverse}
 use Rattle.sbp_base.specs.Quadlets.{quad}
@@ -14,7 +14,7 @@ use Rattle.sbp_journal.specs.declared.note.Note.{Note}
 use Rattle.sbp_journal.specs.declared.note.Note.TheVariants as notes
 use Rattle.sbp_laws.specs.Packets.{is_under_way, id_of, id_for}
 use Rattle.sbp_laws.specs.Budget.{flies, initiators}
-use Rattle.sbp_laws.specs.Deliveries.{IsDelivery, IsTurnOf, AreDeliveries, SettlesWithin}
+use Rattle.sbp_laws.specs.Deliveries.{IsDelivery, IsTurnOf, AreDeliveries, Settles}
 
 -- one of two conditions, by a test
 abbrev pub Either : Bool → Type 0 → Type 0 → Type 0
@@ -56,8 +56,7 @@ injected wire i nodes bytes =
     notes.Injected (wire.count + 1)
     ∷ notes.Sent (wire.count + 1) (wire.generation (suc i)) (suc i) (node_from wire i nodes 0 (high_half (quad bytes 0))) bytes ∷ []
 
--- The notes of the line with this number, in the order of time, behind what stood before it. Of an action nothing is said here; and of a
--- settle not what its budget is.
+-- The notes of the line with this number, in the order of time, behind what stood before it. Of an action nothing is said here.
 abbrev pub BringsLine : List Disk → List Moment → ℕ → Event → List Note → Type 0
 BringsLine disks past line (events.Begin count ready) told = told ≡ notes.Begin count ready ∷ []
 BringsLine disks past line (events.Act i action) told = Unit {0}
@@ -66,7 +65,7 @@ BringsLine disks past line (events.Repeat serial) told = Either (may_repeat (ter
 BringsLine disks past line (events.Lose serial) told = told ≡ (if flies ((terms past).flight serial) then notes.Lost serial ∷ [] else refused line 11)
 BringsLine disks past line (events.Timeout serial) told = Either (is_under_way (terms past) serial) (IsTurnOf (notes.TimedOut serial) told) (told ≡ refused line 11)
 BringsLine disks past line (events.Step count) told = AreDeliveries (asked line (events.Step count) ∷ past) count told
-BringsLine disks past line events.Settle told = (most : ℕ) × SettlesWithin most (asked line events.Settle ∷ past) told
+BringsLine disks past line events.Settle told = Settles (asked line events.Settle ∷ past) told
 BringsLine disks past line (events.Reset physical) told = told ≡ notes.Reset ((terms past).bus + 1) ∷ []
 BringsLine disks past line (events.See node) told = IsTurnOf (notes.Seen node (terms past).bus) told
 BringsLine disks past line events.Tick told = IsTurnOf notes.Tick told

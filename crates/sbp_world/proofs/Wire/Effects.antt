@@ -20,3 +20,24 @@ more (first ∷ told) side h e = (h.0, more told side h.1 e)
 pub pick_outbox : (b : Bool) (x y : OutboxState) → AreEffectSides x.sides → AreEffectSides y.sides → AreEffectSides (cond b x y).sides
 pick_outbox true x y h i = h
 pick_outbox false x y h i = i
+
+-- a node that tells no note in its own words
+abbrev pub IsOtherSide : Side → Type 0
+IsOtherSide (sides.Own note) = ⊥
+IsOtherSide _ = Unit {0}
+
+abbrev pub AreOtherSides : List Side → Type 0
+AreOtherSides [] = Unit {0}
+AreOtherSides (side ∷ told) = IsOtherSide side × AreOtherSides told
+
+pub more_others : (told : List Side) (side : Side) → AreOtherSides told → IsOtherSide side → AreOtherSides (told ++ side ∷ [])
+more_others [] side h e = (e, tt)
+more_others (first ∷ told) side h e = (h.0, more_others told side h.1 e)
+
+one_effect : (side : Side) → IsOtherSide side → IsEffectSide side
+one_effect (sides.Own note) h = absurd h
+one_effect side h = tt
+
+pub others_effects : (told : List Side) → AreOtherSides told → AreEffectSides told
+others_effects [] h = tt
+others_effects (side ∷ told) h = (one_effect side h.0, others_effects told h.1)

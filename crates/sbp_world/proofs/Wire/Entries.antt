@@ -1,8 +1,10 @@
 -- The lines of the bus, over every run.
-use Rattle.std.specs.Prelude.{◌≡◌, ◌≤◌, ◌<◌, ℕ, zero, suc, ◌+◌, ◌^◌, nat_lt, Bool, true, false, if◌then◌else◌, List, [], ◌∷◌, ◌++◌, length, map, reverse, Option, Some, None, refl}
-use Rattle.std.proofs.Common.{arith, sym, ◌∙◌, ap, subst, inl, inr}
+use Rattle.std.specs.Prelude.{◌≡◌, ◌≤◌, ◌<◌, ℕ, zero, suc, ◌+◌, ◌*◌, ◌^◌, min, nat_lt, Bool, true, false, if◌then◌else◌, List, [], ◌∷◌, ◌++◌, length, map, reverse, Option, Some, None, refl}
+use Rattle.std.proofs.Common.{arith, sym, ◌∙◌, ap, subst}
 use Rattle.std.proofs.lemmas.List.{reverse-reverse}
 use Rattle.std.specs.List.{AllByRecursion}
+use Rattle.packet_store.specs.Kept.{flying}
+use Rattle.packet_store.specs.Stored.{Stored}
 use Rattle.rbc_disk.specs.Disk.{Disk}
 use Rattle.rbc_disk.specs.Runs.{Told}
 use Rattle.sbp_initiator.specs.Acting.{act_step}
@@ -18,7 +20,7 @@ use Rattle.sbp_journal.specs.declared.note.Note.TheVariants as notes
 use Rattle.sbp_journal.specs.declared.side.Side.{Side}
 use Rattle.sbp_journal.specs.declared.side.Side.TheVariants as sides
 use Rattle.sbp_journal.specs.Form.{HasForm}
-use Rattle.sbp_laws.specs.Budget.{flies, initiators}
+use Rattle.sbp_laws.specs.Budget.{count_flying, flies, initiators, most_deliveries, settle_deliveries, shares}
 use Rattle.sbp_laws.specs.Lawful.{injectors}
 use Rattle.sbp_laws.specs.OnceLaw.{OnceLaw, is_wild}
 use Rattle.sbp_laws.specs.OnTheBus.{HasFormAt, LawfulOnTheBus}
@@ -29,6 +31,7 @@ use Rattle.sbp_world.specs.Forms.{AreForms}
 use Rattle.sbp_laws.specs.Deliveries.{AreLowest, EndsSettle, IsDelivery, IsTurnOf, SettlesWithin}
 use Rattle.sbp_laws.specs.LineLaw.{BringsLine, Either, LineLaw, injected as law_injected, may_inject, may_repeat as law_repeats, refused as law_refused}
 use Rattle.sbp_world.specs.Histories.{history_of, moments_behind}
+use Rattle.sbp_bus.specs.Loads.{lists_weight}
 use Rattle.sbp_world.specs.Lines.{MayHappen, MayTellIn, acted, acted_by, happens, happens_to, weight_in}
 use Rattle.sbp_world.specs.Runs.{AreEntries, Entry, Run, after, beginning}
 use Rattle.sbp_world.specs.Settling.{budget}
@@ -42,7 +45,9 @@ use Rattle.sbp_world.specs.Wire.Journal.{journal_entries, journal_run}
 use Rattle.sbp_world.specs.Wire.Lines.{AreLines, BusLaw, IsLine}
 use Rattle.sbp_world.specs.Wire.Wires.{Stands}
 use Rattle.sbp_world.proofs.Wire.Begun.{NoneBegins, delivered_none, effects_none, none_append, same_initiators, step_none}
+use Rattle.sbp_world.proofs.Wire.Bus.{holds}
 use Rattle.sbp_world.proofs.Wire.Brings.{deliver_brings, inject_brings, key_brings, lose_brings, repeat_brings, reset_brings, see_brings, settle_brings, tick_brings, timeout_brings, up_to_brings}
+use Rattle.sbp_world.proofs.Wire.Flown.{flown_are}
 use Rattle.sbp_world.proofs.Wire.Gains.{all_sent}
 use Rattle.sbp_world.proofs.Wire.Holding.{Sound, own_has, to_target}
 use Rattle.sbp_world.proofs.Wire.Lowest.{reversed}
@@ -52,6 +57,7 @@ use Rattle.sbp_world.proofs.Wire.Received.{IsTarget}
 use Rattle.sbp_world.proofs.Wire.Runs.{sound_after}
 use Rattle.sbp_world.proofs.Wire.Sizes.{Sizes, happens_keeps, new_sizes, sizes}
 use Rattle.sbp_world.proofs.Wire.Sound.{opens}
+use Rattle.sbp_world.proofs.Wire.Spent.{weighs_after}
 use Rattle.sbp_world.proofs.Wire.ToldBytes.{AreTold, happened_fits}
 
 -- ---- notes of the lines of the bus begin no run
@@ -122,7 +128,7 @@ none_by disks past line (events.Repeat serial) told o b = none_either (law_repea
 none_by disks past line (events.Lose serial) told o b = none_lost (flies ((terms past).flight serial)) line serial told b
 none_by disks past line (events.Timeout serial) told o b = none_timed (is_under_way (terms past) serial) line serial told b
 none_by disks past line (events.Step count) told o b = none_lowest (asked line (events.Step count) ∷ past) told b.lowest
-none_by disks past line events.Settle told o b = none_settled b.0 (asked line events.Settle ∷ past) told b.1
+none_by disks past line events.Settle told o b = none_settled (settle_deliveries (asked line events.Settle ∷ past)) (asked line events.Settle ∷ past) told b
 none_by disks past line (events.Reset physical) told o b = subst NoneBegins (sym b) (refl, tt)
 none_by disks past line (events.See node) told o b = none_turn (notes.Seen node (terms past).bus) told (refl, tt) b
 none_by disks past line events.Tick told o b = none_turn notes.Tick told (refl, tt) b
@@ -180,9 +186,21 @@ module _ (targets : FittingLaw) (own_fits : OwnFittingLaw) where
       to_target w.generations.seen i (initiator_at w i).target
       ((own_fits (own_has w.generations.seen i) (own_has w.generations.seen i)).target_there (initiator_at w i) (sound.nodes.own.holds i inside))
 
-  module _ {past : List Moment} {lines : ℕ} (disks : List Disk) (s : Scene) (sound : Sound past lines s.world) (units : length s.world.target.units ≡ length disks) (counted : length s.world.initiators ≡ initiators (map said s.world.fresh ++ past)) where
+  module _ {past : List Moment} {lines : ℕ} (disks : List Disk) (s : Scene) (sound : Sound past lines s.world) (units : length s.world.target.units ≡ length disks) (counted : length s.world.initiators ≡ initiators (map said s.world.fresh ++ past)) (weighs : lists_weight s.world.loads ≡ shares (map said s.world.fresh ++ past) (map said s.world.fresh ++ past)) where
     abbrev before : List Moment
     before = map said s.world.fresh ++ past
+
+    -- what the world counts for a settle is what the law says
+    budget_here : (line : ℕ) → budget (begun s).world ≡ settle_deliveries (asked line events.Settle ∷ before)
+    unfolding budget
+    budget_here line =
+        let h = sound.stands in
+        let flown : length (flying s.world.store.kept) ≡ count_flying (terms before).flight (terms before).count =
+        ap (λ (st : Stored). length (flying st.kept)) (sym h.is.store_is)
+        ∙ (sym (flown_are (holds h.wire h.reached).follows) ∙ ap (λ p. count_flying (terms p).flight (terms p).count) h.is.past_is) in
+        ap (λ x. min (4 * x + lists_weight s.world.loads + 600 * length s.world.initiators) most_deliveries) flown
+        ∙ (ap (λ x. min (4 * count_flying (terms before).flight (terms before).count + x + 600 * length s.world.initiators) most_deliveries) weighs
+        ∙ ap (λ x. min (4 * count_flying (terms before).flight (terms before).count + shares before before + 600 * x) most_deliveries) counted)
 
     brings_line : (line : ℕ) (event : Event) (told_now : List (Option Told)) → IsLine event (length s.world.initiators) → AreTold told_now → MayTellIn event told_now (begun s) → BringsLine disks before line event (reverse (happens_to line event told_now (begun s)).world.fresh)
     brings_line line (events.Begin n ready) told_now q t may = absurd q
@@ -210,7 +228,8 @@ module _ (targets : FittingLaw) (own_fits : OwnFittingLaw) where
     brings_line line (events.Step count) told_now q t may =
         up_to_brings targets own_fits (begun s) (opens line (events.Step count) s.world refl sound) refl refl count told_now t may
     brings_line line events.Settle told_now q t may =
-        (budget (begun s).world, settle_brings targets own_fits (begun s) (opens line events.Settle s.world refl sound) refl refl (budget (begun s).world) told_now t may)
+        subst (λ most. SettlesWithin most (asked line events.Settle ∷ before) (reverse (happens_to line events.Settle told_now (begun s)).world.fresh)) (budget_here line)
+        (settle_brings targets own_fits (begun s) (opens line events.Settle s.world refl sound) refl refl (budget (begun s).world) told_now t may)
     brings_line line (events.Reset physical) told_now q t may =
         reset_brings s.world sound.stands physical ∙ ap (λ p. notes.Reset ((terms p).bus + 1) ∷ []) sound.stands.is.past_is
     brings_line line (events.See node) told_now q t may =
@@ -254,10 +273,12 @@ module _ (targets : FittingLaw) (own_fits : OwnFittingLaw) where
       let s = after (beginning run) before in
       let size = after_sizes run before in
       let fits = happened_fits e.event e.told s all.0.may in
+      let weighs : lists_weight s.world.loads ≡ shares (map said s.world.fresh ++ b.past) (map said s.world.fresh ++ b.past) =
+      subst (λ p. lists_weight s.world.loads ≡ shares p p) (sym b.is) (weighs_after line run before (omega arith) all.1 fit.1) in
       let same_units : length s.world.target.units ≡ length run.start.disks = ap (λ (z : Sizes). z.1) size ∙ units in
       let same_count : length s.world.initiators ≡ initiators (map said s.world.fresh ++ b.past) = ap (λ (z : Sizes). z.0) size ∙ sym so_far.counted ∙ ap initiators (sym b.is) in
-      let brings = brings_line run.start.disks s b.sound same_units same_count e.line e.event e.told fit.0 fits all.0.may in
-      let none = begins_none run.start.disks s b.sound same_units same_count e.line e.event e.told fit.0 fits all.0.may in
+      let brings = brings_line run.start.disks s b.sound same_units same_count weighs e.line e.event e.told fit.0 fits all.0.may in
+      let none = begins_none run.start.disks s b.sound same_units same_count weighs e.line e.event e.told fit.0 fits all.0.may in
       record {
         lines = (
           subst (λ ns. BringsLine run.start.disks (history (journal_entries line run before)) e.line e.event (reverse ns)) (sym all.0.notes_are)

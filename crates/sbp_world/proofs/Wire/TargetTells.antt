@@ -1,4 +1,4 @@
--- What the target tells in each call is the effects of a turn: it tells no note in its own words.
+-- The target tells no note in its own words.
 use Rattle.std.proofs.Common.{ℕ, zero, suc, ◌+◌, nat_lt, is_some, Bool, true, false, cond, List, [], length, slice_index_or, Option, Some, None, Result, Ok, Err}
 use Rattle.async_packet.specs.Labels.{LabelParts}
 use Rattle.async_packet.specs.Packet.{Packet, header_in}
@@ -53,10 +53,10 @@ use Rattle.sbp_target.specs.Management.{manager_body, place_in, cut_placed, tell
 use Rattle.sbp_target.specs.Replies.{Stage, stage, Whole, scene_of, came, changed_by, announced_by, follow_all, advanced_with, advance, replied, replied_by, replied_to, served_login}
 use Rattle.sbp_target.specs.Serving.{accessed_by, answered, asked_in, enabled, is_barred, point, pointed_by, request_step as served_step, ring, rung_by, serve, served_as, start, started_by}
 use Rattle.sbp_target.specs.Receiving.{answer_in, concluded, expired, expired_with, expired_by, expire_agent, expired_in, expired_from, held_from, judged_scene, received, received_as, reset_by, seen, tell_held, ticked, ticked_by, timed_out, cleared_node, with_layer}
-use Rattle.sbp_world.proofs.Wire.Effects.{AreEffectSides, more}
+use Rattle.sbp_world.proofs.Wire.Effects.{AreOtherSides, more_others}
 
 abbrev pub In : Scene → Type 0
-In s = AreEffectSides s.outbox.sides
+In s = AreOtherSides s.outbox.sides
 
 pick : (b : Bool) (x y : Scene) → In x → In y → In (cond b x y)
 pick true x y h i = h
@@ -64,19 +64,19 @@ pick false x y h i = i
 
 -- ---- what is told
 
-ran_tells : (place : ℕ) (m : Machine) (x : Option Outcome) (o : OutboxState) → AreEffectSides o.sides → AreEffectSides (tell_ran place m x o).sides
+ran_tells : (place : ℕ) (m : Machine) (x : Option Outcome) (o : OutboxState) → AreOtherSides o.sides → AreOtherSides (tell_ran place m x o).sides
 ran_tells place m None o h = h
-ran_tells place m (Some outcome) o h = more o.sides (sides.Ran place (orb_of m) m.orb.cdb m.payload outcome) h tt
+ran_tells place m (Some outcome) o h = more_others o.sides (sides.Ran place (orb_of m) m.orb.cdb m.payload outcome) h tt
 
-dead_tells : (place : ℕ) (x : Option FailCause) (o : OutboxState) → AreEffectSides o.sides → AreEffectSides (tell_dead place x o).sides
+dead_tells : (place : ℕ) (x : Option FailCause) (o : OutboxState) → AreOtherSides o.sides → AreOtherSides (tell_dead place x o).sides
 dead_tells place None o h = h
-dead_tells place (Some cause) o h = more o.sides (sides.Dead place cause) h tt
+dead_tells place (Some cause) o h = more_others o.sides (sides.Dead place cause) h tt
 
-ended_tells : (place : ℕ) (m : Machine) (x : Option StatusKind) (o : OutboxState) → AreEffectSides o.sides → AreEffectSides (tell_ended place m x o).sides
+ended_tells : (place : ℕ) (m : Machine) (x : Option StatusKind) (o : OutboxState) → AreOtherSides o.sides → AreOtherSides (tell_ended place m x o).sides
 ended_tells place m None o h = h
-ended_tells place m (Some status) o h = more o.sides (sides.Ended place (orb_of m) status) h tt
+ended_tells place m (Some status) o h = more_others o.sides (sides.Ended place (orb_of m) status) h tt
 
-step_tells : (place : ℕ) (m : Machine) (step : AgentStep) (o : OutboxState) → AreEffectSides o.sides → AreEffectSides (tell_step place m step o).sides
+step_tells : (place : ℕ) (m : Machine) (step : AgentStep) (o : OutboxState) → AreOtherSides o.sides → AreOtherSides (tell_step place m step o).sides
 unfolding tell_step
 step_tells place m step o h =
     let a = tell_ran place m step.ran o in
@@ -86,44 +86,44 @@ notes_tell : (place : ℕ) (step : AgentStep) (s : Scene) → In s → In (noted
 unfolding noted
 notes_tell place step s h = step_tells place (desk_at s.node place).agent step s.outbox h
 
-failed_tells : (source : ℕ) (x : Option FailCause) (o : OutboxState) → AreEffectSides o.sides → AreEffectSides (tell_failed source x o).sides
+failed_tells : (source : ℕ) (x : Option FailCause) (o : OutboxState) → AreOtherSides o.sides → AreOtherSides (tell_failed source x o).sides
 failed_tells source None o h = h
-failed_tells source (Some cause) o h = more o.sides (sides.ManageFailed source cause) h tt
+failed_tells source (Some cause) o h = more_others o.sides (sides.ManageFailed source cause) h tt
 
-left_tells : (x : Option ℕ) (o : OutboxState) → AreEffectSides o.sides → AreEffectSides (tell_left x o).sides
+left_tells : (x : Option ℕ) (o : OutboxState) → AreOtherSides o.sides → AreOtherSides (tell_left x o).sides
 left_tells None o h = h
-left_tells (Some login) o h = more o.sides (sides.Left login) h tt
+left_tells (Some login) o h = more_others o.sides (sides.Left login) h tt
 
-held_tells_if : (b : Bool) (login : Login) (o : OutboxState) → AreEffectSides o.sides → AreEffectSides (cond b (with_side o (sides.Held login.login)) o).sides
-held_tells_if true login o h = more o.sides (sides.Held login.login) h tt
+held_tells_if : (b : Bool) (login : Login) (o : OutboxState) → AreOtherSides o.sides → AreOtherSides (cond b (with_side o (sides.Held login.login)) o).sides
+held_tells_if true login o h = more_others o.sides (sides.Held login.login) h tt
 held_tells_if false login o h = h
 
-held_tells : (login : Option Login) (o : OutboxState) → AreEffectSides o.sides → AreEffectSides (tell_held login o).sides
+held_tells : (login : Option Login) (o : OutboxState) → AreOtherSides o.sides → AreOtherSides (tell_held login o).sides
 held_tells None o h = h
 held_tells (Some login) o h = held_tells_if (is_live login) login o h
 
-holds_tell : (left place : ℕ) (places : List (Option Login)) (o : OutboxState) → AreEffectSides o.sides → AreEffectSides (held_from left place places o).sides
+holds_tell : (left place : ℕ) (places : List (Option Login)) (o : OutboxState) → AreOtherSides o.sides → AreOtherSides (held_from left place places o).sides
 unfolding held_from
 holds_tell zero place places o h = h
 holds_tell (suc left) place places o h = holds_tell left (place + 1) places (tell_held (place_at places place) o) (held_tells (place_at places place) o h)
 
-expiries_tell : (left at : ℕ) (logins : List ℕ) (o : OutboxState) → AreEffectSides o.sides → AreEffectSides (expired_from left at logins o).sides
+expiries_tell : (left at : ℕ) (logins : List ℕ) (o : OutboxState) → AreOtherSides o.sides → AreOtherSides (expired_from left at logins o).sides
 unfolding expired_from
 expiries_tell zero at logins o h = h
 expiries_tell (suc left) at logins o h =
-    expiries_tell left (at + 1) logins (with_side o (sides.Expired (slice_index_or logins at 0))) (more o.sides (sides.Expired (slice_index_or logins at 0)) h tt)
+    expiries_tell left (at + 1) logins (with_side o (sides.Expired (slice_index_or logins at 0))) (more_others o.sides (sides.Expired (slice_index_or logins at 0)) h tt)
 
 -- ---- what is asked tells nothing
 
-sends : (peer : ℕ) (r : Option Asked × Layer Purpose) (o : OutboxState) → AreEffectSides o.sides → AreEffectSides (sent_by r o peer).1.1.sides
+sends : (peer : ℕ) (r : Option Asked × Layer Purpose) (o : OutboxState) → AreOtherSides o.sides → AreOtherSides (sent_by r o peer).1.1.sides
 sends peer (Some asked, layer) o h = h
 sends peer (None, layer) o h = h
 
-requests : (l : Layer Purpose) (o : OutboxState) (peer : ℕ) (body : Body) (purpose : Purpose) → AreEffectSides o.sides → AreEffectSides (request_step l o peer body purpose).1.1.sides
+requests : (l : Layer Purpose) (o : OutboxState) (peer : ℕ) (body : Body) (purpose : Purpose) → AreOtherSides o.sides → AreOtherSides (request_step l o peer body purpose).1.1.sides
 unfolding request_step
 requests l o peer body purpose h = sends peer (asking_step l peer body purpose) o h
 
-answers_by : (r : List ℕ × Layer Purpose) (o : OutboxState) (source : ℕ) → AreEffectSides o.sides → AreEffectSides (answered_by r o source).1.sides
+answers_by : (r : List ℕ × Layer Purpose) (o : OutboxState) (source : ℕ) → AreOtherSides o.sides → AreOtherSides (answered_by r o source).1.sides
 answers_by (bytes, layer) o source h = h
 
 answers : (request : Packet) (bytes : List ℕ) (rcode : ℕ) (given : List ℕ) (s : Scene) → In s → In (answered request bytes rcode given s)
@@ -132,7 +132,7 @@ answers request bytes rcode given s h = answers_by (answering_step s.node.layer 
 
 -- ---- what follows a step of an agent
 
-main_leaves : (place peer : ℕ) (node : NodeState) (r : Option LabelParts × (Layer Purpose × OutboxState)) → AreEffectSides r.1.1.sides → In (main_sent place peer node r).1
+main_leaves : (place peer : ℕ) (node : NodeState) (r : Option LabelParts × (Layer Purpose × OutboxState)) → AreOtherSides r.1.1.sides → In (main_sent place peer node r).1
 main_leaves place peer node (Some label, (layer, outbox)) h = h
 main_leaves place peer node (None, (layer, outbox)) h = h
 
@@ -157,7 +157,7 @@ loses : (place : ℕ) (login : Login) (which : Which) (s : Scene) → In s → I
 unfolding lose
 loses place login which s h = loses_if (is_under_way which (desk_at s.node place).agent) place login which s h
 
-ahead_leaves : (place peer : ℕ) (node : NodeState) (r : Option LabelParts × (Layer Purpose × OutboxState)) → AreEffectSides r.1.1.sides → In (ahead_sent place peer node r).1
+ahead_leaves : (place peer : ℕ) (node : NodeState) (r : Option LabelParts × (Layer Purpose × OutboxState)) → AreOtherSides r.1.1.sides → In (ahead_sent place peer node r).1
 ahead_leaves place peer node (Some label, (layer, outbox)) h = h
 ahead_leaves place peer node (None, (layer, outbox)) h = h
 
@@ -198,9 +198,9 @@ follows place login step s h =
 
 -- ---- cuts, cleared units and effects
 
-cut_tells : (b : Bool) (place : ℕ) (cause : CutCause) (o : OutboxState) → AreEffectSides o.sides → AreEffectSides (told_cut b place cause o).sides
+cut_tells : (b : Bool) (place : ℕ) (cause : CutCause) (o : OutboxState) → AreOtherSides o.sides → AreOtherSides (told_cut b place cause o).sides
 cut_tells true place cause o h = h
-cut_tells false place cause o h = more o.sides (sides.Cut place cause) h tt
+cut_tells false place cause o h = more_others o.sides (sides.Cut place cause) h tt
 
 cuts_at : (cause : CutCause) (place : ℕ) (s : Scene) → In s → In (cut cause place s)
 unfolding cut
@@ -224,7 +224,7 @@ cuts_placed (Some place) cause s h = cuts_at cause place s h
 
 clears : (unit : ℕ) (s : Scene) → In s → In (clear_unit unit s)
 unfolding clear_unit
-clears unit s h = more s.outbox.sides (sides.Cleared unit) h tt
+clears unit s h = more_others s.outbox.sides (sides.Cleared unit) h tt
 
 clears_from : (left unit : ℕ) (s : Scene) → In s → In (clear_from left unit s)
 unfolding clear_from
@@ -237,9 +237,9 @@ clears_one unit s h = pick (nat_lt unit (length s.node.units)) (clear_unit unit 
 affects : (effect : Effect) (login : ℕ) (s : Scene) → In s → In (effect_by effect login s)
 affects effects.Nothing login s h = h
 affects (effects.Entered place replaced) login s h = left_tells replaced s.outbox h
-affects (effects.Back place) login s h = more s.outbox.sides (sides.Back login) h tt
+affects (effects.Back place) login s h = more_others s.outbox.sides (sides.Back login) h tt
 affects (effects.Left place) login s h =
-    let t = cut_placed (place_in place) cuts.Logout s in more t.outbox.sides (sides.Left login) (cuts_placed (place_in place) cuts.Logout s h) tt
+    let t = cut_placed (place_in place) cuts.Logout s in more_others t.outbox.sides (sides.Left login) (cuts_placed (place_in place) cuts.Logout s h) tt
 affects (effects.Abort place orb) login s h = h
 affects (effects.AbortSet place) login s h = cuts_placed (place_in place) cuts.AbortSet s h
 affects (effects.UnitReset unit) login s h = clears_one unit (cut_all cuts.UnitReset (Some unit) s) (cuts_all cuts.UnitReset (Some unit) s h)
@@ -251,20 +251,20 @@ unfolding decided_by
 decides None effect source s h = h
 decides (Some d) effect source s h =
     let t = effect_by effect d.subject s in
-    more t.outbox.sides (sides.Managed source d.function d.subject d.status d.login) (affects effect d.subject s h) tt
+    more_others t.outbox.sides (sides.Managed source d.function d.subject d.status d.login) (affects effect d.subject s h) tt
 
 -- ---- unsolicited statuses
 
-announced : (place peer : ℕ) (node : NodeState) (r : Option LabelParts × (Layer Purpose × OutboxState)) → AreEffectSides r.1.1.sides → In (unsolicited_by place peer node r)
-announced place peer node (Some label, (layer, outbox)) h = more outbox.sides (sides.Unsolicited place) h tt
-announced place peer node (None, (layer, outbox)) h = more outbox.sides (sides.Unsent place) h tt
+announced : (place peer : ℕ) (node : NodeState) (r : Option LabelParts × (Layer Purpose × OutboxState)) → AreOtherSides r.1.1.sides → In (unsolicited_by place peer node r)
+announced place peer node (Some label, (layer, outbox)) h = more_others outbox.sides (sides.Unsolicited place) h tt
+announced place peer node (None, (layer, outbox)) h = more_others outbox.sides (sides.Unsent place) h tt
 
 announces_to : (place : ℕ) (login : Login) (s : Scene) → In s → In (announce_to place login s)
 unfolding announce_to
 announces_to place login s h =
     let r = request_step s.node.layer s.outbox login.node (block_write login.fifo block) purposes.Unsolicited in
     pick (is_pending login.node s.node.pending) (scene s.node (with_side s.outbox (sides.Unsent place))) (unsolicited_by place login.node s.node r)
-    (more s.outbox.sides (sides.Unsent place) h tt)
+    (more_others s.outbox.sides (sides.Unsent place) h tt)
     (announced place login.node s.node r (requests s.node.layer s.outbox login.node (block_write login.fifo block) purposes.Unsolicited h))
 
 announces_in : (unit from place : ℕ) (login : Option Login) (s : Scene) → In s → In (announce_in unit from place login s)
@@ -324,7 +324,7 @@ loses_operation : (s : Scene) → In s → In (lose_operation s)
 unfolding lose_operation
 loses_operation s h = loses_in (management.source_in s.node.manager.operation) s h
 
-manager_leaves : (node : NodeState) (r : Option LabelParts × (Layer Purpose × OutboxState)) → AreEffectSides r.1.1.sides → In (manager_sent node r)
+manager_leaves : (node : NodeState) (r : Option LabelParts × (Layer Purpose × OutboxState)) → AreOtherSides r.1.1.sides → In (manager_sent node r)
 manager_leaves node (Some label, (layer, outbox)) h = h
 manager_leaves node (None, (layer, outbox)) h = loses_operation (scene (record node { layer = layer }) outbox) h
 
@@ -361,7 +361,7 @@ points_by : (place : ℕ) (request : Packet) (bytes : List ℕ) (r : Result Ask 
 points_by place request bytes (Ok ask, desk) s h =
     let t = scene (with_desk s.node place desk) (with_side s.outbox (sides.Opened place (orb_of desk.agent))) in
     let u = answered request bytes 0 [] t in
-    asked_tells place ask (login_at u.node place) u (answers request bytes 0 [] t (more s.outbox.sides (sides.Opened place (orb_of desk.agent)) h tt))
+    asked_tells place ask (login_at u.node place) u (answers request bytes 0 [] t (more_others s.outbox.sides (sides.Opened place (orb_of desk.agent)) h tt))
 points_by place request bytes (Err refusal, desk) s h =
     answers request bytes _ [] (scene (with_desk s.node place desk) s.outbox) h
 

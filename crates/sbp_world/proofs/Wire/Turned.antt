@@ -18,7 +18,7 @@ use Rattle.sbp_laws.specs.Deliveries as laws
 use Rattle.sbp_laws.specs.Deliveries.{AreEffects}
 use Rattle.sbp_target.specs.Nodes.{NodeState}
 use Rattle.sbp_target.specs.Nodes as target
-use Rattle.sbp_target.specs.Receiving.{expired, received}
+use Rattle.sbp_target.specs.Receiving.{expired, received, seen, ticked}
 use Rattle.sbp_target.specs.Replies.{Whole}
 use Rattle.sbp_world.specs.declared.parts.delivering.Arrival.{Arrival}
 use Rattle.sbp_bus.specs.declared.requests.Request.{Request}
@@ -30,7 +30,7 @@ use Rattle.sbp_world.specs.Nodes as nodes
 use Rattle.sbp_world.specs.Packets as packets
 use Rattle.sbp_world.specs.Packets.{expires, initiator_expires, target_expired, target_left}
 use Rattle.sbp_world.specs.Worlds.{Scene, WorldState, initiator_at, with_note}
-use Rattle.sbp_world.proofs.Wire.Effects.{AreEffectSides}
+use Rattle.sbp_world.proofs.Wire.Effects.{AreEffectSides, others_effects}
 use Rattle.sbp_world.proofs.Wire.Gains.{Gains, hands_out}
 use Rattle.sbp_world.proofs.Wire.OwnTells as own
 use Rattle.sbp_world.proofs.Wire.TargetTells as target_tells
@@ -61,7 +61,7 @@ target_tell : (told : Option Told) (sent : Sent) (old : NodeState) (media : Held
 unfolding target_received
 target_tell told sent old media =
     left_tells (received told sent.generation sent.bytes (whole_of old media)) (faults_after told sent old media)
-    (target_tells.receives told sent.generation sent.bytes (whole_of old media) tt)
+    (others_effects (received told sent.generation sent.bytes (whole_of old media)).1.outbox.sides (target_tells.receives told sent.generation sent.bytes (whole_of old media) tt))
 
 listed_tells : (i : ℕ) (r : Judged × (OutboxState × InitiatorState)) (states : List InitiatorState) → AreEffectSides r.1.0.sides → AreEffectSides (listed i r states).1.0.sides
 listed_tells i (judged, (outbox, state)) states h = h
@@ -155,11 +155,11 @@ initiator_pair i (outbox, state) w h = record { sides = h; before = refl }
 
 sight_tells : (generation id : ℕ) (node : NodeState) → AreEffectSides (target_sees generation id node).0.sides
 unfolding target_sees
-sight_tells generation id node = target_tells.sees generation id (target.scene node empty_outbox) tt
+sight_tells generation id node = others_effects (seen generation id (target.scene node empty_outbox)).1.outbox.sides (target_tells.sees generation id (target.scene node empty_outbox) tt)
 
 second_tells : (node : NodeState) → AreEffectSides (target_ticks node).0.sides
 unfolding target_ticks
-second_tells node = target_tells.ticks (target.scene node empty_outbox) tt
+second_tells node = others_effects (ticked (target.scene node empty_outbox)).outbox.sides (target_tells.ticks (target.scene node empty_outbox) tt)
 
 learns : (node : ℕ) (w : WorldState) → Learns (sees node w) w
 unfolding sees
@@ -199,7 +199,7 @@ target_left_tells (Err stale, s) old h = tt
 target_expiry : (request : Request) (node : NodeState) → AreEffectSides (target_expired request node).1.0.sides
 unfolding target_expired
 target_expiry request node =
-    target_left_tells (expired request.peer request.label (target.scene node empty_outbox)) node (target_tells.expires request.peer request.label (target.scene node empty_outbox) tt)
+    target_left_tells (expired request.peer request.label (target.scene node empty_outbox)) node (others_effects (expired request.peer request.label (target.scene node empty_outbox)).1.outbox.sides (target_tells.expires request.peer request.label (target.scene node empty_outbox) tt))
 
 target_ends : (r : Bool × (OutboxState × NodeState)) (w : WorldState) → AreEffectSides r.1.0.sides → Ends (packets.at_target r w) w
 target_ends (done, (outbox, node)) w h = record { sides = h; before = refl }

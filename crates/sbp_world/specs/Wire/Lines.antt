@@ -1,6 +1,7 @@
 -- The laws of the wire over every run of a world: each line of it is a list of moves of the wire.
 use Rattle.std.specs.Prelude.{◌≡◌, ◌≤◌, ◌<◌, ℕ, suc, ◌+◌, ◌^◌, Bool, List, [], ◌∷◌, ◌++◌, length, map, slice_index_or}
 use Rattle.std.specs.List.{All}
+use Rattle.sbp_initiator.specs.Acting.{IsAction}
 use Rattle.sbp_world.specs.FitInitiator.{BytesAction}
 use Rattle.sbp_journal.specs.Run.{Moment, asked, said, history}
 use Rattle.sbp_journal.specs.declared.event.Event.{Event}
@@ -25,7 +26,7 @@ pub record HasIds (physical : List ℕ) (nodes : ℕ) : Type 0 where
 -- below 256.
 abbrev pub IsLine : Event → (initiators : ℕ) → Type 0
 IsLine (events.Begin initiators ready) n = ⊥
-IsLine (events.Act initiator action) n = (initiator < n) × BytesAction action
+IsLine (events.Act initiator action) n = (initiator < n) × BytesAction action × IsAction action
 IsLine (events.Reset physical) n = HasIds physical (suc n)
 IsLine (events.See node) n = node ≤ n
 IsLine (events.Inject initiator bytes) n = (initiator < n) × All (λ byte. byte < 256) bytes
