@@ -9,7 +9,7 @@ ghost use Rattle.rbc_disk.specs.Units.{plain_disk};
 ghost use Rattle.rbc_disk.specs.Runs.{told_in, left_by};
 ghost use Rattle.sbp_target.specs.Replies.{plain_in};
 
-use crate::place::LoginPlace;
+use target_base::LoginPlace;
 use command_agent::{Agent, AgentStep, Which};
 use orb_layout::Reply;
 use rbc_disk::{Medium, Unit};

@@ -1,7 +1,7 @@
 ghost use Rattle.std.specs.Prelude.{◌≡◌};
 ghost use Rattle.sbp_target.specs.Sending.{is_sent_as};
 
-use crate::place::LoginPlace;
+use target_base::LoginPlace;
 use async_packet::Label;
 use sbp_base::NodeId;
 

@@ -1,7 +1,7 @@
 ghost use Rattle.std.specs.Prelude.{◌≡◌, ◌<◌, OnOk};
 ghost use Rattle.sbp_target.specs.Telling.{orb_of, tell_dead, tell_ended, tell_ran, tell_step};
 
-use crate::place::LoginPlace;
+use target_base::LoginPlace;
 use command_agent::{Agent, AgentStep};
 use orb_layout::{FailCause, StatusKind};
 use rbc_disk::Outcome;

@@ -7,7 +7,7 @@ ghost use Rattle.sbp_target.specs.Management.{ask_manager, clear_one, decided_by
 
 use super::Node;
 use super::agents::agent_body;
-use crate::place::LoginPlace;
+use target_base::LoginPlace;
 use crate::purpose::Purpose;
 use crate::sending::send_request;
 use label_table::RequestBody;
@@ -147,7 +147,7 @@ impl Node {
         ensures units { length self.new.units ≡ length self.old.units }
     {
         if let Some(place) = place_in(place) {
-            let desk = &mut self.desks[usize::from(place.number())];
+            let desk = &mut self.desks[place.index()];
             desk.pointer = None;
             desk.is_enabled = false;
         }
@@ -171,7 +171,7 @@ impl Node {
         ensures units { length self.new.units ≡ length self.old.units }
     {
         if let Some(place) = place_in(place) {
-            self.desks[usize::from(place.number())].is_enabled = false;
+            self.desks[place.index()].is_enabled = false;
         }
     }
 
@@ -182,7 +182,7 @@ impl Node {
         ensures units { length self.new.units ≡ length self.old.units }
     {
         if let Some(place) = place_in(place) {
-            self.desks[usize::from(place.number())].agent.abort(orb);
+            self.desks[place.index()].agent.abort(orb);
         }
     }
 

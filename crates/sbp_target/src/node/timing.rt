@@ -7,7 +7,7 @@ ghost use Rattle.sbp_target.specs.Receiving.{expire_agent, expired, expired_from
 
 use super::Node;
 use crate::desk::Desk;
-use crate::place::LoginPlace;
+use target_base::LoginPlace;
 use crate::purpose::Purpose;
 use async_packet::Label;
 use label_table::{Stale, Transactions};
@@ -134,7 +134,7 @@ impl Node {
         let Some(which) = self.awaited(place, peer, label) else {
             return Ok(());
         };
-        let step = self.desks[usize::from(place.number())].expire(which);
+        let step = self.desks[place.index()].expire(which);
         self.follow(outbox, place, &login, step)
     }
 

@@ -29,6 +29,14 @@ impl LoginPlace {
         LoginPlace { number }
     }
 
+    /// The number as an index, below 8.
+    pub fn index(self) -> usize
+        ensures value { result ≡ self }
+        ensures small { self < 8 }
+    {
+        usize::from(self.number)
+    }
+
     /// The number, below 8.
     pub fn number(self) -> u8
         ensures value { result ≡ self }

@@ -3,14 +3,13 @@
 use Rattle.std.specs.Prelude.{◌≡◌, ℕ, ◌+◌, ◌-◌, ◌*◌, ◌/◌, ◌%◌, ◌^◌, ◌<◌, ◌≤◌, ◌==◌, ◌&&◌, ◌||◌, nat_le, nat_lt, is_some, Bool, true, false, if◌then◌else◌, List, length, Option, Some, None}
 use Rattle.orb_layout.specs.Pointers.{offset_at, pointer_at}
 use Rattle.async_packet.specs.Packet.{Packet, write_quadlet, write_block, read_quadlet, read_block, lock}
-use Rattle.label_table.specs.Bodies.{Gives}
-use Rattle.sbp_target.specs.declared.address.Register.{Register}
-use Rattle.sbp_target.specs.declared.address.Register.TheVariants as registers
-use Rattle.sbp_target.specs.declared.address.AgentRegister.{AgentRegister}
-use Rattle.sbp_target.specs.declared.address.Access.{Access}
-use Rattle.sbp_target.specs.declared.address.Access.TheVariants as accesses
-use Rattle.sbp_target.specs.declared.address.Demand.{Demand}
-use Rattle.sbp_target.specs.declared.address.Demand.TheVariants as demands
+use Rattle.target_base.specs.declared.address.Register.{Register}
+use Rattle.target_base.specs.declared.address.Register.TheVariants as registers
+use Rattle.target_base.specs.declared.address.AgentRegister.{AgentRegister}
+use Rattle.target_base.specs.declared.address.Access.{Access}
+use Rattle.target_base.specs.declared.address.Access.TheVariants as accesses
+use Rattle.target_base.specs.declared.address.Demand.{Demand}
+use Rattle.target_base.specs.declared.address.Demand.TheVariants as demands
 
 -- rcodes (IEEE 1394-1995)
 abbrev pub complete : ℕ
@@ -180,15 +179,3 @@ demand_of size p = demand_by (row_of (reached size p)) p
 abbrev pub IsWithin : ℕ → Demand → Type 0
 IsWithin size (demands.Rom at len) = at + len ≤ size
 IsWithin size found = Unit {0}
-
--- what is given where a request is served: as many bytes as it asks for
-abbrev pub SuitsAccess : Packet → Access → Type 0
-SuitsAccess p accesses.State = (given : List ℕ) → length given ≡ 4 → Gives p complete given
-SuitsAccess p accesses.Pointer = (given : List ℕ) → length given ≡ 8 → Gives p complete given
-SuitsAccess p access = (rcode : ℕ) (given : List ℕ) → Gives p rcode given
-
-abbrev pub Suits : Packet → Demand → Type 0
-Suits p (demands.Refused rcode) = (4 ≤ rcode) × (rcode < 2 ^ 4)
-Suits p (demands.Rom at len) = (given : List ℕ) → length given ≡ len → Gives p complete given
-Suits p (demands.Manage orb) = (rcode : ℕ) (given : List ℕ) → Gives p rcode given
-Suits p (demands.Agent place access) = SuitsAccess p access

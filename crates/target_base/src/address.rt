@@ -1,7 +1,7 @@
-ghost use Rattle.std.specs.Prelude.{◌≡◌, ◌≤◌, ◌<◌, ◌^◌, length, IfSome};
+ghost use Rattle.std.specs.Prelude.{◌≡◌, ◌≤◌, ◌<◌, ◌^◌, length};
 ghost use Rattle.orb_layout.specs.Pointers.{offset_at};
 ghost use Rattle.async_packet.specs.Packet.{view};
-ghost use Rattle.sbp_target.specs.Addresses.{IsWithin, Suits, SuitsAccess, accessed, demand_of, is_lock, is_read, is_write, is_start, length_in, managed, offset_in, register_at, register_by, reads_rom, served, writes_rom};
+ghost use Rattle.target_base.specs.Addresses.{IsWithin, accessed, demand_of, is_lock, is_read, is_write, is_start, length_in, managed, offset_in, register_at, register_by, reads_rom, served, writes_rom};
 
 use crate::place::LoginPlace;
 use async_packet::PacketRef;
@@ -9,7 +9,7 @@ use orb_layout::OrbPointer;
 use sbp_base::{Offset, quad_at};
 
 /// Where the configuration ROM begins (IEEE 1212).
-pub(crate) const ROM: u64 = 0xffff_f000_0400;
+const ROM: u64 = 0xffff_f000_0400;
 
 /// MANAGEMENT_AGENT.
 const MANAGEMENT: u64 = 0xffff_f001_0000;
@@ -21,19 +21,19 @@ const AGENTS: u64 = 0xffff_f004_0000;
 const AGENT_SIZE: u64 = 0x20;
 
 /// complete (IEEE 1394-1995, response codes).
-pub(crate) const COMPLETE: u8 = 0;
+pub const COMPLETE: u8 = 0;
 
 /// conflict_error.
-pub(crate) const CONFLICT: u8 = 4;
+pub const CONFLICT: u8 = 4;
 
 /// data_error.
-pub(crate) const DATA: u8 = 5;
+pub const DATA: u8 = 5;
 
 /// type_error.
-pub(crate) const TYPE: u8 = 6;
+pub const TYPE: u8 = 6;
 
 /// address_error.
-pub(crate) const ADDRESS: u8 = 7;
+pub const ADDRESS: u8 = 7;
 
 /// The registers of a command agent (NCITS 325-1998, command block agent registers).
 #[derive(Clone, Copy)]
@@ -95,7 +95,7 @@ fn register_by(distance: u64) -> Option<Register>
 
 /// The agent register that starts at an address.
 #[tactic(auto, unfolding(crate::specs::Addresses::register_at))]
-pub(crate) fn register_at(offset: Offset) -> Option<AgentRegister>
+pub fn register_at(offset: Offset) -> Option<AgentRegister>
     ensures { result ≡ register_at offset }
 {
     let offset = offset.value();
@@ -113,8 +113,7 @@ pub(crate) fn register_at(offset: Offset) -> Option<AgentRegister>
 /// What a request that is served asks of a register; there is nothing exactly where its kind or its
 /// length is another.
 fn accessed(register: Register, request: &PacketRef<'_>) -> Option<Access>
-    ensures access { result ≡ accessed register (view request.now) }
-    ensures suits { IfSome result (λ access. SuitsAccess (view request.now) access) }
+    ensures { result ≡ accessed register (view request.now) }
 {
     match (register, request) {
         (Register::AgentState, PacketRef::ReadQuadlet { .. }) => Some(Access::State),
@@ -151,8 +150,7 @@ fn address(bytes: &[u8]) -> Offset
 
 /// The operation that a write of MANAGEMENT_AGENT starts.
 fn managed(request: &PacketRef<'_>) -> Option<Demand>
-    ensures demand { result ≡ managed (view request.now) }
-    ensures suits { IfSome result (λ demand. Suits (view request.now) demand) }
+    ensures { result ≡ managed (view request.now) }
 {
     match request {
         PacketRef::WriteBlock { payload, .. } => {
@@ -167,8 +165,7 @@ fn managed(request: &PacketRef<'_>) -> Option<Demand>
 
 /// What a request is served with at a start other than the ROM's.
 fn served(offset: Offset, request: &PacketRef<'_>) -> Option<Demand>
-    ensures demand { result ≡ served offset (view request.now) }
-    ensures suits { IfSome result (λ demand. Suits (view request.now) demand) }
+    ensures { result ≡ served offset (view request.now) }
 {
     if offset.value() == MANAGEMENT {
         return managed(request);
@@ -186,7 +183,7 @@ fn is_start(offset: Offset) -> bool
 }
 
 /// The address that a request names; a response names none.
-pub(crate) fn offset_in(packet: &PacketRef<'_>) -> Offset
+pub fn offset_in(packet: &PacketRef<'_>) -> Offset
     ensures { result ≡ offset_in (view packet.now) }
 {
     match packet {
@@ -230,7 +227,7 @@ fn is_read(packet: &PacketRef<'_>) -> bool
 }
 
 /// A lock request neither reads nor writes.
-pub(crate) fn is_lock(packet: &PacketRef<'_>) -> bool
+pub fn is_lock(packet: &PacketRef<'_>) -> bool
     ensures { result ≡ is_lock (view packet.now) }
 {
     matches!(packet, PacketRef::Lock { .. })
@@ -258,11 +255,10 @@ fn reads_rom(size: usize, packet: &PacketRef<'_>) -> bool
 /// What a request that was got asks for, with a ROM of `size` bytes, 1,024 at most: the first row of
 /// the table of addresses that holds.
 #[tactic(auto, unfolding(crate::specs::Addresses::demand_of))]
-pub(crate) fn demand_of(size: usize, request: &PacketRef<'_>) -> Demand
+pub fn demand_of(size: usize, request: &PacketRef<'_>) -> Demand
     requires { size ≤ 1024 }
     ensures demand { result ≡ demand_of size (view request.now) }
     ensures within { IsWithin size result }
-    ensures suits { Suits (view request.now) result }
 {
     if is_lock(request) {
         return Demand::Refused(TYPE);
