@@ -6,7 +6,6 @@ ghost use Rattle.sbp_target.specs.Agents.{agent_body, ask_ahead, ask_main, cut, 
 ghost use Rattle.sbp_target.specs.Nodes.{scene};
 
 use super::Node;
-use target_base::LoginPlace;
 use crate::purpose::{Purpose, Sent};
 use crate::sending::send_request;
 use crate::telling::tell_step;
@@ -16,6 +15,7 @@ use login_table::Login;
 use orb_layout::{Ask, FailCause};
 use sbp_base::{NoMemory, NodeId, Offset};
 use sbp_journal::{CutCause, Outbox, Side};
+use target_base::LoginPlace;
 
 /// The most bytes of a payload.
 const LARGEST: u16 = 2048;

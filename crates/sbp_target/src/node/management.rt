@@ -7,7 +7,6 @@ ghost use Rattle.sbp_target.specs.Management.{ask_manager, clear_one, decided_by
 
 use super::Node;
 use super::agents::agent_body;
-use target_base::LoginPlace;
 use crate::purpose::Purpose;
 use crate::sending::send_request;
 use label_table::RequestBody;
@@ -15,6 +14,7 @@ use mgmt_agent::{Decision, Effect, ManagerStep};
 use orb_layout::{Ask, FailCause, Reply};
 use sbp_base::{NoMemory, NodeId, Offset};
 use sbp_journal::{CutCause, Outbox, Side};
+use target_base::LoginPlace;
 
 /// What the management agent asks for, as a request: a quadlet of an EUI-64 is read by a quadlet
 /// read, all else by blocks.

@@ -11,7 +11,6 @@ ghost use Rattle.sbp_target.specs.Replies.{Advances, RepliesTo, agent_step, foll
 
 use super::Node;
 use crate::media::{is_present_at, reply_at};
-use target_base::LoginPlace;
 use async_packet::Label;
 use command_agent::{AgentStep, Which};
 use login_table::Login;
@@ -19,6 +18,7 @@ use orb_layout::Reply;
 use rbc_disk::Medium;
 use sbp_base::{NoMemory, NodeId};
 use sbp_journal::Outbox;
+use target_base::LoginPlace;
 
 /// Whether a medium that is present was not before.
 fn came(was_present: bool, is_present: bool) -> bool

@@ -11,7 +11,6 @@ ghost use Rattle.sbp_target.specs.Units.{announce_at, announce_from, announce_to
 
 use super::Node;
 use crate::desk::Desk;
-use target_base::{COMPLETE, LoginPlace, mask_of};
 use crate::purpose::Purpose;
 use crate::sending::send_request;
 use async_packet::PacketRef;
@@ -20,6 +19,7 @@ use login_table::Login;
 use media_bay::write_unsolicited;
 use sbp_base::{NoMemory, NodeId};
 use sbp_journal::{CutCause, Outbox, Side};
+use target_base::{COMPLETE, LoginPlace, mask_of};
 
 /// The places of the table of logins.
 const PLACES: usize = 8;
