@@ -7,7 +7,7 @@ use Rattle.login_table.proofs.Kept.{after_kept, always}
 use Rattle.rbc_disk.specs.Held.{Held}
 use Rattle.sbp_journal.specs.Run.{Moment, asked, said}
 use Rattle.sbp_journal.specs.declared.note.Note.{Note}
-use Rattle.sbp_target.specs.Receiving.{ready_from, ready_login}
+use Rattle.target_base.specs.Beginning.{ready_from, ready_login}
 use Rattle.sbp_world.specs.Histories.{history_of, moments_behind, notes_behind}
 use Rattle.sbp_world.specs.Making.{new_world, notes_begin, ready_logins}
 use Rattle.sbp_bus.specs.Places.{new_places}

@@ -1,21 +1,17 @@
 -- What small functions do, by plain facts, so that their goals take no search.
 use Rattle.std.specs.Prelude.{◌≡◌, ℕ, ◌<◌, true, length, List, Option, Some, None, slice_set}
 use Rattle.std.proofs.Common.{arith, ap, ◌∙◌}
-use Rattle.async_packet.specs.declared.packet.Header.{Header}
-use Rattle.async_packet.specs.Packet.{write_block}
 use Rattle.label_table.specs.Layer.{Layer, seeing_step}
 use Rattle.login_table.specs.declared.login.Login.{Login}
-use Rattle.orb_layout.specs.Pointers.{offset_at}
 use Rattle.rbc_disk.specs.Units.{UnitState, cleared}
 use Rattle.sbp_journal.specs.declared.cause.CutCause.TheVariants as cuts
 use Rattle.sbp_journal.specs.declared.side.Side.TheVariants as sides
 use Rattle.sbp_journal.specs.Outgoings.{OutboxState}
-use Rattle.sbp_target.specs.declared.address.Demand.TheVariants as demands
 use Rattle.sbp_target.specs.declared.purpose.Purpose.{Purpose}
-use Rattle.sbp_target.specs.Addresses.{managed}
 use Rattle.sbp_target.specs.Sending.{with_side}
 use Rattle.sbp_target.specs.Nodes.{NodeState, Scene, scene, login_at, unit_at}
-use Rattle.sbp_target.specs.Units.{cut_all, clear_unit, mask_of}
+use Rattle.target_base.specs.Places.{mask_of}
+use Rattle.sbp_target.specs.Units.{cut_all, clear_unit}
 use Rattle.sbp_target.specs.Management.{cut_place, left_desk, logged_out}
 use Rattle.sbp_target.specs.Replies.{served_login}
 use Rattle.sbp_target.specs.Receiving.{cleared_node, held_all, reset_by, seen}
@@ -36,6 +32,3 @@ logged_so place login old mid node outbox m n o =
 pub clear_so : (unit logins : ℕ) (old : Scene) (units : List UnitState) (outbox : OutboxState) → logins ≡ mask_of unit None old.node.logins.places → units ≡ slice_set old.node.units unit (cleared (unit_at old.node unit) logins) → outbox ≡ with_side old.outbox (sides.Cleared unit) → scene (record old.node { units = units }) outbox ≡ clear_unit unit old
 unfolding clear_unit
 clear_so unit logins old units outbox m u o = cc
-
-pub managed_by : (header : Header) (offset orb : ℕ) (payload : List ℕ) → length payload ≡ 8 → orb ≡ offset_at payload 0 → Some (demands.Manage orb) ≡ managed (write_block header offset payload)
-managed_by header offset orb payload h e = grind arith

@@ -1,9 +1,9 @@
 -- No count of a medium falls.
-use Rattle.std.proofs.Common.{◌≡◌, ◌≢◌, ℕ, ◌≤◌, ◌<◌, nat_lt, Bool, true, false, List, [], ◌∷◌, length, set, get_or, sym, ap, subst, ◌∙◌, ◌⊎◌, inl, inr, arith}
+use Rattle.std.proofs.Common.{◌≡◌, ℕ, ◌≤◌, Bool, true, false, List, [], ◌∷◌, sym, subst, arith}
 use Rattle.std.specs.Prelude.{zero, suc, slice_index, slice_set, if◌then◌else◌, Option, Some, None}
 use Rattle.sbp_base.specs.Faults.{count_up}
 use Rattle.rbc_disk.specs.declared.command.Outcome.{Outcome}
-use Rattle.rbc_disk.specs.Runs.{check_in, count_after_run, is_failure}
+use Rattle.rbc_disk.specs.Runs.{check_in, is_failure}
 use Rattle.command_agent.specs.Runs.{count_after}
 use Rattle.sbp_target.specs.Faults.{NoneFell}
 

@@ -4,7 +4,6 @@ pub mod Replying
 pub mod Again
 pub mod Concluding
 pub mod Received
-pub mod Making
 pub mod Leaving
 pub mod Faults
 pub mod Acting

@@ -2,11 +2,11 @@
 use Rattle.std.proofs.Common.{◌≡◌, ◌≢◌, refl, sym, ap, ◌∙◌, ℕ, ◌==◌, Bool, true, false, cond, List, length, Option, Some, None}
 use Rattle.async_packet.specs.Packet.{Packet, lock, lock_response, read_block, read_block_response, read_quadlet, read_quadlet_response, write_block, write_quadlet, write_response}
 use Rattle.orb_layout.specs.Pointers.{offset_at}
-use Rattle.sbp_target.specs.declared.address.Access.{Access}
-use Rattle.sbp_target.specs.declared.address.AgentRegister.{AgentRegister}
-use Rattle.sbp_target.specs.declared.address.Demand.{Demand}
-use Rattle.sbp_target.specs.declared.address.Demand.TheVariants as demands
-use Rattle.sbp_target.specs.Addresses.{Reached, Row, accessed, accessed_at, by_address, by_register, by_rom, by_type, demand_by, is_lock, managed, management_start, offset_in, or_nowhere, reached, register_at, row_of, served, served_by}
+use Rattle.target_base.specs.declared.address.Access.{Access}
+use Rattle.target_base.specs.declared.address.AgentRegister.{AgentRegister}
+use Rattle.target_base.specs.declared.address.Demand.{Demand}
+use Rattle.target_base.specs.declared.address.Demand.TheVariants as demands
+use Rattle.target_base.specs.Addresses.{Reached, Row, accessed, accessed_at, by_address, by_register, by_rom, by_type, demand_by, is_lock, managed, management_start, offset_in, or_nowhere, reached, register_at, row_of, served, served_by}
 
 row_unlocked : (r : Reached) → row_of r ≡ by_register → r.is_lock ≡ false
 row_unlocked r e = by r.is_lock (row_of (record r { is_lock = false })) e

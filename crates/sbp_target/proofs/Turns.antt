@@ -5,9 +5,9 @@ use Rattle.sbp_journal.specs.declared.cause.CutCause.{CutCause}
 use Rattle.sbp_journal.specs.declared.side.Side.TheVariants as sides
 use Rattle.sbp_journal.specs.Outgoings.{OutboxState}
 use Rattle.login_table.specs.declared.login.Login.{Login}
-use Rattle.login_table.specs.Table.{Table, enter_step, place_at}
+use Rattle.login_table.specs.Table.{place_at}
 use Rattle.sbp_target.specs.Sending.{with_side}
-use Rattle.sbp_target.specs.Receiving.{expired_from, held_from, ready_from, ready_login, tell_held}
+use Rattle.sbp_target.specs.Receiving.{expired_from, held_from, tell_held}
 use Rattle.sbp_target.specs.Nodes.{Scene}
 use Rattle.sbp_target.specs.Units.{announce_from, announce_at, cut_from, cut_at, clear_from, clear_unit}
 
@@ -60,13 +60,3 @@ pub expired : (left at : ℕ) (logins : List ℕ) (outbox : OutboxState) → lef
 unfolding expired_from
 expired zero at logins outbox e = refl
 expired (suc n) at logins outbox e = absurd (omega arith)
-
-pub readying : (left less initiator : ℕ) (table : Table) → left ≡ suc less → ready_from left initiator table ≡ ready_from less (initiator + 1) (enter_step table (ready_login initiator)).1
-unfolding ready_from
-readying zero less initiator table e = absurd (omega arith)
-readying (suc n) less initiator table e = let same : n ≡ less = omega arith in rw same
-
-pub readied : (left initiator : ℕ) (table : Table) → left ≡ zero → ready_from left initiator table ≡ table
-unfolding ready_from
-readied zero initiator table e = refl
-readied (suc n) initiator table e = absurd (omega arith)

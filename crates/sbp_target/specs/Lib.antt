@@ -1,5 +1,5 @@
 pub mod Sending
-pub mod Addresses
+pub mod Giving
 pub mod Desks
 pub mod Nodes
 pub mod Telling

@@ -9,8 +9,7 @@ use Rattle.label_table.specs.Layer.{Layer, Finding, of_generation, of_grammar, o
 use Rattle.orb_layout.specs.Replies.{Answer, Payload, Done, Refused, Expired}
 use Rattle.mgmt_agent.specs.Machine as management
 use Rattle.login_table.specs.declared.login.Login.{Login}
-use Rattle.login_table.specs.Requests.{LoginRequest}
-use Rattle.login_table.specs.Table.{Table, place_at, is_live, hold_step, tick_step, enter_step, new_table}
+use Rattle.login_table.specs.Table.{Table, place_at, is_live, hold_step, tick_step, new_table}
 use Rattle.config_rom.specs.Make.{made}
 use Rattle.orb_layout.specs.Pointers.{quad_bytes}
 use Rattle.rbc_disk.specs.Units.{new_unit}
@@ -23,6 +22,7 @@ use Rattle.sbp_journal.specs.declared.cause.Judged.{Judged}
 use Rattle.sbp_journal.specs.declared.cause.Judged.TheVariants as judged
 use Rattle.sbp_journal.specs.declared.side.Side.TheVariants as sides
 use Rattle.sbp_journal.specs.Outgoings.{OutboxState}
+use Rattle.target_base.specs.Beginning.{ready_from, target_eui}
 use Rattle.sbp_target.specs.declared.desk.Desk.{Desk}
 use Rattle.sbp_target.specs.declared.purpose.Purpose.{Purpose}
 use Rattle.sbp_target.specs.declared.purpose.Purpose.TheVariants as purposes
@@ -180,25 +180,6 @@ ticked s = ticked_by (tick_step s.node.logins) s
 -- The key of a unit is set, for later logins.
 abbrev pub with_key : ℕ → List ℕ → NodeState → NodeState
 with_key unit key node = record node { keys = slice_set node.keys unit key }
-
--- The logins that stand from the start: that of initiator i on unit 0, with its FIFO of number 0.
-abbrev pub ready_login : ℕ → LoginRequest
-ready_login initiator = record {
-  unit = 0;
-  node = 0xffc1 + initiator;
-  eui = 0x0200000000000001 + initiator;
-  fifo = 0x000013000000;
-  hold = 3;
-  exclusive = false;
-}
-
-unfoldable pub ready_from : ℕ → ℕ → Table → Table
-ready_from zero initiator table = table
-ready_from (suc left) initiator table = ready_from left (initiator + 1) (enter_step table (ready_login initiator)).1
-
--- the target's EUI-64
-abbrev pub target_eui : ℕ
-target_eui = 0x0200000000000010
 
 -- A new target, with physical ID 0 in generation 0.
 abbrev pub new_node : ℕ → ℕ → NodeState

@@ -1,42 +1,24 @@
 -- What the target does to its units and to the lists over them: resets, and a disc that was changed
 -- (NCITS 325-1998, task management functions and unsolicited status).
-use Rattle.std.specs.Prelude.{ℕ, zero, suc, ◌+◌, ◌^◌, ◌==◌, ◌&&◌, not, Bool, true, false, if◌then◌else◌, List, [], ◌∷◌, ◌++◌, slice_set, Option, Some, None}
+use Rattle.std.specs.Prelude.{ℕ, zero, suc, ◌+◌, ◌==◌, ◌&&◌, not, Bool, true, false, if◌then◌else◌, List, [], ◌∷◌, ◌++◌, slice_set, Option, Some, None}
 use Rattle.std.specs.List.{list_any}
 use Rattle.async_packet.specs.Labels.{LabelParts}
 use Rattle.label_table.specs.Bodies.{block_write}
 use Rattle.label_table.specs.Layer.{Layer}
 use Rattle.login_table.specs.declared.login.Login.{Login}
-use Rattle.login_table.specs.Table.{is_live, place_at}
+use Rattle.login_table.specs.Table.{is_live}
 use Rattle.media_bay.specs.Unsolicited.{block}
 use Rattle.rbc_disk.specs.Units.{cleared, changed_for}
 use Rattle.sbp_journal.specs.declared.cause.CutCause.{CutCause}
 use Rattle.sbp_journal.specs.declared.side.Side.TheVariants as sides
 use Rattle.sbp_journal.specs.Outgoings.{OutboxState}
+use Rattle.target_base.specs.Places.{is_of_unit, mask_of}
 use Rattle.sbp_target.specs.declared.desk.Desk.{Desk}
 use Rattle.sbp_target.specs.declared.purpose.Purpose.{Purpose}
 use Rattle.sbp_target.specs.declared.purpose.Purpose.TheVariants as purposes
 use Rattle.sbp_target.specs.Sending.{request_step, with_side}
 use Rattle.sbp_target.specs.Nodes.{NodeState, Scene, scene, desk_at, login_at, with_desk, unit_at}
 use Rattle.sbp_target.specs.Agents.{cut}
-
--- the login of a place is one of the unit
-abbrev pub is_of_unit : ℕ → Option Login → Bool
-is_of_unit unit None = false
-is_of_unit unit (Some login) = login.unit == unit
-
-abbrev pub is_place : Option ℕ → ℕ → Bool
-is_place None place = false
-is_place (Some other) place = other == place
-
--- bit p of a mask stands for place p
-abbrev pub mask_bit : ℕ → Option ℕ → List (Option Login) → ℕ → ℕ
-mask_bit unit except places place =
-    if is_of_unit unit (place_at places place) && not (is_place except place) then 2 ^ place else 0
-
--- the places of the logins of a unit, live and held, but for one
-unfoldable pub mask_of : ℕ → Option ℕ → List (Option Login) → ℕ
-mask_of unit except places =
-    mask_bit unit except places 0 + mask_bit unit except places 1 + mask_bit unit except places 2 + mask_bit unit except places 3 + mask_bit unit except places 4 + mask_bit unit except places 5 + mask_bit unit except places 6 + mask_bit unit except places 7
 
 -- A disc came into the tray of a unit: the other logins of the unit are to be told.
 abbrev pub with_changed : ℕ → ℕ → NodeState → NodeState

@@ -2,19 +2,15 @@
 //! command agents of the logins, its units, and its configuration ROM, joined.
 #![tactic(auto)]
 
-mod address;
 mod desk;
 mod media;
 mod node;
-mod place;
 mod purpose;
 mod sending;
 mod target;
 mod telling;
 
-pub use address::{Access, AgentRegister, Demand, Register};
 pub use desk::Desk;
 pub use node::Node;
-pub use place::LoginPlace;
 pub use purpose::{Purpose, Sent};
 pub use target::Target;

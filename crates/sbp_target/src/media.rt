@@ -9,10 +9,10 @@ ghost use Rattle.rbc_disk.specs.Units.{plain_disk};
 ghost use Rattle.rbc_disk.specs.Runs.{told_in, left_by};
 ghost use Rattle.sbp_target.specs.Replies.{plain_in};
 
-use crate::place::LoginPlace;
 use command_agent::{Agent, AgentStep, Which};
 use orb_layout::Reply;
 use rbc_disk::{Medium, Unit};
+use target_base::LoginPlace;
 
 /// [`Agent::reply`] over a boxed medium.
 fn reply_boxed(

@@ -1,9 +1,9 @@
 ghost use Rattle.std.specs.Prelude.{◌≡◌};
 ghost use Rattle.sbp_target.specs.Sending.{is_sent_as};
 
-use crate::place::LoginPlace;
 use async_packet::Label;
 use sbp_base::NodeId;
+use target_base::LoginPlace;
 
 /// What a transaction of the target is for.
 #[derive(Clone, Copy)]

@@ -1,13 +1,13 @@
 ghost use Rattle.std.specs.Prelude.{◌≡◌, ◌<◌, OnOk};
 ghost use Rattle.sbp_target.specs.Telling.{orb_of, tell_dead, tell_ended, tell_ran, tell_step};
 
-use crate::place::LoginPlace;
 use command_agent::{Agent, AgentStep};
 use orb_layout::{FailCause, StatusKind};
 use rbc_disk::Outcome;
 use sbp_base::{Bytes, NoMemory, Offset};
 use sbp_journal::{Outbox, Side};
 use std::alloc::Global;
+use target_base::LoginPlace;
 
 /// The address of the present ORB of an agent.
 pub(crate) fn orb_of(agent: &Agent) -> Offset

@@ -25,7 +25,7 @@ use Rattle.sbp_target.specs.declared.desk.Desk.{Desk}
 use Rattle.sbp_target.specs.declared.purpose.Purpose.{Purpose}
 use Rattle.sbp_target.specs.declared.purpose.Purpose.TheVariants as purposes
 use Rattle.sbp_target.specs.declared.purpose.Sent.{Sent}
-use Rattle.sbp_target.specs.Addresses.{complete, conflict_error, data_error}
+use Rattle.target_base.specs.Addresses.{complete, conflict_error, data_error}
 use Rattle.sbp_target.specs.Desks.{taken, which_in, expired_desk, pointed_desk}
 use Rattle.sbp_target.specs.Sending.{answer_step, with_side}
 use Rattle.sbp_target.specs.Telling.{orb_of}

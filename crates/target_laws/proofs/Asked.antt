@@ -4,11 +4,11 @@ use Rattle.async_packet.specs.Packet.{Packet, write_quadlet, write_block, write_
 use Rattle.sbp_journal.specs.Addresses as table
 use Rattle.sbp_journal.specs.Addresses.{Start, rom_start, management_agent, register, no_start, start_at, start_serves, begins_in_rom, lies_in_rom, access_of, rom_base, management_address}
 use Rattle.sbp_journal.specs.Rows.{first_or}
-use Rattle.sbp_target.specs.declared.address.AgentRegister.{AgentRegister}
-use Rattle.sbp_target.specs.declared.address.Demand.{Demand}
-use Rattle.sbp_target.specs.declared.address.Demand.TheVariants as demands
-use Rattle.sbp_target.specs.Addresses as node
-use Rattle.sbp_target.specs.Addresses.{agents_start, agent_register, register_by, register_at, length_in, served, offset_in, Reached, row_of, reached, or_nowhere, demand_by, demand_of}
+use Rattle.target_base.specs.declared.address.AgentRegister.{AgentRegister}
+use Rattle.target_base.specs.declared.address.Demand.{Demand}
+use Rattle.target_base.specs.declared.address.Demand.TheVariants as demands
+use Rattle.target_base.specs.Addresses as node
+use Rattle.target_base.specs.Addresses.{agents_start, agent_register, register_by, register_at, length_in, served, offset_in, Reached, row_of, reached, or_nowhere, demand_by, demand_of}
 use Rattle.target_laws.specs.Judgements.{asked_at}
 use Rattle.target_laws.proofs.Rowed.{Wrote, WroteBlock, Read, ReadBlock, start_by, start_is, Served, asked_if, asked_by, served_is, starts_there, write_served, block_served, read_served, read_block_served}
 

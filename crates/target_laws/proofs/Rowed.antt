@@ -5,15 +5,15 @@ use Rattle.async_packet.specs.Packet.{Packet, write_quadlet, write_block, read_q
 use Rattle.orb_layout.specs.Pointers.{pointer_at}
 use Rattle.sbp_journal.specs.Addresses as table
 use Rattle.sbp_journal.specs.Addresses.{Register, agent_state, agent_reset, orb_pointer, doorbell, unsolicited_enable, Start, rom_start, management_agent, register, no_start, start_at, start_serves, access_of, rom_base, management_address, registers_base, base_of}
-use Rattle.sbp_target.specs.declared.address.Access.{Access}
-use Rattle.sbp_target.specs.declared.address.Access.TheVariants as accesses
-use Rattle.sbp_target.specs.declared.address.AgentRegister.{AgentRegister}
-use Rattle.sbp_target.specs.declared.address.Register as code
-use Rattle.sbp_target.specs.declared.address.Register.TheVariants as codes
-use Rattle.sbp_target.specs.declared.address.Demand.{Demand}
-use Rattle.sbp_target.specs.declared.address.Demand.TheVariants as demands
-use Rattle.sbp_target.specs.Addresses as node
-use Rattle.sbp_target.specs.Addresses.{agents_start, management_start, accessed, accessed_at, agent_register, managed, served, served_by, register_by, register_at, offset_in, length_in, Reached, row_of, reached, or_nowhere, demand_by, demand_of}
+use Rattle.target_base.specs.declared.address.Access.{Access}
+use Rattle.target_base.specs.declared.address.Access.TheVariants as accesses
+use Rattle.target_base.specs.declared.address.AgentRegister.{AgentRegister}
+use Rattle.target_base.specs.declared.address.Register as code
+use Rattle.target_base.specs.declared.address.Register.TheVariants as codes
+use Rattle.target_base.specs.declared.address.Demand.{Demand}
+use Rattle.target_base.specs.declared.address.Demand.TheVariants as demands
+use Rattle.target_base.specs.Addresses as node
+use Rattle.target_base.specs.Addresses.{agents_start, management_start, accessed, accessed_at, agent_register, managed, served, served_by, register_by, register_at, offset_in, length_in, Reached, row_of, reached, or_nowhere, demand_by, demand_of}
 use Rattle.target_laws.specs.Judgements.{asked_at}
 
 -- ---- what starts at an address

@@ -19,13 +19,13 @@ use Rattle.sbp_journal.specs.declared.cause.Judged.TheVariants as judged
 use Rattle.sbp_journal.specs.declared.outbox.Outgoing.{Outgoing}
 use Rattle.sbp_journal.specs.declared.side.Side.TheVariants as sides
 use Rattle.sbp_journal.specs.Outgoings.{OutboxState}
-use Rattle.sbp_target.specs.declared.address.Access.{Access}
-use Rattle.sbp_target.specs.declared.address.Access.TheVariants as accesses
-use Rattle.sbp_target.specs.declared.address.Demand.{Demand}
-use Rattle.sbp_target.specs.declared.address.Demand.TheVariants as demands
+use Rattle.target_base.specs.declared.address.Access.{Access}
+use Rattle.target_base.specs.declared.address.Access.TheVariants as accesses
+use Rattle.target_base.specs.declared.address.Demand.{Demand}
+use Rattle.target_base.specs.declared.address.Demand.TheVariants as demands
 use Rattle.sbp_target.specs.declared.desk.Desk.{Desk}
 use Rattle.sbp_target.specs.declared.purpose.Purpose.{Purpose}
-use Rattle.sbp_target.specs.Addresses.{complete, conflict_error, address_error, demand_of}
+use Rattle.target_base.specs.Addresses.{complete, conflict_error, address_error, demand_of}
 use Rattle.sbp_target.specs.Desks.{point_desk}
 use Rattle.sbp_target.specs.Sending.{answer_step, answered_by, with_side}
 use Rattle.sbp_target.specs.Nodes.{Scene, scene, desk_at, login_at, with_desk, with_agent}

@@ -47,16 +47,16 @@ use Rattle.sbp_journal.specs.declared.cause.Judged.{Judged}
 use Rattle.sbp_journal.specs.declared.cause.Judged.TheVariants as judged
 use Rattle.sbp_journal.specs.declared.cause.Cause.TheVariants as ignored
 use Rattle.sbp_journal.specs.Outgoings.{OutboxState, empty_outbox}
-use Rattle.sbp_target.specs.declared.address.Access.{Access}
-use Rattle.sbp_target.specs.declared.address.Access.TheVariants as accesses
-use Rattle.sbp_target.specs.declared.address.AgentRegister.{AgentRegister}
-use Rattle.sbp_target.specs.declared.address.Register.{Register}
-use Rattle.sbp_target.specs.declared.address.Demand.{Demand}
-use Rattle.sbp_target.specs.declared.address.Demand.TheVariants as demands
+use Rattle.target_base.specs.declared.address.Access.{Access}
+use Rattle.target_base.specs.declared.address.Access.TheVariants as accesses
+use Rattle.target_base.specs.declared.address.AgentRegister.{AgentRegister}
+use Rattle.target_base.specs.declared.address.Register.{Register}
+use Rattle.target_base.specs.declared.address.Demand.{Demand}
+use Rattle.target_base.specs.declared.address.Demand.TheVariants as demands
 use Rattle.sbp_target.specs.declared.purpose.Purpose.{Purpose}
 use Rattle.sbp_target.specs.declared.purpose.Purpose.TheVariants as purposes
 use Rattle.sbp_target.specs.declared.purpose.Sent.{Sent}
-use Rattle.sbp_target.specs.Addresses.{complete, conflict_error, address_error, agents_start, agent_register, register_by, register_at, offset_in, is_lock, row_of, reached, demand_of}
+use Rattle.target_base.specs.Addresses.{complete, conflict_error, address_error, agents_start, agent_register, register_by, register_at, offset_in, is_lock, row_of, reached, demand_of}
 use Rattle.sbp_target.specs.declared.desk.Desk.{Desk}
 use Rattle.sbp_target.specs.Desks.{disabled, new_desk, reset_desk}
 use Rattle.sbp_target.specs.Sending.{answer_step}
@@ -67,7 +67,9 @@ use Rattle.sbp_target.specs.Replies.{Whole, whole}
 use Rattle.sbp_target.specs.Management.{managed_with, managed_in, manage}
 use Rattle.sbp_target.specs.Serving.{answered, enabled, accessed_by, started_by, start, served_as, serve, is_barred_at, is_barred, state_number, last_pointer, pointer_bytes}
 use Rattle.sbp_target.specs.Serving as serving
-use Rattle.sbp_target.specs.Receiving.{answer_in, concluded, judged_scene, with_layer, received_as, received, timed_out, expired_in, expired, after_reset, cleared_node, reset_by, seen, ticked, with_key, ready_login, ready_from, new_node}
+use Rattle.sbp_target.specs.Receiving.{answer_in, concluded, judged_scene, with_layer, received_as, received, timed_out, expired_in, expired, after_reset, cleared_node, reset_by, seen, ticked, with_key, new_node}
+use Rattle.target_base.specs.Beginning.{ready_from}
+use Rattle.target_base.specs.Beginning.{ready_login}
 use Rattle.sbp_target.specs.Calls.{Call, receives, lets_expire, sees, ticks, sets_key, done, after}
 use Rattle.target_laws.proofs.Found.{IsFound, found}
 use Rattle.target_laws.proofs.Seats.{was as changed, Lives, IsFor, IsNot, Seat, Hand, split, seat_kept, seat_empty, hand_ends, hand_empty}

@@ -22,7 +22,7 @@ use Rattle.sbp_journal.specs.declared.cause.Judged.{Judged}
 use Rattle.sbp_journal.specs.declared.cause.Judged.TheVariants as judged
 use Rattle.sbp_journal.specs.declared.outbox.Outgoing.{Outgoing}
 use Rattle.sbp_journal.specs.Outgoings.{empty_outbox}
-use Rattle.sbp_target.specs.Addresses.{address_error}
+use Rattle.target_base.specs.Addresses.{address_error}
 use Rattle.sbp_target.specs.Nodes.{NodeState, scene}
 use Rattle.sbp_target.specs.Replies.{Whole, whole}
 use Rattle.sbp_target.specs.Receiving.{received}

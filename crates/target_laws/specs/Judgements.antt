@@ -17,11 +17,11 @@ use Rattle.sbp_journal.specs.declared.outbox.Outgoing.{Outgoing}
 use Rattle.sbp_journal.specs.Addresses as table
 use Rattle.sbp_journal.specs.Addresses.{Register, agent_state, agent_reset, orb_pointer, doorbell, unsolicited_enable, Start, rom_start, management_agent, register, no_start, start_at, start_serves, begins_in_rom, lies_in_rom, access_of, rom_base}
 use Rattle.sbp_journal.specs.Rows.{TargetFacts, target_rcode, RequestFacts, Judging, judging_of, ignored_as, telling, serving, first_or}
-use Rattle.sbp_target.specs.declared.address.Access.{Access}
-use Rattle.sbp_target.specs.declared.address.Access.TheVariants as accesses
-use Rattle.sbp_target.specs.declared.address.Demand.{Demand}
-use Rattle.sbp_target.specs.declared.address.Demand.TheVariants as demands
-use Rattle.sbp_target.specs.Addresses.{demand_of}
+use Rattle.target_base.specs.declared.address.Access.{Access}
+use Rattle.target_base.specs.declared.address.Access.TheVariants as accesses
+use Rattle.target_base.specs.declared.address.Demand.{Demand}
+use Rattle.target_base.specs.declared.address.Demand.TheVariants as demands
+use Rattle.target_base.specs.Addresses.{demand_of}
 use Rattle.sbp_target.specs.Nodes.{NodeState, Scene, desk_at}
 use Rattle.sbp_target.specs.Serving.{last_pointer, pointer_bytes, request_step, state_number}
 use Rattle.target_laws.specs.Answers.{response_of}

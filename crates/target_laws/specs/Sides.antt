@@ -35,13 +35,13 @@ use Rattle.sbp_journal.specs.declared.side.Side.{Side}
 use Rattle.sbp_journal.specs.declared.side.Side.TheVariants as sides
 use Rattle.sbp_journal.specs.declared.outbox.Outgoing.{Outgoing}
 use Rattle.sbp_journal.specs.Outgoings.{OutboxState, empty_outbox}
-use Rattle.sbp_target.specs.declared.address.Access.TheVariants as accesses
-use Rattle.sbp_target.specs.declared.address.Demand.{Demand}
-use Rattle.sbp_target.specs.declared.address.Demand.TheVariants as demands
+use Rattle.target_base.specs.declared.address.Access.TheVariants as accesses
+use Rattle.target_base.specs.declared.address.Demand.{Demand}
+use Rattle.target_base.specs.declared.address.Demand.TheVariants as demands
 use Rattle.sbp_target.specs.declared.desk.Desk.{Desk}
 use Rattle.sbp_target.specs.declared.purpose.Purpose.{Purpose}
 use Rattle.sbp_target.specs.declared.purpose.Purpose.TheVariants as purposes
-use Rattle.sbp_target.specs.Addresses.{demand_of}
+use Rattle.target_base.specs.Addresses.{demand_of}
 use Rattle.sbp_target.specs.Nodes.{NodeState, scene, desk_at, login_at}
 use Rattle.sbp_target.specs.Management.{with_manager}
 use Rattle.sbp_target.specs.Replies.{whole, came, served_login}

@@ -11,8 +11,8 @@ use Rattle.sbp_journal.specs.Run.{Moment, asked}
 use Rattle.sbp_journal.specs.Wire.{local_id}
 use Rattle.sbp_journal.specs.declared.event.Event.TheVariants as events
 use Rattle.sbp_laws.specs.Targets.{first_table}
-use Rattle.sbp_target.specs.Receiving.{ready_from}
-use Rattle.sbp_target.proofs.Making.{rom_size}
+use Rattle.target_base.specs.Beginning.{ready_from}
+use Rattle.target_base.proofs.Making.{rom_size}
 use Rattle.sbp_bus.proofs.Making.{ids_size}
 use Rattle.sbp_world.proofs.Making.{initiators_size}
 use Rattle.sbp_bus.specs.declared.generations.Topology.{Topology}

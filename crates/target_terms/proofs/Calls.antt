@@ -21,12 +21,12 @@ use Rattle.sbp_journal.specs.declared.cause.Cause.TheVariants as ignored
 use Rattle.sbp_journal.specs.declared.cause.Judged.TheVariants as judgements
 use Rattle.sbp_journal.specs.declared.outbox.Outgoing.{Outgoing}
 use Rattle.sbp_journal.specs.Outgoings.{empty_outbox}
-use Rattle.sbp_target.specs.declared.address.Demand.{Demand}
-use Rattle.sbp_target.specs.declared.address.Demand.TheVariants as demands
+use Rattle.target_base.specs.declared.address.Demand.{Demand}
+use Rattle.target_base.specs.declared.address.Demand.TheVariants as demands
 use Rattle.sbp_target.specs.declared.purpose.Purpose.{Purpose}
 use Rattle.sbp_target.specs.declared.purpose.Purpose.TheVariants as purposes
-use Rattle.sbp_target.specs.declared.address.AgentRegister.{AgentRegister}
-use Rattle.sbp_target.specs.Addresses.{demand_of, is_lock, offset_in, register_at}
+use Rattle.target_base.specs.declared.address.AgentRegister.{AgentRegister}
+use Rattle.target_base.specs.Addresses.{demand_of, is_lock, offset_in, register_at}
 use Rattle.sbp_target.specs.Management.{manage}
 use Rattle.sbp_target.specs.Nodes.{NodeState, Scene, scene}
 use Rattle.sbp_target.specs.Receiving.{answer_in, concluded, expired, expired_in, judged_scene, received, received_as, timed_out, with_layer}

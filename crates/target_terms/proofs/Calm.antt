@@ -29,8 +29,8 @@ use Rattle.sbp_journal.specs.declared.cause.CutCause.TheVariants as cuts
 use Rattle.sbp_journal.specs.declared.side.Side.{Side}
 use Rattle.sbp_journal.specs.declared.side.Side.TheVariants as sides
 use Rattle.sbp_journal.specs.Outgoings.{OutboxState}
-use Rattle.sbp_target.specs.declared.address.Access.{Access}
-use Rattle.sbp_target.specs.declared.address.Access.TheVariants as accesses
+use Rattle.target_base.specs.declared.address.Access.{Access}
+use Rattle.target_base.specs.declared.address.Access.TheVariants as accesses
 use Rattle.sbp_target.specs.declared.desk.Desk.{Desk}
 use Rattle.sbp_target.specs.declared.purpose.Purpose.{Purpose}
 use Rattle.sbp_target.specs.declared.purpose.Purpose.TheVariants as purposes

@@ -4,11 +4,11 @@ use Rattle.std.proofs.lemmas.Bool.Decides.{nat_tests}
 use Rattle.async_packet.specs.Packet.{Packet, lock, lock_response, read_block, read_block_response, read_quadlet, read_quadlet_response, write_block, write_quadlet, write_response}
 use Rattle.orb_layout.specs.Pointers.{offset_at}
 use Rattle.sbp_journal.specs.Addresses.{Access, Start, access_of, management_agent, no_start, register, rom_start, start_at, start_serves}
-use Rattle.sbp_target.specs.declared.address.Access.{Access as AgentAccess}
-use Rattle.sbp_target.specs.declared.address.AgentRegister.{AgentRegister}
-use Rattle.sbp_target.specs.declared.address.Demand.{Demand}
-use Rattle.sbp_target.specs.declared.address.Demand.TheVariants as demands
-use Rattle.sbp_target.specs.Addresses.{accessed, accessed_at, demand_by, demand_of, managed, management_start, offset_in, or_nowhere, reached, register_at, row_of, served, served_by}
+use Rattle.target_base.specs.declared.address.Access.{Access as AgentAccess}
+use Rattle.target_base.specs.declared.address.AgentRegister.{AgentRegister}
+use Rattle.target_base.specs.declared.address.Demand.{Demand}
+use Rattle.target_base.specs.declared.address.Demand.TheVariants as demands
+use Rattle.target_base.specs.Addresses.{accessed, accessed_at, demand_by, demand_of, managed, management_start, offset_in, or_nowhere, reached, register_at, row_of, served, served_by}
 use Rattle.target_laws.specs.Judgements.{asked_at, asked_of}
 use Rattle.target_laws.proofs.Asked.{serves_is}
 use Rattle.target_terms.specs.Calls.{demanded}

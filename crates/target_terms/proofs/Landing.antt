@@ -45,9 +45,9 @@ use Rattle.orb_layout.specs.declared.ask.Ask.{Ask}
 use Rattle.sbp_journal.specs.Addresses.{start_at, start_serves}
 use Rattle.sbp_laws.specs.Packets as laws
 use Rattle.sbp_laws.specs.Targets.{start_got}
-use Rattle.sbp_target.specs.declared.address.Demand.{Demand}
-use Rattle.sbp_target.specs.declared.address.Demand.TheVariants as demands
-use Rattle.sbp_target.specs.Addresses.{demand_of}
+use Rattle.target_base.specs.declared.address.Demand.{Demand}
+use Rattle.target_base.specs.declared.address.Demand.TheVariants as demands
+use Rattle.target_base.specs.Addresses.{demand_of}
 use Rattle.sbp_target.specs.Sending.{answer_step}
 use Rattle.sbp_target.specs.Serving.{answered}
 use Rattle.sbp_world.specs.Sending.{sent_all}

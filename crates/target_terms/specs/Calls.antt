@@ -9,11 +9,11 @@ use Rattle.orb_layout.specs.Replies.{Expired}
 use Rattle.rbc_disk.specs.Disk.{Disk}
 use Rattle.rbc_disk.specs.Runs.{Told}
 use Rattle.sbp_journal.specs.Outgoings.{empty_outbox}
-use Rattle.sbp_target.specs.declared.address.Demand.{Demand}
-use Rattle.sbp_target.specs.declared.address.Demand.TheVariants as demands
+use Rattle.target_base.specs.declared.address.Demand.{Demand}
+use Rattle.target_base.specs.declared.address.Demand.TheVariants as demands
 use Rattle.sbp_target.specs.declared.purpose.Purpose.{Purpose}
 use Rattle.sbp_target.specs.declared.purpose.Purpose.TheVariants as purposes
-use Rattle.sbp_target.specs.Addresses.{demand_of}
+use Rattle.target_base.specs.Addresses.{demand_of}
 use Rattle.sbp_target.specs.Nodes.{NodeState, Scene, scene}
 use Rattle.sbp_target.specs.Receiving.{answer_in, received}
 use Rattle.sbp_target.specs.Replies.{whole}

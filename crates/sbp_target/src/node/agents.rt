@@ -6,7 +6,6 @@ ghost use Rattle.sbp_target.specs.Agents.{agent_body, ask_ahead, ask_main, cut, 
 ghost use Rattle.sbp_target.specs.Nodes.{scene};
 
 use super::Node;
-use crate::place::LoginPlace;
 use crate::purpose::{Purpose, Sent};
 use crate::sending::send_request;
 use crate::telling::tell_step;
@@ -16,6 +15,7 @@ use login_table::Login;
 use orb_layout::{Ask, FailCause};
 use sbp_base::{NoMemory, NodeId, Offset};
 use sbp_journal::{CutCause, Outbox, Side};
+use target_base::LoginPlace;
 
 /// The most bytes of a payload.
 const LARGEST: u16 = 2048;
@@ -92,7 +92,7 @@ impl Node {
         ensures count { self.new.layer.calls ≡ self.old.layer.calls }
         ensures units { length self.new.units ≡ length self.old.units }
     {
-        let index = usize::from(place.number());
+        let index = place.index();
         tell_step(self.alloc, outbox, place, &self.desks[index].agent, step)?;
         if step.dead.is_some() {
             self.drop_ahead(place);
@@ -110,7 +110,7 @@ impl Node {
         ensures count { self.new.layer.calls ≡ self.old.layer.calls }
         ensures units { length self.new.units ≡ length self.old.units }
     {
-        let index = usize::from(place.number());
+        let index = place.index();
         disown(&mut self.layer, self.desks[index].ahead);
         self.desks[index].ahead = None;
     }
@@ -129,7 +129,7 @@ impl Node {
         ensures count { self.new.layer.calls ≤ self.old.layer.calls + 1 }
         ensures units { length self.new.units ≡ length self.old.units }
     {
-        let index = usize::from(place.number());
+        let index = place.index();
         let outgoing = self.desks[index].agent.outgoing();
         let Some(body) = agent_body(step.ask, step.ended.is_some(), login.fifo, outgoing) else {
             return Ok(true);
@@ -168,7 +168,7 @@ impl Node {
         ensures count { self.new.layer.calls ≤ self.old.layer.calls + 1 }
         ensures units { length self.new.units ≡ length self.old.units }
     {
-        let index = usize::from(place.number());
+        let index = place.index();
         if !self.desks[index].agent.is_under_way(which) {
             return Ok(true);
         }
@@ -212,7 +212,7 @@ impl Node {
         ensures count { self.new.layer.calls ≤ self.old.layer.calls + 1 }
         ensures units { length self.new.units ≡ length self.old.units }
     {
-        let index = usize::from(place.number());
+        let index = place.index();
         let outgoing = self.desks[index].agent.outgoing();
         let Some(body) = agent_body(ask, false, login.fifo, outgoing) else {
             return Ok(true);
@@ -288,7 +288,7 @@ impl Node {
         ensures count { self.new.layer.calls ≡ self.old.layer.calls }
         ensures units { length self.new.units ≡ length self.old.units }
     {
-        let index = usize::from(place.number());
+        let index = place.index();
         disown(&mut self.layer, self.desks[index].main);
         disown(&mut self.layer, self.desks[index].ahead);
         self.desks[index].reset()

@@ -7,7 +7,6 @@ ghost use Rattle.sbp_target.specs.Management.{ask_manager, clear_one, decided_by
 
 use super::Node;
 use super::agents::agent_body;
-use crate::place::LoginPlace;
 use crate::purpose::Purpose;
 use crate::sending::send_request;
 use label_table::RequestBody;
@@ -15,6 +14,7 @@ use mgmt_agent::{Decision, Effect, ManagerStep};
 use orb_layout::{Ask, FailCause, Reply};
 use sbp_base::{NoMemory, NodeId, Offset};
 use sbp_journal::{CutCause, Outbox, Side};
+use target_base::LoginPlace;
 
 /// What the management agent asks for, as a request: a quadlet of an EUI-64 is read by a quadlet
 /// read, all else by blocks.
@@ -147,7 +147,7 @@ impl Node {
         ensures units { length self.new.units ≡ length self.old.units }
     {
         if let Some(place) = place_in(place) {
-            let desk = &mut self.desks[usize::from(place.number())];
+            let desk = &mut self.desks[place.index()];
             desk.pointer = None;
             desk.is_enabled = false;
         }
@@ -171,7 +171,7 @@ impl Node {
         ensures units { length self.new.units ≡ length self.old.units }
     {
         if let Some(place) = place_in(place) {
-            self.desks[usize::from(place.number())].is_enabled = false;
+            self.desks[place.index()].is_enabled = false;
         }
     }
 
@@ -182,7 +182,7 @@ impl Node {
         ensures units { length self.new.units ≡ length self.old.units }
     {
         if let Some(place) = place_in(place) {
-            self.desks[usize::from(place.number())].agent.abort(orb);
+            self.desks[place.index()].agent.abort(orb);
         }
     }
 

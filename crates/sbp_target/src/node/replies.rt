@@ -11,7 +11,6 @@ ghost use Rattle.sbp_target.specs.Replies.{Advances, RepliesTo, agent_step, foll
 
 use super::Node;
 use crate::media::{is_present_at, reply_at};
-use crate::place::LoginPlace;
 use async_packet::Label;
 use command_agent::{AgentStep, Which};
 use login_table::Login;
@@ -19,6 +18,7 @@ use orb_layout::Reply;
 use rbc_disk::Medium;
 use sbp_base::{NoMemory, NodeId};
 use sbp_journal::Outbox;
+use target_base::LoginPlace;
 
 /// Whether a medium that is present was not before.
 fn came(was_present: bool, is_present: bool) -> bool
@@ -62,7 +62,7 @@ impl Node {
         ensures which { result ≡ which_in (desk_at self.now place) peer label.now }
         ensures waits { IfSome result (λ which. is_under_way which (desk_at self.now place).agent ≡ true) }
     {
-        self.desks[usize::from(place.number())].which(peer, label)
+        self.desks[place.index()].which(peer, label)
     }
 
     /// The login that the agent of a place serves, whose unit exists.
@@ -152,7 +152,7 @@ impl Node {
         ensures count { self.new.layer.calls ≡ self.old.layer.calls }
         ensures units { length self.new.units ≡ length self.old.units }
     {
-        let desk = &mut self.desks[usize::from(place.number())];
+        let desk = &mut self.desks[place.index()];
         let step = reply_at(
             &mut desk.agent,
             &mut self.units,

@@ -2,20 +2,17 @@ ghost use Rattle.std.specs.Prelude.{◌≡◌, ℕ, ◌+◌, ◌^◌, ◌<◌, �
 ghost use Rattle.async_packet.specs.Packet.{view, header_in};
 ghost use Rattle.label_table.specs.Bodies.{Gives};
 ghost use Rattle.label_table.specs.Requests.{IsRequestOf};
-ghost use Rattle.sbp_target.specs.Addresses.{Suits, SuitsAccess, complete};
+ghost use Rattle.target_base.specs.Addresses.{IsWithin, complete, demand_of};
+ghost use Rattle.sbp_target.specs.Giving.{Suits, SuitsAccess};
 ghost use Rattle.sbp_target.specs.Counting.{LeavesCount};
 ghost use Rattle.sbp_target.specs.Management.{ask_manager};
 ghost use Rattle.sbp_target.specs.Nodes.{desk_at, scene};
 ghost use Rattle.sbp_journal.specs.declared.side.Side.TheVariants as sides;
 ghost use Rattle.sbp_target.specs.Sending.{with_side};
 ghost use Rattle.sbp_target.specs.Telling.{orb_of};
-ghost use Rattle.sbp_target.specs.Serving.{accessed_by, answered, asked_at, enabled, is_barred, last_pointer, point, pointer_bytes, rcode_of, request_step, ring, serve, served_as, start, state_number};
+ghost use Rattle.sbp_target.specs.Serving.{accessed_by, answered, asked_at, is_barred, last_pointer, point, pointer_bytes, rcode_of, request_step, ring, serve, served_as, start, state_number};
 
 use super::Node;
-use crate::address::{
-    ADDRESS, Access, COMPLETE, CONFLICT, DATA, Demand, demand_of, is_lock, offset_in, register_at,
-};
-use crate::place::LoginPlace;
 use crate::sending::send_response;
 use crate::telling::orb_of;
 use async_packet::PacketRef;
@@ -23,6 +20,10 @@ use command_agent::{AgentState, AgentStep, PointRefusal};
 use orb_layout::{Ask, OrbPointer};
 use sbp_base::{NoMemory, Offset, put_quad};
 use sbp_journal::{Cause, CutCause, Judged, Outbox, Side};
+use target_base::{
+    ADDRESS, Access, COMPLETE, CONFLICT, DATA, Demand, LoginPlace, demand_of, is_lock, offset_in,
+    register_at,
+};
 
 /// The number of a state, which AGENT_STATE tells.
 fn state_number(state: AgentState) -> u32
@@ -65,6 +66,16 @@ fn rcode_of(refusal: PointRefusal) -> u8
         PointRefusal::Conflict => CONFLICT,
         PointRefusal::Null => DATA,
     }
+}
+
+/// What a request that was got asks for, with a ROM of `size` bytes.
+fn demand_in(size: usize, request: &PacketRef<'_>) -> Demand
+    requires { size ≤ 1024 }
+    ensures demand { result ≡ demand_of size (view request.now) }
+    ensures within { IsWithin size result }
+    ensures suits { Suits (view request.now) result }
+{
+    demand_of(size, request)
 }
 
 impl Node {
@@ -148,7 +159,7 @@ impl Node {
         ensures count { self.new.layer.calls ≤ self.old.layer.calls + 3 }
         ensures units { length self.new.units ≡ length self.old.units }
     {
-        match demand_of(self.rom.len(), request) {
+        match demand_in(self.rom.len(), request) {
             Demand::Refused(rcode) => self.answer(outbox, request, bytes, rcode, &[]),
             Demand::Rom { at, length } => self.give_rom(outbox, request, bytes, at, length),
             Demand::Manage(orb) => self.start(outbox, request, bytes, orb),
@@ -200,7 +211,7 @@ impl Node {
         ensures count { self.new.layer.calls ≤ self.old.layer.calls + 3 }
         ensures units { length self.new.units ≡ length self.old.units }
     {
-        let index = usize::from(place.number());
+        let index = place.index();
         match access {
             Access::State => {
                 let number = state_number(self.desks[index].agent.state());
@@ -220,24 +231,6 @@ impl Node {
         }
     }
 
-    /// A write of UNSOLICITED_STATUS_ENABLE.
-    fn enable(
-        &mut self,
-        outbox: &mut Outbox,
-        request: &PacketRef<'_>,
-        bytes: &[u8],
-        place: LoginPlace,
-    ) -> Result<(), NoMemory>
-        requires request { IsRequestOf bytes.now (view request.now) }
-        requires suits { (rcode : ℕ) (given : List ℕ) → Gives (view request.now) rcode given }
-        ensures step { OnOk result (scene self.new outbox.new ≡ answered (view request.now) bytes.now complete [] (enabled place (scene self.old outbox.old))) }
-        ensures count { self.new.layer.calls ≡ self.old.layer.calls }
-        ensures units { length self.new.units ≡ length self.old.units }
-    {
-        self.desks[usize::from(place.number())].is_enabled = true;
-        self.answer(outbox, request, bytes, COMPLETE, &[])
-    }
-
     /// A write of ORB_POINTER.
     #[tactic(auto, unfolding(crate::specs::Serving::point))]
     fn point(
@@ -255,7 +248,7 @@ impl Node {
         ensures count { self.new.layer.calls ≤ self.old.layer.calls + 3 }
         ensures units { length self.new.units ≡ length self.old.units }
     {
-        let desk = &mut self.desks[usize::from(place.number())];
+        let desk = &mut self.desks[place.index()];
         match desk.point(pointer) {
             Err(refusal) => self.answer(outbox, request, bytes, rcode_of(refusal), &[]),
             Ok(ask) => {
@@ -269,7 +262,7 @@ impl Node {
     fn tell_opened(&self, outbox: &mut Outbox, place: LoginPlace) -> Result<(), NoMemory>
         ensures { OnOk result (outbox.new ≡ with_side outbox.old (sides.Opened place (orb_of (desk_at self.now place).agent))) }
     {
-        let desk = &self.desks[usize::from(place.number())];
+        let desk = &self.desks[place.index()];
         outbox.tell(Side::Opened {
             place: place.number(),
             orb: orb_of(&desk.agent),
@@ -292,7 +285,7 @@ impl Node {
         ensures count { self.new.layer.calls ≤ self.old.layer.calls + 3 }
         ensures units { length self.new.units ≡ length self.old.units }
     {
-        let ask = self.desks[usize::from(place.number())].agent.doorbell();
+        let ask = self.desks[place.index()].agent.doorbell();
         self.answer_and_ask(outbox, request, bytes, place, ask)
     }
 

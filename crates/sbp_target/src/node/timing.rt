@@ -7,7 +7,6 @@ ghost use Rattle.sbp_target.specs.Receiving.{expire_agent, expired, expired_from
 
 use super::Node;
 use crate::desk::Desk;
-use crate::place::LoginPlace;
 use crate::purpose::Purpose;
 use async_packet::Label;
 use label_table::{Stale, Transactions};
@@ -15,6 +14,7 @@ use login_table::{Login, Logins};
 use orb_layout::Reply;
 use sbp_base::{Generation, NoMemory, NodeId};
 use sbp_journal::{CutCause, Outbox, Side};
+use target_base::LoginPlace;
 
 /// Tells that the live login of a place is held.
 fn tell_held(outbox: &mut Outbox, login: Option<Login>) -> Result<(), NoMemory>
@@ -134,7 +134,7 @@ impl Node {
         let Some(which) = self.awaited(place, peer, label) else {
             return Ok(());
         };
-        let step = self.desks[usize::from(place.number())].expire(which);
+        let step = self.desks[place.index()].expire(which);
         self.follow(outbox, place, &login, step)
     }
 

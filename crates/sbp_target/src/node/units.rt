@@ -1,53 +1,28 @@
-ghost use Rattle.std.specs.Prelude.{◌≡◌, ◌+◌, ◌-◌, ◌^◌, ◌<◌, ◌≤◌, length, OnOk};
+ghost use Rattle.std.specs.Prelude.{◌≡◌, ℕ, ◌+◌, ◌-◌, ◌^◌, ◌<◌, ◌≤◌, List, [], length, OnOk};
+ghost use Rattle.async_packet.specs.Packet.{view};
+ghost use Rattle.label_table.specs.Bodies.{Gives};
+ghost use Rattle.label_table.specs.Requests.{IsRequestOf};
+ghost use Rattle.target_base.specs.Addresses.{complete};
+ghost use Rattle.sbp_target.specs.Serving.{answered, enabled};
 ghost use Rattle.std.specs.List.{list_any};
 ghost use Rattle.media_bay.specs.Unsolicited.{block};
 ghost use Rattle.sbp_target.specs.Nodes.{desk_at, scene};
-ghost use Rattle.sbp_target.specs.Units.{announce_at, announce_from, announce_to, clear_from, clear_unit, cut_all, cut_at, hears, is_cut, is_of_unit, is_pending, is_place, mask_bit, mask_of, with_changed};
+ghost use Rattle.sbp_target.specs.Units.{announce_at, announce_from, announce_to, clear_from, clear_unit, cut_all, cut_at, hears, is_cut, is_pending, with_changed};
 
 use super::Node;
 use crate::desk::Desk;
-use crate::place::LoginPlace;
 use crate::purpose::Purpose;
 use crate::sending::send_request;
+use async_packet::PacketRef;
 use label_table::RequestBody;
-use login_table::{Login, Logins};
+use login_table::Login;
 use media_bay::write_unsolicited;
 use sbp_base::{NoMemory, NodeId};
 use sbp_journal::{CutCause, Outbox, Side};
+use target_base::{COMPLETE, LoginPlace, mask_of};
 
 /// The places of the table of logins.
 const PLACES: usize = 8;
-
-/// Whether this is a place, where there is one.
-fn is_place(other: Option<LoginPlace>, place: u8) -> bool
-    ensures { result ≡ is_place other place }
-{
-    match other {
-        Some(other) => other.number() == place,
-        None => false,
-    }
-}
-
-/// The bit of a place, where its login is one of the unit and it is not the place excepted.
-fn mask_bit(logins: &Logins, unit: u8, except: Option<LoginPlace>, place: u8) -> u8
-    requires { place < 8 }
-    ensures value { result ≡ mask_bit unit except logins.now.places place }
-    ensures most { result ≤ 2 ^ place }
-{
-    match logins.at(place) {
-        Some(login) if login.unit == unit && !is_place(except, place) => 1 << place,
-        _ => 0,
-    }
-}
-
-/// The places of the logins of a unit, live and held, but for one.
-#[tactic(auto, unfolding(crate::specs::Units::mask_of))]
-fn mask_of(logins: &Logins, unit: u8, except: Option<LoginPlace>) -> u8
-    ensures { result ≡ mask_of unit except logins.now.places }
-{
-    let bit = |place: u8| mask_bit(logins, unit, except, place);
-    bit(0) + bit(1) + bit(2) + bit(3) + bit(4) + bit(5) + bit(6) + bit(7)
-}
 
 /// Whether a login of a place hears of a disc that a command of another place loaded.
 fn hears(unit: u8, from: LoginPlace, place: LoginPlace, desk: &Desk, login: &Login) -> bool
@@ -115,11 +90,29 @@ impl Node {
         let Some(login) = self.logins.at(place.number()) else {
             return Ok(());
         };
-        let desk = &self.desks[usize::from(place.number())];
+        let desk = &self.desks[place.index()];
         if !hears(unit, from, place, desk, &login) {
             return Ok(());
         }
         self.announce_to(outbox, place, &login)
+    }
+
+    /// A write of UNSOLICITED_STATUS_ENABLE.
+    pub(super) fn enable(
+        &mut self,
+        outbox: &mut Outbox,
+        request: &PacketRef<'_>,
+        bytes: &[u8],
+        place: LoginPlace,
+    ) -> Result<(), NoMemory>
+        requires request { IsRequestOf bytes.now (view request.now) }
+        requires suits { (rcode : ℕ) (given : List ℕ) → Gives (view request.now) rcode given }
+        ensures step { OnOk result (scene self.new outbox.new ≡ answered (view request.now) bytes.now complete [] (enabled place (scene self.old outbox.old))) }
+        ensures count { self.new.layer.calls ≡ self.old.layer.calls }
+        ensures units { length self.new.units ≡ length self.old.units }
+    {
+        self.desks[place.index()].is_enabled = true;
+        self.answer(outbox, request, bytes, COMPLETE, &[])
     }
 
     /// Sends a login its unsolicited status, or tells that it was not sent.
@@ -161,7 +154,7 @@ impl Node {
                 place: place_number,
             });
         }
-        self.desks[usize::from(place_number)].is_enabled = false;
+        self.desks[place.index()].is_enabled = false;
         self.pending.push(login.node)?;
         outbox.tell(Side::Unsolicited {
             place: place_number,

@@ -11,14 +11,14 @@ use Rattle.label_table.specs.Bodies.{Gives}
 use Rattle.orb_layout.specs.declared.pointer.OrbPointer.{OrbPointer}
 use Rattle.orb_layout.specs.Pointers.{IsPointer, offset_at, pointer_at}
 use Rattle.orb_layout.specs.Replies.{Answer, Payload, Done, Refused}
-use Rattle.sbp_target.specs.declared.address.Access.{Access}
-use Rattle.sbp_target.specs.declared.address.Access.TheVariants as accesses
-use Rattle.sbp_target.specs.declared.address.AgentRegister.{AgentRegister}
-use Rattle.sbp_target.specs.declared.address.Demand.{Demand}
-use Rattle.sbp_target.specs.declared.address.Demand.TheVariants as demands
-use Rattle.sbp_target.specs.declared.address.Register.{Register}
-use Rattle.sbp_target.specs.declared.address.Register.TheVariants as registers
-use Rattle.sbp_target.specs.Addresses.{Reached, Row, accessed, accessed_at, by_address, by_register, by_rom, by_type, demand_by, demand_of, is_read, length_in, managed, management_start, offset_in, or_nowhere, reached, reads_rom, register_at, rom_start, row_of, served, served_by}
+use Rattle.target_base.specs.declared.address.Access.{Access}
+use Rattle.target_base.specs.declared.address.Access.TheVariants as accesses
+use Rattle.target_base.specs.declared.address.AgentRegister.{AgentRegister}
+use Rattle.target_base.specs.declared.address.Demand.{Demand}
+use Rattle.target_base.specs.declared.address.Demand.TheVariants as demands
+use Rattle.target_base.specs.declared.address.Register.{Register}
+use Rattle.target_base.specs.declared.address.Register.TheVariants as registers
+use Rattle.target_base.specs.Addresses.{Reached, Row, accessed, accessed_at, by_address, by_register, by_rom, by_type, demand_by, demand_of, is_read, length_in, managed, management_start, offset_in, or_nowhere, reached, reads_rom, register_at, rom_start, row_of, served, served_by}
 use Rattle.sbp_target.specs.Receiving.{answer_by, answer_in}
 use Rattle.sbp_world.proofs.FitTarget.Agents.{BytesIn, offset_fits, pointer_fits}
 

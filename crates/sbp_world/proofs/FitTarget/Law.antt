@@ -36,14 +36,16 @@ use Rattle.sbp_journal.specs.Outgoings.{OutboxState, empty_outbox}
 use Rattle.sbp_target.specs.declared.desk.Desk.{Desk}
 use Rattle.sbp_target.specs.declared.purpose.Purpose.{Purpose}
 use Rattle.sbp_target.specs.declared.purpose.Sent.{Sent}
-use Rattle.sbp_target.specs.Addresses.{address_error}
+use Rattle.target_base.specs.Addresses.{address_error}
 use Rattle.sbp_target.specs.Agents.{cut}
 use Rattle.sbp_target.specs.Desks.{disabled, new_desk, reset_desk}
 use Rattle.sbp_target.specs.Nodes.{NodeState, Scene, scene, desk_at, login_at}
 use Rattle.sbp_target.specs.Replies.{Whole, whole, scene_of}
 use Rattle.sbp_target.specs.Serving.{answered, is_barred, request_step, serve}
 use Rattle.sbp_target.specs.Units.{cut_all, cut_at, cut_from}
-use Rattle.sbp_target.specs.Receiving.{after_reset, answer_in, cleared_node, expired, expired_in, judged_scene, new_node, ready_from, ready_login, received, received_as, reset_by, seen, target_eui, ticked, ticked_by, with_layer}
+use Rattle.sbp_target.specs.Receiving.{after_reset, answer_in, cleared_node, expired, expired_in, judged_scene, new_node, received, received_as, reset_by, seen, ticked, ticked_by, with_layer}
+use Rattle.target_base.specs.Beginning.{ready_from, target_eui}
+use Rattle.target_base.specs.Beginning.{ready_login}
 use Rattle.sbp_target.specs.Calls.{lets_expire, sees, sets_key, ticks, alone}
 use Rattle.sbp_world.specs.FitTarget.{AreIds, BytesTold, Expires, Fits, FitsAgent, FitsLogin, FitsOperation, FitsSeat, Holds, IsOfKnown, MayReceive, FittingLaw, Receives, TargetFits}
 use Rattle.sbp_world.proofs.FitTarget.Agents.{new_fits, quads_bytes}

@@ -45,7 +45,8 @@ use Rattle.sbp_target.specs.Sending.{request_step, sent_by, with_side}
 use Rattle.sbp_target.specs.Telling.{orb_of, tell_step, tell_ran, tell_dead, tell_ended}
 use Rattle.sbp_target.specs.Nodes.{NodeState, Scene, scene, desk_at, login_at, with_desk, with_agent}
 use Rattle.sbp_target.specs.Agents.{agent_body, disowned, without_ahead, dropped_by, promoted, promoted_by, noted, main_sent, main_asked, ask_main, lost_by, lose, ahead_sent, ahead_asked, after_ahead, send_ahead, after_loss, lose_main, after_main, follow, sent_to, told_cut, cut_node, cut}
-use Rattle.sbp_target.specs.Units.{is_of_unit, is_pending, unsolicited_by, unsolicited_from, announce_to, announce_in, announce_at, announce_from, hears, is_cut, cut_at, cut_from, cut_all, clear_unit, clear_from}
+use Rattle.sbp_target.specs.Units.{is_pending, unsolicited_by, unsolicited_from, announce_to, announce_in, announce_at, announce_from, hears, is_cut, cut_at, cut_from, cut_all, clear_unit, clear_from}
+use Rattle.target_base.specs.Places.{is_of_unit}
 use Rattle.sbp_world.specs.FitTarget.{Fits, FitsAgent, FitsLogin, FitsSeat, IsOfKnown}
 use Rattle.sbp_world.proofs.FitTarget.Agents.{FitsAsk, FitsStep, lost_fits, quads_bytes, reset_fits}
 use Rattle.sbp_world.proofs.FitTarget.Nodes.{IfBody, agent_body_fits, fits_desk, fits_layer, none_main, seat_reset}

@@ -1,6 +1,0 @@
-use Rattle.std.specs.Prelude.{◌≡◌, take}
-use Rattle.orb_layout.specs.Pointers.{quad_bytes}
-use Rattle.sbp_target.proofs.node.making.quad_bytes.Given as goal
-
-abbrev pub invariant-loop-quad : goal.invariant-loop-quad
-invariant-loop-quad l = l.bytes.items ≡ quad_bytes (take l.quad-index l.quads)

@@ -1,0 +1,3 @@
+pub mod Making
+pub mod Addressed
+pub mod Turns
