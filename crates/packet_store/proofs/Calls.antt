@@ -6,12 +6,12 @@ use Rattle.packet_store.specs.declared.sent.Kept.{Kept}
 use Rattle.packet_store.specs.declared.sent.Sent.{Sent}
 use Rattle.packet_store.specs.declared.transaction.Transaction.{Transaction}
 use Rattle.packet_store.specs.Transactions.{begun_by, belongs}
-use Rattle.packet_store.specs.Kept.{without, with_delivered, delivered, found, sent_of, is_flying, Rise}
+use Rattle.packet_store.specs.Kept.{without, with_delivered, delivered, found, in_air, sent_of, is_flying, Rise}
 use Rattle.packet_store.specs.Sound.{is_earlier}
 use Rattle.packet_store.specs.Stored.{stays, with_sent}
 use Rattle.packet_store.specs.Calls.{Call, send, deliver, lose, after, MayAll, sends, sent_at, Flight, Unsent, InFlight, Delivered, Lost, Withdrawn, by_request, is_of, state_at}
 use Rattle.packet_store.specs.Laws.{SerialLaw, WholeLaw, KeepsLaw, GoneLaw, ClosedLaw, shown}
-use Rattle.packet_store.proofs.Flights.{keep_if, in_air, marked, ruled, beyond, rise_filtered, rise_marked, rise_sent, found_filtered, found_marked, found_before, found_new, in_air_is}
+use Rattle.packet_store.proofs.Flights.{keep_if, marked, ruled, beyond, rise_filtered, rise_marked, rise_sent, found_filtered, found_marked, found_before, found_new, in_air_is}
 
 pub serial_law : SerialLaw
 serial_law [] = refl

@@ -8,7 +8,7 @@ use Rattle.packet_store.specs.declared.sent.Sent.{Sent}
 use Rattle.packet_store.specs.declared.transaction.Transaction.{Transaction}
 use Rattle.packet_store.specs.declared.index.Index.{Index}
 use Rattle.packet_store.specs.Transactions.{begun_by}
-use Rattle.packet_store.specs.Kept.{with_delivered, delivered, found, flying, is_flying, first, Rise, IsLowest, NoneFlies}
+use Rattle.packet_store.specs.Kept.{with_delivered, delivered, found, flying, in_air, is_flying, first, Rise, IsLowest, NoneFlies}
 use Rattle.packet_store.specs.Sound.{is_earlier, AreKept}
 use Rattle.packet_store.specs.Stored.{stays, newest, by_bus_rule, with_sent}
 
@@ -16,10 +16,6 @@ use Rattle.packet_store.specs.Stored.{stays, newest, by_bus_rule, with_sent}
 abbrev pub keep_if : (Kept → Bool) → Option Kept → Option Kept
 keep_if p None = None
 keep_if p (Some k) = cond (p k) (Some k) None
-
-abbrev pub in_air : Option Kept → Bool
-in_air None = false
-in_air (Some k) = k.in_flight
 
 abbrev pub marked : ℕ → Option Kept → Option Kept
 marked d None = None

@@ -6,4 +6,5 @@ pub mod Listed
 pub mod Shelved
 pub mod Sound
 pub mod Flights
+pub mod Airborne
 pub mod Calls

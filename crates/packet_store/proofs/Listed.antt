@@ -138,7 +138,7 @@ pushed_end f g k m p e =
     ap (λ xs. xs ++ entry (g (suc m))) (listed_same f g m (λ q l. kept_other f g k q p (λ eq. absurd (omega (arith, eq, e, l)))))
     ∙ ap (λ o. listed f m ++ entry o) here
 
-none_behind : (f : ℕ → Option Kept) (k : Kept) (n q : ℕ) → Named f → f 0 ≡ None → ((p : ℕ) → n < p → f p ≡ None) → AreBelow k.serial (listed f n) → k.serial ≤ q → f q ≡ None
+pub none_behind : (f : ℕ → Option Kept) (k : Kept) (n q : ℕ) → Named f → f 0 ≡ None → ((p : ℕ) → n < p → f p ≡ None) → AreBelow k.serial (listed f n) → k.serial ≤ q → f q ≡ None
 none_behind f k n q named first ends below l = sym (found_any f q n named first ends) ∙ below_found k.serial q (listed f n) below l
 
 cut_by : (f : ℕ → Option Kept) (m n : ℕ) (b : Bool) → nat_lt m n ≡ b → ((q : ℕ) → m < q → f q ≡ None) → ((q : ℕ) → n < q → f q ≡ None) → listed f m ≡ listed f n

@@ -107,25 +107,30 @@ none_in zero at = refl
 none_in (suc count) zero = refl
 none_in (suc count) (suc at) = none_in count at
 
--- ---- what the index has, by what its three parts have
+-- ---- what the index has, by what its four parts have
 pub or_first : (s a rest : Bool) → ((s || a) || rest) ≡ (s || (a || rest))
 or_first true a rest = refl
 or_first false a rest = refl
 
-pub or_second : (s a b c : Bool) → (a || ((s || b) || c)) ≡ (s || (a || (b || c)))
-or_second true true b c = refl
-or_second true false b c = refl
-or_second false a b c = refl
+pub or_second : (s a b rest : Bool) → (a || ((s || b) || rest)) ≡ (s || (a || (b || rest)))
+or_second true true b rest = refl
+or_second true false b rest = refl
+or_second false a b rest = refl
 
-pub or_third : (s a b c : Bool) → (a || (b || (s || c))) ≡ (s || (a || (b || c)))
-or_third true true b c = refl
-or_third true false true c = refl
-or_third true false false c = refl
-or_third false a b c = refl
+pub or_third : (s a b c rest : Bool) → (a || (b || ((s || c) || rest))) ≡ (s || (a || (b || (c || rest))))
+or_third s true b c rest = or_second s true b (c || rest)
+or_third s false b c rest = or_second s b c rest
 
-pub left_each : (s a b c : Bool) → ((not s && a) || ((not s && b) || (not s && c))) ≡ (not s && (a || (b || c)))
-left_each true a b c = refl
-left_each false a b c = refl
+pub or_fourth : (s a b c d : Bool) → (a || (b || (c || (s || d)))) ≡ (s || (a || (b || (c || d))))
+or_fourth true true b c d = refl
+or_fourth true false true c d = refl
+or_fourth true false false true d = refl
+or_fourth true false false false d = refl
+or_fourth false a b c d = refl
+
+pub left_each : (s a b c d : Bool) → ((not s && a) || ((not s && b) || ((not s && c) || (not s && d)))) ≡ (not s && (a || (b || (c || d))))
+left_each true a b c d = refl
+left_each false a b c d = refl
 
 pub or_left : (x y : Bool) → x ≡ true → (x || y) ≡ true
 or_left x y e = rw e refl
@@ -134,8 +139,8 @@ pub or_right : (x y : Bool) → y ≡ true → (x || y) ≡ true
 or_right true y e = refl
 or_right false y e = e
 
-pub or_none : (x y z : Bool) → x ≡ false → y ≡ false → z ≡ false → (x || (y || z)) ≡ false
-or_none x y z e f g = rw (e, f, g) refl
+pub or_none : (x y z w : Bool) → x ≡ false → y ≡ false → z ≡ false → w ≡ false → (x || (y || (z || w))) ≡ false
+or_none x y z w e f g h = rw (e, f, g, h) refl
 
 -- ---- the serials under a transaction
 abbrev one_if : Bool → ℕ

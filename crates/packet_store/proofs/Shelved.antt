@@ -1,14 +1,17 @@
 -- The fields of a shelf fit each other after each change of its ring.
-use Rattle.std.proofs.Common.{◌≡◌, ◌∙◌, refl, sym, ap, ℕ, ◌+◌, ◌-◌, ◌<◌, ◌≤◌, Bool, true, false, [], ◌∷◌, ◌++◌, length, None, Some, cond, arith, length-append}
+use Rattle.std.proofs.Common.{◌≡◌, ◌∙◌, refl, sym, subst, ap, ℕ, ◌+◌, ◌-◌, ◌<◌, ◌≤◌, Bool, true, false, List, [], ◌∷◌, ◌++◌, length, None, Some, cond, arith, length-append}
 use Rattle.std.specs.Prelude.{◌==◌, nat_lt, Option}
 use Rattle.std.specs.Option.{is_some}
 use Rattle.std.proofs.lemmas.Bool.Decides.{nat_tests}
 use Rattle.packet_store.specs.declared.sent.Kept.{Kept}
 use Rattle.packet_store.specs.declared.ring.Ring.{Ring}
-use Rattle.packet_store.specs.Kept.{without, with_delivered, AreBelow}
+use Rattle.packet_store.specs.declared.aloft.Flights.{Flights}
+use Rattle.packet_store.specs.Kept.{without, with_delivered, flying, in_air, AreBelow}
+use Rattle.packet_store.specs.Flights.{AreFlights, Landed, Least, NoneAbove, lowest_with}
 use Rattle.packet_store.specs.Rings.{holds, marked, Placed}
 use Rattle.packet_store.specs.Shelves.{listed, IsShelf}
-use Rattle.packet_store.proofs.Listed.{Puts, listed_same, listed_pushed, named_put, first_put, ends_put, listed_without, without_none, named_less, none_less, listed_less, listed_few, listed_delivered, named_delivered, none_delivered, delivered_length}
+use Rattle.packet_store.proofs.Airborne.{landed_count, put_count, put_least, least_same, still_count, still_least}
+use Rattle.packet_store.proofs.Listed.{Puts, none_behind, listed_same, listed_pushed, named_put, first_put, ends_put, listed_without, without_none, named_less, none_less, listed_less, listed_few, listed_delivered, named_delivered, none_delivered, delivered_length}
 
 -- ---- the same under each serial
 pub same_shelf : (ring after : Ring) (last count : ℕ) → IsShelf ring last count → Placed after.slots.items → ((q : ℕ) → holds after q ≡ holds ring q) → IsShelf after last count
@@ -104,3 +107,55 @@ some_of (Some k) e = record { kept = k; is = refl }
 pub none_of : (o : Option Kept) → is_some o ≡ false → o ≡ None
 none_of None e = refl
 none_of (Some k) e = cc e
+
+-- ---- what is in flight
+pub none_above : (ring : Ring) (last count : ℕ) → IsShelf ring last count → NoneAbove last (holds ring)
+none_above ring last count i = λ q l. ap in_air (i.ends q l)
+
+-- where a serial is in flight, what is in flight is some
+flying_inside : (ring : Ring) (s last count : ℕ) (o : Option Kept) → holds ring s ≡ o → IsShelf ring last count → in_air o ≡ true → s ≤ last
+flying_inside ring s last count None h i a = cc a
+flying_inside ring s last count (Some k) h i a = inside_by ring s last count k (nat_lt last s) refl i h
+
+-- a serial that was in flight landed
+pub landed_count_is : (ring after : Ring) (s last count : ℕ) (flights : Flights) → IsShelf ring last count → AreFlights ring last flights → Landed s (holds ring) (holds after) → in_air (holds ring s) ≡ true → length (flying (listed (holds after) last)) + 1 ≡ flights.count
+landed_count_is ring after s last count flights i fl l a =
+    landed_count s last (holds ring) (holds after) l i.first a (flying_inside ring s last count (holds ring s) refl i a) ∙ sym fl.counted
+
+pub landed_flights : (ring after : Ring) (s last count : ℕ) (flights fewer : Flights) → IsShelf ring last count → AreFlights ring last flights → Landed s (holds ring) (holds after) → in_air (holds ring s) ≡ true → fewer.count + 1 ≡ flights.count → Least (holds after) fewer.lowest → AreFlights after last fewer
+landed_flights ring after s last count flights fewer i fl l a e h =
+    let n = landed_count_is ring after s last count flights i fl l a in
+    record { lowest = h; counted = omega (arith, n, e) }
+
+-- a serial that was not in flight changed
+pub still_flights : (ring after : Ring) (s last : ℕ) (flights : Flights) → AreFlights ring last flights → Landed s (holds ring) (holds after) → in_air (holds ring s) ≡ false → AreFlights after last flights
+still_flights ring after s last flights fl l a = record {
+  lowest = still_least s flights.lowest (holds ring) (holds after) l a fl.lowest;
+  counted = fl.counted ∙ sym (still_count s last (holds ring) (holds after) l a);
+}
+
+pub same_flights : (ring after : Ring) (last : ℕ) (flights : Flights) → AreFlights ring last flights → ((q : ℕ) → holds after q ≡ holds ring q) → AreFlights after last flights
+same_flights ring after last flights fl e = record {
+  lowest = least_same (holds ring) (holds after) flights.lowest e fl.lowest;
+  counted = fl.counted ∙ ap (λ xs. length (flying xs)) (sym (same_list ring after last e));
+}
+
+-- a packet more is in flight
+pub pushed_flights : (ring after : Ring) (k : Kept) (last count : ℕ) (flights more : Flights) → IsShelf ring last count → AreFlights ring last flights → ((q : ℕ) → holds after q ≡ cond (k.serial == q) (Some k) (holds ring q)) → 0 < k.serial → AreBelow k.serial (listed (holds ring) last) → k.in_flight ≡ true → more.lowest ≡ lowest_with k.serial flights.lowest → more.count ≡ flights.count + 1 → AreFlights after k.serial more
+pushed_flights ring after k last count flights more i fl e l b t lo co = record {
+  lowest = subst (Least (holds after)) (sym lo) (put_least k flights.lowest (holds ring) (holds after) e t (λ q u. none_behind (holds ring) k last q i.named i.first i.ends b u) fl.lowest);
+  counted = co ∙ ap (λ n. n + 1) fl.counted ∙ sym (put_count k (listed (holds ring) last) t) ∙ ap (λ xs. length (flying xs)) (sym (pushed_list ring after k last count i e l b));
+}
+
+fewer_step : (k : Kept) (ks : List Kept) (b : Bool) → length (flying ks) ≤ length ks → length (cond b (k.serial ∷ flying ks) (flying ks)) ≤ length (k ∷ ks)
+fewer_step k ks true n = omega (arith, n)
+fewer_step k ks false n = omega (arith, n)
+
+fewer_flights : (ks : List Kept) → length (flying ks) ≤ length ks
+fewer_flights [] = omega arith
+fewer_flights (k ∷ ks) = let n = fewer_flights ks in fewer_step k ks k.in_flight n
+
+pub few_flights : (ring : Ring) (last count : ℕ) (flights : Flights) → IsShelf ring last count → AreFlights ring last flights → flights.count ≤ count
+few_flights ring last count flights i fl =
+    let n = fewer_flights (listed (holds ring) last) in
+    omega (arith, n, i.counted, fl.counted)

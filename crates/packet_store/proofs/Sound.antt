@@ -1,13 +1,7 @@
--- The ties between the packets, the serials in flight and the index after each change.
+-- The ties between the packets and the index after each change.
 use Rattle.std.proofs.Common.{◌≡◌, ◌∙◌, refl, sym, subst, ap, ℕ, ◌+◌, ◌<◌, ◌≤◌, Bool, true, false, List, [], ◌∷◌, ◌++◌, Some, cond, arith}
 use Rattle.std.specs.Prelude.{length, ◌≢◌, ◌==◌, ◌&&◌, ◌||◌, nat_lt, not, Option}
 use Rattle.std.specs.List.{filter}
-use Rattle.std.specs.Set.{remove_key}
-use Rattle.std.specs.BTreeMap.{is_at}
-use Rattle.std.specs.Ordering.{nat_cmp}
-use Rattle.std.specs.declared.cmp.Ordering.TheVariants.{Greater}
-use Rattle.std.specs.BTreeSet.{insert_key}
-use Rattle.std.specs.Cmp.{unsigned_ties, nat_cmp_is}
 use Rattle.std.proofs.lemmas.Bool.Decides.{nat_tests}
 use Rattle.packet_store.specs.declared.sent.Kept.{Kept}
 use Rattle.packet_store.specs.declared.transaction.Transaction.{Transaction}
@@ -18,9 +12,6 @@ use Rattle.packet_store.specs.Kept.{without, with_delivered, found, flying, is_d
 use Rattle.packet_store.specs.Stored.{stays, newest}
 use Rattle.packet_store.specs.declared.sent.Sent.{Sent}
 use Rattle.packet_store.specs.Sound.{IsKept, AreKept, Tied, is_earlier, withdrawn}
-
-at_serial : (s q : ℕ) → is_at (nat_cmp s) q ≡ (s == q)
-at_serial s q = sym (unsigned_ties s q)
 
 differs : (s q : ℕ) → s ≢ q → (s == q) ≡ false
 differs s q ne = grind (arith, nat_tests)
@@ -33,14 +24,9 @@ lower index last since low next (k ∷ ks) l h = (record { above = omega (arith,
 record Apart (index : Index) (last since low s : ℕ) (ks : List Kept) : Type 0 where
   none : without s ks ≡ ks
   undelivered : with_delivered s ks ≡ ks
-  no_flight : remove_key (is_at (nat_cmp s)) (flying ks) ≡ flying ks
-
-flight_apart : (s : ℕ) (k : Kept) (ks : List Kept) (b : Bool) → (s == k.serial) ≡ false → remove_key (is_at (nat_cmp s)) (flying ks) ≡ flying ks → remove_key (is_at (nat_cmp s)) (cond b (k.serial ∷ flying ks) (flying ks)) ≡ cond b (k.serial ∷ flying ks) (flying ks)
-flight_apart s k ks true d h = rw (at_serial s k.serial, d) (ap (λ xs. k.serial ∷ xs) h)
-flight_apart s k ks false d h = h
 
 apart : (index : Index) (last since low s : ℕ) (ks : List Kept) → AreKept index last since low ks → s ≤ low → Apart index last since low s ks
-apart index last since low s [] h l = record { none = refl; undelivered = refl; no_flight = refl }
+apart index last since low s [] h l = record { none = refl; undelivered = refl }
 apart index last since low s (k ∷ ks) h l =
     let up = h.0.above in
     let ind = apart index last since k.serial s ks h.1 (omega (arith, up, l)) in
@@ -48,80 +34,45 @@ apart index last since low s (k ∷ ks) h l =
     record {
       none = rw d (ap (λ xs. k ∷ xs) ind.none);
       undelivered = rw d (ap (λ xs. k ∷ xs) ind.undelivered);
-      no_flight = flight_apart s k ks k.in_flight d ind.no_flight;
     }
 
 -- ---- a packet less
-pub record Less (index : Index) (last since low s : ℕ) (ks : List Kept) : Type 0 where
-  pub kept : AreKept index last since low (without s ks)
-  pub flights : remove_key (is_at (nat_cmp s)) (flying ks) ≡ flying (without s ks)
-
-flight_less : (s : ℕ) (k : Kept) (ks : List Kept) (b : Bool) → (s == k.serial) ≡ true → remove_key (is_at (nat_cmp s)) (flying ks) ≡ flying ks → remove_key (is_at (nat_cmp s)) (cond b (k.serial ∷ flying ks) (flying ks)) ≡ flying ks
-flight_less s k ks true d h = rw (at_serial s k.serial, d) refl
-flight_less s k ks false d h = h
-
-flight_next : (s : ℕ) (k : Kept) (ks rest : List Kept) (b : Bool) → (s == k.serial) ≡ false → remove_key (is_at (nat_cmp s)) (flying ks) ≡ flying rest → remove_key (is_at (nat_cmp s)) (cond b (k.serial ∷ flying ks) (flying ks)) ≡ cond b (k.serial ∷ flying rest) (flying rest)
-flight_next s k ks rest true d h = rw (at_serial s k.serial, d) (ap (λ xs. k.serial ∷ xs) h)
-flight_next s k ks rest false d h = h
-
-less_step : (index : Index) (last since low s : ℕ) (k : Kept) (ks : List Kept) (b : Bool) → (s == k.serial) ≡ b → AreKept index last since low (k ∷ ks) → Less index last since k.serial s ks → Less index last since low s (k ∷ ks)
+less_step : (index : Index) (last since low s : ℕ) (k : Kept) (ks : List Kept) (b : Bool) → (s == k.serial) ≡ b → AreKept index last since low (k ∷ ks) → AreKept index last since k.serial (without s ks) → AreKept index last since low (without s (k ∷ ks))
 less_step index last since low s k ks true d h ind =
     let up = h.0.above in
     let eq : s ≡ k.serial = grind (arith, nat_tests) in
     let a = apart index last since k.serial s ks h.1 (omega (arith, eq)) in
-    record {
-      kept = rw (d, a.none) (lower index last since low k.serial ks (omega (arith, up)) h.1);
-      flights = flight_less s k ks k.in_flight d a.no_flight ∙ rw (d, a.none) refl;
-    }
-less_step index last since low s k ks false d h ind = record {
-  kept = rw d (h.0, ind.kept);
-  flights = flight_next s k ks (without s ks) k.in_flight d ind.flights ∙ rw d refl;
-}
+    rw (d, a.none) (lower index last since low k.serial ks (omega (arith, up)) h.1)
+less_step index last since low s k ks false d h ind = rw d (h.0, ind)
 
-less : (index : Index) (last since low s : ℕ) (ks : List Kept) → AreKept index last since low ks → Less index last since low s ks
-less index last since low s [] h = record { kept = tt; flights = refl }
+less : (index : Index) (last since low s : ℕ) (ks : List Kept) → AreKept index last since low ks → AreKept index last since low (without s ks)
+less index last since low s [] h = tt
 less index last since low s (k ∷ ks) h = less_step index last since low s k ks (s == k.serial) refl h (less index last since k.serial s ks h.1)
 
-pub tied_less : (kept after : List Kept) (flights fewer : List ℕ) (index : Index) (last since s : ℕ) → Tied kept flights index last since → after ≡ without s kept → fewer ≡ remove_key (is_at (nat_cmp s)) flights → Tied after fewer index last since
-tied_less kept after flights fewer index last since s t a f =
-    let l = less index last since 0 s kept t.sound in
-    record {
-      sound = subst (AreKept index last since 0) (sym a) l.kept;
-      flights = f ∙ ap (remove_key (is_at (nat_cmp s))) t.flights ∙ l.flights ∙ ap flying (sym a);
-      fresh = t.fresh;
-    }
+pub tied_less : (kept after : List Kept) (index : Index) (last since s : ℕ) → Tied kept index last since → after ≡ without s kept → Tied after index last since
+tied_less kept after index last since s t a = record {
+  sound = subst (AreKept index last since 0) (sym a) (less index last since 0 s kept t.sound);
+  fresh = t.fresh;
+}
 
 -- ---- a packet delivered
-pub record Marked (index : Index) (last since low s : ℕ) (ks : List Kept) : Type 0 where
-  pub kept : AreKept index last since low (with_delivered s ks)
-  pub flights : remove_key (is_at (nat_cmp s)) (flying ks) ≡ flying (with_delivered s ks)
-
-marked_step : (index : Index) (last since low s : ℕ) (k : Kept) (ks : List Kept) (b : Bool) → (s == k.serial) ≡ b → since < s → AreKept index last since low (k ∷ ks) → Marked index last since k.serial s ks → Marked index last since low s (k ∷ ks)
+marked_step : (index : Index) (last since low s : ℕ) (k : Kept) (ks : List Kept) (b : Bool) → (s == k.serial) ≡ b → since < s → AreKept index last since low (k ∷ ks) → AreKept index last since k.serial (with_delivered s ks) → AreKept index last since low (with_delivered s (k ∷ ks))
 marked_step index last since low s k ks true d l h ind =
     let eq : s ≡ k.serial = grind (arith, nat_tests) in
     let a = apart index last since k.serial s ks h.1 (omega (arith, eq)) in
     let recent : since < k.serial = omega (arith, eq, l) in
-    record {
-      kept = rw (d, a.undelivered) (record { above = h.0.above; below = h.0.below; recent = λ _. recent; indexed = h.0.indexed }, h.1);
-      flights = flight_less s k ks k.in_flight d a.no_flight ∙ rw (d, a.undelivered) refl;
-    }
-marked_step index last since low s k ks false d l h ind = record {
-  kept = rw d (h.0, ind.kept);
-  flights = flight_next s k ks (with_delivered s ks) k.in_flight d ind.flights ∙ rw d refl;
-}
+    rw (d, a.undelivered) (record { above = h.0.above; below = h.0.below; recent = λ _. recent; indexed = h.0.indexed }, h.1)
+marked_step index last since low s k ks false d l h ind = rw d (h.0, ind)
 
-marked : (index : Index) (last since low s : ℕ) (ks : List Kept) → since < s → AreKept index last since low ks → Marked index last since low s ks
-marked index last since low s [] l h = record { kept = tt; flights = refl }
+marked : (index : Index) (last since low s : ℕ) (ks : List Kept) → since < s → AreKept index last since low ks → AreKept index last since low (with_delivered s ks)
+marked index last since low s [] l h = tt
 marked index last since low s (k ∷ ks) l h = marked_step index last since low s k ks (s == k.serial) refl l h (marked index last since k.serial s ks l h.1)
 
-pub tied_delivered : (kept after : List Kept) (flights fewer : List ℕ) (index : Index) (last since s : ℕ) → since < s → Tied kept flights index last since → after ≡ with_delivered s kept → fewer ≡ remove_key (is_at (nat_cmp s)) flights → Tied after fewer index last since
-tied_delivered kept after flights fewer index last since s b t a f =
-    let l = marked index last since 0 s kept b t.sound in
-    record {
-      sound = subst (AreKept index last since 0) (sym a) l.kept;
-      flights = f ∙ ap (remove_key (is_at (nat_cmp s))) t.flights ∙ l.flights ∙ ap flying (sym a);
-      fresh = t.fresh;
-    }
+pub tied_delivered : (kept after : List Kept) (index : Index) (last since s : ℕ) → since < s → Tied kept index last since → after ≡ with_delivered s kept → Tied after index last since
+tied_delivered kept after index last since s b t a = record {
+  sound = subst (AreKept index last since 0) (sym a) (marked index last since 0 s kept b t.sound);
+  fresh = t.fresh;
+}
 
 -- ---- a place of the index less, of a serial that is not kept
 record Lacks (s : ℕ) (ks : List Kept) : Type 0 where
@@ -144,10 +95,9 @@ reindexed index after last since low s (k ∷ ks) f h =
     (λ r. reindexed index after last since k.serial s ks f r)
     (λ r. reindexed index after last since low s ks f r)
 
-pub tied_fewer : (kept before : List Kept) (flights : List ℕ) (index after : Index) (last since s : ℕ) → Fewer index after s → kept ≡ without s before → Tied kept flights index last since → Tied kept flights after last since
-tied_fewer kept before flights index after last since s f e t = record {
+pub tied_fewer : (kept before : List Kept) (index after : Index) (last since s : ℕ) → Fewer index after s → kept ≡ without s before → Tied kept index last since → Tied kept after last since
+tied_fewer kept before index after last since s f e t = record {
   sound = subst (AreKept after last since 0) (sym e) (reindexed index after last since 0 s before f (subst (AreKept index last since 0) e t.sound));
-  flights = t.flights;
   fresh = λ u q l. f.gone u q (t.fresh u q l);
 }
 
@@ -259,59 +209,13 @@ raised index last since low aged (k ∷ ks) h =
     raised_step index last since low aged k (filter (stays aged) ks) (stays aged k) refl h
     (λ r. raised index last since k.serial aged ks r) (λ r. raised index last since low aged ks r)
 
-pub tied_raised : (before kept : List Kept) (flights : List ℕ) (index : Index) (last since aged : ℕ) → kept ≡ filter (stays aged) before → Tied kept flights index last since → Tied kept flights index last aged
-tied_raised before kept flights index last since aged e t = record {
+pub tied_raised : (before kept : List Kept) (index : Index) (last since aged : ℕ) → kept ≡ filter (stays aged) before → Tied kept index last since → Tied kept index last aged
+tied_raised before kept index last since aged e t = record {
   sound = subst (AreKept index last aged 0) (sym e) (raised index last since 0 aged before (subst (AreKept index last since 0) e t.sound));
-  flights = t.flights;
   fresh = t.fresh;
 }
 
 -- ---- a packet more
-AreLower : ℕ → List ℕ → Type 0
-AreLower s [] = Unit {0}
-AreLower s (x ∷ xs) = (x < s) × AreLower s xs
-
-greater : (a b : ℕ) → b < a → nat_cmp a b ≡ Greater
-greater a b h = sym (nat_cmp_is a b Greater h)
-
-lower_cond : (s : ℕ) (k : Kept) (xs : List ℕ) (b : Bool) → k.serial < s → AreLower s xs → AreLower s (cond b (k.serial ∷ xs) xs)
-unfolding AreLower
-lower_cond s k xs true l h = (l, h)
-lower_cond s k xs false l h = h
-
-flying_lower : (index : Index) (last since low s : ℕ) (ks : List Kept) → AreKept index last since low ks → last < s → AreLower s (flying ks)
-unfolding AreLower
-flying_lower index last since low s [] h l = tt
-flying_lower index last since low s (k ∷ ks) h l =
-    let b = h.0.below in
-    lower_cond s k (flying ks) k.in_flight (omega (arith, b, l)) (flying_lower index last since k.serial s ks h.1 l)
-
-inserted : (s : ℕ) (xs : List ℕ) → AreLower s xs → insert_key nat_cmp xs s ≡ xs ++ s ∷ []
-unfolding AreLower
-inserted s [] h = refl
-inserted s (x ∷ xs) h = rw (greater s x h.0) (ap (λ ys. x ∷ ys) (inserted s xs h.1))
-
-undone : (s : ℕ) (xs : List ℕ) → AreLower s xs → remove_key (is_at (nat_cmp s)) (insert_key nat_cmp xs s) ≡ xs
-unfolding AreLower
-undone s [] h = let e : (s == s) ≡ true = grind (arith, nat_tests) in rw (at_serial s s, e) refl
-undone s (x ∷ xs) h =
-    let l = h.0 in
-    let d : (s == x) ≡ false = differs s x (λ eq. absurd (omega (arith, eq, l))) in
-    rw (greater s x h.0, at_serial s x, d) (ap (λ ys. x ∷ ys) (undone s xs h.1))
-
-flying_cond : (k : Kept) (xs ys : List ℕ) (s : ℕ) (b : Bool) → xs ++ s ∷ [] ≡ ys → cond b (k.serial ∷ xs) xs ++ s ∷ [] ≡ cond b (k.serial ∷ ys) ys
-flying_cond k xs ys s true e = ap (λ zs. k.serial ∷ zs) e
-flying_cond k xs ys s false e = e
-
-flying_pushed : (s : ℕ) (sent : Sent) (ks : List Kept) → flying ks ++ s ∷ [] ≡ flying (ks ++ newest s sent ∷ [])
-flying_pushed s sent [] = refl
-flying_pushed s sent (k ∷ ks) = flying_cond k (flying ks) (flying (ks ++ newest s sent ∷ [])) s k.in_flight (flying_pushed s sent ks)
-
-pub undone_flights : (kept : List Kept) (serials : List ℕ) (index : Index) (last since s : ℕ) → Tied kept serials index last since → last < s → remove_key (is_at (nat_cmp s)) (insert_key nat_cmp serials s) ≡ serials
-undone_flights kept serials index last since s t l =
-    let a : AreLower s serials = subst (AreLower s) (sym t.flights) (flying_lower index last since 0 s kept t.sound l) in
-    undone s serials a
-
 -- the new index has a serial more, under the transaction of the packet
 pub record More (index after : Index) (of : Option Transaction) (s : ℕ) : Type 0 where
   pub added : (t : Transaction) (q : ℕ) → has after t q ≡ ((is_that t of && (s == q)) || has index t q)
@@ -339,15 +243,12 @@ kept_pushed index after last since low s sent (k ∷ ks) m f l u h =
       kept_pushed index after last since k.serial s sent ks m f l (omega (arith, b, l)) h.1,
     )
 
-pub tied_pushed : (kept now : List Kept) (serials more : List ℕ) (index after : Index) (last since : ℕ) (sent : Sent) → Tied kept serials index last since → now ≡ kept ++ newest (last + 1) sent ∷ [] → more ≡ insert_key nat_cmp serials (last + 1) → More index after (transaction_of sent) (last + 1) → Tied now more after (last + 1) since
-tied_pushed kept now serials more index after last since sent t e f m =
-    let s : ℕ = last + 1 in
+pub tied_pushed : (kept now : List Kept) (index after : Index) (last since : ℕ) (sent : Sent) → Tied kept index last since → now ≡ kept ++ newest (last + 1) sent ∷ [] → More index after (transaction_of sent) (last + 1) → Tied now after (last + 1) since
+tied_pushed kept now index after last since sent t e m =
     let l : last < last + 1 = omega arith in
     let z : 0 < last + 1 = omega arith in
-    let a : AreLower (last + 1) (flying kept) = flying_lower index last since 0 (last + 1) kept t.sound l in
     record {
       sound = subst (AreKept after (last + 1) since 0) (sym e) (kept_pushed index after last since 0 (last + 1) sent kept m (λ u. t.fresh u (last + 1) l) l z t.sound);
-      flights = f ∙ ap (λ xs. insert_key nat_cmp xs (last + 1)) t.flights ∙ inserted (last + 1) (flying kept) a ∙ flying_pushed (last + 1) sent kept ∙ ap flying (sym e);
       fresh = λ u q h. more_other index after (transaction_of sent) (last + 1) u q m (differs (last + 1) q (λ eq. absurd (omega (arith, eq, h)))) ∙ t.fresh u q (omega (arith, h));
     }
 
@@ -357,10 +258,9 @@ same_kept index after last since low (k ∷ ks) e h =
     (record { above = h.0.above; below = h.0.below; recent = h.0.recent; indexed = λ t. e t k.serial ∙ h.0.indexed t }, same_kept index after last since k.serial ks e h.1)
 
 -- nothing changed
-pub tied_same : (kept : List Kept) (serials now : List ℕ) (index after : Index) (last since : ℕ) → Tied kept serials index last since → now ≡ serials → ((t : Transaction) (q : ℕ) → has after t q ≡ has index t q) → Tied kept now after last since
-tied_same kept serials now index after last since t f e = record {
+pub tied_same : (kept : List Kept) (index after : Index) (last since : ℕ) → Tied kept index last since → ((t : Transaction) (q : ℕ) → has after t q ≡ has index t q) → Tied kept after last since
+tied_same kept index after last since t e = record {
   sound = same_kept index after last since 0 kept e t.sound;
-  flights = f ∙ t.flights;
   fresh = λ u q h. e u q ∙ t.fresh u q h;
 }
 
@@ -368,8 +268,8 @@ kept_below : (index : Index) (last since low s : ℕ) (ks : List Kept) → last 
 kept_below index last since low s [] l h = tt
 kept_below index last since low s (k ∷ ks) l h = let b = h.0.below in (omega (arith, b, l), kept_below index last since k.serial s ks l h.1)
 
-pub are_below : (kept : List Kept) (serials : List ℕ) (index : Index) (last since : ℕ) → Tied kept serials index last since → AreBelow (last + 1) kept
-are_below kept serials index last since t = kept_below index last since 0 (last + 1) kept (omega arith) t.sound
+pub are_below : (kept : List Kept) (index : Index) (last since : ℕ) → Tied kept index last since → AreBelow (last + 1) kept
+are_below kept index last since t = kept_below index last since 0 (last + 1) kept (omega arith) t.sound
 
 undo_both : (b x y z : Bool) → (b ≡ true → x ≡ false) → y ≡ (b || x) → z ≡ (not b && y) → z ≡ x
 undo_both true x y z h e f = f ∙ sym (h refl)
@@ -382,8 +282,8 @@ fresh_at true y index t s q h e =
 fresh_at false y index t s q h e = cc e
 
 -- a serial added and removed again
-pub undone_index : (kept : List Kept) (serials : List ℕ) (index middle after : Index) (last since : ℕ) (of : Option Transaction) → Tied kept serials index last since → ((t : Transaction) (q : ℕ) → has middle t q ≡ ((is_that t of && (last + 1 == q)) || has index t q)) → ((t : Transaction) (q : ℕ) → has after t q ≡ (not (is_that t of && (last + 1 == q)) && has middle t q)) → (t : Transaction) (q : ℕ) → has after t q ≡ has index t q
-undone_index kept serials index middle after last since of d m a t q =
+pub undone_index : (kept : List Kept) (index middle after : Index) (last since : ℕ) (of : Option Transaction) → Tied kept index last since → ((t : Transaction) (q : ℕ) → has middle t q ≡ ((is_that t of && (last + 1 == q)) || has index t q)) → ((t : Transaction) (q : ℕ) → has after t q ≡ (not (is_that t of && (last + 1 == q)) && has middle t q)) → (t : Transaction) (q : ℕ) → has after t q ≡ has index t q
+undone_index kept index middle after last since of d m a t q =
     let l : last < last + 1 = omega arith in
     undo_both (is_that t of && (last + 1 == q)) (has index t q) (has middle t q) (has after t q) (fresh_at (is_that t of) true index t (last + 1) q (d.fresh t (last + 1) l)) (m t q) (a t q)
 

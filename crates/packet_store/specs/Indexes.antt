@@ -35,7 +35,7 @@ row_has row t q = is_place (cell row.cells.items (cell_of t)) t q
 
 -- the index has this serial under this transaction, in a row or among the places
 unfoldable pub has : Index → Transaction → ℕ → Bool
-has index t q = row_has index.first t q || (row_has index.second t q || contains place_cmp index.places (place t q))
+has index t q = row_has index.first t q || (row_has index.second t q || (row_has index.third t q || contains place_cmp index.places (place t q)))
 
 -- how many serials below an end the index has under a transaction
 abbrev pub tally : Index → Transaction → ℕ → ℕ

@@ -26,6 +26,11 @@ abbrev pub is_delivered : Option Kept → Bool
 is_delivered None = false
 is_delivered (Some k) = not k.in_flight
 
+-- what was found is in flight
+abbrev pub in_air : Option Kept → Bool
+in_air None = false
+in_air (Some k) = k.in_flight
+
 -- the serials in flight, rising
 abbrev pub flying : List Kept → List ℕ
 flying [] = []

@@ -4,6 +4,7 @@ pub mod Indexes
 pub mod Rings
 pub mod Kept
 pub mod Shelves
+pub mod Flights
 pub mod Sound
 pub mod Stored
 pub mod Calls

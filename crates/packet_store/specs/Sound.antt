@@ -1,4 +1,4 @@
--- What ties the kept packets, the serials in flight and the index to each other.
+-- What ties the kept packets and the index to each other.
 use Rattle.std.specs.Prelude.{◌≡◌, ℕ, ◌<◌, ◌≤◌, Bool, false, nat_lt, not, ◌&&◌, List, [], ◌∷◌}
 use Rattle.std.specs.List.{filter}
 use Rattle.packet_store.specs.declared.sent.Kept.{Kept}
@@ -6,7 +6,6 @@ use Rattle.packet_store.specs.declared.transaction.Transaction.{Transaction}
 use Rattle.packet_store.specs.declared.index.Index.{Index}
 use Rattle.packet_store.specs.Transactions.{belongs}
 use Rattle.packet_store.specs.Indexes.{has}
-use Rattle.packet_store.specs.Kept.{flying}
 
 -- a kept packet: its serial is above the one before it, and at most the last one; a delivered one is
 -- recent; the index has its serial under its transaction alone
@@ -21,9 +20,8 @@ AreKept index last since low [] = Unit {0}
 AreKept index last since low (k ∷ kept) = IsKept index last since low k × AreKept index last since k.serial kept
 
 -- the index has no serial that is not given yet
-pub record Tied (kept : List Kept) (serials : List ℕ) (index : Index) (last since : ℕ) : Type 0 where
+pub record Tied (kept : List Kept) (index : Index) (last since : ℕ) : Type 0 where
   pub sound : AreKept index last since 0 kept
-  pub flights : serials ≡ flying kept
   pub fresh : (t : Transaction) (q : ℕ) → last < q → has index t q ≡ false
 
 -- a packet that was sent before the last one, and belongs to a transaction

@@ -51,6 +51,6 @@ abbrev pub lose_step : Stored → ℕ → Stored
 lose_step s serial = record { kept = without serial s.kept; last = s.last; calls = s.calls + 1 }
 
 -- the fields of a store fit each other
-pub record IsStored (kept : List Kept) (serials : List ℕ) (index : Index) (last calls : ℕ) : Type 0 where
-  pub tied : Tied kept serials index last (last - 1024)
+pub record IsStored (kept : List Kept) (index : Index) (last calls : ℕ) : Type 0 where
+  pub tied : Tied kept index last (last - 1024)
   pub counted : last ≤ calls

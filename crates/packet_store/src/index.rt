@@ -11,12 +11,13 @@ use sbp_base::NoMemory;
 use std::alloc::Global;
 use std::collections::BTreeSet;
 
-/// The serials of packets by their transactions: in the first row or the second one where the cell is
-/// free, as for a request and its response, else among the places.
+/// The serials of packets by their transactions: in the first of three rows whose cell is free, as for
+/// a request, its response and the request behind them, else among the places.
 #[derive(Drop)]
 pub(crate) struct Index {
     pub(crate) first: Row,
     pub(crate) second: Row,
+    pub(crate) third: Row,
     pub(crate) places: BTreeSet<Place>,
 }
 
@@ -29,6 +30,7 @@ impl Index {
         Index {
             first: Row::new(alloc),
             second: Row::new(alloc),
+            third: Row::new(alloc),
             places: BTreeSet::new(alloc),
         }
     }
@@ -41,6 +43,7 @@ impl Index {
     {
         self.first.prepare()?;
         self.second.prepare()?;
+        self.third.prepare()?;
         self.put(Place {
             transaction,
             serial,
@@ -59,6 +62,9 @@ impl Index {
         if self.second.insert(place) {
             return Ok(());
         }
+        if self.third.insert(place) {
+            return Ok(());
+        }
         self.places.insert(place)?;
         Ok(())
     }
@@ -74,6 +80,7 @@ impl Index {
         };
         self.first.remove(&place);
         self.second.remove(&place);
+        self.third.remove(&place);
         self.places.remove(&place);
     }
 
@@ -111,6 +118,9 @@ impl Index {
             return Some(serial);
         }
         if let Some(serial) = self.second.below(&transaction, end) {
+            return Some(serial);
+        }
+        if let Some(serial) = self.third.below(&transaction, end) {
             return Some(serial);
         }
         self.place_below(transaction, end)

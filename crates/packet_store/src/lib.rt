@@ -2,6 +2,7 @@
 //! delivered ones among the last 1,024 serials.
 #![tactic(auto)]
 
+mod aloft;
 mod index;
 mod laws;
 mod ring;

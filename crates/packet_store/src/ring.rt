@@ -1,4 +1,6 @@
-ghost use Rattle.std.specs.Prelude.{◌≡◌, ℕ, ◌^◌, ◌<◌, ◌≤◌, ◌==◌, if◌then◌else◌, length, false, true, None, Some, OnOk, OnErr};
+ghost use Rattle.std.specs.Prelude.{◌≡◌, ℕ, ◌^◌, ◌<◌, ◌≤◌, ◌==◌, if◌then◌else◌, length, false, true, None, Some, OnOk, OnErr, IfSome, IfNone};
+ghost use Rattle.packet_store.specs.Kept.{in_air};
+ghost use Rattle.packet_store.specs.Flights.{IsNext};
 ghost use Rattle.std.specs.Option.{is_some, option_copied};
 ghost use Rattle.packet_store.specs.Rings.{slot_of, slot, is_of, holds, Placed, marked};
 
@@ -108,6 +110,31 @@ impl Ring {
             Some(_) => true,
             None => false,
         }
+    }
+
+    /// Whether the packet of a serial is in flight.
+    pub(crate) fn is_flying(&self, serial: u64) -> bool
+        ensures { result ≡ in_air (holds self.now serial) }
+    {
+        match self.get(serial) {
+            Some(kept) => kept.in_flight,
+            None => false,
+        }
+    }
+
+    /// The lowest serial in flight above one, up to the last one.
+    pub(crate) fn next_flying(&self, serial: u64, last: u64) -> Option<u64>
+        ensures found { IfSome result (λ s. IsNext (holds self.now) serial s) }
+        ensures none { IfNone result ((q : ℕ) → serial < q → q ≤ last → in_air (holds self.now q) ≡ false) }
+    {
+        let mut at = serial;
+        while at < last {
+            at += 1;
+            if self.is_flying(at) {
+                return Some(at);
+            }
+        }
+        None
     }
 
     /// Moves the packet in a slot to the older ones.

@@ -28,7 +28,7 @@ impl Model for Store {
 
     ghost view = { λ a. record { kept = a.tables.shelf; last = a.tables.last; calls = a.calls } };
 
-    ghost invariant = { λ a. IsStored a.tables.shelf a.tables.flying.keys a.tables.index a.tables.last a.calls };
+    ghost invariant = { λ a. IsStored a.tables.shelf a.tables.index a.tables.last a.calls };
 }
 
 impl Store {
@@ -70,7 +70,7 @@ impl Store {
         ensures lowest { IfSome result (IsLowest self.now.kept) }
         ensures none { IfNone result (NoneFlies self.now.kept) }
     {
-        self.tables.flying.first().copied()
+        self.tables.shelf.lowest()
     }
 
     /// The packet of a serial, in flight or delivered among the last 1,024 serials.
@@ -85,7 +85,7 @@ impl Store {
     pub fn is_in_flight(&self, serial: u64) -> bool
         ensures { result ≡ is_flying serial self.now.kept }
     {
-        self.tables.flying.contains(&serial)
+        self.tables.shelf.is_flying(serial)
     }
 
     /// A packet in flight is delivered.
@@ -116,7 +116,7 @@ impl Store {
     pub fn in_flight(&self) -> usize
         ensures { result ≡ length (flying self.now.kept) }
     {
-        self.tables.flying.len()
+        self.tables.shelf.flying()
     }
 
     /// How many packets are kept: those in flight and the delivered ones among the last 1,024

@@ -9,19 +9,17 @@ ghost use Rattle.packet_store.specs.Sound.{Tied, withdrawn};
 
 use crate::index::Index;
 use crate::role::role_of;
-use crate::sent::{Kept, Sent};
+use crate::sent::Sent;
 use crate::shelf::Shelf;
 use crate::store::KEPT_SERIALS;
 use crate::transaction::{Transaction, transaction_of};
 use sbp_base::NoMemory;
 use std::alloc::Global;
-use std::collections::BTreeSet;
 
-/// The kept packets, the serials in flight, the index by transaction, and the last serial.
+/// The kept packets, the index by transaction, and the last serial.
 #[derive(Drop)]
 pub(crate) struct Tables {
     pub(crate) shelf: Shelf,
-    pub(crate) flying: BTreeSet<u64>,
     pub(crate) index: Index,
     pub(crate) last: u64,
 }
@@ -31,11 +29,10 @@ impl Tables {
     pub(crate) fn new(alloc: Global) -> Tables
         ensures shelf { result.shelf ≡ [] }
         ensures last { result.last ≡ 0 }
-        ensures tied { (since : ℕ) → Tied result.shelf result.flying.keys result.index result.last since }
+        ensures tied { (since : ℕ) → Tied result.shelf result.index result.last since }
     {
         Tables {
             shelf: Shelf::new(alloc),
-            flying: BTreeSet::new(alloc),
             index: Index::new(alloc),
             last: 0,
         }
@@ -46,9 +43,8 @@ impl Tables {
         ensures shelf { self.new.shelf ≡ without serial self.old.shelf }
         ensures index { self.new.index ≡ self.old.index }
         ensures last { self.new.last ≡ self.old.last }
-        ensures tied { (since : ℕ) → Tied self.old.shelf self.old.flying.keys self.old.index self.old.last since → Tied self.new.shelf self.new.flying.keys self.new.index self.new.last since }
+        ensures tied { (since : ℕ) → Tied self.old.shelf self.old.index self.old.last since → Tied self.new.shelf self.new.index self.new.last since }
     {
-        self.flying.remove(&serial);
         self.shelf.remove(serial);
     }
 
@@ -56,9 +52,8 @@ impl Tables {
     pub(crate) fn deliver(&mut self, serial: u64)
         ensures shelf { self.new.shelf ≡ with_delivered serial self.old.shelf }
         ensures last { self.new.last ≡ self.old.last }
-        ensures tied { (since : ℕ) → since < serial → Tied self.old.shelf self.old.flying.keys self.old.index self.old.last since → Tied self.new.shelf self.new.flying.keys self.new.index self.new.last since }
+        ensures tied { (since : ℕ) → since < serial → Tied self.old.shelf self.old.index self.old.last since → Tied self.new.shelf self.new.index self.new.last since }
     {
-        self.flying.remove(&serial);
         self.shelf.deliver(serial);
     }
 
@@ -66,7 +61,7 @@ impl Tables {
     pub(crate) fn drop_packet(&mut self, serial: u64)
         ensures shelf { self.new.shelf ≡ without serial self.old.shelf }
         ensures last { self.new.last ≡ self.old.last }
-        ensures tied { (since : ℕ) → Tied self.old.shelf self.old.flying.keys self.old.index self.old.last since → Tied self.new.shelf self.new.flying.keys self.new.index self.new.last since }
+        ensures tied { (since : ℕ) → Tied self.old.shelf self.old.index self.old.last since → Tied self.new.shelf self.new.index self.new.last since }
     {
         let transaction = self.transaction_at(serial);
         self.discard(serial);
@@ -83,10 +78,10 @@ impl Tables {
 
     /// Withdraws each packet of a transaction that was sent before the last one.
     pub(crate) fn withdraw(&mut self, transaction: Transaction)
-        requires { Tied self.old.shelf self.old.flying.keys self.old.index self.old.last (self.old.last - 1025) }
+        requires { Tied self.old.shelf self.old.index self.old.last (self.old.last - 1025) }
         ensures shelf { self.new.shelf ≡ withdrawn transaction self.old.last self.old.shelf }
         ensures last { self.new.last ≡ self.old.last }
-        ensures tied { Tied self.new.shelf self.new.flying.keys self.new.index self.new.last (self.new.last - 1025) }
+        ensures tied { Tied self.new.shelf self.new.index self.new.last (self.new.last - 1025) }
     {
         while let Some(serial) = self.index.first_below(transaction, self.last) {
             self.discard(serial);
@@ -102,26 +97,16 @@ impl Tables {
     ) -> Result<(), NoMemory>
         requires room { self.old.last < 2 ^ 63 }
         requires named { transaction ≡ transaction_of sent }
-        requires tied { Tied self.old.shelf self.old.flying.keys self.old.index self.old.last (self.old.last - 1024) }
+        requires tied { Tied self.old.shelf self.old.index self.old.last (self.old.last - 1024) }
         ensures added { OnOk result (self.new.shelf ≡ self.old.shelf ++ newest (self.old.last + 1) sent ∷ []) }
         ensures failed { OnErr result (self.new.shelf ≡ self.old.shelf) }
         ensures last { OnOk result (self.new.last ≡ self.old.last + 1) }
         ensures no_last { OnErr result (self.new.last ≡ self.old.last) }
-        ensures tied { Tied self.new.shelf self.new.flying.keys self.new.index self.new.last (self.old.last - 1024) }
+        ensures tied { Tied self.new.shelf self.new.index self.new.last (self.old.last - 1024) }
     {
         let serial = self.last + 1;
-        self.flying.insert(serial)?;
-        if let Err(error) = self.index.insert_for(transaction, serial) {
-            self.flying.remove(&serial);
-            return Err(error);
-        }
-        let kept = Kept {
-            serial,
-            in_flight: true,
-            sent,
-        };
-        if let Err(error) = self.shelf.push(kept) {
-            self.flying.remove(&serial);
+        self.index.insert_for(transaction, serial)?;
+        if let Err(error) = self.shelf.push(serial, sent) {
             self.index.remove_for(transaction, serial);
             return Err(error);
         }
@@ -131,10 +116,10 @@ impl Tables {
 
     /// Drops the delivered packet that is not among the last 1,024 serials any more.
     pub(crate) fn drop_aged(&mut self)
-        requires { Tied self.old.shelf self.old.flying.keys self.old.index self.old.last (self.old.last - 1025) }
+        requires { Tied self.old.shelf self.old.index self.old.last (self.old.last - 1025) }
         ensures shelf { self.new.shelf ≡ filter (stays (self.old.last - 1024)) self.old.shelf }
         ensures last { self.new.last ≡ self.old.last }
-        ensures tied { Tied self.new.shelf self.new.flying.keys self.new.index self.new.last (self.new.last - 1024) }
+        ensures tied { Tied self.new.shelf self.new.index self.new.last (self.new.last - 1024) }
     {
         if self.last <= KEPT_SERIALS {
             return;

@@ -1,9 +1,9 @@
 -- The canonical form, made run by run from the front.
 use Rattle.std.proofs.Common.{◌≡◌, ℕ, ◌+◌, ◌-◌, ◌≤◌, ◌<◌, ◌==◌, suc, Bool, true, false, cond, eqb, nat_le, subst, List, [], ◌∷◌, ◌++◌, length, map, take, drop, drop-cons, get_or, length-drop, replicate, refl, sym, ap, ◌∙◌, append_assoc, arith}
-use Rattle.std.specs.List.{join_with_byte, prefix_len}
+use Rattle.std.specs.List.{join_with_byte, list_all, prefix_len}
 use Rattle.std.proofs.Math.Seq.{take-add}
-use Rattle.std.proofs.lemmas.List.{drop-drop, drop_all, take_all}
-use Rattle.std.proofs.lemmas.Bool.{eqb-true, eq-eqb, le-leb}
+use Rattle.std.proofs.lemmas.List.{drop-drop, drop_all, length-take-le, take-append-drop, take_all}
+use Rattle.std.proofs.lemmas.Bool.{and_parts, eqb-true, eq-eqb, le-leb}
 use Rattle.std.proofs.lemmas.Bool.Decides.{nat_tests}
 use Rattle.hex.specs.Hex.{encode_with}
 use Rattle.line_text.specs.Canonical.{Run, onto_runs, runs_of, Piece, plain, repeated, onto_pieces, pieces_of, piece_text, plus, canonical}
@@ -12,6 +12,23 @@ use Rattle.sbp_journal.specs.Pieces.{with_piece, with_plain, with_pieces}
 -- how many bytes at the front equal `byte`
 abbrev pub front : ℕ → List ℕ → ℕ
 front byte bytes = prefix_len (λ other. other == byte) bytes
+
+front_all : (byte : ℕ) (xs ys : List ℕ) → list_all (λ other. other == byte) xs ≡ true → front byte (xs ++ ys) ≡ length xs + front byte ys
+front_all byte [] ys e = omega arith
+front_all byte (x ∷ xs) ys e =
+    let parts = and_parts (x == byte) (list_all (λ other. other == byte) xs) e in
+    let ind = front_all byte xs ys parts.1 in
+    rw parts.0 (omega (arith, ind))
+
+-- a block of such bytes is at the front of the others
+pub block_more : (byte at : ℕ) (bytes : List ℕ) → 64 ≤ length (drop at bytes) → list_all (λ other. other == byte) (take 64 (drop at bytes)) ≡ true → at + front byte (drop at bytes) ≡ front byte bytes → (at + 64) + front byte (drop (at + 64) bytes) ≡ front byte bytes
+block_more byte at bytes room e h =
+    let behind = drop at bytes in
+    let size = length-take-le 64 behind room in
+    let split = front_all byte (take 64 behind) (drop 64 behind) e in
+    let whole = ap (front byte) (take-append-drop 64 behind) in
+    let rest = ap (front byte) (drop-drop 64 at bytes) in
+    omega (arith, size, split, whole, rest, h)
 
 -- the runs of `byte` and then some bytes: its own run, and the runs of what stands behind it
 abbrev front_runs : ℕ → List ℕ → List Run

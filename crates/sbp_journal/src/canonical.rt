@@ -1,5 +1,5 @@
-ghost use Rattle.std.specs.Prelude.{◌≡◌, ℕ, ◌≤◌, ◌==◌, length, codes, IfOk, OnOk, string_bytes};
-ghost use Rattle.std.specs.List.{prefix_len};
+ghost use Rattle.std.specs.Prelude.{◌≡◌, ℕ, ◌≤◌, ◌==◌, length, take, codes, IsTrue, IfOk, OnOk, string_bytes};
+ghost use Rattle.std.specs.List.{list_all, prefix_len};
 ghost use Rattle.line_text.specs.Canonical.{canonical, piece_text, repeated};
 ghost use Rattle.sbp_journal.specs.Pieces.{with_piece, with_plain};
 
@@ -8,6 +8,9 @@ use std::alloc::Global;
 
 /// The least length of a run that is told by its length.
 const LONG: usize = 4;
+
+/// How many equal bytes are counted in one step.
+const BLOCK: usize = 64;
 
 /// Bytes in the canonical form: digits, with `HH*N` for N equal bytes, and `-` for no bytes.
 pub fn canonical_text(alloc: Global, bytes: &[u8]) -> Result<String, NoMemory>
@@ -33,8 +36,38 @@ pub fn canonical_text(alloc: Global, bytes: &[u8]) -> Result<String, NoMemory>
     Ok(text)
 }
 
-/// How many bytes at the front equal `byte`.
+/// How many bytes at the front equal `byte`. A block of such bytes is counted in one step.
 fn run_length(byte: u8, bytes: &[u8]) -> usize
+    ensures counted { result ≡ prefix_len (λ other. other == byte) bytes.now }
+    ensures within { result ≤ length bytes.now }
+{
+    let mut at = 0;
+    while begins_block(byte, &bytes[at..]) {
+        at += BLOCK;
+    }
+    at + count_front(byte, &bytes[at..])
+}
+
+/// Whether a block of bytes that equal `byte` is at the front.
+fn begins_block(byte: u8, bytes: &[u8]) -> bool
+    ensures { IsTrue result → (64 ≤ length bytes.now) × IsTrue (list_all (λ other. other == byte) (take 64 bytes.now)) }
+{
+    BLOCK <= bytes.len() && are_all(byte, &bytes[..BLOCK])
+}
+
+/// Whether each byte equals `byte`. All are looked at, so that many are in one step.
+fn are_all(byte: u8, bytes: &[u8]) -> bool
+    ensures { result ≡ list_all (λ other. other == byte) bytes.now }
+{
+    let mut same = true;
+    for at in 0..bytes.len() {
+        same &= bytes[at] == byte;
+    }
+    same
+}
+
+/// How many bytes at the front equal `byte`, one by one.
+fn count_front(byte: u8, bytes: &[u8]) -> usize
     ensures counted { result ≡ prefix_len (λ other. other == byte) bytes.now }
     ensures within { result ≤ length bytes.now }
 {

@@ -11,3 +11,8 @@ pub returns-in_err-prepare-2-clause-failed : goal.returns-in_err-prepare-2-claus
 unfolding has
 returns-in_err-prepare-2-clause-failed c =
     on_error c.from_residual-in_err-prepare-2.result (λ t q. rw (c.prepare.ensures t q, c.prepare-2.ensures t q) refl)
+
+pub returns-in_err-prepare-3-clause-failed : goal.returns-in_err-prepare-3-clause-failed
+unfolding has
+returns-in_err-prepare-3-clause-failed c =
+    on_error c.from_residual-in_err-prepare-3.result (λ t q. rw (c.prepare.ensures t q, c.prepare-2.ensures t q, c.prepare-3.ensures t q) refl)

@@ -10,5 +10,5 @@ pub returns : goal.returns
 unfolding has
 returns c = λ t q.
     let s = c.args.self.now in
-    rw (c.remove.ensures t q, c.remove-2.ensures t q, left c.args.transaction t c.args.serial q _ _ (c.remove-3.ensures.updates.0 (place t q)))
-    (left_each (is_same c.args.transaction t && (c.args.serial == q)) (row_has s.first t q) (row_has s.second t q) (contains place_cmp s.places (place t q)))
+    rw (c.remove.ensures t q, c.remove-2.ensures t q, c.remove-3.ensures t q, left c.args.transaction t c.args.serial q _ _ (c.remove-4.ensures.updates.0 (place t q)))
+    (left_each (is_same c.args.transaction t && (c.args.serial == q)) (row_has s.first t q) (row_has s.second t q) (row_has s.third t q) (contains place_cmp s.places (place t q)))

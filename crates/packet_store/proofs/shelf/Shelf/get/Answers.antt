@@ -6,7 +6,7 @@ use Rattle.packet_store.proofs.shelf.Shelf.get.Goals as goal
 
 pub returns : goal.returns
 returns c =
-    let i = c.self.invariant in
+    let i = c.self.invariant.0 in
     c.get.ensures
     ∙ sym (found_any (holds c.self.inside.ring) c.args.serial c.self.inside.last i.named i.first i.ends)
     ∙ ap (found c.args.serial) c.self.view_is

@@ -1,25 +1,38 @@
-use Rattle.std.proofs.Common.{◌∙◌, ap, sym, subst, ◌++◌, ◌∷◌, [], arith}
+use Rattle.std.proofs.Common.{◌∙◌, refl, ap, sym, subst, ◌++◌, ◌∷◌, [], arith}
 use Rattle.packet_store.specs.Kept.{AreBelow}
-use Rattle.packet_store.proofs.Shelved.{pushed_few, pushed_list, pushed_shelf}
+use Rattle.packet_store.specs.Stored.{newest}
+use Rattle.packet_store.proofs.Shelved.{few_flights, pushed_few, pushed_flights, pushed_list, pushed_shelf}
 use Rattle.packet_store.proofs.shelf.Shelf.push.Goals as goal
 
 pub overflow_add-self : goal.overflow_add-self
 overflow_add-self c =
     let s = c.self.inside in
-    let k = c.args.kept in
-    let few = pushed_few s.ring c.put.new.self k s.last s.count c.self.invariant c.in_ok-put.ensures.put c.requires.counted (subst (AreBelow k.serial) (sym c.self.view_is) c.requires.above) in
+    let k = newest c.args.serial c.args.sent in
+    let few = pushed_few s.ring c.put.new.self k s.last s.count c.self.invariant.0 c.in_ok-put.ensures.put c.requires.counted (subst (AreBelow k.serial) (sym c.self.view_is) c.requires.above) in
     let fits = c.put.ensures.fits in
     omega (arith, few, fits)
+
+pub take_off-requires : goal.take_off-requires
+take_off-requires c =
+    let s = c.self.inside in
+    let k = newest c.args.serial c.args.sent in
+    let few = pushed_few s.ring c.put.new.self k s.last s.count c.self.invariant.0 c.in_ok-put.ensures.put c.requires.counted (subst (AreBelow k.serial) (sym c.self.view_is) c.requires.above) in
+    let fewer = few_flights s.ring s.last s.count s.flights c.self.invariant.0 c.self.invariant.1 in
+    let fits = c.put.ensures.fits in
+    omega (arith, few, fewer, fits)
 
 pub invariant_of-self-2 : goal.invariant_of-self-2
 invariant_of-self-2 c =
     let s = c.self.inside in
-    let k = c.args.kept in
-    pushed_shelf s.ring c.put.new.self k s.last s.count c.self.invariant c.put.ensures.placed c.in_ok-put.ensures.put c.requires.counted (subst (AreBelow k.serial) (sym c.self.view_is) c.requires.above)
+    let k = newest c.args.serial c.args.sent in
+    let b = subst (AreBelow k.serial) (sym c.self.view_is) c.requires.above in (
+      pushed_shelf s.ring c.put.new.self k s.last s.count c.self.invariant.0 c.put.ensures.placed c.in_ok-put.ensures.put c.requires.counted b,
+      pushed_flights s.ring c.put.new.self k s.last s.count s.flights c.take_off.new.self c.self.invariant.0 c.self.invariant.1 c.in_ok-put.ensures.put c.requires.counted b refl c.take_off.ensures.lowest c.take_off.ensures.count,
+    )
 
 pub returns-clause-pushed : goal.returns-clause-pushed
 returns-clause-pushed c =
     let s = c.self.inside in
-    let k = c.args.kept in
-    pushed_list s.ring c.put.new.self k s.last s.count c.self.invariant c.in_ok-put.ensures.put c.requires.counted (subst (AreBelow k.serial) (sym c.self.view_is) c.requires.above)
+    let k = newest c.args.serial c.args.sent in
+    pushed_list s.ring c.put.new.self k s.last s.count c.self.invariant.0 c.in_ok-put.ensures.put c.requires.counted (subst (AreBelow k.serial) (sym c.self.view_is) c.requires.above)
     ∙ ap (λ xs. xs ++ k ∷ []) c.self.view_is

@@ -37,10 +37,10 @@ pub returns-then-is_delivered-clause-tied : goal.returns-then-is_delivered-claus
 returns-then-is_delivered-clause-tied c =
     let s = c.args.self.now in
     let d = c.drop_packet.new.self in
-    let t = tied_raised s.shelf d.shelf d.flying.keys d.index d.last (s.last - 1025) (s.last - 1024) (shelf_less c) (c.drop_packet.ensures.tied (s.last - 1025) c.requires) in
-    subst (λ (n : ℕ). Tied d.shelf d.flying.keys d.index d.last (n - 1024)) (sym c.drop_packet.ensures.last) t
+    let t = tied_raised s.shelf d.shelf d.index d.last (s.last - 1025) (s.last - 1024) (shelf_less c) (c.drop_packet.ensures.tied (s.last - 1025) c.requires) in
+    subst (λ (n : ℕ). Tied d.shelf d.index d.last (n - 1024)) (sym c.drop_packet.ensures.last) t
 
 pub returns-else-is_delivered-clause-tied : goal.returns-else-is_delivered-clause-tied
 returns-else-is_delivered-clause-tied c =
     let s = c.args.self.now in
-    tied_raised s.shelf s.shelf s.flying.keys s.index s.last (s.last - 1025) (s.last - 1024) (shelf_same c) c.requires
+    tied_raised s.shelf s.shelf s.index s.last (s.last - 1025) (s.last - 1024) (shelf_same c) c.requires

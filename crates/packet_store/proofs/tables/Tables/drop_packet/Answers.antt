@@ -6,4 +6,4 @@ pub returns-in-Some-clause-tied : goal.returns-in-Some-clause-tied
 returns-in-Some-clause-tied c = λ since t.
     let d = c.discard.ensures.tied since t in
     let f : Fewer c.discard.new.self.index c.remove.new.self c.args.serial = fewer c.discard.new.self.index c.remove.new.self c.in-Some.transaction c.args.serial (λ u. is_same c.in-Some.transaction u) c.remove.ensures in
-    tied_fewer _ c.args.self.now.shelf _ _ _ _ since c.args.serial f c.discard.ensures.shelf d
+    tied_fewer _ c.args.self.now.shelf _ _ _ since c.args.serial f c.discard.ensures.shelf d

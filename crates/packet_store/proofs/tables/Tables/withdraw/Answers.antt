@@ -21,7 +21,7 @@ loop-serial-preserved c =
     record {
       last = c.discard.ensures.last ∙ i.last;
       kept = ap (withdrawn u last) c.discard.ensures.shelf ∙ withdrawn_less old.index u last since 0 s old.shelf sound c.in-Some.ensures.found.0 below ∙ i.kept;
-      tied = tied_fewer _ old.shelf _ _ _ _ since s f c.discard.ensures.shelf (c.discard.ensures.tied since i.tied);
+      tied = tied_fewer _ old.shelf _ _ _ since s f c.discard.ensures.shelf (c.discard.ensures.tied since i.tied);
     }
 
 pub returns-clause-shelf : goal.returns-clause-shelf
