@@ -19,7 +19,7 @@ use Rattle.sbp_initiator.specs.Refusals.{refusal}
 use Rattle.sbp_initiator.specs.Acting.{act_step, asked_as, asked_for, done_step, facts_with, judged_as, manage_demand}
 use Rattle.sbp_initiator.specs.Effects.{Turn}
 use Rattle.sbp_laws.specs.Turns.{event_of}
-use Rattle.sbp_world.specs.Generations.{node_of, topology_at}
+use Rattle.sbp_bus.specs.Generations.{node_of, topology_at}
 use Rattle.sbp_world.specs.Handing.{handed_out}
 use Rattle.sbp_world.specs.Lines.{acted, acted_by}
 use Rattle.sbp_world.specs.Sending.{asked, posted, sent, sent_all, sent_to}

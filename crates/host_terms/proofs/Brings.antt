@@ -27,14 +27,15 @@ use Rattle.sbp_initiator.specs.declared.purpose.Purpose.{Purpose}
 use Rattle.sbp_initiator.specs.declared.state.InitiatorState.{InitiatorState}
 use Rattle.sbp_initiator.specs.Effects.{Turn}
 use Rattle.sbp_initiator.specs.Receiving.{receive_step, responded_as}
-use Rattle.sbp_initiator.specs.States.{names_place, status_in}
+use Rattle.initiator_base.specs.Places.{names_place}
+use Rattle.sbp_initiator.specs.States.{status_in}
 use Rattle.initiator_laws.specs.Judging.{LeftBy, judging_for, note_by, note_of}
 use Rattle.initiator_laws.proofs.Judging.{judging_law}
 use Rattle.sbp_laws.specs.Packets.{access_in, packet_in, spelled_by}
 use Rattle.sbp_laws.specs.Lists.{src_in}
 use Rattle.sbp_world.specs.Delivering.{judged_note}
 use Rattle.sbp_world.specs.Worlds.{WorldState, initiator_at}
-use Rattle.world_laws.specs.Wires.{Stands}
+use Rattle.sbp_world.specs.Wire.Wires.{Stands}
 use Rattle.host_terms.specs.Calls.{MayFind, MayPacket}
 use Rattle.host_terms.specs.Handing.{history}
 use Rattle.host_terms.specs.Lines.{MayDeliver, MayHear}

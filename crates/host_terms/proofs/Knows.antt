@@ -14,12 +14,12 @@ use Rattle.sbp_journal.specs.Transactions.{Kind, Part, Sending, Transaction, ask
 use Rattle.sbp_journal.specs.Wire.{Held, Terms, arrives, closes, closes_if, free, gets, gets_as, is_news, is_served, judges, rests, terms, waits}
 use Rattle.sbp_journal.specs.declared.cause.Cause.{Cause}
 use Rattle.sbp_initiator.specs.declared.purpose.Purpose.{Purpose}
-use Rattle.sbp_world.specs.Generations.{id_of, node_of}
+use Rattle.sbp_bus.specs.Generations.{id_of, node_of}
 use Rattle.sbp_world.specs.Worlds.{WorldState, initiator_at}
-use Rattle.world_laws.specs.Wires.{Stands}
-use Rattle.world_laws.proofs.Bus.{aged, holds}
-use Rattle.world_laws.proofs.Found.{node_found}
-use Rattle.world_laws.proofs.Holding.{NodesOf, to_target}
+use Rattle.sbp_world.specs.Wire.Wires.{Stands}
+use Rattle.sbp_world.proofs.Wire.Bus.{aged, holds}
+use Rattle.sbp_world.proofs.Wire.Found.{node_found}
+use Rattle.sbp_world.proofs.Wire.Holding.{NodesOf, to_target}
 use Rattle.host_terms.specs.Handing.{history}
 use Rattle.host_terms.specs.Lines.{MaySee}
 

@@ -1,7 +1,7 @@
 -- In every run the terms of the lists of each initiator are the rows of its slots.
 use Rattle.std.proofs.Common.{arith, ◌≡◌, refl, sym, ◌∙◌, ap, subst, ℕ, suc, ◌+◌, ◌^◌, ◌<◌, ◌≤◌, nat_lt, Bool, true, false, cond, List, [], ◌∷◌, ◌++◌, length, map, Option, Some, None}
 use Rattle.bus_transactions.specs.May.{is_reset}
-use Rattle.initiator_laws.proofs.FitLaw.{fitting_law as own_fitting_law}
+use Rattle.sbp_world.proofs.FitInitiator.Law.{fitting_law as own_fitting_law}
 use Rattle.rbc_disk.specs.Runs.{Told}
 use Rattle.sbp_journal.specs.Run.{Moment, asked, said}
 use Rattle.sbp_journal.specs.Wire.{terms}
@@ -13,7 +13,7 @@ use Rattle.sbp_journal.specs.declared.note.Note.TheVariants as notes
 use Rattle.sbp_initiator.specs.Initiators.{new_state}
 use Rattle.sbp_target.specs.Receiving.{with_key}
 use Rattle.sbp_world.proofs.Making.{initiators_size}
-use Rattle.sbp_world.specs.Generations.{node_of, reset_step, topology_at}
+use Rattle.sbp_bus.specs.Generations.{node_of, reset_step, topology_at}
 use Rattle.sbp_world.specs.Histories.{moments_behind}
 use Rattle.sbp_world.specs.Lines.{MayHappen, acted, happens, keyed, no_unit}
 use Rattle.sbp_world.specs.Making.{new_world}
@@ -24,15 +24,15 @@ use Rattle.sbp_world.specs.Sending.{posted}
 use Rattle.sbp_world.specs.Settling.{MayAll, MayNext, after_all, delivered_at, delivered_next, end_note, is_settled, lowest}
 use Rattle.sbp_world.specs.Settling as settling
 use Rattle.sbp_world.specs.Worlds.{Scene, WorldState, begun, initiator_at, with_note, with_target, without_notes}
-use Rattle.target_laws.specs.Fitting.{BytesTold}
-use Rattle.target_laws.proofs.FitLaw.{fitting_law}
-use Rattle.world_laws.specs.Lines.{AreLines, IsLine}
-use Rattle.world_laws.proofs.Holding.{Sound}
-use Rattle.world_laws.proofs.Runs.{sound_after}
-use Rattle.world_laws.proofs.Sizes.{Sizes, happens_keeps, new_sizes}
-use Rattle.world_laws.proofs.Sound.{next_heard, opens}
-use Rattle.world_laws.proofs.Starts.{states_at}
-use Rattle.world_laws.proofs.ToldBytes.{AreTold, happened_fits}
+use Rattle.sbp_world.specs.FitTarget.{BytesTold}
+use Rattle.sbp_world.proofs.FitTarget.Law.{fitting_law}
+use Rattle.sbp_world.specs.Wire.Lines.{AreLines, IsLine}
+use Rattle.sbp_world.proofs.Wire.Holding.{Sound}
+use Rattle.sbp_world.proofs.Wire.Runs.{sound_after}
+use Rattle.sbp_world.proofs.Wire.Sizes.{Sizes, happens_keeps, new_sizes}
+use Rattle.sbp_world.proofs.Wire.Sound.{next_heard, opens}
+use Rattle.sbp_world.proofs.Wire.Starts.{states_at}
+use Rattle.sbp_world.proofs.Wire.ToldBytes.{AreTold, happened_fits}
 use Rattle.host_terms.specs.Handing.{history}
 use Rattle.host_terms.specs.Lines.{is_abort}
 use Rattle.host_terms.specs.Runs.{IsRun, RunLaw, more_deliveries}

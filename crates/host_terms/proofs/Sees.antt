@@ -18,7 +18,7 @@ use Rattle.sbp_journal.specs.declared.side.Side.TheVariants as sides
 use Rattle.sbp_initiator.specs.declared.purpose.Purpose.{Purpose}
 use Rattle.sbp_initiator.specs.declared.purpose.Running.{Running}
 use Rattle.sbp_initiator.specs.declared.state.InitiatorState.{InitiatorState}
-use Rattle.sbp_initiator.specs.Lists.{drop_lists, free_lists, with_slots}
+use Rattle.orb_list.specs.Lists.{drop_lists, free_lists, with_slots}
 use Rattle.sbp_initiator.specs.Effects.{dropped_as, told}
 use Rattle.sbp_initiator.specs.Seeing.{all_end, freed_step, interrupted, reset_step, reset_told, resets_told, see_step, seen_as, states_end}
 use Rattle.sbp_laws.specs.Terms.{lists, appends}

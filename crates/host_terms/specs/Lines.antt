@@ -15,7 +15,7 @@ use Rattle.sbp_journal.specs.declared.event.Event.TheVariants as events
 use Rattle.sbp_initiator.specs.Receiving.{receive_step}
 use Rattle.sbp_laws.specs.Turns.{event_of}
 use Rattle.sbp_world.specs.Delivering.{MayReceive, delivered, judged_note}
-use Rattle.sbp_world.specs.Generations.{id_of, node_of}
+use Rattle.sbp_bus.specs.Generations.{id_of, node_of}
 use Rattle.sbp_world.specs.Lines.{acted}
 use Rattle.sbp_world.specs.Packets.{timeout_line}
 use Rattle.sbp_world.specs.Nodes.{see_line, tick_line}

@@ -10,7 +10,7 @@ use Rattle.sbp_world.specs.Histories.{history_of}
 use Rattle.sbp_world.specs.Runs.{AreEntries, Run, after, beginning}
 use Rattle.sbp_world.specs.Settling.{MayAll, after_all}
 use Rattle.sbp_world.specs.Worlds.{begun, initiator_at}
-use Rattle.world_laws.specs.Lines.{AreLines}
+use Rattle.sbp_world.specs.Wire.Lines.{AreLines}
 use Rattle.host_terms.specs.Reading.{ReadAs}
 use Rattle.host_terms.specs.Worlds.{IsHost}
 

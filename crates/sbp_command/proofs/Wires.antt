@@ -8,11 +8,11 @@ use Rattle.sbp_world.specs.Worlds.{Scene}
 use Rattle.rbc_disk.specs.Held.{Held}
 use Rattle.sbp_laws.specs.Lawful.{injectors}
 use Rattle.sbp_laws.specs.OnTheBus.{LawfulOnTheBus}
-use Rattle.world_laws.specs.History.{IsOfWire}
-use Rattle.world_laws.specs.Journal.{journal_run}
-use Rattle.world_laws.specs.Lines.{AreLines, IsLine}
-use Rattle.world_laws.proofs.Entries.{bus_law}
-use Rattle.world_laws.proofs.Runs.{all_runs}
+use Rattle.sbp_world.specs.Wire.History.{IsOfWire}
+use Rattle.sbp_world.specs.Wire.Journal.{journal_run}
+use Rattle.sbp_world.specs.Wire.Lines.{AreLines, IsLine}
+use Rattle.sbp_world.proofs.Wire.Entries.{bus_law}
+use Rattle.sbp_world.proofs.Wire.Runs.{all_runs}
 use Rattle.sbp_command.specs.Machine.{events_in, events_of}
 
 -- ---- the lines of a run

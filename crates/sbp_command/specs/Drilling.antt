@@ -5,7 +5,7 @@ use Rattle.sbp_journal.specs.declared.event.Event.{Event}
 use Rattle.sbp_journal.specs.declared.note.Note.{Note}
 use Rattle.sbp_world.specs.Runs.{Run, StandsFor}
 use Rattle.sbp_world.specs.Worlds.{WorldState}
-use Rattle.world_laws.specs.Lines.{AreLines}
+use Rattle.sbp_world.specs.Wire.Lines.{AreLines}
 use Rattle.drill_text.specs.Tally.{TallyState, tally_of}
 use Rattle.sbp_command.specs.Drill.{numbered_from}
 use Rattle.sbp_command.specs.Machine.{HasRun, events_of, journal}

@@ -11,8 +11,8 @@ use Rattle.sbp_world.specs.Making.{notes_begin}
 use Rattle.sbp_world.specs.Runs.{AreEntries, Entry, Run, after, beginning}
 use Rattle.sbp_laws.specs.Lawful.{injectors}
 use Rattle.sbp_laws.specs.OnTheBus.{LawfulOnTheBus}
-use Rattle.world_laws.specs.History.{IsOfWire}
-use Rattle.world_laws.specs.Journal.{journal_run}
+use Rattle.sbp_world.specs.Wire.History.{IsOfWire}
+use Rattle.sbp_world.specs.Wire.Journal.{journal_run}
 
 -- the numbered events of some lines, in their order
 abbrev pub events_in : List Entry → List (ℕ × Event)

@@ -8,7 +8,7 @@ ghost use Rattle.sbp_journal.specs.declared.note.Note as notes;
 ghost use Rattle.sbp_world.specs.Lines.{Happens, IsEvent};
 ghost use Rattle.sbp_world.specs.Making.{new_world};
 ghost use Rattle.sbp_world.specs.Worlds.{scene};
-ghost use Rattle.world_laws.specs.Lines.{IsLine};
+ghost use Rattle.sbp_world.specs.Wire.Lines.{IsLine};
 ghost use Rattle.drill_text.specs.Tally.{tally_of};
 ghost use Rattle.sbp_command.specs.Drill.{DrillEnds, RanDrill};
 ghost use Rattle.sbp_command.specs.Drilling.{InDrill, TalliedRun};

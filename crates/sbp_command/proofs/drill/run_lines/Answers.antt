@@ -2,7 +2,7 @@
 use Rattle.std.proofs.Common.{◌≡◌, ◌∙◌, sym, ap, subst, ◌∷◌, drop, length, arith}
 use Rattle.std.specs.List.{AllByRecursion}
 use Rattle.sbp_world.specs.Lines.{IsEvent}
-use Rattle.world_laws.specs.Lines.{IsLine}
+use Rattle.sbp_world.specs.Wire.Lines.{IsLine}
 use Rattle.sbp_command.proofs.Drilling.{drill_more, drill_over, first_left, fits_first, none_left}
 use Rattle.sbp_command.proofs.Kept.{happens_keeps}
 use Rattle.sbp_command.proofs.drill.run_lines.Goals as goal

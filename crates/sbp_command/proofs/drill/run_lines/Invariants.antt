@@ -4,7 +4,7 @@ use Rattle.std.specs.List.{AllByRecursion}
 use Rattle.rbc_disk.specs.Held.{Held, held}
 use Rattle.sbp_journal.specs.declared.event.Event.{Event}
 use Rattle.sbp_world.specs.Lines.{IsEvent}
-use Rattle.world_laws.specs.Lines.{IsLine}
+use Rattle.sbp_world.specs.Wire.Lines.{IsLine}
 use Rattle.sbp_command.specs.Drilling.{InDrill}
 use Rattle.sbp_command.proofs.drill.run_lines.Given as goal
 

@@ -6,7 +6,7 @@ use Rattle.sbp_journal.specs.Form.{HasForm}
 use Rattle.sbp_journal.proofs.Each.{all_reverse}
 use Rattle.script_text.specs.Drill.{turns}
 use Rattle.sbp_world.specs.Lines.{IsEvent}
-use Rattle.world_laws.specs.Lines.{IsLine}
+use Rattle.sbp_world.specs.Wire.Lines.{IsLine}
 use Rattle.sbp_world.proofs.Delivered.{on_ok}
 use Rattle.sbp_world.proofs.LineForms.{form_law}
 use Rattle.sbp_command.proofs.DrillEvents.{lines_are, lines_few, lines_fit}
