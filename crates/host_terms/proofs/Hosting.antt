@@ -75,11 +75,11 @@ unfolding sent_all
 all_sent_keep from [] w = refl
 all_sent_keep from (packet ∷ later) w = all_sent_keep from later (sent from packet w) ∙ sent_keeps from packet w
 
-hands_keep : (from weight : ℕ) (outbox : OutboxState) (w : WorldState) → (handed_out from weight outbox w).initiators ≡ w.initiators
+pub hands_keep : (from weight : ℕ) (outbox : OutboxState) (w : WorldState) → (handed_out from weight outbox w).initiators ≡ w.initiators
 hands_keep from weight outbox w = all_sent_keep from outbox.packets (told_all weight outbox.sides w) ∙ all_told_keep weight outbox.sides w
 
 -- a note begins no line
-line_same : (ns : List Note) (past : List Moment) → event_of (map said ns ++ past) ≡ event_of past
+pub line_same : (ns : List Note) (past : List Moment) → event_of (map said ns ++ past) ≡ event_of past
 line_same [] past = refl
 line_same (note ∷ ns) past = line_same ns past
 
@@ -96,7 +96,7 @@ module _ (past : List Moment) (i : ℕ) (s : InitiatorState) where
     pin = h.pin;
   }
 
-hosts_are : (past : List Moment) (w x : WorldState) → x.initiators ≡ w.initiators → ((i : ℕ) → i < length w.initiators → IsHost (history x past) i (initiator_at w i)) → AreHosts past x
+pub hosts_are : (past : List Moment) (w x : WorldState) → x.initiators ≡ w.initiators → ((i : ℕ) → i < length w.initiators → IsHost (history x past) i (initiator_at w i)) → AreHosts past x
 hosts_are past w x e h i b =
     subst (λ (xs : List InitiatorState). IsHost (history x past) i (get_or xs i (new_state 0 false))) (sym e) (h i (subst (λ (xs : List InitiatorState). i < length xs) e b))
 
@@ -112,10 +112,10 @@ target_hosts past w node from weight outbox o n h =
 
 -- ---- what an initiator hands out
 
-state_here : (states : List InitiatorState) (i : ℕ) (state other : InitiatorState) → i < length states → get_or (slice_set states i state) i other ≡ state
+pub state_here : (states : List InitiatorState) (i : ℕ) (state other : InitiatorState) → i < length states → get_or (slice_set states i state) i other ≡ state
 state_here states i state other b = grind (arith, common_steps)
 
-state_there : (states : List InitiatorState) (i j : ℕ) (state other : InitiatorState) → (j == i) ≡ false → i < length states → get_or (slice_set states i state) j other ≡ get_or states j other
+pub state_there : (states : List InitiatorState) (i j : ℕ) (state other : InitiatorState) → (j == i) ≡ false → i < length states → get_or (slice_set states i state) j other ≡ get_or states j other
 state_there states i j state other e b = grind (arith, common_steps)
 
 pub initiator_hosts : (past : List Moment) (w : WorldState) (i from weight : ℕ) (t : Turn) → i < length w.initiators → t.1.number ≡ i → AreNotes t.0.sides → NoneAborts (history w past) → Listed (history w past) t → AreBut past i w → AreHosts past (handed_out from weight t.0 (with_initiator i t.1 w))

@@ -23,3 +23,9 @@ pub mod TargetTells
 pub mod Hands
 pub mod Hosting
 pub mod Liners
+pub mod Numbers
+pub mod Aborts
+pub mod LineLaws
+pub mod Knows
+pub mod Brings
+pub mod Runs

@@ -42,11 +42,11 @@ use Rattle.sbp_journal.specs.declared.note.Note.TheVariants as notes
 use Rattle.sbp_journal.specs.declared.side.Side.{Side}
 use Rattle.sbp_journal.specs.declared.side.Side.TheVariants as sides
 use Rattle.sbp_initiator.specs.declared.state.InitiatorState.{InitiatorState}
-use Rattle.sbp_initiator.specs.Acting.{IsAction, act_step}
+use Rattle.sbp_initiator.specs.Acting.{act_step}
 use Rattle.sbp_initiator.specs.Effects.{Turn}
 use Rattle.sbp_initiator.specs.Initiators.{new_state}
 use Rattle.sbp_initiator.specs.Receiving.{receive_step}
-use Rattle.initiator_laws.specs.Laws.{Call, IsCall, acts as acts_call, receives as receives_call, done}
+use Rattle.initiator_laws.specs.Laws.{Call, IsCall, receives as receives_call, done}
 use Rattle.initiator_laws.specs.Moves.{Move, Moves, Stage, staged, tells, sits, resets, relists, marks_as, works_at, reads_on, holds, learns, turns_to, counts_up, judges, answers, asks, fails, sends, expires, sees, stay, go_on}
 use Rattle.initiator_laws.proofs.Called.{call_moves}
 use Rattle.sbp_initiator.proofs.FirstRow.{refusal_law}
@@ -63,7 +63,7 @@ use Rattle.sbp_world.proofs.InitiatorForms as initiators
 use Rattle.host_terms.specs.Calls.{Left, Listed}
 use Rattle.host_terms.specs.Handing.{AreNotes, AreOthers, IsNote, history}
 use Rattle.host_terms.specs.Fits.{AreRows}
-use Rattle.host_terms.specs.Lines.{LineLaw, MayDeliver, MayHear, is_abort}
+use Rattle.host_terms.specs.Lines.{MayDeliver, MayHear, is_abort}
 use Rattle.host_terms.specs.Steps.{is_beside}
 use Rattle.host_terms.specs.Worlds.{AreBut, AreHosts, IsHost, NoneAborts}
 use Rattle.host_terms.proofs.Acts.{act_left}
@@ -71,6 +71,7 @@ use Rattle.host_terms.proofs.Beside.{beside_rests}
 use Rattle.host_terms.proofs.Hands.{second_tells, target_tells}
 use Rattle.host_terms.proofs.Hears.{receive_listed}
 use Rattle.host_terms.proofs.Hosting.{initiator_hosts, note_hosts, target_hosts}
+use Rattle.host_terms.proofs.Numbers.{act_number}
 
 -- ---- an initiator keeps its number, and tells its own notes
 
@@ -124,7 +125,7 @@ own_notes (side ∷ told) h = (own_note side h.0, own_notes told h.1)
 
 -- ---- an initiator of a world before a call
 
-host_listed : (past : List Moment) (i : ℕ) (s : InitiatorState) → IsHost past i s → Listed past (empty_outbox, s)
+pub host_listed : (past : List Moment) (i : ℕ) (s : InitiatorState) → IsHost past i s → Listed past (empty_outbox, s)
 host_listed past i s h = record { rows = subst (λ j. AreRows past j s.lists.slots) (sym h.number) h.rows; pin = h.pin; beside = λ j x e r. r }
 
 host_noted : (past : List Moment) (i : ℕ) (s : InitiatorState) (note : Note) → is_beside i note ≡ true → IsHost past i s → IsHost (said note ∷ past) i s
@@ -199,7 +200,7 @@ module _ (past : List Moment) (serial : ℕ) (again : Bool) where
   received_found told None s m n may h = h
   received_found told (Some sent) s m n may h = received_where told sent s m n may h
 
-  delivers : (told : Option Told) (s : Scene) → MayReceive told serial s → NoneAborts (history s.world past) → MayDeliver past serial (found_sent serial s.world.store.kept) s.world → AreHosts past s.world → AreHosts past (delivered serial again told s).world
+  pub delivers : (told : Option Told) (s : Scene) → MayReceive told serial s → NoneAborts (history s.world past) → MayDeliver past serial (found_sent serial s.world.store.kept) s.world → AreHosts past s.world → AreHosts past (delivered serial again told s).world
   unfolding delivered received_step MayReceive
   delivers told s m n may h = received_found told (found_sent serial s.world.store.kept) s m n may h
 
@@ -267,7 +268,7 @@ module _ (past : List Moment) (line serial : ℕ) where
   found_expires None w n h = refuses w h
   found_expires (Some request) w n h = all_expires request w n h
 
-  line_expires : (w : WorldState) → NoneAborts (history w past) → AreHosts past w → AreHosts past (timeout_line line serial w)
+  pub line_expires : (w : WorldState) → NoneAborts (history w past) → AreHosts past w → AreHosts past (timeout_line line serial w)
   unfolding timeout_line
   line_expires w n h = found_expires (find w.requests serial) w n h
 
@@ -299,7 +300,7 @@ module _ (past : List Moment) (node : ℕ) (w : WorldState) (n : NoneAborts (his
       initiator_hosts past seen i node 0 (outbox, state) inside number own n l
       (λ j b f. host_noted (history w past) j (initiator_at w j) (notes.Seen node w.generations.latest.generation) (others_seen i j e f) (h j b))
 
-  line_sees : ((i : ℕ) → node ≡ suc i → i < length w.initiators) → ((i : ℕ) → node ≡ suc i → MaySee past i w) → AreHosts past (see_line node w)
+  pub line_sees : ((i : ℕ) → node ≡ suc i → i < length w.initiators) → ((i : ℕ) → node ≡ suc i → MaySee past i w) → AreHosts past (see_line node w)
   unfolding see_line nodes.sees
   line_sees inside may =
       pick_sees (node == 0) (nodes.target_learns seen) (nodes.initiator_learns node seen)
@@ -322,7 +323,7 @@ module _ (past : List Moment) (node : ℕ) (w : WorldState) (n : NoneAborts (his
 
 -- ---- a second
 
-ticks : (past : List Moment) (w : WorldState) → NoneAborts (history w past) → AreHosts past w → AreHosts past (tick_line w)
+pub ticks : (past : List Moment) (w : WorldState) → NoneAborts (history w past) → AreHosts past w → AreHosts past (tick_line w)
 unfolding tick_line
 ticks past w n h = by_pair (target_ticks w.target) (second_tells w.target)
   where
@@ -355,29 +356,31 @@ left_listed actions.AbortSet past i o s t e l = l
 left_listed actions.UnitReset past i o s t e l = l
 left_listed actions.TargetReset past i o s t e l = l
 
-module _ (past : List Moment) (line i : ℕ) (action : Action) (w : WorldState) (inside : i < length w.initiators) (fields : IsAction action) (n : NoneAborts (history w past)) (h : AreHosts past w) where
+-- one that is refused leaves its initiator
+pub refuses_act : (past : List Moment) (line i : ℕ) (action : Action) (w : WorldState) → AreHosts past w → (number : ℕ) (turn : Turn) → act_step action empty_outbox (initiator_at w i) ≡ (Some number, turn) → AreHosts past (acted_by (Some number, turn) line i action w)
+refuses_act past line i action w h number (outbox, state) e =
+    let old = initiator_at w i in
+    let same = refusal_law.unchanged action empty_outbox old number (ap (λ (x : Option ℕ × Turn). x.0) e) in
+    let kept : state ≡ old = sym (ap (λ (x : Option ℕ × Turn). x.1.1) e) ∙ ap (λ (x : Turn). x.1) same in
+    note_hosts past (with_initiator i state w) (notes.Refused line number) (λ j. refl)
+    (subst (λ (x : InitiatorState). AreHosts past (with_initiator i x w)) (sym kept)
+    (subst (λ (xs : List InitiatorState). AreHosts past (record w { initiators = xs })) (sym (set-get_or w.initiators i (new_state 0 false))) h))
+
+module _ (past : List Moment) (line i : ℕ) (action : Action) (w : WorldState) (inside : i < length w.initiators) (n : NoneAborts (history w past)) (h : AreHosts past w) where
   abbrev old : InitiatorState
   old = initiator_at w i
 
   acts_by : (r : Option ℕ × Turn) → act_step action empty_outbox old ≡ r → is_abort action ≡ false → AreHosts past (acted_by r line i action w)
-  acts_by (Some number, (outbox, state)) e a =
-      let same = refusal_law.unchanged action empty_outbox old number (ap (λ (x : Option ℕ × Turn). x.0) e) in
-      let kept : state ≡ old = sym (ap (λ (x : Option ℕ × Turn). x.1.1) e) ∙ ap (λ (x : Turn). x.1) same in
-      note_hosts past (with_initiator i state w) (notes.Refused line number) (λ j. refl)
-      (subst (λ (x : InitiatorState). AreHosts past (with_initiator i x w)) (sym kept)
-      (subst (λ (xs : List InitiatorState). AreHosts past (record w { initiators = xs })) (sym (set-get_or w.initiators i (new_state 0 false))) h))
+  acts_by (Some number, turn) e a = refuses_act past line i action w h number turn e
   acts_by (None, t) e a =
       let is_done : (act_step action empty_outbox old).0 ≡ None = ap (λ (x : Option ℕ × Turn). x.0) e in
       let turn : (act_step action empty_outbox old).1 ≡ t = ap (λ (x : Option ℕ × Turn). x.1) e in
       let l = left_listed action (history w past) i empty_outbox old (act_step action empty_outbox old).1 a (act_left (history w past) action empty_outbox old is_done (host_listed (history w past) i old (h i inside))) in
       initiator_hosts past w i (i + 1) (weight_in action) t inside
-      (subst (λ (x : Turn). x.1.number ≡ i) turn (number_call (acts_call action) (empty_outbox, old) fields ∙ (h i inside).number))
+      (subst (λ (x : Turn). x.1.number ≡ i) turn (act_number action empty_outbox old ∙ (h i inside).number))
       (subst (λ (x : Turn). AreNotes x.0.sides) turn (own_notes (act_step action empty_outbox old).1.0.sides (initiators.acts action empty_outbox old tt))) n
       (subst (Listed (history w past)) turn l) (all_but past i w h)
 
-  acts : is_abort action ≡ false → AreHosts past (acted line i action w)
+  pub acts : is_abort action ≡ false → AreHosts past (acted line i action w)
   unfolding acted
   acts a = acts_by (act_step action empty_outbox old) refl a
-
-pub line_law : LineLaw
-line_law = record { delivers = λ past serial again told s m n may h. delivers past serial again told s m n may h; expires = λ past line serial w n h. line_expires past line serial w n h; sees = λ past node w n inside may h. line_sees past node w n h inside may; ticks = ticks; acts = acts }

@@ -24,7 +24,7 @@ use Rattle.sbp_initiator.specs.Seeing.{all_end, freed_step, interrupted, reset_s
 use Rattle.sbp_laws.specs.Terms.{lists, appends}
 use Rattle.sbp_laws.specs.Lists as terms
 use Rattle.sbp_laws.specs.Lists.{SlotState as Row, vacant, new_slots, put_to_rest}
-use Rattle.host_terms.specs.Rows.{name_in, present_in}
+use Rattle.host_terms.specs.Rows.{present_in}
 use Rattle.host_terms.specs.Fits.{ListTerms, terms_at, over_at, Frees, IfLast, StateFits, IfList, Fits, Rows, AreRows}
 use Rattle.host_terms.proofs.Pins.{pin_terms}
 use Rattle.host_terms.proofs.Sweeps.{frees, rests}

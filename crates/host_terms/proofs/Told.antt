@@ -1,5 +1,5 @@
 -- Each step of the slots, with the note that tells it.
-use Rattle.std.proofs.Common.{arith, ◌≡◌, refl, sym, ◌∙◌, ap, subst, slice_set, ℕ, suc, ◌+◌, ◌<◌, ◌≤◌, ◌==◌, Bool, true, cond, List, ◌∷◌, map, max, Option, Some, None, Ok}
+use Rattle.std.proofs.Common.{◌≡◌, refl, sym, ◌∙◌, ap, subst, slice_set, ℕ, suc, ◌+◌, ◌<◌, ◌==◌, Bool, true, cond, List, ◌∷◌, map, max, Option, Some, None, Ok}
 use Rattle.bus_memory.specs.Memory.{Memory}
 use Rattle.bus_memory.specs.Windows.{slot_of}
 use Rattle.orb_layout.specs.declared.status.StatusBlock.{StatusBlock}

@@ -8,3 +8,4 @@ pub mod Acting
 pub mod Handing
 pub mod Worlds
 pub mod Lines
+pub mod Runs

@@ -1,7 +1,7 @@
--- What single steps of a world do to the lists of its initiators, by the history of its run: a delivery, a time-out, a sight, a second, and an
--- action that is no abort. Of a delivery it is asked that a status that is taken may be; of a sight, that the initiator is in the generation
--- that the history tells.
-use Rattle.std.specs.Prelude.{◌≡◌, ◌<◌, ℕ, ◌-◌, ◌==◌, Bool, true, false, List, ◌∷◌, length, Option, Some, None, suc, not}
+-- What single steps of a world do to the lists of its initiators, by the history of its run: a delivery, a time-out, a sight, a second, an
+-- action that is no abort, and an abort. Of a delivery it is asked that a status that is taken may be; of a sight, that the initiator is in
+-- the generation that the history tells; of an abort, that the ID that the initiator has for the target is a node's in its generation.
+use Rattle.std.specs.Prelude.{◌≡◌, ◌<◌, ℕ, ◌+◌, ◌-◌, ◌==◌, Bool, true, false, List, ◌∷◌, length, Option, Some, None, suc, not}
 use Rattle.label_table.specs.Layer.{judging_step, seeing_step}
 use Rattle.packet_store.specs.declared.sent.Sent.{Sent}
 use Rattle.packet_store.specs.Kept.{found_sent}
@@ -11,10 +11,11 @@ use Rattle.sbp_journal.specs.Outgoings.{empty_outbox}
 use Rattle.sbp_journal.specs.Wire.{terms as wire_terms}
 use Rattle.sbp_journal.specs.declared.event.Action.{Action}
 use Rattle.sbp_journal.specs.declared.event.Action.TheVariants as actions
-use Rattle.sbp_initiator.specs.Acting.{IsAction}
+use Rattle.sbp_journal.specs.declared.event.Event.TheVariants as events
 use Rattle.sbp_initiator.specs.Receiving.{receive_step}
+use Rattle.sbp_laws.specs.Turns.{event_of}
 use Rattle.sbp_world.specs.Delivering.{MayReceive, delivered, judged_note}
-use Rattle.sbp_bus.specs.Generations.{id_of}
+use Rattle.sbp_bus.specs.Generations.{id_of, node_of}
 use Rattle.sbp_world.specs.Lines.{acted}
 use Rattle.sbp_world.specs.Packets.{timeout_line}
 use Rattle.sbp_world.specs.Nodes.{see_line, tick_line}
@@ -47,4 +48,5 @@ pub record LineLaw : Type 0 where
   pub expires : (past : List Moment) (line serial : ℕ) (w : WorldState) → NoneAborts (history w past) → AreHosts past w → AreHosts past (timeout_line line serial w)
   pub sees : (past : List Moment) (node : ℕ) (w : WorldState) → NoneAborts (history w past) → ((i : ℕ) → node ≡ suc i → i < length w.initiators) → ((i : ℕ) → node ≡ suc i → MaySee past i w) → AreHosts past w → AreHosts past (see_line node w)
   pub ticks : (past : List Moment) (w : WorldState) → NoneAborts (history w past) → AreHosts past w → AreHosts past (tick_line w)
-  pub acts : (past : List Moment) (line i : ℕ) (action : Action) (w : WorldState) → i < length w.initiators → IsAction action → NoneAborts (history w past) → AreHosts past w → is_abort action ≡ false → AreHosts past (acted line i action w)
+  pub acts : (past : List Moment) (line i : ℕ) (action : Action) (w : WorldState) → i < length w.initiators → NoneAborts (history w past) → AreHosts past w → is_abort action ≡ false → AreHosts past (acted line i action w)
+  pub aborts : (past : List Moment) (line i number to : ℕ) (w : WorldState) → i < length w.initiators → node_of w.generations (i + 1) (initiator_at w i).target ≡ Some to → event_of (history w past) ≡ Some (events.Act i (actions.Abort number)) → AreHosts past w → AreHosts past (acted line i (actions.Abort number) w)

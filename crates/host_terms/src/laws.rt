@@ -5,6 +5,7 @@ ghost use Rattle.host_terms.specs.Handing.{HandLaw};
 ghost use Rattle.host_terms.specs.Keeping.{KeepingLaw};
 ghost use Rattle.host_terms.specs.Lines.{LineLaw};
 ghost use Rattle.host_terms.specs.Reading.{ReadLaw};
+ghost use Rattle.host_terms.specs.Runs.{RunLaw};
 ghost use Rattle.host_terms.specs.Steps.{StepLaw};
 ghost use Rattle.host_terms.specs.Worlds.{WorldLaw};
 
@@ -58,9 +59,16 @@ pub fn worlds_keep_rows()
     ensures { WorldLaw }
 {}
 
-/// The law of single steps of a world: at a delivery, a second and an action that is no abort the run terms of the
-/// lists of each initiator stay or become the rows of its slots.
-#[tactic(auto, using(crate::proofs::Liners::line_law))]
+/// The law of single steps of a world: at a delivery, a time-out, a sight, a second, an action and an abort the run
+/// terms of the lists of each initiator stay or become the rows of its slots.
+#[tactic(auto, using(crate::proofs::LineLaws::line_law))]
 pub fn steps_of_worlds_keep_rows()
     ensures { LineLaw }
+{}
+
+/// The law of every run: after each of its lines, and behind each delivery of a line that delivers more, the run terms
+/// of the lists of each initiator are the rows of its slots, and so say what its slots say.
+#[tactic(auto, using(crate::proofs::Runs::run_law))]
+pub fn runs_keep_rows()
+    ensures { RunLaw }
 {}

@@ -3,4 +3,7 @@
 
 mod laws;
 
-pub use laws::{calls_keep_rows, steps_keep_rows, terms_are_read};
+pub use laws::{
+    actions_tell_their_notes, calls_keep_rows, orbs_have_slots, others_leave_rows, runs_keep_rows,
+    steps_keep_rows, steps_of_worlds_keep_rows, terms_are_read, worlds_keep_rows,
+};
