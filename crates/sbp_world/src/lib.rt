@@ -4,7 +4,6 @@
 
 mod laws;
 mod parts;
-mod words;
 mod world;
 
 pub use laws::{lines_have_form, runs_begin, runs_go_on, settles_go_on};
