@@ -33,7 +33,7 @@ use Rattle.initiator_laws.specs.Judging.{LeftBy, judging_for, note_by, note_of}
 use Rattle.initiator_laws.proofs.Judging.{judging_law}
 use Rattle.sbp_laws.specs.Packets.{access_in, packet_in, spelled_by}
 use Rattle.sbp_laws.specs.Lists.{src_in}
-use Rattle.sbp_world.specs.Delivering.{judged_note}
+use Rattle.sbp_bus.specs.Packets.{judged_note}
 use Rattle.sbp_world.specs.Worlds.{WorldState, initiator_at}
 use Rattle.sbp_world.specs.Wire.Wires.{Stands}
 use Rattle.host_terms.specs.Calls.{MayFind, MayPacket}

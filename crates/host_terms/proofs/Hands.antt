@@ -21,8 +21,9 @@ use Rattle.sbp_world.specs.Delivering.{MayTell, faults_after, left_target, targe
 use Rattle.sbp_bus.specs.Generations.{node_of, topology_at}
 use Rattle.sbp_world.specs.Nodes.{target_sees, target_ticks}
 use Rattle.sbp_world.specs.Sending.{asked, posted, sent, sent_all, sent_to}
-use Rattle.sbp_world.specs.Telling.{holder, initiator_of, list_in, orb_in, ticket_of, told, told_all}
-use Rattle.sbp_world.specs.Words.{check_of, function_word, login_if}
+use Rattle.sbp_bus.specs.Telling.{list_in, orb_in}
+use Rattle.sbp_world.specs.Telling.{holder, initiator_of, ticket_of, told, told_all}
+use Rattle.sbp_bus.specs.Words.{check_of, function_word, login_if}
 use Rattle.sbp_world.specs.Worlds.{WorldState}
 use Rattle.host_terms.specs.Calls.{behind, by_side}
 use Rattle.host_terms.specs.Fits.{AreRows}

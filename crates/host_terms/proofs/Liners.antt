@@ -13,7 +13,8 @@ use Rattle.sbp_target.specs.Receiving.{expired}
 use Rattle.sbp_bus.specs.declared.requests.Request.{Request}
 use Rattle.sbp_bus.specs.Generations.{id_of}
 use Rattle.sbp_world.specs.Nodes.{see_line}
-use Rattle.sbp_world.specs.Packets.{expires as world_expires, initiator_expires, no_packet, refused, target_expired, target_left, timed_out, timeout_line, timeout_of}
+use Rattle.sbp_bus.specs.Packets.{no_packet, judged_note}
+use Rattle.sbp_world.specs.Packets.{expires as world_expires, initiator_expires, refused, target_expired, target_left, timed_out, timeout_line, timeout_of}
 use Rattle.sbp_world.specs.Packets as packets
 use Rattle.sbp_bus.specs.Requests.{find}
 use Rattle.sbp_world.specs.Sending.{sent_all}
@@ -52,7 +53,7 @@ use Rattle.initiator_laws.proofs.Called.{call_moves}
 use Rattle.sbp_initiator.proofs.FirstRow.{refusal_law}
 use Rattle.sbp_target.specs.Nodes.{NodeState}
 use Rattle.sbp_world.specs.declared.parts.delivering.Arrival.{Arrival}
-use Rattle.sbp_world.specs.Delivering.{MayAt, MayReceive, MayTold, arrived, at_initiator, at_none, at_target, delivered, delivered_by, initiator_received, initiators_received, judged_note, listed, received_at, received_by, received_step, target_received}
+use Rattle.sbp_world.specs.Delivering.{MayAt, MayReceive, MayTold, arrived, at_initiator, at_none, at_target, delivered, delivered_by, initiator_received, initiators_received, listed, received_at, received_by, received_step, target_received}
 use Rattle.sbp_world.specs.Handing.{handed_out}
 use Rattle.sbp_world.specs.Lines.{acted, acted_by, weight_in}
 use Rattle.sbp_world.specs.Nodes.{target_ticks, tick_line}

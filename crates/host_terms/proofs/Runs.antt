@@ -18,10 +18,12 @@ use Rattle.sbp_world.specs.Histories.{moments_behind}
 use Rattle.sbp_world.specs.Lines.{MayHappen, acted, happens, keyed, no_unit}
 use Rattle.sbp_world.specs.Making.{new_world}
 use Rattle.sbp_world.specs.Nodes.{reset_line}
-use Rattle.sbp_world.specs.Packets.{MayIf, delivered_if, inject_line, injected, injected_to, is_in_flight, lose_line, lost, may_repeat, no_node, no_packet, refused}
+use Rattle.sbp_world.specs.Packets.{MayIf, delivered_if, inject_line, injected, injected_to, is_in_flight, lose_line, lost, may_repeat, refused}
+use Rattle.sbp_bus.specs.Packets.{no_node, no_packet}
 use Rattle.sbp_world.specs.Runs.{AreEntries, Entry, Run, after, beginning}
 use Rattle.sbp_world.specs.Sending.{posted}
-use Rattle.sbp_world.specs.Settling.{MayAll, MayNext, after_all, delivered_at, delivered_next, end_note, is_settled, lowest}
+use Rattle.sbp_world.specs.Settling.{MayAll, MayNext, after_all, delivered_at, delivered_next, is_settled, lowest}
+use Rattle.sbp_bus.specs.Packets.{end_note}
 use Rattle.sbp_world.specs.Settling as settling
 use Rattle.sbp_world.specs.Worlds.{Scene, WorldState, begun, initiator_at, with_note, with_target, without_notes}
 use Rattle.sbp_world.specs.FitTarget.{BytesTold}

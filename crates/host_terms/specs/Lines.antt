@@ -14,7 +14,8 @@ use Rattle.sbp_journal.specs.declared.event.Action.TheVariants as actions
 use Rattle.sbp_journal.specs.declared.event.Event.TheVariants as events
 use Rattle.sbp_initiator.specs.Receiving.{receive_step}
 use Rattle.sbp_laws.specs.Turns.{event_of}
-use Rattle.sbp_world.specs.Delivering.{MayReceive, delivered, judged_note}
+use Rattle.sbp_bus.specs.Packets.{judged_note}
+use Rattle.sbp_world.specs.Delivering.{MayReceive, delivered}
 use Rattle.sbp_bus.specs.Generations.{id_of, node_of}
 use Rattle.sbp_world.specs.Lines.{acted}
 use Rattle.sbp_world.specs.Packets.{timeout_line}

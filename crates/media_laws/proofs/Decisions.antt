@@ -29,7 +29,7 @@ use Rattle.mgmt_agent.specs.Statuses.{function_of, number_of, status_of}
 use Rattle.mgmt_agent.proofs.Effects.{replies_call}
 use Rattle.sbp_journal.specs.declared.operation.FunctionWord.{FunctionWord}
 use Rattle.sbp_journal.specs.declared.operation.FunctionWord.TheVariants as words
-use Rattle.sbp_world.specs.Words.{function_word}
+use Rattle.sbp_bus.specs.Words.{function_word}
 use Rattle.media_laws.proofs.Seats.{Seat, decided_seats, seat, seats_by, with_seat, without}
 use Rattle.media_laws.proofs.Tables.{EntersSeat, LeavesSeat, all_kept, left_seats, login_back, login_enters, login_out, seats_of}
 

@@ -16,8 +16,9 @@ use Rattle.sbp_bus.specs.Generations.{node_of}
 use Rattle.sbp_world.specs.Handing.{handed_out}
 use Rattle.sbp_bus.specs.Places.{back_at, back_step, enter_step, has_login, holder_of, is_free, left_step, opened_by, opened_step, or_nobody, place_in, put_at, taken_by}
 use Rattle.sbp_world.specs.Sending.{asked, posted, sent, sent_all, sent_to}
-use Rattle.sbp_world.specs.Telling.{holder, initiator_of, managed_places, told, told_all}
-use Rattle.sbp_world.specs.Words.{function_word}
+use Rattle.sbp_bus.specs.Telling.{managed_places}
+use Rattle.sbp_world.specs.Telling.{holder, initiator_of, told, told_all}
+use Rattle.sbp_bus.specs.Words.{function_word}
 use Rattle.sbp_world.specs.Worlds.{WorldState}
 use Rattle.media_laws.specs.Media.{left_by_note, media_after, run_on}
 use Rattle.media_laws.proofs.Lists.{put, put_first, replaced_map}

@@ -1,2 +1,3 @@
 pub mod Making
 pub mod Weights
+pub mod Handed

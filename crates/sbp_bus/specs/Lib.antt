@@ -2,3 +2,8 @@ pub mod Generations
 pub mod Requests
 pub mod Places
 pub mod Loads
+pub mod Words
+pub mod Buses
+pub mod Telling
+pub mod Sending
+pub mod Packets

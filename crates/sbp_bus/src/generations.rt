@@ -22,7 +22,7 @@ pub struct Topology {
 /// The latest generation of the bus, and the one that each node knows: it knows the latest one that it
 /// has seen.
 #[derive(Drop)]
-pub struct Generations {
+pub(crate) struct Generations {
     latest: Topology,
     seen: Vec<Topology>,
 }
@@ -95,7 +95,7 @@ fn place_of(ids: &[u8], node: NodeId) -> Option<usize>
 
 impl Generations {
     /// Generation 0, in which the target has physical ID 0 and initiator i has i + 1; each node knows it.
-    pub fn new(alloc: Global, nodes: u8) -> Result<Generations, NoMemory>
+    pub(crate) fn new(alloc: Global, nodes: u8) -> Result<Generations, NoMemory>
         ensures made { IfOk result (λ generations. generations ≡ new_generations nodes) }
         ensures seen { IfOk result (λ generations. length generations.seen ≡ nodes) }
         ensures ids { IfOk result (λ generations. length generations.latest.ids ≡ nodes) }
@@ -107,14 +107,14 @@ impl Generations {
     }
 
     /// The latest generation.
-    pub fn latest(&self) -> Generation
+    pub(crate) fn latest(&self) -> Generation
         ensures { result ≡ self.now.latest.generation }
     {
         self.latest.generation
     }
 
     /// The ID of a node in the latest generation.
-    pub fn latest_id(&self, node: u8) -> NodeId
+    pub(crate) fn latest_id(&self, node: u8) -> NodeId
         requires { node < length self.now.latest.ids }
         ensures { result ≡ id_of self.now.latest node }
     {
@@ -123,7 +123,7 @@ impl Generations {
     }
 
     /// The generation that a node knows.
-    pub fn generation_of(&self, node: u8) -> Generation
+    pub(crate) fn generation_of(&self, node: u8) -> Generation
         requires { node < length self.now.seen }
         ensures { result ≡ (topology_at self.now node).generation }
     {
@@ -131,7 +131,7 @@ impl Generations {
     }
 
     /// The node that has an ID, as another node knows it. A bus has five nodes at most.
-    pub fn node_of(&self, viewer: u8, id: NodeId) -> Option<u8>
+    pub(crate) fn node_of(&self, viewer: u8, id: NodeId) -> Option<u8>
         requires { viewer < length self.now.seen }
         ensures node { result ≡ node_of self.now viewer id }
         ensures few { IfSome result (λ node. node < 5) }
@@ -146,7 +146,7 @@ impl Generations {
 
     /// A bus reset: the next generation, with new physical IDs. No node has seen it yet. Want of memory
     /// is answered too where there is no next generation.
-    pub fn reset(&mut self, alloc: Global, ids: &[u8]) -> Result<(), NoMemory>
+    pub(crate) fn reset(&mut self, alloc: Global, ids: &[u8]) -> Result<(), NoMemory>
         requires { length ids.now ≡ length self.old.latest.ids }
         ensures step { OnOk result (self.new ≡ reset_step ids.now self.old) }
         ensures seen { self.new.seen ≡ self.old.seen }
@@ -164,7 +164,7 @@ impl Generations {
     }
 
     /// A node sees the latest generation.
-    pub fn see(&mut self, alloc: Global, node: u8) -> Result<(), NoMemory>
+    pub(crate) fn see(&mut self, alloc: Global, node: u8) -> Result<(), NoMemory>
         requires { node < length self.old.seen }
         ensures step { OnOk result (self.new ≡ see_step node self.old) }
         ensures latest { self.new.latest ≡ self.old.latest }

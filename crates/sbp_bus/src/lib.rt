@@ -1,13 +1,16 @@
-//! The simulated serial bus by itself, whatever its nodes do: its generations, the requests under way,
-//! who has each place of the target's logins, and what the budget counts.
+//! The simulated serial bus by itself, whatever its nodes do: its generations, the packets, the requests
+//! under way, who has each place of the target's logins, what the budget counts, and the notes of a line.
 #![tactic(auto)]
 
+mod bus;
 mod generations;
 mod loads;
 mod places;
 mod requests;
+mod words;
 
-pub use generations::{Generations, Topology};
-pub use loads::{LeftLists, ListLoad, Loads, OrbLoad, OrbLoads, weight_of};
-pub use places::{Holder, Places};
-pub use requests::{Request, Requests};
+pub use bus::Bus;
+pub use generations::Topology;
+pub use loads::{LeftLists, ListLoad, OrbLoad, OrbLoads, weight_of};
+pub use places::Holder;
+pub use requests::Request;

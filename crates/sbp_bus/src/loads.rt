@@ -279,7 +279,7 @@ fn lists_weight(each: &[ListLoad]) -> u64
 
 /// What the budget counts for each initiator.
 #[derive(Drop)]
-pub struct Loads {
+pub(crate) struct Loads {
     each: Vec<ListLoad>,
 }
 
@@ -296,7 +296,7 @@ impl Loads {
     ghost use Rattle.sbp_bus.specs.Loads.{of_initiator};
 
     /// Nothing, for so many initiators.
-    pub fn new(alloc: Global, initiators: u8) -> Result<Loads, NoMemory>
+    pub(crate) fn new(alloc: Global, initiators: u8) -> Result<Loads, NoMemory>
         ensures { IfOk result (λ loads. loads ≡ new_loads initiators) }
     {
         let mut each = Vec::new(alloc);
@@ -307,7 +307,7 @@ impl Loads {
     }
 
     /// An ORB was appended.
-    pub fn append(
+    pub(crate) fn append(
         &mut self,
         initiator: u8,
         list: u32,
@@ -323,7 +323,7 @@ impl Loads {
     }
 
     /// A status was taken.
-    pub fn take(&mut self, initiator: u8, orb: u32)
+    pub(crate) fn take(&mut self, initiator: u8, orb: u32)
         ensures { self.new ≡ of_initiator initiator (take_step orb) self.old }
     {
         if usize::from(initiator) < self.each.len() {
@@ -332,7 +332,7 @@ impl Loads {
     }
 
     /// A list was dropped.
-    pub fn drop_list(&mut self, initiator: u8, list: u32) -> Result<(), NoMemory>
+    pub(crate) fn drop_list(&mut self, initiator: u8, list: u32) -> Result<(), NoMemory>
         ensures { OnOk result (self.new ≡ of_initiator initiator (drop_step list) self.old) }
     {
         if usize::from(initiator) >= self.each.len() {
@@ -342,7 +342,7 @@ impl Loads {
     }
 
     /// A list was cut.
-    pub fn cut(&mut self, initiator: u8, list: u32)
+    pub(crate) fn cut(&mut self, initiator: u8, list: u32)
         ensures { self.new ≡ of_initiator initiator (cut_step list) self.old }
     {
         if usize::from(initiator) < self.each.len() {
@@ -351,7 +351,7 @@ impl Loads {
     }
 
     /// What the ORBs without a status count together, of lists that were not cut.
-    pub fn weight(&self) -> u64
+    pub(crate) fn weight(&self) -> u64
         ensures { result ≡ lists_weight self.now }
     {
         lists_weight(&self.each)

@@ -18,7 +18,7 @@ pub struct Holder {
 
 /// Who has each of the eight places.
 #[derive(Drop)]
-pub struct Places {
+pub(crate) struct Places {
     holders: Vec<Option<Holder>>,
 }
 
@@ -95,7 +95,7 @@ fn login_place(holders: &[Option<Holder>], login: u16) -> Option<usize>
 
 impl Places {
     /// The places at the start: of so many initiators each has its login in the place of its number.
-    pub fn new(alloc: Global, ready: u8) -> Result<Places, NoMemory>
+    pub(crate) fn new(alloc: Global, ready: u8) -> Result<Places, NoMemory>
         ensures { IfOk result (λ places. places ≡ new_places ready) }
     {
         let holders = [
@@ -114,7 +114,7 @@ impl Places {
     }
 
     /// Who has a place.
-    pub fn holder(&self, place: u8) -> Holder
+    pub(crate) fn holder(&self, place: u8) -> Holder
         ensures { result ≡ holder_at self.now place }
     {
         match self.holders.get(usize::from(place)) {
@@ -125,7 +125,7 @@ impl Places {
 
     /// The agent of a place was pointed to an ORB of a list.
     #[tactic(auto, unfolding(crate::specs::Places::opened_step))]
-    pub fn open(&mut self, place: u8, list: Option<u32>)
+    pub(crate) fn open(&mut self, place: u8, list: Option<u32>)
         ensures { self.new ≡ opened_step place list self.old }
     {
         let index = usize::from(place);
@@ -139,7 +139,7 @@ impl Places {
 
     /// A login is entered into the lowest free place.
     #[tactic(auto, unfolding(crate::specs::Places::enter_step))]
-    pub fn enter(&mut self, holder: Holder)
+    pub(crate) fn enter(&mut self, holder: Holder)
         ensures { self.new ≡ enter_step holder self.old }
     {
         if let Some(place) = free_place(&self.holders) {
@@ -149,7 +149,7 @@ impl Places {
 
     /// A login is taken back by an initiator: no list is open there yet.
     #[tactic(auto, unfolding(crate::specs::Places::back_step))]
-    pub fn back(&mut self, login: u16, initiator: u8)
+    pub(crate) fn back(&mut self, login: u16, initiator: u8)
         ensures { self.new ≡ back_step login initiator self.old }
     {
         if let Some(place) = login_place(&self.holders, login) {
@@ -162,7 +162,7 @@ impl Places {
 
     /// A login leaves its place.
     #[tactic(auto, unfolding(crate::specs::Places::left_step))]
-    pub fn leave(&mut self, login: u16)
+    pub(crate) fn leave(&mut self, login: u16)
         ensures { self.new ≡ left_step login self.old }
     {
         if let Some(place) = login_place(&self.holders, login) {

@@ -22,7 +22,7 @@ pub struct Request {
 /// The latest request of each node to each peer under each label, found by its serial: each request
 /// under way is one of them.
 #[derive(Drop)]
-pub struct Requests {
+pub(crate) struct Requests {
     /// By node, peer and label, the serial of the latest request; 0 where there was none.
     serials: Vec<u64>,
     requests: BTreeMap<u64, Request>,
@@ -59,7 +59,7 @@ fn zeros(alloc: Global, count: usize) -> Result<Vec<u64>, NoMemory>
 
 impl Requests {
     /// No request.
-    pub fn new(alloc: Global) -> Result<Requests, NoMemory>
+    pub(crate) fn new(alloc: Global) -> Result<Requests, NoMemory>
         ensures { IfOk result (λ requests. requests ≡ new_requests) }
     {
         Ok(Requests {
@@ -69,7 +69,7 @@ impl Requests {
     }
 
     /// The request with a serial, where it is the latest one of its node to its peer under its label.
-    pub fn find(&self, serial: u64) -> Option<Request>
+    pub(crate) fn find(&self, serial: u64) -> Option<Request>
         ensures { result ≡ find self.now serial }
     {
         self.requests.get(&serial).copied()
@@ -77,7 +77,7 @@ impl Requests {
 
     /// Adds a request to a peer of this number, in the place of the one before it under its label.
     #[tactic(auto, unfolding(crate::specs::Requests::add_step))]
-    pub fn add(&mut self, serial: u64, peer: u8, request: Request) -> Result<(), NoMemory>
+    pub(crate) fn add(&mut self, serial: u64, peer: u8, request: Request) -> Result<(), NoMemory>
         requires node { request.node < 5 }
         requires peer { peer < 5 }
         ensures { OnOk result (self.new ≡ add_step serial peer request self.old) }

@@ -8,8 +8,9 @@ use Rattle.sbp_journal.specs.Outgoings.{OutboxState}
 use Rattle.sbp_world.specs.declared.parts.delivering.Arrival.{Arrival}
 use Rattle.sbp_world.specs.Delivering.{Delivers, Receives, arrived_by, delivered, delivered_by, received_step}
 use Rattle.sbp_world.specs.Lines.{Happens, HappensTo, MayHappen, MayTellIn, happens, happens_to}
-use Rattle.sbp_world.specs.Packets.{Delivered, MayIf, Repeated, delivered_if, is_in_flight, may_repeat, no_packet, refused}
-use Rattle.sbp_world.specs.Settling.{AreUpTo, DeliversUpTo, Settles, budget, end_note, is_settled, settled_from}
+use Rattle.sbp_bus.specs.Packets.{no_packet, end_note}
+use Rattle.sbp_world.specs.Packets.{Delivered, MayIf, Repeated, delivered_if, is_in_flight, may_repeat, refused}
+use Rattle.sbp_world.specs.Settling.{AreUpTo, DeliversUpTo, Settles, budget, is_settled, settled_from}
 use Rattle.sbp_world.specs.Worlds.{Scene, WorldState, begun, in_world, scene, with_note, without_notes}
 
 -- ---- a delivery

@@ -1,9 +1,7 @@
--- What is left to tell or to send.
+-- What is left to tell.
 use Rattle.std.specs.Prelude.{◌≡◌, ℕ, List, [], ◌∷◌, refl}
 use Rattle.std.proofs.Common.{◌∙◌, ap, sym}
-use Rattle.sbp_journal.specs.declared.outbox.Outgoing.{Outgoing}
 use Rattle.sbp_journal.specs.declared.side.Side.{Side}
-use Rattle.sbp_world.specs.Sending.{sent, sent_all}
 use Rattle.sbp_world.specs.Telling.{told, told_all}
 use Rattle.sbp_world.specs.Worlds.{WorldState}
 
@@ -21,18 +19,3 @@ told_empty weight w = refl
 
 pub told_none : (weight : ℕ) (all : List Side) (w : WorldState) → all ≡ [] → w ≡ told_all weight all w
 told_none weight all w e = sym (ap (λ x. told_all weight x w) e ∙ told_empty weight w)
-
-sent_one : (from : ℕ) (packet : Outgoing) (later : List Outgoing) (w : WorldState) → sent_all from later (sent from packet w) ≡ sent_all from (packet ∷ later) w
-unfolding sent_all
-sent_one from packet later w = refl
-
-pub sent_more : (from : ℕ) (all later : List Outgoing) (packet : Outgoing) (w new : WorldState) → all ≡ packet ∷ later → new ≡ sent from packet w → sent_all from later new ≡ sent_all from all w
-sent_more from all later packet w new e n =
-    ap (λ x. sent_all from later x) n ∙ (sent_one from packet later w ∙ ap (λ x. sent_all from x w) (sym e))
-
-sent_empty : (from : ℕ) (w : WorldState) → sent_all from [] w ≡ w
-unfolding sent_all
-sent_empty from w = refl
-
-pub sent_none : (from : ℕ) (all : List Outgoing) (w : WorldState) → all ≡ [] → w ≡ sent_all from all w
-sent_none from all w e = sym (ap (λ x. sent_all from x w) e ∙ sent_empty from w)

@@ -1,4 +1,5 @@
 pub mod Making
+pub mod Buses
 pub mod Weights
 pub mod Settled
 pub mod Received

@@ -13,7 +13,7 @@ use Rattle.sbp_bus.specs.Generations.{node_of}
 use Rattle.sbp_world.specs.Handing.{handed_out}
 use Rattle.sbp_world.specs.Sending.{asked, posted, sent, sent_all, sent_to}
 use Rattle.sbp_world.specs.Telling.{told, told_all}
-use Rattle.sbp_world.specs.Words.{function_word, login_if}
+use Rattle.sbp_bus.specs.Words.{function_word, login_if}
 use Rattle.sbp_world.specs.Worlds.{WorldState}
 use Rattle.sbp_world.proofs.Formed.{AreFormed, IsFormed}
 

@@ -16,9 +16,6 @@ use Rattle.sbp_initiator.specs.declared.state.InitiatorState.{InitiatorState}
 use Rattle.sbp_initiator.specs.Initiators.{new_state}
 use Rattle.sbp_initiator.specs.Receiving.{receive_step}
 use Rattle.sbp_journal.specs.declared.cause.Judged.{Judged}
-use Rattle.sbp_journal.specs.declared.cause.Judged.TheVariants as judgements
-use Rattle.sbp_journal.specs.declared.note.Note.{Note}
-use Rattle.sbp_journal.specs.declared.note.Note.TheVariants as notes
 use Rattle.sbp_journal.specs.Outgoings.{OutboxState, empty_outbox}
 use Rattle.sbp_target.specs.declared.purpose.Purpose.{Purpose}
 use Rattle.sbp_target.specs.declared.purpose.Purpose.TheVariants as purposes
@@ -27,6 +24,7 @@ use Rattle.sbp_target.specs.Nodes.{NodeState, desk_at}
 use Rattle.sbp_target.specs.Nodes as target
 use Rattle.sbp_target.specs.Receiving.{TellsIn, answer_in, received, with_layer}
 use Rattle.sbp_target.specs.Replies.{Stage, Whole, agent_step, served_login, stage, whole}
+use Rattle.sbp_bus.specs.Packets.{judged_note}
 use Rattle.sbp_world.specs.declared.parts.delivering.Arrival.{Arrival}
 use Rattle.sbp_world.specs.Handing.{handed_out}
 use Rattle.sbp_world.specs.Worlds.{WorldState, Scene, in_world, with_note, with_target}
@@ -154,11 +152,6 @@ pub record Receives (serial : ℕ) (old : Scene) (result : Option Arrival) (outb
 abbrev pub marked : ℕ → Bool → WorldState → WorldState
 marked serial again w =
     if again || not (is_flying serial w.store.kept) then w else record w { store = deliver_step w.store serial }
-
--- the first note of a delivery
-abbrev pub judged_note : ℕ → Judged → Note
-judged_note serial judgements.Got = notes.Got serial
-judged_note serial (judgements.Ignored cause) = notes.Ignored serial cause
 
 -- the note of the judging, then what the node handed out
 unfoldable pub arrived : ℕ → Bool → Arrival → OutboxState → WorldState → WorldState

@@ -1,4 +1,3 @@
-pub mod Words
 pub mod Worlds
 pub mod Telling
 pub mod Sending

@@ -1,10 +1,9 @@
 -- The lines that name a packet, and injected packets.
-use Rattle.std.specs.Prelude.{◌≡◌, ℕ, ◌+◌, ◌-◌, ◌/◌, ◌^◌, ◌==◌, ◌&&◌, nat_lt, not, is_some, Bool, true, false, if◌then◌else◌, List, [], ◌∷◌, length, Option, Some, None, Result, Ok, Err}
+use Rattle.std.specs.Prelude.{◌≡◌, ℕ, ◌+◌, ◌-◌, ◌==◌, ◌&&◌, nat_lt, is_some, Bool, true, false, if◌then◌else◌, List, [], ◌∷◌, length, Option, Some, None, Result, Ok, Err}
 use Rattle.label_table.specs.declared.reply.Stale.{Stale}
 use Rattle.packet_store.specs.Kept.{found_sent, is_flying}
 use Rattle.packet_store.specs.Stored.{lose_step}
 use Rattle.rbc_disk.specs.Runs.{Told}
-use Rattle.sbp_base.specs.Quadlets.{quad}
 use Rattle.sbp_initiator.specs.declared.state.InitiatorState.{InitiatorState}
 use Rattle.sbp_initiator.specs.Receiving.{expire_step}
 use Rattle.sbp_journal.specs.declared.note.Note.TheVariants as notes
@@ -16,17 +15,10 @@ use Rattle.sbp_bus.specs.declared.requests.Request.{Request}
 use Rattle.sbp_world.specs.Delivering.{MayReceive, delivered}
 use Rattle.sbp_bus.specs.Generations.{node_of}
 use Rattle.sbp_world.specs.Handing.{handed_out}
+use Rattle.sbp_bus.specs.Packets.{destination_in, no_node, no_packet, other_node, source_in}
 use Rattle.sbp_bus.specs.Requests.{find}
 use Rattle.sbp_world.specs.Sending.{posted}
 use Rattle.sbp_world.specs.Worlds.{WorldState, Scene, in_world, initiator_at, with_initiator, with_note, with_target}
-
--- the number of the refusal of a packet that can't be delivered, repeated, lost or timed out
-abbrev pub no_packet : ℕ
-no_packet = 11
-
--- the number of the refusal of bytes that can't be injected
-abbrev pub no_node : ℕ
-no_node = 12
 
 -- A refused action changes nothing but the journal.
 abbrev pub refused : ℕ → ℕ → WorldState → WorldState
@@ -115,19 +107,6 @@ unfoldable pub timeout_line : ℕ → ℕ → WorldState → WorldState
 timeout_line line serial w = timeout_of (find w.requests serial) line serial w
 
 -- ---- injected packets
-
--- the IDs in the first eight bytes of a packet (IEEE 1394-1995, packet formats)
-abbrev pub destination_in : List ℕ → ℕ
-destination_in bytes = quad bytes 0 / 2 ^ 16
-
-abbrev pub source_in : List ℕ → ℕ
-source_in bytes = quad bytes 4 / 2 ^ 16
-
--- the source is the sender, and the destination another node
-abbrev pub other_node : ℕ → Option ℕ → Option ℕ → Option ℕ
-other_node from (Some to) (Some sender) = if sender == from && not (to == from) then Some to else None
-other_node from None sender = None
-other_node from (Some to) None = None
 
 -- the node that injected bytes go to, by the IDs that their sender knows
 unfoldable pub injected_to : ℕ → List ℕ → WorldState → Option ℕ

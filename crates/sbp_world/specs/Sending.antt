@@ -1,23 +1,14 @@
 -- Packets that leave: each gets the next serial, and the generation that its sender knows.
-use Rattle.std.specs.Prelude.{ℕ, ◌+◌, Bool, false, if◌then◌else◌, List, [], ◌∷◌, Option, Some, None}
+use Rattle.std.specs.Prelude.{ℕ, ◌+◌, Bool, false, List, [], ◌∷◌, Option, Some, None}
 use Rattle.async_packet.specs.Labels.{LabelParts}
-use Rattle.packet_store.specs.declared.sent.Sent.{Sent}
 use Rattle.packet_store.specs.Stored.{send_step}
-use Rattle.sbp_journal.specs.declared.note.Note.{Note}
 use Rattle.sbp_journal.specs.declared.note.Note.TheVariants as notes
 use Rattle.sbp_journal.specs.declared.outbox.Outgoing.{Outgoing}
 use Rattle.sbp_bus.specs.declared.requests.Request.{Request}
 use Rattle.sbp_bus.specs.Generations.{node_of, topology_at}
 use Rattle.sbp_bus.specs.Requests.{add_step}
+use Rattle.sbp_bus.specs.Sending.{packet_of, request_of, sent_notes}
 use Rattle.sbp_world.specs.Worlds.{WorldState}
-
-abbrev pub packet_of : (generation from to : ℕ) → Bool → List ℕ → Sent
-packet_of generation from to injected bytes =
-    record { generation = generation; from = from; to = to; bytes = bytes; injected = injected }
-
--- `injected` stands before the `sent` of an injected packet
-abbrev pub sent_notes : Bool → ℕ → Note → List Note → List Note
-sent_notes injected serial note fresh = note ∷ (if injected then notes.Injected serial ∷ fresh else fresh)
 
 -- A packet is in flight under the next serial, and this is told.
 unfoldable pub posted : ℕ → ℕ → Bool → List ℕ → WorldState → WorldState
@@ -30,9 +21,6 @@ posted from to injected bytes w =
 
 abbrev pub with_request : ℕ → ℕ → Request → WorldState → WorldState
 with_request serial to request w = record w { requests = add_step serial to request w.requests }
-
-abbrev pub request_of : ℕ → ℕ → LabelParts → Request
-request_of node peer label = record { node = node; peer = peer; label = label }
 
 -- a request, which has a label, is under way from then on
 abbrev pub asked : ℕ → ℕ → ℕ → ℕ → Option LabelParts → WorldState → WorldState

@@ -1,11 +1,10 @@
 -- Deliveries of the lowest packets in flight, one after the other.
-use Rattle.std.specs.Prelude.{◌≡◌, ℕ, ◌+◌, ◌*◌, ◌<◌, ◌≤◌, is_none, min, Bool, true, false, List, [], ◌∷◌, length, Option, Some, None}
+use Rattle.std.specs.Prelude.{◌≡◌, ℕ, ◌+◌, ◌*◌, ◌<◌, ◌≤◌, is_none, min, Bool, false, List, [], ◌∷◌, length, Option, Some, None}
 use Rattle.packet_store.specs.Kept.{first, flying}
 use Rattle.rbc_disk.specs.Runs.{Told}
-use Rattle.sbp_journal.specs.declared.note.Note.{Note}
-use Rattle.sbp_journal.specs.declared.note.Note.TheVariants as notes
 use Rattle.sbp_world.specs.Delivering.{MayReceive, delivered}
 use Rattle.sbp_bus.specs.Loads.{lists_weight}
+use Rattle.sbp_bus.specs.Packets.{end_note}
 use Rattle.sbp_world.specs.Worlds.{WorldState, Scene, begun, in_world, with_note}
 
 -- the lowest serial in flight
@@ -65,10 +64,6 @@ most_deliveries = 10_000_000
 unfoldable pub budget : WorldState → ℕ
 budget w =
     min (4 * length (flying w.store.kept) + lists_weight w.loads + 600 * length w.initiators) most_deliveries
-
-abbrev pub end_note : Bool → Note
-end_note true = notes.Settled
-end_note false = notes.Stopped
 
 -- nothing is in flight
 abbrev pub is_settled : WorldState → Bool

@@ -9,6 +9,7 @@ use Rattle.sbp_initiator.specs.Initiators.{new_state}
 use Rattle.sbp_journal.specs.declared.note.Note.{Note}
 use Rattle.sbp_bus.specs.declared.loads.ListLoad.{ListLoad}
 use Rattle.sbp_bus.specs.declared.places.Holder.{Holder}
+use Rattle.sbp_bus.specs.Buses.{BusState}
 use Rattle.sbp_bus.specs.Generations.{GenerationsState}
 use Rattle.sbp_bus.specs.Requests.{RequestsState}
 
@@ -25,12 +26,32 @@ pub record WorldState : Type 0 where
   pub loads : List ListLoad
   pub fresh : List Note
 
--- Four initiators at most; each node knows a generation, and has an ID in the latest one; the last serial is that of the store.
-pub record IsSound (generations : GenerationsState) (initiators : List InitiatorState) (store : Stored) (last : ℕ) : Type 0 where
+-- Four initiators at most; each node knows a generation, and has an ID in the latest one.
+pub record IsSound (generations : GenerationsState) (initiators : List InitiatorState) : Type 0 where
   pub few : length initiators ≤ 4
   pub seen : length generations.seen ≡ length initiators + 1
   pub ids : length generations.latest.ids ≡ length initiators + 1
-  pub counted : last ≡ store.last
+
+-- the bus of a world, and a world with a bus
+abbrev pub bus_of : WorldState → BusState
+bus_of w = record {
+  generations = w.generations;
+  store = w.store;
+  requests = w.requests;
+  places = w.places;
+  loads = w.loads;
+  fresh = w.fresh;
+}
+
+abbrev pub with_bus : BusState → WorldState → WorldState
+with_bus b w = record w {
+  generations = b.generations;
+  store = b.store;
+  requests = b.requests;
+  places = b.places;
+  loads = b.loads;
+  fresh = b.fresh;
+}
 
 -- a world, and what the media hold with their counts of faults
 pub record Scene : Type 0 where

@@ -4,7 +4,6 @@
 
 mod laws;
 mod parts;
-mod words;
 mod world;
 
 pub use laws::{

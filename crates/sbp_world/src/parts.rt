@@ -1,11 +1,8 @@
 ghost use Rattle.std.specs.Prelude.{◌≡◌, ◌+◌, ◌≤◌, length};
 
-use packet_store::Store;
-use sbp_bus::{Generations, Loads, Places, Requests};
+use sbp_bus::Bus;
 use sbp_initiator::Initiator;
-use sbp_journal::Journal;
 use sbp_target::Target;
-use std::alloc::Global;
 use std::marker::Model;
 
 mod delivering;
@@ -14,27 +11,17 @@ mod lines;
 mod making;
 mod nodes;
 mod packets;
-mod sending;
 mod settling;
 mod telling;
 
 pub use delivering::Arrival;
 
-/// All that a world holds: the generations of the bus, its nodes, the packets, the requests under way,
-/// who has each place of the target's logins, what the budget counts, and the notes of the line.
+/// All that a world holds: the bus with the packets and the notes of the line, and its nodes.
 #[derive(Drop)]
 pub struct Parts {
-    alloc: Global,
-    generations: Generations,
+    bus: Bus,
     target: Target,
     initiators: Vec<Initiator>,
-    store: Store,
-    /// The last serial that was given.
-    last: u64,
-    requests: Requests,
-    places: Places,
-    loads: Loads,
-    fresh: Journal,
 }
 
 impl Model for Parts {
@@ -43,15 +30,15 @@ impl Model for Parts {
     ghost Value = { WorldState };
 
     ghost view = { λ a. record {
-      generations = a.generations;
+      generations = a.bus.generations;
       target = a.target.node;
       initiators = a.initiators.items;
-      store = a.store;
-      requests = a.requests;
-      places = a.places;
-      loads = a.loads;
-      fresh = a.fresh;
+      store = a.bus.store;
+      requests = a.bus.requests;
+      places = a.bus.places;
+      loads = a.bus.loads;
+      fresh = a.bus.fresh;
     } };
 
-    ghost invariant = { λ a. IsSound a.generations a.initiators.items a.store a.last };
+    ghost invariant = { λ a. IsSound a.bus.generations a.initiators.items };
 }

@@ -34,7 +34,7 @@ use Rattle.sbp_journal.specs.declared.note.Note.TheVariants as notes
 use Rattle.sbp_journal.specs.declared.operation.FunctionWord.{FunctionWord}
 use Rattle.sbp_journal.specs.declared.operation.FunctionWord.TheVariants as words
 use Rattle.sbp_laws.specs.Targets.{Decided, at_id, bytes_in, decided_by, decided_in, keep_decided}
-use Rattle.sbp_world.specs.Words.{function_word, login_if}
+use Rattle.sbp_bus.specs.Words.{function_word, login_if}
 use Rattle.target_terms.specs.Offices.{Office, by_managed, by_note, placed}
 use Rattle.target_terms.proofs.Places.{one_changed, sound_apart}
 

@@ -17,7 +17,8 @@ use Rattle.sbp_target.specs.Nodes.{NodeState}
 use Rattle.sbp_target.specs.Receiving.{received}
 use Rattle.sbp_target.specs.Replies.{Whole}
 use Rattle.sbp_world.specs.declared.parts.delivering.Arrival.{Arrival}
-use Rattle.sbp_world.specs.Delivering.{arrived, at_target, delivered, delivered_by, initiator_received, judged_note, marked, target_received, whole_of}
+use Rattle.sbp_bus.specs.Packets.{judged_note}
+use Rattle.sbp_world.specs.Delivering.{arrived, at_target, delivered, delivered_by, initiator_received, marked, target_received, whole_of}
 use Rattle.sbp_bus.specs.Generations.{topology_at}
 use Rattle.sbp_world.specs.Handing.{handed_out}
 use Rattle.sbp_world.specs.Worlds.{Scene, WorldState, with_note, with_target}

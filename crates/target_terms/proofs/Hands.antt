@@ -19,7 +19,8 @@ use Rattle.sbp_journal.specs.Outgoings.{OutboxState, empty_outbox}
 use Rattle.sbp_laws.specs.Targets.{target_at}
 use Rattle.sbp_target.specs.Nodes.{NodeState}
 use Rattle.sbp_world.specs.declared.parts.delivering.Arrival.{Arrival}
-use Rattle.sbp_world.specs.Delivering.{arrived, delivered, delivered_by, initiators_received, judged_note, marked, received_by, received_step, with_initiators}
+use Rattle.sbp_bus.specs.Packets.{judged_note}
+use Rattle.sbp_world.specs.Delivering.{arrived, delivered, delivered_by, initiators_received, marked, received_by, received_step, with_initiators}
 use Rattle.sbp_world.specs.Handing.{handed_out}
 use Rattle.sbp_world.specs.Worlds.{Scene, WorldState, with_note}
 use Rattle.sbp_world.proofs.Wire.Comes.{own_inside, own_outside, to_own}

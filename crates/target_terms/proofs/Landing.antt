@@ -59,7 +59,8 @@ use Rattle.sbp_target.specs.declared.purpose.Purpose.TheVariants as purposes
 use Rattle.sbp_target.specs.Nodes.{NodeState, Scene, scene}
 use Rattle.sbp_target.specs.Receiving.{answer_in}
 use Rattle.sbp_target.specs.Replies.{Whole}
-use Rattle.sbp_world.specs.Delivering.{judged_note, marked}
+use Rattle.sbp_bus.specs.Packets.{judged_note}
+use Rattle.sbp_world.specs.Delivering.{marked}
 use Rattle.sbp_world.specs.Handing.{handed_out}
 use Rattle.sbp_world.specs.Worlds.{WorldState, with_note, with_target}
 use Rattle.target_laws.specs.Transactions.{TransactionLaw}

@@ -23,7 +23,8 @@ use Rattle.sbp_target.specs.Receiving.{expired, expired_in}
 use Rattle.sbp_bus.specs.declared.requests.Request.{Request}
 use Rattle.sbp_bus.specs.Generations.{topology_at}
 use Rattle.sbp_world.specs.Handing.{handed_out}
-use Rattle.sbp_world.specs.Packets.{at_initiator, at_target, expires, initiator_expires, no_packet, refused, target_expired, target_left, timed_out, timeout_line, timeout_of}
+use Rattle.sbp_bus.specs.Packets.{no_packet}
+use Rattle.sbp_world.specs.Packets.{at_initiator, at_target, expires, initiator_expires, refused, target_expired, target_left, timed_out, timeout_line, timeout_of}
 use Rattle.sbp_bus.specs.Requests.{find}
 use Rattle.sbp_world.specs.Worlds.{WorldState, initiator_at, with_initiator, with_note}
 use Rattle.sbp_target.specs.Calls.{after, lets_expire}

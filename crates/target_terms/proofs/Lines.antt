@@ -23,9 +23,10 @@ use Rattle.sbp_journal.specs.declared.note.Note.TheVariants as notes
 use Rattle.sbp_bus.specs.Generations.{topology_at}
 use Rattle.sbp_world.specs.Lines.{acted, acted_by, happens, weight_in}
 use Rattle.sbp_world.specs.Nodes.{reset_line}
-use Rattle.sbp_world.specs.Packets.{delivered_if, first_told, injected, injected_to, inject_line, is_in_flight, lose_line, lost, may_repeat, no_node, no_packet, refused}
+use Rattle.sbp_bus.specs.Packets.{no_node, no_packet, end_note}
+use Rattle.sbp_world.specs.Packets.{delivered_if, first_told, injected, injected_to, inject_line, is_in_flight, lose_line, lost, may_repeat, refused}
 use Rattle.sbp_world.specs.Sending.{posted}
-use Rattle.sbp_world.specs.Settling.{after_all, delivered_at, delivered_next, end_note, is_settled, lowest}
+use Rattle.sbp_world.specs.Settling.{after_all, delivered_at, delivered_next, is_settled, lowest}
 use Rattle.sbp_world.specs.Worlds.{Scene, WorldState, begun, initiator_at, with_initiator, with_note, without_notes}
 use Rattle.sbp_world.specs.FitTarget.{BytesTold}
 use Rattle.sbp_world.proofs.FitTarget.Law.{fitting_law}

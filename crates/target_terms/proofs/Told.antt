@@ -18,7 +18,7 @@ use Rattle.sbp_bus.specs.Generations.{node_of}
 use Rattle.sbp_world.specs.Handing.{handed_out}
 use Rattle.sbp_world.specs.Sending.{asked, posted, sent, sent_all, sent_to}
 use Rattle.sbp_world.specs.Telling.{holder, initiator_of, told, told_all}
-use Rattle.sbp_world.specs.Words.{function_word, login_if}
+use Rattle.sbp_bus.specs.Words.{function_word, login_if}
 use Rattle.sbp_world.specs.Worlds.{WorldState, with_note}
 use Rattle.target_terms.specs.Offices.{Office, by_note, by_side, by_sides, office_of}
 use Rattle.target_terms.proofs.Offices.{IsBehind, note_changes, taken_keeps}

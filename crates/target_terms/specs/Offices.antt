@@ -18,7 +18,7 @@ use Rattle.sbp_journal.specs.declared.side.Side.{Side}
 use Rattle.sbp_journal.specs.declared.side.Side.TheVariants as sides
 use Rattle.sbp_laws.specs.Targets.{Decided, Target, at_id, decided_by, keep_decided, second_gone, source_in}
 use Rattle.sbp_target.specs.Nodes.{NodeState}
-use Rattle.sbp_world.specs.Words.{function_word, login_if}
+use Rattle.sbp_bus.specs.Words.{function_word, login_if}
 
 pub record Office : Type 0 where
   pub table : Table

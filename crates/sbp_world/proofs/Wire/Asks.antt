@@ -29,7 +29,8 @@ use Rattle.sbp_journal.specs.declared.note.Note.TheVariants as notes
 use Rattle.sbp_journal.specs.declared.outbox.Outgoing.{Outgoing}
 use Rattle.sbp_bus.specs.Generations.{id_of, topology_at}
 use Rattle.sbp_bus.specs.Requests.{RequestsState, add_step, place_of}
-use Rattle.sbp_world.specs.Sending.{posted, request_of, sent, sent_all, sent_to, with_request}
+use Rattle.sbp_bus.specs.Sending.{request_of}
+use Rattle.sbp_world.specs.Sending.{posted, sent, sent_all, sent_to, with_request}
 use Rattle.sbp_world.specs.Worlds.{WorldState}
 use Rattle.sbp_world.specs.Wire.Knows.{AreEntered, IsEntered, Knows}
 use Rattle.sbp_world.specs.Wire.Wires.{IsWireAt, StandsAt}

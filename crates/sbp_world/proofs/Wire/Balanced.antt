@@ -29,8 +29,9 @@ use Rattle.sbp_bus.specs.Generations.{node_of}
 use Rattle.sbp_world.specs.Handing.{handed_out}
 use Rattle.sbp_bus.specs.Loads.{cut_step, of_initiator}
 use Rattle.sbp_world.specs.Sending.{asked, posted, sent, sent_all, sent_to}
-use Rattle.sbp_world.specs.Telling.{cut_loads, holder, initiator_of, list_in, told, told_all, ticket_of}
-use Rattle.sbp_world.specs.Words.{function_word}
+use Rattle.sbp_world.specs.Telling.{holder, initiator_of, told, told_all, ticket_of}
+use Rattle.sbp_bus.specs.Telling.{cut_loads, list_in}
+use Rattle.sbp_bus.specs.Words.{function_word}
 use Rattle.sbp_world.specs.Worlds.{WorldState, initiator_at, with_note, with_target}
 use Rattle.sbp_world.proofs.Wire.Alike.{told_alike}
 use Rattle.sbp_world.proofs.Wire.Counted.{AreHeld, CountedAt, counted_places, counted_same, says_cut}

@@ -18,10 +18,11 @@ use Rattle.sbp_world.specs.Delivering.{delivered}
 use Rattle.sbp_bus.specs.Generations.{topology_at}
 use Rattle.sbp_world.specs.Lines.{keyed}
 use Rattle.sbp_world.specs.Nodes.{reset_line, see_line, tick_line}
-use Rattle.sbp_world.specs.Packets.{delivered_if, destination_in, expires, first_told, inject_line, injected, injected_to, is_in_flight, lose_line, lost, may_repeat, no_packet, refused, timed_out, timeout_line, timeout_of}
+use Rattle.sbp_bus.specs.Packets.{destination_in, no_packet, end_note}
+use Rattle.sbp_world.specs.Packets.{delivered_if, expires, first_told, inject_line, injected, injected_to, is_in_flight, lose_line, lost, may_repeat, refused, timed_out, timeout_line, timeout_of}
 use Rattle.sbp_bus.specs.Requests.{find}
 use Rattle.sbp_world.specs.Sending.{posted}
-use Rattle.sbp_world.specs.Settling.{AreUpTo, MayAll, MayAt, MayNext, after_all, delivered_at, delivered_next, end_note, is_settled, lowest, settled}
+use Rattle.sbp_world.specs.Settling.{AreUpTo, MayAll, MayAt, MayNext, after_all, delivered_at, delivered_next, is_settled, lowest, settled}
 use Rattle.sbp_target.specs.Receiving.{with_key}
 use Rattle.sbp_world.specs.Worlds.{Scene, WorldState, initiator_at, with_note, with_target, without_notes}
 use Rattle.sbp_world.specs.FitInitiator.{FittingLaw as OwnFittingLaw}

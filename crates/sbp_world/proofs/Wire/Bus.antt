@@ -27,7 +27,8 @@ use Rattle.sbp_journal.specs.declared.note.Note.TheVariants as notes
 use Rattle.sbp_bus.specs.Generations.{id_of, node_in, one_of_five, is_at, node_of, topology_at}
 use Rattle.sbp_bus.specs.declared.generations.Topology.{Topology}
 use Rattle.sbp_world.specs.Nodes.{reset_line}
-use Rattle.sbp_world.specs.Packets.{destination_in, source_in, inject_line, injected, injected_to, lose_line, lost, no_node, no_packet, other_node, refused}
+use Rattle.sbp_bus.specs.Packets.{destination_in, source_in, no_node, no_packet, other_node}
+use Rattle.sbp_world.specs.Packets.{inject_line, injected, injected_to, lose_line, lost, refused}
 use Rattle.sbp_world.specs.Sending.{posted}
 use Rattle.sbp_world.specs.Worlds.{WorldState, without_notes}
 use Rattle.sbp_world.specs.Wire.Lines.{HasIds}

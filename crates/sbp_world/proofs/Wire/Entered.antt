@@ -28,7 +28,7 @@ use Rattle.bus_transactions.proofs.JudgedStep.{JudgedAs, judged_step}
 use Rattle.bus_transactions.proofs.Places.{Places, cleared_looked, looked_set, place_in}
 use Rattle.bus_transactions.proofs.Steps.{ExpiredAs, Shows, disowns, expires}
 use Rattle.sbp_bus.specs.Requests.{RequestsState}
-use Rattle.sbp_world.specs.Sending.{request_of}
+use Rattle.sbp_bus.specs.Sending.{request_of}
 use Rattle.sbp_world.specs.Wire.Knows.{AreEntered, IsEntered}
 
 -- ---- the IDs may be said in another way

@@ -18,7 +18,7 @@ use Rattle.sbp_journal.specs.declared.cause.Judged.{Judged}
 use Rattle.sbp_journal.specs.declared.cause.Judged.TheVariants as judgements
 use Rattle.sbp_journal.specs.declared.note.Note.{Note}
 use Rattle.sbp_journal.specs.declared.outbox.Outgoing.{Outgoing}
-use Rattle.sbp_world.specs.Delivering.{judged_note}
+use Rattle.sbp_bus.specs.Packets.{judged_note}
 use Rattle.sbp_world.specs.Handing.{handed_out}
 use Rattle.sbp_world.specs.Sending.{sent as leaves, sent_all}
 use Rattle.sbp_world.specs.Telling.{told_all}

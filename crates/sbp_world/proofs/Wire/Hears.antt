@@ -20,7 +20,8 @@ use Rattle.sbp_target.specs.Nodes as target
 use Rattle.sbp_bus.specs.declared.requests.Request.{Request}
 use Rattle.sbp_world.specs.Delivering.{delivered}
 use Rattle.sbp_bus.specs.Generations.{topology_at}
-use Rattle.sbp_world.specs.Packets.{at_initiator, at_target, expires, initiator_expires, no_packet, refused, target_expired, timed_out, timeout_line, timeout_of}
+use Rattle.sbp_bus.specs.Packets.{no_packet}
+use Rattle.sbp_world.specs.Packets.{at_initiator, at_target, expires, initiator_expires, refused, target_expired, timed_out, timeout_line, timeout_of}
 use Rattle.sbp_bus.specs.Requests.{find}
 use Rattle.sbp_world.specs.Worlds.{WorldState, Scene, initiator_at, with_initiator, with_target}
 use Rattle.sbp_world.specs.FitInitiator.{FittingLaw as OwnFittingLaw}

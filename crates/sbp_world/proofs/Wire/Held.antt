@@ -8,7 +8,7 @@ use Rattle.sbp_journal.specs.declared.operation.FunctionWord.{FunctionWord}
 use Rattle.sbp_journal.specs.declared.operation.FunctionWord.TheVariants as functions
 use Rattle.sbp_bus.specs.declared.places.Holder.{Holder}
 use Rattle.sbp_bus.specs.Places.{back_at, back_step, enter_step, has_login, holder_at, holder_of, is_free, left_step, new_places, first_holder, opened_by, opened_step, or_nobody, place_in, put_at, taken_by}
-use Rattle.sbp_world.specs.Telling.{decided_places, managed_places}
+use Rattle.sbp_bus.specs.Telling.{decided_places, managed_places}
 use Rattle.sbp_world.proofs.Wire.Counted.{AreHeld}
 
 module _ (n : ℕ) (begun : ℕ → ℕ) where

@@ -15,7 +15,7 @@ use Rattle.bus_transactions.proofs.PacketParts.{same_is, same_refl}
 use Rattle.sbp_journal.specs.Transactions.{Sending, Transaction, at, is_same}
 use Rattle.sbp_bus.specs.declared.requests.Request.{Request}
 use Rattle.sbp_bus.specs.Requests.{RequestsState, add_step, find, place_of, serial_at, without}
-use Rattle.sbp_world.specs.Sending.{request_of}
+use Rattle.sbp_bus.specs.Sending.{request_of}
 use Rattle.sbp_world.specs.Wire.Knows.{IsEntered, IsLatest, IsOurs, KnowsBy, Rise}
 
 -- ---- keys

@@ -34,14 +34,16 @@ use Rattle.sbp_target.specs.Receiving.{expired, received, with_key}
 use Rattle.sbp_target.specs.Replies.{Whole}
 use Rattle.sbp_world.specs.declared.parts.delivering.Arrival.{Arrival}
 use Rattle.sbp_bus.specs.declared.requests.Request.{Request}
-use Rattle.sbp_world.specs.Delivering.{arrived, at_initiator, at_none, at_target, delivered, delivered_by, faults_after, initiator_received, initiators_received, judged_note, left_target, listed, marked, received_at, received_by, received_step, target_received, whole_of}
+use Rattle.sbp_world.specs.Delivering.{arrived, at_initiator, at_none, at_target, delivered, delivered_by, faults_after, initiator_received, initiators_received, left_target, listed, marked, received_at, received_by, received_step, target_received, whole_of}
+use Rattle.sbp_bus.specs.Packets.{judged_note}
 use Rattle.sbp_bus.specs.Generations.{id_of}
 use Rattle.sbp_world.specs.Handing.{handed_out}
 use Rattle.sbp_world.specs.Lines.{acted, acted_by, happens_to, keyed, no_unit, weight_in}
 use Rattle.sbp_world.specs.Nodes.{handed_all, initiator_learns, reset_line, see_line, sees, target_learns, target_sees, target_ticks, tick_line, told_seen, with_seen}
 use Rattle.sbp_world.specs.Nodes as nodes
 use Rattle.sbp_world.specs.Packets as packets
-use Rattle.sbp_world.specs.Packets.{delivered_if, expires, first_told, inject_line, injected, injected_to, initiator_expires, is_in_flight, lose_line, may_repeat, no_packet, refused, target_expired, target_left, timed_out, timeout_line, timeout_of}
+use Rattle.sbp_world.specs.Packets.{delivered_if, expires, first_told, inject_line, injected, injected_to, initiator_expires, is_in_flight, lose_line, may_repeat, refused, target_expired, target_left, timed_out, timeout_line, timeout_of}
+use Rattle.sbp_bus.specs.Packets.{no_packet}
 use Rattle.sbp_bus.specs.Requests.{find}
 use Rattle.sbp_world.specs.Sending.{sent_all}
 use Rattle.sbp_world.specs.Settling.{after_all, delivered_at, delivered_next, lowest, settled, settled_from}

@@ -6,7 +6,8 @@ use Rattle.sbp_journal.specs.Wire.{Terms, terms}
 use Rattle.sbp_laws.specs.LineLaw.{may_inject, names_node, node_from}
 use Rattle.sbp_laws.specs.Packets.{id_for, id_of}
 use Rattle.sbp_bus.specs.Generations.{id_of as world_id, node_of, topology_at}
-use Rattle.sbp_world.specs.Packets.{destination_in, injected_to, other_node, source_in}
+use Rattle.sbp_bus.specs.Packets.{destination_in, other_node, source_in}
+use Rattle.sbp_world.specs.Packets.{injected_to}
 use Rattle.sbp_world.specs.Worlds.{WorldState}
 use Rattle.sbp_world.specs.Wire.Wires.{Stands}
 use Rattle.sbp_world.proofs.Wire.Bus.{holds, node_has}

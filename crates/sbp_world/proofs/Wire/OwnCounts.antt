@@ -21,7 +21,8 @@ use Rattle.sbp_laws.specs.Turns.{event_of}
 use Rattle.sbp_bus.specs.declared.loads.ListLoad.{ListLoad}
 use Rattle.sbp_bus.specs.declared.loads.OrbLoad.{OrbLoad}
 use Rattle.sbp_bus.specs.Loads.{append_step, of_initiator, orb_load, weight_of}
-use Rattle.sbp_world.specs.Telling.{counted, told, told_all}
+use Rattle.sbp_world.specs.Telling.{told, told_all}
+use Rattle.sbp_bus.specs.Telling.{counted}
 use Rattle.sbp_world.specs.Worlds.{WorldState}
 use Rattle.sbp_world.proofs.Wire.Counted.{CountedAt, PaidIn, counted_more, counted_same, most_share, own_here, own_sum, own_there, own_words, row_at, says_append, says_drop, says_taken}
 use Rattle.sbp_world.proofs.Wire.Loaded.{loads_in, sum_of}

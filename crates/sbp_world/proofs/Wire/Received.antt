@@ -21,7 +21,8 @@ use Rattle.sbp_target.specs.Nodes.{NodeState}
 use Rattle.sbp_target.specs.Receiving.{received}
 use Rattle.sbp_target.specs.Replies.{Whole}
 use Rattle.sbp_world.specs.declared.parts.delivering.Arrival.{Arrival}
-use Rattle.sbp_world.specs.Delivering.{arrived, at_initiator, at_none, at_target, delivered, delivered_by, initiators_received, judged_note, marked, received_by, received_step, target_received, whole_of, initiator_received}
+use Rattle.sbp_bus.specs.Packets.{judged_note}
+use Rattle.sbp_world.specs.Delivering.{arrived, at_initiator, at_none, at_target, delivered, delivered_by, initiators_received, marked, received_by, received_step, target_received, whole_of, initiator_received}
 use Rattle.sbp_bus.specs.Generations.{id_of, topology_at}
 use Rattle.sbp_world.specs.Handing.{handed_out}
 use Rattle.sbp_world.specs.Worlds.{WorldState, Scene, initiator_at, with_initiator, with_note, with_target}

@@ -29,6 +29,7 @@ use Rattle.sbp_bus.specs.declared.requests.Request.{Request}
 use Rattle.sbp_world.specs.Delivering as delivering
 use Rattle.sbp_world.specs.Delivering.{arrived, arrived_by, delivered, delivered_by, initiators_received, marked, received_by, received_step, target_received}
 use Rattle.sbp_bus.specs.Generations.{id_of}
+use Rattle.sbp_bus.specs.Packets.{no_packet}
 use Rattle.sbp_world.specs.Handing.{handed_out}
 use Rattle.sbp_world.specs.Lines.{acted, acted_by, happens, happens_to, keyed, no_unit, weight_in}
 use Rattle.sbp_world.specs.Making.{new_initiators, new_world}
@@ -114,7 +115,7 @@ lose_keeps : (line serial : ℕ) (w : WorldState) → sizes (lose_line line seri
 unfolding lose_line
 lose_keeps line serial w = by_test (is_in_flight serial w)
   where
-    by_test : (b : Bool) → sizes (cond b (packets.lost serial w) (packets.refused line packets.no_packet w)) ≡ sizes w
+    by_test : (b : Bool) → sizes (cond b (packets.lost serial w) (packets.refused line no_packet w)) ≡ sizes w
     by_test true = refl
     by_test false = refl
 

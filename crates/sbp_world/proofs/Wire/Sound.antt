@@ -27,9 +27,10 @@ use Rattle.sbp_bus.specs.Generations.{id_of, topology_at}
 use Rattle.sbp_world.specs.Handing.{handed_out}
 use Rattle.sbp_world.specs.Lines.{acted, acted_by, happens, keyed, no_unit, weight_in}
 use Rattle.sbp_world.specs.Nodes.{reset_line, target_ticks, tick_line}
-use Rattle.sbp_world.specs.Packets.{delivered_if, first_told, injected, injected_to, inject_line, is_in_flight, lose_line, lost, may_repeat, no_packet, refused}
+use Rattle.sbp_bus.specs.Packets.{no_packet, end_note}
+use Rattle.sbp_world.specs.Packets.{delivered_if, first_told, injected, injected_to, inject_line, is_in_flight, lose_line, lost, may_repeat, refused}
 use Rattle.sbp_world.specs.Sending.{posted}
-use Rattle.sbp_world.specs.Settling.{after_all, delivered_at, delivered_next, end_note, lowest, settled, is_settled}
+use Rattle.sbp_world.specs.Settling.{after_all, delivered_at, delivered_next, lowest, settled, is_settled}
 use Rattle.sbp_world.specs.Worlds.{WorldState, Scene, begun, initiator_at, with_initiator, with_note, with_target, without_notes}
 use Rattle.sbp_world.specs.FitInitiator.{BytesAction, FittingLaw as OwnFittingLaw}
 use Rattle.sbp_world.specs.FitTarget.{BytesTold, FittingLaw}

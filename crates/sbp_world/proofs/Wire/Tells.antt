@@ -17,7 +17,8 @@ use Rattle.sbp_journal.specs.declared.side.Side.TheVariants as sides
 use Rattle.sbp_bus.specs.declared.loads.ListLoad.{ListLoad}
 use Rattle.sbp_bus.specs.declared.places.Holder.{Holder}
 use Rattle.sbp_bus.specs.Generations.{topology_at}
-use Rattle.sbp_world.specs.Telling.{counted, told, told_all}
+use Rattle.sbp_bus.specs.Telling.{counted}
+use Rattle.sbp_world.specs.Telling.{told, told_all}
 use Rattle.sbp_world.specs.Worlds.{WorldState, with_note, without_notes}
 use Rattle.sbp_world.proofs.Wire.Agrees.{opened_agrees, plain_agrees, still_knows}
 use Rattle.sbp_world.specs.Wire.Wires.{IsWireAt, Stands, StandsAt}

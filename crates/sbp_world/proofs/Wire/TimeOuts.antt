@@ -23,7 +23,8 @@ use Rattle.sbp_target.specs.Receiving.{expired, expired_in}
 use Rattle.sbp_target.specs.declared.purpose.Purpose.{Purpose}
 use Rattle.sbp_bus.specs.declared.requests.Request.{Request}
 use Rattle.sbp_bus.specs.Generations.{id_of, topology_at}
-use Rattle.sbp_world.specs.Packets.{at_initiator, at_target, expires, no_packet, refused, target_expired, target_left, timed_out}
+use Rattle.sbp_bus.specs.Packets.{no_packet}
+use Rattle.sbp_world.specs.Packets.{at_initiator, at_target, expires, refused, target_expired, target_left, timed_out}
 use Rattle.sbp_bus.specs.Requests.{find}
 use Rattle.sbp_world.specs.Worlds.{WorldState, initiator_at, with_initiator, with_note, with_target}
 use Rattle.sbp_world.specs.Wire.Wires.{Stands, layer_in, layers_of}

@@ -22,7 +22,8 @@ use Rattle.sbp_target.specs.Receiving.{expired, received, seen, ticked}
 use Rattle.sbp_target.specs.Replies.{Whole}
 use Rattle.sbp_world.specs.declared.parts.delivering.Arrival.{Arrival}
 use Rattle.sbp_bus.specs.declared.requests.Request.{Request}
-use Rattle.sbp_world.specs.Delivering.{arrived, arrived_by, at_initiator, at_none, at_target, delivered, delivered_by, faults_after, initiator_received, initiators_received, judged_note, left_target, listed, marked, received_by, received_step, target_received, whole_of}
+use Rattle.sbp_bus.specs.Packets.{judged_note, no_packet}
+use Rattle.sbp_world.specs.Delivering.{arrived, arrived_by, at_initiator, at_none, at_target, delivered, delivered_by, faults_after, initiator_received, initiators_received, left_target, listed, marked, received_by, received_step, target_received, whole_of}
 use Rattle.sbp_bus.specs.Generations.{id_of}
 use Rattle.sbp_world.specs.Handing.{handed_out}
 use Rattle.sbp_world.specs.Nodes.{handed_all, initiator_learns, see_line, sees, target_learns, target_sees, target_ticks, tick_line, told_seen, with_seen}
@@ -231,9 +232,9 @@ lapse_turns line serial request w e = by_result (expires request w) e (ends requ
         (subst (λ ns. Gains (notes.TimedOut serial ∷ ns) (handed_out request.node 0 outbox v).fresh) d.before (hands_out request.node 0 outbox v d.sides))
     by_result (false, (outbox, x)) e d = cc
 
-pub stale_refuses : (line serial : ℕ) (request : Request) (w : WorldState) → (expires request w).0 ≡ false → (packets.timed_out line serial request.node (expires request w)).fresh ≡ notes.Refused line packets.no_packet ∷ w.fresh
+pub stale_refuses : (line serial : ℕ) (request : Request) (w : WorldState) → (expires request w).0 ≡ false → (packets.timed_out line serial request.node (expires request w)).fresh ≡ notes.Refused line no_packet ∷ w.fresh
 stale_refuses line serial request w e = by_result (expires request w) e (ends request w)
   where
-    by_result : (r : Bool × (OutboxState × WorldState)) → r.0 ≡ false → Ends r w → (packets.timed_out line serial request.node r).fresh ≡ notes.Refused line packets.no_packet ∷ w.fresh
+    by_result : (r : Bool × (OutboxState × WorldState)) → r.0 ≡ false → Ends r w → (packets.timed_out line serial request.node r).fresh ≡ notes.Refused line no_packet ∷ w.fresh
     by_result (true, (outbox, x)) e d = cc
-    by_result (false, (outbox, x)) e d = ap (λ ns. notes.Refused line packets.no_packet ∷ ns) d.before
+    by_result (false, (outbox, x)) e d = ap (λ ns. notes.Refused line no_packet ∷ ns) d.before

@@ -33,7 +33,7 @@ use Rattle.sbp_bus.specs.Generations.{id_of, topology_at}
 use Rattle.sbp_world.specs.Packets.{at_initiator, at_target, initiator_expires, target_expired, target_left}
 use Rattle.sbp_world.specs.Packets as packets
 use Rattle.sbp_bus.specs.Requests.{find, serial_at}
-use Rattle.sbp_world.specs.Sending.{request_of}
+use Rattle.sbp_bus.specs.Sending.{request_of}
 use Rattle.sbp_world.specs.Worlds.{WorldState, initiator_at}
 use Rattle.sbp_world.specs.Wire.Wires.{Stands, layer_in, layers_of}
 use Rattle.sbp_world.proofs.Wire.Asks.{own_layer}

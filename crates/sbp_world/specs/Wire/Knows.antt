@@ -11,7 +11,7 @@ use Rattle.label_table.specs.declared.reply.ReplyKind.{ReplyKind}
 use Rattle.label_table.specs.Peers.{state_for}
 use Rattle.sbp_bus.specs.declared.requests.Request.{Request}
 use Rattle.sbp_bus.specs.Requests.{RequestsState, find, serial_at}
-use Rattle.sbp_world.specs.Sending.{request_of}
+use Rattle.sbp_bus.specs.Sending.{request_of}
 
 pub record IsOurs (nodes : ℕ) (packet : Sending) : Type 0 where
   pub from : packet.from ≤ nodes

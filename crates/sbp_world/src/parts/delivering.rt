@@ -1,7 +1,7 @@
 ghost use Rattle.std.specs.Prelude.{◌≡◌, ◌+◌, ◌^◌, ◌<◌, length, map, IfOk, OnOk};
 ghost use Rattle.sbp_journal.specs.Outgoings.{empty_outbox};
 ghost use Rattle.sbp_target.specs.Faults.{NoneFell};
-ghost use Rattle.sbp_world.specs.Delivering.{Delivers, Receives, TargetReceives, arrived, arrived_by, initiators_received, judged_note, marked};
+ghost use Rattle.sbp_world.specs.Delivering.{Delivers, Receives, TargetReceives, arrived, arrived_by, initiators_received};
 ghost use Rattle.sbp_world.specs.Worlds.{scene};
 
 use super::Parts;
@@ -9,7 +9,7 @@ use packet_store::Sent;
 use rbc_disk::Medium;
 use sbp_base::NoMemory;
 use sbp_initiator::Initiator;
-use sbp_journal::{Judged, Note, Outbox};
+use sbp_journal::{Judged, Outbox};
 use sbp_target::Target;
 
 /// The calls that a node counts.
@@ -78,16 +78,6 @@ fn initiators_receive(
 ghost use Rattle.rbc_disk.specs.Held.{held};
 ghost use Rattle.sbp_initiator.specs.Receiving.{receive_step};
 
-/// The note of an arrival.
-fn judged_note(serial: u64, judged: Judged) -> Note
-    ensures { result ≡ judged_note serial judged }
-{
-    match judged {
-        Judged::Got => Note::Got { serial },
-        Judged::Ignored(cause) => Note::Ignored { serial, cause },
-    }
-}
-
 impl Parts {
     /// The node that a packet was sent to judges it. A packet that is not kept comes to no node.
     #[tactic(auto, using(sbp_target::proofs::Faults::fell_steps))]
@@ -105,7 +95,7 @@ impl Parts {
         ensures received { IfOk result (λ arrival. Receives serial (scene self.old (map disk media.old.items) (map media_faults media.old.items)) arrival outbox.new (scene self.new (map disk media.new.items) (map media_faults media.new.items))) }
         ensures node { IfOk result (λ arrival. IfSome arrival (λ a. a.node < length self.new.generations.seen)) }
     {
-        let Some(sent) = self.store.get(serial) else {
+        let Some(sent) = self.bus.packet(serial) else {
             return Ok(None);
         };
         let node = sent.to;
@@ -121,24 +111,8 @@ impl Parts {
         Ok(Some(Arrival { node, judged }))
     }
 
-    /// A packet that was in flight is delivered now. One that comes once more stays as it is.
-    fn mark(&mut self, serial: u64, again: bool) -> Result<(), NoMemory>
-        ensures marked { OnOk result (self.new ≡ marked serial again self.old) }
-        ensures bus { self.new.generations ≡ self.old.generations }
-        ensures target { self.new.target ≡ self.old.target }
-    {
-        if again || !self.store.is_in_flight(serial) {
-            return Ok(());
-        }
-        if self.store.calls() >= STORE_CALLS {
-            return Err(NoMemory);
-        }
-        self.store.delivered(serial);
-        Ok(())
-    }
-
     /// What follows the judging of a packet: its note, then what its node handed out.
-    #[tactic(auto, unfolding(crate::specs::Delivering::arrived))]
+    #[tactic(auto, using(crate::proofs::Buses::judged_on), unfolding(crate::specs::Delivering::arrived))]
     fn arrive(
         &mut self,
         outbox: &mut Outbox,
@@ -151,8 +125,7 @@ impl Parts {
         ensures bus { self.new.generations ≡ self.old.generations }
         ensures target { self.new.target ≡ self.old.target }
     {
-        self.mark(serial, again)?;
-        self.fresh.push(judged_note(serial, arrival.judged))?;
+        self.bus.judge(serial, again, arrival.judged)?;
         self.hand_out(arrival.node, 0, outbox)
     }
 
@@ -197,5 +170,3 @@ impl Parts {
 }
 
 ghost use Rattle.std.specs.Prelude.{IfSome};
-
-use super::sending::STORE_CALLS;

@@ -33,6 +33,6 @@ impl Parts {
         ensures target { self.new.target ≡ self.old.target }
     {
         self.tell_all(weight, outbox)?;
-        self.send_all(node, outbox)
+        self.bus.send_all(node, outbox)
     }
 }

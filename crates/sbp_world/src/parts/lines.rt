@@ -2,7 +2,6 @@ ghost use Rattle.std.specs.Prelude.{◌≡◌, ◌+◌, ◌<◌, ◌≤◌, leng
 ghost use Rattle.sbp_initiator.specs.Acting.{IsAction, act_step};
 ghost use Rattle.sbp_target.specs.Faults.{NoneFell};
 ghost use Rattle.sbp_world.specs.Lines.{Happens, HappensTo, IsEvent, acted, keyed, weight_in};
-ghost use Rattle.sbp_world.specs.Packets.{refused};
 ghost use Rattle.sbp_world.specs.Worlds.{scene};
 
 use super::Parts;
@@ -59,15 +58,6 @@ fn widen(count: u32) -> u64
 }
 
 impl Parts {
-    /// A refused action: nothing changes but the journal.
-    pub(super) fn refuse(&mut self, line: u32, number: u8) -> Result<(), NoMemory>
-        ensures step { OnOk result (self.new ≡ refused line number self.old) }
-        ensures bus { self.new.generations ≡ self.old.generations }
-        ensures target { self.new.target ≡ self.old.target }
-    {
-        self.fresh.push(Note::Refused { line, number })
-    }
-
     /// An initiator acts.
     #[tactic(auto, unfolding(crate::specs::Lines::acted))]
     fn act(
@@ -86,7 +76,7 @@ impl Parts {
         self.sizes();
         outbox.clear();
         match act_at(&mut self.initiators[usize::from(initiator)], outbox, action)? {
-            Some(number) => self.refuse(line, number),
+            Some(number) => self.bus.refuse(line, number),
             None => self.hand_out(initiator + 1, weight_in(action), outbox),
         }
     }
@@ -99,13 +89,13 @@ impl Parts {
         ensures step { OnOk result (self.new ≡ keyed line unit key self.old) }
     {
         if usize::from(unit) >= units {
-            return self.refuse(line, NO_UNIT);
+            return self.bus.refuse(line, NO_UNIT);
         }
         if self.target.calls() >= NODE_CALLS {
             return Err(NoMemory);
         }
         self.target.set_key(unit, key);
-        self.fresh.push(Note::Key { unit })
+        self.bus.tell(Note::Key { unit })
     }
 
     /// The sizes of what the parts hold: each node knows a generation, and has an ID in the latest one.
@@ -114,7 +104,7 @@ impl Parts {
         ensures seen { length self.now.generations.seen ≡ length self.now.initiators + 1 }
         ensures ids { length self.now.generations.latest.ids ≡ length self.now.initiators + 1 }
     {
-        let _last = self.last;
+        let _count = self.initiators.len();
     }
 
     /// Does what the event of a line says, beside the notes that there are.
@@ -137,11 +127,11 @@ impl Parts {
         match event {
             Event::Begin { .. } => unreachable!(),
             Event::Act { initiator, action } => self.act(outbox, line, *initiator, action),
-            Event::Reset { ids } => self.reset(ids),
+            Event::Reset { ids } => self.bus.reset(ids.as_slice()),
             Event::See { node } => self.see(outbox, *node),
             Event::Deliver { serial } => self.deliver_line(media, outbox, line, *serial),
             Event::Repeat { serial } => self.repeat_line(media, outbox, line, *serial),
-            Event::Lose { serial } => self.lose(line, *serial),
+            Event::Lose { serial } => self.bus.lose(line, *serial),
             Event::Timeout { serial } => self.time_out(media, outbox, line, *serial),
             Event::Step { count } => self.deliver_up_to(media, outbox, widen(*count)),
             Event::Settle => {
@@ -149,7 +139,9 @@ impl Parts {
                 Ok(())
             }
             Event::Tick => self.tick(outbox),
-            Event::Inject { initiator, bytes } => self.inject(line, *initiator, bytes),
+            Event::Inject { initiator, bytes } => {
+                self.bus.inject(line, *initiator + 1, bytes.as_slice())
+            }
             Event::Key { unit, key } => self.set_key(line, media.len(), *unit, *key),
         }
     }

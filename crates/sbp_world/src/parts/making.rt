@@ -1,11 +1,10 @@
 ghost use Rattle.packet_store.specs.Kept.{flying, recent};
-ghost use Rattle.std.specs.Prelude.{◌≡◌, ◌+◌, ◌-◌, ◌≤◌, ◌∷◌, [], length, IfOk};
-ghost use Rattle.sbp_world.specs.Making.{new_initiators, new_world};
+ghost use Rattle.std.specs.Prelude.{◌≡◌, ◌+◌, ◌-◌, ◌≤◌, length, IfOk};
+ghost use Rattle.sbp_world.specs.Making.{new_initiators, new_world, ready_logins};
 
 use super::Parts;
-use packet_store::Store;
 use sbp_base::NoMemory;
-use sbp_bus::{Generations, Loads, Places, Requests};
+use sbp_bus::Bus;
 use sbp_initiator::Initiator;
 use sbp_journal::{Journal, Note};
 use sbp_target::Target;
@@ -24,17 +23,6 @@ fn new_initiators(alloc: Global, initiators: u8, ready: bool) -> Result<Vec<Init
     }
     Ok(list)
 }
-
-/// The note of the line that begins the run.
-fn first_notes(alloc: Global, initiators: u8, ready: bool) -> Result<Journal, NoMemory>
-    ensures { IfOk result (λ notes. notes ≡ notes_begin initiators ready ∷ []) }
-{
-    let mut fresh = Journal::new(alloc);
-    fresh.push(Note::Begin { initiators, ready })?;
-    Ok(fresh)
-}
-
-ghost use Rattle.sbp_world.specs.Making.{notes_begin, ready_logins};
 
 /// How many initiators have a login from the start.
 fn ready_logins(initiators: u8, ready: bool) -> u8
@@ -59,17 +47,11 @@ impl Parts {
         ensures { IfOk result (λ parts. parts ≡ new_world initiators ready units) }
     {
         let logins = ready_logins(initiators, ready);
+        let note = Note::Begin { initiators, ready };
         Ok(Parts {
-            alloc,
-            generations: Generations::new(alloc, initiators + 1)?,
+            bus: Bus::new(alloc, initiators, logins, note)?,
             target: Target::new(alloc, units, logins)?,
             initiators: new_initiators(alloc, initiators, ready)?,
-            store: Store::new(alloc),
-            last: 0,
-            requests: Requests::new(alloc)?,
-            places: Places::new(alloc, logins)?,
-            loads: Loads::new(alloc, initiators)?,
-            fresh: first_notes(alloc, initiators, ready)?,
         })
     }
 
@@ -77,7 +59,7 @@ impl Parts {
     pub(crate) fn fresh(&self) -> &Journal
         ensures { result.now ≡ self.now.fresh }
     {
-        &self.fresh
+        self.bus.fresh()
     }
 
     /// How many initiators there are.
@@ -93,14 +75,14 @@ impl Parts {
         ensures all { result ≡ length self.now.store.kept }
         ensures shares { result ≡ length (flying self.now.store.kept) + length (recent (self.now.store.last - 1024) self.now.store.kept) }
     {
-        self.store.kept()
+        self.bus.kept()
     }
 
     /// A line begins without notes.
     pub(crate) fn clear(&mut self)
         ensures { self.new ≡ without_notes self.old }
     {
-        self.fresh.clear();
+        self.bus.clear();
     }
 }
 

@@ -1,11 +1,11 @@
-ghost use Rattle.std.specs.Prelude.{◌≡◌, ◌+◌, ◌<◌, length, OnOk};
+ghost use Rattle.std.specs.Prelude.{◌≡◌, ◌<◌, length, OnOk};
 ghost use Rattle.sbp_journal.specs.Outgoings.{empty_outbox};
 ghost use Rattle.sbp_initiator.specs.Seeing.{see_step};
-ghost use Rattle.sbp_world.specs.Nodes.{reset_line, see_line, sees, target_sees, target_ticks, tick_line};
+ghost use Rattle.sbp_world.specs.Nodes.{see_line, sees, target_sees, target_ticks, tick_line};
 
 use super::Parts;
 use super::delivering::NODE_CALLS;
-use sbp_base::{Bytes, Generation, NoMemory, NodeId};
+use sbp_base::{Generation, NoMemory, NodeId};
 use sbp_initiator::Initiator;
 use sbp_journal::{Note, Outbox};
 use sbp_target::Target;
@@ -56,18 +56,6 @@ fn target_ticks(target: &mut Target, outbox: &mut Outbox) -> Result<(), NoMemory
 }
 
 impl Parts {
-    /// A bus reset.
-    #[tactic(auto, unfolding(crate::specs::Nodes::reset_line))]
-    pub(super) fn reset(&mut self, ids: &Bytes) -> Result<(), NoMemory>
-        requires { length ids.now ≡ length self.old.initiators + 1 }
-        ensures step { OnOk result (self.new ≡ reset_line ids.now self.old) }
-        ensures target { self.new.target ≡ self.old.target }
-    {
-        self.generations.reset(self.alloc, ids.as_slice())?;
-        let generation = self.generations.latest().number();
-        self.fresh.push(Note::Reset { generation })
-    }
-
     /// A node learns of the latest generation.
     #[tactic(auto, unfolding(crate::specs::Nodes::sees))]
     fn learn(&mut self, outbox: &mut Outbox, node: u8) -> Result<(), NoMemory>
@@ -77,12 +65,12 @@ impl Parts {
         ensures bus { self.new.generations ≡ self.old.generations }
         ensures step { OnOk result ((outbox.new, self.new) ≡ sees node self.old) }
     {
-        let generation = self.generations.latest();
-        let target = self.generations.latest_id(0);
+        let generation = self.bus.latest();
+        let target = self.bus.latest_id(0);
         if node == 0 {
             return target_sees(&mut self.target, outbox, generation, target);
         }
-        let id = self.generations.latest_id(node);
+        let id = self.bus.latest_id(node);
         let index = usize::from(node) - 1;
         initiator_sees(&mut self.initiators[index], outbox, generation, id, target)
     }
@@ -96,9 +84,7 @@ impl Parts {
     {
         self.sizes();
         outbox.clear();
-        let generation = self.generations.latest().number();
-        self.fresh.push(Note::Seen { node, generation })?;
-        self.generations.see(self.alloc, node)?;
+        self.bus.see(node)?;
         self.learn(outbox, node)?;
         self.hand_out(node, 0, outbox)
     }
@@ -110,7 +96,7 @@ impl Parts {
         ensures step { OnOk result (self.new ≡ tick_line self.old) }
     {
         outbox.clear();
-        self.fresh.push(Note::Tick)?;
+        self.bus.tell(Note::Tick)?;
         target_ticks(&mut self.target, outbox)?;
         self.hand_out(0, 0, outbox)
     }

@@ -1,29 +1,19 @@
-ghost use Rattle.std.specs.Prelude.{◌≡◌, ◌+◌, ◌<◌, length, map, IfOk, IfSome, OnOk};
+ghost use Rattle.std.specs.Prelude.{◌≡◌, ◌<◌, length, map, IfOk, OnOk};
 ghost use Rattle.sbp_journal.specs.Outgoings.{empty_outbox};
 ghost use Rattle.sbp_initiator.specs.Receiving as initiators;
 ghost use Rattle.sbp_target.specs.Faults.{NoneFell};
-ghost use Rattle.sbp_world.specs.Packets.{Delivered, Repeated, expires, inject_line, injected_to, lose_line, may_repeat, timeout_line};
+ghost use Rattle.sbp_world.specs.Packets.{Delivered, Repeated, expires, timeout_line};
 ghost use Rattle.sbp_world.specs.Worlds.{scene};
 
 use super::Parts;
 use super::delivering::NODE_CALLS;
-use super::sending::STORE_CALLS;
 use async_packet::Label;
 use rbc_disk::Medium;
-use sbp_base::{Bytes, NoMemory, NodeId, quad_at};
+use sbp_base::NoMemory;
 use sbp_bus::Request;
 use sbp_initiator::Initiator;
-use sbp_journal::{Note, Outbox, TargetFault};
+use sbp_journal::{Outbox, TargetFault};
 use sbp_target::Target;
-
-/// The number of the refusal of a packet that can't be delivered, lost or timed out.
-const NO_PACKET: u8 = 11;
-
-/// The number of the refusal of bytes that can't be injected.
-const NO_NODE: u8 = 12;
-
-/// For how many serials a packet may be repeated.
-const KEPT_SERIALS: u64 = 1024;
 
 /// The target's request expires; false exactly where it is stale.
 #[tactic(auto, using(crate::proofs::Expired::target_done, crate::proofs::Expired::target_stale))]
@@ -86,19 +76,11 @@ impl Parts {
         ensures units { length self.new.target.units ≡ length self.old.target.units }
         ensures delivered { OnOk result (Delivered line serial (scene self.old (map disk media.old.items) (map media_faults media.old.items)) (scene self.new (map disk media.new.items) (map media_faults media.new.items))) }
     {
-        if self.store.is_in_flight(serial) {
+        if self.bus.is_in_flight(serial) {
             self.deliver(media, outbox, serial, false)
         } else {
-            self.refuse(line, NO_PACKET)
+            self.bus.refuse_packet(line)
         }
-    }
-
-    /// Whether a packet may come once more: it is in flight or was delivered, and is among the last 1,024
-    /// serials.
-    fn may_repeat(&self, serial: u64) -> bool
-        ensures { result ≡ may_repeat serial self.now }
-    {
-        self.last.saturating_sub(KEPT_SERIALS) < serial && self.store.get(serial).is_some()
     }
 
     /// Delivers a packet once more.
@@ -116,28 +98,11 @@ impl Parts {
         ensures units { length self.new.target.units ≡ length self.old.target.units }
         ensures repeated { OnOk result (Repeated line serial (scene self.old (map disk media.old.items) (map media_faults media.old.items)) (scene self.new (map disk media.new.items) (map media_faults media.new.items))) }
     {
-        if self.may_repeat(serial) {
+        if self.bus.may_repeat(serial) {
             self.deliver(media, outbox, serial, true)
         } else {
-            self.refuse(line, NO_PACKET)
+            self.bus.refuse_packet(line)
         }
-    }
-
-    /// A packet in flight is lost. Want of memory is answered too where the store counts no further call.
-    #[tactic(auto, unfolding(crate::specs::Packets::lose_line))]
-    pub(super) fn lose(&mut self, line: u32, serial: u64) -> Result<(), NoMemory>
-        ensures step { OnOk result (self.new ≡ lose_line line serial self.old) }
-        ensures bus { self.new.generations ≡ self.old.generations }
-        ensures target { self.new.target ≡ self.old.target }
-    {
-        if !self.store.is_in_flight(serial) {
-            return self.refuse(line, NO_PACKET);
-        }
-        if self.store.calls() >= STORE_CALLS {
-            return Err(NoMemory);
-        }
-        self.store.lost(serial);
-        self.fresh.push(Note::Lost { serial })
     }
 
     /// A request expires at its sender; false exactly where it is not under way there.
@@ -182,55 +147,15 @@ impl Parts {
         ensures step { OnOk result (self.new ≡ timeout_line line serial self.old) }
     {
         outbox.clear();
-        let Some(request) = self.requests.find(serial) else {
-            return self.refuse(line, NO_PACKET);
+        let Some(request) = self.bus.request(serial) else {
+            return self.bus.refuse_packet(line);
         };
         if self.expire(media, outbox, &request)? {
-            self.fresh.push(Note::TimedOut { serial })?;
+            self.bus.time_out(serial)?;
             self.hand_out(request.node, 0, outbox)
         } else {
-            self.refuse(line, NO_PACKET)
+            self.bus.refuse_packet(line)
         }
-    }
-
-    /// The node that injected bytes of a node go to: they are 8 at least, their source is the sender, and
-    /// their destination is another node of the generation that it knows.
-    #[tactic(auto, unfolding(crate::specs::Packets::injected_to))]
-    fn injected_to(&self, from: u8, bytes: &[u8]) -> Option<u8>
-        requires { from < length self.now.generations.seen }
-        ensures node { result ≡ injected_to from bytes.now self.now }
-        ensures few { IfSome result (λ to. to < 5) }
-    {
-        if bytes.len() < 8 {
-            return None;
-        }
-        let destination = NodeId::from_raw((quad_at(bytes, 0) >> 16) as u16);
-        let source = NodeId::from_raw((quad_at(bytes, 4) >> 16) as u16);
-        let to = self.generations.node_of(from, destination)?;
-        let sender = self.generations.node_of(from, source)?;
-        if sender == from && to != from {
-            Some(to)
-        } else {
-            None
-        }
-    }
-
-    /// An initiator sends bytes as a packet.
-    #[tactic(auto, unfolding(crate::specs::Packets::inject_line))]
-    pub(super) fn inject(&mut self, line: u32, initiator: u8, bytes: &Bytes) -> Result<(), NoMemory>
-        requires { initiator < length self.old.initiators }
-        ensures step { OnOk result (self.new ≡ inject_line line initiator bytes.now self.old) }
-        ensures bus { self.new.generations ≡ self.old.generations }
-        ensures target { self.new.target ≡ self.old.target }
-    {
-        self.sizes();
-        let from = initiator + 1;
-        let Some(to) = self.injected_to(from, bytes.as_slice()) else {
-            return self.refuse(line, NO_NODE);
-        };
-        let packet = Bytes::from_slice(self.alloc, bytes.as_slice())?;
-        self.post(from, to, true, packet)?;
-        Ok(())
     }
 }
 

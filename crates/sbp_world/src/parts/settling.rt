@@ -1,26 +1,15 @@
-ghost use Rattle.std.specs.Prelude.{◌≡◌, ◌+◌, ◌*◌, ◌<◌, ◌≤◌, is_none, length, map, min, IfOk, IfSome, OnOk};
+ghost use Rattle.std.specs.Prelude.{◌≡◌, ◌+◌, ◌*◌, ◌<◌, ◌≤◌, length, map, min, IfOk, IfSome, OnOk};
 ghost use Rattle.sbp_target.specs.Faults.{NoneFell};
-ghost use Rattle.sbp_world.specs.Settling.{DeliversUpTo, Settles, budget, end_note, is_settled, lowest};
-ghost use Rattle.sbp_world.specs.Worlds.{scene, with_note};
+ghost use Rattle.sbp_world.specs.Settling.{DeliversUpTo, Settles, budget};
+ghost use Rattle.sbp_world.specs.Worlds.{scene};
 
 use super::Parts;
 use rbc_disk::Medium;
 use sbp_base::NoMemory;
-use sbp_journal::{Note, Outbox};
+use sbp_journal::Outbox;
 
 /// The most deliveries of a line.
 const MOST: u64 = 10_000_000;
-
-/// The note at the end of a `settle`.
-fn end_note(settled: bool) -> Note
-    ensures { result ≡ end_note settled }
-{
-    if settled {
-        Note::Settled
-    } else {
-        Note::Stopped
-    }
-}
 
 impl Parts {
     /// Delivers the lowest packet in flight, until none is, but so many at most.
@@ -37,7 +26,7 @@ impl Parts {
         ensures delivers { OnOk result (DeliversUpTo most (scene self.old (map disk media.old.items) (map media_faults media.old.items)) (scene self.new (map disk media.new.items) (map media_faults media.new.items))) }
     {
         for _ in 0..most {
-            let Some(serial) = self.lowest() else {
+            let Some(serial) = self.bus.lowest() else {
                 return Ok(());
             };
             self.deliver(media, outbox, serial, false)?;
@@ -50,8 +39,8 @@ impl Parts {
     fn budget(&self) -> u64
         ensures budget { result ≡ budget self.now }
     {
-        let flying = (self.store.in_flight() as u64).min(MOST);
-        let waiting = self.loads.weight().min(MOST);
+        let flying = (self.bus.in_flight() as u64).min(MOST);
+        let waiting = self.bus.weight().min(MOST);
         let nodes = self.initiators.len() as u64;
         (4 * flying + waiting + 600 * nodes).min(MOST)
     }
@@ -71,25 +60,7 @@ impl Parts {
     {
         let most = self.budget();
         self.deliver_up_to(media, outbox, most)?;
-        let settled = self.tell_end()?;
-        Ok(settled)
-    }
-
-    /// The lowest serial in flight.
-    fn lowest(&self) -> Option<u64>
-        ensures { result ≡ lowest self.now }
-    {
-        self.store.lowest()
-    }
-
-    /// Tells whether nothing is in flight.
-    fn tell_end(&mut self) -> Result<bool, NoMemory>
-        ensures done { IfOk result (λ settled. settled ≡ is_settled self.old) }
-        ensures told { IfOk result (λ settled. self.new ≡ with_note (end_note settled) self.old) }
-        ensures target { self.new.target ≡ self.old.target }
-    {
-        let settled = self.lowest().is_none();
-        self.fresh.push(end_note(settled))?;
+        let settled = self.bus.tell_end()?;
         Ok(settled)
     }
 }

@@ -1,6 +1,7 @@
 use Rattle.std.specs.Prelude.{◌≡◌, true, false}
 use Rattle.std.proofs.Common.{rules}
 use Rattle.sbp_world.specs.Packets.{is_in_flight}
+use Rattle.sbp_world.proofs.Buses.{noted_on}
 use Rattle.sbp_world.proofs.Delivered.{line_delivers, line_refused, on_ok}
 use Rattle.sbp_world.proofs.parts.Parts.deliver_line.Goals as goal
 
@@ -12,4 +13,4 @@ returns-then-is_in_flight-clause-delivered g c =
 pub returns-else-is_in_flight-clause-delivered : goal.returns-else-is_in_flight-clause-delivered
 returns-else-is_in_flight-clause-delivered g c =
     let t : is_in_flight c.args.serial c.args.self.now ≡ false = search rules in
-    on_ok c.refuse.result _ _ (λ e. line_refused _ _ _ _ _ _ t e) c.refuse.ensures.step
+    on_ok c.refuse_packet.result _ _ (λ e. line_refused _ _ _ _ _ _ t (noted_on _ _ _ _ c.self.view_is e)) c.refuse_packet.ensures.step

@@ -1,6 +1,7 @@
 use Rattle.std.specs.Prelude.{◌≡◌, true, false}
 use Rattle.std.proofs.Common.{rules}
 use Rattle.sbp_world.specs.Packets.{may_repeat}
+use Rattle.sbp_world.proofs.Buses.{noted_on}
 use Rattle.sbp_world.proofs.Delivered.{line_repeats, on_ok, repeat_refused}
 use Rattle.sbp_world.proofs.parts.Parts.repeat_line.Goals as goal
 
@@ -12,4 +13,4 @@ returns-then-may_repeat-clause-repeated g c =
 pub returns-else-may_repeat-clause-repeated : goal.returns-else-may_repeat-clause-repeated
 returns-else-may_repeat-clause-repeated g c =
     let t : may_repeat c.args.serial c.args.self.now ≡ false = search rules in
-    on_ok c.refuse.result _ _ (λ e. repeat_refused _ _ _ _ _ _ t e) c.refuse.ensures.step
+    on_ok c.refuse_packet.result _ _ (λ e. repeat_refused _ _ _ _ _ _ t (noted_on _ _ _ _ c.self.view_is e)) c.refuse_packet.ensures.step

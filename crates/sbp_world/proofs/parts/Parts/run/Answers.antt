@@ -2,6 +2,7 @@ use Rattle.std.specs.Prelude.{refl}
 use Rattle.sbp_world.specs.Lines.{acted, keyed}
 use Rattle.sbp_world.specs.Nodes.{reset_line, see_line, tick_line}
 use Rattle.sbp_world.specs.Packets.{inject_line, lose_line, timeout_line}
+use Rattle.sbp_world.proofs.Buses.{injected_on, lost_on, reset_on}
 use Rattle.sbp_world.proofs.Delivered.{on_ok}
 use Rattle.sbp_world.proofs.Events.{deliver_is, line_is, repeat_is, settle_is, step_is, timeout_is}
 use Rattle.sbp_world.proofs.parts.Parts.run.Goals as goal
@@ -12,7 +13,7 @@ returns-in-Act-clause-happens g c =
 
 pub returns-in-Reset-clause-happens : goal.returns-in-Reset-clause-happens
 returns-in-Reset-clause-happens g c =
-    on_ok c.reset.result _ _ (λ e. line_is _ _ _ (reset_line _) _ _ _ _ c.in-Reset.is e refl refl) c.reset.ensures.step
+    on_ok c.reset.result _ _ (λ e. line_is _ _ _ (reset_line _) _ _ _ _ c.in-Reset.is (reset_on _ _ _ _ c.self.view_is e) refl refl) c.reset.ensures.step
 
 pub returns-in-See-clause-happens : goal.returns-in-See-clause-happens
 returns-in-See-clause-happens g c =
@@ -28,7 +29,7 @@ returns-in-Repeat-clause-happens g c =
 
 pub returns-in-Lose-clause-happens : goal.returns-in-Lose-clause-happens
 returns-in-Lose-clause-happens g c =
-    on_ok c.lose.result _ _ (λ e. line_is _ _ _ (lose_line _ _) _ _ _ _ c.in-Lose.is e refl refl) c.lose.ensures.step
+    on_ok c.lose.result _ _ (λ e. line_is _ _ _ (lose_line _ _) _ _ _ _ c.in-Lose.is (lost_on _ _ _ _ _ c.self.view_is e) refl refl) c.lose.ensures.step
 
 pub returns-in-Timeout-clause-happens : goal.returns-in-Timeout-clause-happens
 returns-in-Timeout-clause-happens g c =
@@ -48,7 +49,7 @@ returns-in-Tick-clause-happens g c =
 
 pub returns-in-Inject-clause-happens : goal.returns-in-Inject-clause-happens
 returns-in-Inject-clause-happens g c =
-    on_ok c.inject.result _ _ (λ e. line_is _ _ _ (inject_line _ _ _) _ _ _ _ c.in-Inject.is e refl refl) c.inject.ensures.step
+    on_ok c.inject.result _ _ (λ e. line_is _ _ _ (inject_line _ _ _) _ _ _ _ c.in-Inject.is (injected_on _ _ _ _ _ _ c.self.view_is e) refl refl) c.inject.ensures.step
 
 pub returns-in-Key-clause-happens : goal.returns-in-Key-clause-happens
 returns-in-Key-clause-happens g c =

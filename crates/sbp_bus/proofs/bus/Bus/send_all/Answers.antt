@@ -1,12 +1,11 @@
 use Rattle.std.proofs.Common.{◌∙◌}
-use Rattle.sbp_world.proofs.Handed.{sent_more, sent_none}
-use Rattle.sbp_world.proofs.parts.Parts.send_all.Goals as goal
+use Rattle.sbp_bus.proofs.Handed.{sent_more, sent_none}
+use Rattle.sbp_bus.proofs.bus.Bus.send_all.Goals as goal
 
 pub loop-packet-preserved : goal.loop-packet-preserved
 loop-packet-preserved c = record {
   all = sent_more _ _ _ _ _ _ c.in-Some.ensures.packets c.in_ok-send.ensures.sent ∙ c.loop-packet.invariant.all;
-  bus = c.send.ensures.bus ∙ c.loop-packet.invariant.bus;
-  target = c.send.ensures.target ∙ c.loop-packet.invariant.target;
+  known = c.send.ensures.known ∙ c.loop-packet.invariant.known;
 }
 
 pub returns-clause-step : goal.returns-clause-step

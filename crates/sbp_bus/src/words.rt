@@ -1,5 +1,5 @@
 ghost use Rattle.std.specs.Prelude.{◌≡◌};
-ghost use Rattle.sbp_world.specs.Words.{check_of, function_word, login_if};
+ghost use Rattle.sbp_bus.specs.Words.{check_of, function_word, login_if};
 
 use rbc_command::Sense;
 use rbc_disk::Outcome;
