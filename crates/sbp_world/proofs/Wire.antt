@@ -42,3 +42,4 @@ pub mod Begun
 pub mod OnceHere
 pub mod Brings
 pub mod Entries
+pub mod Keeping
