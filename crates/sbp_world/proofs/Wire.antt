@@ -56,3 +56,4 @@ pub mod Spent
 pub mod OnceHere
 pub mod Brings
 pub mod Entries
+pub mod Keeping

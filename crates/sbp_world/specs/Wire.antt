@@ -3,3 +3,4 @@ pub mod Wires
 pub mod History
 pub mod Journal
 pub mod Lines
+pub mod Keeping

@@ -4,6 +4,7 @@ ghost use Rattle.sbp_target.specs.Faults.{NoneFell};
 ghost use Rattle.sbp_world.specs.Lines.{Happens, IsEvent};
 ghost use Rattle.sbp_world.specs.Making.{new_world};
 ghost use Rattle.sbp_world.specs.Settling.{HasSettled};
+ghost use Rattle.sbp_world.specs.Wire.Keeping.{BeginsLawfully, KeepsLaws, SettlesLawfully};
 ghost use Rattle.sbp_world.specs.Worlds.{scene};
 
 use crate::parts::Parts;
@@ -36,7 +37,8 @@ impl World {
         requires few { initiators ≤ 4 }
         requires one { 1 ≤ units }
         requires units { units ≤ 4 }
-        ensures { IfOk result (λ world. world ≡ new_world initiators ready units) }
+        ensures new { IfOk result (λ world. world ≡ new_world initiators ready units) }
+        ensures lawful { IfOk result (λ world. BeginsLawfully initiators ready units world) }
     {
         Ok(World {
             parts: Parts::new(alloc, initiators, ready, units)?,
@@ -58,17 +60,19 @@ impl World {
         ensures fell { NoneFell (map media_faults media.old.items) (map media_faults media.new.items) }
         ensures units { length self.new.target.units ≡ length self.old.target.units }
         ensures happens { OnOk result (Happens line event.now (scene self.old (map disk media.old.items) (map media_faults media.old.items)) (scene self.new (map disk media.new.items) (map media_faults media.new.items))) }
+        ensures lawful { OnOk result (KeepsLaws line event.now (scene self.old (map disk media.old.items) (map media_faults media.old.items)) (scene self.new (map disk media.new.items) (map media_faults media.new.items))) }
     {
         self.parts.step(media, &mut self.outbox, line, event)
     }
 
     /// Runs a `settle`; true exactly where nothing is in flight at the end.
-    pub fn settle(&mut self, media: &mut Vec<Box<dyn Medium>>, _line: u32) -> Result<bool, NoMemory>
+    pub fn settle(&mut self, media: &mut Vec<Box<dyn Medium>>, line: u32) -> Result<bool, NoMemory>
         requires media { length media.old.items ≡ length self.old.target.units }
         ensures size { length media.new.items ≡ length media.old.items }
         ensures fell { NoneFell (map media_faults media.old.items) (map media_faults media.new.items) }
         ensures units { length self.new.target.units ≡ length self.old.target.units }
         ensures settles { IfOk result (λ settled. HasSettled settled (scene self.old (map disk media.old.items) (map media_faults media.old.items)) (scene self.new (map disk media.new.items) (map media_faults media.new.items))) }
+        ensures lawful { OnOk result (SettlesLawfully line (scene self.old (map disk media.old.items) (map media_faults media.old.items)) (scene self.new (map disk media.new.items) (map media_faults media.new.items))) }
     {
         self.parts.clear();
         self.parts.settle(media, &mut self.outbox)

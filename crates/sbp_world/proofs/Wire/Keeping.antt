@@ -1,0 +1,39 @@
+-- Each line of a world keeps the laws of the runs that it stands for.
+use Rattle.std.specs.Prelude.{◌≡◌, ℕ, Bool, List, [], Result, Ok, Err, IfOk, OnOk}
+use Rattle.std.proofs.Common.{subst, sym}
+use Rattle.rbc_disk.specs.Disk.{Disk}
+use Rattle.rbc_disk.specs.Held.{Held}
+use Rattle.sbp_journal.specs.declared.event.Event.{Event}
+use Rattle.sbp_world.proofs.Standing.{begins, goes_on, settles}
+use Rattle.sbp_world.proofs.Wire.Entries.{bus_law}
+use Rattle.sbp_world.proofs.Wire.Runs.{all_runs}
+use Rattle.sbp_world.specs.Lines.{Happens}
+use Rattle.sbp_world.specs.Making.{new_world}
+use Rattle.sbp_world.specs.Runs.{AreEntries, Run, StandsFor, beginning}
+use Rattle.sbp_world.specs.Settling.{HasSettled, Settles}
+use Rattle.sbp_world.specs.Wire.Keeping.{BeginsLawfully, HasLaws, IsLikeAScripts, KeepsLaws, SettlesLawfully, StandsLawfully}
+use Rattle.sbp_world.specs.Worlds.{Scene, WorldState, scene, without_notes}
+
+laws_of : (run : Run) → AreEntries (beginning run) run.entries → (first : ℕ) → IsLikeAScripts run → HasLaws first run
+laws_of run are first is = record {
+  of_wire = (all_runs.runs first run is.few is.count are is.lines).has_laws;
+  on_the_bus = bus_law.lawful first run is.few is.media is.count are is.lines;
+}
+
+lawfully : (run : Run) (s : Scene) → StandsFor run s → StandsLawfully run s
+lawfully run s stands = record { stands = stands; has_laws = laws_of run stands.lines }
+
+pub begins_lawfully : (initiators : ℕ) (ready : Bool) (units : ℕ) (world : WorldState) → world ≡ new_world initiators ready units → BeginsLawfully initiators ready units world
+begins_lawfully initiators ready units world e start =
+    lawfully _ _ (subst (λ w. StandsFor (record { initiators = initiators; ready = ready; units = units; start = start; entries = [] }) (record { world = w; media = start })) (sym e) (begins initiators ready units start))
+
+pub keeps_laws : (line : ℕ) (event : Event) (old new : Scene) → Happens line event old new → KeepsLaws line event old new
+keeps_laws line event old new h run stands = record { told = h.told; keeps = lawfully _ _ (goes_on run line event old new stands h) }
+
+pub settles_lawfully : (line : ℕ) (done : Bool) (old new : Scene) → HasSettled done old new → SettlesLawfully line old new
+settles_lawfully line done old new h run stands = record { told = h.told; keeps = lawfully _ _ (settles run line done old new stands h) }
+
+-- where the line is begun first
+pub settles_ok : {E : Type 0} (result : Result Bool E) (line : ℕ) (w cleared : WorldState) (disks : List Disk) (faults : List ℕ) (new : Scene) → cleared ≡ without_notes w → IfOk result (λ done. Settles done (scene cleared disks faults) new) → OnOk result (SettlesLawfully line (scene w disks faults) new)
+settles_ok (Ok done) line w cleared disks faults new e h = settles_lawfully line done (scene w disks faults) new (subst (λ x. Settles done (scene x disks faults) new) e h)
+settles_ok (Err e) line w cleared disks faults new c h = tt

@@ -1,0 +1,50 @@
+-- What each line of a world keeps: the run that the world stands for has the laws of the wire, and those of the lines of the bus.
+use Rattle.std.specs.Prelude.{◌≡◌, ◌≤◌, ◌<◌, ℕ, ◌+◌, ◌^◌, Bool, List, [], length, Option}
+use Rattle.rbc_disk.specs.Held.{Held}
+use Rattle.rbc_disk.specs.Runs.{Told}
+use Rattle.sbp_journal.specs.declared.event.Event.{Event}
+use Rattle.sbp_journal.specs.declared.event.Event.TheVariants as events
+use Rattle.sbp_laws.specs.Lawful.{injectors}
+use Rattle.sbp_laws.specs.OnTheBus.{LawfulOnTheBus}
+use Rattle.sbp_world.specs.Histories.{history_of}
+use Rattle.sbp_world.specs.Runs.{Run, StandsFor, entry, with_entry}
+use Rattle.sbp_world.specs.Wire.History.{IsOfWire}
+use Rattle.sbp_world.specs.Wire.Journal.{journal_run}
+use Rattle.sbp_world.specs.Wire.Lines.{AreLines}
+use Rattle.sbp_world.specs.Worlds.{Scene, WorldState}
+
+-- A run is such as a script's: it has at most four initiators, a medium for each unit, fewer than 2^32 - 2 lines, and the lines have the
+-- fields of a script's.
+pub record IsLikeAScripts (run : Run) : Type 0 where
+  pub few : run.initiators ≤ 4
+  pub media : run.units ≡ length run.start.disks
+  pub count : length run.entries + 2 < 2 ^ 32
+  pub lines : AreLines run run.entries
+
+-- The laws of a run whose first line has this number: its history has those of the wire, and its journal those of the lines of the bus.
+pub record HasLaws (first : ℕ) (run : Run) : Type 0 where
+  pub of_wire : IsOfWire (history_of first run)
+  pub on_the_bus : LawfulOnTheBus (injectors (history_of first run)) (journal_run first run)
+
+-- A world and its media stand for a run, which has the laws where it is such as a script's.
+pub record StandsLawfully (run : Run) (s : Scene) : Type 0 where
+  pub stands : StandsFor run s
+  pub has_laws : (first : ℕ) → IsLikeAScripts run → HasLaws first run
+
+-- A new world does so for the run before any line after `begin`, over any media.
+abbrev pub BeginsLawfully : ℕ → Bool → ℕ → WorldState → Type 0
+BeginsLawfully initiators ready units world =
+    (start : Held) → StandsLawfully (record { initiators = initiators; ready = ready; units = units; start = start; entries = [] }) (record { world = world; media = start })
+
+-- A run has one entry more, of this line and event, and the world stands for it.
+pub record GoesOn (run : Run) (line : ℕ) (event : Event) (s : Scene) : Type 0 where
+  pub told : List (Option Told)
+  pub keeps : StandsLawfully (with_entry run (entry line event told s.world.fresh)) s
+
+-- Each run that the world stood for goes on so by a line.
+abbrev pub KeepsLaws : ℕ → Event → Scene → Scene → Type 0
+KeepsLaws line event old new = (run : Run) → StandsFor run old → GoesOn run line event new
+
+-- a `settle` is a line like the others
+abbrev pub SettlesLawfully : ℕ → Scene → Scene → Type 0
+SettlesLawfully line old new = KeepsLaws line events.Settle old new
