@@ -1,4 +1,4 @@
-ghost use Rattle.std.specs.Prelude.{◌≡◌, ◌++◌, ◌<◌, ◌*◌, ◌+◌, ◌∷◌, [], length, slice_index, ℕ, List};
+ghost use Rattle.std.specs.Prelude.{◌≡◌, ◌++◌, ◌<◌, ◌*◌, ◌+◌, ◌∷◌, [], length, slice_index, ℕ, List, IfOk};
 ghost use Rattle.config_rom.specs.Sum.{sum_of, quad_bits, low_bits, register_after};
 ghost use Rattle.drill_text.specs.Sums as spec;
 ghost use Rattle.drill_text.specs.Sums.{quadlet, quads_of};
@@ -29,7 +29,9 @@ fn low_sums() -> [u16; 256]
 impl PairSums {
     /// Makes the table: the sum over two bytes is that of the first with the second zero, and that of
     /// the second with the first zero, taken together.
-    pub fn new(alloc: Global) -> Result<PairSums, NoMemory> {
+    pub fn new(alloc: Global) -> Result<PairSums, NoMemory>
+        ensures { IfOk result (λ table. (pair : ℕ) → pair < 65536 → slice_index table.sums.items pair ≡ sum_of (pair ∷ [])) }
+    {
         let lows = low_sums();
         let mut sums = Vec::with_capacity(alloc, 65536)?;
         for high in 0..256_u32 {

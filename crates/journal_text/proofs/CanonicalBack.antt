@@ -122,7 +122,7 @@ canonical_back (byte ∷ bs) h k =
 
 -- ---- what a canonical form lacks
 
-join_lacks : (c : ℕ) → (43 == c) ≡ false → (words : List (List ℕ)) → AllByRecursion (Lacks c) words → Lacks c (join_with_byte 43 words)
+pub join_lacks : (c : ℕ) → (43 == c) ≡ false → (words : List (List ℕ)) → AllByRecursion (Lacks c) words → Lacks c (join_with_byte 43 words)
 join_lacks c out [] h = tt
 join_lacks c out (word ∷ []) h = h.0
 join_lacks c out (word ∷ next ∷ words) h = lacks-append c word (43 ∷ join_with_byte 43 (next ∷ words)) h.0 (out, join_lacks c out (next ∷ words) h.1)

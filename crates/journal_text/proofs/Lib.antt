@@ -5,3 +5,4 @@ mod CanonicalBack
 mod NotesBack
 mod TextsBack
 mod Journals
+pub mod Feeds

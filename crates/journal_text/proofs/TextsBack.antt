@@ -32,11 +32,11 @@ use Rattle.journal_text.proofs.NotesBack.{note_of, note_back}
 
 -- ---- no word has a blank or a line feed
 
-abbrev is_plain : ℕ → Bool
+abbrev pub is_plain : ℕ → Bool
 is_plain byte = not (byte == 32) && not (byte == 10)
 
 -- each fixed word is plain, by a test of its bytes, and a sense key is one digit
-abbrev IsPlain : Field → Type 0
+abbrev pub IsPlain : Field → Type 0
 IsPlain (name text) = list_all is_plain text ≡ true
 IsPlain (sense_data sense) = sense.key < 16
 IsPlain _ = Unit {0}
@@ -173,7 +173,7 @@ plain_buffer Nothing = (refl, tt)
 plain_buffer (In len) = (refl, (tt, tt))
 plain_buffer (Out bs) = (refl, (tt, tt))
 
-plain_fields : (note : Note) → HasForm note → AllByRecursion IsPlain (fields note)
+pub plain_fields : (note : Note) → HasForm note → AllByRecursion IsPlain (fields note)
 plain_fields (notes.Begin n ready) h = (tt, (plain_mode ready, tt))
 plain_fields (notes.Append i l k cdb buffer) h = (tt, (tt, (tt, (tt, plain_buffer buffer))))
 plain_fields (notes.Low i l k) h = (tt, (tt, (tt, tt)))
@@ -212,7 +212,7 @@ plain_fields (notes.Unsolicited n) h = (tt, tt)
 plain_fields (notes.Unsent n) h = (tt, tt)
 plain_fields (notes.Told n) h = (tt, (refl, tt))
 
-plain_keyword : (note : Note) → list_all is_plain (keyword note) ≡ true
+pub plain_keyword : (note : Note) → list_all is_plain (keyword note) ≡ true
 plain_keyword (notes.Begin n ready) = refl
 plain_keyword (notes.Append i l k cdb buffer) = refl
 plain_keyword (notes.Low i l k) = refl
@@ -256,7 +256,7 @@ note_lacks c out note h = (lacks c is_plain (keyword note) out.plain (plain_keyw
 
 -- ---- lines and words
 
-join_lacks : (c : ℕ) → (32 == c) ≡ false → (ws : List (List ℕ)) → AllByRecursion (Lacks c) ws → Lacks c (join_with_byte 32 ws)
+pub join_lacks : (c : ℕ) → (32 == c) ≡ false → (ws : List (List ℕ)) → AllByRecursion (Lacks c) ws → Lacks c (join_with_byte 32 ws)
 join_lacks c out [] h = tt
 join_lacks c out (text ∷ []) h = h.0
 join_lacks c out (text ∷ next ∷ ws) h = lacks-append c text (32 ∷ join_with_byte 32 (next ∷ ws)) h.0 (out, join_lacks c out (next ∷ ws) h.1)

@@ -2,7 +2,11 @@ ghost use Rattle.std.specs.Prelude.{◌≡◌, ℕ, Bool, List};
 ghost use Rattle.line_text.specs.Canonical as canonical;
 ghost use Rattle.line_text.specs.Canonical.{AreRunsOf, runs_of};
 ghost use Rattle.std.specs.List.{AllByRecursion};
-ghost use Rattle.sbp_journal.specs.Text.{text_of};
+ghost use Rattle.drill_text.specs.Laws.{IsLine};
+ghost use Rattle.drill_text.specs.Sums.{trace};
+ghost use Rattle.drill_text.specs.Tally.{tally_of};
+ghost use Rattle.sbp_journal.specs.Form.{HasForm};
+ghost use Rattle.sbp_journal.specs.Text.{note_text, text_of};
 ghost use Rattle.sbp_journal.specs.Written.{IsWritten};
 ghost use Rattle.sbp_journal.specs.declared.note.Note as notes;
 ghost use Rattle.sbp_journal.specs.Run as journals;
@@ -25,4 +29,11 @@ pub fn text_determines_notes()
 /// So the text of a lawful run determines its journal, whichever initiators its laws leave out.
 pub fn text_determines_journal()
     ensures { (wild others : ℕ → Bool) (run other : journals.Run) → LawfulBut wild run → LawfulBut others other → text_of (journal run) ≡ text_of (journal other) → journal run ≡ journal other }
+{}
+
+/// The text of each note of the stated form is one line, with its one line feed at its end. So the sum
+/// over the lines of such notes is that over their text, cut at its line feeds.
+pub fn text_is_of_lines()
+    ensures lines { (note : notes.Note) → HasForm note → IsLine (note_text note) }
+    ensures trace { (ns : List notes.Note) → AllByRecursion HasForm ns → (tally_of ns).sum ≡ trace (text_of ns) }
 {}

@@ -4,7 +4,7 @@
 
 mod laws;
 
-pub use laws::{maximal_runs, text_determines_journal, text_determines_notes};
+pub use laws::{maximal_runs, text_determines_journal, text_determines_notes, text_is_of_lines};
 
 #[cfg(test)]
 mod tests;

@@ -1,4 +1,4 @@
-ghost use Rattle.std.specs.Prelude.{◌≡◌, ◌≤◌, ◌++◌, length, OnOk};
+ghost use Rattle.std.specs.Prelude.{◌≡◌, ◌≤◌, ◌++◌, [], length, IfOk, OnOk};
 ghost use Rattle.packet_listing.specs.Listing.{listed};
 ghost use Rattle.packet_listing.specs.Meaning.{ListsLine};
 
@@ -18,7 +18,9 @@ pub struct PacketLister {
 
 impl PacketLister {
     /// No line was read.
-    pub fn new(alloc: Global) -> Result<Self, NoMemory> {
+    pub fn new(alloc: Global) -> Result<Self, NoMemory>
+        ensures { IfOk result (λ lister. lister.digits ≡ []) }
+    {
         Ok(PacketLister {
             digits: Digits::new(alloc)?,
         })
