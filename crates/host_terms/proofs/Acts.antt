@@ -27,7 +27,8 @@ use Rattle.sbp_session.specs.Moves.{goes, pointing}
 use Rattle.sbp_initiator.specs.declared.purpose.Pointing.TheVariants as pointings
 use Rattle.sbp_initiator.specs.declared.purpose.Purpose.{Purpose}
 use Rattle.sbp_initiator.specs.declared.state.InitiatorState.{InitiatorState}
-use Rattle.sbp_initiator.specs.Lists.{ListState, asked_by, dummy_lists, high_lists, low_lists, manage_lists, pin_lists, prepared_as, put_lists, stepped, with_slots}
+use Rattle.orb_list.specs.Lists.{ListState, dummy_lists, high_lists, low_lists, manage_lists, pin_lists, stepped, with_slots}
+use Rattle.sbp_initiator.specs.Commands.{asked_by, prepared_as, put_lists}
 use Rattle.sbp_initiator.specs.Refusals.{operation_of, refusal, rows_of}
 use Rattle.sbp_initiator.specs.States.{is_unwritten, last_linked}
 use Rattle.sbp_initiator.specs.Effects.{Turn, told}

@@ -1,5 +1,5 @@
 -- Notes that say nothing of an initiator's slots leave its terms, and so does a packet that is sent, but for that of an abort.
-use Rattle.std.proofs.Common.{arith, ◌≡◌, refl, sym, ◌∙◌, ap, subst, ℕ, zero, suc, ◌<◌, ◌==◌, ◌&&◌, not, nat_eq, Bool, true, false, cond, List, [], ◌∷◌, length, map, slice_set, Option, Some, None, Result, Ok, Err}
+use Rattle.std.proofs.Common.{arith, ◌≡◌, refl, sym, ◌∙◌, ap, subst, ℕ, zero, suc, ◌<◌, ◌==◌, ◌&&◌, not, max, nat_eq, Bool, true, false, cond, List, [], ◌∷◌, length, map, slice_set, Option, Some, None, Result, Ok, Err}
 use Rattle.std.proofs.lemmas.Bool.Decides.{nat_tests}
 use Rattle.bus_memory.proofs.Written.{replicated}
 use Rattle.orb_layout.specs.declared.status.StatusKind.{StatusKind}
@@ -184,7 +184,7 @@ module _ (past : List Moment) (i : ℕ) (s : SlotTable) (r : AreRows past i s) w
   beside_taken j n k status answer e =
       let now = said (notes.Taken j n k status answer) ∷ past in
       let taken : TakenStatus = record { status = status; src = terms.src_in (access_at (wire_terms past) (terms.last_got past)) } in
-      beside_of (λ b. taken_terms b n k taken (terms_at past i)) (λ c. rows_taken c n k status (terms.slots past i)) s (terms.freed now i) (nat_eq i j) (nat_eq j i) (not_here (nat_eq i j) e) (turned i j e) (frees now i) r
+      beside_of (λ b. taken_terms b n k taken (max (terms.passed past j n) (suc k)) (terms_at past i)) (λ c. rows_taken c n k status (terms.slots past i)) s (terms.freed now i) (nat_eq i j) (nat_eq j i) (not_here (nat_eq i j) e) (turned i j e) (frees now i) r
 
   beside_drop : (j n : ℕ) → not (nat_eq i j) ≡ true → AreRows (said (notes.Drop j n) ∷ past) i s
   beside_drop j n e =
@@ -286,7 +286,7 @@ module _ (past : List Moment) (i : ℕ) (s : SlotTable) (r : AreRows past i s) w
       let now = said (notes.Seen (suc j) generation) ∷ past in
       let d : nat_eq (suc j) (suc i) ≡ false = not_here (nat_eq (suc j) (suc i)) e in
       let c : nat_eq i j ≡ false = grind (arith, nat_tests) in
-      beside_of (λ b. pin_terms b None (terms_at past i)) (λ c. cond (c && not (generation == (wire_terms past).generation (suc j))) new_slots (terms.slots past i)) s (terms.freed now i) (nat_eq i j) (nat_eq (suc j) (suc i)) c d (frees now i) r
+      beside_of (λ b. pin_terms b (cond (generation == (wire_terms past).generation (suc j)) (terms.pinned_orb past j) None) (terms_at past i)) (λ c. cond (c && not (generation == (wire_terms past).generation (suc j))) new_slots (terms.slots past i)) s (terms.freed now i) (nat_eq i j) (nat_eq (suc j) (suc i)) c d (frees now i) r
 
   pub beside_rests : (note : Note) → is_beside i note ≡ true → AreRows (said note ∷ past) i s
   beside_rests (notes.Append j n k cdb buffer) e = beside_append j n k cdb buffer e

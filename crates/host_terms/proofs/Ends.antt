@@ -26,10 +26,12 @@ use Rattle.sbp_initiator.specs.declared.purpose.Purpose.{Purpose}
 use Rattle.sbp_initiator.specs.declared.purpose.Purpose.TheVariants as purposes
 use Rattle.sbp_initiator.specs.declared.purpose.Running.{Running}
 use Rattle.sbp_initiator.specs.declared.state.InitiatorState.{InitiatorState}
-use Rattle.sbp_initiator.specs.Lists.{ListState, drop_lists, unpin_lists, with_slots}
-use Rattle.sbp_initiator.specs.Quads.{with_quad}
+use Rattle.orb_list.specs.Lists.{ListState, drop_lists, unpin_lists, with_slots}
+use Rattle.initiator_base.specs.Quads.{with_quad}
 use Rattle.sbp_initiator.specs.Refusals.{ends_list}
-use Rattle.sbp_initiator.specs.States.{counts_for, is_list, is_stuck_seat, management_at}
+use Rattle.sbp_initiator.specs.States.{counts_for, is_list}
+use Rattle.initiator_base.specs.Places.{management_at}
+use Rattle.sbp_session.specs.Seats.{is_stuck_seat}
 use Rattle.sbp_initiator.specs.Effects.{Turn, asked_quad, ask_quad, conflict_for, conflict_step, doorbell_ended, drop_list_step, drop_where, dropped_as, enable_ended, end_own_for, end_own_step, end_step, ended_for, ended_step, fail_step, fault_number, finish_rom, good_end, good_event, good_word, is_address, is_conflict, known_step, known_where, managed_step, management_ended, moved, moves_session, next_quad, pointed_step, pointer_ended, quad_got, reset_ended, response_of, rom_ended, state_ended, state_told, stick_step, told, with_dead, with_rom, with_unit}
 use Rattle.host_terms.specs.Fits.{AreRows}
 use Rattle.host_terms.specs.Steps.{is_beside}

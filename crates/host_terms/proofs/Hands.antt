@@ -18,7 +18,7 @@ use Rattle.sbp_target.specs.Nodes.{NodeState, scene}
 use Rattle.sbp_target.specs.Receiving.{received}
 use Rattle.sbp_target.specs.Replies.{Whole}
 use Rattle.sbp_world.specs.Delivering.{MayTell, faults_after, left_target, target_received, whole_of}
-use Rattle.sbp_world.specs.Generations.{node_of, topology_at}
+use Rattle.sbp_bus.specs.Generations.{node_of, topology_at}
 use Rattle.sbp_world.specs.Nodes.{target_sees, target_ticks}
 use Rattle.sbp_world.specs.Sending.{asked, posted, sent, sent_all, sent_to}
 use Rattle.sbp_world.specs.Telling.{holder, initiator_of, list_in, orb_in, ticket_of, told, told_all}

@@ -29,7 +29,7 @@ use Rattle.sbp_initiator.specs.declared.purpose.Ending.TheVariants as endings
 use Rattle.sbp_initiator.specs.declared.purpose.Purpose.{Purpose}
 use Rattle.sbp_initiator.specs.declared.purpose.Running.{Running}
 use Rattle.sbp_initiator.specs.declared.state.InitiatorState.{InitiatorState}
-use Rattle.sbp_initiator.specs.Lists.{stepped, take_lists, write_lists}
+use Rattle.orb_list.specs.Lists.{stepped, take_lists, write_lists}
 use Rattle.sbp_initiator.specs.States.{ending_of, is_present_orb, status_in}
 use Rattle.sbp_initiator.specs.Effects.{Turn, told, with_dead}
 use Rattle.sbp_initiator.specs.Receiving.{addressed, answer_of, block_at, block_by, block_step, called, expire_step, expired_as, fifo_of, got_step, ignored_step, is_dead_kind, is_foreign, managed_for, present_for, quadlet_at, read_as, receive_step, received, request_step, respond_step, responded_as, serve_step, status_step, taken_as, taken_by, written_as}
@@ -100,7 +100,7 @@ module _ (past : List Moment) where
   dead_listed b o s h = still_if past b o s (with_dead s) s refl refl refl refl refl refl h
 
   -- a status is taken
-  taken_cases : (kind : StatusKind) (block : StatusBlock) (p : Packet) (bytes : List ℕ) (o : OutboxState) (s : InitiatorState) (r : Result TicketParts ListFault × (SlotTable × Memory)) → table.status_step s.lists.slots s.lists.memory block ≡ r → kind ≡ block.kind → ((u : TicketParts) (answer : List ℕ) → r.0 ≡ Ok u → (taken_as (stepped r s.lists) kind p bytes o s).1.0.sides ≡ o.sides ++ sides.Own (notes.Taken s.number u.list u.number kind answer) ∷ [] → MayTake (behind o.sides past) s.number u block) → Listed past (o, s) → Listed past (taken_as (stepped r s.lists) kind p bytes o s).1
+  taken_cases : (kind : StatusKind) (block : StatusBlock) (p : Packet) (bytes : List ℕ) (o : OutboxState) (s : InitiatorState) (r : Result TicketParts ListFault × (SlotTable × Memory)) → table.status_step s.lists.slots s.lists.memory block ≡ r → kind ≡ block.kind → ((u : TicketParts) (answer : List ℕ) → r.0 ≡ Ok u → (taken_as (stepped r s.lists) kind p bytes o s).1.0.sides ≡ o.sides ++ sides.Own (notes.Taken s.number u.list u.number kind answer) ∷ [] → MayTake (behind o.sides past) block) → Listed past (o, s) → Listed past (taken_as (stepped r s.lists) kind p bytes o s).1
   taken_cases kind block p bytes o s (Err fault, parts) e k may h =
       ignored_listed causes.Slot 0 p bytes (o, record s { lists = (stepped (Err fault, parts) s.lists).1 }) (record { rows = same_rows; pin = same_pin; beside = h.beside })
     where
@@ -128,7 +128,7 @@ module _ (past : List Moment) where
         beside = tells_beside past s.number o note (λ j f. ap not f) h.beside;
       }))
 
-  taken_listed : (kind : StatusKind) (block : StatusBlock) (p : Packet) (bytes : List ℕ) (o : OutboxState) (s : InitiatorState) → kind ≡ block.kind → ((u : TicketParts) (answer : List ℕ) → (table.status_step s.lists.slots s.lists.memory block).0 ≡ Ok u → (taken_as (take_lists s.lists block) kind p bytes o s).1.0.sides ≡ o.sides ++ sides.Own (notes.Taken s.number u.list u.number kind answer) ∷ [] → MayTake (behind o.sides past) s.number u block) → Listed past (o, s) → Listed past (taken_as (take_lists s.lists block) kind p bytes o s).1
+  taken_listed : (kind : StatusKind) (block : StatusBlock) (p : Packet) (bytes : List ℕ) (o : OutboxState) (s : InitiatorState) → kind ≡ block.kind → ((u : TicketParts) (answer : List ℕ) → (table.status_step s.lists.slots s.lists.memory block).0 ≡ Ok u → (taken_as (take_lists s.lists block) kind p bytes o s).1.0.sides ≡ o.sides ++ sides.Own (notes.Taken s.number u.list u.number kind answer) ∷ [] → MayTake (behind o.sides past) block) → Listed past (o, s) → Listed past (taken_as (take_lists s.lists block) kind p bytes o s).1
   unfolding take_lists
   taken_listed kind block p bytes o s k may h = taken_cases kind block p bytes o s (table.status_step s.lists.slots s.lists.memory block) refl k may h
 
@@ -144,7 +144,7 @@ module _ (past : List Moment) where
       none : None ≡ Some running → ⊥
       none e = cc
 
-  block_cases : (kind : StatusKind) (block : StatusBlock) (p : Packet) (bytes : List ℕ) (o : OutboxState) (s : InitiatorState) → kind ≡ block.kind → ((u : TicketParts) (answer : List ℕ) → (table.status_step s.lists.slots s.lists.memory block).0 ≡ Ok u → (block_by kind block p bytes o s).1.0.sides ≡ o.sides ++ sides.Own (notes.Taken s.number u.list u.number kind answer) ∷ [] → MayTake (behind o.sides past) s.number u block) → Listed past (o, s) → Listed past (block_by kind block p bytes o s).1
+  block_cases : (kind : StatusKind) (block : StatusBlock) (p : Packet) (bytes : List ℕ) (o : OutboxState) (s : InitiatorState) → kind ≡ block.kind → ((u : TicketParts) (answer : List ℕ) → (table.status_step s.lists.slots s.lists.memory block).0 ≡ Ok u → (block_by kind block p bytes o s).1.0.sides ≡ o.sides ++ sides.Own (notes.Taken s.number u.list u.number kind answer) ∷ [] → MayTake (behind o.sides past) block) → Listed past (o, s) → Listed past (block_by kind block p bytes o s).1
   block_cases (kinds.Management status) block p bytes o s k may h =
       managed_cases (present_for block.orb s.operation) status p bytes o s (λ running e. present_is (is_present_orb block.orb s.operation) s.operation running e) h
   block_cases kinds.Good block p bytes o s k may h = taken_listed kinds.Good block p bytes o s k may h
@@ -154,7 +154,7 @@ module _ (past : List Moment) where
   block_cases (kinds.Illegal meaning) block p bytes o s k may h = taken_listed (kinds.Illegal meaning) block p bytes o s k may h
   block_cases kinds.Failed block p bytes o s k may h = taken_listed kinds.Failed block p bytes o s k may h
 
-  block_listed : (read : Result StatusBlock OrbFault) (p : Packet) (bytes : List ℕ) (o : OutboxState) (s : InitiatorState) → ((block : StatusBlock) (u : TicketParts) (answer : List ℕ) → read ≡ Ok block → (table.status_step s.lists.slots s.lists.memory block).0 ≡ Ok u → (block_step read p bytes o s).1.0.sides ≡ o.sides ++ sides.Own (notes.Taken s.number u.list u.number block.kind answer) ∷ [] → MayTake (behind o.sides past) s.number u block) → Listed past (o, s) → Listed past (block_step read p bytes o s).1
+  block_listed : (read : Result StatusBlock OrbFault) (p : Packet) (bytes : List ℕ) (o : OutboxState) (s : InitiatorState) → ((block : StatusBlock) (u : TicketParts) (answer : List ℕ) → read ≡ Ok block → (table.status_step s.lists.slots s.lists.memory block).0 ≡ Ok u → (block_step read p bytes o s).1.0.sides ≡ o.sides ++ sides.Own (notes.Taken s.number u.list u.number block.kind answer) ∷ [] → MayTake (behind o.sides past) block) → Listed past (o, s) → Listed past (block_step read p bytes o s).1
   block_listed (Err fault) p bytes o s may h = ignored_listed causes.Grammar 5 p bytes (o, s) h
   block_listed (Ok block) p bytes o s may h = block_cases block.kind block p bytes o s refl (λ u answer e f. may block u answer refl e f) h
 

@@ -15,7 +15,7 @@ use Rattle.sbp_initiator.specs.Initiators.{new_state}
 use Rattle.sbp_initiator.specs.Effects.{Turn}
 use Rattle.sbp_laws.specs.Turns.{event_of}
 use Rattle.sbp_target.specs.Nodes.{NodeState}
-use Rattle.sbp_world.specs.Generations.{node_of}
+use Rattle.sbp_bus.specs.Generations.{node_of}
 use Rattle.sbp_world.specs.Handing.{handed_out}
 use Rattle.sbp_world.specs.Sending.{asked, posted, sent, sent_all, sent_to}
 use Rattle.sbp_world.specs.Telling.{told, told_all}

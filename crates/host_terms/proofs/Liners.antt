@@ -10,12 +10,12 @@ use Rattle.initiator_laws.specs.Laws.{lets_expire, sees as laws_sees}
 use Rattle.sbp_target.specs.Nodes.{scene}
 use Rattle.sbp_target.specs.Nodes as target
 use Rattle.sbp_target.specs.Receiving.{expired}
-use Rattle.sbp_world.specs.declared.requests.Request.{Request}
-use Rattle.sbp_world.specs.Generations.{id_of}
+use Rattle.sbp_bus.specs.declared.requests.Request.{Request}
+use Rattle.sbp_bus.specs.Generations.{id_of}
 use Rattle.sbp_world.specs.Nodes.{see_line}
 use Rattle.sbp_world.specs.Packets.{expires as world_expires, initiator_expires, no_packet, refused, target_expired, target_left, timed_out, timeout_line, timeout_of}
 use Rattle.sbp_world.specs.Packets as packets
-use Rattle.sbp_world.specs.Requests.{find}
+use Rattle.sbp_bus.specs.Requests.{find}
 use Rattle.sbp_world.specs.Sending.{sent_all}
 use Rattle.sbp_world.specs.Telling.{told_all}
 use Rattle.host_terms.specs.Lines.{MaySee}
@@ -49,7 +49,7 @@ use Rattle.sbp_initiator.specs.Receiving.{receive_step}
 use Rattle.initiator_laws.specs.Laws.{Call, IsCall, acts as acts_call, receives as receives_call, done}
 use Rattle.initiator_laws.specs.Moves.{Move, Moves, Stage, staged, tells, sits, resets, relists, marks_as, works_at, reads_on, holds, learns, turns_to, counts_up, judges, answers, asks, fails, sends, expires, sees, stay, go_on}
 use Rattle.initiator_laws.proofs.Called.{call_moves}
-use Rattle.initiator_laws.proofs.Refused.{refusal_law}
+use Rattle.sbp_initiator.proofs.FirstRow.{refusal_law}
 use Rattle.sbp_target.specs.Nodes.{NodeState}
 use Rattle.sbp_world.specs.declared.parts.delivering.Arrival.{Arrival}
 use Rattle.sbp_world.specs.Delivering.{MayAt, MayReceive, MayTold, arrived, at_initiator, at_none, at_target, delivered, delivered_by, initiator_received, initiators_received, judged_note, listed, received_at, received_by, received_step, target_received}
@@ -317,8 +317,7 @@ module _ (past : List Moment) (node : ℕ) (w : WorldState) (n : NoneAborts (his
       (subst (λ k. Listed (said (notes.Seen k g) ∷ history w past) (see_step g id other empty_outbox old)) (ap suc host.number ∙ sym is)
       (sees_listed (history w past) g id other old
       (subst (λ k. (seeing_step old.layer g (id_of w.generations.latest k)).0 ≡ not (g == (wire_terms (history w past)).generation (suc old.number))) (sym is)
-      (subst (λ k. (seeing_step old.layer g (id_of w.generations.latest (suc i))).0 ≡ not (g == (wire_terms (history w past)).generation (suc k))) (sym host.number) m.later))
-      (subst (λ k. (seeing_step old.layer g (id_of w.generations.latest k)).0 ≡ false → old.lists.slots.pinned ≡ None) (sym is) m.unpinned)
+      (subst (λ k. (seeing_step old.layer g (id_of w.generations.latest (suc i))).0 ≡ not (g == (wire_terms (history w past)).generation (suc k))) (sym host.number) m))
       (host_listed (history w past) i old host))))
 
 -- ---- a second

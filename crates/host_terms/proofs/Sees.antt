@@ -18,7 +18,7 @@ use Rattle.sbp_journal.specs.declared.side.Side.TheVariants as sides
 use Rattle.sbp_initiator.specs.declared.purpose.Purpose.{Purpose}
 use Rattle.sbp_initiator.specs.declared.purpose.Running.{Running}
 use Rattle.sbp_initiator.specs.declared.state.InitiatorState.{InitiatorState}
-use Rattle.sbp_initiator.specs.Lists.{drop_lists, free_lists, with_slots}
+use Rattle.orb_list.specs.Lists.{drop_lists, free_lists, with_slots}
 use Rattle.sbp_initiator.specs.Effects.{dropped_as, told}
 use Rattle.sbp_initiator.specs.Seeing.{all_end, freed_step, interrupted, reset_step, reset_told, resets_told, see_step, seen_as, states_end}
 use Rattle.sbp_laws.specs.Terms.{lists, appends}
@@ -60,7 +60,9 @@ module _ (past : List Moment) (i : ℕ) (generation : ℕ) (new : (generation ==
     slots = all_vacant _ (cond (nat_eq (suc i) (suc i) && not (generation == (wire_terms past).generation (suc i))) new_slots (terms.slots past i)) refl
         (ap (λ b. cond (b && not (generation == (wire_terms past).generation (suc i))) new_slots (terms.slots past i)) (itself (suc i))
         ∙ ap (λ b. cond (not b) new_slots (terms.slots past i)) new);
-    pinned = ap (λ b. cond b None (terms.pinned_orb past i)) (itself i);
+    pinned =
+        ap (λ b. cond b (cond (generation == (wire_terms past).generation (suc i)) (terms.pinned_orb past i) None) (terms.pinned_orb past i)) (itself i)
+        ∙ ap (λ b. cond b (terms.pinned_orb past i) None) new;
     present_is = refl;
     begun = refl;
     appended = λ n. refl;
@@ -257,25 +259,21 @@ sees_new past generation target s new h =
     dropped_fits_any now i t o (interrupted s target) s.lists.slots.present (resets_beside now i s.operation s.states empty_outbox (λ j x e r. r)) refl refl refl h.rows.fits
     (subst (λ p. Seen i t p (behind o.sides now)) h.rows.fits.present told)
 
--- One that is not later, while no slot is pinned.
-module _ (past : List Moment) (i generation : ℕ) (s : SlotTable) (r : AreRows past i s) (none : s.pinned ≡ None) where
+-- One that is not later: what is pinned stays so.
+module _ (past : List Moment) (i generation : ℕ) (s : SlotTable) (r : AreRows past i s) where
   abbrev now : List Moment
   now = said (notes.Seen (suc i) generation) ∷ past
 
-  none_pinned : terms.pinned_orb past i ≡ None
-  none_pinned = r.fits.pinned ∙ ap name_in none
-
-  old_as : (b c : Bool) (f : Row → Row) → b ≡ true → c ≡ true → Frees (over_at (pin_terms b None (terms_at past i))) f → Rows (pin_terms b None (terms_at past i)) (map f (cond (c && not true) new_slots (terms.slots past i))) s
-  old_as true true f d e h =
-      rests (pin_terms true None (terms_at past i)) s (terms.slots past i) f h
-      (subst (λ p. Rows (record (terms_at past i) { pinned = p }) (terms.slots past i) s) none_pinned r)
-  old_as true false f d e h = cc
-  old_as false c f d e h = cc
+  old_as : (b c : Bool) (f : Row → Row) → Frees (over_at (pin_terms b (terms.pinned_orb past i) (terms_at past i))) f → Rows (pin_terms b (terms.pinned_orb past i) (terms_at past i)) (map f (cond (c && not true) new_slots (terms.slots past i))) s
+  old_as true true f h = rests (terms_at past i) s (terms.slots past i) f h r
+  old_as true false f h = rests (terms_at past i) s (terms.slots past i) f h r
+  old_as false true f h = rests (terms_at past i) s (terms.slots past i) f h r
+  old_as false false f h = rests (terms_at past i) s (terms.slots past i) f h r
 
   pub sees_old : (generation == (wire_terms past).generation (suc i)) ≡ true → AreRows now i s
   sees_old same =
-      subst (λ d. Rows (pin_terms (nat_eq i i) None (terms_at past i)) (map (terms.freed now i) (cond (nat_eq (suc i) (suc i) && not d) new_slots (terms.slots past i))) s) (sym same)
-      (old_as (nat_eq i i) (nat_eq (suc i) (suc i)) (terms.freed now i) (itself i) (itself (suc i)) (frees now i))
+      subst (λ d. Frees (over_at (pin_terms (nat_eq i i) (cond d (terms.pinned_orb past i) None) (terms_at past i))) (terms.freed now i) → Rows (pin_terms (nat_eq i i) (cond d (terms.pinned_orb past i) None) (terms_at past i)) (map (terms.freed now i) (cond (nat_eq (suc i) (suc i) && not d) new_slots (terms.slots past i))) s) (sym same)
+      (λ h. old_as (nat_eq i i) (nat_eq (suc i) (suc i)) (terms.freed now i) h) (frees now i)
 
 turned : (a b : Bool) → a ≡ not b → b ≡ not a
 turned true true e = cc
@@ -283,15 +281,15 @@ turned true false e = refl
 turned false true e = refl
 turned false false e = cc
 
-sees_as : (past : List Moment) (generation target : ℕ) (s : InitiatorState) (r : Bool × Layer Purpose) → r.0 ≡ not (generation == (wire_terms past).generation (suc s.number)) → (r.0 ≡ false → s.lists.slots.pinned ≡ None) → Listed past (empty_outbox, s) → Listed (said (notes.Seen (suc s.number) generation) ∷ past) (seen_as r target empty_outbox s)
-sees_as past generation target s (true, layer) e n h =
+sees_as : (past : List Moment) (generation target : ℕ) (s : InitiatorState) (r : Bool × Layer Purpose) → r.0 ≡ not (generation == (wire_terms past).generation (suc s.number)) → Listed past (empty_outbox, s) → Listed (said (notes.Seen (suc s.number) generation) ∷ past) (seen_as r target empty_outbox s)
+sees_as past generation target s (true, layer) e h =
     sees_new past generation target (record s { layer = layer }) (turned true (generation == (wire_terms past).generation (suc s.number)) e) (record { rows = h.rows; pin = h.pin; beside = h.beside })
-sees_as past generation target s (false, layer) e n h = record {
-  rows = sees_old past s.number generation s.lists.slots h.rows (n refl) (turned false (generation == (wire_terms past).generation (suc s.number)) e);
+sees_as past generation target s (false, layer) e h = record {
+  rows = sees_old past s.number generation s.lists.slots h.rows (turned false (generation == (wire_terms past).generation (suc s.number)) e);
   pin = h.pin;
   beside = λ j x e r. r;
 }
 
-pub sees_listed : (past : List Moment) (generation id target : ℕ) (s : InitiatorState) → (seeing_step s.layer generation id).0 ≡ not (generation == (wire_terms past).generation (suc s.number)) → ((seeing_step s.layer generation id).0 ≡ false → s.lists.slots.pinned ≡ None) → Listed past (empty_outbox, s) → Listed (said (notes.Seen (suc s.number) generation) ∷ past) (see_step generation id target empty_outbox s)
+pub sees_listed : (past : List Moment) (generation id target : ℕ) (s : InitiatorState) → (seeing_step s.layer generation id).0 ≡ not (generation == (wire_terms past).generation (suc s.number)) → Listed past (empty_outbox, s) → Listed (said (notes.Seen (suc s.number) generation) ∷ past) (see_step generation id target empty_outbox s)
 unfolding see_step
-sees_listed past generation id target s e n h = sees_as past generation target s (seeing_step s.layer generation id) e n h
+sees_listed past generation id target s e h = sees_as past generation target s (seeing_step s.layer generation id) e h

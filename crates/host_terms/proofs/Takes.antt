@@ -19,11 +19,11 @@ use Rattle.host_terms.proofs.Over.{one_ticket, last_at, slot_is, here}
 use Rattle.host_terms.proofs.Sweeps.{closes}
 use Rattle.host_terms.proofs.Prepares.{itself}
 
--- the terms behind a status that was taken
-abbrev pub taken_terms : Bool → (n k : ℕ) → TakenStatus → ListTerms → ListTerms
-taken_terms own n k x t = record t {
+-- the terms behind a status that was taken; its ORB, or an earlier one, is the highest, counted from 1
+abbrev pub taken_terms : Bool → (n k : ℕ) → TakenStatus → (highest : ℕ) → ListTerms → ListTerms
+taken_terms own n k x highest t = record t {
   taken = λ m l. cond own (cond (nat_eq m n) (cond (nat_eq l k) (Some x) (t.taken m l)) (t.taken m l)) (t.taken m l);
-  passed = λ m. cond own (cond (nat_eq m n) (suc k) (t.passed m)) (t.passed m);
+  passed = λ m. cond own (cond (nat_eq m n) highest (t.passed m)) (t.passed m);
 }
 
 -- what the status makes of its ORB's slot
@@ -52,8 +52,11 @@ waits_state slot u e = by_state slot.state slot.last e
     by_state states.Resting last e = cc
 
 module _ (t : ListTerms) (s : SlotTable) (list : PresentList) (f : Fits t (record s { present = Some list })) (u : TicketParts) (small : u.slot < 32) (w : waiting (slot_in s.slots u.slot) ≡ Some u) (x : TakenStatus) where
+  abbrev highest : ℕ
+  highest = max (t.passed u.list) (suc u.number)
+
   abbrev now : ListTerms
-  now = taken_terms true u.list u.number x t
+  now = taken_terms true u.list u.number x highest t
 
   at : (slot_in s.slots u.slot).last ≡ Some u
   at = waits_last (slot_in s.slots u.slot) u w
@@ -177,8 +180,8 @@ module _ (t : ListTerms) (s : SlotTable) (list : PresentList) (f : Fits t (recor
               let j : k ≡ u.number = sym v.numbered ∙ ap (λ (y : TicketParts). y.number) i in
               absurd (grind (arith, nat_tests))
 
-  taken_fits : list.passed ≤ u.number → Fits now (taken_table s list u x)
-  taken_fits order = record {
+  taken_fits : Fits now (taken_table s list u x)
+  taken_fits = record {
     size = length-set s.slots u.slot _ ∙ f.size;
     present = f.present;
     begun = f.begun;
@@ -194,23 +197,24 @@ module _ (t : ListTerms) (s : SlotTable) (list : PresentList) (f : Fits t (recor
       appended = f.list.appended;
       linked = f.list.linked;
       lowered = f.list.lowered;
-      passed = passed_now order;
+      passed = passed_now;
       waits = waits_taken;
     };
     to_come = record {
       appended = f.to_come.appended;
       linked = f.to_come.linked;
       lowered = f.to_come.lowered;
-      passed = λ n b. let g = u_fits.list in let e : nat_eq n u.list ≡ false = grind (arith, nat_tests) in ap (λ c. cond c (suc u.number) (t.passed n)) e ∙ f.to_come.passed n b;
+      passed = λ n b. let g = u_fits.list in let e : nat_eq n u.list ≡ false = grind (arith, nat_tests) in ap (λ c. cond c highest (t.passed n)) e ∙ f.to_come.passed n b;
       taken = λ n k b. taken_other n k (not_yet n k b) ∙ f.to_come.taken n k b;
     };
   }
     where
-      passed_now : list.passed ≤ u.number → cond (nat_eq list.tail.list u.list) (suc u.number) (t.passed list.tail.list) - 1 ≡ max list.passed u.number
-      passed_now order =
+      passed_now : cond (nat_eq list.tail.list u.list) highest (t.passed list.tail.list) - 1 ≡ max list.passed u.number
+      passed_now =
           let same : list.tail.list ≡ u.list = u_state.0 in
           let e : nat_eq list.tail.list u.list ≡ true = grind (arith, nat_tests) in
-          ap (λ c. cond c (suc u.number) (t.passed list.tail.list) - 1) e ∙ omega arith
+          let before : t.passed u.list - 1 ≡ list.passed = ap (λ n. t.passed n - 1) (sym same) ∙ f.list.passed in
+          ap (λ c. cond c highest (t.passed list.tail.list) - 1) e ∙ omega arith
 
       not_yet : (n k : ℕ) → t.appended n ≤ k → (nat_eq n u.list && nat_eq k u.number) ≡ false
       not_yet n k b = by_tests (nat_eq n u.list && nat_eq k u.number) refl
@@ -286,8 +290,11 @@ module _ (t : ListTerms) (s : SlotTable) (list : PresentList) (f : Fits t (recor
       rows_bad s.slots u.slot (omega arith) refl
       (λ k c d. rest_by (slot_in s.slots k).state (slot_in s.slots k).last (λ v l. other_name k v (omega arith) d l)) r
 
-module _ (t : ListTerms) (rows : List Row) (s : SlotTable) (list : PresentList) (r : Rows t rows (record s { present = Some list })) (u : TicketParts) (small : u.slot < 32) (w : waiting (slot_in s.slots u.slot) ≡ Some u) (x : TakenStatus) (order : list.passed ≤ u.number) where
-  pub taken_rows : (g : Row → Row) → Frees (over_at (taken_terms true u.list u.number x t)) g → Rows (taken_terms true u.list u.number x t) (map g (rows_taken true u.list u.number x.status rows)) (table.swept (taken_table s list u x))
+module _ (t : ListTerms) (rows : List Row) (s : SlotTable) (list : PresentList) (r : Rows t rows (record s { present = Some list })) (u : TicketParts) (small : u.slot < 32) (w : waiting (slot_in s.slots u.slot) ≡ Some u) (x : TakenStatus) where
+  abbrev later : ListTerms
+  later = taken_terms true u.list u.number x (max (t.passed u.list) (suc u.number)) t
+
+  pub taken_rows : (g : Row → Row) → Frees (over_at later) g → Rows later (map g (rows_taken true u.list u.number x.status rows)) (table.swept (taken_table s list u x))
   taken_rows g h =
-      closes (taken_terms true u.list u.number x t) (taken_table s list u x) (rows_taken true u.list u.number x.status rows) g (taken_fits t s list r.fits u small w x order)
+      closes later (taken_table s list u x) (rows_taken true u.list u.number x.status rows) g (taken_fits t s list r.fits u small w x)
       (ap (rows_taken true u.list u.number x.status) r.rows_are ∙ rows_now t s list r.fits u small w x ((row_of x.status).resp == 0) refl) h

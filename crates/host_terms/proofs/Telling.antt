@@ -23,7 +23,8 @@ use Rattle.sbp_journal.specs.declared.side.Side.TheVariants as sides
 use Rattle.sbp_initiator.specs.declared.purpose.Demand.{Demand}
 use Rattle.sbp_initiator.specs.declared.purpose.Purpose.{Purpose}
 use Rattle.sbp_initiator.specs.declared.state.InitiatorState.{InitiatorState}
-use Rattle.sbp_initiator.specs.Lists.{asked_by, high_lists, low_lists, prepared_as, put_lists, stepped}
+use Rattle.orb_list.specs.Lists.{high_lists, low_lists, stepped}
+use Rattle.sbp_initiator.specs.Commands.{asked_by, prepared_as, put_lists}
 use Rattle.sbp_initiator.specs.Refusals.{refusal, rows_of}
 use Rattle.sbp_initiator.specs.States.{no_marks}
 use Rattle.sbp_initiator.specs.Effects.{Turn, told}

@@ -108,7 +108,7 @@ module _ (past : List Moment) (i : ℕ) (s : SlotTable) (r : AreRows past i s) w
 
   -- ---- a status
 
-  taken_note : (present : Option PresentList) (u : TicketParts) (number : ℕ) (m : Memory) (block : StatusBlock) (answer : List ℕ) → s.present ≡ present → waiting (slot_in s.slots number) ≡ Some u → MayTake past i u block → AreRows (said (notes.Taken i u.list u.number block.kind answer) ∷ past) i (table.swept (table.with_status (with_present s present) number u block))
+  taken_note : (present : Option PresentList) (u : TicketParts) (number : ℕ) (m : Memory) (block : StatusBlock) (answer : List ℕ) → s.present ≡ present → waiting (slot_in s.slots number) ≡ Some u → MayTake past block → AreRows (said (notes.Taken i u.list u.number block.kind answer) ∷ past) i (table.swept (table.with_status (with_present s present) number u block))
   taken_note None u number m block answer n w may =
       let small = past_slots s.slots number u r.fits.size w in
       absurd (waits_none (slot_in s.slots number).state (slot_in s.slots number).last w (subst (λ p. StateFits p (terms_at past i).taken (slot_in s.slots number).state (slot_in s.slots number).last) n (r.fits.states number small)))
@@ -121,15 +121,18 @@ module _ (past : List Moment) (i : ℕ) (s : SlotTable) (r : AreRows past i s) w
       waits_none states.Resting last e f = cc
   taken_note (Some list) u number m block answer n w may =
       subst (λ k. AreRows now i (table.swept (table.with_status (with_present s (Some list)) k u block))) at_slot
-      (subst (λ b. Frees (over_at (taken_terms b u.list u.number status (terms_at past i))) (terms.freed now i) → Rows (taken_terms b u.list u.number status (terms_at past i)) (map (terms.freed now i) (rows_taken b u.list u.number block.kind (terms.slots past i))) (table.swept (table.with_status (with_present s (Some list)) u.slot u block))) (sym (itself i))
-      (λ h. subst (λ c. Rows (taken_terms true u.list u.number status (terms_at past i)) (map (terms.freed now i) (rows_taken true u.list u.number block.kind (terms.slots past i))) (table.swept (with_src c))) (ap (λ x. x == 0) may.src)
-      (taken_rows (terms_at past i) (terms.slots past i) s list old u small here status order (terms.freed now i) h)) (frees now i))
+      (subst (λ b. Frees (over_at (taken_terms b u.list u.number status highest (terms_at past i))) (terms.freed now i) → Rows (taken_terms b u.list u.number status highest (terms_at past i)) (map (terms.freed now i) (rows_taken b u.list u.number block.kind (terms.slots past i))) (table.swept (table.with_status (with_present s (Some list)) u.slot u block))) (sym (itself i))
+      (λ h. subst (λ c. Rows (taken_terms true u.list u.number status highest (terms_at past i)) (map (terms.freed now i) (rows_taken true u.list u.number block.kind (terms.slots past i))) (table.swept (with_src c))) (ap (λ x. x == 0) may)
+      (taken_rows (terms_at past i) (terms.slots past i) s list old u small here status (terms.freed now i) h)) (frees now i))
     where
       now : List Moment
       now = said (notes.Taken i u.list u.number block.kind answer) ∷ past
 
       status : TakenStatus
       status = record { status = block.kind; src = src_in (access_at (wire_terms past) (last_got past)) }
+
+      highest : ℕ
+      highest = max (terms.passed past i u.list) (suc u.number)
 
       old : AreRows past i (with_present s (Some list))
       old = subst (λ p. AreRows past i (with_present s p)) n r
@@ -149,22 +152,6 @@ module _ (past : List Moment) (i : ℕ) (s : SlotTable) (r : AreRows past i s) w
       here : waiting (slot_in s.slots u.slot) ≡ Some u
       here = ap (λ k. waiting (slot_in s.slots k)) at_slot ∙ w
 
-      of_list : list.tail.list ≡ u.list
-      of_list = waits_of (slot_in s.slots u.slot).state (slot_in s.slots u.slot).last here (old.fits.states u.slot small)
-        where
-          waits_of : (state : SlotState) (last : Option TicketParts) → table.waits_in state last ≡ Some u → StateFits (Some list) (terms_at past i).taken state last → list.tail.list ≡ u.list
-          waits_of states.Free last e f = cc
-          waits_of states.Waiting None e f = absurd f
-          waits_of states.Waiting (Some v) e f = let g : v ≡ u = cc in f.0 ∙ ap (λ (x : TicketParts). x.list) g
-          waits_of (states.Taken had_next) last e f = cc
-          waits_of states.Resting last e f = cc
-
-      order : list.passed ≤ u.number
-      order =
-          let a = old.fits.list.passed in
-          let b : terms.passed past i list.tail.list ≤ suc u.number = subst (λ x. terms.passed past i x ≤ suc u.number) (sym of_list) may.order in
-          omega arith
-
       with_src : Bool → SlotTable
       with_src c = record (with_present s (Some list)) {
         slots = slice_set s.slots u.slot (record (slot_in s.slots u.slot) { state = cond ((row_of block.kind).resp == 0) (states.Taken c) states.Resting });
@@ -172,7 +159,7 @@ module _ (past : List Moment) (i : ℕ) (s : SlotTable) (r : AreRows past i s) w
         calls = s.calls + 1;
       }
 
-  pub taken_told : (u : TicketParts) (m : Memory) (block : StatusBlock) (answer : List ℕ) → (table.status_step s m block).0 ≡ Ok u → MayTake past i u block → AreRows (said (notes.Taken i u.list u.number block.kind answer) ∷ past) i (table.status_step s m block).1.0
+  pub taken_told : (u : TicketParts) (m : Memory) (block : StatusBlock) (answer : List ℕ) → (table.status_step s m block).0 ≡ Ok u → MayTake past block → AreRows (said (notes.Taken i u.list u.number block.kind answer) ∷ past) i (table.status_step s m block).1.0
   unfolding table.status_step
   taken_told u m block answer e may = by_slot (slot_of block.orb) e
     where

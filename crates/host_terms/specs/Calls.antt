@@ -84,7 +84,7 @@ Left _ past o s t = Listed past t
 -- Where a call took the status in a block, it may be taken as the run stands.
 abbrev pub MayBlock : List Moment → List ℕ → OutboxState → InitiatorState → Turn → Type 0
 MayBlock past payload o s left =
-    (block : StatusBlock) (u : TicketParts) (answer : List ℕ) → status_in payload ≡ Ok block → (table.status_step s.lists.slots s.lists.memory block).0 ≡ Ok u → left.0.sides ≡ o.sides ++ sides.Own (notes.Taken s.number u.list u.number block.kind answer) ∷ [] → MayTake (behind o.sides past) s.number u block
+    (block : StatusBlock) (u : TicketParts) (answer : List ℕ) → status_in payload ≡ Ok block → (table.status_step s.lists.slots s.lists.memory block).0 ≡ Ok u → left.0.sides ≡ o.sides ++ sides.Own (notes.Taken s.number u.list u.number block.kind answer) ∷ [] → MayTake (behind o.sides past) block
 
 -- the block that a packet brings
 abbrev pub MayPacket : List Moment → Packet → OutboxState → InitiatorState → Turn → Type 0
@@ -102,4 +102,4 @@ pub record CallLaw : Type 0 where
   pub acts : (past : List Moment) (action : Action) (o : OutboxState) (s : InitiatorState) → (act_step action o s).0 ≡ None → Listed past (o, s) → Left action past o s (act_step action o s).1
   pub receives : (past : List Moment) (generation : ℕ) (bytes : List ℕ) (o : OutboxState) (s : InitiatorState) → MayFind past (judging_step s.layer generation bytes).0 o s (receive_step generation bytes o s).1 → Listed past (o, s) → Listed past (receive_step generation bytes o s).1
   pub expires : (past : List Moment) (label : LabelParts) (o : OutboxState) (s : InitiatorState) → Listed past (o, s) → Listed past (expire_step label o s).1
-  pub sees : (past : List Moment) (generation id target : ℕ) (s : InitiatorState) → (seeing_step s.layer generation id).0 ≡ not (generation == (wire_terms past).generation (suc s.number)) → ((seeing_step s.layer generation id).0 ≡ false → s.lists.slots.pinned ≡ None) → Listed past (empty_outbox, s) → Listed (said (notes.Seen (suc s.number) generation) ∷ past) (see_step generation id target empty_outbox s)
+  pub sees : (past : List Moment) (generation id target : ℕ) (s : InitiatorState) → (seeing_step s.layer generation id).0 ≡ not (generation == (wire_terms past).generation (suc s.number)) → Listed past (empty_outbox, s) → Listed (said (notes.Seen (suc s.number) generation) ∷ past) (see_step generation id target empty_outbox s)

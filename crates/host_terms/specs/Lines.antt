@@ -1,6 +1,6 @@
 -- What single steps of a world do to the lists of its initiators, by the history of its run: a delivery, a time-out, a sight, a second, and an
 -- action that is no abort. Of a delivery it is asked that a status that is taken may be; of a sight, that the initiator is in the generation
--- that the history tells, and that one that is not later finds no slot pinned.
+-- that the history tells.
 use Rattle.std.specs.Prelude.{◌≡◌, ◌<◌, ℕ, ◌-◌, ◌==◌, Bool, true, false, List, ◌∷◌, length, Option, Some, None, suc, not}
 use Rattle.label_table.specs.Layer.{judging_step, seeing_step}
 use Rattle.packet_store.specs.declared.sent.Sent.{Sent}
@@ -14,7 +14,7 @@ use Rattle.sbp_journal.specs.declared.event.Action.TheVariants as actions
 use Rattle.sbp_initiator.specs.Acting.{IsAction}
 use Rattle.sbp_initiator.specs.Receiving.{receive_step}
 use Rattle.sbp_world.specs.Delivering.{MayReceive, delivered, judged_note}
-use Rattle.sbp_world.specs.Generations.{id_of}
+use Rattle.sbp_bus.specs.Generations.{id_of}
 use Rattle.sbp_world.specs.Lines.{acted}
 use Rattle.sbp_world.specs.Packets.{timeout_line}
 use Rattle.sbp_world.specs.Nodes.{see_line, tick_line}
@@ -37,10 +37,10 @@ abbrev pub is_abort : Action → Bool
 is_abort (actions.Abort k) = true
 is_abort _ = false
 
--- An initiator is in the generation that the history tells, and sees a later one, or no slot of it is pinned.
-pub record MaySee (past : List Moment) (i : ℕ) (w : WorldState) : Type 0 where
-  pub later : (seeing_step (initiator_at w i).layer w.generations.latest.generation (id_of w.generations.latest (suc i))).0 ≡ not (w.generations.latest.generation == (wire_terms (history w past)).generation (suc i))
-  pub unpinned : (seeing_step (initiator_at w i).layer w.generations.latest.generation (id_of w.generations.latest (suc i))).0 ≡ false → (initiator_at w i).lists.slots.pinned ≡ None
+-- An initiator is in the generation that the history tells: it sees another one as a later one.
+abbrev pub MaySee : List Moment → ℕ → WorldState → Type 0
+MaySee past i w =
+    (seeing_step (initiator_at w i).layer w.generations.latest.generation (id_of w.generations.latest (suc i))).0 ≡ not (w.generations.latest.generation == (wire_terms (history w past)).generation (suc i))
 
 pub record LineLaw : Type 0 where
   pub delivers : (past : List Moment) (serial : ℕ) (again : Bool) (told : Option Told) (s : Scene) → MayReceive told serial s → NoneAborts (history s.world past) → MayDeliver past serial (found_sent serial s.world.store.kept) s.world → AreHosts past s.world → AreHosts past (delivered serial again told s).world

@@ -1,6 +1,6 @@
 -- What each step of an initiator's slots and the note that tells it keep (NCITS 325-1998, ORBs in the memory of the initiator): the run terms
 -- of the initiator are those of its slots before and behind it.
-use Rattle.std.specs.Prelude.{◌≡◌, ℕ, suc, ◌≤◌, ◌==◌, not, Bool, true, false, List, [], ◌∷◌, Option, Some, None, Ok}
+use Rattle.std.specs.Prelude.{◌≡◌, ℕ, suc, ◌==◌, not, Bool, true, false, List, [], ◌∷◌, Option, Some, None, Ok}
 use Rattle.bus_memory.specs.Memory.{Memory}
 use Rattle.orb_layout.specs.declared.status.StatusBlock.{StatusBlock}
 use Rattle.orb_list.specs.declared.list.Linking.{Linking}
@@ -19,7 +19,7 @@ use Rattle.sbp_journal.specs.declared.note.Note.TheVariants as notes
 use Rattle.sbp_journal.specs.declared.note.NoteBuffer.{NoteBuffer}
 use Rattle.sbp_laws.specs.Turns.{event_of}
 use Rattle.sbp_laws.specs.Packets.{access_at}
-use Rattle.sbp_laws.specs.Lists.{passed, last_got, src_in}
+use Rattle.sbp_laws.specs.Lists.{last_got, src_in}
 use Rattle.host_terms.specs.Fits.{AreRows}
 
 -- A note says nothing of the slots of an initiator: it is none of its lists and abort, of a packet that it sends, or of a generation that
@@ -40,10 +40,9 @@ abbrev pub IsNoAbort : ℕ → Option Event → Type 0
 IsNoAbort i (Some (events.Act j (actions.Abort k))) = (i == j) ≡ false
 IsNoAbort i _ = Unit {0}
 
--- What is asked of a status that is taken: its src is that in the packet that was got last, and no status of a later ORB of its list was taken.
-pub record MayTake (past : List Moment) (i : ℕ) (u : TicketParts) (block : StatusBlock) : Type 0 where
-  pub src : src_in (access_at (wire_terms past) (last_got past)) ≡ block.src
-  pub order : passed past i u.list ≤ suc u.number
+-- What is asked of a status that is taken: its src is that in the packet that was got last.
+abbrev pub MayTake : List Moment → StatusBlock → Type 0
+MayTake past block = src_in (access_at (wire_terms past) (last_got past)) ≡ block.src
 
 pub record StepLaw : Type 0 where
   pub begins : (line i initiators : ℕ) (ready : Bool) → AreRows (said (notes.Begin initiators ready) ∷ asked line (events.Begin initiators ready) ∷ []) i new_table
@@ -52,7 +51,7 @@ pub record StepLaw : Type 0 where
   pub append : (past : List Moment) (i : ℕ) (cdb : List ℕ) (buffer : NoteBuffer) (s : SlotTable) (slot login : ℕ) → AreRows past i s → may_prepare s ≡ Ok slot → AreRows (said (notes.Append i (next_ticket s slot login).list (next_ticket s slot login).number cdb buffer) ∷ past) i (added s (next_ticket s slot login))
   pub low : (past : List Moment) (i : ℕ) (s : SlotTable) → AreRows past i s → (linking : Linking) (m : Memory) → waits_low s.present ≡ Some linking → AreRows (said (notes.Low i linking.tail.list linking.tail.number) ∷ past) i (table.low_step s m).1.0
   pub high : (past : List Moment) (i : ℕ) (s : SlotTable) → AreRows past i s → (linking : Linking) (m : Memory) → waits_high s.present ≡ Some linking → AreRows (said (notes.Linked i linking.tail.list linking.tail.number) ∷ past) i (table.high_step s m).1.0
-  pub taken : (past : List Moment) (i : ℕ) (s : SlotTable) → AreRows past i s → (u : TicketParts) (m : Memory) (block : StatusBlock) (answer : List ℕ) → (table.status_step s m block).0 ≡ Ok u → MayTake past i u block → AreRows (said (notes.Taken i u.list u.number block.kind answer) ∷ past) i (table.status_step s m block).1.0
+  pub taken : (past : List Moment) (i : ℕ) (s : SlotTable) → AreRows past i s → (u : TicketParts) (m : Memory) (block : StatusBlock) (answer : List ℕ) → (table.status_step s m block).0 ≡ Ok u → MayTake past block → AreRows (said (notes.Taken i u.list u.number block.kind answer) ∷ past) i (table.status_step s m block).1.0
   pub dropped : (past : List Moment) (i : ℕ) (s : SlotTable) → AreRows past i s → (n : ℕ) → (table.drop_step s).0 ≡ Some n → AreRows (said (notes.Drop i n) ∷ past) i (table.drop_step s).1
   pub sent : (past : List Moment) (i : ℕ) (s : SlotTable) → AreRows past i s → (serial generation from to : ℕ) (bytes : List ℕ) → IsNoAbort i (event_of past) → AreRows (said (notes.Sent serial generation from to bytes) ∷ past) i s
   pub pinned : (past : List Moment) (i : ℕ) (s : SlotTable) → AreRows past i s → (serial generation to : ℕ) (bytes : List ℕ) (u : TicketParts) → event_of past ≡ Some (events.Act i (actions.Abort u.number)) → s.pinned ≡ None → table.find_in s.slots u.number ≡ Some u → AreRows (said (notes.Sent serial generation (suc i) to bytes) ∷ past) i (table.pin_step s u).1

@@ -24,7 +24,8 @@ use Rattle.sbp_initiator.specs.declared.purpose.Demand.{Demand}
 use Rattle.sbp_initiator.specs.declared.purpose.Pointing.TheVariants as pointings
 use Rattle.sbp_initiator.specs.declared.state.InitiatorState.{InitiatorState}
 use Rattle.sbp_initiator.specs.Refusals.{refusal}
-use Rattle.sbp_initiator.specs.Lists.{IsCommand, ListState, asked_by, with_parts, plan_of, prepared_as, put_lists, low_lists, high_lists, dummy_lists, pin_lists}
+use Rattle.orb_list.specs.Lists.{ListState, with_parts, low_lists, high_lists, dummy_lists, pin_lists}
+use Rattle.sbp_initiator.specs.Commands.{IsCommand, asked_by, plan_of, prepared_as, put_lists}
 use Rattle.sbp_initiator.specs.States.{is_unwritten, last_linked, no_marks, place_of, wanted_body}
 use Rattle.sbp_initiator.specs.Effects.{told, with_request}
 use Rattle.sbp_initiator.specs.Acting.{IsAction, facts_with, demand_of, asked_for, login_id, login_orb, orb_by, begun, managed_by, with_sent, with_login, with_running, pinned_for, with_first, put_as, put_step, low_as, low_step, link_as, link_step, with_ring, ring_for, ring_step, append_step, dummy_for, manage_start, register_start, done_step, counted, asked_as, demanded_as, judged_as, act_step}

@@ -34,11 +34,13 @@ use Rattle.sbp_initiator.specs.declared.state.InitiatorState.{InitiatorState}
 use Rattle.sbp_initiator.specs.declared.purpose.ListMarks.{ListMarks}
 use Rattle.sbp_initiator.specs.declared.state.Counts.{Counts}
 use Rattle.sbp_initiator.specs.Refusals.{ActionFacts, ends_list, is_list_step, lacks_orb, operation_of, prepares, refusal, rows_of}
-use Rattle.sbp_initiator.specs.Lists.{ListState, asked_by, dummy_lists, high_lists, low_lists, manage_lists, pin_lists, prepared_as, put_lists, stepped}
+use Rattle.orb_list.specs.Lists.{ListState, dummy_lists, high_lists, low_lists, manage_lists, pin_lists, stepped}
+use Rattle.sbp_initiator.specs.Commands.{asked_by, prepared_as, put_lists}
 use Rattle.sbp_initiator.specs.States.{is_unwritten, last_linked, no_marks, operation_in, place_of}
 use Rattle.sbp_initiator.specs.Effects.{Turn, told}
 use Rattle.sbp_initiator.specs.Acting.{demand_of, facts_with, dummy_for, done_step, link_as, link_step, login_id, login_orb, low_as, low_step, manage_start, managed_by, orb_by, pinned_for, put_as, put_step, register_start, ring_demand, ring_for, ring_step, append_step, with_running}
-use Rattle.initiator_laws.specs.Begins.{is_step, AreSteps, begun_as, after_by, IsFree}
+use Rattle.initiator_laws.specs.Begins.{AreSteps, begun_as, after_by, IsFree}
+use Rattle.sbp_initiator.specs.Steps.{is_step}
 use Rattle.initiator_laws.specs.Ends.{own, is_managed}
 use Rattle.initiator_laws.specs.Numbers.{is_numbered}
 use Rattle.initiator_laws.specs.Served.{with_orb}

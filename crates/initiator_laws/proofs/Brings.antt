@@ -29,7 +29,7 @@ use Rattle.sbp_initiator.specs.declared.purpose.Purpose.TheVariants as purposes
 use Rattle.sbp_initiator.specs.declared.purpose.Running.{Running}
 use Rattle.sbp_initiator.specs.declared.state.InitiatorState.{InitiatorState}
 use Rattle.sbp_initiator.specs.Refusals.{ends_list}
-use Rattle.sbp_initiator.specs.Lists.{ListState, take_lists, write_lists}
+use Rattle.orb_list.specs.Lists.{ListState, take_lists, write_lists}
 use Rattle.sbp_initiator.specs.States.{ending_of, is_orb_of, status_in}
 use Rattle.sbp_initiator.specs.Effects.{Turn, ended_for, managed_step, told, with_dead}
 use Rattle.sbp_initiator.specs.Receiving.{address_error, addressed, block_at, block_by, block_step, called, expire_step, expired_as, fifo_of, got_step, ignored_step, is_dead_kind, is_foreign, managed_for, present_for, quadlet_at, read_as as served_as, receive_step, received, request_step, respond_step, taken_as, written_as}

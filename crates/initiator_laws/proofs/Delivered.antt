@@ -25,7 +25,7 @@ use Rattle.sbp_initiator.specs.declared.purpose.Purpose.{Purpose}
 use Rattle.sbp_initiator.specs.declared.purpose.Ending.TheVariants as endings
 use Rattle.sbp_initiator.specs.declared.purpose.Running.{Running}
 use Rattle.sbp_initiator.specs.declared.state.InitiatorState.{InitiatorState}
-use Rattle.sbp_initiator.specs.Lists.{ListState, free_lists, take_lists, write_lists}
+use Rattle.orb_list.specs.Lists.{ListState, free_lists, take_lists, write_lists}
 use Rattle.sbp_initiator.specs.States.{ending_of, no_marks, status_in}
 use Rattle.sbp_initiator.specs.Effects.{Turn, told, with_dead, drop_list_step, managed_step}
 use Rattle.sbp_initiator.specs.Receiving.{called, type_error, address_error, data_error, responded_as, respond_step, ignored_step, got_step, answer_of, is_dead_kind, taken_by, taken_as, managed_for, present_for, block_by, block_step, status_step, read_as, written_as, serve_step, is_foreign, block_at, quadlet_at, fifo_of, addressed, received, receive_step, expired_as, expire_step}

@@ -36,11 +36,12 @@ use Rattle.sbp_initiator.specs.declared.purpose.Pointing.TheVariants as pointing
 use Rattle.sbp_initiator.specs.declared.purpose.Purpose.{Purpose}
 use Rattle.sbp_initiator.specs.declared.state.InitiatorState.{InitiatorState}
 use Rattle.sbp_initiator.specs.Refusals.{prepares, refusal}
-use Rattle.sbp_initiator.specs.Lists.{ListState, asked_by, dummy_lists, high_lists, low_lists, manage_lists, pin_lists, prepared_as, put_lists, stepped}
+use Rattle.orb_list.specs.Lists.{ListState, dummy_lists, high_lists, low_lists, manage_lists, pin_lists, stepped}
+use Rattle.sbp_initiator.specs.Commands.{asked_by, prepared_as, put_lists}
 use Rattle.sbp_initiator.specs.States.{is_answered, is_unwritten, no_marks, place_of, wanted_body}
 use Rattle.sbp_initiator.specs.Effects.{Turn}
 use Rattle.sbp_initiator.specs.Acting.{act_step, append_step, asked_as, asked_for, demand_of, demanded_as, done_step, dummy_for, facts_with, judged_as, link_as, link_step, login_id, low_as, low_step, manage_start, managed_by, orb_by, pinned_for, put_as, put_step, ring_for, with_running}
-use Rattle.sbp_initiator.proofs.Managed.{quad_is_set, quad_behind, quad_whole, orb_end}
+use Rattle.orb_list.proofs.Managed.{quad_is_set, quad_behind, quad_whole, orb_end}
 use Rattle.initiator_laws.specs.Marks.{begins_list, known_if, read_begun}
 use Rattle.initiator_laws.specs.Slots.{action_calls, calls_if, dummy_calls, pin_calls, quad_calls}
 use Rattle.initiator_laws.proofs.Actions.{Allowed, allowed, is_ok}

@@ -32,10 +32,12 @@ use Rattle.sbp_initiator.specs.declared.purpose.Pointing.{Pointing}
 use Rattle.sbp_initiator.specs.declared.purpose.Pointing.TheVariants as pointings
 use Rattle.sbp_initiator.specs.declared.purpose.Running.{Running}
 use Rattle.sbp_initiator.specs.declared.state.InitiatorState.{InitiatorState}
-use Rattle.sbp_initiator.specs.Lists.{ListState, drop_lists, unpin_lists}
+use Rattle.orb_list.specs.Lists.{ListState, drop_lists, unpin_lists}
 use Rattle.initiator_laws.specs.Moves.{outgoing}
-use Rattle.sbp_initiator.specs.Quads.{with_quad}
-use Rattle.sbp_initiator.specs.States.{counts_for, is_list, is_stuck_seat, is_unwritten, management_at}
+use Rattle.initiator_base.specs.Quads.{with_quad}
+use Rattle.sbp_initiator.specs.States.{counts_for, is_list, is_unwritten}
+use Rattle.initiator_base.specs.Places.{management_at}
+use Rattle.sbp_session.specs.Seats.{is_stuck_seat}
 use Rattle.sbp_initiator.specs.Effects.{Turn, told, stick_step, dropped_as, drop_list_step, end_step, end_own_for, end_own_step, then_step, with_answered, pointer_ended, doorbell_ended, fail_step, reset_ended, enable_ended, moves_session, moved, conflict_for, conflict_step, is_conflict, management_ended, response_of, good_event, good_word, drop_where, good_end, managed_step, fault_number, with_unit, with_rom, finish_rom, next_quad, asked_quad, ask_quad, is_address, rom_ended, with_dead, known_where, state_told, state_ended, ended_step}
 use Rattle.sbp_initiator.proofs.Asked.{none_asked}
 use Rattle.initiator_laws.specs.Drops.{IfGone, present_list, drop_if, state_drops, ends_the_list}

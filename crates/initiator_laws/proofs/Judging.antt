@@ -28,7 +28,7 @@ use Rattle.sbp_initiator.specs.declared.fifo.Fifo.TheVariants as fifos
 use Rattle.sbp_initiator.specs.declared.purpose.Purpose.{Purpose}
 use Rattle.sbp_initiator.specs.declared.purpose.Running.{Running}
 use Rattle.sbp_initiator.specs.declared.state.InitiatorState.{InitiatorState}
-use Rattle.sbp_initiator.specs.Lists.{stepped, take_lists}
+use Rattle.orb_list.specs.Lists.{stepped, take_lists}
 use Rattle.sbp_initiator.specs.States.{is_orb_of, is_present_orb, status_in}
 use Rattle.sbp_initiator.specs.Effects.{Turn, told}
 use Rattle.sbp_initiator.specs.Receiving.{address_error, addressed, block_at, block_by, block_step, called, fifo_of, got_step, ignored_step, is_foreign, managed_for, present_for, quadlet_at, receive_step, received, request_step, taken_as}

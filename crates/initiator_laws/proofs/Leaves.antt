@@ -26,9 +26,10 @@ use Rattle.sbp_initiator.specs.declared.purpose.Pointing.TheVariants as pointing
 use Rattle.sbp_initiator.specs.declared.purpose.Running.{Running}
 use Rattle.sbp_initiator.specs.declared.state.InitiatorState.{InitiatorState}
 use Rattle.sbp_initiator.specs.Refusals.{ends_list}
-use Rattle.sbp_initiator.specs.Lists.{ListState, drop_lists, unpin_lists}
-use Rattle.sbp_initiator.specs.Quads.{with_quad, without}
-use Rattle.sbp_initiator.specs.States.{counts_for, is_list, management_at, no_marks}
+use Rattle.orb_list.specs.Lists.{ListState, drop_lists, unpin_lists}
+use Rattle.initiator_base.specs.Quads.{with_quad, without}
+use Rattle.sbp_initiator.specs.States.{counts_for, is_list, no_marks}
+use Rattle.initiator_base.specs.Places.{management_at}
 use Rattle.sbp_initiator.specs.Effects.{stick_step, dropped_as, drop_list_step, end_step, end_own_for, end_own_step, then_step, with_answered, pointer_ended, doorbell_ended, fail_step, reset_ended, enable_ended, moves_session, moved, conflict_for, conflict_step, is_conflict, management_ended, response_of, good_event, good_word, drop_where, good_end, managed_step, fault_number, with_unit, with_rom, finish_rom, next_quad, asked_quad, ask_quad, is_address, rom_ended, with_dead, known_where, state_told, state_ended, ended_step, ended_for}
 use Rattle.initiator_laws.specs.Drops.{ends_the_list, state_drops}
 use Rattle.initiator_laws.specs.Marks.{read_over}

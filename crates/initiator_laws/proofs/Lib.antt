@@ -3,7 +3,6 @@ pub mod Acted
 pub mod Delivered
 pub mod Called
 pub mod Slotted
-pub mod Refused
 pub mod Judging
 pub mod Effects
 pub mod Requests
@@ -21,8 +20,3 @@ pub mod Brings
 pub mod Did
 pub mod Known
 pub mod Lives
-pub mod FitMemory
-pub mod FitTurns
-pub mod FitRequests
-pub mod FitActs
-pub mod FitLaw

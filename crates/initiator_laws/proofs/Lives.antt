@@ -15,7 +15,7 @@ use Rattle.label_table.specs.History.{Call, judges, answers, asks, lets_expire, 
 use Rattle.label_table.proofs.Calls.{told_law}
 use Rattle.sbp_initiator.specs.declared.purpose.Purpose.{Purpose}
 use Rattle.sbp_initiator.specs.declared.purpose.Purpose.TheVariants as purposes
-use Rattle.sbp_initiator.specs.Quads.{without}
+use Rattle.initiator_base.specs.Quads.{without}
 use Rattle.initiator_laws.specs.Marks.{WasRead, expired_reads, finding_reads, has_read, read_over}
 use Rattle.initiator_laws.proofs.Purposes.{AllAsk, AllBegan, IsOf, all_began, kind_in, life_of}
 

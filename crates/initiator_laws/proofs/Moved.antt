@@ -23,9 +23,11 @@ use Rattle.sbp_initiator.specs.declared.purpose.Running.{Running}
 use Rattle.sbp_initiator.specs.declared.purpose.Pointing.TheVariants as pointings
 use Rattle.sbp_initiator.specs.declared.state.InitiatorState.{InitiatorState}
 use Rattle.sbp_initiator.specs.Refusals.{ends_list}
-use Rattle.sbp_initiator.specs.Lists.{ListState, drop_lists, unpin_lists}
-use Rattle.sbp_initiator.specs.Quads.{with_quad, without}
-use Rattle.sbp_initiator.specs.States.{counts_for, is_list, is_stuck_seat, management_at, no_marks}
+use Rattle.orb_list.specs.Lists.{ListState, drop_lists, unpin_lists}
+use Rattle.initiator_base.specs.Quads.{with_quad, without}
+use Rattle.sbp_initiator.specs.States.{counts_for, is_list, no_marks}
+use Rattle.initiator_base.specs.Places.{management_at}
+use Rattle.sbp_session.specs.Seats.{is_stuck_seat}
 use Rattle.sbp_initiator.specs.Effects.{Turn, told, stick_step, dropped_as, drop_list_step, end_step, end_own_for, end_own_step, pointer_ended, doorbell_ended, fail_step, reset_ended, enable_ended, moves_session, moved, conflict_for, is_conflict, management_ended, response_of, good_event, good_word, drop_where, good_end, managed_step, fault_number, with_unit, with_rom, next_quad, asked_quad, quad_got, is_address, rom_ended, with_dead, with_answered, known_step, known_where, state_told, state_ended, ended_step, ended_for}
 use Rattle.initiator_laws.specs.Moves.{Stage, stage, staged, by_call, is_reset, Moves, tells, sits, relists, marks_as, works_at, reads_on, holds, learns, asks, fails, sends, go_on}
 

@@ -36,7 +36,7 @@ use Rattle.sbp_initiator.specs.declared.purpose.Running.{Running}
 use Rattle.sbp_initiator.specs.declared.state.Counts.{Counts}
 use Rattle.sbp_initiator.specs.declared.state.InitiatorState.{InitiatorState}
 use Rattle.sbp_initiator.specs.Refusals.{ends_list}
-use Rattle.sbp_initiator.specs.Lists.{ListState, stepped, take_lists, write_lists}
+use Rattle.orb_list.specs.Lists.{ListState, stepped, take_lists, write_lists}
 use Rattle.initiator_laws.specs.Moves.{response}
 use Rattle.sbp_initiator.specs.States.{is_orb_of, status_in}
 use Rattle.sbp_initiator.specs.Effects.{Turn, managed_step, told, with_dead}

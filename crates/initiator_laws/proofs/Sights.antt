@@ -15,7 +15,7 @@ use Rattle.sbp_initiator.specs.declared.purpose.Purpose.{Purpose}
 use Rattle.sbp_initiator.specs.declared.purpose.Running.{Running}
 use Rattle.sbp_initiator.specs.declared.state.Counts.{Counts}
 use Rattle.sbp_initiator.specs.declared.state.InitiatorState.{InitiatorState}
-use Rattle.sbp_initiator.specs.Lists.{ListState, free_lists}
+use Rattle.orb_list.specs.Lists.{ListState, free_lists}
 use Rattle.sbp_initiator.specs.Effects.{Turn, drop_list_step}
 use Rattle.sbp_initiator.specs.Seeing.{all_end, interrupted, reset_told, resets_told, seen_as, see_step, states_end}
 use Rattle.initiator_laws.specs.Drops.{present_list}

@@ -31,7 +31,7 @@ use Rattle.sbp_initiator.specs.declared.state.InitiatorState.{InitiatorState}
 use Rattle.sbp_initiator.specs.Acting.{IsAction, act_step, orb_by}
 use Rattle.sbp_initiator.specs.Effects.{Turn, drop_list_step}
 use Rattle.sbp_initiator.specs.Initiators.{new_state, own_rom}
-use Rattle.sbp_initiator.specs.Lists.{ListState, free_lists}
+use Rattle.orb_list.specs.Lists.{ListState, free_lists}
 use Rattle.sbp_initiator.specs.Receiving.{fifo_of, is_foreign}
 use Rattle.sbp_initiator.specs.Seeing.{interrupted, resets_told, seen_as, see_step}
 use Rattle.sbp_initiator.specs.States.{counts_for, ending_of, is_answered, is_list, place_of}

@@ -11,7 +11,7 @@ use Rattle.orb_list.proofs.Named.{named_law}
 use Rattle.sbp_initiator.specs.Initiators.{own_rom}
 use Rattle.initiator_laws.specs.Laws.{after}
 use Rattle.initiator_laws.specs.Slots.{slot_calls_after, AreSlotsOf}
-use Rattle.sbp_initiator.specs.Lists.{ListState, take_lists, ticket_in}
+use Rattle.orb_list.specs.Lists.{ListState, take_lists, ticket_in}
 use Rattle.initiator_laws.proofs.Slotted.{slot_law}
 use Rattle.initiator_laws.specs.Taking.{waiting_at}
 use Rattle.initiator_laws.specs.Tells.{TakesLaw}

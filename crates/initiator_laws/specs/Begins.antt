@@ -3,24 +3,16 @@
 use Rattle.std.specs.Prelude.{◌≡◌, Bool, true, false, List, [], ◌∷◌, ◌++◌, Option, Some, None}
 use Rattle.sbp_journal.specs.declared.event.Action.{Action}
 use Rattle.sbp_journal.specs.declared.note.Note.{Note}
-use Rattle.sbp_journal.specs.declared.note.Note.TheVariants as notes
 use Rattle.sbp_journal.specs.declared.operation.Operation.{Operation}
 use Rattle.sbp_journal.specs.Outgoings.{OutboxState}
 use Rattle.sbp_initiator.specs.declared.purpose.Running.{Running}
 use Rattle.sbp_initiator.specs.declared.state.InitiatorState.{InitiatorState}
 use Rattle.sbp_initiator.specs.Refusals.{operation_of}
 use Rattle.sbp_initiator.specs.Effects.{Turn}
+use Rattle.sbp_initiator.specs.Steps.{is_step}
 use Rattle.initiator_laws.specs.Ends.{own, is_managed}
 
--- the notes of the steps of a list
-abbrev pub is_step : Note → Bool
-is_step (notes.Append initiator list orb cdb buffer) = true
-is_step (notes.Low initiator list orb) = true
-is_step (notes.Linked initiator list orb) = true
-is_step (notes.Rung initiator list orb) = true
-is_step (notes.Dummied initiator list orb) = true
-is_step _ = false
-
+-- the notes of the steps of a list alone
 abbrev pub AreSteps : List Note → Type 0
 AreSteps [] = Unit {0}
 AreSteps (note ∷ ns) = (is_step note ≡ true) × AreSteps ns

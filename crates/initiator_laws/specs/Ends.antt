@@ -17,7 +17,7 @@ use Rattle.sbp_initiator.specs.declared.purpose.Ending.TheVariants as endings
 use Rattle.sbp_initiator.specs.declared.purpose.Purpose.{Purpose}
 use Rattle.sbp_initiator.specs.declared.purpose.Purpose.TheVariants as purposes
 use Rattle.sbp_initiator.specs.declared.purpose.Running.{Running}
-use Rattle.sbp_initiator.specs.States.{is_stuck_seat}
+use Rattle.sbp_session.specs.Seats.{is_stuck_seat}
 
 -- ---- notes
 

@@ -1,5 +1,5 @@
 -- The laws of an initiator, over every list of its calls.
-use Rattle.std.specs.Prelude.{◌≡◌, ◌≤◌, ℕ, ◌+◌, is_some, Bool, true, false, List, [], ◌∷◌, ◌++◌, Option, Some, None}
+use Rattle.std.specs.Prelude.{◌≡◌, ◌≤◌, ℕ, ◌+◌, Bool, true, false, List, [], ◌∷◌, ◌++◌, Option, Some, None}
 use Rattle.async_packet.specs.Labels.{LabelParts}
 use Rattle.label_table.specs.declared.judgement.Asked.{Asked}
 use Rattle.label_table.specs.Layer.{Layer, answering_step, asking_step}
@@ -10,13 +10,10 @@ use Rattle.sbp_session.specs.declared.seat.Origin.{Origin}
 use Rattle.sbp_session.specs.Moves.{Event, session_after}
 use Rattle.sbp_journal.specs.declared.event.Action.{Action}
 use Rattle.sbp_journal.specs.declared.outbox.Outgoing.{Outgoing}
-use Rattle.sbp_journal.specs.Outgoings.{OutboxState, empty_outbox}
+use Rattle.sbp_journal.specs.Outgoings.{empty_outbox}
 use Rattle.sbp_initiator.specs.declared.purpose.Purpose.{Purpose}
-use Rattle.sbp_initiator.specs.declared.purpose.Demand.{Demand}
-use Rattle.sbp_initiator.specs.declared.state.InitiatorState.{InitiatorState}
 use Rattle.sbp_initiator.specs.Effects.{Turn}
-use Rattle.sbp_initiator.specs.Refusals.{refusal}
-use Rattle.sbp_initiator.specs.Acting.{IsAction, act_step, asked_for, demand_of, facts_with}
+use Rattle.sbp_initiator.specs.Acting.{IsAction, act_step}
 use Rattle.sbp_initiator.specs.Receiving.{expire_step, receive_step}
 use Rattle.sbp_initiator.specs.Seeing.{see_step}
 use Rattle.sbp_initiator.specs.Initiators.{first_seat, new_state}
@@ -49,21 +46,6 @@ done (sees generation id target) turn = see_step generation id target turn.0 tur
 abbrev pub after : ℕ → Bool → List Call → Turn
 after number ready [] = (empty_outbox, new_state number ready)
 after number ready (call ∷ calls) = done call (after number ready calls)
-
--- ---- refusals
-
--- the request of an action finds a label, where it has one
-abbrev pub finds_for : Option Demand → InitiatorState → Bool
-finds_for None s = true
-finds_for (Some demand) s = is_some (asked_for demand s).0
-
-abbrev pub finds_label : Action → InitiatorState → Bool
-finds_label action s = finds_for (demand_of action s) s
-
--- A refused action changes nothing, and has the number of the first row that holds.
-pub record RefusalLaw : Type 0 where
-  pub unchanged : (action : Action) (o : OutboxState) (s : InitiatorState) (number : ℕ) → (act_step action o s).0 ≡ Some number → (act_step action o s).1 ≡ (o, s)
-  pub first : (action : Action) (o : OutboxState) (s : InitiatorState) → (act_step action o s).0 ≡ refusal action (facts_with (finds_label action s) s action)
 
 -- ---- the transaction layer
 

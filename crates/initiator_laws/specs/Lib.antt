@@ -10,4 +10,3 @@ pub mod Tells
 pub mod Served
 pub mod Slots
 pub mod Marks
-pub mod Fitting

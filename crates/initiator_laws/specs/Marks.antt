@@ -23,7 +23,7 @@ use Rattle.sbp_initiator.specs.declared.purpose.Purpose.TheVariants as purposes
 use Rattle.sbp_initiator.specs.declared.state.InitiatorState.{InitiatorState}
 use Rattle.sbp_initiator.specs.Acting.{act_step}
 use Rattle.sbp_initiator.specs.Effects.{Turn}
-use Rattle.sbp_initiator.specs.Quads.{without}
+use Rattle.initiator_base.specs.Quads.{without}
 use Rattle.sbp_initiator.specs.Refusals.{prepares}
 use Rattle.sbp_initiator.specs.States.{counts_for, ending_of, is_answered, is_list}
 use Rattle.initiator_laws.specs.Drops.{present_list}

@@ -13,13 +13,13 @@ use Rattle.sbp_session.specs.Moves.{Event, reset, goes}
 use Rattle.sbp_journal.specs.declared.note.Note.{Note}
 use Rattle.sbp_journal.specs.declared.outbox.Outgoing.{Outgoing}
 use Rattle.sbp_journal.specs.Outgoings.{OutboxState}
-use Rattle.sbp_initiator.specs.declared.answer.AnswerPlan.{AnswerPlan}
+use Rattle.orb_list.specs.declared.answer.AnswerPlan.{AnswerPlan}
 use Rattle.sbp_initiator.specs.declared.purpose.Purpose.{Purpose}
 use Rattle.sbp_initiator.specs.declared.purpose.Running.{Running}
 use Rattle.sbp_initiator.specs.declared.purpose.ListMarks.{ListMarks}
 use Rattle.sbp_initiator.specs.declared.state.Counts.{Counts}
 use Rattle.sbp_initiator.specs.declared.state.InitiatorState.{InitiatorState}
-use Rattle.sbp_initiator.specs.Lists.{ListState, manage_lists, with_parts}
+use Rattle.orb_list.specs.Lists.{ListState, manage_lists, with_parts}
 use Rattle.sbp_initiator.specs.Effects.{Turn, told, with_packet}
 
 -- an outbox, an initiator, and the requests that found a label and are not handed out yet

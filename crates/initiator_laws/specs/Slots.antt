@@ -30,7 +30,8 @@ use Rattle.sbp_initiator.specs.declared.state.InitiatorState.{InitiatorState}
 use Rattle.sbp_initiator.specs.Acting.{act_step, login_id, orb_by}
 use Rattle.sbp_initiator.specs.Effects.{Turn}
 use Rattle.sbp_initiator.specs.Initiators.{own_rom}
-use Rattle.sbp_initiator.specs.Lists.{ListState, asked_by}
+use Rattle.orb_list.specs.Lists.{ListState}
+use Rattle.sbp_initiator.specs.Commands.{asked_by}
 use Rattle.sbp_initiator.specs.Receiving.{fifo_of, is_foreign}
 use Rattle.sbp_initiator.specs.Refusals.{operation_of}
 use Rattle.sbp_initiator.specs.States.{place_of}

@@ -24,7 +24,7 @@ use Rattle.sbp_initiator.specs.declared.purpose.Purpose.{Purpose}
 use Rattle.sbp_initiator.specs.declared.purpose.Running.{Running}
 use Rattle.sbp_initiator.specs.declared.state.InitiatorState.{InitiatorState}
 use Rattle.sbp_initiator.specs.Refusals.{ends_list}
-use Rattle.sbp_initiator.specs.Lists.{ListState, take_lists}
+use Rattle.orb_list.specs.Lists.{ListState, take_lists}
 use Rattle.sbp_initiator.specs.States.{ending_of, status_in}
 use Rattle.sbp_initiator.specs.Receiving.{answer_of, present_for}
 use Rattle.initiator_laws.specs.Laws.{Call, acts, receives, lets_expire, sees}

@@ -1,15 +1,15 @@
-ghost use Rattle.initiator_laws.specs.Fitting.{FittingLaw};
 ghost use Rattle.initiator_laws.specs.Judging.{JudgingLaw};
-ghost use Rattle.initiator_laws.specs.Laws.{CountLaw, RefusalLaw, SessionLaw, WireLaw};
+ghost use Rattle.initiator_laws.specs.Laws.{CountLaw, SessionLaw, WireLaw};
 ghost use Rattle.initiator_laws.specs.Marks.{MarkLaw};
 ghost use Rattle.initiator_laws.specs.Numbers.{NumberLaw};
 ghost use Rattle.initiator_laws.specs.Served.{ReadsLaw};
 ghost use Rattle.initiator_laws.specs.Slots.{SlotLaw};
 ghost use Rattle.initiator_laws.specs.Tells.{TakesLaw, TellsLaw};
+ghost use Rattle.sbp_initiator.specs.Refusing.{RefusalLaw};
 
 /// The law of refusals: a refused action changes nothing, and has the number of the first row that holds,
 /// by what holds of the initiator as it acts.
-#[tactic(auto, using(crate::proofs::Refused::refusal_law))]
+#[tactic(auto, using(sbp_initiator::proofs::FirstRow::refusal_law))]
 pub fn first_row_refuses()
     ensures { RefusalLaw }
 {}
@@ -81,12 +81,4 @@ pub fn slots_and_rom_are_read()
 /// list that was present, and whose ORB_POINTER had been answered, as it was asked for.
 pub fn lists_are_known()
     ensures { MarkLaw }
-{}
-
-/// From a new initiator on, each call of it is what the wire takes a call of a node for: a packet is judged,
-/// a request is answered as its judgement states, and then the target is asked, by packets with their
-/// fields; all of bytes, and nothing is told of the wire.
-#[tactic(auto, using(crate::proofs::FitLaw::fitting_law))]
-pub fn calls_fit_the_wire()
-    ensures { FittingLaw }
 {}

@@ -2,7 +2,7 @@
 ghost use Rattle.std.specs.Prelude.{◌≤◌, IsTrue, sum};
 ghost use Rattle.sbp_journal.specs.Form.{HasForm, IsAnswer, IsBuffer};
 ghost use Rattle.sbp_initiator.specs.Acting.{IsAction};
-ghost use Rattle.sbp_initiator.specs.Lists.{IsCommand};
+ghost use Rattle.sbp_initiator.specs.Commands.{IsCommand};
 ghost use Rattle.orb_list.specs.Requests.{IsRequest};
 
 use orb_layout::StatusKind;

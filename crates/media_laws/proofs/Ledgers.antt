@@ -11,10 +11,10 @@ use Rattle.sbp_journal.specs.declared.outbox.Outgoing.{Outgoing}
 use Rattle.sbp_journal.specs.declared.side.Side.{Side}
 use Rattle.sbp_journal.specs.declared.side.Side.TheVariants as sides
 use Rattle.sbp_journal.specs.Outgoings.{OutboxState}
-use Rattle.sbp_world.specs.declared.places.Holder.{Holder}
-use Rattle.sbp_world.specs.Generations.{node_of}
+use Rattle.sbp_bus.specs.declared.places.Holder.{Holder}
+use Rattle.sbp_bus.specs.Generations.{node_of}
 use Rattle.sbp_world.specs.Handing.{handed_out}
-use Rattle.sbp_world.specs.Places.{back_at, back_step, enter_step, has_login, holder_of, is_free, left_step, opened_by, opened_step, or_nobody, place_in, put_at, taken_by}
+use Rattle.sbp_bus.specs.Places.{back_at, back_step, enter_step, has_login, holder_of, is_free, left_step, opened_by, opened_step, or_nobody, place_in, put_at, taken_by}
 use Rattle.sbp_world.specs.Sending.{asked, posted, sent, sent_all, sent_to}
 use Rattle.sbp_world.specs.Telling.{holder, initiator_of, managed_places, told, told_all}
 use Rattle.sbp_world.specs.Words.{function_word}

@@ -10,7 +10,7 @@ use Rattle.sbp_journal.specs.declared.note.Note.{Note}
 use Rattle.sbp_target.specs.Receiving.{ready_from, ready_login}
 use Rattle.sbp_world.specs.Histories.{history_of, moments_behind, notes_behind}
 use Rattle.sbp_world.specs.Making.{new_world, notes_begin, ready_logins}
-use Rattle.sbp_world.specs.Places.{new_places}
+use Rattle.sbp_bus.specs.Places.{new_places}
 use Rattle.sbp_world.specs.Runs.{AreEntries, Entry, Run, after, beginning, first_scene}
 use Rattle.sbp_world.specs.Worlds.{Scene}
 use Rattle.media_laws.specs.Media.{LeavesMedia, left_by_note, media_after}

@@ -17,3 +17,5 @@ pub mod Frees
 pub mod Keeps
 pub mod Named
 pub mod Steps
+pub mod Counted
+pub mod Managed

@@ -15,3 +15,4 @@ pub mod Finds
 pub mod Stays
 pub mod Buffers
 pub mod Tables
+pub mod Lists

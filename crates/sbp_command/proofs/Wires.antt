@@ -8,11 +8,11 @@ use Rattle.sbp_world.specs.Worlds.{WorldState}
 use Rattle.rbc_disk.specs.Held.{Held}
 use Rattle.sbp_laws.specs.Lawful.{injectors}
 use Rattle.sbp_laws.specs.OnTheBus.{LawfulOnTheBus}
-use Rattle.world_laws.specs.History.{IsOfWire}
-use Rattle.world_laws.specs.Journal.{journal_run}
-use Rattle.world_laws.specs.Lines.{AreLines}
-use Rattle.world_laws.proofs.Entries.{bus_law}
-use Rattle.world_laws.proofs.Runs.{all_runs}
+use Rattle.sbp_world.specs.Wire.History.{IsOfWire}
+use Rattle.sbp_world.specs.Wire.Journal.{journal_run}
+use Rattle.sbp_world.specs.Wire.Lines.{AreLines}
+use Rattle.sbp_world.proofs.Wire.Entries.{bus_law}
+use Rattle.sbp_world.proofs.Wire.Runs.{all_runs}
 use Rattle.script_runner.specs.Events.{events_in, events_of, journal}
 use Rattle.script_runner.specs.Runner.{scene_of}
 use Rattle.sbp_command.specs.Machine.{HasRun}

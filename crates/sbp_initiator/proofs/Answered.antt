@@ -2,7 +2,7 @@
 use Rattle.std.proofs.Common.{arith, ◌≡◌, ◌∙◌, ap, ◌≤◌}
 use Rattle.sbp_initiator.specs.declared.state.Counts.{Counts as Numbers}
 use Rattle.sbp_initiator.specs.declared.state.InitiatorState.{InitiatorState}
-use Rattle.sbp_initiator.specs.Lists.{ListState}
+use Rattle.orb_list.specs.Lists.{ListState}
 use Rattle.sbp_initiator.specs.Effects.{Keeps}
 use Rattle.sbp_initiator.specs.Receiving.{called}
 use Rattle.sbp_initiator.specs.Counted.{Counts}

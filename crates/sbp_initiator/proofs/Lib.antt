@@ -1,5 +1,3 @@
-pub mod Counted
-pub mod Managed
 pub mod Roms
 pub mod Asked
 pub mod Layers
@@ -7,3 +5,4 @@ pub mod Again
 pub mod Sound
 pub mod Answered
 pub mod Refused
+pub mod FirstRow

@@ -28,8 +28,11 @@ use Rattle.sbp_initiator.specs.declared.purpose.Wanted.TheVariants as wants
 use Rattle.sbp_initiator.specs.declared.purpose.Demand.{Demand}
 use Rattle.sbp_initiator.specs.declared.purpose.Pointing.TheVariants as pointings
 use Rattle.sbp_initiator.specs.declared.state.InitiatorState.{InitiatorState}
-use Rattle.sbp_initiator.specs.Lists.{IsCommand, ListState, dummy_lists, high_lists, low_lists, manage_lists, pin_lists, put_lists}
-use Rattle.sbp_initiator.specs.States.{behind_by, is_answered, is_unwritten, last_linked, login_fifo, no_marks, operation_in, place_fifo, place_of, points, response_in, session_of, wanted_body}
+use Rattle.orb_list.specs.Lists.{ListState, dummy_lists, high_lists, low_lists, manage_lists, pin_lists}
+use Rattle.sbp_initiator.specs.Commands.{IsCommand, put_lists}
+use Rattle.sbp_initiator.specs.States.{is_answered, is_unwritten, last_linked, no_marks, operation_in, place_of, session_of, wanted_body}
+use Rattle.initiator_base.specs.Places.{behind_by, login_fifo, place_fifo}
+use Rattle.sbp_session.specs.Seats.{points, response_in}
 use Rattle.sbp_initiator.specs.Effects.{Turn, then_step, told, with_request}
 
 -- The fields of an action are those of a line: a reconnect field of 4 bits, and the lengths of a command.

@@ -30,9 +30,11 @@ use Rattle.sbp_initiator.specs.declared.purpose.Ending.TheVariants as endings
 use Rattle.sbp_initiator.specs.declared.purpose.Running.{Running}
 use Rattle.sbp_initiator.specs.declared.purpose.Pointing.TheVariants as pointings
 use Rattle.sbp_initiator.specs.declared.state.InitiatorState.{InitiatorState}
-use Rattle.sbp_initiator.specs.Lists.{ListState, drop_lists, unpin_lists}
-use Rattle.sbp_initiator.specs.Quads.{with_quad, without}
-use Rattle.sbp_initiator.specs.States.{behind_by, counts_for, is_list, is_stuck_seat, management_at, no_marks, place_in}
+use Rattle.orb_list.specs.Lists.{ListState, drop_lists, unpin_lists}
+use Rattle.initiator_base.specs.Quads.{with_quad, without}
+use Rattle.sbp_initiator.specs.States.{counts_for, is_list, no_marks, place_in}
+use Rattle.initiator_base.specs.Places.{behind_by, management_at}
+use Rattle.sbp_session.specs.Seats.{is_stuck_seat}
 
 -- what a call counts of its slots and its labels, at most, and that it leaves the other counts
 pub record Keeps (slots labels : ℕ) (old new : InitiatorState) : Type 0 where

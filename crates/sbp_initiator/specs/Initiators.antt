@@ -8,7 +8,7 @@ use Rattle.sbp_session.specs.declared.seat.Seat.TheVariants as seats
 use Rattle.sbp_session.specs.Sessions.{live_with}
 use Rattle.sbp_initiator.specs.declared.state.Counts.{Counts}
 use Rattle.sbp_initiator.specs.declared.state.InitiatorState.{InitiatorState}
-use Rattle.sbp_initiator.specs.Lists.{new_lists}
+use Rattle.orb_list.specs.Lists.{new_lists}
 use Rattle.sbp_initiator.specs.States.{no_marks}
 
 -- the login that a ready initiator has: ID one above its number, in the place of its number, and a hold of 3

@@ -1,5 +1,4 @@
-pub mod Lists
-pub mod Quads
+pub mod Commands
 pub mod States
 pub mod Effects
 pub mod Refusals
@@ -9,3 +8,5 @@ pub mod Receiving
 pub mod Seeing
 pub mod Judged
 pub mod Initiators
+pub mod Refusing
+pub mod Steps

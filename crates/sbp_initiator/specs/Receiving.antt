@@ -27,8 +27,9 @@ use Rattle.sbp_initiator.specs.declared.purpose.Purpose.{Purpose}
 use Rattle.sbp_initiator.specs.declared.purpose.Ending.TheVariants as endings
 use Rattle.sbp_initiator.specs.declared.purpose.Running.{Running}
 use Rattle.sbp_initiator.specs.declared.state.InitiatorState.{InitiatorState}
-use Rattle.sbp_initiator.specs.Lists.{ListState, answer_at, take_lists, write_lists}
-use Rattle.sbp_initiator.specs.States.{ending_of, fifo_at, is_present_orb, reads_rom, status_in}
+use Rattle.orb_list.specs.Lists.{ListState, answer_at, take_lists, write_lists}
+use Rattle.sbp_initiator.specs.States.{ending_of, fifo_at, is_present_orb, status_in}
+use Rattle.initiator_base.specs.Places.{reads_rom}
 use Rattle.sbp_initiator.specs.Effects.{Turn, ended_for, managed_step, told, with_dead, with_packet}
 
 -- one more call

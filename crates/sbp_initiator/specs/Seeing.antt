@@ -10,7 +10,7 @@ use Rattle.sbp_journal.specs.Outgoings.{OutboxState}
 use Rattle.sbp_initiator.specs.declared.purpose.Purpose.{Purpose}
 use Rattle.sbp_initiator.specs.declared.purpose.Running.{Running}
 use Rattle.sbp_initiator.specs.declared.state.InitiatorState.{InitiatorState}
-use Rattle.sbp_initiator.specs.Lists.{free_lists}
+use Rattle.orb_list.specs.Lists.{free_lists}
 use Rattle.sbp_initiator.specs.States.{no_marks}
 use Rattle.sbp_initiator.specs.Effects.{Turn, drop_list_step, told}
 use Rattle.sbp_initiator.specs.Receiving.{called}

@@ -5,7 +5,6 @@ use Rattle.async_packet.specs.Packet.{Packet, write_response, read_quadlet, read
 use Rattle.label_table.specs.Bodies.{Body, quadlet_write, block_write, quadlet_read}
 use Rattle.bus_memory.specs.declared.window.Window.TheVariants as windows
 use Rattle.bus_memory.specs.Windows.{start}
-use Rattle.orb_layout.specs.declared.login.LoginResponse.{LoginResponse}
 use Rattle.orb_layout.specs.declared.status.StatusBlock.{StatusBlock}
 use Rattle.orb_layout.specs.declared.fault.OrbFault.{OrbFault}
 use Rattle.orb_layout.specs.Pointers.{offset_at}
@@ -14,6 +13,8 @@ use Rattle.orb_list.specs.declared.list.PresentList.{PresentList}
 use Rattle.orb_list.specs.Table.{is_done}
 use Rattle.sbp_session.specs.declared.seat.Seat.{Seat}
 use Rattle.sbp_session.specs.declared.seat.Seat.TheVariants as seats
+use Rattle.sbp_session.specs.Seats.{is_out_seat}
+use Rattle.initiator_base.specs.Places.{login_fifo, names_place, place_fifo}
 use Rattle.sbp_journal.specs.declared.operation.Operation.{Operation}
 use Rattle.sbp_initiator.specs.Refusals.{SessionState, is_out, is_entering, is_live, is_held, is_returning, is_leaving, is_stuck}
 use Rattle.sbp_initiator.specs.declared.purpose.Ending.{Ending}
@@ -38,46 +39,7 @@ session_of (seats.Returning response) = is_returning
 session_of (seats.Leaving response) = is_leaving
 session_of (seats.Stuck origin) = is_stuck
 
--- an ORB_POINTER write is under way
-abbrev pub points : Seat → Bool
-points (seats.Live live) = live.pointing
-points _ = false
-
-abbrev pub no_response : LoginResponse
-no_response = record { login = 0; agent = 0; hold = 0 }
-
--- the response of the login
-abbrev pub response_in : Seat → LoginResponse
-response_in (seats.Live live) = live.response
-response_in (seats.Held response) = response
-response_in (seats.Returning response) = response
-response_in (seats.Leaving response) = response
-response_in _ = no_response
-
-abbrev pub is_out_seat : Seat → Bool
-is_out_seat (seats.Out out) = true
-is_out_seat _ = false
-
-abbrev pub is_stuck_seat : Seat → Bool
-is_stuck_seat (seats.Stuck origin) = true
-is_stuck_seat _ = false
-
 -- ---- addresses
-
--- an address so far behind another, of 48 bits
-abbrev pub behind_by : ℕ → ℕ → ℕ
-behind_by base distance = (base + distance) % 2 ^ 48
-
--- the FIFO of a login number, and that of a place of management
-abbrev pub login_fifo : ℕ → ℕ
-login_fifo number = 0x1300_0000 + 0x20 * number
-
-abbrev pub place_fifo : ℕ → ℕ
-place_fifo place = 0x1200_2000 + 0x20 * place
-
--- where MANAGEMENT_AGENT stands by a ROM
-abbrev pub management_at : ℕ → ℕ
-management_at distance = behind_by 0xffff_f000_0000 (4 * distance)
 
 -- the login FIFOs are open by the latest login number, where the session is not Out
 abbrev pub is_open_login : ℕ → Seat → ℕ → Bool
@@ -94,27 +56,15 @@ fifo_at logins seat offset =
     else if is_login_fifo offset then Some fifos.Closed
     else None
 
--- a range of the ROM, of 8 quadlets
-abbrev pub is_in_rom : ℕ → ℕ → Bool
-is_in_rom offset count = nat_le 0xffff_f000_0400 offset && nat_le (offset + count) (0xffff_f000_0400 + 32)
-
-abbrev pub reads_rom : Packet → Bool
-reads_rom (read_quadlet header offset) = is_in_rom offset 4
-reads_rom (read_block header offset asked) = is_in_rom offset asked
-reads_rom _ = false
-
--- a management ORB stands at this address
-abbrev pub is_managed_orb : ℕ → Bool
-is_managed_orb offset = offset == start (windows.Management 0) || offset == start (windows.Management 1)
-
--- the status block in a payload: it names a management ORB where its offset is that of a place
-abbrev pub names_place : List ℕ → Bool
-names_place payload = nat_le 8 (length payload) && is_managed_orb (offset_at payload 0)
-
 abbrev pub status_in : List ℕ → Result StatusBlock OrbFault
 status_in payload = read_status_block (names_place payload) payload
 
 -- ---- requests
+
+-- the address that a request writes; 0 where it writes none
+abbrev pub address_in : Wanted → ℕ
+address_in (wants.Point offset orb) = orb
+address_in _ = 0
 
 abbrev pub wanted_body : Wanted → Body
 wanted_body (wants.Read offset) = quadlet_read offset

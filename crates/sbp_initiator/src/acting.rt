@@ -7,18 +7,18 @@ ghost use Rattle.sbp_journal.specs.declared.note.Note.TheVariants as notes;
 ghost use Rattle.sbp_initiator.specs.Acting.{HasActed, IsAction, act_step, append_step, asked_as, asked_for, begun, counted, demand_of, demanded_as, done_as, done_step, dummy_for, link_step, low_step, manage_start, managed_by, orb_by, put_step, register_start, ring_step, sent_with, with_first, with_pin, with_ring};
 ghost use Rattle.sbp_initiator.specs.Counted.{Acts, Counts, HasRoom};
 ghost use Rattle.sbp_initiator.specs.Effects.{Keeps, told};
-ghost use Rattle.sbp_initiator.specs.Lists.{IsCommand};
+ghost use Rattle.sbp_initiator.specs.Commands.{IsCommand};
 
-use crate::answer::front;
+use crate::commands::put;
 use crate::effects::{send_request, tell};
 use crate::fault::ActFault;
 use crate::purpose::{Demand, ListMarks, Pointing, Running};
-use crate::seats;
 use crate::state::{InitiatorState, last_linked};
 use label_table::Asked;
 use orb_list::Ticket;
 use sbp_base::{Bytes, NoMemory};
 use sbp_journal::{Action, Cmd, Note, NoteBuffer, Operation, Outbox};
+use sbp_session::in_place;
 use std::alloc::Global;
 
 /// The number of the refusal of a request that finds no label.
@@ -32,6 +32,13 @@ fn out_buffer(alloc: Global, bytes: &[u8]) -> Result<NoteBuffer, NoMemory>
         [] => Ok(NoteBuffer::Nothing),
         _ => Ok(NoteBuffer::Out(Bytes::from_slice(alloc, bytes)?)),
     }
+}
+
+/// The first bytes of a buffer, as many as it has at most.
+fn front(buffer: &[u8], count: usize) -> &[u8]
+    ensures { result.now ≡ take count buffer.now }
+{
+    &buffer[..count.min(buffer.len())]
 }
 
 /// The buffer of a command, as its note tells it.
@@ -48,6 +55,19 @@ fn note_buffer(alloc: Global, cmd: &Cmd) -> Result<NoteBuffer, NoMemory>
         return Ok(NoteBuffer::Nothing);
     }
     Ok(NoteBuffer::In(cmd.length))
+}
+
+/// The note of an ORB that was prepared for a command.
+fn append_note(alloc: Global, initiator: u8, cmd: &Cmd, ticket: &Ticket) -> Result<Note, NoMemory>
+    ensures { IfOk result (λ note. note ≡ notes.Append initiator ticket.now.list ticket.now.number cmd.now.cdb (buffer_of cmd.now)) }
+{
+    Ok(Note::Append {
+        initiator,
+        list: ticket.list(),
+        orb: ticket.number(),
+        cdb: cmd.cdb,
+        buffer: note_buffer(alloc, cmd)?,
+    })
 }
 
 impl InitiatorState {
@@ -73,20 +93,10 @@ impl InitiatorState {
         ensures prepared { self.new.lists.slots.acts ≤ self.old.lists.slots.acts + 1 }
         ensures called { self.new.lists.slots.calls ≤ self.old.lists.slots.calls + 1 }
     {
-        let buffer = note_buffer(alloc, cmd)?;
         let node = self.layer.node();
         let login = self.login();
-        if let Some(ticket) = self.lists.put(alloc, cmd, node, login)? {
-            tell(
-                outbox,
-                Note::Append {
-                    initiator: self.number,
-                    list: ticket.list(),
-                    orb: ticket.number(),
-                    cdb: cmd.cdb,
-                    buffer,
-                },
-            )?;
+        if let Some(ticket) = put(&mut self.lists, alloc, cmd, node, login)? {
+            tell(outbox, append_note(alloc, self.number, cmd, &ticket)?)?;
             self.begin_list(&ticket);
         }
         Ok(())
@@ -141,7 +151,7 @@ impl InitiatorState {
     {
         if self.marks.pointing.is_unwritten() {
             self.marks.pointing = Pointing::Written;
-            seats::point(&mut self.seat);
+            in_place::point(&mut self.seat);
         } else {
             self.counts.running += 1;
         }
@@ -250,16 +260,16 @@ impl InitiatorState {
             Action::Login { .. } => {
                 self.manage(action, Operation::Login);
                 self.counts.logins += 1;
-                seats::send(&mut self.seat);
+                in_place::send(&mut self.seat);
             }
             Action::Query { .. } => self.manage(action, Operation::Query),
             Action::Reconnect => {
                 self.manage(action, Operation::Reconnect);
-                seats::send(&mut self.seat);
+                in_place::send(&mut self.seat);
             }
             Action::Logout => {
                 self.manage(action, Operation::Logout);
-                seats::send(&mut self.seat);
+                in_place::send(&mut self.seat);
             }
             Action::Abort { orb } => {
                 self.manage(action, Operation::Abort);

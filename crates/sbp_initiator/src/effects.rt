@@ -1,22 +1,22 @@
 //! What the end of a transaction does (NCITS 325-1998, sessions, operations and lists).
 ghost use Rattle.std.specs.Prelude.{◌≡◌, ◌+◌, ◌*◌, ◌^◌, ◌<◌, ◌≤◌, ◌==◌, length, Some, None, IfOk, OnOk};
 ghost use Rattle.config_rom.specs.Unit.{sbp_unit_of};
-ghost use Rattle.orb_layout.specs.LoginResponses.{login_response};
 ghost use Rattle.sbp_session.specs.Moves.{bad, conflict, goes, failed, pointed};
 ghost use Rattle.sbp_initiator.specs.Effects.{Keeps, ask_quad, conflict_step, doorbell_ended, drop_list_step, enable_ended, end_own_step, end_step, ended_step, fail_step, fault_number, finish_rom, good_end, good_event, good_word, known_step, managed_step, management_ended, moved, moves_session, pointed_step, pointer_ended, quad_got, reset_ended, response_of, rom_ended, state_ended, state_told, stick_step, told, with_request, with_unit};
-ghost use Rattle.sbp_initiator.specs.States.{behind_by, counts_for};
+ghost use Rattle.sbp_initiator.specs.States.{counts_for};
 ghost use Rattle.sbp_journal.specs.declared.note.Note.TheVariants as notes;
 
 use crate::purpose::{Ending, ListMarks, Pointing, Purpose, Running};
 use crate::refusals::ends_list;
-use crate::seats;
-use crate::state::{InitiatorState, behind_by, is_list, is_stuck, management_at};
+use crate::state::{InitiatorState, is_list};
 use config_rom::{Rom, RomFault, parse, sbp_unit};
+use initiator_base::places::{login_response, management_at, quad_place};
 use label_table::{Asked, RequestBody};
-use orb_layout::{LoginResponse, QueryResponse};
+use orb_layout::QueryResponse;
 use orb_list::PresentList;
-use sbp_base::{NoMemory, NodeId, Offset};
+use sbp_base::{NoMemory, NodeId};
 use sbp_journal::{Note, OpWord, Operation, Outbox, Outgoing, Side};
+use sbp_session::in_place;
 use std::alloc::Global;
 
 /// conflict_error and address_error (IEEE 1394-1995, response codes).
@@ -78,7 +78,7 @@ impl InitiatorState {
         ensures step { OnOk result ((outbox.new, self.new) ≡ stick_step outbox.old self.old) }
         ensures keeps { Keeps 0 0 self.old self.new }
     {
-        if !is_stuck(&self.seat) {
+        if !self.seat.is_stuck() {
             tell(
                 outbox,
                 Note::Stuck {
@@ -86,7 +86,7 @@ impl InitiatorState {
                 },
             )?;
         }
-        seats::stick(&mut self.seat);
+        in_place::stick(&mut self.seat);
         Ok(())
     }
 
@@ -167,7 +167,7 @@ impl InitiatorState {
     {
         match ending {
             Ending::Complete { .. } => {
-                seats::answer(&mut self.seat);
+                in_place::answer(&mut self.seat);
                 if is_list(&self.lists.present(), list) {
                     self.marks.pointing = Pointing::Answered;
                 }
@@ -229,7 +229,7 @@ impl InitiatorState {
         match self.operation {
             Some(running) if running.act == act => {
                 if moves_session(running.operation) {
-                    seats::conflict(&mut self.seat);
+                    in_place::conflict(&mut self.seat);
                 }
                 self.end(running.operation, OpWord::Conflict, outbox)
             }
@@ -268,7 +268,7 @@ impl InitiatorState {
     {
         if status != 0 {
             if moves_session(running.operation) {
-                seats::end(&mut self.seat, status);
+                in_place::end(&mut self.seat, status);
             }
             return self.end(running.operation, OpWord::Refused(status), outbox);
         }
@@ -309,9 +309,9 @@ impl InitiatorState {
         match running.operation {
             Operation::Login => {
                 let response = login_response(self.lists.response(running.place()));
-                seats::enter(&mut self.seat, response);
+                in_place::enter(&mut self.seat, response);
             }
-            Operation::Reconnect | Operation::Logout => seats::end(&mut self.seat, 0),
+            Operation::Reconnect | Operation::Logout => in_place::end(&mut self.seat, 0),
             _ => {}
         }
     }
@@ -484,28 +484,6 @@ impl InitiatorState {
             Purpose::State { act, list } => self.state_ended(act, list, ending, outbox),
         }
     }
-}
-
-/// The login response in a response buffer.
-fn login_response(bytes: &[u8]) -> LoginResponse
-    requires { length bytes.now ≡ 256 }
-    ensures { result ≡ login_response bytes.now }
-{
-    let Ok(response) = LoginResponse::read(bytes) else {
-        unreachable!()
-    };
-    response
-}
-
-/// The address of a quadlet of the target's ROM.
-fn quad_place(number: u32) -> Offset
-    requires { number ≤ 256 }
-    ensures { result ≡ behind_by 0xffff_f000_0400 (4 * number) }
-{
-    let Some(start) = Offset::new(0xffff_f000_0400) else {
-        unreachable!()
-    };
-    behind_by(start, 4 * number)
 }
 
 /// Whether a read of AGENT_STATE counts for the present list.

@@ -2,7 +2,7 @@
 ghost use Rattle.std.specs.Prelude.{◌≡◌, ℕ, List, replicate, ◌+◌, ◌*◌, ◌^◌, ◌<◌, ◌≤◌, length, is_some, [], None, IfOk, OnOk};
 ghost use Rattle.async_packet.specs.Packet.{view};
 ghost use Rattle.bus_memory.specs.Access.{read_step};
-ghost use Rattle.sbp_initiator.specs.Lists.{take_lists, write_lists};
+ghost use Rattle.orb_list.specs.Lists.{take_lists, write_lists};
 ghost use Rattle.label_table.specs.Bodies.{Gives};
 ghost use Rattle.label_table.specs.Layer.{IsLent, finding_of, judging_step};
 ghost use Rattle.sbp_initiator.specs.Judged.{AgainGives, IsSame};
@@ -12,13 +12,14 @@ ghost use Rattle.orb_layout.specs.StatusBlocks.{kind_of};
 ghost use Rattle.sbp_initiator.specs.Counted.{Counts};
 ghost use Rattle.sbp_initiator.specs.Effects.{ended_for, managed_step, told};
 ghost use Rattle.sbp_initiator.specs.Receiving.{HasExpired, addressed, answer_of, block_at, block_by, block_step, called, expire_step, fifo_of, got_step, ignored_step, is_dead_kind, is_foreign, managed_for, present_for, read_as, receive_step, request_step, respond_step, serve_step, status_step, taken_as, taken_by, written_as};
-ghost use Rattle.sbp_initiator.specs.States.{ending_by, ending_of, reads_rom, status_in};
+ghost use Rattle.sbp_initiator.specs.States.{ending_by, ending_of, status_in};
 
 use crate::effects::tell;
 use crate::fifo::Fifo;
 use crate::purpose::{Ending, Purpose, Running};
-use crate::state::{InitiatorState, fifo_at, is_present_orb, names_place, reads_rom};
+use crate::state::{InitiatorState, fifo_at, is_present_orb};
 use async_packet::{Label, PacketRef};
+use initiator_base::places::{names_place, reads_rom};
 use label_table::Judgement;
 use media_bay::read_unsolicited;
 use orb_layout::{StatusBlock, StatusKind, read_status};

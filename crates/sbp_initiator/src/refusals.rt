@@ -6,7 +6,7 @@ ghost use Rattle.sbp_initiator.specs.Acting.{facts_with, orb_named};
 ghost use Rattle.sbp_initiator.specs.States.{operation_in, session_of};
 
 use crate::purpose::Running;
-use crate::state::{InitiatorState, is_stuck, points};
+use crate::state::InitiatorState;
 use orb_list::{Link, PresentList};
 use sbp_journal::{Action, Operation};
 use sbp_session::Seat;
@@ -144,7 +144,7 @@ impl InitiatorState {
     {
         let operation = operation_of(action);
         (operation.is_some() && self.operation.is_some())
-            || (ends_list(operation) && points(&self.seat))
+            || (ends_list(operation) && self.seat.is_pointing())
             || (is_list_step(action) && ends_list(under_way(&self.operation)))
     }
 
@@ -175,7 +175,7 @@ impl InitiatorState {
     pub(crate) fn refusal(&self, action: &Action) -> Option<u8>
         ensures { result ≡ refusal action.now (facts_with true self.now action.now) }
     {
-        if is_stuck(&self.seat) {
+        if self.seat.is_stuck() {
             return Some(1);
         }
         if !fits_session(action, &self.seat) {

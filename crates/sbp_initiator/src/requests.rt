@@ -1,22 +1,21 @@
 //! What an action asks of the target: the address, the value, and what for.
 ghost use Rattle.std.specs.Prelude.{◌≡◌, ◌*◌, ◌^◌, ◌+◌, ◌<◌, ◌≤◌, unwrap_or, Some, None, IfOk, IfNone, OnErr, length};
-ghost use Rattle.sbp_base.specs.Quadlets.{quad};
 ghost use Rattle.byteorder.specs.Endian.{big_bytes};
-ghost use Rattle.label_table.specs.Bodies.{block_write, quadlet_read, quadlet_write};
-ghost use Rattle.label_table.specs.Layer.{asking_step};
+ghost use Rattle.label_table.specs.Bodies.{FitsBody, body_of};
 ghost use Rattle.bus_memory.specs.Windows.{start};
 ghost use Rattle.orb_layout.specs.ManagementOrbs.{ManagementFits};
 ghost use Rattle.orb_list.specs.Table.{list_number};
 ghost use Rattle.sbp_initiator.specs.Acting.{IsAction, address_of, asked_for, counted_list, demand_of, first_in, login_id, login_orb, manage_demand, orb_by, orb_for, register_of, response_place, ring_demand};
-ghost use Rattle.sbp_initiator.specs.States.{place_of, wanted_body};
+ghost use Rattle.sbp_initiator.specs.States.{address_in, place_of, wanted_body};
 
 use crate::purpose::{Demand, Purpose, Wanted};
-use crate::state::{InitiatorState, behind_by, login_fifo, place_fifo, response_of};
+use crate::state::InitiatorState;
 use bus_memory::Window;
+use initiator_base::places::{behind_by, login_fifo, password_of, place_fifo, rom_start};
 use label_table::{Asked, RequestBody};
 use orb_layout::ManagementOrb;
 use orb_list::Ticket;
-use sbp_base::{NoMemory, Offset, quad_at};
+use sbp_base::{NoMemory, Offset};
 use sbp_journal::Action;
 use std::alloc::Global;
 
@@ -48,21 +47,34 @@ const DOORBELL: u32 = 0x10;
 
 const ENABLE: u32 = 0x14;
 
-/// Where the target's ROM begins.
-fn rom_start() -> Offset
-    ensures { result ≡ 0xffff_f000_0400 }
+/// The 8 bytes of the address that a request writes; zeros where it writes none.
+fn address_in(wanted: &Wanted) -> [u8; 8]
+    ensures { result ≡ big_bytes 8 (address_in wanted.now) }
 {
-    let Some(offset) = Offset::new(0xffff_f000_0400) else {
-        unreachable!()
+    let orb = match wanted {
+        Wanted::Point { orb, .. } => *orb,
+        Wanted::Read { .. } | Wanted::Write { .. } => Offset::zero(),
     };
-    offset
+    orb.value().to_be_bytes()
 }
 
-/// The 8 bytes of an address.
-fn address_bytes(orb: Offset) -> [u8; 8]
-    ensures { result ≡ big_bytes 8 orb }
+/// What a request asks for, with the bytes of the address that it writes.
+fn body_for<'a>(wanted: &Wanted, address: &'a [u8]) -> RequestBody<'a>
+    requires { address.now ≡ big_bytes 8 (address_in wanted.now) }
+    ensures body { body_of result ≡ wanted_body wanted.now }
+    ensures fits { FitsBody (body_of result) }
 {
-    orb.value().to_be_bytes()
+    match wanted {
+        Wanted::Read { offset } => RequestBody::ReadQuadlet { offset: *offset },
+        Wanted::Write { offset, value } => RequestBody::WriteQuadlet {
+            offset: *offset,
+            value: *value,
+        },
+        Wanted::Point { offset, .. } => RequestBody::WriteBlock {
+            offset: *offset,
+            payload: address,
+        },
+    }
 }
 
 /// The address of an ORB by its ticket; 0 without one.
@@ -75,20 +87,12 @@ fn address_of(ticket: Option<Ticket>) -> Offset
     }
 }
 
-/// The 8 bytes of a password as one number.
-fn password_of(password: &[u8]) -> u64
-    requires { length password.now ≡ 8 }
-    ensures { result ≡ quad password.now 0 * 2 ^ 32 + quad password.now 4 }
-{
-    (u64::from(quad_at(password, 0)) << 32) + u64::from(quad_at(password, 4))
-}
-
 impl InitiatorState {
     /// A register of the login's agent.
     fn register(&self, distance: u32) -> Offset
         ensures { result ≡ register_of self.now distance }
     {
-        behind_by(response_of(&self.seat).agent, distance)
+        behind_by(self.seat.response().agent, distance)
     }
 
     /// The next place of management, 0 or 1.
@@ -103,7 +107,7 @@ impl InitiatorState {
     pub(crate) fn login(&self) -> u16
         ensures { result ≡ login_id self.now }
     {
-        response_of(&self.seat).login
+        self.seat.response().login
     }
 
     /// The slot of the first ORB of the list.
@@ -216,63 +220,6 @@ impl InitiatorState {
         }
     }
 
-    /// Asks the target for the write of a block of 8 bytes.
-    fn ask_block(
-        &mut self,
-        alloc: Global,
-        offset: Offset,
-        payload: &[u8],
-        purpose: Purpose,
-    ) -> Result<Option<Asked>, NoMemory>
-        requires labels { self.old.layer.calls < 2 ^ 56 }
-        requires payload { length payload.now ≡ 8 }
-        ensures step { IfOk result (λ asked. (asked, self.new.layer) ≡ asking_step self.old.layer self.old.target (block_write offset payload.now) purpose) }
-        ensures keeps { self.new ≡ record self.old { layer = self.new.layer } }
-        ensures labels { self.new.layer.calls ≤ self.old.layer.calls + 1 }
-        ensures refused { IfOk result (λ asked. IfNone asked (self.new.layer ≡ self.old.layer)) }
-        ensures failed { OnErr result (self.new.layer ≡ self.old.layer) }
-    {
-        let body = RequestBody::WriteBlock { offset, payload };
-        self.layer.ask(alloc, self.target, &body, purpose)
-    }
-
-    /// Asks the target for a quadlet.
-    fn ask_read(
-        &mut self,
-        alloc: Global,
-        offset: Offset,
-        purpose: Purpose,
-    ) -> Result<Option<Asked>, NoMemory>
-        requires labels { self.old.layer.calls < 2 ^ 56 }
-        ensures step { IfOk result (λ asked. (asked, self.new.layer) ≡ asking_step self.old.layer self.old.target (quadlet_read offset) purpose) }
-        ensures keeps { self.new ≡ record self.old { layer = self.new.layer } }
-        ensures labels { self.new.layer.calls ≤ self.old.layer.calls + 1 }
-        ensures refused { IfOk result (λ asked. IfNone asked (self.new.layer ≡ self.old.layer)) }
-        ensures failed { OnErr result (self.new.layer ≡ self.old.layer) }
-    {
-        let body = RequestBody::ReadQuadlet { offset };
-        self.layer.ask(alloc, self.target, &body, purpose)
-    }
-
-    /// Asks the target for the write of a quadlet.
-    fn ask_write(
-        &mut self,
-        alloc: Global,
-        offset: Offset,
-        value: u32,
-        purpose: Purpose,
-    ) -> Result<Option<Asked>, NoMemory>
-        requires labels { self.old.layer.calls < 2 ^ 56 }
-        ensures step { IfOk result (λ asked. (asked, self.new.layer) ≡ asking_step self.old.layer self.old.target (quadlet_write offset value) purpose) }
-        ensures keeps { self.new ≡ record self.old { layer = self.new.layer } }
-        ensures labels { self.new.layer.calls ≤ self.old.layer.calls + 1 }
-        ensures refused { IfOk result (λ asked. IfNone asked (self.new.layer ≡ self.old.layer)) }
-        ensures failed { OnErr result (self.new.layer ≡ self.old.layer) }
-    {
-        let body = RequestBody::WriteQuadlet { offset, value };
-        self.layer.ask(alloc, self.target, &body, purpose)
-    }
-
     /// Asks the target. There is no request where it finds no label; then nothing changes.
     pub(crate) fn ask(&mut self, alloc: Global, demand: &Demand) -> Result<Option<Asked>, NoMemory>
         requires labels { self.old.layer.calls < 2 ^ 56 }
@@ -282,15 +229,9 @@ impl InitiatorState {
         ensures refused { IfOk result (λ asked. IfNone asked (self.new.layer ≡ self.old.layer)) }
         ensures failed { OnErr result (self.new.layer ≡ self.old.layer) }
     {
-        let purpose = demand.purpose;
-        match &demand.wanted {
-            Wanted::Read { offset } => self.ask_read(alloc, *offset, purpose),
-            Wanted::Write { offset, value } => self.ask_write(alloc, *offset, *value, purpose),
-            Wanted::Point { offset, orb } => {
-                let address = address_bytes(*orb);
-                self.ask_block(alloc, *offset, &address, purpose)
-            }
-        }
+        let address = address_in(&demand.wanted);
+        let body = body_for(&demand.wanted, &address);
+        self.layer.ask(alloc, self.target, &body, demand.purpose)
     }
 
     /// A management ORB of the next place, with a function, below 16, and its unit number or login ID.

@@ -6,10 +6,10 @@ ghost use Rattle.sbp_initiator.specs.Seeing.{all_end, freed_step, interrupted, r
 
 use crate::effects::tell;
 use crate::purpose::{ListMarks, Running};
-use crate::seats;
 use crate::state::InitiatorState;
 use sbp_base::{Generation, NoMemory, NodeId};
 use sbp_journal::{Note, OpWord, Operation, Outbox};
+use sbp_session::in_place;
 
 /// Tells that an operation, or a read of AGENT_STATE, ended by a reset.
 fn tell_reset(outbox: &mut Outbox, initiator: u8, operation: Operation) -> Result<(), NoMemory>
@@ -83,7 +83,7 @@ impl InitiatorState {
         self.target = target;
         self.operation = None;
         self.states.clear();
-        seats::reset(&mut self.seat);
+        in_place::reset(&mut self.seat);
     }
 
     /// The present list is dropped, and every slot is free.

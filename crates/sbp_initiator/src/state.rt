@@ -1,19 +1,13 @@
 ghost use Rattle.std.specs.Prelude.{◌≡◌, ◌+◌, ◌%◌, ◌^◌, ◌<◌, ◌≤◌, Some, None, IfSome};
-ghost use Rattle.async_packet.specs.Packet.{view};
-ghost use Rattle.sbp_initiator.specs.Refusals.{is_in_stuck};
-ghost use Rattle.sbp_session.specs.declared.seat.Seat.TheVariants as seats;
-ghost use Rattle.sbp_initiator.specs.States.{behind_by, fifo_at, is_answered, is_in_rom, is_list, is_orb_of, is_out_seat, is_present_orb, is_stuck_seat, is_unwritten, last_linked, login_fifo, management_at, names_place, no_marks, place_fifo, place_in, points, reads_rom, response_in};
+ghost use Rattle.sbp_initiator.specs.States.{fifo_at, is_answered, is_list, is_orb_of, is_present_orb, is_unwritten, last_linked, no_marks, place_in};
 
 use crate::fifo::Fifo;
-use crate::lists::Lists;
 use crate::purpose::{ListMarks, Pointing, Purpose, Running};
-use crate::reads::StateReads;
-use crate::rom::RomQuads;
-use async_packet::PacketRef;
+use initiator_base::places::login_fifo;
+use initiator_base::{RomQuads, StateReads};
 use label_table::Transactions;
-use orb_layout::LoginResponse;
-use orb_list::PresentList;
-use sbp_base::{NodeId, Offset, quad_at};
+use orb_list::{Lists, PresentList};
+use sbp_base::{NodeId, Offset};
 use sbp_session::Seat;
 
 /// What an initiator has counted.
@@ -49,79 +43,6 @@ pub struct InitiatorState {
     pub counts: Counts,
 }
 
-/// The response of the login that a session has; zeros where it has none.
-pub(crate) fn response_of(seat: &Seat) -> LoginResponse
-    ensures { result ≡ response_in seat.now }
-{
-    match seat {
-        Seat::Live(live) => live.response(),
-        Seat::Held(held) => held.response(),
-        Seat::Returning(returning) => returning.response(),
-        Seat::Leaving(leaving) => leaving.response(),
-        Seat::Out(_) | Seat::Entering(_) | Seat::Stuck(_) => LoginResponse {
-            login: 0,
-            agent: Offset::zero(),
-            hold: 0,
-        },
-    }
-}
-
-/// Whether an ORB_POINTER write is under way.
-pub(crate) fn points(seat: &Seat) -> bool
-    ensures { result ≡ points seat.now }
-{
-    match seat {
-        Seat::Live(live) => live.is_pointing(),
-        _ => false,
-    }
-}
-
-/// Whether a session is stuck.
-pub(crate) fn is_stuck(seat: &Seat) -> bool
-    ensures { result ≡ is_stuck_seat seat.now }
-{
-    matches!(seat, Seat::Stuck(_))
-}
-
-/// Whether a session is Out.
-fn is_out(seat: &Seat) -> bool
-    ensures { result ≡ is_out_seat seat.now }
-{
-    matches!(seat, Seat::Out(_))
-}
-
-/// The address so many bytes behind another, of 48 bits.
-pub(crate) fn behind_by(base: Offset, distance: u32) -> Offset
-    ensures { result ≡ behind_by base distance }
-{
-    let value = (base.value() + u64::from(distance)) & 0xffff_ffff_ffff;
-    let Some(offset) = Offset::new(value) else {
-        unreachable!()
-    };
-    offset
-}
-
-/// The FIFO of a login number.
-pub(crate) fn login_fifo(number: u32) -> Offset
-    ensures { result ≡ login_fifo number }
-{
-    let Some(offset) = Offset::new(0x1300_0000 + 0x20 * u64::from(number)) else {
-        unreachable!()
-    };
-    offset
-}
-
-/// The FIFO of a place of management, 0 or 1.
-pub(crate) fn place_fifo(place: u8) -> Offset
-    requires { place < 2 }
-    ensures { result ≡ place_fifo place }
-{
-    let Some(offset) = Offset::new(0x1200_2000 + 0x20 * u64::from(place)) else {
-        unreachable!()
-    };
-    offset
-}
-
 /// The FIFO at an address, where so many login numbers were used.
 #[tactic(auto, unfolding(crate::specs::States::fifo_at))]
 pub(crate) fn fifo_at(logins: u32, seat: &Seat, offset: Offset) -> Option<Fifo>
@@ -131,44 +52,13 @@ pub(crate) fn fifo_at(logins: u32, seat: &Seat, offset: Offset) -> Option<Fifo>
     if value == 0x1200_2000 || value == 0x1200_2020 {
         return Some(Fifo::Place);
     }
-    if logins > 0 && value == login_fifo(logins - 1).value() && !is_out(seat) {
+    if logins > 0 && value == login_fifo(logins - 1).value() && !seat.is_out() {
         return Some(Fifo::Login);
     }
     if 0x1300_0000 <= value && value < 0x20_1300_0000 && value % 0x20 == 0 {
         return Some(Fifo::Closed);
     }
     None
-}
-
-/// Whether so many bytes from an offset on lie inside the ROM of an initiator, which has 32.
-fn is_in_rom(offset: Offset, count: u16) -> bool
-    ensures { result ≡ is_in_rom offset count }
-{
-    let value = offset.value();
-    0xffff_f000_0400 <= value && value + u64::from(count) <= 0xffff_f000_0420
-}
-
-/// Whether a packet is a read inside the ROM.
-pub(crate) fn reads_rom(packet: &PacketRef<'_>) -> bool
-    ensures { result ≡ reads_rom (view packet.now) }
-{
-    match packet {
-        PacketRef::ReadQuadlet { offset, .. } => is_in_rom(*offset, 4),
-        PacketRef::ReadBlock { offset, length, .. } => is_in_rom(*offset, *length),
-        _ => false,
-    }
-}
-
-/// Whether a status block names an ORB in a place of management.
-pub(crate) fn names_place(payload: &[u8]) -> bool
-    ensures { result ≡ names_place payload.now }
-{
-    if payload.len() < 8 {
-        return false;
-    }
-    let high = u64::from(quad_at(payload, 0) & 0xffff);
-    let orb = (high << 32) + u64::from(quad_at(payload, 4));
-    orb == 0x1200_0000 || orb == 0x1200_0020
 }
 
 /// The last ORB of a list that is linked.
@@ -190,17 +80,6 @@ pub(crate) fn is_list(present: &Option<PresentList>, number: u32) -> bool
         Some(list) => list.tail.list() == number,
         None => false,
     }
-}
-
-/// Where MANAGEMENT_AGENT stands, so many quadlets from the base of the registers on.
-pub(crate) fn management_at(distance: u32) -> Offset
-    ensures { result ≡ management_at distance }
-{
-    let value = (0xffff_f000_0000 + 4 * u64::from(distance)) & 0xffff_ffff_ffff;
-    let Some(offset) = Offset::new(value) else {
-        unreachable!()
-    };
-    offset
 }
 
 impl ListMarks {

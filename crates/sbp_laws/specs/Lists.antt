@@ -1,6 +1,6 @@
 -- The lists of an initiator, read off the lines and the notes: the present one, what each of its ORBs asks for, how far it is linked, and
 -- the slots that its ORBs stand in.
-use Rattle.std.specs.Prelude.{ℕ, zero, suc, ◌==◌, ◌&&◌, ◌||◌, not, nat_lt, Bool, true, false, if◌then◌else◌, List, [], ◌∷◌, map, replicate, slice_set, Option, Some, None}
+use Rattle.std.specs.Prelude.{ℕ, zero, suc, ◌==◌, ◌&&◌, ◌||◌, not, nat_lt, Bool, true, false, if◌then◌else◌, List, [], ◌∷◌, map, max, replicate, slice_set, Option, Some, None}
 use Rattle.sbp_base.specs.Update.{upd, upd2, upd3}
 use Rattle.orb_layout.specs.declared.status.StatusKind.{StatusKind}
 use Rattle.orb_layout.specs.StatusBlocks.{row_of, src_of}
@@ -99,10 +99,10 @@ taken_at [] = λ i n k. None
 taken_at (said (notes.Taken i n k status answer) ∷ past) = upd3 (taken_at past) i n k (Some (record { status = status; src = src_in (access_at (terms past) (last_got past)) }))
 taken_at (_ ∷ past) = taken_at past
 
--- the status of a later ORB of the list was taken: the number of the last one whose status was, counted from 1
+-- the status of a later ORB of the list was taken: the number of the highest one whose status was, counted from 1
 abbrev pub passed : List Moment → ℕ → ℕ → ℕ
 passed [] = λ i n. 0
-passed (said (notes.Taken i n k status answer) ∷ past) = upd2 (passed past) i n (suc k)
+passed (said (notes.Taken i n k status answer) ∷ past) = upd2 (passed past) i n (max (passed past i n) (suc k))
 passed (_ ∷ past) = passed past
 
 -- an ORB waits: it is of the present list, was appended, and no status of it was taken
@@ -114,7 +114,7 @@ abbrev pub waits_in : List Moment → ℕ → ℕ → ℕ → Bool
 waits_in past i n k = is_list (present_list past i) n && nat_lt k (appends past i n) && is_none_taken (taken_at past i n k)
 
 -- ---- slots
--- the ORB whose slot an abort pins: from the abort's line to the `op` of that abort, or a reset that its initiator sees
+-- the ORB whose slot an abort pins: from the abort's line to the `op` of that abort, or a later generation that its initiator sees
 abbrev pub pins : Option Event → ℕ → Option ℕ → Option Orb → Option Orb
 pins (Some (events.Act i (actions.Abort k))) j (Some n) pinned = if i == j then Some (orb n k) else pinned
 pins event j present pinned = pinned
@@ -123,7 +123,8 @@ abbrev pub pinned_orb : List Moment → ℕ → Option Orb
 pinned_orb [] = λ i. None
 pinned_orb (said (notes.Sent serial generation (suc i) to bytes) ∷ past) = upd (pinned_orb past) i (pins (event_of past) i (present_list past i) (pinned_orb past i))
 pinned_orb (said (notes.Op i operations.Abort word) ∷ past) = upd (pinned_orb past) i None
-pinned_orb (said (notes.Seen (suc i) generation) ∷ past) = upd (pinned_orb past) i None
+pinned_orb (said (notes.Seen (suc i) generation) ∷ past) =
+    upd (pinned_orb past) i (if generation == (terms past).generation (suc i) then pinned_orb past i else None)
 pinned_orb (_ ∷ past) = pinned_orb past
 
 abbrev pub is_pinned : Option Orb → ℕ → ℕ → Bool

@@ -320,6 +320,9 @@ operation_ends_otherwise = instead 2 runs.agent_reset_told (notes.Op 0 operation
 abbrev pub aborted_left_out : List Moment
 aborted_left_out = instead 8 runs.abort_told []
 
+abbrev pub aborted_left_out_behind_sight : List Moment
+aborted_left_out_behind_sight = instead 8 runs.abort_behind_sight []
+
 -- login
 abbrev pub left_left_out : List Moment
 left_left_out = instead 8 runs.logout_told (notes.Managed 0 functions.Logout 1 0 None ∷ [])

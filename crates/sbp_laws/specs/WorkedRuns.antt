@@ -1,5 +1,5 @@
 -- More worked journals: a READ CAPACITY, an agent reset, and a logout, each with every packet.
-use Rattle.std.specs.Prelude.{ℕ, true, false, List, [], ◌∷◌, ◌++◌, replicate, None, Some}
+use Rattle.std.specs.Prelude.{ℕ, ◌+◌, true, false, List, [], ◌∷◌, ◌++◌, replicate, None, Some}
 use Rattle.async_packet.specs.Packet.{write_quadlet, write_block, write_response, read_quadlet, read_block, read_quadlet_response, read_block_response}
 use Rattle.async_packet.specs.Canon.{canon}
 use Rattle.async_packet.specs.declared.packet.Header.{Header}
@@ -213,18 +213,26 @@ write_orb = quad_bytes (0x80000000 ∷ 0 ∷ 0xffc10000 ∷ 0x11000000 ∷ 0x829
 abbrev pub abort_orb : ManagementOrb
 abort_orb = record logout_orb { function = 0xb; first = 0x10000000 }
 
-abbrev pub abort_told : List Moment
-abort_told =
+-- what is told between the abort's line and the delivery of its request, on the line of a number
+abbrev pub abort_behind : List Moment → (line : ℕ) → List Moment
+abort_behind between line =
     told (begins ++ asked 2 (events.Act 0 (actions.Append write_whole)) ∷ said (notes.Append 0 0 0 write_block_0 (Out (replicate 512 0xaa))) ∷ said (notes.Rung 0 0 0)
     ∷ said (notes.Sent 1 0 1 0 pointer_packet) ∷ asked 3 (events.Step 4) ∷ points_agent
     ++ said (notes.Got 2) ∷ said (notes.Got 3) ∷ said (notes.Sent 4 0 1 0 (canon (read_block_response (to_target 0) 0 write_orb)))
     ∷ said (notes.Got 4) ∷ said (notes.Sent 5 0 0 1 (canon (read_block (to_first 0) 0x11000000 512)))
     ∷ asked 4 (events.Act 0 (actions.Abort 0)) ∷ said (notes.Sent 6 0 1 0 (canon (write_block (to_target 0) 0xfffff0010000 (quad_bytes (0 ∷ 0x12000000 ∷ [])))))
-    ∷ asked 5 (events.Deliver 6) ∷ said (notes.Got 6) ∷ said (notes.Sent 7 0 0 1 (done_by_target 0 0)) ∷ said (notes.Sent 8 0 0 1 (fetch_packet 1 0x12000000))
-    ∷ asked 6 (events.Deliver 8) ∷ said (notes.Got 8) ∷ said (notes.Sent 9 0 1 0 (canon (read_block_response (to_target 1) 0 (management_bytes abort_orb))))
-    ∷ asked 7 (events.Deliver 9) ∷ said (notes.Got 9) ∷ said (notes.Managed 0 functions.Abort 1 0 None)
+    ∷ between ++ asked line (events.Deliver 6) ∷ said (notes.Got 6) ∷ said (notes.Sent 7 0 0 1 (done_by_target 0 0)) ∷ said (notes.Sent 8 0 0 1 (fetch_packet 1 0x12000000))
+    ∷ asked (line + 1) (events.Deliver 8) ∷ said (notes.Got 8) ∷ said (notes.Sent 9 0 1 0 (canon (read_block_response (to_target 1) 0 (management_bytes abort_orb))))
+    ∷ asked (line + 2) (events.Deliver 9) ∷ said (notes.Got 9) ∷ said (notes.Managed 0 functions.Abort 1 0 None)
     ∷ said (notes.Sent 10 0 0 1 (canon (write_block (to_first 1) 0x12002000 (quad_bytes (0x01000000 ∷ 0x12000000 ∷ [])))))
-    ∷ asked 8 events.Settle ∷ said (notes.Got 5) ∷ said (notes.Sent 11 0 1 0 (canon (read_block_response (to_target 0) 0 (replicate 512 0xaa)))) ∷ said (notes.Got 7)
+    ∷ asked (line + 3) events.Settle ∷ said (notes.Got 5) ∷ said (notes.Sent 11 0 1 0 (canon (read_block_response (to_target 0) 0 (replicate 512 0xaa)))) ∷ said (notes.Got 7)
     ∷ said (notes.Got 10) ∷ said (notes.Op 0 operations.Abort words.Done) ∷ said (notes.Sent 12 0 1 0 (done_by_first 1))
     ∷ said (notes.Got 11) ∷ ended kinds.Aborted ∷ said (notes.Sent 13 0 0 1 (status_packet 0x410c0000)) ∷ said (notes.Got 12)
     ∷ said (notes.Got 13) ∷ taken kinds.Aborted ∷ said (notes.Sent 14 0 1 0 (done_by_first 0)) ∷ said (notes.Got 14) ∷ said notes.Settled ∷ [])
+
+abbrev pub abort_told : List Moment
+abort_told = abort_behind [] 5
+
+-- the same where the initiator is asked to see the generation that it is in: its slot stays pinned, and its ORB ends as aborted
+abbrev pub abort_behind_sight : List Moment
+abort_behind_sight = abort_behind (asked 5 (events.See 1) ∷ said (notes.Seen 1 0) ∷ []) 6

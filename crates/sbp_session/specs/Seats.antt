@@ -1,8 +1,34 @@
--- The stuck session: what it becomes stuck from, and what a seen reset makes of it.
+-- What is read off a session; and the stuck one: what it becomes stuck from, and what a seen reset makes of it.
+use Rattle.std.specs.Prelude.{Bool, true, false}
+use Rattle.orb_layout.specs.declared.login.LoginResponse.{LoginResponse}
 use Rattle.sbp_session.specs.declared.seat.Seat.{Seat}
 use Rattle.sbp_session.specs.declared.seat.Seat.TheVariants as seats
 use Rattle.sbp_session.specs.declared.seat.Origin.{Origin}
 use Rattle.sbp_session.specs.declared.seat.Origin.TheVariants as origins
+
+-- an ORB_POINTER write is under way
+abbrev pub points : Seat → Bool
+points (seats.Live live) = live.pointing
+points _ = false
+
+abbrev pub no_response : LoginResponse
+no_response = record { login = 0; agent = 0; hold = 0 }
+
+-- the response of the login
+abbrev pub response_in : Seat → LoginResponse
+response_in (seats.Live live) = live.response
+response_in (seats.Held response) = response
+response_in (seats.Returning response) = response
+response_in (seats.Leaving response) = response
+response_in _ = no_response
+
+abbrev pub is_out_seat : Seat → Bool
+is_out_seat (seats.Out out) = true
+is_out_seat _ = false
+
+abbrev pub is_stuck_seat : Seat → Bool
+is_stuck_seat (seats.Stuck origin) = true
+is_stuck_seat _ = false
 
 -- the state that a session becomes stuck in; a stuck one keeps its own
 abbrev pub stick : Seat → Origin

@@ -4,6 +4,7 @@
 #![tactic(auto)]
 
 mod held;
+pub mod in_place;
 mod law;
 mod live;
 mod out;

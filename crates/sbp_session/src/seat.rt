@@ -1,13 +1,14 @@
 #![tactic(auto, unfolding(crate::specs::Moves::goes))]
 
 ghost use Rattle.std.specs.Prelude.{◌≡◌, ◌==◌, if◌then◌else◌};
-ghost use Rattle.sbp_session.specs.Seats.{stick, unstick};
+ghost use Rattle.sbp_session.specs.Seats.{is_out_seat, is_stuck_seat, points, response_in, stick, unstick};
 ghost use Rattle.sbp_session.specs.Moves.{bad, conflict, entered, failed, good, goes, reset, sent};
 
 use crate::held::{Held, Leaving, Returning};
 use crate::live::Live;
 use crate::out::{Entering, Out};
 use orb_layout::LoginResponse;
+use sbp_base::Offset;
 use std::marker::Model;
 
 /// The session of an initiator, in one of its states.
@@ -48,6 +49,47 @@ impl Model for Stuck {
 }
 
 impl Seat {
+    /// The response of the login that a session has; zeros where it has none.
+    pub fn response(&self) -> LoginResponse
+        ensures { result ≡ response_in self.now }
+    {
+        match self {
+            Seat::Live(live) => live.response(),
+            Seat::Held(held) => held.response(),
+            Seat::Returning(returning) => returning.response(),
+            Seat::Leaving(leaving) => leaving.response(),
+            Seat::Out(_) | Seat::Entering(_) | Seat::Stuck(_) => LoginResponse {
+                login: 0,
+                agent: Offset::zero(),
+                hold: 0,
+            },
+        }
+    }
+
+    /// Whether an ORB_POINTER write is under way.
+    pub fn is_pointing(&self) -> bool
+        ensures { result ≡ points self.now }
+    {
+        match self {
+            Seat::Live(live) => live.is_pointing(),
+            _ => false,
+        }
+    }
+
+    /// Whether a session is out.
+    pub fn is_out(&self) -> bool
+        ensures { result ≡ is_out_seat self.now }
+    {
+        matches!(self, Seat::Out(_))
+    }
+
+    /// Whether a session is stuck.
+    pub fn is_stuck(&self) -> bool
+        ensures { result ≡ is_stuck_seat self.now }
+    {
+        matches!(self, Seat::Stuck(_))
+    }
+
     /// The login, reconnect or logout was sent that the state allows; a session that allows none stays.
     pub fn sent(self) -> Seat
         ensures { result ≡ goes sent self }

@@ -12,3 +12,4 @@ pub mod Receiving
 pub mod Targets
 pub mod Counting
 pub mod Faults
+pub mod Calls

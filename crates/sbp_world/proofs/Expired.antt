@@ -7,7 +7,7 @@ use Rattle.sbp_journal.specs.Outgoings.{OutboxState, empty_outbox}
 use Rattle.sbp_target.specs.Nodes.{Scene, scene}
 use Rattle.sbp_target.specs.Receiving.{expired}
 use Rattle.sbp_target.specs.Targets.{Expires, ExpiresBy, TargetState}
-use Rattle.sbp_world.specs.declared.requests.Request.{Request}
+use Rattle.sbp_bus.specs.declared.requests.Request.{Request}
 use Rattle.sbp_world.specs.Packets.{target_expired, target_left}
 
 done_by : (step : Result (Unit {0}) Stale × Scene) (old new : TargetState) (before : Scene) (outbox : OutboxState) → ExpiresBy (Ok tt) step old before new outbox → (true, (outbox, new.node)) ≡ target_left step old.node

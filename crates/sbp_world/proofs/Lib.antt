@@ -15,3 +15,6 @@ pub mod BlockForms
 pub mod InitiatorForms
 pub mod ToldForms
 pub mod LineForms
+pub mod FitTarget
+pub mod FitInitiator
+pub mod Wire

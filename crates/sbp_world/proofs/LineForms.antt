@@ -24,17 +24,17 @@ use Rattle.sbp_target.specs.Nodes as target
 use Rattle.sbp_target.specs.Receiving.{expired, received}
 use Rattle.sbp_target.specs.Replies.{Whole}
 use Rattle.sbp_world.specs.declared.parts.delivering.Arrival.{Arrival}
-use Rattle.sbp_world.specs.declared.requests.Request.{Request}
+use Rattle.sbp_bus.specs.declared.requests.Request.{Request}
 use Rattle.sbp_world.specs.Delivering.{MayAt, MayReceive, MayTell, MayTold, arrived, arrived_by, at_initiator, at_none, at_target, delivered, delivered_by, faults_after, initiator_received, initiators_received, judged_note, left_target, listed, marked, received_by, received_step, target_received, whole_of}
 use Rattle.sbp_world.specs.Forms.{AreForms, FormLaw, HaveForm}
-use Rattle.sbp_world.specs.Generations.{id_of}
+use Rattle.sbp_bus.specs.Generations.{id_of}
 use Rattle.sbp_world.specs.Lines.{MayHappen, MayTellIn, acted, acted_by, happens, happens_to, keyed, weight_in}
 use Rattle.sbp_world.specs.Making.{new_world}
 use Rattle.sbp_world.specs.Nodes.{handed_all, initiator_learns, reset_line, see_line, sees, target_learns, target_sees, target_ticks, tick_line, told_seen, with_seen}
 use Rattle.sbp_world.specs.Nodes as nodes
 use Rattle.sbp_world.specs.Packets as packets
 use Rattle.sbp_world.specs.Packets.{MayIf, delivered_if, expires, initiator_expires, inject_line, injected, injected_to, is_in_flight, lose_line, lost, may_repeat, no_packet, refused, target_expired, target_left, timed_out, timeout_line, timeout_of}
-use Rattle.sbp_world.specs.Requests.{find}
+use Rattle.sbp_bus.specs.Requests.{find}
 use Rattle.sbp_world.specs.Runs.{AreEntries, Entry, after, beginning}
 use Rattle.sbp_world.specs.Settling.{MayAll, MayNext, MayAt as MayAtLowest, after_all, delivered_at, delivered_next, end_note, is_settled, lowest, settled}
 use Rattle.sbp_world.specs.Worlds.{Scene, WorldState, begun, initiator_at, with_initiator, with_note}

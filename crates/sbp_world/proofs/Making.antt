@@ -1,25 +1,9 @@
--- The nodes at the start, one after the other.
+-- The initiators at the start, one after the other.
 use Rattle.std.specs.Prelude.{◌≡◌, ℕ, zero, suc, Bool, [], ◌∷◌, ◌++◌, length, refl}
 use Rattle.std.proofs.Common.{arith}
 use Rattle.std.proofs.lemmas.Grind.{common_steps}
 use Rattle.sbp_initiator.specs.Initiators.{new_state}
-use Rattle.sbp_world.specs.Generations.{first_ids}
 use Rattle.sbp_world.specs.Making.{new_initiators}
-
-pub ids_none : (n : ℕ) → n ≡ zero → first_ids n ≡ []
-unfolding first_ids
-ids_none zero e = refl
-ids_none (suc n) e = absurd (omega arith)
-
-pub ids_more : (m n : ℕ) → m ≡ suc n → first_ids m ≡ first_ids n ++ n ∷ []
-unfolding first_ids
-ids_more zero n e = absurd (omega arith)
-ids_more (suc k) n e = let same : k ≡ n = omega arith in rw same
-
-pub ids_size : (n : ℕ) → length (first_ids n) ≡ n
-unfolding first_ids
-ids_size zero = refl
-ids_size (suc n) = let s = ids_size n in grind (arith, common_steps)
 
 pub initiators_none : (n : ℕ) (ready : Bool) → n ≡ zero → new_initiators n ready ≡ []
 unfolding new_initiators

@@ -9,7 +9,7 @@ use Rattle.sbp_journal.specs.declared.side.Side.TheVariants as sides
 use Rattle.sbp_journal.specs.Form.{IsDecision}
 use Rattle.sbp_journal.specs.Outgoings.{OutboxState}
 use Rattle.sbp_world.specs.Forms.{HaveForm}
-use Rattle.sbp_world.specs.Generations.{node_of}
+use Rattle.sbp_bus.specs.Generations.{node_of}
 use Rattle.sbp_world.specs.Handing.{handed_out}
 use Rattle.sbp_world.specs.Sending.{asked, posted, sent, sent_all, sent_to}
 use Rattle.sbp_world.specs.Telling.{told, told_all}

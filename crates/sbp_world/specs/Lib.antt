@@ -1,7 +1,3 @@
-pub mod Generations
-pub mod Requests
-pub mod Places
-pub mod Loads
 pub mod Words
 pub mod Worlds
 pub mod Telling
@@ -16,3 +12,6 @@ pub mod Making
 pub mod Runs
 pub mod Forms
 pub mod Histories
+pub mod FitTarget
+pub mod FitInitiator
+pub mod Wire

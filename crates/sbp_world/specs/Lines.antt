@@ -11,7 +11,7 @@ use Rattle.sbp_initiator.specs.declared.state.InitiatorState.{InitiatorState}
 use Rattle.sbp_initiator.specs.Acting.{IsAction, act_step}
 use Rattle.sbp_target.specs.Receiving.{with_key}
 use Rattle.sbp_world.specs.Handing.{handed_out}
-use Rattle.sbp_world.specs.Loads.{weight_of}
+use Rattle.sbp_bus.specs.Loads.{weight_of}
 use Rattle.sbp_world.specs.Nodes.{reset_line, see_line, tick_line}
 use Rattle.sbp_world.specs.Packets.{MayIf, delivered_if, inject_line, is_in_flight, lose_line, may_repeat, refused, timeout_line}
 use Rattle.sbp_world.specs.Settling.{AreUpTo, after_all, budget, settled}

@@ -6,10 +6,10 @@ use Rattle.sbp_initiator.specs.Initiators.{new_state}
 use Rattle.sbp_journal.specs.declared.note.Note.{Note}
 use Rattle.sbp_journal.specs.declared.note.Note.TheVariants as notes
 use Rattle.sbp_target.specs.Receiving.{new_node}
-use Rattle.sbp_world.specs.Generations.{new_generations}
-use Rattle.sbp_world.specs.Loads.{new_loads}
-use Rattle.sbp_world.specs.Places.{new_places}
-use Rattle.sbp_world.specs.Requests.{new_requests}
+use Rattle.sbp_bus.specs.Generations.{new_generations}
+use Rattle.sbp_bus.specs.Loads.{new_loads}
+use Rattle.sbp_bus.specs.Places.{new_places}
+use Rattle.sbp_bus.specs.Requests.{new_requests}
 use Rattle.sbp_world.specs.Worlds.{WorldState}
 
 -- initiators 0 and so on

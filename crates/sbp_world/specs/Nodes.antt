@@ -7,7 +7,7 @@ use Rattle.sbp_journal.specs.Outgoings.{OutboxState, empty_outbox}
 use Rattle.sbp_target.specs.Nodes.{NodeState}
 use Rattle.sbp_target.specs.Nodes as target
 use Rattle.sbp_target.specs.Receiving.{seen, ticked}
-use Rattle.sbp_world.specs.Generations.{id_of, reset_step, see_step as sees_latest}
+use Rattle.sbp_bus.specs.Generations.{id_of, reset_step, see_step as sees_latest}
 use Rattle.sbp_world.specs.Handing.{handed_out}
 use Rattle.sbp_world.specs.Worlds.{WorldState, initiator_at, with_initiator, with_note, with_target}
 

@@ -6,9 +6,9 @@ use Rattle.packet_store.specs.Stored.{send_step}
 use Rattle.sbp_journal.specs.declared.note.Note.{Note}
 use Rattle.sbp_journal.specs.declared.note.Note.TheVariants as notes
 use Rattle.sbp_journal.specs.declared.outbox.Outgoing.{Outgoing}
-use Rattle.sbp_world.specs.declared.requests.Request.{Request}
-use Rattle.sbp_world.specs.Generations.{node_of, topology_at}
-use Rattle.sbp_world.specs.Requests.{add_step}
+use Rattle.sbp_bus.specs.declared.requests.Request.{Request}
+use Rattle.sbp_bus.specs.Generations.{node_of, topology_at}
+use Rattle.sbp_bus.specs.Requests.{add_step}
 use Rattle.sbp_world.specs.Worlds.{WorldState}
 
 abbrev pub packet_of : (generation from to : ℕ) → Bool → List ℕ → Sent

@@ -5,7 +5,7 @@ use Rattle.rbc_disk.specs.Runs.{Told}
 use Rattle.sbp_journal.specs.declared.note.Note.{Note}
 use Rattle.sbp_journal.specs.declared.note.Note.TheVariants as notes
 use Rattle.sbp_world.specs.Delivering.{MayReceive, delivered}
-use Rattle.sbp_world.specs.Loads.{lists_weight}
+use Rattle.sbp_bus.specs.Loads.{lists_weight}
 use Rattle.sbp_world.specs.Worlds.{WorldState, Scene, begun, in_world, with_note}
 
 -- the lowest serial in flight

@@ -12,12 +12,12 @@ use Rattle.sbp_journal.specs.declared.operation.FunctionWord.{FunctionWord}
 use Rattle.sbp_journal.specs.declared.operation.FunctionWord.TheVariants as functions
 use Rattle.sbp_journal.specs.declared.side.Side.{Side}
 use Rattle.sbp_journal.specs.declared.side.Side.TheVariants as sides
-use Rattle.sbp_initiator.specs.Lists.{last_at}
-use Rattle.sbp_world.specs.declared.loads.ListLoad.{ListLoad}
-use Rattle.sbp_world.specs.declared.places.Holder.{Holder}
-use Rattle.sbp_world.specs.Generations.{node_of}
-use Rattle.sbp_world.specs.Loads.{append_step, cut_step, drop_step, of_initiator, take_step}
-use Rattle.sbp_world.specs.Places.{back_step, enter_step, holder_at, holder_of, left_step, opened_step}
+use Rattle.orb_list.specs.Lists.{last_at}
+use Rattle.sbp_bus.specs.declared.loads.ListLoad.{ListLoad}
+use Rattle.sbp_bus.specs.declared.places.Holder.{Holder}
+use Rattle.sbp_bus.specs.Generations.{node_of}
+use Rattle.sbp_bus.specs.Loads.{append_step, cut_step, drop_step, of_initiator, take_step}
+use Rattle.sbp_bus.specs.Places.{back_step, enter_step, holder_at, holder_of, left_step, opened_step}
 use Rattle.sbp_world.specs.Words.{check_of, function_word, login_if}
 use Rattle.sbp_world.specs.Worlds.{WorldState, initiator_at, with_note}
 

@@ -7,10 +7,10 @@ use Rattle.sbp_target.specs.Nodes.{NodeState}
 use Rattle.sbp_initiator.specs.declared.state.InitiatorState.{InitiatorState}
 use Rattle.sbp_initiator.specs.Initiators.{new_state}
 use Rattle.sbp_journal.specs.declared.note.Note.{Note}
-use Rattle.sbp_world.specs.declared.loads.ListLoad.{ListLoad}
-use Rattle.sbp_world.specs.declared.places.Holder.{Holder}
-use Rattle.sbp_world.specs.Generations.{GenerationsState}
-use Rattle.sbp_world.specs.Requests.{RequestsState}
+use Rattle.sbp_bus.specs.declared.loads.ListLoad.{ListLoad}
+use Rattle.sbp_bus.specs.declared.places.Holder.{Holder}
+use Rattle.sbp_bus.specs.Generations.{GenerationsState}
+use Rattle.sbp_bus.specs.Requests.{RequestsState}
 
 -- The generations of the bus and every node's ID; the target and the initiators; the packets; the requests under way, by node, peer and
 -- label; who has each place of the target's logins, and which list is open there; what the budget counts; and the notes of the line, the

@@ -2,19 +2,14 @@
 //! them, and the notes of each line.
 #![tactic(auto)]
 
-mod generations;
 mod laws;
-mod loads;
 mod parts;
-mod places;
-mod requests;
 mod words;
 mod world;
 
-pub use generations::Topology;
-pub use laws::{lines_have_form, runs_begin, runs_go_on, settles_go_on};
-pub use loads::{LeftLists, ListLoad, OrbLoad, OrbLoads};
+pub use laws::{
+    initiator_calls_fit_the_wire, lines_are_moves, lines_have_form, runs_are_lawful_on_the_bus,
+    runs_begin, runs_go_on, settles_go_on, target_calls_fit_the_wire,
+};
 pub use parts::{Arrival, Parts};
-pub use places::Holder;
-pub use requests::Request;
 pub use world::World;

@@ -1,10 +1,7 @@
 ghost use Rattle.std.specs.Prelude.{◌≡◌, ◌+◌, ◌≤◌, length};
 
-use crate::generations::Generations;
-use crate::loads::Loads;
-use crate::places::Places;
-use crate::requests::Requests;
 use packet_store::Store;
+use sbp_bus::{Generations, Loads, Places, Requests};
 use sbp_initiator::Initiator;
 use sbp_journal::Journal;
 use sbp_target::Target;

@@ -8,12 +8,12 @@ use Rattle.script_words.specs.Commands.{addressed_block}
 use Rattle.sbp_journal.proofs.Each.{all_append}
 use Rattle.script_text.specs.Draws.{appending, block_of, block_read, block_write, drawn, next, turn, turn_of}
 use Rattle.script_text.specs.Drill.{is_due, settle, turns}
-use Rattle.sbp_initiator.specs.Lists.{IsCommand}
+use Rattle.sbp_initiator.specs.Commands.{IsCommand}
 use Rattle.sbp_world.specs.Lines.{IsEvent}
 use Rattle.bus_transactions.specs.Fitting.{AreBytes}
 use Rattle.bus_transactions.proofs.Fits.{bytes_append, bytes_quad, no_bytes}
-use Rattle.initiator_laws.specs.Fitting.{BytesCommand}
-use Rattle.world_laws.specs.Lines.{IsLine}
+use Rattle.sbp_world.specs.FitInitiator.{BytesCommand}
+use Rattle.sbp_world.specs.Wire.Lines.{IsLine}
 
 drawn_two : (x : ℕ) → drawn x 2 < 2
 unfolding drawn

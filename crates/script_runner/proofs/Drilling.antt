@@ -9,7 +9,7 @@ use Rattle.sbp_world.specs.Making.{new_world, notes_begin}
 use Rattle.sbp_world.specs.Runs.{entry, with_entry}
 use Rattle.sbp_world.specs.Worlds.{WorldState}
 use Rattle.sbp_world.proofs.Standing.{begins, goes_on}
-use Rattle.world_laws.specs.Lines.{IsLine}
+use Rattle.sbp_world.specs.Wire.Lines.{IsLine}
 use Rattle.script_text.specs.Drill.{generated, turns}
 use Rattle.drill_text.specs.Tally.{TallyState, tally_of}
 use Rattle.script_runner.specs.Drilling.{AreLeft, Drilled, InDrill}

@@ -2,7 +2,7 @@
 use Rattle.std.proofs.Common.{◌≡◌, subst, List, [], ◌∷◌, length}
 use Rattle.sbp_world.specs.Runs.{Entry, Run, after, beginning, with_entry}
 use Rattle.sbp_world.specs.Worlds.{Scene}
-use Rattle.world_laws.specs.Lines.{AreLines, IsLine}
+use Rattle.sbp_world.specs.Wire.Lines.{AreLines, IsLine}
 
 lines_with : (run : Run) (e : Entry) (entries : List Entry) → AreLines run entries → AreLines (with_entry run e) entries
 lines_with run e [] h = tt

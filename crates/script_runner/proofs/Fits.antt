@@ -33,10 +33,10 @@ use Rattle.script_text.specs.declared.row.Fate.TheVariants as fates
 use Rattle.script_text.specs.declared.column.Column.TheVariants.{Number}
 use Rattle.script_text.specs.Rows.{has_shape, take_all, takes}
 use Rattle.script_text.specs.Line.{action_of, all_differ, arguments, event_of, fated, has_fault, is_begin, is_exclusive, is_out_of_place, is_silent, names_none, event_names_none, on_row, order, orb_action, password, placed, reading, reset, row, row_event, told, event_at, maybe_event}
-use Rattle.sbp_initiator.specs.Lists.{IsCommand}
+use Rattle.sbp_initiator.specs.Commands.{IsCommand}
 use Rattle.sbp_initiator.specs.Acting.{IsAction}
 use Rattle.sbp_world.specs.Lines.{IsEvent}
-use Rattle.world_laws.specs.Lines.{IsLine}
+use Rattle.sbp_world.specs.Wire.Lines.{IsLine}
 use Rattle.script_runner.specs.Runner.{HasBytes, IsBeginning}
 use Rattle.script_runner.proofs.OwnIds.{AreAtMost, HasOwnIds, ids_apart, is_line}
 

@@ -4,7 +4,7 @@ use Rattle.sbp_journal.specs.declared.event.Event.{Event}
 use Rattle.sbp_world.specs.Lines.{Happens}
 use Rattle.sbp_world.specs.Making.{new_world, notes_begin}
 use Rattle.sbp_world.specs.Worlds.{Scene}
-use Rattle.world_laws.proofs.Sizes.{Sizes, happens_keeps as happens_sizes, new_sizes}
+use Rattle.sbp_world.proofs.Wire.Sizes.{Sizes, happens_keeps as happens_sizes, new_sizes}
 
 pub happens_keeps : (line : ℕ) (event : Event) (old new : Scene) → Happens line event old new → length new.world.initiators ≡ length old.world.initiators
 happens_keeps line event old new h =

@@ -16,7 +16,7 @@ use Rattle.sbp_world.specs.Making.{new_world, notes_begin}
 use Rattle.sbp_world.specs.Runs.{entry, with_entry}
 use Rattle.sbp_world.specs.Worlds.{WorldState}
 use Rattle.sbp_world.proofs.Standing.{begins, goes_on}
-use Rattle.world_laws.specs.Lines.{IsLine}
+use Rattle.sbp_world.specs.Wire.Lines.{IsLine}
 use Rattle.line_session.specs.Meaning.{Serves}
 use Rattle.line_session.specs.declared.serve.LineError.{LineError}
 use Rattle.line_session.specs.declared.serve.LineError.TheVariants.{Fault, NoMemory}

@@ -6,7 +6,7 @@ use Rattle.sbp_journal.specs.declared.event.Event.{Event}
 use Rattle.sbp_world.specs.Lines.{IsEvent}
 use Rattle.sbp_world.specs.Runs.{Run, StandsFor}
 use Rattle.sbp_world.specs.Worlds.{WorldState}
-use Rattle.world_laws.specs.Lines.{AreLines, IsLine}
+use Rattle.sbp_world.specs.Wire.Lines.{AreLines, IsLine}
 use Rattle.drill_text.specs.Tally.{TallyState, tally_of}
 use Rattle.script_runner.specs.Events.{events_of, journal, numbered_from}
 use Rattle.script_runner.specs.Runner.{scene_of}

@@ -10,8 +10,8 @@ use Rattle.sbp_world.specs.Lines.{IsEvent}
 use Rattle.sbp_world.specs.Runs.{Run, StandsFor}
 use Rattle.sbp_world.specs.Worlds.{Scene, WorldState}
 use Rattle.line_session.specs.Meaning.{Meaning}
-use Rattle.initiator_laws.specs.Fitting.{BytesAction}
-use Rattle.world_laws.specs.Lines.{AreLines, IsLine}
+use Rattle.sbp_world.specs.FitInitiator.{BytesAction}
+use Rattle.sbp_world.specs.Wire.Lines.{AreLines, IsLine}
 use Rattle.script_runner.specs.Events.{MayLeave, events_of, journal}
 use Rattle.script_runner.specs.Script.{begun_by, of_lines, says}
 

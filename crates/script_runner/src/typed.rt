@@ -3,7 +3,7 @@
 ghost use Rattle.std.specs.Prelude.{◌<◌, IfSome};
 ghost use Rattle.std.specs.List.{All};
 ghost use Rattle.bus_transactions.specs.Fitting.{AreBytes};
-ghost use Rattle.initiator_laws.specs.Fitting.{BytesAction, BytesCommand};
+ghost use Rattle.sbp_world.specs.FitInitiator.{BytesAction, BytesCommand};
 ghost use Rattle.script_runner.specs.Runner.{HasBytes};
 
 use sbp_journal::{Action, Cmd, Event};

@@ -24,7 +24,7 @@ use Rattle.sbp_target.specs.Replies.{whole}
 use Rattle.sbp_target.specs.Sending.{answer_step}
 use Rattle.sbp_target.specs.Serving.{answered, serve, is_barred, request_step}
 use Rattle.sbp_target.specs.Receiving.{answer_in, with_layer, judged_scene, received_as, received, expired, seen, ticked}
-use Rattle.target_laws.specs.Calls.{Call, receives, lets_expire, sees, ticks, sets_key, alone}
+use Rattle.sbp_target.specs.Calls.{Call, receives, lets_expire, sees, ticks, sets_key, alone}
 use Rattle.target_laws.specs.Layers.{with_asked, request, response}
 use Rattle.target_laws.specs.Answers.{AreRequests, response_of, IsAnswered, IsGotAs, IsGot, IsAnsweredAlone, IsJudged, IsDelivery, AnswerLaw}
 use Rattle.target_laws.proofs.Pass.{Said, Leaves, Keeps, concludes, sees_by, expires_in, ticks_by}

@@ -21,7 +21,7 @@ use Rattle.sbp_target.specs.Nodes.{NodeState, Scene, scene}
 use Rattle.sbp_target.specs.Replies.{Whole, whole, scene_of}
 use Rattle.sbp_target.specs.Serving.{request_step}
 use Rattle.sbp_target.specs.Receiving.{with_layer, judged_scene, received_as, received, expired_in, expired, reset_by, seen}
-use Rattle.target_laws.specs.Calls.{Call, receives, lets_expire, sees, ticks, sets_key, alone, after}
+use Rattle.sbp_target.specs.Calls.{Call, receives, lets_expire, sees, ticks, sets_key, alone, after}
 use Rattle.target_laws.specs.Layers.{request, response, layer_after, with_asked, packets_of, first_of, InOrder}
 use Rattle.target_laws.specs.Labels.{Happening, sent, answered, given, gave, got_as, got_read, got, ran_out, saw, handed, course, closed, asked_of, happened, course_of, IsFound, AreFound, AreLowest, LabelLaw}
 use Rattle.target_laws.proofs.Found.{IsRead, found}

@@ -1,4 +1,3 @@
-pub mod Reached
 pub mod Pass
 pub mod Served
 pub mod Made
@@ -25,12 +24,3 @@ pub mod Asked
 pub mod Rowing
 pub mod Courses
 pub mod Coursed
-pub mod FitAgents
-pub mod FitManager
-pub mod FitNodes
-pub mod FitPass
-pub mod FitReplies
-pub mod FitDemands
-pub mod FitServed
-pub mod FitMade
-pub mod FitLaw

@@ -15,7 +15,7 @@ use Rattle.sbp_target.specs.declared.purpose.Purpose.{Purpose}
 use Rattle.sbp_target.specs.Nodes.{Scene, scene}
 use Rattle.sbp_target.specs.Replies.{Whole, whole, scene_of}
 use Rattle.sbp_target.specs.Receiving.{answer_in, with_layer, received_as, received, expired, seen, ticked}
-use Rattle.target_laws.specs.Calls.{Call, receives, lets_expire, sees, ticks, sets_key, done, alone, after, packets_after}
+use Rattle.sbp_target.specs.Calls.{Call, receives, lets_expire, sees, ticks, sets_key, done, alone, after, packets_after}
 use Rattle.target_laws.specs.Layers.{response, request, layer_after, with_asked, packets_of, first_of, has_sent, InOrder, IsMade, IsRun, LayerLaw}
 use Rattle.target_laws.proofs.Pass.{Said, At, Leaves, Keeps, concludes, sees_by, expires_in, ticks_by}
 use Rattle.target_laws.proofs.Served.{Answers, answers_at, judges}

@@ -7,7 +7,7 @@ use Rattle.std.proofs.lemmas.List.{length-map}
 use Rattle.std.proofs.Math.ListN.{get_or-map}
 use Rattle.byteorder.specs.Endian.{big_bytes}
 use Rattle.async_packet.specs.Labels.{LabelParts}
-use Rattle.async_packet.specs.Packet.{Packet, header_in, write_quadlet, write_block, write_response, read_quadlet, read_block, read_quadlet_response, read_block_response, lock, lock_response}
+use Rattle.async_packet.specs.Packet.{Packet, header_in}
 use Rattle.label_table.specs.declared.reply.ReplyKind.{ReplyKind}
 use Rattle.label_table.specs.declared.reply.Stale.{Stale}
 use Rattle.label_table.specs.Layer.{Layer, Finding, of_generation, of_grammar, of_label, of_response, of_again, of_request, answering_step, judging_step, expiring_step, seeing_step, seen_in_generation}
@@ -24,7 +24,6 @@ use Rattle.login_table.proofs.Kept.{after_kept, always}
 use Rattle.login_table.proofs.Units.{own_unit, units_stay_below}
 use Rattle.login_table.proofs.Holding.{live_until_it_leaves}
 use Rattle.orb_layout.specs.declared.ask.Ask.TheVariants.{Read}
-use Rattle.orb_layout.specs.Pointers.{offset_at}
 use Rattle.orb_layout.specs.declared.management.ManagementOrb.{ManagementOrb}
 use Rattle.orb_layout.specs.Replies.{Answer, Expired}
 use Rattle.rbc_disk.specs.Disk.{Disk}
@@ -57,7 +56,7 @@ use Rattle.sbp_target.specs.declared.address.Demand.TheVariants as demands
 use Rattle.sbp_target.specs.declared.purpose.Purpose.{Purpose}
 use Rattle.sbp_target.specs.declared.purpose.Purpose.TheVariants as purposes
 use Rattle.sbp_target.specs.declared.purpose.Sent.{Sent}
-use Rattle.sbp_target.specs.Addresses.{complete, conflict_error, address_error, agents_start, agent_register, register_by, register_at, management_start, accessed, accessed_at, managed, served_by, served, offset_in, is_lock, Row, by_type, by_rom, by_register, by_address, Reached, row_of, reached, or_nowhere, demand_by, demand_of}
+use Rattle.sbp_target.specs.Addresses.{complete, conflict_error, address_error, agents_start, agent_register, register_by, register_at, offset_in, is_lock, row_of, reached, demand_of}
 use Rattle.sbp_target.specs.declared.desk.Desk.{Desk}
 use Rattle.sbp_target.specs.Desks.{disabled, new_desk, reset_desk}
 use Rattle.sbp_target.specs.Sending.{answer_step}
@@ -69,7 +68,7 @@ use Rattle.sbp_target.specs.Management.{managed_with, managed_in, manage}
 use Rattle.sbp_target.specs.Serving.{answered, enabled, accessed_by, started_by, start, served_as, serve, is_barred_at, is_barred, state_number, last_pointer, pointer_bytes}
 use Rattle.sbp_target.specs.Serving as serving
 use Rattle.sbp_target.specs.Receiving.{answer_in, concluded, judged_scene, with_layer, received_as, received, timed_out, expired_in, expired, after_reset, cleared_node, reset_by, seen, ticked, with_key, ready_login, ready_from, new_node}
-use Rattle.target_laws.specs.Calls.{Call, receives, lets_expire, sees, ticks, sets_key, done, after}
+use Rattle.sbp_target.specs.Calls.{Call, receives, lets_expire, sees, ticks, sets_key, done, after}
 use Rattle.target_laws.proofs.Found.{IsFound, found}
 use Rattle.target_laws.proofs.Seats.{was as changed, Lives, IsFor, IsNot, Seat, Hand, split, seat_kept, seat_empty, hand_ends, hand_empty}
 use Rattle.target_laws.proofs.Primitives.{Known, live_on, closed_off, closed_at, expired_off, expired_at, forgotten_at, nobody_is, disowns_known, seeing_known, new_known, Closing, closing_known, expiring_known, stale_known}
@@ -80,7 +79,7 @@ use Rattle.target_laws.proofs.Answering.{late_good, point_good, ring_good}
 use Rattle.target_laws.proofs.Managing.{Stays, with_rest, asks_good, reply_stays}
 use Rattle.target_laws.proofs.Effecting.{effect_in, reply_moves}
 use Rattle.target_laws.proofs.Managed.{no_request, relogin, Calm, managed_good}
-use Rattle.target_laws.proofs.Reached.{IsAt, demand_place}
+use Rattle.sbp_target.proofs.Reached.{demand_place}
 
 -- ---- a reply to the management operation
 table_kept : (calls : List logins.Call) (table : Table) → IsTable table → IsTable (logins.all_after calls table)

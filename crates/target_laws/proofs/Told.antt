@@ -64,7 +64,7 @@ use Rattle.sbp_target.specs.Management.{cut_placed, cut_place, tell_left, tell_f
 use Rattle.sbp_target.specs.Serving.{answered, state_number, last_pointer, pointer_bytes, asked_in, asked_at, rcode_of, pointed_by, point, rung_by, ring, enabled, accessed_by, started_by, start, served_as, serve, is_barred}
 use Rattle.sbp_target.specs.Serving as serving
 use Rattle.sbp_target.specs.Receiving.{answer_in, concluded, judged_scene, with_layer, received_as, received, expired_with, expired_by, expire_agent, timed_out, expired_in, expired, tell_held, held_from, cleared_node, reset_by, seen, expired_from, ticked}
-use Rattle.target_laws.specs.Calls.{receives, lets_expire, sees, ticks, alone}
+use Rattle.sbp_target.specs.Calls.{receives, lets_expire, sees, ticks, alone}
 use Rattle.target_laws.specs.Layers.{first_of, layer_after, packets_of, request}
 use Rattle.target_laws.specs.Sides.{is_change, ArePlain, AreFirst, told_from, by_place, cut_in, cut_of, of_unit, cut_for, held_login, reset_changes, left_for, of_place, cleared_of, effect_changes, decision_changes, step_tells, operation_tells, opened_in, demand_changes, request_changes, Announced, unsent_then, announced_as, announced_to, announced_at, announced_from, Announces, agent_tells, reply_tells, delivery_tells, SideLaw}
 use Rattle.label_table.proofs.Owned.{set_at}

@@ -20,7 +20,7 @@ use Rattle.sbp_target.specs.declared.purpose.Sent.{Sent}
 use Rattle.sbp_target.specs.Agents.{sent_to}
 use Rattle.sbp_target.specs.Desks.{is_that}
 use Rattle.sbp_target.specs.Nodes.{NodeState, desk_at, login_at}
-use Rattle.target_laws.specs.Calls.{after}
+use Rattle.sbp_target.specs.Calls.{after}
 use Rattle.target_laws.specs.Transactions.{IsUnderWay, IsOwn, HasMain, IsThat, AgentLaw, HasOne, TransactionLaw, UnderWayLaw}
 use Rattle.target_laws.proofs.Stepped.{is_bare}
 use Rattle.target_laws.proofs.Seats.{Lives, IsFor, split, behind_that}

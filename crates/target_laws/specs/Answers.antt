@@ -26,7 +26,7 @@ use Rattle.sbp_target.specs.Addresses.{address_error}
 use Rattle.sbp_target.specs.Nodes.{NodeState, scene}
 use Rattle.sbp_target.specs.Replies.{Whole, whole}
 use Rattle.sbp_target.specs.Receiving.{received}
-use Rattle.target_laws.specs.Calls.{Call, receives, alone}
+use Rattle.sbp_target.specs.Calls.{Call, receives, alone}
 use Rattle.target_laws.specs.Layers.{response}
 
 -- a request has a label of its own

@@ -23,7 +23,7 @@ use Rattle.sbp_target.specs.declared.purpose.Purpose.{Purpose}
 use Rattle.sbp_target.specs.Nodes.{NodeState, scene}
 use Rattle.sbp_target.specs.Replies.{whole}
 use Rattle.sbp_target.specs.Receiving.{received, expired, seen}
-use Rattle.target_laws.specs.Calls.{Call, receives, lets_expire, sees, ticks, sets_key, alone, after, packets_after}
+use Rattle.sbp_target.specs.Calls.{Call, receives, lets_expire, sees, ticks, sets_key, alone, after, packets_after}
 use Rattle.target_laws.specs.Layers.{layer_after, packets_of}
 
 -- ---- what happened to labels

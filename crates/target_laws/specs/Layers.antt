@@ -10,7 +10,7 @@ use Rattle.label_table.specs.History as wire
 use Rattle.sbp_journal.specs.declared.outbox.Outgoing.{Outgoing}
 use Rattle.sbp_target.specs.declared.purpose.Purpose.{Purpose}
 use Rattle.sbp_target.specs.Nodes.{Scene}
-use Rattle.target_laws.specs.Calls.{Call, receives, lets_expire, sees, ticks, sets_key, done, after, packets_after}
+use Rattle.sbp_target.specs.Calls.{Call, receives, lets_expire, sees, ticks, sets_key, done, after, packets_after}
 
 -- a request to a peer, and the response to a request
 abbrev pub request : ℕ → Asked → Outgoing

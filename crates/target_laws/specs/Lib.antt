@@ -1,8 +1,6 @@
-pub mod Calls
 pub mod Layers
 pub mod Answers
 pub mod Labels
 pub mod Sides
 pub mod Transactions
 pub mod Judgements
-pub mod Fitting

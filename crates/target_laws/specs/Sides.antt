@@ -48,7 +48,7 @@ use Rattle.sbp_target.specs.Replies.{whole, came, served_login}
 use Rattle.sbp_target.specs.Serving.{is_barred}
 use Rattle.sbp_target.specs.Units.{hears, is_pending}
 use Rattle.sbp_target.specs.Receiving.{answer_in, received}
-use Rattle.target_laws.specs.Calls.{receives, lets_expire, sees, ticks, sets_key, alone}
+use Rattle.sbp_target.specs.Calls.{receives, lets_expire, sees, ticks, sets_key, alone}
 use Rattle.target_laws.specs.Layers.{InOrder, first_of, layer_after, packets_of, request}
 
 -- what the law is of, and what it is not of

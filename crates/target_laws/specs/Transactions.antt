@@ -16,7 +16,7 @@ use Rattle.sbp_target.specs.declared.purpose.Purpose.{Purpose}
 use Rattle.sbp_target.specs.declared.purpose.Purpose.TheVariants as purposes
 use Rattle.sbp_target.specs.declared.purpose.Sent.{Sent}
 use Rattle.sbp_target.specs.Nodes.{NodeState, desk_at, login_at}
-use Rattle.target_laws.specs.Calls.{Call, after}
+use Rattle.sbp_target.specs.Calls.{Call, after}
 
 -- a transaction with a peer under a label is under way, for this or for nobody
 pub record IsUnderWay (layer : Layer Purpose) (purpose : Option Purpose) (peer number : ℕ) : Type 0 where

@@ -1,6 +1,5 @@
 ghost use Rattle.target_laws.specs.Answers.{AnswerLaw};
 ghost use Rattle.target_laws.specs.Labels.{LabelLaw};
-ghost use Rattle.target_laws.specs.Fitting.{FittingLaw};
 ghost use Rattle.target_laws.specs.Judgements.{RowLaw};
 ghost use Rattle.target_laws.specs.Layers.{LayerLaw};
 ghost use Rattle.target_laws.specs.Sides.{SideLaw};
@@ -50,12 +49,4 @@ pub fn transactions_are_waited_for()
 #[tactic(auto, using(crate::proofs::Rowing::row_law))]
 pub fn first_row_has_its_rcode()
     ensures { RowLaw }
-{}
-
-/// From a new target on, each call of it is what the wire takes a call of a node for: a packet is judged, a
-/// request is answered as its judgement states, and then nodes that the target knows are asked, by packets
-/// with their fields; all of bytes, and nothing is told of the wire.
-#[tactic(auto, using(crate::proofs::FitLaw::fitting_law))]
-pub fn calls_fit_the_wire()
-    ensures { FittingLaw }
 {}

@@ -1,8 +1,8 @@
 -- A new world: the terms of the target's management are its state.
 use Rattle.std.proofs.Common.{arith, ◌≡◌, ◌∙◌, refl, sym, ap, subst, ℕ, zero, suc, ◌+◌, ◌<◌, ◌≤◌, Bool, true, false, List, [], ◌∷◌, map, length, replicate}
 use Rattle.std.proofs.lemmas.List.{get_or-replicate}
-use Rattle.initiator_laws.specs.Fitting.{Holds as OwnHolds}
-use Rattle.initiator_laws.proofs.FitLaw.{fitting_law as own_fitting_law}
+use Rattle.sbp_world.specs.FitInitiator.{Holds as OwnHolds}
+use Rattle.sbp_world.proofs.FitInitiator.Law.{fitting_law as own_fitting_law}
 use Rattle.login_table.specs.Table.{enter_step, fresh_id, left_for, new_table}
 use Rattle.rbc_disk.specs.Disk.{Disk}
 use Rattle.sbp_initiator.specs.Initiators.{new_state}
@@ -13,18 +13,19 @@ use Rattle.sbp_journal.specs.declared.event.Event.TheVariants as events
 use Rattle.sbp_laws.specs.Targets.{first_table}
 use Rattle.sbp_target.specs.Receiving.{ready_from}
 use Rattle.sbp_target.proofs.Making.{rom_size}
-use Rattle.sbp_world.proofs.Making.{ids_size, initiators_size}
-use Rattle.sbp_world.specs.declared.generations.Topology.{Topology}
-use Rattle.sbp_world.specs.Generations.{first_topology, id_of, no_topology}
+use Rattle.sbp_bus.proofs.Making.{ids_size}
+use Rattle.sbp_world.proofs.Making.{initiators_size}
+use Rattle.sbp_bus.specs.declared.generations.Topology.{Topology}
+use Rattle.sbp_bus.specs.Generations.{first_topology, id_of, no_topology}
 use Rattle.sbp_world.specs.Making.{new_initiators, new_world, ready_logins}
-use Rattle.target_laws.proofs.FitLaw.{fitting_law}
-use Rattle.world_laws.proofs.Found.{known_has}
-use Rattle.world_laws.proofs.Holding.{NodesOf, TargetOf, of_target, own_has, seen_at, state_at, target_has}
-use Rattle.world_laws.proofs.Starts.{begins, first_id, states_at}
+use Rattle.sbp_world.proofs.FitTarget.Law.{fitting_law}
+use Rattle.sbp_world.proofs.Wire.Found.{known_has}
+use Rattle.sbp_world.proofs.Wire.Holding.{NodesOf, TargetOf, of_target, own_has, seen_at, state_at, target_has}
+use Rattle.sbp_world.proofs.Wire.Starts.{begins, first_id, states_at}
 use Rattle.target_terms.proofs.Holding.{Holding}
 
 module _ (n : ℕ) (ready : Bool) (units : ℕ) (few : n ≤ 4) where
-  -- ---- the nodes of a new world, as `world_laws` has them
+  -- ---- the nodes of a new world, as the laws of the wire have them
   abbrev first_seen : List Topology
   first_seen = replicate (n + 1) (first_topology (n + 1))
 

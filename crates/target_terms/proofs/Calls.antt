@@ -35,7 +35,7 @@ use Rattle.sbp_target.specs.Agents.{sent_to}
 use Rattle.sbp_target.specs.Sending.{is_sent_as}
 use Rattle.sbp_target.specs.Replies.{Whole, whole}
 use Rattle.sbp_target.specs.Serving.{answered, is_barred, is_barred_at, request_step, serve, served_as, start, started_by as target_started}
-use Rattle.target_laws.specs.Calls.{after}
+use Rattle.sbp_target.specs.Calls.{after}
 use Rattle.target_laws.proofs.Calling.{Good, peer_of}
 use Rattle.target_laws.proofs.Found.{IsFound, found}
 use Rattle.target_laws.proofs.Primitives.{Known, closing_known, expiring_known, live_on, seeing_known, stale_known}

@@ -25,7 +25,7 @@ use Rattle.sbp_target.specs.Receiving.{answer_in}
 use Rattle.sbp_world.specs.Worlds.{WorldState}
 use Rattle.target_laws.specs.Transactions.{IsUnderWay, TransactionLaw}
 use Rattle.target_laws.proofs.Calling.{Good}
-use Rattle.world_laws.specs.Wires.{Stands}
+use Rattle.sbp_world.specs.Wire.Wires.{Stands}
 use Rattle.target_terms.specs.Terms.{Awaits, IsManagementAt}
 use Rattle.target_terms.proofs.Awaiting.{under_for}
 use Rattle.target_terms.proofs.Hearing.{IsAnswer, same_answer}

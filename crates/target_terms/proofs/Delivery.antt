@@ -30,14 +30,14 @@ use Rattle.sbp_target.specs.Receiving.{judged_scene, received, received_as, with
 use Rattle.sbp_target.specs.Replies.{Whole, whole}
 use Rattle.sbp_target.specs.Serving.{answered, is_barred, request_step, serve}
 use Rattle.sbp_world.specs.Delivering.{marked, whole_of}
-use Rattle.sbp_world.specs.Generations.{GenerationsState, node_of}
+use Rattle.sbp_bus.specs.Generations.{GenerationsState, node_of}
 use Rattle.sbp_world.specs.Worlds.{WorldState, with_target}
-use Rattle.target_laws.specs.Fitting.{FitsManager}
+use Rattle.sbp_world.specs.FitTarget.{FitsManager}
 use Rattle.target_laws.specs.Transactions.{TransactionLaw}
 use Rattle.target_laws.proofs.Calling.{Good}
-use Rattle.target_laws.proofs.FitDemands.{answer_small}
+use Rattle.sbp_world.proofs.FitTarget.Demands.{answer_small}
 use Rattle.target_laws.proofs.Found.{IsFound, found as found_as}
-use Rattle.world_laws.specs.Wires.{Stands}
+use Rattle.sbp_world.specs.Wire.Wires.{Stands}
 use Rattle.target_terms.specs.Calls.{delivered, demanded, requested}
 use Rattle.target_terms.specs.Offices.{Agrees, Office}
 use Rattle.target_terms.specs.Terms.{IsManagementAt}

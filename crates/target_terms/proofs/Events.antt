@@ -18,17 +18,17 @@ use Rattle.sbp_target.specs.Receiving.{received}
 use Rattle.sbp_target.specs.Replies.{Whole}
 use Rattle.sbp_world.specs.declared.parts.delivering.Arrival.{Arrival}
 use Rattle.sbp_world.specs.Delivering.{arrived, at_target, delivered, delivered_by, initiator_received, judged_note, marked, target_received, whole_of}
-use Rattle.sbp_world.specs.Generations.{topology_at}
+use Rattle.sbp_bus.specs.Generations.{topology_at}
 use Rattle.sbp_world.specs.Handing.{handed_out}
 use Rattle.sbp_world.specs.Worlds.{Scene, WorldState, with_note, with_target}
-use Rattle.target_laws.specs.Calls.{after, receives}
+use Rattle.sbp_target.specs.Calls.{after, receives}
 use Rattle.target_laws.specs.Transactions.{TransactionLaw}
 use Rattle.target_laws.proofs.Calling.{Good}
-use Rattle.world_laws.specs.Wires.{Stands}
-use Rattle.world_laws.proofs.Comes.{received_is, to_zero}
-use Rattle.world_laws.proofs.Holding.{KnownTo, Sound}
-use Rattle.world_laws.proofs.Nodes.{handed_alike, marked_alike}
-use Rattle.world_laws.proofs.Starts.{laws_of}
+use Rattle.sbp_world.specs.Wire.Wires.{Stands}
+use Rattle.sbp_world.proofs.Wire.Comes.{received_is, to_zero}
+use Rattle.sbp_world.proofs.Wire.Holding.{KnownTo, Sound}
+use Rattle.sbp_world.proofs.Wire.Nodes.{handed_alike, marked_alike}
+use Rattle.sbp_world.proofs.Wire.Starts.{laws_of}
 use Rattle.target_terms.specs.Terms.{IsManagementAt}
 use Rattle.target_terms.proofs.Delivery.{delivery_ends}
 use Rattle.target_terms.proofs.Holding.{Holding, good_of, is_of, known_id, law_of, ours, ready_for, target_generation}

@@ -22,10 +22,10 @@ use Rattle.sbp_world.specs.declared.parts.delivering.Arrival.{Arrival}
 use Rattle.sbp_world.specs.Delivering.{arrived, delivered, delivered_by, initiators_received, judged_note, marked, received_by, received_step, with_initiators}
 use Rattle.sbp_world.specs.Handing.{handed_out}
 use Rattle.sbp_world.specs.Worlds.{Scene, WorldState, with_note}
-use Rattle.world_laws.proofs.Comes.{own_inside, own_outside, to_own}
-use Rattle.world_laws.proofs.Holding.{Sound}
-use Rattle.world_laws.proofs.Nodes.{handed_alike, marked_alike}
-use Rattle.world_laws.proofs.Starts.{laws_of}
+use Rattle.sbp_world.proofs.Wire.Comes.{own_inside, own_outside, to_own}
+use Rattle.sbp_world.proofs.Wire.Holding.{Sound}
+use Rattle.sbp_world.proofs.Wire.Nodes.{handed_alike, marked_alike}
+use Rattle.sbp_world.proofs.Wire.Starts.{laws_of}
 use Rattle.target_terms.specs.Offices.{Office, at_rest, office_of}
 use Rattle.target_terms.specs.Terms.{IsManagementAt}
 use Rattle.target_terms.proofs.Events.{heard_target}

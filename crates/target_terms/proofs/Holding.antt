@@ -18,21 +18,21 @@ use Rattle.sbp_journal.specs.declared.side.Side.TheVariants as sides
 use Rattle.sbp_journal.specs.Outgoings.{OutboxState}
 use Rattle.sbp_target.specs.Nodes.{NodeState}
 use Rattle.sbp_world.specs.Delivering.{marked}
-use Rattle.sbp_world.specs.Generations.{id_of, node_of, topology_at}
+use Rattle.sbp_bus.specs.Generations.{id_of, node_of, topology_at}
 use Rattle.sbp_world.specs.Handing.{handed_out}
 use Rattle.sbp_world.specs.Sending.{asked, posted, sent, sent_all, sent_to}
 use Rattle.sbp_world.specs.Telling.{told, told_all}
 use Rattle.sbp_world.specs.Worlds.{WorldState}
-use Rattle.target_laws.specs.Calls.{Call, after}
+use Rattle.sbp_target.specs.Calls.{Call, after}
 use Rattle.target_laws.specs.Transactions.{TransactionLaw}
 use Rattle.target_laws.proofs.Calling.{Good}
 use Rattle.target_laws.proofs.Settled.{all_good}
 use Rattle.target_laws.proofs.Under.{under_way_law}
-use Rattle.world_laws.specs.Knows.{IsOurs}
-use Rattle.world_laws.specs.Wires.{Stands}
-use Rattle.world_laws.proofs.Bus.{holds}
-use Rattle.world_laws.proofs.Found.{IsKnown, node_found}
-use Rattle.world_laws.proofs.Holding.{Sound}
+use Rattle.sbp_world.specs.Wire.Knows.{IsOurs}
+use Rattle.sbp_world.specs.Wire.Wires.{Stands}
+use Rattle.sbp_world.proofs.Wire.Bus.{holds}
+use Rattle.sbp_world.proofs.Wire.Found.{IsKnown, node_found}
+use Rattle.sbp_world.proofs.Wire.Holding.{Sound}
 use Rattle.target_terms.specs.Terms.{IsManagementAt}
 use Rattle.target_terms.proofs.Managed.{IsReady}
 use Rattle.target_terms.proofs.Sides.{AllBehind, TellsBehind}

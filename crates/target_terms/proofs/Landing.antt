@@ -51,7 +51,7 @@ use Rattle.sbp_target.specs.Addresses.{demand_of}
 use Rattle.sbp_target.specs.Sending.{answer_step}
 use Rattle.sbp_target.specs.Serving.{answered}
 use Rattle.sbp_world.specs.Sending.{sent_all}
-use Rattle.target_laws.proofs.FitDemands.{FitsDemand, demand_fits}
+use Rattle.sbp_world.proofs.FitTarget.Demands.{FitsDemand, demand_fits}
 use Rattle.target_terms.proofs.Demands.{demand_is, starts_at}
 use Rattle.sbp_laws.specs.Targets.{Target, got_by, is_serial, over, replied as laws_replied, request_got, target_at}
 use Rattle.sbp_target.specs.declared.purpose.Purpose.{Purpose}
@@ -64,13 +64,13 @@ use Rattle.sbp_world.specs.Handing.{handed_out}
 use Rattle.sbp_world.specs.Worlds.{WorldState, with_note, with_target}
 use Rattle.target_laws.specs.Transactions.{TransactionLaw}
 use Rattle.target_laws.proofs.Calling.{Good}
-use Rattle.target_laws.proofs.FitAgents.{BytesIn, FitsAsk}
-use Rattle.target_laws.proofs.FitManager.{managed_fits}
+use Rattle.sbp_world.proofs.FitTarget.Agents.{BytesIn, FitsAsk}
+use Rattle.sbp_world.proofs.FitTarget.Manager.{managed_fits}
 use Rattle.target_laws.proofs.Primitives.{closing_known}
 use Rattle.target_laws.proofs.Seats.{Lives}
-use Rattle.target_laws.specs.Fitting.{FitsManager}
-use Rattle.world_laws.specs.History.{IsOfWire}
-use Rattle.world_laws.specs.Wires.{Stands}
+use Rattle.sbp_world.specs.FitTarget.{FitsManager}
+use Rattle.sbp_world.specs.Wire.History.{IsOfWire}
+use Rattle.sbp_world.specs.Wire.Wires.{Stands}
 use Rattle.target_terms.specs.Calls.{demanded}
 use Rattle.target_terms.specs.Offices.{Office, at_rest, office_of, replied, started, started_by}
 use Rattle.target_terms.specs.Terms.{Awaits, IsManagementAt}

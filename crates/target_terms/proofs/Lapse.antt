@@ -28,22 +28,22 @@ use Rattle.sbp_laws.specs.Targets.{Target, is_serial, over, replied as laws_repl
 use Rattle.sbp_target.specs.declared.purpose.Purpose.{Purpose}
 use Rattle.sbp_target.specs.declared.purpose.Purpose.TheVariants as purposes
 use Rattle.sbp_target.specs.Nodes.{NodeState, scene}
-use Rattle.sbp_world.specs.declared.requests.Request.{Request}
+use Rattle.sbp_bus.specs.declared.requests.Request.{Request}
 use Rattle.sbp_world.specs.Handing.{handed_out}
-use Rattle.sbp_world.specs.Requests.{find}
+use Rattle.sbp_bus.specs.Requests.{find}
 use Rattle.sbp_world.specs.Worlds.{WorldState, with_note, with_target}
-use Rattle.target_laws.specs.Fitting.{FitsManager}
+use Rattle.sbp_world.specs.FitTarget.{FitsManager}
 use Rattle.target_laws.specs.Transactions.{IsUnderWay, TransactionLaw}
 use Rattle.target_laws.proofs.Calling.{Good}
-use Rattle.target_laws.proofs.FitAgents.{FitsAsk}
-use Rattle.target_laws.proofs.FitManager.{managed_fits}
+use Rattle.sbp_world.proofs.FitTarget.Agents.{FitsAsk}
+use Rattle.sbp_world.proofs.FitTarget.Manager.{managed_fits}
 use Rattle.target_laws.proofs.Primitives.{Expiring, expiring_known}
 use Rattle.target_laws.proofs.Seats.{Lives}
-use Rattle.world_laws.specs.History.{IsOfWire}
-use Rattle.world_laws.specs.Knows.{IsLatest}
-use Rattle.world_laws.specs.Wires.{Stands}
-use Rattle.world_laws.proofs.Bus.{holds}
-use Rattle.world_laws.proofs.Handles.{expired_generation}
+use Rattle.sbp_world.specs.Wire.History.{IsOfWire}
+use Rattle.sbp_world.specs.Wire.Knows.{IsLatest}
+use Rattle.sbp_world.specs.Wire.Wires.{Stands}
+use Rattle.sbp_world.proofs.Wire.Bus.{holds}
+use Rattle.sbp_world.proofs.Wire.Handles.{expired_generation}
 use Rattle.target_terms.specs.Offices.{Office, at_rest, office_of, replied}
 use Rattle.target_terms.specs.Terms.{Awaits, IsManagementAt}
 use Rattle.target_terms.proofs.Asking.{Turned}

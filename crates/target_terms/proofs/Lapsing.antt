@@ -20,21 +20,21 @@ use Rattle.sbp_target.specs.declared.purpose.Purpose.{Purpose}
 use Rattle.sbp_target.specs.declared.purpose.Purpose.TheVariants as purposes
 use Rattle.sbp_target.specs.Nodes.{NodeState, Scene, scene}
 use Rattle.sbp_target.specs.Receiving.{expired, expired_in}
-use Rattle.sbp_world.specs.declared.requests.Request.{Request}
-use Rattle.sbp_world.specs.Generations.{topology_at}
+use Rattle.sbp_bus.specs.declared.requests.Request.{Request}
+use Rattle.sbp_bus.specs.Generations.{topology_at}
 use Rattle.sbp_world.specs.Handing.{handed_out}
 use Rattle.sbp_world.specs.Packets.{at_initiator, at_target, expires, initiator_expires, no_packet, refused, target_expired, target_left, timed_out, timeout_line, timeout_of}
-use Rattle.sbp_world.specs.Requests.{find}
+use Rattle.sbp_bus.specs.Requests.{find}
 use Rattle.sbp_world.specs.Worlds.{WorldState, initiator_at, with_initiator, with_note}
-use Rattle.target_laws.specs.Calls.{after, lets_expire}
-use Rattle.target_laws.specs.Fitting.{FitsOperation}
+use Rattle.sbp_target.specs.Calls.{after, lets_expire}
+use Rattle.sbp_world.specs.FitTarget.{FitsOperation}
 use Rattle.target_laws.specs.Transactions.{TransactionLaw}
 use Rattle.target_laws.proofs.Calling.{Good}
-use Rattle.world_laws.specs.Wires.{Stands}
-use Rattle.world_laws.proofs.Found.{has_known}
-use Rattle.world_laws.proofs.Holding.{KnownTo, Sound, known_small}
-use Rattle.world_laws.proofs.Nodes.{handed_alike}
-use Rattle.world_laws.proofs.Starts.{laws_of}
+use Rattle.sbp_world.specs.Wire.Wires.{Stands}
+use Rattle.sbp_world.proofs.Wire.Found.{has_known}
+use Rattle.sbp_world.proofs.Wire.Holding.{KnownTo, Sound, known_small}
+use Rattle.sbp_world.proofs.Wire.Nodes.{handed_alike}
+use Rattle.sbp_world.proofs.Wire.Starts.{laws_of}
 use Rattle.target_terms.specs.Calls.{lapsed}
 use Rattle.target_terms.specs.Offices.{Agrees, Office, at_rest, office_of, replied}
 use Rattle.target_terms.specs.Terms.{IsManagementAt}

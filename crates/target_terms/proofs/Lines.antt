@@ -4,7 +4,7 @@ use Rattle.std.specs.Prelude.{if◌then◌else◌}
 use Rattle.std.specs.List.{list_any}
 use Rattle.bus_transactions.specs.May.{is_reset}
 use Rattle.bus_transactions.proofs.Facts.{injected_begun}
-use Rattle.initiator_laws.proofs.FitLaw.{fitting_law as own_fitting_law}
+use Rattle.sbp_world.proofs.FitInitiator.Law.{fitting_law as own_fitting_law}
 use Rattle.orb_layout.specs.declared.ask.Ask.TheVariants.{Nothing}
 use Rattle.packet_store.specs.Kept.{first, flying}
 use Rattle.rbc_disk.specs.Disk.{Disk}
@@ -20,23 +20,23 @@ use Rattle.sbp_journal.specs.declared.event.Action.{Action}
 use Rattle.sbp_journal.specs.declared.event.Event.{Event}
 use Rattle.sbp_journal.specs.declared.event.Event.TheVariants as events
 use Rattle.sbp_journal.specs.declared.note.Note.TheVariants as notes
-use Rattle.sbp_world.specs.Generations.{topology_at}
+use Rattle.sbp_bus.specs.Generations.{topology_at}
 use Rattle.sbp_world.specs.Lines.{acted, acted_by, happens, weight_in}
 use Rattle.sbp_world.specs.Nodes.{reset_line}
 use Rattle.sbp_world.specs.Packets.{delivered_if, first_told, injected, injected_to, inject_line, is_in_flight, lose_line, lost, may_repeat, no_node, no_packet, refused}
 use Rattle.sbp_world.specs.Sending.{posted}
 use Rattle.sbp_world.specs.Settling.{after_all, delivered_at, delivered_next, end_note, is_settled, lowest}
 use Rattle.sbp_world.specs.Worlds.{Scene, WorldState, begun, initiator_at, with_initiator, with_note, without_notes}
-use Rattle.target_laws.specs.Fitting.{BytesTold}
-use Rattle.target_laws.proofs.FitLaw.{fitting_law}
-use Rattle.world_laws.specs.Lines.{IsLine}
-use Rattle.world_laws.proofs.Bus.{holds}
-use Rattle.world_laws.proofs.Hears.{hears}
-use Rattle.world_laws.proofs.Holding.{Sound, later}
-use Rattle.world_laws.proofs.Repeats.{said_same}
-use Rattle.world_laws.proofs.Sound.{line_goes}
-use Rattle.world_laws.proofs.Tells.{starts}
-use Rattle.world_laws.proofs.ToldBytes.{AreTold}
+use Rattle.sbp_world.specs.FitTarget.{BytesTold}
+use Rattle.sbp_world.proofs.FitTarget.Law.{fitting_law}
+use Rattle.sbp_world.specs.Wire.Lines.{IsLine}
+use Rattle.sbp_world.proofs.Wire.Bus.{holds}
+use Rattle.sbp_world.proofs.Wire.Hears.{hears}
+use Rattle.sbp_world.proofs.Wire.Holding.{Sound, later}
+use Rattle.sbp_world.proofs.Wire.Repeats.{said_same}
+use Rattle.sbp_world.proofs.Wire.Sound.{line_goes}
+use Rattle.sbp_world.proofs.Wire.Tells.{starts}
+use Rattle.sbp_world.proofs.Wire.ToldBytes.{AreTold}
 use Rattle.target_terms.specs.Offices.{Office, at_rest}
 use Rattle.target_terms.proofs.Firsts.{opened_office}
 use Rattle.target_terms.proofs.Hands.{carried, heard, own_turn}

@@ -18,17 +18,17 @@ use Rattle.sbp_laws.specs.Targets.{wants}
 use Rattle.sbp_target.specs.declared.purpose.Purpose.{Purpose}
 use Rattle.sbp_target.specs.declared.purpose.Purpose.TheVariants as purposes
 use Rattle.sbp_target.specs.Nodes.{NodeState, scene}
-use Rattle.sbp_world.specs.Generations.{GenerationsState, node_of}
+use Rattle.sbp_bus.specs.Generations.{GenerationsState, node_of}
 use Rattle.sbp_world.specs.Handing.{handed_out}
 use Rattle.sbp_world.specs.Sending.{sent, sent_all}
 use Rattle.sbp_world.specs.Telling.{told_all}
 use Rattle.sbp_world.specs.Worlds.{WorldState}
 use Rattle.target_laws.specs.Layers.{request as request_packet}
 use Rattle.target_laws.specs.Transactions.{TransactionLaw}
-use Rattle.target_laws.proofs.FitAgents.{FitsAsk}
-use Rattle.target_laws.proofs.FitNodes.{IfBody, manager_body_fits}
+use Rattle.sbp_world.proofs.FitTarget.Agents.{FitsAsk}
+use Rattle.sbp_world.proofs.FitTarget.Nodes.{IfBody, manager_body_fits}
 use Rattle.target_laws.proofs.Seats.{Lives}
-use Rattle.world_laws.proofs.Alike.{IsAlike, alike_then, all_alike, sent_more, told_alike}
+use Rattle.sbp_world.proofs.Wire.Alike.{IsAlike, alike_then, all_alike, sent_more, told_alike}
 use Rattle.target_terms.specs.Offices.{Agrees, Office, by_sides, office_of}
 use Rattle.target_terms.specs.Terms.{IsManagementAt}
 use Rattle.target_terms.proofs.Asking.{Leaves, MayLeave, Turned, leaves, silent}

@@ -12,8 +12,8 @@ use Rattle.sbp_world.specs.Making.{new_world, ready_logins}
 use Rattle.sbp_world.specs.Runs.{AreEntries, Entry, Run, after, beginning}
 use Rattle.sbp_world.specs.Settling.{MayAll, after_all}
 use Rattle.sbp_world.specs.Worlds.{Scene, WorldState, begun}
-use Rattle.world_laws.specs.Lines.{AreLines}
-use Rattle.world_laws.proofs.ToldBytes.{AreTold, happened_fits}
+use Rattle.sbp_world.specs.Wire.Lines.{AreLines}
+use Rattle.sbp_world.proofs.Wire.ToldBytes.{AreTold, happened_fits}
 use Rattle.target_terms.specs.Terms.{BetweenLaw, DeliversMore, IsManagementAt, TermsLaw}
 use Rattle.target_terms.proofs.Begins.{first_holds, first_past}
 use Rattle.target_terms.proofs.Holding.{Holding}

@@ -19,19 +19,19 @@ use Rattle.sbp_laws.specs.Turns.{event_of}
 use Rattle.sbp_target.specs.declared.purpose.Purpose.{Purpose}
 use Rattle.sbp_target.specs.Nodes.{NodeState, Scene, scene}
 use Rattle.sbp_target.specs.Receiving.{reset_by, seen, ticked, with_key}
-use Rattle.sbp_world.specs.Generations.{id_of}
+use Rattle.sbp_bus.specs.Generations.{id_of}
 use Rattle.sbp_world.specs.Handing.{handed_out}
 use Rattle.sbp_world.specs.Lines.{keyed, no_unit}
 use Rattle.sbp_world.specs.Nodes.{handed_all, initiator_learns, see_line, sees, target_learns, target_sees, target_ticks, tick_line, told_seen, with_seen}
 use Rattle.sbp_world.specs.Packets.{refused}
 use Rattle.sbp_world.specs.Worlds.{WorldState, initiator_at, with_initiator, with_note, with_target}
-use Rattle.target_laws.specs.Calls.{Call, after, sees as sees_call, sets_key, ticks}
+use Rattle.sbp_target.specs.Calls.{Call, after, sees as sees_call, sets_key, ticks}
 use Rattle.target_laws.proofs.Calling.{Good}
-use Rattle.world_laws.specs.Wires.{Stands}
-use Rattle.world_laws.proofs.Bus.{aged, holds}
-use Rattle.world_laws.proofs.Holding.{Sound}
-use Rattle.world_laws.proofs.Nodes.{handed_alike}
-use Rattle.world_laws.proofs.Starts.{laws_of}
+use Rattle.sbp_world.specs.Wire.Wires.{Stands}
+use Rattle.sbp_world.proofs.Wire.Bus.{aged, holds}
+use Rattle.sbp_world.proofs.Wire.Holding.{Sound}
+use Rattle.sbp_world.proofs.Wire.Nodes.{handed_alike}
+use Rattle.sbp_world.proofs.Wire.Starts.{laws_of}
 use Rattle.target_terms.specs.Offices.{Agrees, Office, at_rest, cleared, office_of, ticked as office_ticked, with_key as office_key}
 use Rattle.target_terms.specs.Terms.{Awaits, IsManagementAt}
 use Rattle.target_terms.proofs.Calls.{forgets_if}

@@ -14,7 +14,7 @@ use Rattle.sbp_journal.specs.Wire.{Held, Owed, Terms, arrives, asked_in, begins,
 use Rattle.sbp_journal.specs.declared.cause.Cause.{Cause}
 use Rattle.sbp_journal.specs.declared.cause.Cause.TheVariants as causes
 use Rattle.sbp_journal.specs.declared.outbox.Outgoing.{Outgoing}
-use Rattle.sbp_world.specs.Generations.{node_of, topology_at}
+use Rattle.sbp_bus.specs.Generations.{node_of, topology_at}
 use Rattle.sbp_world.specs.Sending.{asked, posted, sent, sent_all, sent_to}
 use Rattle.sbp_world.specs.Worlds.{WorldState}
 

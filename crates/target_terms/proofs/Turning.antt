@@ -22,7 +22,7 @@ use Rattle.sbp_journal.specs.Outgoings.{OutboxState}
 use Rattle.sbp_target.specs.declared.purpose.Purpose.{Purpose}
 use Rattle.sbp_target.specs.declared.purpose.Purpose.TheVariants as purposes
 use Rattle.sbp_target.specs.Nodes.{NodeState, scene}
-use Rattle.sbp_world.specs.Generations.{node_of, topology_at}
+use Rattle.sbp_bus.specs.Generations.{node_of, topology_at}
 use Rattle.sbp_world.specs.Handing.{handed_out}
 use Rattle.sbp_world.specs.Sending.{asked, posted, sent, sent_to}
 use Rattle.sbp_world.specs.Worlds.{WorldState}

@@ -18,7 +18,7 @@ use Rattle.sbp_target.specs.Nodes.{NodeState, Scene, scene}
 use Rattle.sbp_target.specs.Receiving.{answer_in, received}
 use Rattle.sbp_target.specs.Replies.{whole}
 use Rattle.sbp_target.specs.Serving.{is_barred}
-use Rattle.target_laws.specs.Calls.{Call, after, alone, lets_expire, sees, sets_key, ticks}
+use Rattle.sbp_target.specs.Calls.{Call, after, alone, lets_expire, sees, sets_key, ticks}
 use Rattle.target_terms.specs.Offices.{Agrees, Office, by_sides, cleared, replied, started, ticked, with_key}
 
 -- ---- what the first note of a turn does

@@ -19,7 +19,7 @@ use Rattle.sbp_world.specs.Runs.{AreEntries, Run, after, beginning}
 use Rattle.sbp_world.specs.Settling.{MayAll, after_all}
 use Rattle.sbp_world.specs.Worlds.{begun}
 use Rattle.target_laws.specs.Transactions.{IsUnderWay}
-use Rattle.world_laws.specs.Lines.{AreLines}
+use Rattle.sbp_world.specs.Wire.Lines.{AreLines}
 use Rattle.target_terms.specs.Offices.{Agrees, office_of}
 
 -- The operation of a node has one transaction under way, to that node: the terms have it by the serial of its request, which waits on the wire

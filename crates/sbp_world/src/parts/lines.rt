@@ -7,9 +7,9 @@ ghost use Rattle.sbp_world.specs.Worlds.{scene};
 
 use super::Parts;
 use super::delivering::NODE_CALLS;
-use crate::loads::weight_of;
 use rbc_disk::Medium;
 use sbp_base::NoMemory;
+use sbp_bus::weight_of;
 use sbp_initiator::{ActFault, Initiator};
 use sbp_journal::{Action, Event, Note, Outbox};
 

@@ -3,12 +3,9 @@ ghost use Rattle.std.specs.Prelude.{◌≡◌, ◌+◌, ◌-◌, ◌≤◌, ◌�
 ghost use Rattle.sbp_world.specs.Making.{new_initiators, new_world};
 
 use super::Parts;
-use crate::generations::Generations;
-use crate::loads::Loads;
-use crate::places::Places;
-use crate::requests::Requests;
 use packet_store::Store;
 use sbp_base::NoMemory;
+use sbp_bus::{Generations, Loads, Places, Requests};
 use sbp_initiator::Initiator;
 use sbp_journal::{Journal, Note};
 use sbp_target::Target;

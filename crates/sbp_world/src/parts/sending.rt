@@ -2,10 +2,10 @@ ghost use Rattle.std.specs.Prelude.{◌≡◌, ◌+◌, ◌<◌, length, IfOk, O
 ghost use Rattle.sbp_world.specs.Sending.{asked, posted, sent, sent_all, with_request};
 
 use super::Parts;
-use crate::requests::Request;
 use async_packet::Label;
 use packet_store::Sent;
 use sbp_base::{Bytes, Generation, NoMemory, NodeId};
+use sbp_bus::Request;
 use sbp_journal::{Note, Outbox, Outgoing};
 
 /// The calls that a store counts.

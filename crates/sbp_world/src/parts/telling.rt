@@ -1,15 +1,14 @@
 ghost use Rattle.std.specs.Prelude.{◌≡◌, OnOk};
-ghost use Rattle.sbp_initiator.specs.Lists.{last_at};
+ghost use Rattle.orb_list.specs.Lists.{last_at};
 ghost use Rattle.sbp_world.specs.Telling.{counted, cut_loads, initiator_of, list_in, managed_places, opened, orb_in, ticket_of, told, told_cut, told_dead, told_ended, told_left, told_managed, told_own, told_ran};
 
 use super::Parts;
-use crate::loads::Loads;
-use crate::places::{Holder, Places};
 use crate::words::{check_of, function_word, login_if};
 use orb_layout::{FailCause, StatusKind};
 use orb_list::Ticket;
 use rbc_disk::Outcome;
 use sbp_base::{Bytes, NoMemory, NodeId, Offset};
+use sbp_bus::{Holder, Loads, Places};
 use sbp_journal::{CutCause, FunctionWord, Note, Side};
 
 /// The number of the list of an ORB.

@@ -5,7 +5,7 @@ use Rattle.std.proofs.lemmas.List.{length-map}
 use Rattle.sbp_journal.specs.Form.{HasForm}
 use Rattle.sbp_journal.proofs.Each.{all_reverse}
 use Rattle.sbp_world.specs.Lines.{IsEvent}
-use Rattle.world_laws.specs.Lines.{IsLine}
+use Rattle.sbp_world.specs.Wire.Lines.{IsLine}
 use Rattle.sbp_world.proofs.Delivered.{on_ok}
 use Rattle.sbp_world.proofs.LineForms.{form_law}
 use Rattle.script_runner.proofs.DrillEvents.{lines_are, lines_few, lines_fit}

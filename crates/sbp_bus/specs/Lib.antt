@@ -1,0 +1,4 @@
+pub mod Generations
+pub mod Requests
+pub mod Places
+pub mod Loads

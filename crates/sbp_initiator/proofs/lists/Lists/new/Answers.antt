@@ -1,5 +1,0 @@
-use Rattle.sbp_initiator.proofs.Counted.{new_is_held}
-use Rattle.sbp_initiator.proofs.lists.Lists.new.Goals as goal
-
-pub invariant_of-result : goal.invariant_of-result
-invariant_of-result c = rw (c.new.ensures, c.in_ok-new.ensures, c.in_ok-no_answers.ensures) (new_is_held c.args.rom.now)

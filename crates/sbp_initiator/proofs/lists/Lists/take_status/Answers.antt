@@ -1,6 +1,0 @@
-use Rattle.std.proofs.Common.{refl}
-use Rattle.sbp_initiator.proofs.Counted.{status_slots}
-use Rattle.sbp_initiator.proofs.lists.Lists.take_status.Goals as goal
-
-pub returns-in-Err-clause-none : goal.returns-in-Err-clause-none
-returns-in-Err-clause-none c = rw (← c.self.view_is) (status_slots _ _ _ _ _ _ _ c.in-Err.ensures.step refl)

@@ -1,0 +1,5 @@
+pub mod Memory
+pub mod Turns
+pub mod Requests
+pub mod Acts
+pub mod Law

@@ -1,0 +1,9 @@
+pub mod Agents
+pub mod Manager
+pub mod Nodes
+pub mod Pass
+pub mod Replies
+pub mod Demands
+pub mod Served
+pub mod Made
+pub mod Law

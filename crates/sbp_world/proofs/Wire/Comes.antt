@@ -1,0 +1,52 @@
+-- Which node a packet comes to.
+use Rattle.std.specs.Prelude.{◌≡◌, ◌≤◌, ◌<◌, ℕ, suc, ◌-◌, nat_eq, nat_lt, Bool, true, false, if◌then◌else◌, List, length, Option, Some}
+use Rattle.std.proofs.Common.{arith, ◌∙◌, ap}
+use Rattle.packet_store.specs.declared.sent.Sent.{Sent}
+use Rattle.packet_store.specs.Kept.{found_sent}
+use Rattle.rbc_disk.specs.Runs.{Told}
+use Rattle.sbp_journal.specs.Run.{Moment}
+use Rattle.sbp_journal.specs.Outgoings.{OutboxState}
+use Rattle.sbp_world.specs.declared.parts.delivering.Arrival.{Arrival}
+use Rattle.sbp_world.specs.Delivering.{at_initiator, at_none, at_target, delivered_by, initiator_received, initiators_received, received_at, received_by, received_step, target_received}
+use Rattle.sbp_world.specs.Worlds.{Scene}
+use Rattle.sbp_world.specs.Wire.Wires.{Stands}
+
+pub received_is : (told : Option Told) (serial : ℕ) (s : Scene) (sent : Sent) → found_sent serial s.world.store.kept ≡ Some sent → received_step told serial s ≡ received_at told sent s
+unfolding received_step
+received_is told serial s sent e = ap (λ o. received_by told o s) e
+
+pub to_zero : (n : ℕ) → n ≡ 0 → nat_eq n 0 ≡ true
+to_zero n e = grind arith
+
+to_suc : (n i : ℕ) → n ≡ suc i → nat_eq n 0 ≡ false
+to_suc n i e = grind arith
+
+is_inside : (m n : ℕ) → m < n → nat_lt m n ≡ true
+is_inside m n l = grind arith
+
+is_outside : (m n : ℕ) → n ≤ m → nat_lt m n ≡ false
+is_outside m n l = grind arith
+
+pub own_at : ℕ → Sent → Scene → Option Arrival × (OutboxState × Scene)
+own_at j sent s =
+    if nat_lt j (length s.world.initiators) then at_initiator sent.to (initiators_received j sent s.world.initiators) s else at_none s
+
+pub to_own : (told : Option Told) (serial i : ℕ) (s : Scene) (sent : Sent) → found_sent serial s.world.store.kept ≡ Some sent → sent.to ≡ suc i → received_step told serial s ≡ own_at i sent s
+unfolding own_at
+to_own told serial i s sent found e =
+    received_is told serial s sent found
+    ∙ ap (λ b. if b then at_target sent.to (target_received told sent s.world.target s.media) s else initiator_received sent s) (to_suc sent.to i e)
+    ∙ ap (λ j. own_at j sent s) (let x : sent.to - 1 ≡ i = omega arith in x)
+
+pub own_inside : (sent : Sent) (i : ℕ) (s : Scene) → i < length s.world.initiators → own_at i sent s ≡ at_initiator sent.to (initiators_received i sent s.world.initiators) s
+unfolding own_at
+own_inside sent i s l =
+    ap (λ b. if b then at_initiator sent.to (initiators_received i sent s.world.initiators) s else at_none s) (is_inside i (length s.world.initiators) l)
+
+pub own_outside : (sent : Sent) (i : ℕ) (s : Scene) → length s.world.initiators ≤ i → own_at i sent s ≡ at_none s
+unfolding own_at
+own_outside sent i s l =
+    ap (λ b. if b then at_initiator sent.to (initiators_received i sent s.world.initiators) s else at_none s) (is_outside i (length s.world.initiators) l)
+
+pub none_after : (past : List Moment) (serial : ℕ) (again : Bool) (s : Scene) → Stands past s.world → Stands past (delivered_by serial again (at_none s)).world
+none_after past serial again s h = h

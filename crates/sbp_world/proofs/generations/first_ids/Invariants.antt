@@ -1,6 +1,0 @@
-use Rattle.std.specs.Prelude.{◌≡◌}
-use Rattle.sbp_world.specs.Generations.{first_ids}
-use Rattle.sbp_world.proofs.generations.first_ids.Given as goal
-
-abbrev pub invariant-loop-node : goal.invariant-loop-node
-invariant-loop-node l = l.ids ≡ first_ids l.node

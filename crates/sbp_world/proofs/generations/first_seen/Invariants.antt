@@ -1,6 +1,0 @@
-use Rattle.std.specs.Prelude.{◌≡◌, replicate}
-use Rattle.sbp_world.specs.Generations.{first_topology}
-use Rattle.sbp_world.proofs.generations.first_seen.Given as goal
-
-abbrev pub invariant-loop : goal.invariant-loop
-invariant-loop l = l.seen.items ≡ replicate l.counter (first_topology l.nodes)

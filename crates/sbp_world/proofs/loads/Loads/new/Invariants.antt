@@ -1,6 +1,0 @@
-use Rattle.std.specs.Prelude.{◌≡◌, replicate}
-use Rattle.sbp_world.specs.Loads.{new_load}
-use Rattle.sbp_world.proofs.loads.Loads.new.Given as goal
-
-abbrev pub invariant-loop : goal.invariant-loop
-invariant-loop l = l.each.items ≡ replicate l.counter new_load
