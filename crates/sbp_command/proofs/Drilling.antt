@@ -1,129 +1,46 @@
--- A drill is run line by line, summed up and written, and ends as its status says.
+-- A drill is summed up and written, and ends as its status says.
 use Rattle.std.specs.Fmt.{decimal}
 use Rattle.std.specs.Str.{bytes_eq}
 use Rattle.std.proofs.lemmas.Fmt.{decimal_injective}
 use Rattle.std.proofs.lemmas.Slice.Eq.{bytes_eq-Decides}
 use Rattle.drill_text.specs.Words.{IsDrill}
 use Rattle.sbp_command.specs.declared.status.Status.{Status as CallStatus}
-use Rattle.std.proofs.Common.{◌≡◌, ◌^◌, codes, ◌∙◌, refl, sym, ap, subst, ℕ, suc, ◌+◌, ◌≤◌, ◌<◌, inl, inr, Bool, true, false, List, [], ◌∷◌, ◌++◌, take, drop, length, map, reverse, Option, Some, None, Result, Ok, Err, append_assoc, append-nil, arith}
-use Rattle.std.specs.Prelude.{OnOk, slice_set, slice_index}
-use Rattle.std.specs.List.{AllByRecursion, slice_get}
+use Rattle.std.proofs.Common.{◌≡◌, ◌^◌, codes, ◌∙◌, refl, sym, ap, subst, ℕ, ◌+◌, ◌≤◌, ◌<◌, inr, true, false, List, [], ◌∷◌, ◌++◌, Option, Some, None, Ok, Err, append-nil, arith}
 use Rattle.std.specs.Io.KnownBytes.{Appends}
-use Rattle.rbc_disk.specs.Disk.{Disk, disk_at}
-use Rattle.rbc_disk.specs.Held.{Held, held}
-use Rattle.sbp_journal.specs.declared.event.Event.{Event}
-use Rattle.sbp_journal.specs.declared.event.Event.TheVariants as events
-use Rattle.sbp_journal.specs.declared.note.Note.{Note}
-use Rattle.sbp_world.specs.Lines.{Happens}
-use Rattle.sbp_world.specs.Making.{new_world, notes_begin}
-use Rattle.sbp_world.specs.Runs.{entry, with_entry}
-use Rattle.sbp_world.specs.Worlds.{WorldState}
-use Rattle.sbp_world.proofs.Standing.{begins, goes_on}
-use Rattle.sbp_world.specs.Wire.Lines.{IsLine}
-use Rattle.script_text.specs.Drill.{generated, turns}
-use Rattle.line_session.specs.Outside.{Outside, outside}
+use Rattle.rbc_disk.specs.Held.{Held}
+use Rattle.script_text.specs.Drill.{generated}
+use Rattle.line_session.specs.Outside.{Outside}
 use Rattle.line_session.specs.Session.{WritesFront}
 use Rattle.line_session.specs.declared.status.Status.{Status}
 use Rattle.line_session.specs.declared.status.Status.TheVariants as stream_statuses
-use Rattle.drill_text.specs.Disks.{SumsUp}
 use Rattle.drill_text.specs.Summary.{summary_text}
-use Rattle.drill_text.specs.Tally.{TallyState, tally_of}
-use Rattle.sbp_command.specs.Drill.{DrillEnds, DrillWrites, RanDrill, SumsFirst, numbered_from}
-use Rattle.sbp_command.specs.Drilling.{InDrill, TalliedRun}
+use Rattle.drill_text.specs.Tally.{TallyState}
+use Rattle.sbp_command.specs.Drill.{DrillEnds, DrillWrites, RanDrill, SumsFirst}
 use Rattle.sbp_command.specs.Headline.{ListingEnds, RomEnds, RunEnds, UsageEnds, status_of}
 use Rattle.sbp_command.specs.Served.{Serves}
-use Rattle.sbp_command.specs.Machine.{events_of, journal}
-use Rattle.sbp_command.specs.Runner.{scene_of}
-use Rattle.sbp_command.proofs.Kept.{world_fresh}
-use Rattle.sbp_command.proofs.Media.{run_fits, run_leaves}
-use Rattle.sbp_command.proofs.Wires.{more_lines, run_of_wire, run_on_bus}
-
--- ---- the lines that are left
-
-pub first_left : {A : Type 0} (xs : List A) (x : A) → Some x ≡ slice_get xs 0 → xs ≡ x ∷ drop 1 xs
-first_left [] x e = absurd (cc e)
-first_left (y ∷ xs) x e = let same : x ≡ y = cc e in ap (λ z. z ∷ xs) (sym same)
-
-pub none_left : {A : Type 0} (xs : List A) → None ≡ slice_get xs 0 → xs ≡ []
-none_left [] e = refl
-none_left (y ∷ xs) e = absurd (cc e)
-
-pub fits_first : {A : Type 0} (P : A → Type 0) (xs ys : List A) (x : A) → xs ≡ x ∷ ys → AllByRecursion P xs → P x × AllByRecursion P ys
-fits_first P xs ys x e h = subst (AllByRecursion P) e h
-
--- ---- one more line
-
--- the run begins
-pub drill_begins : (seed count units : ℕ) (start : Held) (tally : TallyState) → units ≡ length start.disks → tally ≡ tally_of (notes_begin 2 true ∷ [])
-    → InDrill start (generated seed count) 1 (turns count 1 seed) tally (new_world 2 true units) start
-drill_begins seed count units start tally u e = record {
-  run = record { initiators = 2; ready = true; units = units; start = start; entries = [] };
-  start_is = refl;
-  units_are = u;
-  few = omega arith;
-  events_are = refl;
-  tally_is = e;
-  stands = begins 2 true units start;
-  lines = tt;
-  count = refl;
-}
-
--- the same, of a script, a world and a tally that are these
-pub drill_begun : (seed count units : ℕ) (start : Held) (script : List Event) (tally : TallyState) (world : WorldState) (said : List Note) → script ≡ turns count 1 seed → world ≡ new_world 2 true units → units ≡ length start.disks → tally ≡ tally_of said → said ≡ reverse world.fresh
-    → InDrill start (generated seed count) 1 script tally world start
-drill_begun seed count units start script tally world said s w u t n =
-    let first : said ≡ notes_begin 2 true ∷ [] = n ∙ ap reverse (ap (λ v. v.fresh) w ∙ world_fresh 2 true units) in
-    let begun = drill_begins seed count units start tally u (t ∙ ap tally_of first) in
-    subst (λ v. InDrill start (generated seed count) 1 script tally v start) (sym w) (subst (λ es. InDrill start (generated seed count) 1 es tally (new_world 2 true units) start) (sym s) begun)
-
--- a line was run
-pub drill_more : (start old media : Held) (all left rest : List Event) (line : ℕ) (event : Event) (before after : TallyState) (w v : WorldState) → left ≡ event ∷ rest → Happens (line + 1) event (scene_of w old) (scene_of v media)
-    → ((notes : List Note) → before ≡ tally_of notes → after ≡ tally_of (notes ++ reverse v.fresh)) → IsLine event (length w.initiators) → InDrill start all line left before w old → InDrill start all (line + 1) rest after v media
-drill_more start old media all left rest line event before after w v l k t i h = record {
-  run = with_entry h.run (entry (line + 1) event k.told v.fresh);
-  start_is = h.start_is;
-  units_are = h.units_are;
-  few = h.few;
-  events_are = append_assoc (events_of 1 h.run) ((line + 1, event) ∷ []) (numbered_from (line + 1 + 1) rest) ∙ subst (λ es. events_of 1 h.run ++ numbered_from (line + 1) es ≡ numbered_from 1 all) l h.events_are;
-  tally_is = t (journal h.run) h.tally_is;
-  stands = goes_on h.run (line + 1) event (scene_of w old) (scene_of v media) h.stands k;
-  lines = more_lines h.run (entry (line + 1) event k.told v.fresh) (scene_of w old) h.stands.state i h.lines;
-  count = let before : length h.run.entries + 1 ≡ line = h.count in let now : suc (length h.run.entries) + 1 ≡ line + 1 = omega (arith, before) in now;
-}
-
--- all was run
-pub drill_over : (start media : Held) (all left : List Event) (line : ℕ) (tally : TallyState) (w : WorldState) → left ≡ [] → line ≤ 20001 → InDrill start all line left tally w media → TalliedRun start all tally media
-drill_over start media all left line tally w l few h = record {
-  notes = journal h.run;
-  ran = record {
-    line = 1;
-    run = h.run;
-    start_is = h.start_is;
-    units_are = h.units_are;
-    lines_are = h.stands.lines;
-    events_are = sym (append-nil (events_of 1 h.run)) ∙ subst (λ es. events_of 1 h.run ++ numbered_from (line + 1) es ≡ numbered_from 1 all) l h.events_are;
-    notes_are = refl;
-    media_are = ap (λ s. s.media) h.stands.state;
-    media_fit = run_fits h.run start media h.start_is h.few h.stands.lines (ap (λ s. s.media) h.stands.state);
-    leaves = run_leaves 1 h.run start media h.start_is h.few h.stands.lines (ap (λ s. s.media) h.stands.state);
-    of_wire = run_of_wire 1 h.run h.few (let count = h.count in omega (arith, count, few)) h.stands.lines h.lines;
-    on_the_bus = run_on_bus 1 h.run start h.start_is h.units_are h.few (let count = h.count in omega (arith, count, few)) h.stands.lines h.lines;
-  };
-  tally_is = h.tally_is;
-}
+use Rattle.script_runner.specs.Events.{events_of, journal, numbered_from}
+use Rattle.script_runner.specs.Drilling.{Drilled}
+use Rattle.journal_text.proofs.Feeds.{trace_of_text}
+use Rattle.sbp_command.proofs.Forms.{has_form}
+use Rattle.sbp_command.proofs.Wires.{has_run}
 
 -- ---- the summary
 
-pub drill_summed : (seed count : ℕ) (start media now : Held) (tally : TallyState) (disk : Option ℕ) (old output : List ℕ) → TalliedRun start (generated seed count) tally media → SumsFirst disk media now → old ≡ []
+pub drill_summed : (seed count : ℕ) (start media now : Held) (tally : TallyState) (disk : Option ℕ) (old output : List ℕ) → Drilled start (generated seed count) tally media → SumsFirst disk media now → old ≡ []
     → output ≡ old ++ summary_text (record { seed = seed; count = count; tally = tally; disk = disk }) → RanDrill seed count start now output
-drill_summed seed count start media now tally disk old output h s n e = record {
-  notes = h.notes;
-  media = media;
-  disk = disk;
-  ran = h.ran;
-  summed = s;
-  output_is = e ∙ ap (λ lines. lines ++ summary_text (record { seed = seed; count = count; tally = tally; disk = disk })) n ∙ ap (λ t. summary_text (record { seed = seed; count = count; tally = t; disk = disk })) h.tally_is;
-}
+drill_summed seed count start media now tally disk old output h s n e =
+    let d = h.done in
+    let lines = numbered_from 1 (generated seed count) in
+    let ran = has_run 1 d.run start media h.world lines d.start_is d.units_are d.few (let entries = d.count in let few = h.few in omega (arith, entries, few)) (sym (append-nil (events_of 1 d.run)) ∙ d.events_are) d.stands d.lines in
+    record {
+      notes = journal d.run;
+      media = media;
+      disk = disk;
+      ran = ran;
+      trace_is = trace_of_text (journal d.run) (has_form start media lines (journal d.run) ran);
+      summed = s;
+      output_is = e ∙ ap (λ lines. lines ++ summary_text (record { seed = seed; count = count; tally = tally; disk = disk })) n ∙ ap (λ t. summary_text (record { seed = seed; count = count; tally = t; disk = disk })) d.tally_is;
+    }
 
 -- ---- how it ends
 

@@ -9,7 +9,8 @@ use Rattle.sbp_world.specs.Runs.{AreEntries, Entry, Run, after, beginning}
 use Rattle.media_laws.specs.Media.{LeavesMedia, media_after}
 use Rattle.sbp_world.specs.Histories.{history_of, notes_behind}
 use Rattle.media_laws.proofs.Runs.{after_both, disks_law}
-use Rattle.sbp_command.specs.Machine.{Runs, journal, notes_in}
+use Rattle.script_runner.specs.Events.{journal, notes_in}
+use Rattle.sbp_command.specs.Machine.{Runs}
 
 notes_back : (entries : List Entry) → reverse (notes_in entries) ≡ notes_behind entries
 notes_back [] = refl

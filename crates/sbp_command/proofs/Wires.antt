@@ -1,29 +1,22 @@
 -- The history of a run of the machine keeps the laws of the wire, and those of the bus, where its events are those of lines.
-use Rattle.std.proofs.Common.{◌≡◌, ◌∙◌, refl, sym, ap, subst, ℕ, ◌+◌, ◌^◌, ◌<◌, ◌≤◌, List, [], ◌∷◌, length, arith}
+use Rattle.std.proofs.Common.{◌≡◌, ◌∙◌, refl, sym, ap, ℕ, ◌+◌, ◌^◌, ◌<◌, ◌≤◌, List, [], ◌∷◌, length, arith}
 use Rattle.std.proofs.lemmas.List.{length-append}
 use Rattle.sbp_journal.specs.declared.event.Event.{Event}
 use Rattle.sbp_world.specs.Histories.{history_of}
-use Rattle.sbp_world.specs.Runs.{AreEntries, Entry, Run, after, beginning, with_entry}
-use Rattle.sbp_world.specs.Worlds.{Scene}
+use Rattle.sbp_world.specs.Runs.{AreEntries, Entry, Run, StandsFor, after, beginning}
+use Rattle.sbp_world.specs.Worlds.{WorldState}
 use Rattle.rbc_disk.specs.Held.{Held}
 use Rattle.sbp_laws.specs.Lawful.{injectors}
 use Rattle.sbp_laws.specs.OnTheBus.{LawfulOnTheBus}
 use Rattle.sbp_world.specs.Wire.History.{IsOfWire}
 use Rattle.sbp_world.specs.Wire.Journal.{journal_run}
-use Rattle.sbp_world.specs.Wire.Lines.{AreLines, IsLine}
+use Rattle.sbp_world.specs.Wire.Lines.{AreLines}
 use Rattle.sbp_world.proofs.Wire.Entries.{bus_law}
 use Rattle.sbp_world.proofs.Wire.Runs.{all_runs}
-use Rattle.sbp_command.specs.Machine.{events_in, events_of}
-
--- ---- the lines of a run
-
-lines_with : (run : Run) (e : Entry) (entries : List Entry) → AreLines run entries → AreLines (with_entry run e) entries
-lines_with run e [] h = tt
-lines_with run e (f ∷ before) h = (h.0, lines_with run e before h.1)
-
--- one line more
-pub more_lines : (run : Run) (e : Entry) (s : Scene) → s ≡ after (beginning run) run.entries → IsLine e.event (length s.world.initiators) → AreLines run run.entries → AreLines (with_entry run e) (e ∷ run.entries)
-more_lines run e s same line h = (subst (λ x. IsLine e.event (length x.world.initiators)) same line, lines_with run e run.entries h)
+use Rattle.script_runner.specs.Events.{events_in, events_of, journal}
+use Rattle.script_runner.specs.Runner.{scene_of}
+use Rattle.sbp_command.specs.Machine.{HasRun}
+use Rattle.sbp_command.proofs.Media.{run_fits, run_leaves}
 
 -- ---- how many there are
 
@@ -52,3 +45,25 @@ pub run_on_bus : (line : ℕ) (run : Run) (start : Held) → run.start ≡ start
 run_on_bus line run start same units few count all lines =
     let most : length run.entries + 2 < 2 ^ 32 = omega arith in
     bus_law.lawful line run few (units ∙ ap (λ m. length m.disks) (sym same)) most all lines
+
+-- ---- a run of the machine
+
+-- it is one over its events, whose notes are its journal
+pub has_run : (line : ℕ) (run : Run) (start media : Held) (world : WorldState) (happened : List (ℕ × Event)) → run.start ≡ start → run.units ≡ length start.disks → run.initiators ≤ 4 → length run.entries ≤ 65535 → events_of line run ≡ happened
+    → StandsFor run (scene_of world media) → AreLines run run.entries → HasRun start happened (journal run) media
+has_run line run start media world happened same units few count events stands lines =
+    let left : media ≡ (after (beginning run) run.entries).media = ap (λ s. s.media) stands.state in
+    record {
+      line = line;
+      run = run;
+      start_is = same;
+      units_are = units;
+      lines_are = stands.lines;
+      events_are = events;
+      notes_are = refl;
+      media_are = left;
+      media_fit = run_fits run start media same few stands.lines left;
+      leaves = run_leaves line run start media same few stands.lines left;
+      of_wire = run_of_wire line run few count stands.lines lines;
+      on_the_bus = run_on_bus line run start same units few count stands.lines lines;
+    }

@@ -1,24 +1,21 @@
 -- What the top call promises of `drill`, by its status.
-use Rattle.std.specs.Prelude.{◌≡◌, ◌⊎◌, ℕ, ◌+◌, List, [], ◌∷◌, take, slice_set, slice_index, Option}
+use Rattle.std.specs.Prelude.{◌≡◌, ◌⊎◌, ℕ, List, [], take, slice_set, slice_index, Option}
 use Rattle.std.specs.Io.KnownBytes.{Appends}
 use Rattle.sbp_base.specs.Faults.{Rose}
 use Rattle.line_session.specs.Outside.{Outside}
 use Rattle.rbc_disk.specs.Disk.{disk_at}
 use Rattle.rbc_disk.specs.Held.{Held}
-use Rattle.sbp_journal.specs.declared.event.Event.{Event}
+use Rattle.sbp_journal.specs.Text.{text_of}
 use Rattle.sbp_journal.specs.declared.note.Note.{Note}
 use Rattle.script_text.specs.Drill.{generated}
 use Rattle.drill_text.specs.Disks.{SumsUp}
 use Rattle.drill_text.specs.Summary.{summary_text}
+use Rattle.drill_text.specs.Sums.{trace}
 use Rattle.drill_text.specs.Tally.{tally_of}
+use Rattle.script_runner.specs.Events.{numbered_from}
 use Rattle.sbp_command.specs.Machine.{HasRun}
 use Rattle.sbp_command.specs.declared.status.Status.{Status}
 use Rattle.sbp_command.specs.declared.status.Status.TheVariants as statuses
-
--- the lines of a script, numbered from one on
-abbrev pub numbered_from : ℕ → List Event → List (ℕ × Event)
-numbered_from line [] = []
-numbered_from line (event ∷ events) = (line, event) ∷ numbered_from (line + 1) events
 
 -- Unit 0 was summed up, or read in part: no medium holds anything else, and at most the count of unit 0 has changed.
 pub record SumsFirst (sum : Option ℕ) (before now : Held) : Type 0 where
@@ -27,12 +24,13 @@ pub record SumsFirst (sum : Option ℕ) (before now : Held) : Type 0 where
   pub first : SumsUp sum (disk_at before.disks 0) (slice_index before.faults 0) (slice_index now.faults 0)
 
 -- A run of the machine over exactly the lines of the generated script, from what the media held at first; then unit 0 was summed
--- up; and the six lines tell what both came to.
+-- up; and the six lines tell what both came to. The sum of the tally is that over the whole text of the notes, cut at its line feeds.
 pub record RanDrill (seed count : ℕ) (before now : Held) (output : List ℕ) : Type 0 where
   pub notes : List Note
   pub media : Held
   pub disk : Option ℕ
   pub ran : HasRun before (numbered_from 1 (generated seed count)) notes media
+  pub trace_is : (tally_of notes).sum ≡ trace (text_of notes)
   pub summed : SumsFirst disk media now
   pub output_is : output ≡ summary_text (record { seed = seed; count = count; tally = tally_of notes; disk = disk })
 

@@ -17,7 +17,8 @@ use Rattle.packet_listing.specs.Listing.{Listing, listing}
 use Rattle.rom_listing.specs.RomListing.{rom_listing, rom_quads}
 use Rattle.media_laws.specs.Media.{media_after}
 use Rattle.sbp_target.specs.Faults.{NoneFell}
-use Rattle.sbp_command.specs.Machine.{MayLeave, Runs}
+use Rattle.script_runner.specs.Events.{MayLeave}
+use Rattle.sbp_command.specs.Machine.{Runs}
 use Rattle.sbp_command.specs.declared.status.Status.{Status}
 use Rattle.sbp_command.specs.declared.status.Status.TheVariants as statuses
 

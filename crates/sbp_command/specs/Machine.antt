@@ -1,36 +1,16 @@
 -- What a run of the machine over the events of a script is.
-use Rattle.std.specs.Prelude.{◌≡◌, ◌⊎◌, ℕ, List, [], ◌∷◌, ◌++◌, length, reverse}
+use Rattle.std.specs.Prelude.{◌≡◌, ◌⊎◌, ℕ, List, [], length, reverse}
 use Rattle.rbc_disk.specs.Held.{Held}
 use Rattle.sbp_journal.specs.declared.event.Event.{Event}
-use Rattle.sbp_journal.specs.declared.event.Event.TheVariants as events
 use Rattle.sbp_journal.specs.declared.note.Note.{Note}
 use Rattle.media_laws.specs.Media.{LeavesMedia, media_after}
 use Rattle.sbp_world.specs.Histories.{history_of}
-use Rattle.sbp_target.specs.Faults.{NoneFell}
-use Rattle.sbp_world.specs.Making.{notes_begin}
-use Rattle.sbp_world.specs.Runs.{AreEntries, Entry, Run, after, beginning}
+use Rattle.sbp_world.specs.Runs.{AreEntries, Run, after, beginning}
 use Rattle.sbp_laws.specs.Lawful.{injectors}
 use Rattle.sbp_laws.specs.OnTheBus.{LawfulOnTheBus}
 use Rattle.sbp_world.specs.Wire.History.{IsOfWire}
 use Rattle.sbp_world.specs.Wire.Journal.{journal_run}
-
--- the numbered events of some lines, in their order
-abbrev pub events_in : List Entry → List (ℕ × Event)
-events_in [] = []
-events_in (entry ∷ before) = events_in before ++ (entry.line, entry.event) ∷ []
-
--- the notes of some lines, in their order
-abbrev pub notes_in : List Entry → List Note
-notes_in [] = []
-notes_in (entry ∷ before) = notes_in before ++ reverse entry.notes
-
--- the line that begins a run, and those after it
-abbrev pub events_of : ℕ → Run → List (ℕ × Event)
-events_of line run = (line, events.Begin run.initiators run.ready) ∷ events_in run.entries
-
--- the note of the line that begins a run, and those of the lines after it
-abbrev pub journal : Run → List Note
-journal run = notes_begin run.initiators run.ready ∷ notes_in run.entries
+use Rattle.script_runner.specs.Events.{events_of, journal}
 
 -- A run of the machine, over exactly these events and from what the media held at first: its notes, and what it leaves of the media. That is
 -- what the notes alone say of them: each medium holds what the disk fold gives, and each failing run raised its count. And its history
@@ -58,8 +38,3 @@ pub record HasNone (start : Held) (happened : List (ℕ × Event)) (notes : List
 -- what the machine does over some events
 abbrev pub Runs : Held → List (ℕ × Event) → List Note → Held → Type 0
 Runs start happened notes now = HasNone start happened notes now ⊎ HasRun start happened notes now
-
--- A line that memory was wanting for leaves as many media, and no count of faults fell.
-pub record MayLeave (old new : Held) : Type 0 where
-  pub count : length new.disks ≡ length old.disks
-  pub fell : NoneFell old.faults new.faults

@@ -2,11 +2,8 @@
 #![tactic(auto)]
 
 mod drill;
-mod runner;
-mod script;
 mod status;
 mod top;
-mod typed;
 
 pub use rom_listing::rom_tree_is_listed;
 pub use status::Status;

@@ -6,7 +6,6 @@ ghost use Rattle.sbp_command.specs.Headline.{status_of, RunEnds, ListingEnds, Ro
 ghost use Rattle.sbp_command.specs.Served.{Serves};
 
 use crate::drill::run_drill;
-use crate::runner::ScriptRunner;
 use crate::status::Status;
 use drill_text::drill_words;
 use line_session::{Status as LineStatus, serve_lines, write_all};
@@ -14,6 +13,7 @@ use packet_listing::PacketLister;
 use rbc_disk::Medium;
 use rom_listing::RomLister;
 use sbp_base::{NoMemory, Sink, Source};
+use script_runner::serve_script;
 use std::alloc::Global;
 
 /// What is written where the words are in no row.
@@ -63,8 +63,7 @@ fn run_script<S: Source, K: Sink>(
     requires few { length media.old.items ≤ 4 }
     ensures { RunEnds result (outside (S.left source.old) (S.faults source.old) (K.written sink.old) (K.faults sink.old) (map disk media.old.items) (map media_faults media.old.items)) (outside (S.left source.new) (S.faults source.new) (K.written sink.new) (K.faults sink.new) (map disk media.new.items) (map media_faults media.new.items)) }
 {
-    let mut server = ScriptRunner::new(alloc);
-    status_of(serve_lines(alloc, &mut server, media, source, sink))
+    status_of(serve_script(alloc, media, source, sink))
 }
 
 /// Reads packets and lists them.

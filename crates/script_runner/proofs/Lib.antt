@@ -1,0 +1,9 @@
+pub mod EventBytes
+pub mod OwnIds
+pub mod Fits
+pub mod Entries
+pub mod Kept
+pub mod ScriptLines
+pub mod Running
+pub mod DrillEvents
+pub mod Drilling

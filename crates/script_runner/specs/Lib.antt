@@ -1,0 +1,4 @@
+pub mod Script
+pub mod Events
+pub mod Runner
+pub mod Drilling

@@ -1,0 +1,12 @@
+//! What runs the lines of a script in a world, and what runs the script of a drill.
+#![tactic(auto)]
+
+mod begin;
+mod drill;
+mod runner;
+mod script;
+mod typed;
+
+pub use drill::tally_drill;
+pub use runner::{ScriptRunner, serve_script};
+pub use script::read_event;
