@@ -11,7 +11,7 @@ use Rattle.packet_store.specs.Calls as calls
 use Rattle.packet_store.specs.Laws.{shown}
 use Rattle.packet_store.specs.Transactions as stored
 use Rattle.packet_store.proofs.Calls.{serial_law, keeps_law, flight_is}
-use Rattle.packet_store.proofs.Flights.{in_air}
+use Rattle.packet_store.specs.Kept.{in_air}
 use Rattle.sbp_journal.specs.Transactions.{Transaction, Sending, begun_by, belongs}
 use Rattle.sbp_journal.specs.Wire.{Flight, unsent, in_flight, delivered, lost, withdrawn, withdraw, belongs_to, by_bus_rule}
 use Rattle.bus_transactions.specs.Wire.{as_sent}

@@ -10,7 +10,8 @@ use Rattle.packet_store.specs.Laws.{shown}
 use Rattle.packet_store.specs.Stored.{Stored}
 use Rattle.packet_store.specs.Transactions.{begun_by}
 use Rattle.packet_store.proofs.Calls.{flight_is, keeps_law, risen}
-use Rattle.packet_store.proofs.Flights.{first_flies, in_air, none_flies}
+use Rattle.packet_store.proofs.Flights.{first_flies, none_flies}
+use Rattle.packet_store.specs.Kept.{in_air}
 use Rattle.bus_transactions.specs.Packets.{flight_as, sent_as}
 use Rattle.bus_transactions.specs.Wire.{as_sent}
 use Rattle.bus_transactions.proofs.Facts.{Facts}
