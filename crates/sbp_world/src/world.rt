@@ -37,7 +37,7 @@ impl World {
         requires few { initiators ≤ 4 }
         requires one { 1 ≤ units }
         requires units { units ≤ 4 }
-        ensures new { IfOk result (λ world. world ≡ new_world initiators ready units) }
+        ensures world { IfOk result (λ world. world ≡ new_world initiators ready units) }
         ensures lawful { IfOk result (λ world. BeginsLawfully initiators ready units world) }
     {
         Ok(World {

@@ -1,8 +1,7 @@
 -- Each line of a world keeps the laws of the runs that it stands for.
 use Rattle.std.specs.Prelude.{◌≡◌, ℕ, Bool, List, [], Result, Ok, Err, IfOk, OnOk}
-use Rattle.std.proofs.Common.{subst, sym}
+use Rattle.std.proofs.Common.{◌∙◌, ap, subst, sym}
 use Rattle.rbc_disk.specs.Disk.{Disk}
-use Rattle.rbc_disk.specs.Held.{Held}
 use Rattle.sbp_journal.specs.declared.event.Event.{Event}
 use Rattle.sbp_world.proofs.Standing.{begins, goes_on, settles}
 use Rattle.sbp_world.proofs.Wire.Entries.{bus_law}
@@ -33,7 +32,11 @@ keeps_laws line event old new h run stands = record { told = h.told; keeps = law
 pub settles_lawfully : (line : ℕ) (done : Bool) (old new : Scene) → HasSettled done old new → SettlesLawfully line old new
 settles_lawfully line done old new h run stands = record { told = h.told; keeps = lawfully _ _ (settles run line done old new stands h) }
 
--- where the line is begun first
-pub settles_ok : {E : Type 0} (result : Result Bool E) (line : ℕ) (w cleared : WorldState) (disks : List Disk) (faults : List ℕ) (new : Scene) → cleared ≡ without_notes w → IfOk result (λ done. Settles done (scene cleared disks faults) new) → OnOk result (SettlesLawfully line (scene w disks faults) new)
-settles_ok (Ok done) line w cleared disks faults new e h = settles_lawfully line done (scene w disks faults) new (subst (λ x. Settles done (scene x disks faults) new) e h)
-settles_ok (Err e) line w cleared disks faults new c h = tt
+-- what the calls of a world give, which keep its parts
+pub steps_ok : {A E : Type 0} (result : Result A E) (line : ℕ) (event : Event) (w inside : WorldState) (disks : List Disk) (faults : List ℕ) (new : Scene) → inside ≡ w → OnOk result (Happens line event (scene inside disks faults) new) → OnOk result (KeepsLaws line event (scene w disks faults) new)
+steps_ok (Ok a) line event w inside disks faults new e h = keeps_laws line event (scene w disks faults) new (subst (λ x. Happens line event (scene x disks faults) new) e h)
+steps_ok (Err e) line event w inside disks faults new c h = tt
+
+pub settles_ok : {E : Type 0} (result : Result Bool E) (line : ℕ) (w inside cleared : WorldState) (disks : List Disk) (faults : List ℕ) (new : Scene) → inside ≡ w → cleared ≡ without_notes inside → IfOk result (λ done. Settles done (scene cleared disks faults) new) → OnOk result (SettlesLawfully line (scene w disks faults) new)
+settles_ok (Ok done) line w inside cleared disks faults new e f h = settles_lawfully line done (scene w disks faults) new (subst (λ x. Settles done (scene x disks faults) new) (f ∙ ap without_notes e) h)
+settles_ok (Err e) line w inside cleared disks faults new f c h = tt
