@@ -119,14 +119,14 @@ injected_by : (line initiator : ℕ) (bytes : List ℕ) (w : WorldState) → wit
 unfolding inject_line packets.inject_line injected_to packets.injected_to
 injected_by line initiator bytes w = inject_by (packets.injected_to (initiator + 1) bytes w.generations) line (initiator + 1) bytes w
 
-pub injected_on : (line initiator : ℕ) (bytes : List ℕ) (view old : WorldState) (new : BusState) → view ≡ old → new ≡ packets.inject_line line (initiator + 1) bytes (bus_of view) → with_bus new view ≡ inject_line line initiator bytes old
-injected_on line initiator bytes view old new v e =
-    ap (λ b. with_bus b view) e ∙ (injected_by line initiator bytes view ∙ ap (λ w. inject_line line initiator bytes w) v)
+pub injected_on : (line initiator : ℕ) (lent bytes : List ℕ) (view old : WorldState) (new : BusState) → view ≡ old → lent ≡ bytes → new ≡ packets.inject_line line (initiator + 1) lent (bus_of view) → with_bus new view ≡ inject_line line initiator bytes old
+injected_on line initiator lent bytes view old new v l e =
+    ap (λ b. with_bus b view) e ∙ (injected_by line initiator lent view ∙ (ap (λ bs. inject_line line initiator bs view) l ∙ ap (λ w. inject_line line initiator bytes w) v))
 
 reset_by : (ids : List ℕ) (w : WorldState) → with_bus (packets.reset_line ids (bus_of w)) w ≡ reset_line ids w
 unfolding reset_line
 reset_by ids w = refl
 
-pub reset_on : (ids : List ℕ) (view old : WorldState) (new : BusState) → view ≡ old → new ≡ packets.reset_line ids (bus_of view) → with_bus new view ≡ reset_line ids old
-reset_on ids view old new v e =
-    ap (λ b. with_bus b view) e ∙ (reset_by ids view ∙ ap (λ w. reset_line ids w) v)
+pub reset_on : (lent ids : List ℕ) (view old : WorldState) (new : BusState) → view ≡ old → lent ≡ ids → new ≡ packets.reset_line lent (bus_of view) → with_bus new view ≡ reset_line ids old
+reset_on lent ids view old new v l e =
+    ap (λ b. with_bus b view) e ∙ (reset_by lent view ∙ (ap (λ is. reset_line is view) l ∙ ap (λ w. reset_line ids w) v))

@@ -43,7 +43,7 @@ use Rattle.sbp_world.specs.Nodes.{handed_all, initiator_learns, reset_line, see_
 use Rattle.sbp_world.specs.Nodes as nodes
 use Rattle.sbp_world.specs.Packets as packets
 use Rattle.sbp_world.specs.Packets.{delivered_if, expires, first_told, inject_line, injected, injected_to, initiator_expires, is_in_flight, lose_line, may_repeat, refused, target_expired, target_left, timed_out, timeout_line, timeout_of}
-use Rattle.sbp_bus.specs.Packets.{no_packet}
+use Rattle.sbp_bus.specs.Packets.{no_node, no_packet}
 use Rattle.sbp_bus.specs.Requests.{find}
 use Rattle.sbp_world.specs.Sending.{sent_all}
 use Rattle.sbp_world.specs.Settling.{after_all, delivered_at, delivered_next, lowest, settled, settled_from}
@@ -290,7 +290,7 @@ module _ (past : List Moment) (most : ℕ) where
       by false = refuses line no_packet w b
 
   injects_by : (to : Option ℕ) (line from : ℕ) (bytes : List ℕ) (w : WorldState) → Balanced past most w → Balanced past most (injected to line from bytes w)
-  injects_by None line from bytes w b = refuses line packets.no_node w b
+  injects_by None line from bytes w b = refuses line no_node w b
   injects_by (Some to) line from bytes w b = posts_balance past most from to true bytes w b
 
   injects_balance : (line initiator : ℕ) (bytes : List ℕ) (w : WorldState) → Balanced past most w → Balanced past most (inject_line line initiator bytes w)

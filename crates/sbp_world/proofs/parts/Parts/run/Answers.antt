@@ -13,7 +13,7 @@ returns-in-Act-clause-happens g c =
 
 pub returns-in-Reset-clause-happens : goal.returns-in-Reset-clause-happens
 returns-in-Reset-clause-happens g c =
-    on_ok c.reset.result _ _ (λ e. line_is _ _ _ (reset_line _) _ _ _ _ c.in-Reset.is (reset_on _ _ _ _ c.self.view_is e) refl refl) c.reset.ensures.step
+    on_ok c.reset.result _ _ (λ e. line_is _ _ _ (reset_line _) _ _ _ _ c.in-Reset.is (reset_on _ _ _ _ _ c.self.view_is c.as_slice.ensures e) refl refl) c.reset.ensures.step
 
 pub returns-in-See-clause-happens : goal.returns-in-See-clause-happens
 returns-in-See-clause-happens g c =
@@ -49,7 +49,7 @@ returns-in-Tick-clause-happens g c =
 
 pub returns-in-Inject-clause-happens : goal.returns-in-Inject-clause-happens
 returns-in-Inject-clause-happens g c =
-    on_ok c.inject.result _ _ (λ e. line_is _ _ _ (inject_line _ _ _) _ _ _ _ c.in-Inject.is (injected_on _ _ _ _ _ _ c.self.view_is e) refl refl) c.inject.ensures.step
+    on_ok c.inject.result _ _ (λ e. line_is _ _ _ (inject_line _ _ _) _ _ _ _ c.in-Inject.is (injected_on _ _ _ _ _ _ _ c.self.view_is c.as_slice-in-Inject.ensures e) refl refl) c.inject.ensures.step
 
 pub returns-in-Key-clause-happens : goal.returns-in-Key-clause-happens
 returns-in-Key-clause-happens g c =
