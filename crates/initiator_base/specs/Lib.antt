@@ -1,2 +1,3 @@
 pub mod Quads
 pub mod Places
+pub mod Fifos

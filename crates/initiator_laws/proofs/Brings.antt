@@ -20,8 +20,8 @@ use Rattle.sbp_journal.specs.declared.cause.Cause.TheVariants as causes
 use Rattle.sbp_journal.specs.declared.note.Note.TheVariants as notes
 use Rattle.sbp_journal.specs.Outgoings.{OutboxState}
 use Rattle.sbp_journal.specs.Addresses.{Access}
-use Rattle.sbp_initiator.specs.declared.fifo.Fifo.{Fifo}
-use Rattle.sbp_initiator.specs.declared.fifo.Fifo.TheVariants as fifos
+use Rattle.initiator_base.specs.declared.fifos.Fifo.{Fifo}
+use Rattle.initiator_base.specs.declared.fifos.Fifo.TheVariants as fifos
 use Rattle.sbp_initiator.specs.declared.purpose.Ending.TheVariants as endings
 use Rattle.sbp_initiator.specs.declared.purpose.ListMarks.{ListMarks}
 use Rattle.sbp_initiator.specs.declared.purpose.Purpose.{Purpose}
@@ -32,7 +32,8 @@ use Rattle.sbp_initiator.specs.Refusals.{ends_list}
 use Rattle.orb_list.specs.Lists.{ListState, take_lists, write_lists}
 use Rattle.sbp_initiator.specs.States.{ending_of, is_orb_of, status_in}
 use Rattle.sbp_initiator.specs.Effects.{Turn, ended_for, managed_step, told, with_dead}
-use Rattle.sbp_initiator.specs.Receiving.{address_error, addressed, block_at, block_by, block_step, called, expire_step, expired_as, fifo_of, got_step, ignored_step, is_dead_kind, is_foreign, managed_for, present_for, quadlet_at, read_as as served_as, receive_step, received, request_step, respond_step, taken_as, written_as}
+use Rattle.initiator_base.specs.Fifos.{is_dead_kind}
+use Rattle.sbp_initiator.specs.Receiving.{address_error, addressed, block_at, block_by, block_step, called, expire_step, expired_as, fifo_of, got_step, ignored_step, is_foreign, managed_for, present_for, quadlet_at, read_as as served_as, receive_step, received, request_step, respond_step, taken_as, written_as}
 use Rattle.sbp_initiator.specs.Judged.{IsSame}
 use Rattle.sbp_initiator.proofs.Layers.{judged_same}
 use Rattle.initiator_laws.specs.Judging.{facts_at}

@@ -19,8 +19,8 @@ use Rattle.sbp_journal.specs.declared.operation.Operation.{Operation}
 use Rattle.sbp_journal.specs.declared.operation.Operation.TheVariants as operations
 use Rattle.sbp_journal.specs.declared.operation.OpWord.TheVariants as words
 use Rattle.sbp_journal.specs.Outgoings.{OutboxState}
-use Rattle.sbp_initiator.specs.declared.fifo.Fifo.{Fifo}
-use Rattle.sbp_initiator.specs.declared.fifo.Fifo.TheVariants as fifos
+use Rattle.initiator_base.specs.declared.fifos.Fifo.{Fifo}
+use Rattle.initiator_base.specs.declared.fifos.Fifo.TheVariants as fifos
 use Rattle.sbp_initiator.specs.declared.purpose.Purpose.{Purpose}
 use Rattle.sbp_initiator.specs.declared.purpose.Ending.TheVariants as endings
 use Rattle.sbp_initiator.specs.declared.purpose.Running.{Running}
@@ -28,7 +28,8 @@ use Rattle.sbp_initiator.specs.declared.state.InitiatorState.{InitiatorState}
 use Rattle.orb_list.specs.Lists.{ListState, free_lists, take_lists, write_lists}
 use Rattle.sbp_initiator.specs.States.{ending_of, no_marks, status_in}
 use Rattle.sbp_initiator.specs.Effects.{Turn, told, with_dead, drop_list_step, managed_step}
-use Rattle.sbp_initiator.specs.Receiving.{called, type_error, address_error, data_error, responded_as, respond_step, ignored_step, got_step, answer_of, is_dead_kind, taken_by, taken_as, managed_for, present_for, block_by, block_step, status_step, read_as, written_as, serve_step, is_foreign, block_at, quadlet_at, fifo_of, addressed, received, receive_step, expired_as, expire_step}
+use Rattle.initiator_base.specs.Fifos.{is_dead_kind}
+use Rattle.sbp_initiator.specs.Receiving.{called, type_error, address_error, data_error, responded_as, respond_step, ignored_step, got_step, answer_of, taken_by, taken_as, managed_for, present_for, block_by, block_step, status_step, read_as, written_as, serve_step, is_foreign, block_at, quadlet_at, fifo_of, addressed, received, receive_step, expired_as, expire_step}
 use Rattle.sbp_initiator.specs.Seeing.{reset_told, states_end, all_end, resets_told, interrupted, freed_step, reset_step, seen_as, see_step}
 use Rattle.initiator_laws.specs.Moves.{Stage, stage, staged, answered_with, by_call, Moves, tells, resets, relists, marks_as, works_at, reads_on, turns_to, counts_up, judges, answers, expires, sees, go_on}
 use Rattle.initiator_laws.proofs.Moved.{pick_state, pick_outbox, drop_moves, managed_moves, ended_for_moves}

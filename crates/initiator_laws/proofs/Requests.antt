@@ -28,8 +28,8 @@ use Rattle.sbp_journal.specs.declared.outbox.Outgoing.{Outgoing}
 use Rattle.sbp_journal.specs.Outgoings.{OutboxState}
 use Rattle.sbp_journal.specs.Addresses.{Access}
 use Rattle.sbp_journal.specs.Rows.{RequestFacts}
-use Rattle.sbp_initiator.specs.declared.fifo.Fifo.{Fifo}
-use Rattle.sbp_initiator.specs.declared.fifo.Fifo.TheVariants as fifos
+use Rattle.initiator_base.specs.declared.fifos.Fifo.{Fifo}
+use Rattle.initiator_base.specs.declared.fifos.Fifo.TheVariants as fifos
 use Rattle.sbp_initiator.specs.declared.purpose.Purpose.{Purpose}
 use Rattle.sbp_initiator.specs.declared.purpose.Pointing.{Pointing}
 use Rattle.sbp_initiator.specs.declared.purpose.Running.{Running}
@@ -40,7 +40,8 @@ use Rattle.orb_list.specs.Lists.{ListState, stepped, take_lists, write_lists}
 use Rattle.initiator_laws.specs.Moves.{response}
 use Rattle.sbp_initiator.specs.States.{is_orb_of, status_in}
 use Rattle.sbp_initiator.specs.Effects.{Turn, managed_step, told, with_dead}
-use Rattle.sbp_initiator.specs.Receiving.{address_error, addressed, answer_of, block_at, block_by, block_step, called, fifo_of, got_step, ignored_step, is_dead_kind, is_foreign, managed_for, present_for, quadlet_at, read_as as served_as, request_step, respond_step, serve_step, taken_as, taken_by as takes_by, type_error, written_as}
+use Rattle.initiator_base.specs.Fifos.{is_dead_kind}
+use Rattle.sbp_initiator.specs.Receiving.{address_error, addressed, answer_of, block_at, block_by, block_step, called, fifo_of, got_step, ignored_step, is_foreign, managed_for, present_for, quadlet_at, read_as as served_as, request_step, respond_step, serve_step, taken_as, taken_by as takes_by, type_error, written_as}
 use Rattle.initiator_laws.specs.Drops.{IfGone, drop_if}
 use Rattle.initiator_laws.specs.Ends.{own, OpEnd, notes_of, is_managed, OpMove}
 use Rattle.initiator_laws.specs.Judging.{facts_at}

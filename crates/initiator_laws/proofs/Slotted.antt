@@ -20,8 +20,8 @@ use Rattle.orb_list.proofs.Steps.{held_law}
 use Rattle.sbp_journal.specs.declared.event.Action.{Action}
 use Rattle.sbp_journal.specs.declared.event.Action.TheVariants as actions
 use Rattle.sbp_journal.specs.Outgoings.{OutboxState}
-use Rattle.sbp_initiator.specs.declared.fifo.Fifo.{Fifo}
-use Rattle.sbp_initiator.specs.declared.fifo.Fifo.TheVariants as fifos
+use Rattle.initiator_base.specs.declared.fifos.Fifo.{Fifo}
+use Rattle.initiator_base.specs.declared.fifos.Fifo.TheVariants as fifos
 use Rattle.sbp_initiator.specs.declared.purpose.Ending.{Ending}
 use Rattle.sbp_initiator.specs.declared.purpose.Ending.TheVariants as endings
 use Rattle.sbp_initiator.specs.declared.purpose.ListMarks.{ListMarks}

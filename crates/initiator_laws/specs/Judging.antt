@@ -23,10 +23,12 @@ use Rattle.sbp_journal.specs.declared.note.Note.TheVariants as notes
 use Rattle.sbp_journal.specs.Addresses.{Access, access_of, lies_in_rom}
 use Rattle.sbp_journal.specs.Outgoings.{OutboxState}
 use Rattle.sbp_journal.specs.Rows.{Judging, RequestFacts, ignored_as, judging_of, telling, serving}
-use Rattle.sbp_initiator.specs.declared.fifo.Fifo.{Fifo}
-use Rattle.sbp_initiator.specs.declared.fifo.Fifo.TheVariants as fifos
+use Rattle.initiator_base.specs.declared.fifos.Fifo.{Fifo}
+use Rattle.initiator_base.specs.declared.fifos.Fifo.TheVariants as fifos
 use Rattle.sbp_initiator.specs.declared.state.InitiatorState.{InitiatorState}
-use Rattle.sbp_initiator.specs.States.{fifo_at, is_present_orb, status_in}
+use Rattle.initiator_base.specs.Fifos.{fifo_at}
+use Rattle.sbp_session.specs.Seats.{is_out_seat}
+use Rattle.sbp_initiator.specs.States.{is_present_orb, status_in}
 use Rattle.sbp_initiator.specs.Effects.{Turn, told}
 use Rattle.sbp_initiator.specs.Receiving.{called, receive_step, respond_step}
 
@@ -71,7 +73,7 @@ is_read (Err fault) = false
 
 -- the FIFO at the address of a request
 abbrev pub fifo_for : Access → InitiatorState → Option Fifo
-fifo_for access s = fifo_at s.counts.logins s.seat access.offset
+fifo_for access s = fifo_at s.counts.logins (is_out_seat s.seat) access.offset
 
 -- the facts of a request, with the FIFO at its address; the ROM of an initiator has 32 bytes
 abbrev pub facts_at : Option Fifo → Access → ℕ → InitiatorState → RequestFacts

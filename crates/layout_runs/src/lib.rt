@@ -1,7 +1,9 @@
-//! Worked examples of the layouts of SBP-2, as tests: where a crate has tests of its own it is proved
-//! twice, so these stand beside it.
+//! Worked examples of the layouts of SBP-2 and of command blocks, as tests: where a crate has tests of
+//! its own it is proved twice, so these stand beside.
 #![tactic(auto)]
 
+#[cfg(test)]
+mod command_tests;
 #[cfg(test)]
 mod orb_tests;
 #[cfg(test)]

@@ -31,7 +31,8 @@ use Rattle.sbp_target.specs.Agents.{follow}
 use Rattle.sbp_target.specs.Desks.{new_desk, taken, which_in}
 use Rattle.sbp_target.specs.Nodes.{NodeState, Scene, desk_at, login_at, scene}
 use Rattle.sbp_target.specs.Receiving.{answer_in, concluded, judged_scene, received, received_as, with_layer}
-use Rattle.sbp_target.specs.Replies.{Whole, advance, advanced_with, came, changed_by, follow_all, if_served, plain_at, replied, replied_by, replied_to, replied_with, scene_of, served_login, stage}
+use Rattle.target_base.specs.Logins.{if_served}
+use Rattle.sbp_target.specs.Replies.{Whole, advance, advanced_with, came, changed_by, follow_all, plain_at, replied, replied_by, replied_to, replied_with, scene_of, served_login, stage}
 use Rattle.sbp_target.specs.Serving.{answered, request_step as served_step}
 use Rattle.sbp_target.specs.Telling.{tell_ran}
 use Rattle.sbp_world.specs.Delivering.{faults_after, faults_at, faults_by, faults_in, left_target, target_received, whole_of}

@@ -27,6 +27,3 @@ pub use request::Request;
 pub use slot::{Slot, SlotState};
 pub use slots::Slots;
 pub use ticket::Ticket;
-
-#[cfg(test)]
-mod tests;

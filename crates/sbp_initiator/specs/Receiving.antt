@@ -21,14 +21,16 @@ use Rattle.sbp_journal.specs.declared.cause.TargetFault.{TargetFault}
 use Rattle.sbp_journal.specs.declared.cause.TargetFault.TheVariants as target_faults
 use Rattle.sbp_journal.specs.declared.note.Note.TheVariants as notes
 use Rattle.sbp_journal.specs.Outgoings.{OutboxState}
-use Rattle.sbp_initiator.specs.declared.fifo.Fifo.{Fifo}
-use Rattle.sbp_initiator.specs.declared.fifo.Fifo.TheVariants as fifos
+use Rattle.initiator_base.specs.declared.fifos.Fifo.{Fifo}
+use Rattle.initiator_base.specs.declared.fifos.Fifo.TheVariants as fifos
 use Rattle.sbp_initiator.specs.declared.purpose.Purpose.{Purpose}
 use Rattle.sbp_initiator.specs.declared.purpose.Ending.TheVariants as endings
 use Rattle.sbp_initiator.specs.declared.purpose.Running.{Running}
 use Rattle.sbp_initiator.specs.declared.state.InitiatorState.{InitiatorState}
 use Rattle.orb_list.specs.Lists.{ListState, answer_at, take_lists, write_lists}
-use Rattle.sbp_initiator.specs.States.{ending_of, fifo_at, is_present_orb, status_in}
+use Rattle.sbp_session.specs.Seats.{is_out_seat}
+use Rattle.initiator_base.specs.Fifos.{fifo_at, is_dead_kind}
+use Rattle.sbp_initiator.specs.States.{ending_of, is_present_orb, status_in}
 use Rattle.initiator_base.specs.Places.{reads_rom}
 use Rattle.sbp_initiator.specs.Effects.{Turn, ended_for, managed_step, told, with_dead, with_packet}
 
@@ -71,12 +73,6 @@ got_step p bytes turn = (judgements.Got, respond_step p bytes 0 [] turn)
 abbrev pub answer_of : StatusKind → ListState → ℕ → List ℕ
 answer_of kinds.Good lists slot = answer_at lists slot
 answer_of _ lists slot = []
-
--- the statuses with the dead bit
-abbrev pub is_dead_kind : StatusKind → Bool
-is_dead_kind (kinds.Illegal meaning) = true
-is_dead_kind kinds.Failed = true
-is_dead_kind _ = false
 
 -- A status is taken: it is told with its answer, and marks the list where it has the dead bit.
 abbrev pub taken_by : TicketParts → ListState → StatusKind → OutboxState → InitiatorState → Turn
@@ -151,7 +147,7 @@ quadlet_at (Some fifos.Closed) p bytes o s = ignored_step causes.Login address_e
 quadlet_at _ p bytes o s = serve_step p bytes o s
 
 abbrev pub fifo_of : InitiatorState → ℕ → Option Fifo
-fifo_of s offset = fifo_at s.counts.logins s.seat offset
+fifo_of s offset = fifo_at s.counts.logins (is_out_seat s.seat) offset
 
 abbrev pub addressed : Packet → List ℕ → OutboxState → InitiatorState → Judged × Turn
 addressed (write_block header offset payload) bytes o s =

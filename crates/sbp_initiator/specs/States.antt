@@ -24,8 +24,6 @@ use Rattle.sbp_initiator.specs.declared.purpose.Running.{Running}
 use Rattle.sbp_initiator.specs.declared.purpose.Pointing.{Pointing}
 use Rattle.sbp_initiator.specs.declared.purpose.Pointing.TheVariants as pointings
 use Rattle.sbp_initiator.specs.declared.purpose.ListMarks.{ListMarks}
-use Rattle.sbp_initiator.specs.declared.fifo.Fifo.{Fifo}
-use Rattle.sbp_initiator.specs.declared.fifo.Fifo.TheVariants as fifos
 
 -- ---- the session
 
@@ -39,21 +37,6 @@ session_of (seats.Leaving response) = is_leaving
 session_of (seats.Stuck origin) = is_stuck
 
 -- ---- addresses
-
--- the login FIFOs are open by the latest login number, where the session is not Out
-abbrev pub is_open_login : ℕ → Seat → ℕ → Bool
-is_open_login logins seat offset = nat_lt 0 logins && offset == login_fifo (logins - 1) && not (is_out_seat seat)
-
-abbrev pub is_login_fifo : ℕ → Bool
-is_login_fifo offset = nat_le 0x1300_0000 offset && nat_lt offset 0x20_1300_0000 && offset % 0x20 == 0
-
--- the FIFO at an address
-unfoldable pub fifo_at : ℕ → Seat → ℕ → Option Fifo
-fifo_at logins seat offset =
-    if offset == place_fifo 0 || offset == place_fifo 1 then Some fifos.Place
-    else if is_open_login logins seat offset then Some fifos.Login
-    else if is_login_fifo offset then Some fifos.Closed
-    else None
 
 abbrev pub status_in : List ℕ → Result StatusBlock OrbFault
 status_in payload = read_status_block (names_place payload) payload

@@ -6,7 +6,6 @@ mod acting;
 mod commands;
 mod effects;
 mod fault;
-mod fifo;
 mod initiator;
 mod purpose;
 mod receiving;
@@ -16,7 +15,6 @@ mod seeing;
 mod state;
 
 pub use fault::ActFault;
-pub use fifo::Fifo;
 pub use initiator::Initiator;
 pub use purpose::{Demand, Ending, ListMarks, Pointing, Purpose, Running, Wanted};
 pub use state::{Counts, InitiatorState};

@@ -11,15 +11,15 @@ ghost use Rattle.media_bay.specs.Unsolicited.{is_block};
 ghost use Rattle.orb_layout.specs.StatusBlocks.{kind_of};
 ghost use Rattle.sbp_initiator.specs.Counted.{Counts};
 ghost use Rattle.sbp_initiator.specs.Effects.{ended_for, managed_step, told};
-ghost use Rattle.sbp_initiator.specs.Receiving.{HasExpired, addressed, answer_of, block_at, block_by, block_step, called, expire_step, fifo_of, got_step, ignored_step, is_dead_kind, is_foreign, managed_for, present_for, read_as, receive_step, request_step, respond_step, serve_step, status_step, taken_as, taken_by, written_as};
+ghost use Rattle.sbp_initiator.specs.Receiving.{HasExpired, addressed, answer_of, block_at, block_by, block_step, called, expire_step, fifo_of, got_step, ignored_step, is_foreign, managed_for, present_for, read_as, receive_step, request_step, respond_step, serve_step, status_step, taken_as, taken_by, written_as};
 ghost use Rattle.sbp_initiator.specs.States.{ending_by, ending_of, status_in};
 
 use crate::effects::tell;
-use crate::fifo::Fifo;
 use crate::purpose::{Ending, Purpose, Running};
-use crate::state::{InitiatorState, fifo_at, is_present_orb};
+use crate::state::{InitiatorState, is_present_orb};
 use async_packet::{Label, PacketRef};
 use initiator_base::places::{names_place, reads_rom};
+use initiator_base::{Fifo, fifo_at, is_dead_kind};
 use label_table::Judgement;
 use media_bay::read_unsolicited;
 use orb_layout::{StatusBlock, StatusKind, read_status};
@@ -58,13 +58,6 @@ fn ending_of(packet: &PacketRef<'_>) -> Ending
         | PacketRef::WriteResponse { rcode, .. } => ending_by(*rcode, 0),
         _ => Ending::Expired,
     }
-}
-
-/// Whether a status has the dead bit.
-fn is_dead_kind(kind: StatusKind) -> bool
-    ensures { result ≡ is_dead_kind kind }
-{
-    matches!(kind, StatusKind::Illegal(_) | StatusKind::Failed)
 }
 
 /// The operation under way, where this is the address of its management ORB.
@@ -426,7 +419,7 @@ impl InitiatorState {
     fn fifo_of(&self, offset: Offset) -> Option<Fifo>
         ensures { result ≡ fifo_of self.now offset }
     {
-        fifo_at(self.counts.logins, &self.seat, offset)
+        fifo_at(self.counts.logins, self.seat.is_out(), offset)
     }
 
     /// The write of a block.

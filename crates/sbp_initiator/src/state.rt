@@ -1,9 +1,7 @@
 ghost use Rattle.std.specs.Prelude.{◌≡◌, ◌<◌};
-ghost use Rattle.sbp_initiator.specs.States.{fifo_at, is_answered, is_list, is_orb_of, is_present_orb, is_unwritten, last_linked, no_marks, place_in};
+ghost use Rattle.sbp_initiator.specs.States.{is_answered, is_list, is_orb_of, is_present_orb, is_unwritten, last_linked, no_marks, place_in};
 
-use crate::fifo::Fifo;
 use crate::purpose::{ListMarks, Pointing, Purpose, Running};
-use initiator_base::places::login_fifo;
 use initiator_base::{RomQuads, StateReads};
 use label_table::Transactions;
 use orb_list::{Lists, PresentList};
@@ -41,24 +39,6 @@ pub struct InitiatorState {
     pub quads: RomQuads,
     pub management: Option<Offset>,
     pub counts: Counts,
-}
-
-/// The FIFO at an address, where so many login numbers were used.
-#[tactic(auto, unfolding(crate::specs::States::fifo_at))]
-pub(crate) fn fifo_at(logins: u32, seat: &Seat, offset: Offset) -> Option<Fifo>
-    ensures { result ≡ fifo_at logins seat.now offset }
-{
-    let value = offset.value();
-    if value == 0x1200_2000 || value == 0x1200_2020 {
-        return Some(Fifo::Place);
-    }
-    if logins > 0 && value == login_fifo(logins - 1).value() && !seat.is_out() {
-        return Some(Fifo::Login);
-    }
-    if 0x1300_0000 <= value && value < 0x20_1300_0000 && value % 0x20 == 0 {
-        return Some(Fifo::Closed);
-    }
-    None
 }
 
 /// The last ORB of a list that is linked.

@@ -1,24 +1,18 @@
 -- What small functions do, by plain facts, so that their goals take no search.
-use Rattle.std.specs.Prelude.{◌≡◌, ℕ, ◌<◌, true, length, List, Option, Some, None, slice_set}
-use Rattle.std.proofs.Common.{arith, ap, ◌∙◌}
+use Rattle.std.specs.Prelude.{◌≡◌, ℕ, true, List, None, slice_set}
+use Rattle.std.proofs.Common.{ap, ◌∙◌}
 use Rattle.label_table.specs.Layer.{Layer, seeing_step}
-use Rattle.login_table.specs.declared.login.Login.{Login}
 use Rattle.rbc_disk.specs.Units.{UnitState, cleared}
 use Rattle.sbp_journal.specs.declared.cause.CutCause.TheVariants as cuts
 use Rattle.sbp_journal.specs.declared.side.Side.TheVariants as sides
 use Rattle.sbp_journal.specs.Outgoings.{OutboxState}
 use Rattle.sbp_target.specs.declared.purpose.Purpose.{Purpose}
 use Rattle.sbp_target.specs.Sending.{with_side}
-use Rattle.sbp_target.specs.Nodes.{NodeState, Scene, scene, login_at, unit_at}
+use Rattle.sbp_target.specs.Nodes.{NodeState, Scene, scene, unit_at}
 use Rattle.target_base.specs.Places.{mask_of}
 use Rattle.sbp_target.specs.Units.{cut_all, clear_unit}
 use Rattle.sbp_target.specs.Management.{cut_place, left_desk, logged_out}
-use Rattle.sbp_target.specs.Replies.{served_login}
 use Rattle.sbp_target.specs.Receiving.{cleared_node, held_all, reset_by, seen}
-
--- the login of a place is served, whose unit exists
-pub served_here : (node : NodeState) (place number : ℕ) (login : Login) (at : Option Login) → at ≡ login_at node number → number ≡ place → at ≡ Some login → login.unit < length node.units → Some login ≡ served_login node place
-served_here node place number login at a n s h = let e : Some login ≡ login_at node place = cc in grind arith
 
 -- a later generation is a reset
 pub seen_later : (generation id : ℕ) (old mid new : Scene) (layer : Layer Purpose) → (true, layer) ≡ seeing_step old.node.layer generation id → mid ≡ cut_all cuts.Reset None (scene (cleared_node layer old.node) old.outbox) → new ≡ held_all mid → (true, new) ≡ seen generation id old

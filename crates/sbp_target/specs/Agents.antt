@@ -1,6 +1,6 @@
 -- What the target does with the steps of its agents: what they tell, what they ask for, and what
 -- becomes of what finds no label (NCITS 325-1998, command block agents).
-use Rattle.std.specs.Prelude.{ℕ, nat_le, nat_lt, is_some, Bool, true, false, if◌then◌else◌, List, length, Option, Some, None}
+use Rattle.std.specs.Prelude.{ℕ, nat_le, is_some, Bool, true, false, if◌then◌else◌, List, length, Option, Some, None}
 use Rattle.async_packet.specs.Fields.{largest}
 use Rattle.async_packet.specs.Labels.{LabelParts}
 use Rattle.label_table.specs.Bodies.{Body, block_read, block_write}
@@ -18,6 +18,7 @@ use Rattle.command_agent.specs.Steps.{lost_step, is_reset}
 use Rattle.sbp_journal.specs.declared.cause.CutCause.{CutCause}
 use Rattle.sbp_journal.specs.declared.side.Side.TheVariants as sides
 use Rattle.sbp_journal.specs.Outgoings.{OutboxState}
+use Rattle.target_base.specs.Logins.{is_below_reserve}
 use Rattle.sbp_target.specs.declared.purpose.Purpose.{Purpose}
 use Rattle.sbp_target.specs.declared.purpose.Purpose.TheVariants as purposes
 use Rattle.sbp_target.specs.declared.purpose.Sent.{Sent}
@@ -97,7 +98,7 @@ ahead_sent place peer node (None, (layer, outbox)) = (false, scene (record node 
 abbrev pub ahead_asked : Option Body → ℕ → Login → Scene → Bool × Scene
 ahead_asked None place login s = (true, s)
 ahead_asked (Some body) place login s =
-    if nat_lt (free_labels s.node.layer login.node) 16
+    if is_below_reserve (free_labels s.node.layer login.node)
     then (false, s)
     else ahead_sent place login.node s.node (request_step s.node.layer s.outbox login.node body (purposes.Agent place))
 

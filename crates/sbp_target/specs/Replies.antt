@@ -1,7 +1,7 @@
 -- What came of a request of the target, and what its agents do then (NCITS 325-1998, command block
 -- agents).
 use Rattle.std.specs.List.{AllByRecursion}
-use Rattle.std.specs.Prelude.{◌≡◌, ◌<◌, ℕ, nat_lt, ◌&&◌, not, Bool, true, false, if◌then◌else◌, List, length, slice_set, slice_index, slice_index_or, Option, Some, None}
+use Rattle.std.specs.Prelude.{◌≡◌, ◌<◌, ℕ, ◌&&◌, not, Bool, true, false, if◌then◌else◌, List, length, slice_set, slice_index, slice_index_or, Option, Some, None}
 use Rattle.async_packet.specs.Labels.{LabelParts}
 use Rattle.orb_layout.specs.Replies.{Answer}
 use Rattle.login_table.specs.declared.login.Login.{Login}
@@ -14,6 +14,7 @@ use Rattle.command_agent.specs.Machine.{Machine}
 use Rattle.command_agent.specs.Runs.{MayTell, count_after}
 use Rattle.command_agent.specs.Steps.{reply_step}
 use Rattle.sbp_journal.specs.Outgoings.{OutboxState}
+use Rattle.target_base.specs.Logins.{if_served}
 use Rattle.sbp_target.specs.Desks.{taken, which_in}
 use Rattle.sbp_target.specs.Nodes.{NodeState, Scene, scene, desk_at, login_at, with_desk}
 use Rattle.sbp_target.specs.Agents.{follow}
@@ -104,10 +105,6 @@ pub record Replies (told : Option Told) (place unit : ℕ) (which : Which) (answ
   pub tells : Tells told place unit which answer old before now
 
 -- the login that the agent of a place serves, whose unit exists
-abbrev pub if_served : ℕ → Option Login → Option Login
-if_served units None = None
-if_served units (Some login) = if nat_lt login.unit units then Some login else None
-
 abbrev pub served_login : NodeState → ℕ → Option Login
 served_login node place = if_served (length node.units) (login_at node place)
 

@@ -1,6 +1,6 @@
 -- How the target judges and serves a request (IEEE 1394-1995, transaction layer; NCITS 325-1998,
 -- command block agent registers).
-use Rattle.std.specs.Prelude.{ℕ, ◌&&◌, not, is_none, Bool, true, false, if◌then◌else◌, List, [], length, replicate, take, drop, Option, Some, None, Result, Ok, Err}
+use Rattle.std.specs.Prelude.{ℕ, Bool, true, false, if◌then◌else◌, List, [], length, replicate, take, drop, Option, Some, None, Result, Ok, Err}
 use Rattle.sbp_base.specs.Quadlets.{with_quad}
 use Rattle.byteorder.specs.Endian.{big_bytes}
 use Rattle.async_packet.specs.Packet.{Packet, header_in}
@@ -9,7 +9,6 @@ use Rattle.orb_layout.specs.declared.pointer.OrbPointer.{OrbPointer}
 use Rattle.orb_layout.specs.declared.pointer.OrbPointer.TheVariants as pointers
 use Rattle.orb_layout.specs.Pointers.{pointer_high, pointer_low}
 use Rattle.login_table.specs.declared.login.Login.{Login}
-use Rattle.login_table.specs.Table.{by_agent}
 use Rattle.mgmt_agent.specs.declared.operation.Busy.{Busy}
 use Rattle.mgmt_agent.specs.Machine as management
 use Rattle.command_agent.specs.declared.step.AgentState.{AgentState}
@@ -25,12 +24,12 @@ use Rattle.sbp_journal.specs.declared.cause.Judged.TheVariants as judged
 use Rattle.sbp_journal.specs.declared.side.Side.TheVariants as sides
 use Rattle.target_base.specs.declared.address.Access.{Access}
 use Rattle.target_base.specs.declared.address.Access.TheVariants as accesses
-use Rattle.target_base.specs.declared.address.AgentRegister.{AgentRegister}
 use Rattle.target_base.specs.declared.address.Demand.{Demand}
 use Rattle.sbp_target.specs.declared.desk.Desk.{Desk}
 use Rattle.sbp_target.specs.Desks.{point_desk}
 use Rattle.target_base.specs.declared.address.Demand.TheVariants as demands
-use Rattle.target_base.specs.Addresses.{complete, conflict_error, data_error, address_error, register_at, demand_of, offset_in, is_lock}
+use Rattle.target_base.specs.Addresses.{complete, conflict_error, data_error, address_error, demand_of}
+use Rattle.target_base.specs.Logins as bases
 use Rattle.sbp_target.specs.Sending.{answer_step, with_side}
 use Rattle.sbp_target.specs.Nodes.{NodeState, Scene, scene, desk_at, login_at, with_desk, with_agent}
 use Rattle.sbp_target.specs.Agents.{cut, follow}
@@ -121,13 +120,8 @@ unfoldable pub serve : Packet → List ℕ → Scene → Scene
 serve request bytes s = served_as (demand_of (length s.node.rom) request) request bytes s
 
 -- A request that reads or writes an agent register belongs to a live login of its source, or is ignored.
-abbrev pub is_barred_at : Option AgentRegister → NodeState → ℕ → Bool
-is_barred_at None node source = false
-is_barred_at (Some found) node source = is_none (by_agent node.logins.places found.place source)
-
 unfoldable pub is_barred : NodeState → Packet → Bool
-is_barred node request =
-    not (is_lock request) && is_barred_at (register_at (offset_in request)) node (header_in request).source
+is_barred node request = bases.is_barred node.logins request
 
 unfoldable pub request_step : Packet → List ℕ → Scene → Judged × Scene
 request_step request bytes s =

@@ -1,3 +1,4 @@
 pub mod Addresses
 pub mod Places
 pub mod Beginning
+pub mod Logins

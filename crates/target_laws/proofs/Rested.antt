@@ -32,7 +32,8 @@ use Rattle.sbp_target.specs.Sending.{request_step, sent_by, with_side}
 use Rattle.sbp_target.specs.Nodes.{NodeState, Scene, scene, desk_at, login_at, with_desk}
 use Rattle.sbp_target.specs.Agents.{sent_to, noted, ask_main, send_ahead, follow}
 use Rattle.sbp_target.specs.Units.{is_pending, unsolicited_by, announce_to, announce_in, announce_at, announce_from, hears}
-use Rattle.sbp_target.specs.Replies.{stage, whole, plain_at, changed_by, announced_by, follow_all, replied_with, replied, advanced_with, advance, if_served, served_login, replied_by, replied_to}
+use Rattle.target_base.specs.Logins.{if_served}
+use Rattle.sbp_target.specs.Replies.{stage, whole, plain_at, changed_by, announced_by, follow_all, replied_with, replied, advanced_with, advance, served_login, replied_by, replied_to}
 use Rattle.target_laws.proofs.Stepped.{is_bare, Fit, Behind, Over, main_replied, ahead_replied}
 use Rattle.target_laws.proofs.Seats.{behind_that, sent_same, Lives, IsFor, IsNot, OffOne, Seat, was as changed, split, seat_kept, hand_kept, main_ends, ahead_ends}
 use Rattle.target_laws.proofs.Primitives.{Known, live_on, began_off, began_at, asks_known, none_known}

@@ -35,7 +35,8 @@ use Rattle.sbp_target.specs.Nodes.{NodeState, Scene, scene, desk_at, login_at, w
 use Rattle.sbp_target.specs.Agents.{cut}
 use Rattle.sbp_target.specs.Sending.{answer_step, with_side}
 use Rattle.sbp_target.specs.Telling.{orb_of}
-use Rattle.sbp_target.specs.Serving.{accessed_by, answered, asked_in, enabled, is_barred, is_barred_at, last_pointer, point, pointed_by, pointer_bytes, request_step, ring, rung_by, serve, served_as, start, started_by, state_number}
+use Rattle.target_base.specs.Logins.{is_barred_at}
+use Rattle.sbp_target.specs.Serving.{accessed_by, answered, asked_in, enabled, is_barred, last_pointer, point, pointed_by, pointer_bytes, request_step, ring, rung_by, serve, served_as, start, started_by, state_number}
 use Rattle.target_laws.specs.Layers.{request, with_asked}
 use Rattle.target_laws.specs.Answers.{response_of}
 use Rattle.target_laws.specs.Judgements.{is_of_no_login, judged_by, judged_as, asked_of, asked_at, pointed_rcode, register_rcode, state_rcode, register_gives, state_gives, given_by, facts_at, gives_at, BeginsWith, row_rcode, row_gives, RowLaw}
@@ -229,13 +230,13 @@ module _ (node : NodeState) (p : Packet) (access : table.Access) (is : access_of
       ∙ gives_by node (state_rcode node start access) (access.offset - rom_base) access.count (state_gives node start access) (or_nowhere (asked_at start access)) access.is_lock (access.count == 0) (access.is_write && begins_in_rom (length node.rom) access) (not access.is_write && lies_in_rom (length node.rom) access) (start_serves start access) (table.is_start start) (state_given node start access)
 
 -- ---- judging
-barred_in : (node : NodeState) (source : ℕ) (r m : Bool) (found : Option AgentRegister) → (r ≡ true → (m ≡ false) × (found ≡ None)) → (m ≡ true → found ≡ None) → is_barred_at found node source ≡ is_of_no_login node source (start_by r m found)
-barred_in node source true m found a b = ap (λ (f : Option AgentRegister). is_barred_at f node source) (a refl).1
-barred_in node source false true found a b = ap (λ (f : Option AgentRegister). is_barred_at f node source) (b refl)
+barred_in : (node : NodeState) (source : ℕ) (r m : Bool) (found : Option AgentRegister) → (r ≡ true → (m ≡ false) × (found ≡ None)) → (m ≡ true → found ≡ None) → is_barred_at found node.logins source ≡ is_of_no_login node source (start_by r m found)
+barred_in node source true m found a b = ap (λ (f : Option AgentRegister). is_barred_at f node.logins source) (a refl).1
+barred_in node source false true found a b = ap (λ (f : Option AgentRegister). is_barred_at f node.logins source) (b refl)
 barred_in node source false false None a b = refl
 barred_in node source false false (Some found) a b = refl
 
-barred_there : (node : NodeState) (source offset : ℕ) → is_barred_at (register_at offset) node source ≡ is_of_no_login node source (start_at offset)
+barred_there : (node : NodeState) (source offset : ℕ) → is_barred_at (register_at offset) node.logins source ≡ is_of_no_login node source (start_at offset)
 barred_there node source offset =
     barred_in node source (offset == rom_base) (offset == management_address) (register_at offset) (rom_apart offset) (management_apart offset)
     ∙ ap (λ (s : Start). is_of_no_login node source s) (start_is offset)

@@ -65,7 +65,8 @@ use Rattle.sbp_target.specs.Agents.{disowned as given_up, sent_to, cut, cut_node
 use Rattle.sbp_target.specs.Units.{cut_at, cut_from, cut_all}
 use Rattle.sbp_target.specs.Replies.{Whole, whole}
 use Rattle.sbp_target.specs.Management.{managed_with, managed_in, manage}
-use Rattle.sbp_target.specs.Serving.{answered, enabled, accessed_by, started_by, start, served_as, serve, is_barred_at, is_barred, state_number, last_pointer, pointer_bytes}
+use Rattle.target_base.specs.Logins.{is_barred_at}
+use Rattle.sbp_target.specs.Serving.{answered, enabled, accessed_by, started_by, start, served_as, serve, is_barred, state_number, last_pointer, pointer_bytes}
 use Rattle.sbp_target.specs.Serving as serving
 use Rattle.sbp_target.specs.Receiving.{answer_in, concluded, judged_scene, with_layer, received_as, received, timed_out, expired_in, expired, after_reset, cleared_node, reset_by, seen, ticked, with_key, new_node}
 use Rattle.target_base.specs.Beginning.{ready_from}
@@ -273,8 +274,8 @@ reaches : (node : NodeState) (g : Good node) (p : Packet) (place : ℕ) (access 
 unfolding demand_of is_barred
 reaches node g p place access b e =
     let a = demand_place (row_of (reached (length node.rom) p)) (length node.rom) p place access refl e in
-    let n : is_barred_at (register_at (offset_in p)) node (header_in p).source ≡ false = unlocked_bar (is_lock p) (is_barred_at (register_at (offset_in p)) node (header_in p).source) a.unlocked b in
-    let m : is_none (if_of_node (header_in p).source (login_at node a.found.place)) ≡ false = sym (ap (λ (f : Option AgentRegister). is_barred_at f node (header_in p).source) a.at) ∙ n in
+    let n : is_barred_at (register_at (offset_in p)) node.logins (header_in p).source ≡ false = unlocked_bar (is_lock p) (is_barred_at (register_at (offset_in p)) node.logins (header_in p).source) a.unlocked b in
+    let m : is_none (if_of_node (header_in p).source (login_at node a.found.place)) ≡ false = sym (ap (λ (f : Option AgentRegister). is_barred_at f node.logins (header_in p).source) a.at) ∙ n in
     record {
       small = subst (λ (k : ℕ). k < 8) a.own (small_place (offset_in p) a.found a.at);
       served = subst (λ (k : ℕ). IsServed node k) a.own (unbarred node g a.found.place (header_in p).source (login_at node a.found.place) refl m);

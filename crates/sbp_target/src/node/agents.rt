@@ -1,7 +1,8 @@
-ghost use Rattle.std.specs.Prelude.{◌≡◌, length, nat_lt, ◌+◌, ◌^◌, ◌<◌, ◌≤◌, IfOk, IfSome, OnOk};
+ghost use Rattle.std.specs.Prelude.{◌≡◌, length, ◌+◌, ◌^◌, ◌<◌, ◌≤◌, IfOk, IfSome, OnOk};
 ghost use Rattle.std.specs.Option.{option_map};
 ghost use Rattle.label_table.specs.Bodies.{FitsBody, body_of};
 ghost use Rattle.label_table.specs.Layer.{free_labels};
+ghost use Rattle.target_base.specs.Logins.{is_below_reserve};
 ghost use Rattle.sbp_target.specs.Agents.{agent_body, ask_ahead, ask_main, cut, follow, lose, lose_main, noted, send_ahead, without_ahead};
 ghost use Rattle.sbp_target.specs.Nodes.{scene};
 
@@ -15,13 +16,10 @@ use login_table::Login;
 use orb_layout::{Ask, FailCause};
 use sbp_base::{NoMemory, NodeId, Offset};
 use sbp_journal::{CutCause, Outbox, Side};
-use target_base::LoginPlace;
+use target_base::{LoginPlace, is_below_reserve};
 
 /// The most bytes of a payload.
 const LARGEST: u16 = 2048;
-
-/// The labels that must be left for a read ahead.
-const RESERVE: u8 = 16;
 
 /// What an agent asks for, as a request: a status block goes to the login's FIFO. No agent asks for
 /// more than a packet carries.
@@ -50,9 +48,9 @@ pub(super) fn agent_body<'a>(
 
 /// Whether fewer labels to a node are left than a read ahead leaves.
 fn is_short(layer: &Transactions<Purpose>, node: NodeId) -> bool
-    ensures { result ≡ nat_lt (free_labels layer.now node) 16 }
+    ensures { result ≡ is_below_reserve (free_labels layer.now node) }
 {
-    layer.free(node) < RESERVE
+    is_below_reserve(layer.free(node))
 }
 
 impl Node {

@@ -70,11 +70,7 @@ impl Node {
         ensures login { result ≡ served_login self.now place }
         ensures unit { IfSome result (λ login. login.unit < length self.now.units) }
     {
-        let login = self.logins.at(place.number())?;
-        if usize::from(login.unit) < self.units.len() {
-            return Some(login);
-        }
-        None
+        target_base::served_login(&self.logins, place, self.units.len())
     }
 
     /// What came of a transaction of the agent of a place, over the unit of its login: its step, and

@@ -21,8 +21,7 @@ use orb_layout::{Ask, OrbPointer};
 use sbp_base::{NoMemory, Offset, put_quad};
 use sbp_journal::{Cause, CutCause, Judged, Outbox, Side};
 use target_base::{
-    ADDRESS, Access, COMPLETE, CONFLICT, DATA, Demand, LoginPlace, demand_of, is_lock, offset_in,
-    register_at,
+    ADDRESS, Access, COMPLETE, CONFLICT, DATA, Demand, LoginPlace, demand_of,
 };
 
 /// The number of a state, which AGENT_STATE tells.
@@ -108,14 +107,7 @@ impl Node {
     fn is_barred(&self, request: &PacketRef<'_>) -> bool
         ensures { result ≡ is_barred self.now (view request.now) }
     {
-        if is_lock(request) {
-            return false;
-        }
-        let Some(found) = register_at(offset_in(request)) else {
-            return false;
-        };
-        let source = request.header().source;
-        self.logins.by_agent(found.place.number(), source).is_none()
+        target_base::is_barred(&self.logins, request)
     }
 
     /// Answers a request.

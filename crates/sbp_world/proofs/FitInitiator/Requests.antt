@@ -18,14 +18,15 @@ use Rattle.orb_layout.specs.declared.status.StatusBlock.{StatusBlock}
 use Rattle.orb_layout.specs.declared.status.StatusKind.{StatusKind}
 use Rattle.orb_layout.specs.declared.status.StatusKind.TheVariants as kinds
 use Rattle.orb_list.specs.Tickets.{TicketParts}
-use Rattle.sbp_initiator.specs.declared.fifo.Fifo.{Fifo}
-use Rattle.sbp_initiator.specs.declared.fifo.Fifo.TheVariants as fifos
+use Rattle.initiator_base.specs.declared.fifos.Fifo.{Fifo}
+use Rattle.initiator_base.specs.declared.fifos.Fifo.TheVariants as fifos
 use Rattle.sbp_initiator.specs.declared.purpose.Purpose.{Purpose}
 use Rattle.sbp_initiator.specs.declared.purpose.Running.{Running}
 use Rattle.sbp_initiator.specs.declared.state.InitiatorState.{InitiatorState}
 use Rattle.sbp_initiator.specs.Effects.{Turn, managed_step, told, with_dead}
 use Rattle.orb_list.specs.Lists.{ListState, take_lists, write_lists}
-use Rattle.sbp_initiator.specs.Receiving.{addressed, answer_of, block_at, block_by, block_step, called, fifo_of, got_step, ignored_step, is_dead_kind, is_foreign, managed_for, present_for, quadlet_at, read_as, request_step, respond_step, responded_as, serve_step, status_step, taken_as, taken_by, written_as}
+use Rattle.initiator_base.specs.Fifos.{is_dead_kind}
+use Rattle.sbp_initiator.specs.Receiving.{addressed, answer_of, block_at, block_by, block_step, called, fifo_of, got_step, ignored_step, is_foreign, managed_for, present_for, quadlet_at, read_as, request_step, respond_step, responded_as, serve_step, status_step, taken_as, taken_by, written_as}
 use Rattle.sbp_initiator.specs.States.{status_in}
 use Rattle.sbp_journal.specs.declared.cause.Cause.{Cause}
 use Rattle.sbp_journal.specs.declared.cause.Cause.TheVariants as causes

@@ -41,7 +41,8 @@ use Rattle.sbp_target.specs.Sending.{request_step, with_side}
 use Rattle.sbp_target.specs.Nodes.{NodeState, Scene, scene, desk_at, login_at, with_desk, with_agent}
 use Rattle.sbp_target.specs.Agents.{cut, follow}
 use Rattle.sbp_target.specs.Units.{clear_from, clear_unit, cut_all}
-use Rattle.sbp_target.specs.Replies.{Stage, stage, Whole, scene_of, came, changed_by, announced_by, follow_all, advanced_with, advance, plain_at, replied, replied_with, served_login, if_served, replied_by, replied_to}
+use Rattle.target_base.specs.Logins.{if_served}
+use Rattle.sbp_target.specs.Replies.{Stage, stage, Whole, scene_of, came, changed_by, announced_by, follow_all, advanced_with, advance, plain_at, replied, replied_with, served_login, replied_by, replied_to}
 use Rattle.sbp_target.specs.Management.{manager_body, place_in, cut_placed, fresh_desk, left_desk, tell_left, tell_failed, clear_one, effect_by, decided_by, with_manager, manager_lost, lost_in, lose_operation, manager_sent, manager_asked, ask_manager, managed_with, managed_in, manage}
 use Rattle.sbp_target.specs.Receiving.{answer_in, answer_by, concluded, expired_with, expired_by, expire_agent, settled, timed_out, expired_in, expired_from, ticked_by}
 use Rattle.sbp_world.specs.FitTarget.{BytesTold, Fits, FitsAgent, FitsLogin, FitsManager, FitsOperation, FitsSeat, IsOfKnown}

@@ -33,8 +33,8 @@ use Rattle.sbp_journal.specs.declared.operation.Operation.TheVariants as operati
 use Rattle.sbp_journal.specs.declared.operation.OpWord.{OpWord}
 use Rattle.sbp_journal.specs.declared.operation.OpWord.TheVariants as words
 use Rattle.sbp_journal.specs.Outgoings.{OutboxState}
-use Rattle.sbp_initiator.specs.declared.fifo.Fifo.{Fifo}
-use Rattle.sbp_initiator.specs.declared.fifo.Fifo.TheVariants as fifos
+use Rattle.initiator_base.specs.declared.fifos.Fifo.{Fifo}
+use Rattle.initiator_base.specs.declared.fifos.Fifo.TheVariants as fifos
 use Rattle.sbp_initiator.specs.declared.purpose.Ending.{Ending}
 use Rattle.sbp_initiator.specs.declared.purpose.Ending.TheVariants as endings
 use Rattle.sbp_initiator.specs.declared.purpose.Purpose.{Purpose}
@@ -47,7 +47,8 @@ use Rattle.sbp_initiator.specs.States.{counts_for, ending_of, is_list, status_in
 use Rattle.sbp_session.specs.Seats.{is_stuck_seat}
 use Rattle.sbp_initiator.specs.Effects.{Turn, ask_quad, asked_quad, conflict_for, conflict_step, doorbell_ended, drop_list_step, drop_where, dropped_as, enable_ended, end_own_for, end_own_step, end_step, ended_for, ended_step, fail_step, fault_number, finish_rom, good_end, good_event, good_word, is_address, is_conflict, known_where, managed_step, management_ended, moved, moves_session, next_quad, pointed_step, pointer_ended, quad_got, reset_ended, response_of, rom_ended, state_ended, state_told, stick_step, then_step, told, with_dead, with_rom, with_unit}
 use Rattle.initiator_base.specs.Quads.{with_quad}
-use Rattle.sbp_initiator.specs.Receiving.{addressed, answer_of, block_at, block_by, block_step, called, expire_step, expired_as, fifo_of, got_step, ignored_step, is_dead_kind, is_foreign, managed_for, present_for, quadlet_at, read_as, receive_step, received, request_step, respond_step, responded_as, serve_step, status_step, taken_as, taken_by, written_as}
+use Rattle.initiator_base.specs.Fifos.{is_dead_kind}
+use Rattle.sbp_initiator.specs.Receiving.{addressed, answer_of, block_at, block_by, block_step, called, expire_step, expired_as, fifo_of, got_step, ignored_step, is_foreign, managed_for, present_for, quadlet_at, read_as, receive_step, received, request_step, respond_step, responded_as, serve_step, status_step, taken_as, taken_by, written_as}
 use Rattle.sbp_initiator.specs.Seeing.{all_end, freed_step, interrupted, reset_step, reset_told, resets_told, see_step, seen_as, states_end}
 use Rattle.sbp_world.specs.Worlds.{WorldState}
 use Rattle.sbp_world.proofs.Wire.OwnCounts.{Own, is_counted, keeps, tells_drop, tells_plain, tells_taken}

@@ -1,6 +1,6 @@
-use Rattle.std.specs.Prelude.{ℕ, nat_lt}
-use Rattle.std.proofs.Common.{ap}
+use Rattle.std.proofs.Common.{ap, ◌∙◌}
+use Rattle.target_base.specs.Logins.{is_below_reserve}
 use Rattle.sbp_target.proofs.node.agents.is_short.Goals as goal
 
 pub returns : goal.returns
-returns c = ap (λ (n : ℕ). nat_lt n 16) c.free.ensures.value
+returns c = c.is_below_reserve.ensures ∙ ap is_below_reserve c.free.ensures.value

@@ -2,9 +2,9 @@ ghost use Rattle.std.specs.Prelude.{IsTrue};
 ghost use Rattle.orb_list.specs.Requests.{IsRequest, asked_of};
 ghost use Rattle.orb_list.specs.Holds.{HoldsSlots};
 
-use crate::{ListFault, Request, Slots, Ticket};
 use bus_memory::{Image, Window};
 use orb_layout::{StatusBlock, StatusKind};
+use orb_list::{ListFault, Request, Slots, Ticket};
 use sbp_base::{NoMemory, NodeId, Offset};
 use std::alloc::Global;
 use std::test::Fail;

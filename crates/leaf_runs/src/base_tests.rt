@@ -1,4 +1,4 @@
-use crate::{
+use sbp_base::{
     Bytes, Failed, Generation, Lengths, MemorySink, MemorySource, NodeId, Offset, Sink, SinkFault,
     Source, Speed, put_quad, quad_at,
 };
