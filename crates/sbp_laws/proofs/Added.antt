@@ -69,7 +69,7 @@ module _ (wild : ℕ → Bool) (run : Run) (line : ℕ) (event : Event) (told : 
       status = record { taken = (split (TakenAt wild) (history run.entries) line event told law.moments.status.taken).1; each = (split_turns (TakesEach wild) (history run.entries) line event told [] law.moments.status.each).1 };
       answer = (split (AnswerAt wild run.start) (history run.entries) line event told law.moments.answer).1;
       carried = record { carried = (split (CarriedAt wild run.start) (history run.entries) line event told law.moments.carried.carried).1; due = (split_turns (RunsWhereDue wild run.start) (history run.entries) line event told [] law.moments.carried.due).1 };
-      cause = record { causes = (split_turns (HasCauses wild run.start) (history run.entries) line event told [] law.moments.cause.causes).1; aborted = (split (AbortedAt wild) (history run.entries) line event told law.moments.cause.aborted).1 };
+      cause = record { causes = (split_turns (HasCauses wild run.start) (history run.entries) line event told [] law.moments.cause.causes).1; aborted = (split (AbortedAt wild run.start) (history run.entries) line event told law.moments.cause.aborted).1 };
       judgement = (split_turns (Judges run.start) (history run.entries) line event told [] law.moments.judgement).1;
       login = (split_turns (HasLogins run.start) (history run.entries) line event told [] law.moments.login).1;
       sent = record { packets = (split (SentAt wild) (history run.entries) line event told law.moments.sent.packets).1; answers = (split_turns (AnswersLaw wild run.start) (history run.entries) line event told [] law.moments.sent.answers).1; requests = (split_turns (RequestsLaw wild run.start) (history run.entries) line event told [] law.moments.sent.requests).1; after = (split_turns (AfterTurn wild run.start) (history run.entries) line event told [] law.moments.sent.after).1 };
@@ -90,7 +90,7 @@ module _ (wild : ℕ → Bool) (run : Run) (line : ℕ) (event : Event) (told : 
     carried = (split (CarriedAt wild run.start) (history run.entries) line event told law.moments.carried.carried).0;
     run_where_due = (split_turns (RunsWhereDue wild run.start) (history run.entries) line event told [] law.moments.carried.due).0;
     causes = (split_turns (HasCauses wild run.start) (history run.entries) line event told [] law.moments.cause.causes).0;
-    aborted = (split (AbortedAt wild) (history run.entries) line event told law.moments.cause.aborted).0;
+    aborted = (split (AbortedAt wild run.start) (history run.entries) line event told law.moments.cause.aborted).0;
     judged = (split_turns (Judges run.start) (history run.entries) line event told [] law.moments.judgement).0;
     logins = (split_turns (HasLogins run.start) (history run.entries) line event told [] law.moments.login).0;
     packets = (split (SentAt wild) (history run.entries) line event told law.moments.sent.packets).0;
@@ -112,7 +112,7 @@ module _ (wild : ℕ → Bool) (run : Run) (line : ℕ) (event : Event) (told : 
       status = record { taken = join (TakenAt wild) (history run.entries) line event told new.taken before.moments.status.taken; each = join_turns (TakesEach wild) (history run.entries) line event told [] new.taken_each before.moments.status.each };
       answer = join (AnswerAt wild run.start) (history run.entries) line event told new.answer before.moments.answer;
       carried = record { carried = join (CarriedAt wild run.start) (history run.entries) line event told new.carried before.moments.carried.carried; due = join_turns (RunsWhereDue wild run.start) (history run.entries) line event told [] new.run_where_due before.moments.carried.due };
-      cause = record { causes = join_turns (HasCauses wild run.start) (history run.entries) line event told [] new.causes before.moments.cause.causes; aborted = join (AbortedAt wild) (history run.entries) line event told new.aborted before.moments.cause.aborted };
+      cause = record { causes = join_turns (HasCauses wild run.start) (history run.entries) line event told [] new.causes before.moments.cause.causes; aborted = join (AbortedAt wild run.start) (history run.entries) line event told new.aborted before.moments.cause.aborted };
       judgement = join_turns (Judges run.start) (history run.entries) line event told [] new.judged before.moments.judgement;
       login = join_turns (HasLogins run.start) (history run.entries) line event told [] new.logins before.moments.login;
       sent = record { packets = join (SentAt wild) (history run.entries) line event told new.packets before.moments.sent.packets; answers = join_turns (AnswersLaw wild run.start) (history run.entries) line event told [] new.answers before.moments.sent.answers; requests = join_turns (RequestsLaw wild run.start) (history run.entries) line event told [] new.requests before.moments.sent.requests; after = join_turns (AfterTurn wild run.start) (history run.entries) line event told [] new.after before.moments.sent.after };

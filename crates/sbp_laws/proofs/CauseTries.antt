@@ -252,6 +252,14 @@ aborted_left_out_behind_sight : CauseLaw nobody journals.one_disk refused.aborte
 unfolding reading fault_of tcode_of header_of offset_of rcode_of value_of length_of extended_of three four part_of is_to is_same asked_by begun_by belongs start_at lowest_from label_for free_from count_flying lowest_flying label_of with_label is_write kind_of slot_of window_at is_fifo point_step doorbell_step reset_step abort_step reply_step lost_step refusal verdict request_of check_of blank_bytes command_kind elements_from made block_head decide reads_eui live_login response_bytes start_step reply_step_of_manager decide_step fresh_id left_for enter_step back_step leave_step
 aborted_left_out_behind_sight = λ law. let bad = law.causes.0.ends in cc bad
 
+aborts_behind_time_out : CauseLaw nobody journals.one_disk (runs.abort_behind_time_out 0)
+unfolding reading fault_of tcode_of header_of offset_of rcode_of value_of length_of extended_of three four part_of is_to is_same asked_by begun_by belongs start_at lowest_from label_for free_from count_flying lowest_flying label_of with_label is_write kind_of slot_of window_at is_fifo point_step doorbell_step reset_step abort_step reply_step lost_step refusal verdict request_of check_of blank_bytes command_kind elements_from made block_head decide reads_eui live_login response_bytes start_step reply_step_of_manager decide_step fresh_id left_for enter_step back_step leave_step
+aborts_behind_time_out = record { causes = (record { cuts = refl; cleared = refl; ends = refl; deaths = tt; faults = tt; failures = refl; operations = refl }, (record { cuts = refl; cleared = refl; ends = refl; deaths = tt; faults = tt; failures = refl; operations = refl }, (record { cuts = refl; cleared = refl; ends = refl; deaths = tt; faults = tt; failures = refl; operations = refl }, (record { cuts = refl; cleared = refl; ends = refl; deaths = tt; faults = tt; failures = refl; operations = refl }, (record { cuts = refl; cleared = refl; ends = refl; deaths = tt; faults = tt; failures = refl; operations = refl }, (record { cuts = refl; cleared = refl; ends = refl; deaths = tt; faults = tt; failures = refl; operations = refl }, (record { cuts = refl; cleared = refl; ends = refl; deaths = tt; faults = tt; failures = refl; operations = refl }, (record { cuts = refl; cleared = refl; ends = refl; deaths = tt; faults = tt; failures = refl; operations = refl }, (record { cuts = refl; cleared = refl; ends = refl; deaths = tt; faults = tt; failures = refl; operations = refl }, (record { cuts = refl; cleared = refl; ends = refl; deaths = tt; faults = tt; failures = refl; operations = refl }, (record { cuts = refl; cleared = refl; ends = refl; deaths = tt; faults = tt; failures = refl; operations = refl }, (record { cuts = refl; cleared = refl; ends = refl; deaths = tt; faults = tt; failures = refl; operations = refl }, (record { cuts = refl; cleared = refl; ends = refl; deaths = tt; faults = tt; failures = refl; operations = refl }, (record { cuts = refl; cleared = refl; ends = refl; deaths = tt; faults = tt; failures = refl; operations = refl }, (record { cuts = refl; cleared = refl; ends = refl; deaths = tt; faults = tt; failures = refl; operations = refl }, (record { cuts = refl; cleared = refl; ends = refl; deaths = tt; faults = tt; failures = refl; operations = refl }, (record { cuts = refl; cleared = refl; ends = refl; deaths = tt; faults = tt; failures = refl; operations = refl }, (record { cuts = refl; cleared = refl; ends = refl; deaths = tt; faults = tt; failures = refl; operations = refl }, (record { cuts = refl; cleared = refl; ends = refl; deaths = tt; faults = tt; failures = refl; operations = refl }, (record { cuts = refl; cleared = refl; ends = refl; deaths = tt; faults = tt; failures = refl; operations = refl }, (record { cuts = refl; cleared = refl; ends = refl; deaths = tt; faults = tt; failures = refl; operations = refl }, (record { cuts = refl; cleared = refl; ends = refl; deaths = tt; faults = tt; failures = refl; operations = refl }, (record { cuts = refl; cleared = refl; ends = refl; deaths = tt; faults = tt; failures = refl; operations = refl }, (record { cuts = refl; cleared = refl; ends = refl; deaths = tt; faults = tt; failures = refl; operations = refl }, (record { cuts = refl; cleared = refl; ends = refl; deaths = tt; faults = tt; failures = refl; operations = refl }, tt))))))))))))))))))))))))); aborted = (tt, (tt, (tt, (tt, (tt, (tt, (tt, (λ e. refl, (tt, (tt, (tt, (tt, (tt, (tt, (tt, (tt, (tt, (tt, (tt, (tt, (tt, (tt, (tt, (tt, (tt, (tt, (tt, (tt, (tt, (tt, (tt, (tt, (tt, (tt, (tt, (tt, (tt, (tt, (tt, (tt, (tt, (tt, (tt, (tt, (tt, (tt, (tt, tt))))))))))))))))))))))))))))))))))))))))))))))) }
+
+aborted_of_another_line : CauseLaw nobody journals.one_disk (runs.abort_behind_time_out 1) → ⊥
+unfolding reading fault_of tcode_of header_of offset_of rcode_of value_of length_of extended_of three four part_of is_to is_same asked_by begun_by belongs start_at lowest_from label_for free_from count_flying lowest_flying label_of with_label is_write kind_of slot_of window_at is_fifo point_step doorbell_step reset_step abort_step reply_step lost_step refusal verdict request_of check_of blank_bytes command_kind elements_from made block_head decide reads_eui live_login response_bytes start_step reply_step_of_manager decide_step fresh_id left_for enter_step back_step leave_step
+aborted_of_another_line = λ law. let bad = law.aborted.1.1.1.1.1.1.1.0 refl in cc bad
+
 dead_at_pointer : CauseLaw nobody journals.one_disk (refused.reread_times_out refused.dies_by)
 unfolding reading fault_of tcode_of header_of offset_of rcode_of value_of length_of extended_of three four part_of is_to is_same asked_by begun_by belongs start_at lowest_from label_for free_from count_flying lowest_flying label_of with_label is_write kind_of slot_of window_at is_fifo point_step doorbell_step reset_step abort_step reply_step lost_step refusal verdict request_of check_of blank_bytes command_kind elements_from made block_head decide reads_eui live_login response_bytes start_step reply_step_of_manager decide_step fresh_id left_for enter_step back_step leave_step
 dead_at_pointer = record { causes = (record { cuts = refl; cleared = refl; ends = refl; deaths = (refl, tt); faults = tt; failures = refl; operations = refl }, (record { cuts = refl; cleared = refl; ends = refl; deaths = tt; faults = tt; failures = refl; operations = refl }, (record { cuts = refl; cleared = refl; ends = refl; deaths = tt; faults = tt; failures = refl; operations = refl }, (record { cuts = refl; cleared = refl; ends = refl; deaths = tt; faults = tt; failures = refl; operations = refl }, (record { cuts = refl; cleared = refl; ends = refl; deaths = tt; faults = tt; failures = refl; operations = refl }, (record { cuts = refl; cleared = refl; ends = refl; deaths = tt; faults = tt; failures = refl; operations = refl }, (record { cuts = refl; cleared = refl; ends = refl; deaths = tt; faults = tt; failures = refl; operations = refl }, (record { cuts = refl; cleared = refl; ends = refl; deaths = tt; faults = tt; failures = refl; operations = refl }, (record { cuts = refl; cleared = refl; ends = refl; deaths = tt; faults = tt; failures = refl; operations = refl }, (record { cuts = refl; cleared = refl; ends = refl; deaths = tt; faults = tt; failures = refl; operations = refl }, (record { cuts = refl; cleared = refl; ends = refl; deaths = tt; faults = tt; failures = refl; operations = refl }, (record { cuts = refl; cleared = refl; ends = refl; deaths = tt; faults = tt; failures = refl; operations = refl }, (record { cuts = refl; cleared = refl; ends = refl; deaths = tt; faults = tt; failures = refl; operations = refl }, (record { cuts = refl; cleared = refl; ends = refl; deaths = tt; faults = tt; failures = refl; operations = refl }, (record { cuts = refl; cleared = refl; ends = refl; deaths = tt; faults = tt; failures = refl; operations = refl }, tt))))))))))))))); aborted = (tt, (tt, (tt, (tt, (tt, (tt, (tt, (tt, (tt, (tt, (tt, (tt, (tt, (tt, (tt, (tt, (tt, (tt, (tt, (tt, (tt, (tt, (tt, (tt, (tt, (tt, (tt, (tt, (tt, (tt, (tt, (tt, tt)))))))))))))))))))))))))))))))) }
@@ -285,4 +293,4 @@ unfolding reading fault_of tcode_of header_of offset_of rcode_of value_of length
 management_waits_for_label = λ law. let bad = law.causes.0.failures in cc bad
 
 pub tried : CauseTried
-tried = record { accepts = accepts; dead_at_time_out = dead_at_time_out; death_left_out = death_left_out; dead_twice = dead_twice; dead_at_an_orb = dead_at_an_orb; aborted_unasked = aborted_unasked; stuck_at_time_out = stuck_at_time_out; stuck_left_out = stuck_left_out; state_ends = state_ends; state_ends_well = state_ends_well; state_ends_never = state_ends_never; drops_at_reset = drops_at_reset; drop_left_out = drop_left_out; unit_is_reset = unit_is_reset; cut_of_other_left_out = cut_of_other_left_out; own_list_cut = own_list_cut; cleared_left_out = cleared_left_out; abort_set_cuts = abort_set_cuts; abort_set_cuts_not = abort_set_cuts_not; logout_cuts = logout_cuts; logout_cuts_otherwise = logout_cuts_otherwise; target_is_reset = target_is_reset; target_reset_clears_not = target_reset_clears_not; agent_reset_cuts_not = agent_reset_cuts_not; agent_reset_drops_not = agent_reset_drops_not; operation_ends_otherwise = operation_ends_otherwise; reset_cuts_both = reset_cuts_both; reset_cuts_one = reset_cuts_one; cuts_out_of_order = cuts_out_of_order; dead_refused = dead_refused; refusal_passes = refusal_passes; refused_otherwise = refused_otherwise; dead_short = dead_short; dead_short_otherwise = dead_short_otherwise; dead_illegal = dead_illegal; illegal_fails = illegal_fails; illegal_otherwise = illegal_otherwise; illegal_lives = illegal_lives; dummy_lives = dummy_lives; dummy_dies = dummy_dies; management_times_out = management_times_out; management_goes_on = management_goes_on; management_fails_otherwise = management_fails_otherwise; management_refused = management_refused; management_refused_otherwise = management_refused_otherwise; management_short = management_short; management_short_otherwise = management_short_otherwise; aborted_left_out = aborted_left_out; aborts_behind_sight = aborts_behind_sight; aborted_left_out_behind_sight = aborted_left_out_behind_sight; dead_at_pointer = dead_at_pointer; pointer_ends_an_orb = pointer_ends_an_orb; status_ends_again = status_ends_again; untold_finds_no_label = untold_finds_no_label; dead_label = dead_label; no_label_lives = no_label_lives; management_without_label = management_without_label; management_waits_for_label = management_waits_for_label }
+tried = record { accepts = accepts; dead_at_time_out = dead_at_time_out; death_left_out = death_left_out; dead_twice = dead_twice; dead_at_an_orb = dead_at_an_orb; aborted_unasked = aborted_unasked; stuck_at_time_out = stuck_at_time_out; stuck_left_out = stuck_left_out; state_ends = state_ends; state_ends_well = state_ends_well; state_ends_never = state_ends_never; drops_at_reset = drops_at_reset; drop_left_out = drop_left_out; unit_is_reset = unit_is_reset; cut_of_other_left_out = cut_of_other_left_out; own_list_cut = own_list_cut; cleared_left_out = cleared_left_out; abort_set_cuts = abort_set_cuts; abort_set_cuts_not = abort_set_cuts_not; logout_cuts = logout_cuts; logout_cuts_otherwise = logout_cuts_otherwise; target_is_reset = target_is_reset; target_reset_clears_not = target_reset_clears_not; agent_reset_cuts_not = agent_reset_cuts_not; agent_reset_drops_not = agent_reset_drops_not; operation_ends_otherwise = operation_ends_otherwise; reset_cuts_both = reset_cuts_both; reset_cuts_one = reset_cuts_one; cuts_out_of_order = cuts_out_of_order; dead_refused = dead_refused; refusal_passes = refusal_passes; refused_otherwise = refused_otherwise; dead_short = dead_short; dead_short_otherwise = dead_short_otherwise; dead_illegal = dead_illegal; illegal_fails = illegal_fails; illegal_otherwise = illegal_otherwise; illegal_lives = illegal_lives; dummy_lives = dummy_lives; dummy_dies = dummy_dies; management_times_out = management_times_out; management_goes_on = management_goes_on; management_fails_otherwise = management_fails_otherwise; management_refused = management_refused; management_refused_otherwise = management_refused_otherwise; management_short = management_short; management_short_otherwise = management_short_otherwise; aborted_left_out = aborted_left_out; aborts_behind_sight = aborts_behind_sight; aborted_left_out_behind_sight = aborted_left_out_behind_sight; aborts_behind_time_out = aborts_behind_time_out; aborted_of_another_line = aborted_of_another_line; dead_at_pointer = dead_at_pointer; pointer_ends_an_orb = pointer_ends_an_orb; status_ends_again = status_ends_again; untold_finds_no_label = untold_finds_no_label; dead_label = dead_label; no_label_lives = no_label_lives; management_without_label = management_without_label; management_waits_for_label = management_waits_for_label }

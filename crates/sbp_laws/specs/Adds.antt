@@ -35,7 +35,7 @@ pub record Adds (wild : ℕ → Bool) (start : List Disk) (past : List Moment) (
   pub carried : EachMomentOf (CarriedAt wild start) past line event told
   pub run_where_due : EachTurnOf (RunsWhereDue wild start) past line event told
   pub causes : EachTurnOf (HasCauses wild start) past line event told
-  pub aborted : EachMomentOf (AbortedAt wild) past line event told
+  pub aborted : EachMomentOf (AbortedAt wild start) past line event told
   pub judged : EachTurnOf (Judges start) past line event told
   pub logins : EachTurnOf (HasLogins start) past line event told
   pub packets : EachMomentOf (SentAt wild) past line event told

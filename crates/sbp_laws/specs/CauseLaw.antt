@@ -13,9 +13,9 @@ use Rattle.sbp_journal.specs.declared.operation.FunctionWord.TheVariants as func
 use Rattle.sbp_journal.specs.declared.note.Note.TheVariants as notes
 use Rattle.sbp_laws.specs.Terms.{runs, ended_status}
 use Rattle.sbp_laws.specs.Turns.{Turn, EachMoment, EachTurn}
-use Rattle.sbp_laws.specs.Lists.{Orb, pinned_orb}
+use Rattle.sbp_laws.specs.Lists.{Orb, aborted_by}
 use Rattle.sbp_laws.specs.Agents.{target_before}
-use Rattle.sbp_laws.specs.Management.{cuts_due, cleared_due, failures_due}
+use Rattle.sbp_laws.specs.Management.{cuts_due, cleared_due, failures_due, began_with}
 use Rattle.sbp_laws.specs.Operations.{operation_notes}
 use Rattle.sbp_laws.specs.NoteKinds.{is_cut_note, is_cleared_note, is_failure_note, is_end_note, is_operation_note, counts, of_kind}
 use Rattle.sbp_laws.specs.Deaths.{ends_due}
@@ -32,7 +32,8 @@ pub record HasCauses (wild : ℕ → Bool) (disks : List Disk) (t : Turn) : Type
   pub operations : of_kind (counts wild) (of_kind is_operation_note t.rest) ≡ of_kind (counts wild) (operation_notes t)
 
 -- ---- aborted ORBs
--- An `mgmt I abort` with 00 came, which the line `abort I K` for this very ORB brought about, and the ORB had neither run nor ended then.
+-- An `mgmt I abort` with 00 came, and the ORB had neither run nor ended then. The line `abort I K` for this very ORB brought it about: that line
+-- sent the write of MANAGEMENT_AGENT with which the operation began.
 abbrev pub is_orb_of : Option Orb → (n k : ℕ) → Bool
 is_orb_of None n k = false
 is_orb_of (Some one) n k = (one.list == n) && (one.number == k)
@@ -41,16 +42,17 @@ abbrev pub is_none_status : Option StatusKind → Bool
 is_none_status None = true
 is_none_status (Some status) = false
 
-abbrev pub is_marked : List Moment → (i n k : ℕ) → Bool
-is_marked [] i n k = false
-is_marked (said (notes.Managed j functions.Abort subject status login) ∷ past) i n k =
-    ((i == j) && (status == 0) && is_orb_of (pinned_orb past i) n k && (runs past i n k == 0) && is_none_status (ended_status past i n k)) || is_marked past i n k
-is_marked (_ ∷ past) i n k = is_marked past i n k
+abbrev pub is_marked : List Disk → List Moment → (i n k : ℕ) → Bool
+is_marked disks [] i n k = false
+is_marked disks (said (notes.Managed j functions.Abort subject status login) ∷ past) i n k =
+    ((i == j) && (status == 0) && is_orb_of (aborted_by past (began_with disks past) i) n k && (runs past i n k == 0) && is_none_status (ended_status past i n k))
+    || is_marked disks past i n k
+is_marked disks (_ ∷ past) i n k = is_marked disks past i n k
 
-abbrev pub AbortedAt : (ℕ → Bool) → Moment → List Moment → Type 0
-AbortedAt wild (said (notes.Ended i (Some n) (Some k) kinds.Aborted)) past = wild i ≡ false → is_marked past i n k ≡ true
-AbortedAt wild moment past = Unit {0}
+abbrev pub AbortedAt : (ℕ → Bool) → List Disk → Moment → List Moment → Type 0
+AbortedAt wild disks (said (notes.Ended i (Some n) (Some k) kinds.Aborted)) past = wild i ≡ false → is_marked disks past i n k ≡ true
+AbortedAt wild disks moment past = Unit {0}
 
 pub record CauseLaw (wild : ℕ → Bool) (disks : List Disk) (past : List Moment) : Type 0 where
   pub causes : EachTurn (HasCauses wild disks) past
-  pub aborted : EachMoment (AbortedAt wild) past
+  pub aborted : EachMoment (AbortedAt wild disks) past

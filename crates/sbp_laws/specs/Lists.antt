@@ -127,6 +127,13 @@ pinned_orb (said (notes.Seen (suc i) generation) ∷ past) =
     upd (pinned_orb past) i (if generation == (terms past).generation (suc i) then pinned_orb past i else None)
 pinned_orb (_ ∷ past) = pinned_orb past
 
+-- the ORB that the line of an abort named, by the serial of the write that this line sent
+abbrev pub aborted_by : List Moment → (serial i : ℕ) → Option Orb
+aborted_by [] = λ serial i. None
+aborted_by (said (notes.Sent serial generation (suc i) to bytes) ∷ past) =
+    upd2 (aborted_by past) serial i (pins (event_of past) i (present_list past i) None)
+aborted_by (_ ∷ past) = aborted_by past
+
 abbrev pub is_pinned : Option Orb → ℕ → ℕ → Bool
 is_pinned None n k = false
 is_pinned (Some one) n k = is_orb one n k

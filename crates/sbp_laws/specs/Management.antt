@@ -1,5 +1,5 @@
 -- What a turn brings of the target's management operation, of its logins and of the lists that it cuts (NCITS 325-1998, management agent).
-use Rattle.std.specs.Prelude.{ℕ, suc, ◌+◌, ◌==◌, ◌&&◌, not, Bool, true, false, if◌then◌else◌, List, [], ◌∷◌, ◌++◌, map, Option, Some, None, Result, Ok, Err}
+use Rattle.std.specs.Prelude.{ℕ, suc, ◌+◌, ◌==◌, ◌&&◌, not, is_none, Bool, true, false, if◌then◌else◌, List, [], ◌∷◌, ◌++◌, map, Option, Some, None, Result, Ok, Err}
 use Rattle.orb_layout.specs.declared.ask.Ask.{Ask}
 use Rattle.orb_layout.specs.declared.ask.Ask.TheVariants.{Read, Write, Nothing}
 use Rattle.orb_layout.specs.declared.ask.FailCause.{FailCause}
@@ -24,7 +24,7 @@ use Rattle.mgmt_agent.specs.declared.decision.Effect.{Effect}
 use Rattle.mgmt_agent.specs.declared.decision.Effect.TheVariants as effects
 use Rattle.sbp_journal.specs.Run.{Moment, said}
 use Rattle.sbp_journal.specs.Addresses.{Access, agent_reset, Start, management_agent, start_at, start_serves}
-use Rattle.sbp_journal.specs.Wire.{Terms}
+use Rattle.sbp_journal.specs.Wire.{Terms, terms}
 use Rattle.sbp_journal.specs.declared.cause.CutCause.{CutCause}
 use Rattle.sbp_journal.specs.declared.cause.CutCause.TheVariants as cuts
 use Rattle.sbp_journal.specs.declared.operation.FunctionWord.{FunctionWord}
@@ -33,7 +33,7 @@ use Rattle.sbp_journal.specs.declared.note.Note.{Note}
 use Rattle.sbp_journal.specs.declared.note.Note.TheVariants as notes
 use Rattle.sbp_laws.specs.Turns.{Turn}
 use Rattle.sbp_laws.specs.Packets.{packet_at, access_at, answered_at, answer_in, sender_in, receiver_in, id_for, finds_label}
-use Rattle.sbp_laws.specs.Targets.{Target, Agent, Purpose, for_agent, for_manager, for_nobody, purpose_of, agent_at, login_at, manager_step, on_unit, is_serial}
+use Rattle.sbp_laws.specs.Targets.{Target, Agent, Purpose, for_agent, for_manager, for_nobody, purpose_of, agent_at, login_at, manager_step, on_unit, is_serial, target_at}
 use Rattle.sbp_laws.specs.Agents.{Event, writes, agent_event, Request, requests_to, initiator_at, initiator_with, list_of, wire_before, wire_after}
 
 -- ---- lists that are cut
@@ -178,6 +178,18 @@ moved_logins target (effects.Entered place replaced) = left_note replaced
 moved_logins target (effects.Back place) = back_note (id_of (login_at target place))
 moved_logins target (effects.Left place) = left_note (id_of (login_at target place))
 moved_logins target _ = []
+
+-- the write of MANAGEMENT_AGENT that the target took last: the one that its latest operation began with
+abbrev pub begins_with : Call → Target → Bool
+begins_with (starts source orb) target = not (is_none (manager_turn (starts source orb) target))
+begins_with (answers answer) target = false
+begins_with no_call target = false
+
+abbrev pub began_with : List Disk → List Moment → ℕ
+began_with start [] = 0
+began_with start (said (notes.Got serial) ∷ past) =
+    if begins_with (call_by (said (notes.Got serial)) (target_at start past) (terms past)) (target_at start past) then serial else began_with start past
+began_with start (_ ∷ past) = began_with start past
 
 -- ---- the notes of the kinds in a turn
 abbrev pub call_of : Target → Turn → Call

@@ -167,6 +167,8 @@ pub record CauseTried : Type 0 where
   pub aborted_left_out : CauseLaw nobody journals.one_disk refused.aborted_left_out → ⊥
   pub aborts_behind_sight : CauseLaw nobody journals.one_disk runs.abort_behind_sight
   pub aborted_left_out_behind_sight : CauseLaw nobody journals.one_disk refused.aborted_left_out_behind_sight → ⊥
+  pub aborts_behind_time_out : CauseLaw nobody journals.one_disk (runs.abort_behind_time_out 0)
+  pub aborted_of_another_line : CauseLaw nobody journals.one_disk (runs.abort_behind_time_out 1) → ⊥
   pub dead_at_pointer : CauseLaw nobody journals.one_disk (refused.reread_times_out refused.dies_by)
   pub pointer_ends_an_orb : CauseLaw nobody journals.one_disk (refused.reread_times_out (refused.dies_by ++ notes.Ended 0 (Some 0) (Some 0) kinds.Failed ∷ [])) → ⊥
   pub status_ends_again : CauseLaw nobody journals.one_disk (refused.status_times_out (refused.dies_by ++ notes.Ended 0 (Some 0) (Some 0) kinds.Failed ∷ [])) → ⊥

@@ -10,6 +10,7 @@ use Rattle.orb_layout.specs.ManagementOrbs.{management_bytes}
 use Rattle.orb_layout.specs.Pointers.{quad_bytes}
 use Rattle.media_bay.specs.Unsolicited.{block}
 use Rattle.sbp_journal.specs.Run.{Moment, asked, said}
+use Rattle.sbp_journal.specs.declared.cause.Cause.TheVariants as ignored
 use Rattle.sbp_journal.specs.declared.cause.CutCause.TheVariants as cuts
 use Rattle.sbp_journal.specs.declared.event.Event.TheVariants as events
 use Rattle.sbp_journal.specs.declared.event.Action.TheVariants as actions
@@ -213,26 +214,36 @@ write_orb = quad_bytes (0x80000000 ∷ 0 ∷ 0xffc10000 ∷ 0x11000000 ∷ 0x829
 abbrev pub abort_orb : ManagementOrb
 abort_orb = record logout_orb { function = 0xb; first = 0x10000000 }
 
--- what is told between the abort's line and the delivery of its request, on the line of a number
-abbrev pub abort_behind : List Moment → (line : ℕ) → List Moment
-abort_behind between line =
+-- the line of the abort names ORB k; between it and the delivery of its request, on the line of a number, stands what is told; and its
+-- initiator gets the answer to that request, and the status of the operation, or ignores them
+abbrev pub abort_behind : (k : ℕ) → (between : List Moment) → (line : ℕ) → (taken_so : List Moment) → List Moment
+abort_behind k between line taken_so =
     told (begins ++ asked 2 (events.Act 0 (actions.Append write_whole)) ∷ said (notes.Append 0 0 0 write_block_0 (Out (replicate 512 0xaa))) ∷ said (notes.Rung 0 0 0)
     ∷ said (notes.Sent 1 0 1 0 pointer_packet) ∷ asked 3 (events.Step 4) ∷ points_agent
     ++ said (notes.Got 2) ∷ said (notes.Got 3) ∷ said (notes.Sent 4 0 1 0 (canon (read_block_response (to_target 0) 0 write_orb)))
     ∷ said (notes.Got 4) ∷ said (notes.Sent 5 0 0 1 (canon (read_block (to_first 0) 0x11000000 512)))
-    ∷ asked 4 (events.Act 0 (actions.Abort 0)) ∷ said (notes.Sent 6 0 1 0 (canon (write_block (to_target 0) 0xfffff0010000 (quad_bytes (0 ∷ 0x12000000 ∷ [])))))
+    ∷ asked 4 (events.Act 0 (actions.Abort k)) ∷ said (notes.Sent 6 0 1 0 (canon (write_block (to_target 0) 0xfffff0010000 (quad_bytes (0 ∷ 0x12000000 ∷ [])))))
     ∷ between ++ asked line (events.Deliver 6) ∷ said (notes.Got 6) ∷ said (notes.Sent 7 0 0 1 (done_by_target 0 0)) ∷ said (notes.Sent 8 0 0 1 (fetch_packet 1 0x12000000))
     ∷ asked (line + 1) (events.Deliver 8) ∷ said (notes.Got 8) ∷ said (notes.Sent 9 0 1 0 (canon (read_block_response (to_target 1) 0 (management_bytes abort_orb))))
     ∷ asked (line + 2) (events.Deliver 9) ∷ said (notes.Got 9) ∷ said (notes.Managed 0 functions.Abort 1 0 None)
     ∷ said (notes.Sent 10 0 0 1 (canon (write_block (to_first 1) 0x12002000 (quad_bytes (0x01000000 ∷ 0x12000000 ∷ [])))))
-    ∷ asked (line + 3) events.Settle ∷ said (notes.Got 5) ∷ said (notes.Sent 11 0 1 0 (canon (read_block_response (to_target 0) 0 (replicate 512 0xaa)))) ∷ said (notes.Got 7)
-    ∷ said (notes.Got 10) ∷ said (notes.Op 0 operations.Abort words.Done) ∷ said (notes.Sent 12 0 1 0 (done_by_first 1))
-    ∷ said (notes.Got 11) ∷ ended kinds.Aborted ∷ said (notes.Sent 13 0 0 1 (status_packet 0x410c0000)) ∷ said (notes.Got 12)
+    ∷ asked (line + 3) events.Settle ∷ said (notes.Got 5) ∷ said (notes.Sent 11 0 1 0 (canon (read_block_response (to_target 0) 0 (replicate 512 0xaa))))
+    ∷ taken_so ++ said (notes.Sent 12 0 1 0 (done_by_first 1)) ∷ said (notes.Got 11) ∷ ended kinds.Aborted ∷ said (notes.Sent 13 0 0 1 (status_packet 0x410c0000)) ∷ said (notes.Got 12)
     ∷ said (notes.Got 13) ∷ taken kinds.Aborted ∷ said (notes.Sent 14 0 1 0 (done_by_first 0)) ∷ said (notes.Got 14) ∷ said notes.Settled ∷ [])
 
+abbrev pub abort_ends : List Moment
+abort_ends = said (notes.Got 7) ∷ said (notes.Got 10) ∷ said (notes.Op 0 operations.Abort words.Done) ∷ []
+
 abbrev pub abort_told : List Moment
-abort_told = abort_behind [] 5
+abort_told = abort_behind 0 [] 5 abort_ends
 
 -- the same where the initiator is asked to see the generation that it is in: its slot stays pinned, and its ORB ends as aborted
 abbrev pub abort_behind_sight : List Moment
-abort_behind_sight = abort_behind (asked 5 (events.See 1) ∷ said (notes.Seen 1 0) ∷ []) 6
+abort_behind_sight = abort_behind 0 (asked 5 (events.See 1) ∷ said (notes.Seen 1 0) ∷ []) 6 abort_ends
+
+-- the same where the abort's request times out and is delivered all the same: its operation and its pin are over as the target decides, and
+-- the ORB that its line named ends as aborted
+abbrev pub abort_behind_time_out : (k : ℕ) → List Moment
+abort_behind_time_out k =
+    abort_behind k (asked 5 (events.Timeout 6) ∷ said (notes.TimedOut 6) ∷ said (notes.Op 0 operations.Abort words.Error) ∷ said (notes.Stuck 0) ∷ []) 6
+    (said (notes.Ignored 7 ignored.Label) ∷ said (notes.Ignored 10 ignored.Slot) ∷ [])
