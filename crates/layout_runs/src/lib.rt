@@ -1,9 +1,7 @@
-//! Worked examples of the layouts of SBP-2 and of command blocks, as tests: where a crate has tests of
-//! its own it is proved twice, so these stand beside.
+//! Worked examples of the layouts of SBP-2, as tests: where a crate has tests of its own it is proved
+//! twice, so these stand beside it.
 #![tactic(auto)]
 
-#[cfg(test)]
-mod command_tests;
 #[cfg(test)]
 mod orb_tests;
 #[cfg(test)]

@@ -1,10 +1,8 @@
-//! Worked runs of the numbers and the outside, the page tables, the configuration ROM, the logins with
-//! their management, the sessions, and an initiator's memory and lists, as tests: where a crate has tests
-//! of its own it is proved twice, so these stand beside.
+//! Worked runs of the page tables, the configuration ROM, the logins with their management, the sessions,
+//! and an initiator's memory and lists, as tests: where a crate has tests of its own it is proved twice,
+//! so these stand beside.
 #![tactic(auto)]
 
-#[cfg(test)]
-mod base_tests;
 #[cfg(test)]
 mod list_tests;
 #[cfg(test)]

@@ -11,3 +11,6 @@ pub use cdb::Cdb;
 pub use command::Command;
 pub use operation::Operation;
 pub use sense::Sense;
+
+#[cfg(test)]
+mod tests;

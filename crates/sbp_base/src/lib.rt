@@ -23,3 +23,6 @@ pub use offset::Offset;
 pub use outside::{Failed, NoMemory, Sink, SinkFault, Source};
 pub use quadlets::{put_quad, quad_at, quadlets_read_back};
 pub use speed::Speed;
+
+#[cfg(test)]
+mod tests;

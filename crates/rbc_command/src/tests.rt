@@ -1,4 +1,4 @@
-use rbc_command::{Cdb, Command, Sense};
+use crate::{Cdb, Command, Sense};
 use std::test::Fail;
 
 /// A READ(12) of block 31 and one of 33 blocks; a VERIFY with its bytes; an eject; no command.

@@ -1,4 +1,4 @@
-use sbp_base::{
+use crate::{
     Bytes, Failed, Generation, Lengths, MemorySink, MemorySource, NodeId, Offset, Sink, SinkFault,
     Source, Speed, put_quad, quad_at,
 };
