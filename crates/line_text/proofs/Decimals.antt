@@ -1,6 +1,9 @@
 -- The digits of a number in decimal, by pairs.
-use Rattle.std.proofs.Common.{◌≡◌, ◌∙◌, ap, arith, ℕ, ◌+◌, ◌/◌, ◌%◌, ◌^◌, ◌<◌, ◌≤◌, List, [], ◌∷◌, ◌++◌, length, append_assoc, length-append}
+use Rattle.std.proofs.Common.{◌≡◌, ◌∙◌, refl, ap, arith, ℕ, zero, suc, ◌==◌, ◌&&◌, Bool, true, inl, inr, ◌+◌, ◌*◌, ◌/◌, ◌%◌, ◌^◌, ◌<◌, ◌≤◌, List, [], ◌∷◌, ◌++◌, length, append_assoc, length-append}
 use Rattle.std.specs.Fmt.{decimal}
+use Rattle.std.specs.Prelude.{slice_index}
+use Rattle.std.proofs.lemmas.Bool.{and_parts, cases_lt, eqb-true}
+use Rattle.line_text.specs.Pairs.{all_pairs}
 use Rattle.std.proofs.lemmas.Fmt.{decimal_digit, decimal_step, length-decimal-le}
 
 pub digits_few : (n : ℕ) → n < 2 ^ 64 → length (decimal n) ≤ 20
@@ -55,3 +58,27 @@ front_and_four n low high =
 -- and they are four more
 pub front_length : (n : ℕ) → 10000 ≤ n → n < 2 ^ 64 → length (decimal n) ≡ length (decimal (n / 10000)) + 4
 front_length n low high = ap (λ l. length l) (front_and_four n low high) ∙ length-append (decimal (n / 10000)) (four (n % 10000))
+
+-- ---- the digits of all numbers below a hundred, which compute
+
+abbrev are_pairs : ℕ → Bool
+are_pairs zero = true
+are_pairs (suc n) = (slice_index all_pairs (2 * n) == 48 + n / 10) && ((slice_index all_pairs (2 * n + 1) == 48 + n % 10) && are_pairs n)
+
+pairs_below : (n k : ℕ) → are_pairs n ≡ true → k < n → (slice_index all_pairs (2 * k) ≡ 48 + k / 10) × (slice_index all_pairs (2 * k + 1) ≡ 48 + k % 10)
+pairs_below zero k h lt = absurd (omega arith)
+pairs_below (suc n) k h lt =
+    let parts = and_parts (slice_index all_pairs (2 * n) == 48 + n / 10) ((slice_index all_pairs (2 * n + 1) == 48 + n % 10) && are_pairs n) h in
+    let others = and_parts (slice_index all_pairs (2 * n + 1) == 48 + n % 10) (are_pairs n) parts.1 in
+    elim (cases_lt k n) [
+      | inl below ↦ pairs_below n k others.1 below
+      | inr top ↦
+          let e : k ≡ n = omega arith in
+          rw e (eqb-true _ _ parts.0, eqb-true _ _ others.0)
+    ]
+
+pub tens_at : (n : ℕ) → n < 100 → slice_index all_pairs (2 * n) ≡ 48 + n / 10
+tens_at n h = (pairs_below 100 n refl h).0
+
+pub ones_at : (n : ℕ) → n < 100 → slice_index all_pairs (2 * n + 1) ≡ 48 + n % 10
+ones_at n h = (pairs_below 100 n refl h).1

@@ -1,6 +1,7 @@
 ghost use Rattle.std.specs.Prelude.{◌≡◌, ◌*◌, ◌+◌, ◌<◌, ◌≤◌, ◌/◌, ◌%◌, ◌∷◌, ◌++◌, [], length, IsTrue};
 ghost use Rattle.std.specs.Fmt.{decimal};
 ghost use Rattle.hex.specs.Hex.{encode_upper};
+ghost use Rattle.line_text.specs.Pairs.{all_pairs};
 
 use crate::words::put_digits;
 use std::marker::Model;
@@ -130,12 +131,22 @@ fn digit(number: u16) -> u8
     b'0' + number as u8
 }
 
+/// The two decimal digits of each number below a hundred.
+fn pairs() -> &'static [u8; 200]
+    ensures { result.now ≡ all_pairs }
+{
+    b"00010203040506070809101112131415161718192021222324252627282930313233343536373839404142434445464748495051525354555657585960616263646566676869707172737475767778798081828384858687888990919293949596979899"
+}
+
 /// The two decimal digits of a number below a hundred.
+#[tactic(auto, using(crate::proofs::Decimals::tens_at, crate::proofs::Decimals::ones_at))]
 fn pair(number: u16) -> [u8; 2]
     requires { number < 100 }
     ensures { result ≡ (48 + number / 10) ∷ (48 + number % 10) ∷ [] }
 {
-    [digit(number / 10), digit(number % 10)]
+    let at = 2 * usize::from(number);
+    let pairs = pairs();
+    [pairs[at], pairs[at + 1]]
 }
 
 /// The four decimal digits of a number below ten thousand.

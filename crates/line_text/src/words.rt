@@ -82,8 +82,8 @@ fn digit(number: u8) -> u8
     requires { number < 16 }
     ensures { result ≡ slice_index upper_digits number }
 {
-    let zero = if number < 10 { b'0' } else { b'A' - 10 };
-    zero + number
+    let letters = if number < 10 { 0 } else { b'A' - 10 - b'0' };
+    b'0' + number + letters
 }
 
 /// Writes the digits of bytes, two for each.
