@@ -1,9 +1,0 @@
--- The lines of the notes so far are added.
-use Rattle.std.proofs.Common.{◌≡◌, ◌++◌, take}
-use Rattle.sbp_journal.specs.Text.{text_of}
-use Rattle.script_runner.proofs.runner.append_notes.Given as goal
-
-abbrev pub invariant-loop-note : goal.invariant-loop-note
-invariant-loop-note l = record {
-  so_far : l.out ≡ l.initial.out ++ text_of (take l.note-index l.notes);
-}
