@@ -1,4 +1,4 @@
-ghost use Rattle.std.specs.Prelude.{◌≡◌, ◌++◌, ◌<◌, ◌*◌, ◌+◌, ◌∷◌, [], length, slice_index, ℕ, List, IfOk};
+ghost use Rattle.std.specs.Prelude.{◌≡◌, ◌++◌, ◌<◌, ◌≤◌, ◌*◌, ◌+◌, ◌∷◌, [], drop, length, slice_index, ℕ, List, IfOk};
 ghost use Rattle.config_rom.specs.Sum.{sum_of, quad_bits, low_bits, register_after};
 ghost use Rattle.drill_text.specs.Sums as spec;
 ghost use Rattle.drill_text.specs.Sums.{quadlet, quads_of};
@@ -73,15 +73,47 @@ impl PairSums {
         }
     }
 
-    /// The register behind more bytes.
+    /// The register behind the quadlet at a place.
+    fn behind_quad_at(&self, sum: u16, bytes: &[u8], at: usize) -> u16
+        requires { at + 4 ≤ length bytes.now }
+        ensures { register_after result (quad_bits (quads_of (drop (at + 4) bytes.now))) ≡ register_after sum (quad_bits (quads_of (drop at bytes.now))) }
+    {
+        let quad = [bytes[at], bytes[at + 1], bytes[at + 2], bytes[at + 3]];
+        self.behind_quad(sum, quad)
+    }
+
+    /// The register behind the four quadlets at a place.
+    fn behind_four_at(&self, sum: u16, bytes: &[u8], at: usize) -> u16
+        requires { at + 16 ≤ length bytes.now }
+        ensures { register_after result (quad_bits (quads_of (drop (at + 16) bytes.now))) ≡ register_after sum (quad_bits (quads_of (drop at bytes.now))) }
+    {
+        let first = self.behind_quad_at(sum, bytes, at);
+        let second = self.behind_quad_at(first, bytes, at + 4);
+        let third = self.behind_quad_at(second, bytes, at + 8);
+        self.behind_quad_at(third, bytes, at + 12)
+    }
+
+    /// The register behind more bytes, of which four quadlets are taken in one step.
     pub(crate) fn register_behind(&self, sum: u16, bytes: &[u8]) -> u16
         ensures { result ≡ register_after sum (quad_bits (quads_of bytes.now)) }
     {
         let mut sum = sum;
         let mut at = 0;
+        while at + 16 <= bytes.len() {
+            sum = self.behind_four_at(sum, bytes, at);
+            at += 16;
+        }
+        self.behind_few(sum, &bytes[at..])
+    }
+
+    /// The register behind a few more bytes.
+    fn behind_few(&self, sum: u16, bytes: &[u8]) -> u16
+        ensures { result ≡ register_after sum (quad_bits (quads_of bytes.now)) }
+    {
+        let mut sum = sum;
+        let mut at = 0;
         while at + 4 <= bytes.len() {
-            let quad = [bytes[at], bytes[at + 1], bytes[at + 2], bytes[at + 3]];
-            sum = self.behind_quad(sum, quad);
+            sum = self.behind_quad_at(sum, bytes, at);
             at += 4;
         }
         self.behind_rest(sum, &bytes[at..])

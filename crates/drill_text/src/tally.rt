@@ -6,9 +6,10 @@ ghost use Rattle.drill_text.specs.Tally.{tally_of};
 ghost use Rattle.drill_text.specs.Tally as spec;
 
 use crate::sums::PairSums;
+use line_text::LineWriter;
 use orb_layout::StatusKind;
 use sbp_base::{Bytes, NoMemory};
-use sbp_journal::{Note, append_note};
+use sbp_journal::{Note, put_note};
 use std::alloc::Global;
 use std::marker::Model;
 
@@ -17,7 +18,7 @@ use std::marker::Model;
 #[derive(Drop)]
 pub struct Tally {
     /// Room for the line of a note, which is used for one after the other.
-    line: Bytes,
+    line: LineWriter,
     notes: u64,
     appended: u64,
     taken: u64,
@@ -42,7 +43,7 @@ impl Tally {
         ensures { result ≡ tally_of [] }
     {
         Tally {
-            line: Bytes::new(alloc),
+            line: LineWriter::behind(Bytes::new(alloc)),
             notes: 0,
             appended: 0,
             taken: 0,
@@ -61,8 +62,8 @@ impl Tally {
             return Err(NoMemory);
         };
         self.line.clear();
-        append_note(alloc, note, &mut self.line)?;
-        self.sum = sums.behind_line(self.sum, self.line.as_slice());
+        put_note(alloc, note, &mut self.line)?;
+        self.sum = sums.behind_line(self.sum, self.line.gather()?);
         self.notes = notes;
         self.appended += u64::from(is_append(note));
         self.taken += u64::from(is_taken(note));

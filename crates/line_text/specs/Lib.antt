@@ -1,3 +1,4 @@
 pub mod Canonical
 pub mod Fields
 pub mod Digits
+pub mod Pairs

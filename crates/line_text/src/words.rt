@@ -82,15 +82,12 @@ fn digit(number: u8) -> u8
     requires { number < 16 }
     ensures { result ≡ slice_index upper_digits number }
 {
-    if number < 10 {
-        b'0' + number
-    } else {
-        b'A' - 10 + number
-    }
+    let letters = if number < 10 { 0 } else { b'A' - 10 - b'0' };
+    b'0' + number + letters
 }
 
 /// Writes the digits of bytes, two for each.
-fn put_digits(bytes: &[u8], digits: &mut [u8])
+pub(crate) fn put_digits(bytes: &[u8], digits: &mut [u8])
     requires { length digits.old ≡ 2 * length bytes.now }
     ensures { digits.new ≡ encode_upper bytes.now }
 {

@@ -1,4 +1,4 @@
-ghost use Rattle.std.specs.Prelude.{◌≡◌, ℕ, List, [], ◌∷◌, ◌++◌, reverse, OnOk, OnErr};
+ghost use Rattle.std.specs.Prelude.{◌≡◌, ◌<◌, ℕ, List, [], ◌∷◌, ◌++◌, reverse, vec_len, vec_capacity, OnOk, OnErr};
 ghost use Rattle.std.specs.List.{AllByRecursion};
 ghost use Rattle.sbp_journal.specs.Written.{IsTyped};
 
@@ -39,13 +39,17 @@ impl Journal {
     }
 
     /// Adds a note, which is then the latest one.
+    #[inline(always)]
     pub fn push(&mut self, note: Note) -> Result<(), NoMemory>
         ensures ok { OnOk result (self.new ≡ note ∷ self.old) }
         ensures err { OnErr result (self.new ≡ self.old) }
         ensures typed { AllByRecursion IsTyped self.new }
     {
         note_fits(&note);
-        self.notes.push(note)?;
+        if self.notes.capacity() <= self.notes.len() {
+            grow(&mut self.notes)?;
+        }
+        self.notes.push_reserved(note);
         Ok(())
     }
 
@@ -62,6 +66,17 @@ impl Journal {
     {
         self.notes.as_slice()
     }
+}
+
+/// Makes room for one more note.
+#[cold]
+#[inline(never)]
+fn grow(notes: &mut Vec<Note>) -> Result<(), NoMemory>
+    ensures items { notes.new.items ≡ notes.old.items }
+    ensures room { OnOk result (vec_len notes.new < vec_capacity notes.new) }
+{
+    notes.reserve(1)?;
+    Ok(())
 }
 
 /// The bytes of lines.

@@ -11,59 +11,59 @@ use crate::fields::{
 use crate::note::{Note, NoteBuffer};
 use crate::operation::{FunctionWord, OpWord, Operation};
 use crate::words::{cause_text, cut_text, fail_text, function_text, mode_text, operation_text};
-use line_text::{push_digits, push_name, push_number};
+use line_text::LineWriter;
 use orb_layout::StatusKind;
 use rbc_command::Sense;
-use sbp_base::{Bytes, NoMemory};
+use sbp_base::NoMemory;
 use std::alloc::Global;
 
-/// The word that the line of a note begins with.
-pub(crate) fn keyword(note: &Note) -> &'static str
-    ensures { result.now ≡ texts.keyword note.now }
+/// Adds the word that the line of a note begins with.
+pub(crate) fn push_keyword(note: &Note, out: &mut LineWriter) -> Result<(), NoMemory>
+    ensures { OnOk result (out.new ≡ out.old ++ texts.keyword note.now) }
 {
     match note {
-        Note::Begin { .. } => "begin",
-        Note::Append { .. } => "append",
-        Note::Low { .. } => "low",
-        Note::Linked { .. } => "linked",
-        Note::Rung { .. } => "rung",
-        Note::Dummied { .. } => "dummied",
-        Note::Sent { .. } => "sent",
-        Note::Injected { .. } => "injected",
-        Note::Got { .. } => "got",
-        Note::Ignored { .. } => "ignored",
-        Note::Lost { .. } => "lost",
-        Note::TimedOut { .. } => "timedout",
-        Note::Ran { .. } => "ran",
-        Note::Ended { .. } => "ended",
-        Note::Taken { .. } => "taken",
-        Note::Cut { .. } => "cut",
-        Note::Dead { .. } => "dead",
-        Note::Drop { .. } => "drop",
-        Note::Managed { .. } => "mgmt",
-        Note::ManageFailed { .. } => "mgmtfail",
-        Note::Held { .. } => "held",
-        Note::Expired { .. } => "expired",
-        Note::Back { .. } => "back",
-        Note::Left { .. } => "left",
-        Note::Cleared { .. } => "cleared",
-        Note::Op { .. } => "op",
-        Note::Stuck { .. } => "stuck",
-        Note::Reset { .. } => "reset",
-        Note::Seen { .. } => "seen",
-        Note::Tick => "tick",
-        Note::Refused { .. } => "refused",
-        Note::Settled => "settled",
-        Note::Stopped => "stopped",
-        Note::Key { .. } => "key",
-        Note::Unsolicited { .. } => "unsolicited",
-        Note::Unsent { .. } => "unsent",
-        Note::Told { .. } => "told",
+        Note::Begin { .. } => out.push(b"begin"),
+        Note::Append { .. } => out.push(b"append"),
+        Note::Low { .. } => out.push(b"low"),
+        Note::Linked { .. } => out.push(b"linked"),
+        Note::Rung { .. } => out.push(b"rung"),
+        Note::Dummied { .. } => out.push(b"dummied"),
+        Note::Sent { .. } => out.push(b"sent"),
+        Note::Injected { .. } => out.push(b"injected"),
+        Note::Got { .. } => out.push(b"got"),
+        Note::Ignored { .. } => out.push(b"ignored"),
+        Note::Lost { .. } => out.push(b"lost"),
+        Note::TimedOut { .. } => out.push(b"timedout"),
+        Note::Ran { .. } => out.push(b"ran"),
+        Note::Ended { .. } => out.push(b"ended"),
+        Note::Taken { .. } => out.push(b"taken"),
+        Note::Cut { .. } => out.push(b"cut"),
+        Note::Dead { .. } => out.push(b"dead"),
+        Note::Drop { .. } => out.push(b"drop"),
+        Note::Managed { .. } => out.push(b"mgmt"),
+        Note::ManageFailed { .. } => out.push(b"mgmtfail"),
+        Note::Held { .. } => out.push(b"held"),
+        Note::Expired { .. } => out.push(b"expired"),
+        Note::Back { .. } => out.push(b"back"),
+        Note::Left { .. } => out.push(b"left"),
+        Note::Cleared { .. } => out.push(b"cleared"),
+        Note::Op { .. } => out.push(b"op"),
+        Note::Stuck { .. } => out.push(b"stuck"),
+        Note::Reset { .. } => out.push(b"reset"),
+        Note::Seen { .. } => out.push(b"seen"),
+        Note::Tick => out.push(b"tick"),
+        Note::Refused { .. } => out.push(b"refused"),
+        Note::Settled => out.push(b"settled"),
+        Note::Stopped => out.push(b"stopped"),
+        Note::Key { .. } => out.push(b"key"),
+        Note::Unsolicited { .. } => out.push(b"unsolicited"),
+        Note::Unsent { .. } => out.push(b"unsent"),
+        Note::Told { .. } => out.push(b"told"),
     }
 }
 
 /// Adds the fields of a note.
-pub(crate) fn push_fields(alloc: Global, note: &Note, out: &mut Bytes) -> Result<(), NoMemory>
+pub(crate) fn push_fields(alloc: Global, note: &Note, out: &mut LineWriter) -> Result<(), NoMemory>
     requires { HasForm note.now }
     ensures { OnOk result (out.new ≡ out.old ++ further (fields note.now)) }
 {
@@ -110,7 +110,7 @@ pub(crate) fn push_fields(alloc: Global, note: &Note, out: &mut Bytes) -> Result
         Note::Injected { serial }
         | Note::Got { serial }
         | Note::Lost { serial }
-        | Note::TimedOut { serial } => push_number(out, *serial),
+        | Note::TimedOut { serial } => out.push_number(*serial),
         Note::Ignored { serial, cause } => push_word(out, *serial, cause_text(*cause)),
         Note::Ran {
             initiator,
@@ -176,16 +176,16 @@ pub(crate) fn push_fields(alloc: Global, note: &Note, out: &mut Bytes) -> Result
         Note::Held { login }
         | Note::Expired { login }
         | Note::Back { login }
-        | Note::Left { login } => push_number(out, u64::from(*login)),
-        Note::Cleared { unit } | Note::Key { unit } => push_number(out, u64::from(*unit)),
+        | Note::Left { login } => out.push_number(u64::from(*login)),
+        Note::Cleared { unit } | Note::Key { unit } => out.push_number(u64::from(*unit)),
         Note::Op {
             initiator,
             operation,
             word,
         } => push_op(out, *initiator, *operation, *word),
         Note::Stuck { initiator } | Note::Unsolicited { initiator } | Note::Unsent { initiator } =>
-            push_number(out, u64::from(*initiator)),
-        Note::Reset { generation } => push_number(out, u64::from(*generation)),
+            out.push_number(u64::from(*initiator)),
+        Note::Reset { generation } => out.push_number(u64::from(*generation)),
         Note::Seen { node, generation } => push_seen(out, *node, *generation),
         Note::Refused { line, number } => push_pair(out, *line, u32::from(*number)),
         Note::Told { initiator } => push_word(out, u64::from(*initiator), "6/28/00"),
@@ -194,25 +194,25 @@ pub(crate) fn push_fields(alloc: Global, note: &Note, out: &mut Bytes) -> Result
 }
 
 /// Adds a number and a word.
-fn push_word(out: &mut Bytes, number: u64, name: &str) -> Result<(), NoMemory>
+fn push_word(out: &mut LineWriter, number: u64, name: &str) -> Result<(), NoMemory>
     ensures { OnOk result (out.new ≡ out.old ++ further (Field.number number ∷ Field.name name.now ∷ [])) }
 {
-    push_number(out, number)?;
-    push_name(out, name)
+    out.push_number(number)?;
+    out.push_name(name)
 }
 
 /// Adds two numbers.
-fn push_pair(out: &mut Bytes, first: u32, second: u32) -> Result<(), NoMemory>
+fn push_pair(out: &mut LineWriter, first: u32, second: u32) -> Result<(), NoMemory>
     ensures { OnOk result (out.new ≡ out.old ++ further (Field.number first ∷ Field.number second ∷ [])) }
 {
-    push_number(out, u64::from(first))?;
-    push_number(out, u64::from(second))
+    out.push_number(u64::from(first))?;
+    out.push_number(u64::from(second))
 }
 
 /// Adds the fields of an ORB that was appended.
 fn push_append(
     alloc: Global,
-    out: &mut Bytes,
+    out: &mut LineWriter,
     initiator: u8,
     list: u32,
     orb: u32,
@@ -222,13 +222,13 @@ fn push_append(
     ensures { OnOk result (out.new ≡ out.old ++ further (orb_fields initiator list orb ++ Field.digits cdb.now ∷ buffer_fields buffer.now)) }
 {
     push_orb(out, initiator, list, orb)?;
-    push_digits(out, cdb.as_slice())?;
+    out.push_digits(cdb.as_slice())?;
     push_buffer(alloc, out, buffer)
 }
 
 /// Adds the fields of a packet that was sent.
 fn push_sent(
-    out: &mut Bytes,
+    out: &mut LineWriter,
     serial: u64,
     generation: u32,
     from: u8,
@@ -237,17 +237,17 @@ fn push_sent(
 ) -> Result<(), NoMemory>
     ensures { OnOk result (out.new ≡ out.old ++ further (Field.number serial ∷ Field.number generation ∷ Field.node_name from ∷ Field.node_name to ∷ Field.digits bytes.now ∷ [])) }
 {
-    push_number(out, serial)?;
-    push_number(out, u64::from(generation))?;
+    out.push_number(serial)?;
+    out.push_number(u64::from(generation))?;
     push_node(out, from)?;
     push_node(out, to)?;
-    push_digits(out, bytes)
+    out.push_digits(bytes)
 }
 
 /// Adds the fields of a command that ran.
 fn push_ran(
     alloc: Global,
-    out: &mut Bytes,
+    out: &mut LineWriter,
     initiator: u8,
     list: Option<u32>,
     orb: Option<u32>,
@@ -266,7 +266,7 @@ fn push_ran(
 
 /// Adds the fields of an ORB that ended.
 fn push_ended(
-    out: &mut Bytes,
+    out: &mut LineWriter,
     initiator: u8,
     list: Option<u32>,
     orb: Option<u32>,
@@ -283,7 +283,7 @@ fn push_ended(
 #[tactic(auto, using(crate::proofs::LineWords::answer_status))]
 fn push_taken(
     alloc: Global,
-    out: &mut Bytes,
+    out: &mut LineWriter,
     initiator: u8,
     list: u32,
     orb: u32,
@@ -300,7 +300,7 @@ fn push_taken(
 
 /// Adds the fields of a management operation.
 fn push_managed(
-    out: &mut Bytes,
+    out: &mut LineWriter,
     initiator: u8,
     function: FunctionWord,
     subject: u16,
@@ -309,31 +309,31 @@ fn push_managed(
 ) -> Result<(), NoMemory>
     ensures { OnOk result (out.new ≡ out.old ++ further (Field.number initiator ∷ Field.name (function_word function) ∷ Field.number subject ∷ Field.digits (status ∷ []) ∷ login_fields login)) }
 {
-    push_number(out, u64::from(initiator))?;
-    push_name(out, function_text(function))?;
-    push_number(out, u64::from(subject))?;
-    push_digits(out, &[status])?;
+    out.push_number(u64::from(initiator))?;
+    out.push_name(function_text(function))?;
+    out.push_number(u64::from(subject))?;
+    out.push_digits(&[status])?;
     push_login(out, login)
 }
 
 /// Adds the fields of an operation that ended.
 fn push_op(
-    out: &mut Bytes,
+    out: &mut LineWriter,
     initiator: u8,
     operation: Operation,
     end: OpWord,
 ) -> Result<(), NoMemory>
     ensures { OnOk result (out.new ≡ out.old ++ further (Field.number initiator ∷ Field.name (operation_word operation) ∷ end_fields end)) }
 {
-    push_number(out, u64::from(initiator))?;
-    push_name(out, operation_text(operation))?;
+    out.push_number(u64::from(initiator))?;
+    out.push_name(operation_text(operation))?;
     push_end(out, end)
 }
 
 /// Adds a node and a generation.
-fn push_seen(out: &mut Bytes, node: u8, generation: u32) -> Result<(), NoMemory>
+fn push_seen(out: &mut LineWriter, node: u8, generation: u32) -> Result<(), NoMemory>
     ensures { OnOk result (out.new ≡ out.old ++ further (Field.node_name node ∷ Field.number generation ∷ [])) }
 {
     push_node(out, node)?;
-    push_number(out, u64::from(generation))
+    out.push_number(u64::from(generation))
 }

@@ -1,4 +1,5 @@
-ghost use Rattle.std.specs.Prelude.{◌≡◌, [], ◌∷◌, ◌++◌, OnOk, OnErr, MatchOption};
+ghost use Rattle.std.specs.Prelude.{◌≡◌, ◌<◌, [], ◌∷◌, ◌++◌, OnOk, OnErr, MatchOption};
+ghost use Rattle.std.specs.VecDeque.{deque_len, deque_capacity};
 
 use crate::side::Side;
 use async_packet::Label;
@@ -45,20 +46,28 @@ impl Outbox {
     }
 
     /// Adds a packet behind the others.
+    #[inline(always)]
     pub fn send(&mut self, packet: Outgoing) -> Result<(), NoMemory>
         ensures ok { OnOk result (self.new ≡ record self.old { packets = self.old.packets ++ packet ∷ [] }) }
         ensures err { OnErr result (self.new ≡ self.old) }
     {
-        self.packets.push_back(packet)?;
+        if self.packets.capacity() <= self.packets.len() {
+            grow(&mut self.packets)?;
+        }
+        self.packets.push_back_reserved(packet);
         Ok(())
     }
 
     /// Adds a side behind the others.
+    #[inline(always)]
     pub fn tell(&mut self, side: Side) -> Result<(), NoMemory>
         ensures ok { OnOk result (self.new ≡ record self.old { sides = self.old.sides ++ side ∷ [] }) }
         ensures err { OnErr result (self.new ≡ self.old) }
     {
-        self.sides.push_back(side)?;
+        if self.sides.capacity() <= self.sides.len() {
+            grow(&mut self.sides)?;
+        }
+        self.sides.push_back_reserved(side);
         Ok(())
     }
 
@@ -85,4 +94,15 @@ impl Outbox {
         self.packets.clear();
         self.sides.clear();
     }
+}
+
+/// Makes room for one more item.
+#[cold]
+#[inline(never)]
+fn grow<T>(items: &mut VecDeque<T>) -> Result<(), NoMemory>
+    ensures items { items.new.items ≡ items.old.items }
+    ensures room { OnOk result (deque_len items.new < deque_capacity items.new) }
+{
+    items.reserve(1)?;
+    Ok(())
 }

@@ -1,13 +1,15 @@
 ghost use Rattle.std.specs.Prelude.{◌≡◌, ◌++◌, OnOk, OnErr};
+ghost use Rattle.std.specs.List.{AllByRecursion};
 ghost use Rattle.sbp_journal.specs.Form.{HasForm};
-ghost use Rattle.sbp_journal.specs.Text.{note_text};
+ghost use Rattle.sbp_journal.specs.Text.{note_text, text_of};
 
 use crate::journal::Text;
-use crate::lines::{keyword, push_fields};
+use crate::lines::{push_fields, push_keyword};
 use crate::note::Note;
-use line_text::end_line;
+use line_text::LineWriter;
 use sbp_base::{Bytes, NoMemory};
 use std::alloc::Global;
+use std::mem::replace;
 
 /// Adds the line of a note, with its line feed. It is made whole before any of it is added, so that a
 /// note for which memory was wanting leaves no part of a line.
@@ -23,12 +25,45 @@ pub fn write_note(alloc: Global, note: &Note, out: &mut Text) -> Result<(), NoMe
 
 /// Adds the line of a note, with its line feed, to bytes, of which a part is added where memory was
 /// wanting.
-#[tactic(auto, using(crate::proofs::LineWords::line_is))]
 pub fn append_note(alloc: Global, note: &Note, out: &mut Bytes) -> Result<(), NoMemory>
     requires { HasForm note.now }
     ensures { OnOk result (out.new ≡ out.old ++ note_text note.now) }
 {
-    out.extend_from_slice(keyword(note).as_bytes())?;
+    let mut line = LineWriter::behind(replace(out, Bytes::new(alloc)));
+    let put = put_note(alloc, note, &mut line);
+    line.move_to(out)?;
+    put
+}
+
+/// Adds the lines of some notes to bytes, of which a part is added where memory was wanting.
+pub fn append_notes(alloc: Global, notes: &[Note], out: &mut Bytes) -> Result<(), NoMemory>
+    requires { AllByRecursion HasForm notes.now }
+    ensures { OnOk result (out.new ≡ out.old ++ text_of notes.now) }
+{
+    let mut lines = LineWriter::behind(replace(out, Bytes::new(alloc)));
+    let put = put_notes(alloc, notes, &mut lines);
+    lines.move_to(out)?;
+    put
+}
+
+/// Adds the lines of some notes.
+fn put_notes(alloc: Global, notes: &[Note], out: &mut LineWriter) -> Result<(), NoMemory>
+    requires { AllByRecursion HasForm notes.now }
+    ensures { OnOk result (out.new ≡ out.old ++ text_of notes.now) }
+{
+    for note in notes {
+        put_note(alloc, note, out)?;
+    }
+    Ok(())
+}
+
+/// Adds the line of a note, with its line feed.
+#[tactic(auto, using(crate::proofs::LineWords::line_is))]
+pub fn put_note(alloc: Global, note: &Note, out: &mut LineWriter) -> Result<(), NoMemory>
+    requires { HasForm note.now }
+    ensures { OnOk result (out.new ≡ out.old ++ note_text note.now) }
+{
+    push_keyword(note, out)?;
     push_fields(alloc, note, out)?;
-    end_line(out)
+    out.end_line()
 }

@@ -1,9 +1,7 @@
 ghost use Rattle.std.specs.Prelude.{◌≡◌, ◌+◌, ◌≤◌, ◌∷◌, ◌++◌, [], length, map, reverse, ℕ, List, Some, Ok, IfOk, OnOk};
-ghost use Rattle.std.specs.List.{AllByRecursion};
 ghost use Rattle.line_session.specs.Ends.{Ends};
 ghost use Rattle.line_session.specs.Outside.{outside};
 ghost use Rattle.rbc_disk.specs.Held.{Held, held};
-ghost use Rattle.sbp_journal.specs.Form.{HasForm};
 ghost use Rattle.sbp_journal.specs.Text.{text_of};
 ghost use Rattle.script_text.specs.Script.{initiators_after};
 ghost use Rattle.sbp_journal.specs.declared.event.Event as events;
@@ -19,7 +17,7 @@ use crate::script::read_event;
 use line_session::{LineError, Serve, Status, serve_lines};
 use rbc_disk::Medium;
 use sbp_base::{Bytes, NoMemory, Sink, Source};
-use sbp_journal::{Event, Note, append_note};
+use sbp_journal::{Event, append_notes};
 use sbp_world::World;
 use std::alloc::Global;
 use std::marker::Model;
@@ -43,17 +41,6 @@ impl Model for ScriptRunner {
     ghost view = { λ runner. record { initiators = runner.initiators; world = option_map (λ world. world.value) runner.world } };
 
     ghost invariant = { λ runner. runner.initiators ≤ 4 };
-}
-
-/// Adds the lines of some notes.
-fn append_notes(alloc: Global, notes: &[Note], out: &mut Bytes) -> Result<(), NoMemory>
-    requires { AllByRecursion HasForm notes.now }
-    ensures { OnOk result (out.new ≡ out.old ++ text_of notes.now) }
-{
-    for note in notes {
-        append_note(alloc, note, out)?;
-    }
-    Ok(())
 }
 
 /// Runs the event of a line in a world, and adds the text of its notes.

@@ -11,7 +11,7 @@ returns c =
     let note = c.args.note.now in
     let inside = c.self.inside in
     let seen = c.self.view_is in
-    let line = c.as_slice.ensures ∙ c.in_ok-append_note.ensures ∙ ap (λ o. o ++ note_text note) c.clear.ensures in
+    let line = c.in_ok-gather.ensures ∙ c.in_ok-put_note.ensures ∙ ap (λ o. o ++ note_text note) c.clear.ensures in
     λ before h.
     counted c.args.self.now _ before note
     (c.in-Some.ensures.1 ∙ ap (λ s. s.notes + 1) seen)

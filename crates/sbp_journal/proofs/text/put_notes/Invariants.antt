@@ -1,7 +1,7 @@
 -- The lines of the notes so far are added.
 use Rattle.std.proofs.Common.{◌≡◌, ◌++◌, take}
 use Rattle.sbp_journal.specs.Text.{text_of}
-use Rattle.script_runner.proofs.runner.append_notes.Given as goal
+use Rattle.sbp_journal.proofs.text.put_notes.Given as goal
 
 abbrev pub invariant-loop-note : goal.invariant-loop-note
 invariant-loop-note l = record {

@@ -1,0 +1,9 @@
+-- Four bytes are one more quadlet.
+use Rattle.std.proofs.Common.{◌∙◌, arith}
+use Rattle.drill_text.proofs.sums.PairSums.behind_few.Goals as goal
+
+pub loop-at-preserved : goal.loop-at-preserved
+loop-at-preserved c = record {
+  in_range = omega arith;
+  so_far = c.behind_quad_at-sum.ensures ∙ c.loop-at.invariant.so_far;
+}
