@@ -1,4 +1,4 @@
-use Rattle.std.specs.Prelude.{replicate, None}
+use Rattle.std.specs.Prelude.{replicate}
 use Rattle.std.proofs.Common.{◌∙◌, ap}
 use Rattle.sbp_bus.proofs.requests.Requests.new.Goals as goal
 
