@@ -101,7 +101,7 @@ removed_at slots before after s q k false e here named c =
 pub removed_here : (slots : List (Option Kept)) (before after : List (ℕ × Kept)) (s q : ℕ) (k : Kept) → slot slots (slot_of s) ≡ Some k → k.serial ≡ s → Changes before after s None → pick q (slot (slice_set slots (slot_of s) None) (slot_of q)) (older after q) ≡ cond (s == q) None (pick q (slot slots (slot_of q)) (older before q))
 removed_here slots before after s q k here named c = removed_at slots before after s q k (slot_of q == slot_of s) refl here named c
 
-pick_other : (s : ℕ) (x o : Option Kept) → is_of s x ≡ false → pick s x o ≡ o
+pub pick_other : (s : ℕ) (x o : Option Kept) → is_of s x ≡ false → pick s x o ≡ o
 pick_other s None o e = refl
 pick_other s (Some k) o e = rw e refl
 
@@ -190,3 +190,23 @@ pick_same s x o k e d = rw (e, d) refl
 
 pub pick_differs : (s : ℕ) (x o : Option Kept) (k : Kept) → x ≡ Some k → (k.serial == s) ≡ false → o ≡ pick s x o
 pick_differs s x o k e d = rw (e, d) refl
+
+-- ---- one of the older ones is forgotten
+pub forgotten : (before after : List (ℕ × Kept)) (s q : ℕ) → Changes before after s None → older after q ≡ cond (s == q) None (older before q)
+forgotten before after s q c = changed before after s q None c
+
+none_either : (b : Bool) (o : Option Kept) → o ≡ None → o ≡ cond b None o
+none_either true o e = e
+none_either false o e = refl
+
+pub none_older : (entries : List (ℕ × Kept)) (s q : ℕ) → length entries ≡ 0 → older entries q ≡ cond (s == q) None (older entries q)
+none_older [] s q e = none_either (s == q) (older [] q) refl
+none_older (entry ∷ entries) s q e = absurd (omega (arith, e))
+
+-- one that is not there is taken out
+gone_by : (f g : ℕ → Option Kept) (s q : ℕ) (b : Bool) → (s == q) ≡ b → f s ≡ None → g q ≡ cond b None (f q) → g q ≡ f q
+gone_by f g s q true e none h = h ∙ sym none ∙ ap f (equal_of s q e)
+gone_by f g s q false e none h = h
+
+pub gone_already : (f g : ℕ → Option Kept) (s : ℕ) → f s ≡ None → ((q : ℕ) → g q ≡ cond (s == q) None (f q)) → (q : ℕ) → g q ≡ f q
+gone_already f g s none h = λ q. gone_by f g s q (s == q) refl none (h q)

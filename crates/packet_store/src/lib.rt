@@ -10,6 +10,7 @@ mod role;
 mod row;
 mod sent;
 mod shelf;
+mod spares;
 mod store;
 mod tables;
 mod transaction;

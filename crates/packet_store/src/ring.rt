@@ -1,8 +1,8 @@
 ghost use Rattle.std.specs.Prelude.{◌≡◌, ℕ, ◌^◌, ◌<◌, ◌≤◌, ◌==◌, if◌then◌else◌, length, false, true, None, Some, OnOk, OnErr, IfSome, IfNone};
 ghost use Rattle.packet_store.specs.Kept.{in_air};
 ghost use Rattle.packet_store.specs.Flights.{IsNext};
-ghost use Rattle.std.specs.Option.{is_some, option_copied};
-ghost use Rattle.packet_store.specs.Rings.{slot_of, slot, is_of, holds, Placed, marked};
+ghost use Rattle.std.specs.Option.{option_copied};
+ghost use Rattle.packet_store.specs.Rings.{slot_of, slot, is_of, holds, older, Placed, marked};
 
 use crate::sent::Kept;
 use sbp_base::NoMemory;
@@ -102,16 +102,6 @@ impl Ring {
         }
     }
 
-    /// Whether there is a packet of a serial.
-    pub(crate) fn has(&self, serial: u64) -> bool
-        ensures { result ≡ is_some (holds self.now serial) }
-    {
-        match self.get(serial) {
-            Some(_) => true,
-            None => false,
-        }
-    }
-
     /// Whether the packet of a serial is in flight.
     pub(crate) fn is_flying(&self, serial: u64) -> bool
         ensures { result ≡ in_air (holds self.now serial) }
@@ -173,40 +163,54 @@ impl Ring {
         Ok(())
     }
 
+    /// Forgets the packet of a serial among the older ones, if there are any.
+    fn forget_older(&mut self, serial: u64)
+        ensures slots { self.new.slots ≡ self.old.slots }
+        ensures older { (q : ℕ) → older self.new.older.entries q ≡ (if serial == q then None else older self.old.older.entries q) }
+    {
+        if !self.older.is_empty() {
+            self.older.remove(&serial);
+        }
+    }
+
     /// Takes out a packet that is in its slot.
     #[tactic(auto, using(crate::proofs::Rings::of_range), unfolding(crate::specs::Rings::holds))]
-    fn remove_from_slot(&mut self, serial: u64)
+    fn take_from_slot(&mut self, serial: u64) -> Option<Kept>
         requires placed { Placed self.old.slots.items }
         requires here { is_of serial (slot self.old.slots.items (slot_of serial)) ≡ true }
+        ensures taken { result ≡ holds self.old serial }
         ensures removed { (q : ℕ) → holds self.new q ≡ (if serial == q then None else holds self.old q) }
         ensures placed { Placed self.new.slots.items }
     {
         let at = slot_of(serial);
-        self.slots[at] = None;
-        self.older.remove(&serial);
+        let kept = self.slots[at].take();
+        self.forget_older(serial);
+        kept
     }
 
     /// Takes out a packet that is not in its slot.
     #[tactic(auto, unfolding(crate::specs::Rings::holds))]
-    fn remove_older(&mut self, serial: u64)
+    fn take_older(&mut self, serial: u64) -> Option<Kept>
         requires placed { Placed self.old.slots.items }
         requires elsewhere { is_of serial (slot self.old.slots.items (slot_of serial)) ≡ false }
+        ensures taken { result ≡ holds self.old serial }
         ensures removed { (q : ℕ) → holds self.new q ≡ (if serial == q then None else holds self.old q) }
         ensures placed { Placed self.new.slots.items }
     {
-        self.older.remove(&serial);
+        self.older.remove(&serial)
     }
 
     /// Takes out the packet of a serial.
-    pub(crate) fn remove(&mut self, serial: u64)
+    pub(crate) fn take(&mut self, serial: u64) -> Option<Kept>
         requires { Placed self.old.slots.items }
+        ensures taken { result ≡ holds self.old serial }
         ensures removed { (q : ℕ) → holds self.new q ≡ (if serial == q then None else holds self.old q) }
         ensures placed { Placed self.new.slots.items }
     {
         if self.is_in_slot(serial) {
-            self.remove_from_slot(serial);
+            self.take_from_slot(serial)
         } else {
-            self.remove_older(serial);
+            self.take_older(serial)
         }
     }
 

@@ -50,7 +50,7 @@ fn is_place(cell: &Option<Place>, place: &Place) -> bool
 {
     match cell {
         Some(here) => {
-            is_same(&here.transaction, &place.transaction) && here.serial == place.serial
+            here.serial == place.serial && is_same(&here.transaction, &place.transaction)
         }
         None => false,
     }

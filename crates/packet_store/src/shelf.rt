@@ -7,7 +7,8 @@ ghost use Rattle.packet_store.specs.Stored.{newest};
 use crate::aloft::Flights;
 use crate::ring::Ring;
 use crate::sent::{Kept, Sent};
-use sbp_base::NoMemory;
+use crate::spares::Spares;
+use sbp_base::{Bytes, NoMemory};
 use std::alloc::Global;
 use std::marker::Model;
 
@@ -19,6 +20,7 @@ pub(crate) struct Shelf {
     last: u64,
     count: usize,
     flights: Flights,
+    spares: Spares,
 }
 
 impl Model for Shelf {
@@ -45,6 +47,7 @@ impl Shelf {
             last: 0,
             count: 0,
             flights: Flights::new(),
+            spares: Spares::new(alloc),
         }
     }
 
@@ -105,14 +108,21 @@ impl Shelf {
     pub(crate) fn remove(&mut self, serial: u64)
         ensures { self.new ≡ without serial self.old }
     {
-        if self.ring.has(serial) {
-            let flew = self.ring.is_flying(serial);
-            self.ring.remove(serial);
+        if let Some(kept) = self.ring.take(serial) {
             self.count -= 1;
+            let flew = kept.in_flight;
+            self.spares.put(kept.sent.bytes);
             if flew {
                 self.flights.land(&self.ring, serial, self.last);
             }
         }
+    }
+
+    /// Bytes of a packet that was taken out, if there are any, for their room.
+    pub(crate) fn take_spare(&mut self) -> Option<Bytes>
+        ensures { self.new ≡ self.old }
+    {
+        self.spares.take()
     }
 
     /// The packet of a serial becomes delivered.

@@ -7,7 +7,7 @@ use crate::role::role_of;
 use crate::sent::Sent;
 use crate::tables::Tables;
 use crate::transaction::{begun_by, transaction_of};
-use sbp_base::NoMemory;
+use sbp_base::{Bytes, NoMemory};
 use std::alloc::Global;
 use std::marker::Model;
 
@@ -110,6 +110,13 @@ impl Store {
     {
         self.tables.drop_packet(serial);
         self.calls += 1;
+    }
+
+    /// Bytes of a packet that is kept no more, if there are any: their room serves for other bytes.
+    pub fn take_spare(&mut self) -> Option<Bytes>
+        ensures { self.new ≡ self.old }
+    {
+        self.tables.shelf.take_spare()
     }
 
     /// How many packets are in flight.

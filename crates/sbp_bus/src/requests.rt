@@ -1,11 +1,10 @@
-ghost use Rattle.std.specs.Prelude.{◌≡◌, ◌+◌, ◌*◌, ◌<◌, ◌^◌, length, replicate, IfOk, OnOk};
+ghost use Rattle.std.specs.Prelude.{◌≡◌, ◌+◌, ◌*◌, ◌<◌, ◌^◌, length, nat_eq, position, replicate, None, IfOk, IfSome, OnOk};
 ghost use Rattle.sbp_bus.specs.Requests.{add_step, find, new_requests, place_of};
 
 use crate::generations::NODES;
 use async_packet::Label;
 use sbp_base::{NoMemory, NodeId};
 use std::alloc::Global;
-use std::collections::BTreeMap;
 use std::marker::Model;
 
 /// The labels of a transaction layer for a peer.
@@ -19,13 +18,13 @@ pub struct Request {
     pub label: Label,
 }
 
-/// The latest request of each node to each peer under each label, found by its serial: each request
-/// under way is one of them.
+/// The latest request of each node to each peer under each label, with its serial: each request under
+/// way is one of them. Both stand by node, peer and label.
 #[derive(Drop)]
 pub(crate) struct Requests {
-    /// By node, peer and label, the serial of the latest request; 0 where there was none.
+    /// The serials; 0 where there was no request.
     serials: Vec<u64>,
-    requests: BTreeMap<u64, Request>,
+    requests: Vec<Option<Request>>,
 }
 
 impl Model for Requests {
@@ -34,9 +33,9 @@ impl Model for Requests {
 
     ghost Value = { RequestsState };
 
-    ghost view = { λ a. record { serials = a.serials.items; requests = a.requests.entries } };
+    ghost view = { λ a. record { serials = a.serials.items; requests = a.requests.items } };
 
-    ghost invariant = { λ a. length a.serials.items ≡ 1600 };
+    ghost invariant = { λ a. (length a.serials.items ≡ 1600) × (length a.requests.items ≡ 1600) };
 }
 
 /// Where the serial of a node's request to a peer under a label stands.
@@ -49,12 +48,28 @@ fn place_of(node: u8, peer: u8, label: &Label) -> usize
     (usize::from(node) * NODES + usize::from(peer)) * LABELS + usize::from(label.number())
 }
 
+/// Where a serial stands first.
+fn place_with(serials: &[u64], serial: u64) -> Option<usize>
+    ensures place { result ≡ position (nat_eq serial) serials.now }
+    ensures below { IfSome result (λ place. place < length serials.now) }
+{
+    serials.iter().position(|other| serial == *other)
+}
+
 /// So many zeros.
 fn zeros(alloc: Global, count: usize) -> Result<Vec<u64>, NoMemory>
     ensures zeros { IfOk result (λ zeros. zeros.items ≡ replicate count 0) }
     ensures size { IfOk result (λ zeros. length zeros.items ≡ count) }
 {
     Ok(vec![in alloc; 0; count]?)
+}
+
+/// So many places without a request.
+fn no_requests(alloc: Global, count: usize) -> Result<Vec<Option<Request>>, NoMemory>
+    ensures none { IfOk result (λ requests. requests.items ≡ replicate count None) }
+    ensures size { IfOk result (λ requests. length requests.items ≡ count) }
+{
+    Ok(vec![in alloc; None; count]?)
 }
 
 impl Requests {
@@ -64,7 +79,7 @@ impl Requests {
     {
         Ok(Requests {
             serials: zeros(alloc, NODES * NODES * LABELS)?,
-            requests: BTreeMap::new(alloc),
+            requests: no_requests(alloc, NODES * NODES * LABELS)?,
         })
     }
 
@@ -72,7 +87,8 @@ impl Requests {
     pub(crate) fn find(&self, serial: u64) -> Option<Request>
         ensures { result ≡ find self.now serial }
     {
-        self.requests.get(&serial).copied()
+        let place = place_with(self.serials.as_slice(), serial)?;
+        self.requests[place]
     }
 
     /// Adds a request to a peer of this number, in the place of the one before it under its label.
@@ -83,9 +99,8 @@ impl Requests {
         ensures { OnOk result (self.new ≡ add_step serial peer request self.old) }
     {
         let place = place_of(request.node, peer, &request.label);
-        self.requests.remove(&self.serials[place]);
-        self.requests.insert(serial, request)?;
         self.serials[place] = serial;
+        self.requests[place] = Some(request);
         Ok(())
     }
 }

@@ -36,6 +36,21 @@ fn injected_to(generations: &Generations, from: u8, bytes: &[u8]) -> Option<u8>
 }
 
 impl Bus {
+    /// A copy of bytes, in the room of those of a packet that is kept no more where there are such.
+    fn copy(&mut self, bytes: &[u8]) -> Result<Bytes, NoMemory>
+        ensures copy { IfOk result (λ copy. copy ≡ bytes.now) }
+        ensures same { self.new ≡ self.old }
+    {
+        match self.store.take_spare() {
+            Some(mut copy) => {
+                copy.clear();
+                copy.extend_from_slice(bytes)?;
+                Ok(copy)
+            }
+            None => Bytes::from_slice(self.alloc, bytes),
+        }
+    }
+
     /// Puts a packet in flight, with the generation that its sender knows, and tells it; its serial. Want
     /// of memory is answered too where the store counts no further call.
     fn post(&mut self, from: u8, to: u8, injected: bool, bytes: Bytes) -> Result<u64, NoMemory>
@@ -48,7 +63,7 @@ impl Bus {
             return Err(NoMemory);
         }
         let generation = self.generations.generation_of(from);
-        let copy = Bytes::from_slice(self.alloc, bytes.as_slice())?;
+        let copy = self.copy(bytes.as_slice())?;
         let serial = self.store.send(Sent {
             generation,
             from,

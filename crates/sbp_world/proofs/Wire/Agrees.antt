@@ -40,7 +40,8 @@ pub reset_knows : {requests : RequestsState} {nodes : ℕ} → (t : Terms) (ids 
 reset_knows t ids bus later before k = record {
   ours = k.ours;
   size = k.size;
-  rise = k.rise;
+  room = k.room;
+  blank = k.blank;
   below = k.below;
   apart = k.apart;
   latest = λ s request e.

@@ -1,130 +1,28 @@
 -- A request that leaves is found by its serial, and is the present one of its transaction; the one before it is found no more.
-use Rattle.std.specs.Prelude.{◌≡◌, ◌≤◌, ◌<◌, ℕ, suc, ◌+◌, nat_eq, Bool, true, false, cond, List, [], ◌∷◌, slice_index_or, Option, Some, None, refl}
-use Rattle.std.specs.BTreeMap.{insert_entry, is_at}
-use Rattle.std.specs.Map.{lookup}
-use Rattle.std.specs.Cmp.{nat_cmp_is, unsigned_ties}
-use Rattle.std.specs.Ordering.{match_ordering, nat_cmp}
-use Rattle.std.specs.declared.cmp.Ordering.TheVariants.{Greater}
+use Rattle.std.specs.Prelude.{◌≡◌, ◌≤◌, ◌<◌, ℕ, ◌+◌, nat_eq, nat_lt, Bool, true, false, cond, length, position, slice_index_or, Option, Some, None, zero, suc, refl}
+use Rattle.std.specs.List.{position_or_len}
 use Rattle.std.proofs.Common.{arith, sym, ◌∙◌, ap, subst}
+use Rattle.std.proofs.lemmas.Bool.Decides.{nat_tests}
 use Rattle.std.proofs.lemmas.Grind.{get_or-set_at}
 use Rattle.std.proofs.lemmas.List.{get_or-set_other, length-set}
+use Rattle.std.proofs.lemmas.List.Quantifiers.{position-Some}
+use Rattle.std.proofs.lemmas.List.Sums.{position_or_len_is}
 use Rattle.sbp_base.specs.Update.{upd}
 use Rattle.async_packet.specs.Labels.{LabelParts}
 use Rattle.bus_transactions.specs.Wire.{transaction}
 use Rattle.bus_transactions.proofs.PacketParts.{same_is, same_refl}
 use Rattle.sbp_journal.specs.Transactions.{Sending, Transaction, at, is_same}
 use Rattle.sbp_bus.specs.declared.requests.Request.{Request}
-use Rattle.sbp_bus.specs.Requests.{RequestsState, add_step, find, place_of, serial_at, without}
+use Rattle.sbp_bus.specs.Requests.{RequestsState, add_step, find, place_of, request_at, serial_at}
 use Rattle.sbp_bus.specs.Sending.{request_of}
-use Rattle.sbp_world.specs.Wire.Knows.{IsEntered, IsLatest, IsOurs, KnowsBy, Rise}
+use Rattle.sbp_world.specs.Wire.Knows.{IsEntered, IsLatest, IsOurs, KnowsBy}
 
--- ---- keys
-at_key : (s k : ℕ) → is_at (nat_cmp s) k ≡ nat_eq s k
-at_key s k = sym (unsigned_ties s k)
-
-greater : (n k : ℕ) → k < n → nat_cmp n k ≡ Greater
-greater n k l = sym (nat_cmp_is n k Greater l)
-
-abbrev Entries : Type 0
-Entries = List (ℕ × Request)
-
-abbrev at_serial : ℕ → Entries → Option Request
-at_serial s es = lookup (is_at (nat_cmp s)) es
-
-rise_from : (low from below : ℕ) (es : Entries) → low ≤ from → Rise from below es → Rise low below es
-rise_from low from below [] l r = tt
-rise_from low from below (e ∷ es) l r = let x = r.0 in (omega arith, r.1, r.2)
-
-none_below : (k below : ℕ) (es : Entries) (from : ℕ) → k < from → Rise from below es → at_serial k es ≡ None
-none_below k below [] from l r = refl
-none_below k below (e ∷ es) from l r =
-    let x = r.0 in
-    ap (λ b. cond b (Some e.1) (at_serial k es)) (at_key k e.0 ∙ (let y : nat_eq k e.0 ≡ false = apart k e.0 (omega arith) in y))
-    ∙ none_below k below es (suc e.0) (omega arith) r.2
-  where
-    apart : (a b : ℕ) → a < b → nat_eq a b ≡ false
-    apart a b l = grind arith
-
--- ---- one is taken away
-rise_less : (s from below : ℕ) (es : Entries) → Rise from below es → Rise from below (without s es)
-rise_less s from below [] r = tt
-rise_less s from below (e ∷ es) r = by_test (is_at (nat_cmp s) e.0) (rise_less s (suc e.0) below es r.2)
-  where
-    by_test : (b : Bool) → Rise (suc e.0) below (without s es) → Rise from below (cond b es (e ∷ without s es))
-    by_test true later = let x = r.0 in rise_from from (suc e.0) below es (omega arith) r.2
-    by_test false later = (r.0, r.1, later)
-
-pub record StillFound (old s : ℕ) (es : Entries) (request : Request) : Type 0 where
-  pub other : s ≡ old → ⊥
-  pub found : at_serial s es ≡ Some request
-
-found_less : (old s from below : ℕ) (es : Entries) (request : Request) → Rise from below es → at_serial s (without old es) ≡ Some request → StillFound old s es request
-found_less old s from below [] request r e = cc
-found_less old s from below (one ∷ es) request r e = by_test (nat_eq old one.0) (nat_eq s one.0) refl refl (λ x. found_less old s (suc one.0) below es request r.2 x) (subst (λ b. at_serial s (cond b es (one ∷ without old es)) ≡ Some request) (at_key old one.0) e)
-  where
-    none_some : None ≡ Some request → ⊥
-    none_some e = cc
-
-    here : (b : Bool) (o : Option Request) → b ≡ false → o ≡ Some request → cond b (Some one.1) o ≡ Some request
-    here true o f e = cc
-    here false o f e = e
-
-    by_test : (a b : Bool) → nat_eq old one.0 ≡ a → nat_eq s one.0 ≡ b → (at_serial s (without old es) ≡ Some request → StillFound old s es request) → at_serial s (cond a es (one ∷ without old es)) ≡ Some request → StillFound old s (one ∷ es) request
-    by_test true true f g later e =
-        let x : s ≡ one.0 = grind arith in
-        absurd (none_some (sym (none_below s below es (suc one.0) (omega arith) r.2) ∙ e))
-    by_test true false f g later e = record {
-      other = λ x. let y : nat_eq s one.0 ≡ true = ap (λ z. nat_eq z one.0) x ∙ f in cc;
-      found = here (is_at (nat_cmp s) one.0) (at_serial s es) (at_key s one.0 ∙ g) e;
-    }
-    by_test false true f g later e = record {
-      other = λ x. let y : nat_eq s one.0 ≡ false = ap (λ z. nat_eq z one.0) x ∙ f in cc;
-      found = ap (λ b. cond b (Some one.1) (at_serial s es)) (at_key s one.0 ∙ g)
-          ∙ sym (ap (λ b. cond b (Some one.1) (at_serial s (without old es))) (at_key s one.0 ∙ g)) ∙ e;
-    }
-    by_test false false f g later e =
-        let l = later (sym (ap (λ b. cond b (Some one.1) (at_serial s (without old es))) (at_key s one.0 ∙ g)) ∙ e) in
-        record { other = l.other; found = here (is_at (nat_cmp s) one.0) (at_serial s es) (at_key s one.0 ∙ g) l.found }
-
--- ---- one is added, with the highest serial
-put_behind : (n : ℕ) (request : Request) (e : ℕ × Request) (es : Entries) → e.0 < n → insert_entry nat_cmp (e ∷ es) n request ≡ e ∷ insert_entry nat_cmp es n request
-put_behind n request e es l =
-    ap (λ o. match_ordering o ((n, request) ∷ e ∷ es) ((e.0, request) ∷ es) (e ∷ insert_entry nat_cmp es n request)) (greater n e.0 l)
-
-rise_more : (n from : ℕ) (request : Request) (es : Entries) → from ≤ n → Rise from n es → Rise from (n + 1) (insert_entry nat_cmp es n request)
-rise_more n from request [] l r = (l, omega arith, tt)
-rise_more n from request (e ∷ es) l r =
-    let x = r.0 in
-    let y = r.1 in
-    subst (Rise from (n + 1)) (sym (put_behind n request e es y)) (x, omega arith, rise_more n (suc e.0) request es (omega arith) r.2)
-
-pub data NewOrOld (n s : ℕ) (request other : Request) (es : Entries) : Type 0 where
-  is_new : s ≡ n → request ≡ other → NewOrOld n s request other es
-  is_old : at_serial s es ≡ Some other → NewOrOld n s request other es
-
-found_more : (n from s : ℕ) (request other : Request) (es : Entries) → Rise from n es → at_serial s (insert_entry nat_cmp es n request) ≡ Some other → NewOrOld n s request other es
-found_more n from s request other [] r e = by_test (nat_eq s n) refl (subst (λ b. cond b (Some request) None ≡ Some other) (at_key s n) e)
-  where
-    by_test : (b : Bool) → nat_eq s n ≡ b → cond b (Some request) None ≡ Some other → NewOrOld n s request other []
-    by_test true f e = is_new (grind arith) cc
-    by_test false f e = cc
-found_more n from s request other (one ∷ es) r e =
-    by_test (is_at (nat_cmp s) one.0) refl (λ x. found_more n (suc one.0) s request other es r.2 x) (subst (λ x. at_serial s x ≡ Some other) (put_behind n request one es r.1) e)
-  where
-    later : is_at (nat_cmp s) one.0 ≡ false → NewOrOld n s request other es → NewOrOld n s request other (one ∷ es)
-    later f (is_new x y) = is_new x y
-    later f (is_old x) = is_old (ap (λ b. cond b (Some one.1) (at_serial s es)) f ∙ x)
-
-    by_test : (b : Bool) → is_at (nat_cmp s) one.0 ≡ b → (at_serial s (insert_entry nat_cmp es n request) ≡ Some other → NewOrOld n s request other es) → cond b (Some one.1) (at_serial s (insert_entry nat_cmp es n request)) ≡ Some other → NewOrOld n s request other (one ∷ es)
-    by_test true f behind e = is_old (ap (λ b. cond b (Some one.1) (at_serial s es)) f ∙ e)
-    by_test false f behind e = later f (behind e)
-
--- what is found after that
-apart_by : (a b : ℕ) → a < b → nat_eq a b ≡ false
-apart_by a b l = grind arith
-
+-- ---- numbers
 equal_by : (a b : ℕ) → nat_eq a b ≡ true → a ≡ b
 equal_by a b e = grind arith
+
+same_by : (a b : ℕ) → a ≡ b → nat_eq a b ≡ true
+same_by a b e = grind arith
 
 differ_by : (a b : ℕ) → nat_eq a b ≡ false → a ≡ b → ⊥
 differ_by a b e f = let x : nat_eq a b ≡ true = grind arith in cc
@@ -136,32 +34,36 @@ other_by a b differs = by_test (nat_eq a b) refl
     by_test true e = absurd (differs (equal_by a b e))
     by_test false e = e
 
-still_there : (old s : ℕ) (es : Entries) → nat_eq s old ≡ false → at_serial s (without old es) ≡ at_serial s es
-still_there old s [] d = refl
-still_there old s (one ∷ es) d = by_test (nat_eq old one.0) refl (still_there old s es d)
-  where
-    by_test : (b : Bool) → nat_eq old one.0 ≡ b → at_serial s (without old es) ≡ at_serial s es → at_serial s (without old (one ∷ es)) ≡ at_serial s (one ∷ es)
-    by_test true e later =
-        let same : old ≡ one.0 = equal_by old one.0 e in
-        ap (λ b. at_serial s (cond b es (one ∷ without old es))) (at_key old one.0 ∙ e)
-        ∙ sym (ap (λ b. cond b (Some one.1) (at_serial s es)) (at_key s one.0 ∙ ap (nat_eq s) (sym same) ∙ d))
-    by_test false e later =
-        ap (λ b. at_serial s (cond b es (one ∷ without old es))) (at_key old one.0 ∙ e)
-        ∙ ap (λ o. cond (is_at (nat_cmp s) one.0) (Some one.1) o) later
+below_by : (a b : ℕ) → a < b → nat_lt a b ≡ true
+below_by a b l = grind (arith, nat_tests)
 
-still_put : (n from s : ℕ) (request : Request) (es : Entries) → Rise from n es → nat_eq s n ≡ false → at_serial s (insert_entry nat_cmp es n request) ≡ at_serial s es
-still_put n from s request [] r d = ap (λ b. cond b (Some request) None) (at_key s n ∙ d)
-still_put n from s request (one ∷ es) r d =
-    ap (at_serial s) (put_behind n request one es r.1)
-    ∙ ap (λ o. cond (is_at (nat_cmp s) one.0) (Some one.1) o) (still_put n (suc one.0) s request es r.2 d)
+none_some : {request : Request} → None ≡ Some request → ⊥
+none_some e = cc
 
-found_new : (n from : ℕ) (request : Request) (es : Entries) → Rise from n es → at_serial n (insert_entry nat_cmp es n request) ≡ Some request
-found_new n from request [] r = ap (λ b. cond b (Some request) None) (at_key n n ∙ (let e : nat_eq n n ≡ true = grind arith in e))
-found_new n from request (one ∷ es) r =
-    let l = r.1 in
-    ap (at_serial n) (put_behind n request one es l)
-    ∙ ap (λ b. cond b (Some one.1) (at_serial n (insert_entry nat_cmp es n request))) (at_key n one.0 ∙ other_by n one.0 (λ e. absurd (omega (arith, e))))
-    ∙ found_new n (suc one.0) request es r.2
+-- ---- where a request stands that is found
+pub record StandsIn (requests : RequestsState) (s : ℕ) (request : Request) : Type 0 where
+  pub place : ℕ
+  pub inside : place < length requests.serials
+  pub serial : slice_index_or requests.serials place 0 ≡ s
+  pub there : slice_index_or requests.requests place None ≡ Some request
+
+stands_by : (requests : RequestsState) (s : ℕ) (request : Request) (o : Option ℕ) → position (nat_eq s) requests.serials ≡ o → request_at requests o ≡ Some request → StandsIn requests s request
+stands_by requests s request None e f = cc
+stands_by requests s request (Some place) e f =
+    let p = position-Some (nat_eq s) requests.serials place 0 e in
+    record { place = place; inside = p.0; serial = sym (equal_by s (slice_index_or requests.serials place 0) p.1); there = f }
+
+stands : (requests : RequestsState) (s : ℕ) (request : Request) → find requests s ≡ Some request → StandsIn requests s request
+stands requests s request e = stands_by requests s request (position (nat_eq s) requests.serials) refl e
+
+-- what is found by a serial that stands at one place alone
+found_at : (requests : RequestsState) (place : ℕ) → place < length requests.serials → ((k : ℕ) → k < place → slice_index_or requests.serials place 0 ≡ slice_index_or requests.serials k 0 → ⊥) → find requests (slice_index_or requests.serials place 0) ≡ slice_index_or requests.requests place None
+found_at requests place inside apart =
+    let s = slice_index_or requests.serials place 0 in
+    let here : position_or_len (nat_eq s) requests.serials ≡ place =
+    position_or_len_is (nat_eq s) requests.serials place 0 (omega arith) (λ k l. other_by s (slice_index_or requests.serials k 0) (apart k l)) (λ l. same_by s s refl) in
+    ap (request_at requests)
+    (ap (λ n. cond (nat_lt n (length requests.serials)) (Some n) None) here ∙ ap (λ b. cond b (Some place) None) (below_by place (length requests.serials) inside))
 
 -- ---- a request of a node to another under a label
 place_same : (requests : RequestsState) (u v : Transaction) → u ≡ v → serial_at requests u.requester u.responder u.label ≡ serial_at requests v.requester v.responder v.label
@@ -226,19 +128,6 @@ module _ {requests : RequestsState} {nodes : ℕ} {ids : ℕ → ℕ → ℕ} {s
   ours_now o s q true e = subst (IsOurs nodes) (let x : packet ≡ q = cc in x) o
   ours_now o s q false e = k.ours s q e
 
-  latest_now : (0 < from → to ≡ 0) → label.generation ≤ bus → id ≡ ids label.generation to → (s : ℕ) (other : Request) → find with_new s ≡ Some other → IsLatest with_new ids (at current now_present (count + 1)) bus s other
-  unfolding add_step
-  latest_now aimed past peer_is s other e =
-      by_case (found_more (count + 1) 0 s new_request other (without old_serial requests.requests) (rise_less old_serial 0 (count + 1) requests.requests k.rise) e)
-    where
-      by_case : NewOrOld (count + 1) s new_request other (without old_serial requests.requests) → IsLatest with_new ids (at current now_present (count + 1)) bus s other
-      by_case (is_new x y) =
-          subst (λ n. IsLatest with_new ids (at current now_present (count + 1)) bus n other) (sym x)
-          (subst (IsLatest with_new ids (at current now_present (count + 1)) bus (count + 1)) y (new_latest aimed past peer_is))
-      by_case (is_old x) =
-          let f = found_less old_serial s 0 (count + 1) requests.requests other k.rise x in
-          other_latest s other f.other (k.latest s other f.found)
-
   -- serials stay below the next one, and apart
   other_place : (place : ℕ) → (place ≡ place_of from to label.number → ⊥) → slice_index_or with_new.serials place 0 ≡ slice_index_or requests.serials place 0
   unfolding add_step
@@ -250,6 +139,70 @@ module _ {requests : RequestsState} {nodes : ℕ} {ids : ℕ → ℕ → ℕ} {s
       let size = k.size in
       let small = small_place from to label.number from_small to_small number_small in
       get_or-set_at requests.serials (place_of from to label.number) (place_of from to label.number) (count + 1) 0 refl (omega arith)
+
+  same_length : length with_new.serials ≡ length requests.serials
+  unfolding add_step
+  same_length = length-set requests.serials (place_of from to label.number) (count + 1)
+
+  -- a request stands beside a serial that was given
+  positive : (place : ℕ) (other : Request) → slice_index_or requests.requests place None ≡ Some other → 0 < slice_index_or requests.serials place 0
+  positive place other there = by_serial (slice_index_or requests.serials place 0) refl
+    where
+      by_serial : (n : ℕ) → slice_index_or requests.serials place 0 ≡ n → 0 < slice_index_or requests.serials place 0
+      by_serial zero e = absurd (none_some (sym (k.blank place e) ∙ there))
+      by_serial (suc n) e = omega (arith, e)
+
+  -- what stands at another place, and at the new one
+  other_request : (place : ℕ) → (place ≡ place_of from to label.number → ⊥) → slice_index_or with_new.requests place None ≡ slice_index_or requests.requests place None
+  unfolding add_step
+  other_request place differs = get_or-set_other requests.requests (place_of from to label.number) place (Some new_request) None differs
+
+  own_request : slice_index_or with_new.requests (place_of from to label.number) None ≡ Some new_request
+  unfolding add_step
+  own_request =
+      let size = k.room in
+      let small = small_place from to label.number from_small to_small number_small in
+      get_or-set_at requests.requests (place_of from to label.number) (place_of from to label.number) (Some new_request) None refl (omega arith)
+
+  blank_now : (place : ℕ) → slice_index_or with_new.serials place 0 ≡ 0 → slice_index_or with_new.requests place None ≡ None
+  blank_now place z = by_test (nat_eq place (place_of from to label.number)) refl
+    where
+      by_test : (b : Bool) → nat_eq place (place_of from to label.number) ≡ b → slice_index_or with_new.requests place None ≡ None
+      by_test true e =
+          let o = own_place in
+          let zero : slice_index_or with_new.serials (place_of from to label.number) 0 ≡ 0 = subst (λ x. slice_index_or with_new.serials x 0 ≡ 0) (equal_by place (place_of from to label.number) e) z in
+          absurd (omega (arith, o, zero))
+      by_test false e =
+          let d = differ_by place (place_of from to label.number) e in
+          other_request place d ∙ k.blank place (sym (other_place place d) ∙ z)
+
+  -- a request that stood before is found
+  found_before : (place s : ℕ) (other : Request) → place < length requests.serials → slice_index_or requests.serials place 0 ≡ s → slice_index_or requests.requests place None ≡ Some other → find requests s ≡ Some other
+  found_before place s other inside is there =
+      subst (λ n. find requests n ≡ Some other) is
+      (found_at requests place inside (λ j l e. let x : place ≡ j = k.apart place j (positive place other there) e in omega (arith, x, l)) ∙ there)
+
+  latest_now : (0 < from → to ≡ 0) → label.generation ≤ bus → id ≡ ids label.generation to → (s : ℕ) (other : Request) → find with_new s ≡ Some other → IsLatest with_new ids (at current now_present (count + 1)) bus s other
+  latest_now aimed past peer_is s other e = by_place (stands with_new s other e)
+    where
+      by_place : StandsIn with_new s other → IsLatest with_new ids (at current now_present (count + 1)) bus s other
+      by_place st = by_test (nat_eq st.place (place_of from to label.number)) refl
+        where
+          by_test : (b : Bool) → nat_eq st.place (place_of from to label.number) ≡ b → IsLatest with_new ids (at current now_present (count + 1)) bus s other
+          by_test true e =
+              let here = equal_by st.place (place_of from to label.number) e in
+              let is : count + 1 ≡ s = sym own_place ∙ ap (λ x. slice_index_or with_new.serials x 0) (sym here) ∙ st.serial in
+              let what : Some new_request ≡ Some other = sym own_request ∙ ap (λ x. slice_index_or with_new.requests x None) (sym here) ∙ st.there in
+              let same : new_request ≡ other = cc in
+              subst (λ n. IsLatest with_new ids (at current now_present (count + 1)) bus n other) is
+              (subst (IsLatest with_new ids (at current now_present (count + 1)) bus (count + 1)) same (new_latest aimed past peer_is))
+          by_test false e =
+              let d = differ_by st.place (place_of from to label.number) e in
+              let is : slice_index_or requests.serials st.place 0 ≡ s = sym (other_place st.place d) ∙ st.serial in
+              let there : slice_index_or requests.requests st.place None ≡ Some other = sym (other_request st.place d) ∙ st.there in
+              let inside : st.place < length requests.serials = subst (λ n. st.place < n) same_length st.inside in
+              let found = found_before st.place s other inside is there in
+              other_latest s other (λ x. d (k.apart st.place (place_of from to label.number) (positive st.place other there) (is ∙ x))) (k.latest s other found)
 
   below_now : (place : ℕ) → slice_index_or with_new.serials place 0 ≤ count + 1
   below_now place = by_test (nat_eq place (place_of from to label.number)) refl
@@ -281,48 +234,45 @@ module _ {requests : RequestsState} {nodes : ℕ} {ids : ℕ → ℕ → ℕ} {s
   asked_knows o aimed past peer_is = record {
     ours = λ s q e. ours_now o s q (nat_eq s (count + 1)) e;
     size = length-set requests.serials (place_of from to label.number) (count + 1) ∙ k.size;
-    rise = rise_more (count + 1) 0 new_request (without old_serial requests.requests) (omega arith) (rise_less old_serial 0 (count + 1) requests.requests k.rise);
+    room = length-set requests.requests (place_of from to label.number) (Some new_request) ∙ k.room;
+    blank = blank_now;
     below = below_now;
     apart = apart_now;
     latest = latest_now aimed past peer_is;
   }
 
   -- the new request is found, and so are the others but the one that it replaces
+  found_now : (place : ℕ) → place < length requests.serials → 0 < slice_index_or with_new.serials place 0 → find with_new (slice_index_or with_new.serials place 0) ≡ slice_index_or with_new.requests place None
+  found_now place inside written =
+      found_at with_new place (subst (λ n. place < n) (sym same_length) inside) (λ j l e. let x : place ≡ j = apart_now place j written e in omega (arith, x, l))
+
   pub new_entered : IsEntered with_new from to label.number new_request
-  unfolding add_step
   new_entered =
       let here : serial_at with_new from to label.number ≡ count + 1 = own_place in
-      record {
-        written = omega (arith, here);
-        found = ap (find with_new) here ∙ found_new (count + 1) 0 new_request (without old_serial requests.requests) (rise_less old_serial 0 (count + 1) requests.requests k.rise);
-      }
+      let written : 0 < serial_at with_new from to label.number = omega (arith, here) in
+      let size = k.size in
+      let small = small_place from to label.number from_small to_small number_small in
+      record { written = written; found = found_now (place_of from to label.number) (omega arith) written ∙ own_request }
 
   pub still_entered : (node peer number : ℕ) (request : Request) → (place_of node peer number ≡ place_of from to label.number → ⊥) → IsEntered requests node peer number request → IsEntered with_new node peer number request
-  unfolding add_step
   still_entered node peer number request differs e =
-      let s = serial_at requests node peer number in
-      let same = other_place (place_of node peer number) differs in
-      let b = k.below (place_of node peer number) in
-      let new : nat_eq s (count + 1) ≡ false = apart_by s (count + 1) (omega arith) in
-      let old : nat_eq s old_serial ≡ false = other_by s old_serial (λ x. differs (k.apart (place_of node peer number) (place_of from to label.number) e.written x)) in
+      let place = place_of node peer number in
+      let st = stands requests (serial_at requests node peer number) request e.found in
+      let here : place ≡ st.place = k.apart place st.place e.written (sym st.serial) in
+      let there : slice_index_or requests.requests place None ≡ Some request = ap (λ x. slice_index_or requests.requests x None) here ∙ st.there in
+      let written : 0 < serial_at with_new node peer number = subst (λ x. 0 < x) (sym (other_place place differs)) e.written in
       record {
-        written = subst (λ x. 0 < x) (sym same) e.written;
-        found = ap (find with_new) same
-            ∙ still_put (count + 1) 0 s new_request (without old_serial requests.requests) (rise_less old_serial 0 (count + 1) requests.requests k.rise) new
-            ∙ still_there old_serial s requests.requests old
-            ∙ e.found;
+        written = written;
+        found = found_now place (subst (λ x. x < length requests.serials) (sym here) st.inside) written ∙ other_request place differs ∙ there;
       }
 
 -- a packet that is no request of a node's own leaves the requests as they are
-rise_on : (below from : ℕ) (es : Entries) → Rise from below es → Rise from (below + 1) es
-rise_on below from [] r = tt
-rise_on below from (e ∷ es) r = let x = r.1 in (r.0, omega arith, rise_on below (suc e.0) es r.2)
-
 pub other_knows : {requests : RequestsState} {nodes : ℕ} {ids : ℕ → ℕ → ℕ} {sent : ℕ → Option Sending} {current : Transaction → ℕ} {bus count : ℕ} → KnowsBy requests nodes ids sent current bus count → (packet : Sending) → IsOurs nodes packet → KnowsBy requests nodes ids (upd sent (count + 1) (Some packet)) current bus (count + 1)
 other_knows {nodes = nodes} {sent = sent} {count = count} k packet o = record {
   ours = λ s q e. by_test s q (nat_eq s (count + 1)) e;
   size = k.size;
-  rise = rise_on (count + 1) 0 _ k.rise;
+  room = k.room;
+  blank = k.blank;
   below = λ place. let l = k.below place in omega arith;
   apart = k.apart;
   latest = k.latest;

@@ -1,5 +1,5 @@
 -- The world at the start, and what the laws of the wire say of a history.
-use Rattle.std.specs.Prelude.{◌≡◌, ◌≤◌, ◌<◌, ℕ, zero, suc, ◌+◌, ◌%◌, nat_eq, Bool, true, false, List, [], ◌∷◌, ◌++◌, length, replicate, slice_index_or, refl, map}
+use Rattle.std.specs.Prelude.{◌≡◌, ◌≤◌, ◌<◌, ℕ, zero, suc, ◌+◌, ◌%◌, nat_eq, Bool, true, false, List, [], ◌∷◌, ◌++◌, length, position, replicate, slice_index_or, Option, Some, None, refl, map}
 use Rattle.std.proofs.Common.{arith, sym, ◌∙◌, ap, subst}
 use Rattle.std.proofs.lemmas.List.{get_or_append_left, get_or-replicate, length-replicate}
 use Rattle.std.proofs.Math.Seq.{get_or-append_seam}
@@ -27,6 +27,8 @@ use Rattle.sbp_initiator.specs.declared.state.InitiatorState.{InitiatorState}
 use Rattle.sbp_initiator.specs.Initiators.{new_state}
 use Rattle.sbp_bus.specs.declared.generations.Topology.{Topology}
 use Rattle.sbp_bus.specs.Generations.{first_ids, first_topology, id_of, local_node, no_topology}
+use Rattle.sbp_bus.specs.declared.requests.Request.{Request}
+use Rattle.sbp_bus.specs.Requests.{new_requests, request_at}
 use Rattle.sbp_world.specs.Making.{new_initiators, new_world, notes_begin}
 use Rattle.sbp_bus.proofs.Making.{ids_size}
 use Rattle.sbp_world.proofs.Making.{initiators_size}
@@ -99,6 +101,13 @@ first_below count place = let z : slice_index_or {A = ℕ} (replicate 1600 0) pl
 first_apart : (one two : ℕ) → 0 < slice_index_or {A = ℕ} (replicate 1600 0) one 0 → slice_index_or {A = ℕ} (replicate 1600 0) one 0 ≡ slice_index_or {A = ℕ} (replicate 1600 0) two 0 → one ≡ two
 first_apart one two l e = let z : slice_index_or {A = ℕ} (replicate 1600 0) one 0 ≡ 0 = default_in 1600 one 0 in absurd (omega (arith, z, l))
 
+first_blank : (place : ℕ) → slice_index_or {A = Option Request} (replicate 1600 None) place None ≡ None
+first_blank place = default_in {A = Option Request} 1600 place None
+
+first_lacks : (o : Option ℕ) (request : Request) → request_at new_requests o ≡ Some request → ⊥
+first_lacks None request e = cc
+first_lacks (Some place) request e = let z = first_blank place in cc
+
 none_waits : (kind : ReplyKind) (call : ℕ) → states.Free ≡ states.UnderWay kind call → ⊥
 none_waits kind call e = cc
 
@@ -126,7 +135,7 @@ begins line initiators ready units few =
         sizes = λ k l. ap (λ (t : Topology). length t.ids) (known k l) ∙ ids_size nodes ∙ omega arith;
         sights = λ k l. ap (λ (t : Topology). t.generation) (sym (known k l));
         known_ids = λ k peer l m. ids peer m ∙ ap (λ (t : Topology). id_of t peer) (sym (known k l));
-        knows = record { ours = λ s q e. cc; size = length-replicate {A = ℕ} 1600 0; rise = tt; below = first_below 0; apart = first_apart; latest = λ s request e. cc };
+        knows = record { ours = λ s q e. cc; size = length-replicate {A = ℕ} 1600 0; room = length-replicate {A = Option Request} 1600 None; below = first_below 0; apart = first_apart; blank = λ place e. first_blank place; latest = λ s request e. absurd (first_lacks (position (nat_eq s) new_requests.serials) request e) };
         entered = record { entry = λ node peer number kind call l m s e. absurd (none_waits kind call (sym (new_looked (λ (place : Place). place.state) states.Free refl (local_id peer) number) ∙ e)) };
         fair = refl;
       };

@@ -1,7 +1,7 @@
 -- What the history tells of the packets and the requests of a world: each packet that was sent is from one of its nodes to one of them, and has bytes; and
 -- each request that the world finds by its serial is the present one of its transaction, with the node whose ID its sender asked. An
 -- initiator asks the target alone. And the request of each transaction that waits at a node's layer is found, with the handle that the layer takes.
-use Rattle.std.specs.Prelude.{◌≡◌, ◌≤◌, ◌<◌, ℕ, ◌+◌, suc, List, [], ◌∷◌, length, slice_index_or, Option, Some}
+use Rattle.std.specs.Prelude.{◌≡◌, ◌≤◌, ◌<◌, ℕ, length, slice_index_or, Option, Some, None}
 use Rattle.sbp_journal.specs.Transactions.{Sending, Transaction}
 use Rattle.sbp_journal.specs.Wire.{Terms}
 use Rattle.bus_transactions.specs.Fitting.{AreBytes}
@@ -39,18 +39,14 @@ pub record IsEntered (requests : RequestsState) (node peer number : ℕ) (reques
 pub record AreEntered (requests : RequestsState) (nodes : ℕ) (layer : ℕ → Node) (ids : ℕ → ℕ → ℕ) : Type 0 where
   pub entry : (node peer number : ℕ) (kind : ReplyKind) (call : ℕ) → node ≤ nodes → peer ≤ nodes → number < 64 → state_for (layer node).peers (ids (layer node).generation peer) number ≡ states.UnderWay kind call → IsEntered requests node peer number (request_of node (ids (layer node).generation peer) (record { number = number; generation = (layer node).generation; serial = call }))
 
--- the serials of requests rise, from one on, and stay below another
-abbrev pub Rise : (from below : ℕ) → List (ℕ × Request) → Type 0
-Rise from below [] = Unit {0}
-Rise from below (request ∷ later) = (from ≤ request.0) × (request.0 < below) × Rise (suc request.0) below later
-
 -- by what the terms of a history say of IDs, packets and requests
 pub record KnowsBy (requests : RequestsState) (nodes : ℕ) (ids : ℕ → ℕ → ℕ) (sent : ℕ → Option Sending) (current : Transaction → ℕ) (bus count : ℕ) : Type 0 where
   pub ours : (s : ℕ) (packet : Sending) → sent s ≡ Some packet → IsOurs nodes packet
   pub size : length requests.serials ≡ 1600
-  pub rise : Rise 0 (count + 1) requests.requests
+  pub room : length requests.requests ≡ 1600
   pub below : (place : ℕ) → slice_index_or requests.serials place 0 ≤ count
   pub apart : (one two : ℕ) → 0 < slice_index_or requests.serials one 0 → slice_index_or requests.serials one 0 ≡ slice_index_or requests.serials two 0 → one ≡ two
+  pub blank : (place : ℕ) → slice_index_or requests.serials place 0 ≡ 0 → slice_index_or requests.requests place None ≡ None
   pub latest : (s : ℕ) (request : Request) → find requests s ≡ Some request → IsLatest requests ids current bus s request
 
 abbrev pub Knows : RequestsState → (nodes : ℕ) → Terms → Type 0
