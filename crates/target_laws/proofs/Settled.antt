@@ -222,9 +222,9 @@ module _ (node : NodeState) (g : Good node) (x : Sent) (new : Lives) (layer : La
       some_not_2 z = cc
 
 -- ---- a request: which agent it reaches
-record Reaches (node : NodeState) (place : ℕ) : Type 0 where
-  small : place < 8
-  served : IsServed node place
+pub record Reaches (node : NodeState) (place : ℕ) : Type 0 where
+  pub small : place < 8
+  pub served : IsServed node place
 
 inside : (offset : ℕ) → (nat_lt offset agents_start || nat_le (agents_start + 8 * 0x20) offset) ≡ false → offset - agents_start < 256
 inside offset e = grind (arith, nat_tests)
@@ -270,7 +270,7 @@ unbarred node g place source (Some login) e b = record {
     live true y h = refl
     live false y h = cc
 
-reaches : (node : NodeState) (g : Good node) (p : Packet) (place : ℕ) (access : Access) → is_barred node p ≡ false → demand_of (length node.rom) p ≡ demands.Agent place access → Reaches node place
+pub reaches : (node : NodeState) (g : Good node) (p : Packet) (place : ℕ) (access : Access) → is_barred node p ≡ false → demand_of (length node.rom) p ≡ demands.Agent place access → Reaches node place
 unfolding demand_of is_barred
 reaches node g p place access b e =
     let a = demand_place (row_of (reached (length node.rom) p)) (length node.rom) p place access refl e in

@@ -57,11 +57,11 @@ by_decision (Some d) effect o =
 
 -- ---- the words of the functions
 
-abbrev IsOther : FunctionWord → Type 0
+abbrev pub IsOther : FunctionWord → Type 0
 IsOther words.Login = ⊥
 IsOther word = Unit {0}
 
-abbrev Agrees : Option Function → FunctionWord → Type 0
+abbrev pub Agrees : Option Function → FunctionWord → Type 0
 Agrees (Some functions.Login) word = word ≡ words.Login
 Agrees function word = IsOther word
 
@@ -76,7 +76,7 @@ agree_by false false false false false false true h = tt
 agree_by false false false false false false false true = tt
 agree_by false false false false false false false false = tt
 
-agree : (number : ℕ) → Agrees (function_of number) (function_word number)
+pub agree : (number : ℕ) → Agrees (function_of number) (function_word number)
 agree number = agree_by (number == 0x0) (number == 0x1) (number == 0x3) (number == 0x7) (number == 0xb) (number == 0xc) (number == 0xe) (number == 0xf)
 
 other_managed : (word : FunctionWord) (login : Option ℕ) (o : Office) → IsOther word → by_managed word login o ≡ o
@@ -106,7 +106,7 @@ module _ (o : Office) (orb : ManagementOrb) (source eui : ℕ) where
   old_found k (Some own) t s e login f =
       places_are t.last (map (at_id own.login (λ login. None)) t.places) (set t.places k None) (one_changed (λ login. None) t.places k own (sound_apart t.places s) e)
 
-  old_left : (k : Option ℕ) (t : Table) (test : Login → Bool) → IsSound t.places → find test t.places ≡ k → left_by (id_at k t.places) (deciding t) ≡ deciding (record t { places = table.without k t.places })
+  pub old_left : (k : Option ℕ) (t : Table) (test : Login → Bool) → IsSound t.places → find test t.places ≡ k → left_by (id_at k t.places) (deciding t) ≡ deciding (record t { places = table.without k t.places })
   old_left None t test s e = refl
   old_left (Some k) t test s e = let f = found test t.places k e in old_found k (place_at t.places k) t s refl f.login f.stands
 

@@ -1,0 +1,4 @@
+pub mod Alike
+pub mod Crews
+pub mod Calls
+pub mod Notes

@@ -1,0 +1,24 @@
+//! The terms of the agents and the target.
+ghost use Rattle.agent_terms.specs.Alike.{AlikeLaw};
+ghost use Rattle.agent_terms.specs.Calls.{AgentsLaw};
+ghost use Rattle.agent_terms.specs.Notes.{NotesLaw};
+
+/// Two agents that differ in nothing that their phase reads any more answer each call alike, and stay so.
+#[tactic(auto, using(crate::proofs::Steps::alike_law))]
+pub fn alike_agents_step_alike()
+    ensures { AlikeLaw }
+{}
+
+/// Each call of a target changes its agents as its notes and packets tell: the first note of its turn,
+/// then what the call tells, then its packets, one after the other; and what was asked for and did not
+/// leave is lost when the turn is over.
+pub fn calls_change_the_agents()
+    ensures { AgentsLaw }
+{}
+
+/// What a note, a request of the target and the end of a turn make of the agents that the laws read off a
+/// history; at the beginning they are those of a new target.
+#[tactic(auto, using(crate::proofs::Notes::notes_law))]
+pub fn notes_change_the_agents()
+    ensures { NotesLaw }
+{}

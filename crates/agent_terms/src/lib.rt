@@ -1,0 +1,6 @@
+//! The terms of the agents that the laws read off a history are the state of the target.
+#![tactic(auto)]
+
+mod laws;
+
+pub use laws::{alike_agents_step_alike, calls_change_the_agents, notes_change_the_agents};
