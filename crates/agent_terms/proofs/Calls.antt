@@ -24,7 +24,8 @@ use Rattle.sbp_target.specs.Agents.{sent_to}
 use Rattle.sbp_target.specs.Desks.{new_desk, which_in}
 use Rattle.sbp_target.specs.Nodes.{NodeState, Scene, desk_at, login_at, scene}
 use Rattle.sbp_target.specs.Receiving.{expired_by}
-use Rattle.sbp_target.specs.Replies.{TellsBy, if_served, plain_in, replied_by, scene_of, served_login, stage, whole}
+use Rattle.target_base.specs.Logins.{if_served}
+use Rattle.sbp_target.specs.Replies.{TellsBy, plain_in, replied_by, scene_of, served_login, stage, whole}
 use Rattle.target_laws.proofs.Calling.{Good, not_eight}
 use Rattle.target_laws.proofs.Following.{IsServed}
 use Rattle.target_laws.proofs.Rested.{Came, came_for, for_ahead, for_main}

@@ -34,7 +34,8 @@ use Rattle.sbp_target.specs.declared.purpose.Sent.{Sent}
 use Rattle.sbp_target.specs.Agents.{sent_to}
 use Rattle.sbp_target.specs.Sending.{is_sent_as}
 use Rattle.sbp_target.specs.Replies.{Whole, whole}
-use Rattle.sbp_target.specs.Serving.{answered, is_barred, is_barred_at, request_step, serve, served_as, start, started_by as target_started}
+use Rattle.target_base.specs.Logins.{is_barred_at}
+use Rattle.sbp_target.specs.Serving.{answered, is_barred, request_step, serve, served_as, start, started_by as target_started}
 use Rattle.sbp_target.specs.Calls.{after}
 use Rattle.target_laws.proofs.Calling.{Good, peer_of}
 use Rattle.target_laws.proofs.Found.{IsFound, found}
@@ -217,7 +218,7 @@ module _ (node : NodeState) (g : Good node) (o : Office) (a : Agrees o node) whe
     request_if true x y = calmly tt refl (answers g.lives node p bytes 7 [] (scene asked_node empty_outbox) (calm_in layer (from_same layer same)))
     request_if false x y = serve_does
 
-    barred_at : (x : Option AgentRegister) (source : ℕ) → is_barred_at x asked_node source ≡ is_barred_at x node source
+    barred_at : (x : Option AgentRegister) (source : ℕ) → is_barred_at x asked_node.logins source ≡ is_barred_at x node.logins source
     barred_at None source = refl
     barred_at (Some found) source = refl
 

@@ -40,7 +40,8 @@ use Rattle.sbp_target.specs.Sending.{answer_step, answered_by, with_side}
 use Rattle.sbp_target.specs.Nodes.{NodeState, Scene, scene, desk_at, login_at, with_desk, with_agent}
 use Rattle.sbp_target.specs.Agents.{cut}
 use Rattle.sbp_target.specs.Telling.{orb_of}
-use Rattle.sbp_target.specs.Serving.{answered, state_number, last_pointer, pointer_bytes, asked_in, rcode_of, pointed_by, point, rung_by, ring, enabled, accessed_by, started_by, start, served_as, serve, is_barred, is_barred_at}
+use Rattle.target_base.specs.Logins.{is_barred_at}
+use Rattle.sbp_target.specs.Serving.{answered, state_number, last_pointer, pointer_bytes, asked_in, rcode_of, pointed_by, point, rung_by, ring, enabled, accessed_by, started_by, start, served_as, serve, is_barred}
 use Rattle.sbp_world.specs.FitTarget.{Fits, FitsAgent, FitsLogin, FitsSeat, IsOfKnown}
 use Rattle.sbp_world.proofs.FitTarget.Agents.{FitsAsk, FitsPoint, FitsRing, point_fits, ring_fits}
 use Rattle.bus_transactions.proofs.FitJudged.{BytesOf, no_gives}
@@ -193,8 +194,8 @@ module _ (known : ℕ → Type 0) (P Q : Said) (request : Packet) (bytes : List 
     unfolding demand_of is_barred
     reaches node q access f b e =
         let i = demand_place (row_of (reached (length node.rom) request)) (length node.rom) request q access refl e in
-        let n : is_barred_at (register_at (offset_in request)) node (header_in request).source ≡ false = unlocked_bar (is_lock request) (is_barred_at (register_at (offset_in request)) node (header_in request).source) i.unlocked b in
-        let m : is_none (if_of_node (header_in request).source (login_at node i.found.place)) ≡ false = sym (ap (λ (x : Option AgentRegister). is_barred_at x node (header_in request).source) i.at) ∙ n in
+        let n : is_barred_at (register_at (offset_in request)) node.logins (header_in request).source ≡ false = unlocked_bar (is_lock request) (is_barred_at (register_at (offset_in request)) node.logins (header_in request).source) i.unlocked b in
+        let m : is_none (if_of_node (header_in request).source (login_at node i.found.place)) ≡ false = sym (ap (λ (x : Option AgentRegister). is_barred_at x node.logins (header_in request).source) i.at) ∙ n in
         subst (λ (p : ℕ). IsReached node p) i.own (reached_login node i.found.place (header_in request).source f m)
 
     pub serves : (s : Scene) → BytesOf request → known (header_in request).source → is_barred s.node request ≡ false → In known P s → In known Q (serve request bytes s)
