@@ -9,3 +9,6 @@ pub mod Handing
 pub mod Worlds
 pub mod Lines
 pub mod Runs
+pub mod Calling
+pub mod Refusing
+pub mod Core

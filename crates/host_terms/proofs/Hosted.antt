@@ -1,0 +1,352 @@
+-- In every run the core of each initiator's host is what it has.
+use Rattle.std.proofs.Common.{arith, ◌≡◌, refl, sym, ◌∙◌, ap, subst, ℕ, suc, ◌+◌, ◌<◌, ◌==◌, nat_eq, nat_lt, not, Bool, true, false, cond, List, [], ◌∷◌, Option, Some, None, Result, Ok, Err}
+use Rattle.std.proofs.lemmas.Bool.Decides.{nat_tests}
+use Rattle.async_packet.specs.Labels.{LabelParts}
+use Rattle.label_table.specs.declared.reply.Stale.{Stale}
+use Rattle.label_table.specs.Layer.{Finding, Layer, expiring_step, judging_step, of_again, of_generation, of_grammar, of_label, of_request, of_response, seeing_step}
+use Rattle.sbp_journal.specs.Run.{Moment, asked, said}
+use Rattle.sbp_journal.specs.Wire.{terms}
+use Rattle.sbp_journal.specs.Outgoings.{empty_outbox}
+use Rattle.sbp_journal.specs.declared.event.Action.{Action}
+use Rattle.sbp_journal.specs.declared.event.Action.TheVariants as actions
+use Rattle.sbp_journal.specs.declared.event.Event.TheVariants as events
+use Rattle.sbp_journal.specs.declared.note.Note.{Note}
+use Rattle.sbp_journal.specs.declared.note.Note.TheVariants as notes
+use Rattle.sbp_session.specs.declared.seat.Seat.{Seat}
+use Rattle.sbp_session.specs.declared.seat.Seat.TheVariants as seats
+use Rattle.sbp_initiator.specs.declared.purpose.Purpose.{Purpose}
+use Rattle.sbp_initiator.specs.declared.purpose.Running.{Running}
+use Rattle.sbp_initiator.specs.declared.state.InitiatorState.{InitiatorState}
+use Rattle.sbp_initiator.specs.Acting.{IsAction, act_step}
+use Rattle.sbp_initiator.specs.Effects.{Turn}
+use Rattle.sbp_initiator.specs.Initiators.{new_state}
+use Rattle.sbp_initiator.specs.Receiving.{expire_step, expired_as, receive_step}
+use Rattle.sbp_initiator.specs.Refusals.{fits_session, is_in_stuck}
+use Rattle.sbp_initiator.specs.Seeing.{see_step}
+use Rattle.sbp_initiator.specs.States.{session_of}
+use Rattle.initiator_laws.specs.Laws.{after, acts, lets_expire, receives, sees}
+use Rattle.initiator_laws.proofs.Effects.{Fits}
+use Rattle.initiator_laws.proofs.Over.{counted_now, sound}
+use Rattle.initiator_laws.proofs.Purposes.{IfFor, closes_asked, expires_asked}
+use Rattle.initiator_laws.proofs.Runs.{FitsNow}
+use Rattle.sbp_bus.specs.Packets.{judged_note}
+use Rattle.sbp_laws.specs.Actions.{is_right_state}
+use Rattle.sbp_laws.specs.Hosts.{begun, host_at, is_stuck, new_host, ready_host}
+use Rattle.sbp_laws.specs.Turns.{event_of}
+use Rattle.sbp_world.specs.Histories.{history_of}
+use Rattle.sbp_world.specs.Runs.{Run}
+use Rattle.host_terms.specs.Calling.{IsCalled}
+use Rattle.host_terms.specs.Calls.{behind}
+use Rattle.host_terms.specs.Core.{Core, HasSession, HostLaw, host_core, own_core, session_in}
+use Rattle.host_terms.specs.Refusing.{initiator_of}
+use Rattle.host_terms.specs.Runs.{IsRun}
+use Rattle.host_terms.proofs.Calling.{IsOwn, own_first, own_on}
+use Rattle.host_terms.proofs.Carried.{of_runs}
+use Rattle.host_terms.proofs.Carries.{Carries, Does, Tells}
+use Rattle.host_terms.proofs.Cores.{apart_core, begun_by, sent_core}
+use Rattle.host_terms.proofs.KnowActs.{act_acted, asked_known}
+use Rattle.host_terms.proofs.KnowHears.{IfExpires, IfFits, expire_known, receive_known}
+use Rattle.host_terms.proofs.Knowing.{Known, Sits}
+use Rattle.host_terms.proofs.KnowSees.{sees_known}
+use Rattle.host_terms.proofs.Passes.{judged_apart}
+
+-- ---- what a transaction was for fits the operation under way
+
+for_fits : (operation : Option Running) (counted : ℕ → Option ℕ) (count : ℕ) (purpose : Option Purpose) → IfFor (FitsNow operation count counted) purpose → IfFor (λ p. Fits p operation) purpose
+for_fits operation counted count None f = tt
+for_fits operation counted count (Some purpose) f = f.fits
+
+module _ (ready : Bool) (i : ℕ) (s : InitiatorState) (h : IsCalled ready i s) where
+  abbrev t : Turn
+  t = after i ready h.calls
+
+  hears_of : (generation : ℕ) (bytes : List ℕ) (f : Finding Purpose) → (judging_step t.1.layer generation bytes).0 ≡ f → IfFits f t.1
+  hears_of generation bytes (of_response q label purpose) e =
+      let k = (sound i ready h.calls).wires in
+      for_fits t.1.operation (counted_now i ready h.calls) t.1.counts.acts purpose
+      (closes_asked (FitsNow t.1.operation t.1.counts.acts (counted_now i ready h.calls)) (0xffc1 + i) k.calls generation bytes q label purpose k.asks (ap (λ (l : Layer Purpose). (judging_step l generation bytes).0) k.layer_is ∙ e))
+  hears_of generation bytes of_generation e = tt
+  hears_of generation bytes of_grammar e = tt
+  hears_of generation bytes of_label e = tt
+  hears_of generation bytes (of_again q rcode) e = tt
+  hears_of generation bytes (of_request q) e = tt
+
+  pub hears_fit : (generation : ℕ) (bytes : List ℕ) → IfFits (judging_step s.layer generation bytes).0 s
+  hears_fit generation bytes =
+      subst (λ (x : InitiatorState). IfFits (judging_step x.layer generation bytes).0 x) h.is (hears_of generation bytes (judging_step t.1.layer generation bytes).0 refl)
+
+  expires_of : (label : LabelParts) (r : Result (Option Purpose) Stale) → (expiring_step t.1.layer t.1.target label).0 ≡ r → IfExpires r t.1
+  expires_of label (Ok purpose) e =
+      let k = (sound i ready h.calls).wires in
+      for_fits t.1.operation (counted_now i ready h.calls) t.1.counts.acts purpose
+      (expires_asked (FitsNow t.1.operation t.1.counts.acts (counted_now i ready h.calls)) (0xffc1 + i) k.calls t.1.target label purpose k.asks (ap (λ (l : Layer Purpose). (expiring_step l t.1.target label).0) k.layer_is ∙ e))
+  expires_of label (Err stale) e = tt
+
+  pub expires_fit : (label : LabelParts) → IfExpires (expiring_step s.layer s.target label).0 s
+  expires_fit label =
+      subst (λ (x : InitiatorState). IfExpires (expiring_step x.layer x.target label).0 x) h.is (expires_of label (expiring_step t.1.layer t.1.target label).0 refl)
+
+-- ---- an initiator of a run
+
+record Cored (ready : Bool) (past : List Moment) (i : ℕ) (s : InitiatorState) : Type 0 where
+  own : IsOwn ready i s
+  core : host_core (host_at past i) ≡ own_core s
+  sits : Sits (own_core s).operation (own_core s).session
+
+module _ (ready : Bool) where
+  known_of : (past : List Moment) (i : ℕ) (s : InitiatorState) → Cored ready past i s → Known past (empty_outbox, s)
+  known_of past i s h = record {
+    own = ap (λ j. host_core (host_at past j)) h.own.number ∙ h.core;
+    others = λ j e. refl;
+    line = refl;
+    wire = refl;
+    sits = h.sits;
+  }
+
+  tells_of : (past : List Moment) (i : ℕ) (t : Turn) → IsOwn ready i t.1 → Known past t → Tells (Cored ready) past i t
+  tells_of past i t o k = record {
+    own = record { own = o; core = ap (λ j. host_core (host_at (behind t.0.sides past) j)) (sym o.number) ∙ k.own; sits = k.sits };
+    others = λ j x e h. record { own = h.own; core = k.others j (ap (nat_eq j) o.number ∙ e) ∙ h.core; sits = h.sits };
+  }
+
+  noted : (note : Note) (past : List Moment) (i : ℕ) (s : InitiatorState) → host_core (host_at (said note ∷ past) i) ≡ host_core (host_at past i) → Cored ready past i s → Cored ready (said note ∷ past) i s
+  noted note past i s e h = record { own = h.own; core = e ∙ h.core; sits = h.sits }
+
+  hears_told : (serial generation : ℕ) (bytes : List ℕ) (past : List Moment) (i : ℕ) (s : InitiatorState) → Cored ready past i s → Tells (Cored ready) (said (judged_note serial (receive_step generation bytes empty_outbox s).0) ∷ past) i (receive_step generation bytes empty_outbox s).1
+  hears_told serial generation bytes past i s h =
+      let judged = (receive_step generation bytes empty_outbox s).0 in
+      let now = said (judged_note serial judged) ∷ past in
+      tells_of now i (receive_step generation bytes empty_outbox s).1 (own_on ready i s (receives generation bytes) tt h.own)
+      (receive_known now bytes empty_outbox generation s (hears_fit ready i s h.own.called generation bytes)
+      (known_of now i s (noted (judged_note serial judged) past i s (apart_core (judged_note serial judged) past i (judged_apart serial judged i)) h)))
+
+  expires_told : (serial : ℕ) (label : LabelParts) (past : List Moment) (i : ℕ) (s : InitiatorState) → Cored ready past i s → Tells (Cored ready) (said (notes.TimedOut serial) ∷ past) i (expire_step label empty_outbox s).1
+  expires_told serial label past i s h =
+      let now = said (notes.TimedOut serial) ∷ past in
+      tells_of now i (expire_step label empty_outbox s).1 (own_on ready i s (lets_expire label) tt h.own)
+      (expire_known now label empty_outbox s (expires_fit ready i s h.own.called label)
+      (known_of now i s (noted (notes.TimedOut serial) past i s (apart_core (notes.TimedOut serial) past i refl) h)))
+
+  stale_cored : (label : LabelParts) (past : List Moment) (i : ℕ) (s : InitiatorState) → (expire_step label empty_outbox s).0 ≡ false → Cored ready past i s → Cored ready past i (expire_step label empty_outbox s).1.1
+  unfolding expire_step
+  stale_cored label past i s e h = by_result (expiring_step s.layer s.target label) refl e
+    where
+      untrue : {A : Type 0} → true ≡ false → A
+      untrue e = absurd (differ e)
+        where
+          differ : true ≡ false → ⊥
+          differ e = cc
+
+      by_result : (r : Result (Option Purpose) Stale × Layer Purpose) → expiring_step s.layer s.target label ≡ r → (expired_as r empty_outbox s).0 ≡ false → Cored ready past i (expired_as r empty_outbox s).1.1
+      by_result (Ok purpose, layer) r e = untrue e
+      by_result (Err stale, layer) r e = record { own = subst (λ (x : InitiatorState). IsOwn ready i x) (ap (λ x. (expired_as x empty_outbox s).1.1) r) (own_on ready i s (lets_expire label) tt h.own); core = h.core; sits = h.sits }
+
+  sees_told : (generation id target : ℕ) (past : List Moment) (i : ℕ) (s : InitiatorState) → (seeing_step s.layer generation id).0 ≡ not (generation == (terms past).generation (suc i)) → Cored ready past i s → Tells (Cored ready) (said (notes.Seen (suc i) generation) ∷ past) i (see_step generation id target empty_outbox s)
+  sees_told generation id target past i s e h =
+      let n = h.own.number in
+      let new = ap (λ j. not (generation == (terms past).generation (suc j))) (sym n) in
+      subst (λ j. Tells (Cored ready) (said (notes.Seen (suc j) generation) ∷ past) i (see_step generation id target empty_outbox s)) n
+      (tells_of (said (notes.Seen (suc s.number) generation) ∷ past) i (see_step generation id target empty_outbox s) (own_on ready i s (sees generation id target) tt h.own)
+      (sees_known past generation id target s (e ∙ new) (known_of past i s h)))
+
+  acts_told : (action : Action) (past : List Moment) (i : ℕ) (s : InitiatorState) → event_of past ≡ Some (events.Act i action) → IsAction action → (act_step action empty_outbox s).0 ≡ None → Cored ready past i s → Does (Cored ready) past i (act_step action empty_outbox s).1
+  acts_told action past i s under fit done h =
+      let t = (act_step action empty_outbox s).1 in
+      let a = act_acted past action s (known_of past i s h) done in
+      let k = a.starts.known in
+      let own = own_on ready i s (acts action) fit h.own in
+      let number = sym own.number ∙ a.starts.number in
+      record {
+        others = λ j x e c. record { own = c.own; core = k.others j (ap (nat_eq j) (sym a.starts.number ∙ own.number) ∙ e) ∙ c.core; sits = c.sits };
+        quiet = λ none. record {
+          own = own;
+          core = ap (λ j. host_core (host_at (behind t.0.sides past) j)) number ∙ k.own ∙ (ap (λ x. begun_by x (own_core a.starts.before)) (sym (a.quiet none)) ∙ a.starts.begun);
+          sits = a.starts.sits;
+        };
+        asking = λ packet one serial generation to f q. record {
+          own = own;
+          core = asked_known past action t i serial generation to packet.bytes a.starts own.number under f q;
+          sits = a.starts.sits;
+        };
+      }
+
+  cored_carried : Carries (Cored ready)
+  cored_carried = record {
+    number = λ past i s h. h.own.number;
+    asked = λ line event past i s h. record { own = h.own; core = h.core; sits = h.sits };
+    apart = λ note past i s e h. noted note past i s (apart_core note past i e) h;
+    sent = λ serial generation from to bytes past i s n h. noted (notes.Sent serial generation from to bytes) past i s (sent_core serial generation from to bytes past i n) h;
+    hears = hears_told;
+    expires = expires_told;
+    stale = stale_cored;
+    sees = sees_told;
+    acts = acts_told;
+  }
+
+-- ---- the beginning
+
+begun_core : (i initiators : ℕ) (ready : Bool) → i < initiators → host_core (begun ready initiators i new_host) ≡ own_core (new_state i ready)
+unfolding new_state
+begun_core i initiators true b = let e : nat_lt i initiators ≡ true = grind (arith, nat_tests) in ap (λ c. host_core (cond c (ready_host i) new_host)) e
+begun_core i initiators false b = refl
+
+first_sits : (i : ℕ) (ready : Bool) → Sits (own_core (new_state i ready)).operation (own_core (new_state i ready)).session
+unfolding new_state
+first_sits i ready = tt
+
+first_cored : (line i initiators : ℕ) (ready : Bool) → i < initiators → Cored ready (said (notes.Begin initiators ready) ∷ asked line (events.Begin initiators ready) ∷ []) i (new_state i ready)
+first_cored line i initiators ready b = record { own = own_first ready i; core = begun_core i initiators ready b; sits = first_sits i ready }
+
+core_of_runs : (line : ℕ) (run : Run) → IsRun run → (i : ℕ) → i < run.initiators → host_core (host_at (history_of line run) i) ≡ own_core (initiator_of run i)
+core_of_runs line run r i b = (of_runs (Cored run.ready) (cored_carried run.ready) line run (λ j c. first_cored line j run.initiators run.ready c) r i b).core
+
+-- ---- the rows of a refusal that read the session
+
+stuck_row : (seat : Seat) → is_stuck (session_in seat) ≡ is_in_stuck (session_of seat)
+stuck_row (seats.Out out) = refl
+stuck_row (seats.Entering entering) = refl
+stuck_row (seats.Live live) = refl
+stuck_row (seats.Held response) = refl
+stuck_row (seats.Returning response) = refl
+stuck_row (seats.Leaving response) = refl
+stuck_row (seats.Stuck origin) = refl
+
+right_row : (action : Action) (seat : Seat) → is_right_state action (session_in seat) ≡ fits_session action (session_of seat)
+right_row (actions.Put cmd) (seats.Out out) = refl
+right_row (actions.Put cmd) (seats.Entering entering) = refl
+right_row (actions.Put cmd) (seats.Live live) = refl
+right_row (actions.Put cmd) (seats.Held response) = refl
+right_row (actions.Put cmd) (seats.Returning response) = refl
+right_row (actions.Put cmd) (seats.Leaving response) = refl
+right_row (actions.Put cmd) (seats.Stuck origin) = refl
+right_row (actions.Append cmd) (seats.Out out) = refl
+right_row (actions.Append cmd) (seats.Entering entering) = refl
+right_row (actions.Append cmd) (seats.Live live) = refl
+right_row (actions.Append cmd) (seats.Held response) = refl
+right_row (actions.Append cmd) (seats.Returning response) = refl
+right_row (actions.Append cmd) (seats.Leaving response) = refl
+right_row (actions.Append cmd) (seats.Stuck origin) = refl
+right_row actions.Low (seats.Out out) = refl
+right_row actions.Low (seats.Entering entering) = refl
+right_row actions.Low (seats.Live live) = refl
+right_row actions.Low (seats.Held response) = refl
+right_row actions.Low (seats.Returning response) = refl
+right_row actions.Low (seats.Leaving response) = refl
+right_row actions.Low (seats.Stuck origin) = refl
+right_row actions.Link (seats.Out out) = refl
+right_row actions.Link (seats.Entering entering) = refl
+right_row actions.Link (seats.Live live) = refl
+right_row actions.Link (seats.Held response) = refl
+right_row actions.Link (seats.Returning response) = refl
+right_row actions.Link (seats.Leaving response) = refl
+right_row actions.Link (seats.Stuck origin) = refl
+right_row actions.Ring (seats.Out out) = refl
+right_row actions.Ring (seats.Entering entering) = refl
+right_row actions.Ring (seats.Live live) = refl
+right_row actions.Ring (seats.Held response) = refl
+right_row actions.Ring (seats.Returning response) = refl
+right_row actions.Ring (seats.Leaving response) = refl
+right_row actions.Ring (seats.Stuck origin) = refl
+right_row (actions.Dummy orb) (seats.Out out) = refl
+right_row (actions.Dummy orb) (seats.Entering entering) = refl
+right_row (actions.Dummy orb) (seats.Live live) = refl
+right_row (actions.Dummy orb) (seats.Held response) = refl
+right_row (actions.Dummy orb) (seats.Returning response) = refl
+right_row (actions.Dummy orb) (seats.Leaving response) = refl
+right_row (actions.Dummy orb) (seats.Stuck origin) = refl
+right_row actions.Rom (seats.Out out) = refl
+right_row actions.Rom (seats.Entering entering) = refl
+right_row actions.Rom (seats.Live live) = refl
+right_row actions.Rom (seats.Held response) = refl
+right_row actions.Rom (seats.Returning response) = refl
+right_row actions.Rom (seats.Leaving response) = refl
+right_row actions.Rom (seats.Stuck origin) = refl
+right_row actions.AgentReset (seats.Out out) = refl
+right_row actions.AgentReset (seats.Entering entering) = refl
+right_row actions.AgentReset (seats.Live live) = refl
+right_row actions.AgentReset (seats.Held response) = refl
+right_row actions.AgentReset (seats.Returning response) = refl
+right_row actions.AgentReset (seats.Leaving response) = refl
+right_row actions.AgentReset (seats.Stuck origin) = refl
+right_row actions.State (seats.Out out) = refl
+right_row actions.State (seats.Entering entering) = refl
+right_row actions.State (seats.Live live) = refl
+right_row actions.State (seats.Held response) = refl
+right_row actions.State (seats.Returning response) = refl
+right_row actions.State (seats.Leaving response) = refl
+right_row actions.State (seats.Stuck origin) = refl
+right_row actions.Enable (seats.Out out) = refl
+right_row actions.Enable (seats.Entering entering) = refl
+right_row actions.Enable (seats.Live live) = refl
+right_row actions.Enable (seats.Held response) = refl
+right_row actions.Enable (seats.Returning response) = refl
+right_row actions.Enable (seats.Leaving response) = refl
+right_row actions.Enable (seats.Stuck origin) = refl
+right_row (actions.Login unit reconnect exclusive password) (seats.Out out) = refl
+right_row (actions.Login unit reconnect exclusive password) (seats.Entering entering) = refl
+right_row (actions.Login unit reconnect exclusive password) (seats.Live live) = refl
+right_row (actions.Login unit reconnect exclusive password) (seats.Held response) = refl
+right_row (actions.Login unit reconnect exclusive password) (seats.Returning response) = refl
+right_row (actions.Login unit reconnect exclusive password) (seats.Leaving response) = refl
+right_row (actions.Login unit reconnect exclusive password) (seats.Stuck origin) = refl
+right_row (actions.Query unit) (seats.Out out) = refl
+right_row (actions.Query unit) (seats.Entering entering) = refl
+right_row (actions.Query unit) (seats.Live live) = refl
+right_row (actions.Query unit) (seats.Held response) = refl
+right_row (actions.Query unit) (seats.Returning response) = refl
+right_row (actions.Query unit) (seats.Leaving response) = refl
+right_row (actions.Query unit) (seats.Stuck origin) = refl
+right_row actions.Reconnect (seats.Out out) = refl
+right_row actions.Reconnect (seats.Entering entering) = refl
+right_row actions.Reconnect (seats.Live live) = refl
+right_row actions.Reconnect (seats.Held response) = refl
+right_row actions.Reconnect (seats.Returning response) = refl
+right_row actions.Reconnect (seats.Leaving response) = refl
+right_row actions.Reconnect (seats.Stuck origin) = refl
+right_row actions.Logout (seats.Out out) = refl
+right_row actions.Logout (seats.Entering entering) = refl
+right_row actions.Logout (seats.Live live) = refl
+right_row actions.Logout (seats.Held response) = refl
+right_row actions.Logout (seats.Returning response) = refl
+right_row actions.Logout (seats.Leaving response) = refl
+right_row actions.Logout (seats.Stuck origin) = refl
+right_row (actions.Abort orb) (seats.Out out) = refl
+right_row (actions.Abort orb) (seats.Entering entering) = refl
+right_row (actions.Abort orb) (seats.Live live) = refl
+right_row (actions.Abort orb) (seats.Held response) = refl
+right_row (actions.Abort orb) (seats.Returning response) = refl
+right_row (actions.Abort orb) (seats.Leaving response) = refl
+right_row (actions.Abort orb) (seats.Stuck origin) = refl
+right_row actions.AbortSet (seats.Out out) = refl
+right_row actions.AbortSet (seats.Entering entering) = refl
+right_row actions.AbortSet (seats.Live live) = refl
+right_row actions.AbortSet (seats.Held response) = refl
+right_row actions.AbortSet (seats.Returning response) = refl
+right_row actions.AbortSet (seats.Leaving response) = refl
+right_row actions.AbortSet (seats.Stuck origin) = refl
+right_row actions.UnitReset (seats.Out out) = refl
+right_row actions.UnitReset (seats.Entering entering) = refl
+right_row actions.UnitReset (seats.Live live) = refl
+right_row actions.UnitReset (seats.Held response) = refl
+right_row actions.UnitReset (seats.Returning response) = refl
+right_row actions.UnitReset (seats.Leaving response) = refl
+right_row actions.UnitReset (seats.Stuck origin) = refl
+right_row actions.TargetReset (seats.Out out) = refl
+right_row actions.TargetReset (seats.Entering entering) = refl
+right_row actions.TargetReset (seats.Live live) = refl
+right_row actions.TargetReset (seats.Held response) = refl
+right_row actions.TargetReset (seats.Returning response) = refl
+right_row actions.TargetReset (seats.Leaving response) = refl
+right_row actions.TargetReset (seats.Stuck origin) = refl
+
+session_rows : (line : ℕ) (run : Run) (i : ℕ) (action : Action) (has_label : Bool) → host_core (host_at (history_of line run) i) ≡ own_core (initiator_of run i) → HasSession line run i action has_label
+session_rows line run i action has_label e =
+    let seat = (initiator_of run i).seat in
+    let session : (host_at (history_of line run) i).session ≡ session_in seat = ap (λ (c : Core). c.session) e in
+    record { stuck = ap is_stuck session ∙ stuck_row seat; wrong_state = ap (λ x. not (is_right_state action x)) session ∙ ap not (right_row action seat) }
+
+pub host_law : HostLaw
+host_law = record {
+  core = core_of_runs;
+  rows = λ line run r i b action has_label. session_rows line run i action has_label (core_of_runs line run r i b);
+}
