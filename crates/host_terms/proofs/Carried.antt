@@ -1,5 +1,6 @@
 -- What the lines of a run carry on holds of each initiator after every line.
 use Rattle.std.proofs.Common.{arith, ◌≡◌, refl, sym, ◌∙◌, ap, subst, ℕ, suc, ◌+◌, ◌^◌, ◌<◌, ◌≤◌, nat_lt, Bool, true, false, cond, List, [], ◌∷◌, ◌++◌, length, map, Option, Some, None}
+use Rattle.bus_transactions.specs.May.{is_reset}
 use Rattle.bus_transactions.proofs.Fits.{request_fits}
 use Rattle.bus_transactions.proofs.Follows.{last_is}
 use Rattle.packet_store.specs.Stored.{Stored}
@@ -42,14 +43,14 @@ use Rattle.sbp_world.proofs.Wire.Sound.{next_heard, opens}
 use Rattle.sbp_world.proofs.Wire.Starts.{states_at}
 use Rattle.sbp_world.proofs.Wire.ToldBytes.{AreTold, happened_fits}
 use Rattle.host_terms.specs.Handing.{history}
-use Rattle.host_terms.specs.Runs.{IsRun}
+use Rattle.host_terms.specs.Runs.{IsRun, more_deliveries}
 use Rattle.host_terms.proofs.Acting.{acts}
 use Rattle.host_terms.proofs.Asked.{IfRequest, is_request}
 use Rattle.host_terms.proofs.Carries.{Are, Carries, IsNoAct, NoneActs, note_carried}
 use Rattle.host_terms.proofs.Hosting.{line_same}
 use Rattle.host_terms.proofs.Knows.{may_see, target_there}
 use Rattle.host_terms.proofs.Passes.{delivers, line_expires, line_sees, ticks}
-use Rattle.host_terms.proofs.Runs.{count_after}
+use Rattle.host_terms.proofs.Runs.{are_told, count_after, count_between}
 
 -- the next packet was not injected
 fresh : {past : List Moment} (w : WorldState) → Stands past w → (terms (history w past)).injected (w.store.last + 1) ≡ false
@@ -209,3 +210,20 @@ module _ (P : List Moment → ℕ → InitiatorState → Type 0) (law : Carries 
 
     pub of_runs : IsRun run → (i : ℕ) → i < run.initiators → P (moments_behind line run run.entries) i (initiator_at (after (beginning run) run.entries).world i)
     of_runs r i b = are_after run.entries r.few r.short r.entries r.lines i (subst (λ n. i < n) (sym (count_after run run.entries)) b)
+
+    -- ---- between two deliveries of a line
+
+    between_by : IsRun run → (next : ℕ) (event : Event) → is_reset event ≡ false → ((i : ℕ) → IsNoAct i (Some event)) → ((ms : List Moment) → (terms (asked next event ∷ ms)).repeats ≡ false) → (told : List (Option Told)) → MayAll told (begun (after (beginning run) run.entries)) → (i : ℕ) → i < run.initiators → (let w = (after_all told (begun (after (beginning run) run.entries))).world in P (map said w.fresh ++ asked next event ∷ moments_behind line run run.entries) i (initiator_at w i))
+    between_by r next event e n repeats told m i b =
+        let before = sound_after fitting_law own_fitting_law line run run.entries r.few r.short r.entries r.lines in
+        let s = after (beginning run) run.entries in
+        let so_far : Are P before.past s.world = subst (λ ms. AreAt ms s.world) (sym before.is) (are_after run.entries r.few r.short r.entries r.lines) in
+        let all = all_told (history s.world before.past) (length run.entries) next event n told (are_told told s m) (begun s) m
+        (record { sound = opens next event s.world e before.sound; all = opened before.past next event s.world so_far }) (repeats (history s.world before.past)) in
+        let w = (after_all told (begun s)).world in
+        subst (λ ms. P (map said w.fresh ++ asked next event ∷ ms) i (initiator_at w i)) before.is
+        (all.all i (subst (λ k. i < k) (sym (count_between told s ∙ count_after run run.entries)) b))
+
+    pub between_runs : IsRun run → (next : ℕ) (most : Option ℕ) (told : List (Option Told)) → MayAll told (begun (after (beginning run) run.entries)) → (i : ℕ) → i < run.initiators → (let w = (after_all told (begun (after (beginning run) run.entries))).world in P (map said w.fresh ++ asked next (more_deliveries most) ∷ moments_behind line run run.entries) i (initiator_at w i))
+    between_runs r next (Some count) told m i b = between_by r next (events.Step count) refl (λ j. tt) (λ ms. refl) told m i b
+    between_runs r next None told m i b = between_by r next events.Settle refl (λ j. tt) (λ ms. refl) told m i b

@@ -1,11 +1,13 @@
 -- In every run the core of each initiator's host is what it has.
-use Rattle.std.proofs.Common.{arith, ◌≡◌, refl, sym, ◌∙◌, ap, subst, ℕ, suc, ◌+◌, ◌<◌, ◌==◌, nat_eq, nat_lt, not, Bool, true, false, cond, List, [], ◌∷◌, Option, Some, None, Result, Ok, Err}
+use Rattle.std.proofs.Common.{arith, ◌≡◌, refl, sym, ◌∙◌, ap, subst, ℕ, suc, ◌+◌, ◌<◌, ◌==◌, ◌&&◌, ◌||◌, nat_eq, nat_lt, not, is_none, is_some, Bool, true, false, cond, List, [], ◌∷◌, Option, Some, None, Result, Ok, Err}
 use Rattle.std.proofs.lemmas.Bool.Decides.{nat_tests}
 use Rattle.async_packet.specs.Labels.{LabelParts}
 use Rattle.label_table.specs.declared.reply.Stale.{Stale}
 use Rattle.label_table.specs.Layer.{Finding, Layer, expiring_step, judging_step, of_again, of_generation, of_grammar, of_label, of_request, of_response, seeing_step}
 use Rattle.sbp_journal.specs.Run.{Moment, asked, said}
-use Rattle.sbp_journal.specs.Wire.{terms}
+use Rattle.sbp_journal.specs.Wire.{Terms, terms}
+use Rattle.sbp_journal.specs.declared.operation.Operation.{Operation}
+use Rattle.sbp_journal.specs.declared.operation.Operation.TheVariants as operations
 use Rattle.sbp_journal.specs.Outgoings.{empty_outbox}
 use Rattle.sbp_journal.specs.declared.event.Action.{Action}
 use Rattle.sbp_journal.specs.declared.event.Action.TheVariants as actions
@@ -14,6 +16,7 @@ use Rattle.sbp_journal.specs.declared.note.Note.{Note}
 use Rattle.sbp_journal.specs.declared.note.Note.TheVariants as notes
 use Rattle.sbp_session.specs.declared.seat.Seat.{Seat}
 use Rattle.sbp_session.specs.declared.seat.Seat.TheVariants as seats
+use Rattle.sbp_session.specs.Seats.{points}
 use Rattle.sbp_initiator.specs.declared.purpose.Purpose.{Purpose}
 use Rattle.sbp_initiator.specs.declared.purpose.Running.{Running}
 use Rattle.sbp_initiator.specs.declared.state.InitiatorState.{InitiatorState}
@@ -21,17 +24,17 @@ use Rattle.sbp_initiator.specs.Acting.{IsAction, act_step}
 use Rattle.sbp_initiator.specs.Effects.{Turn}
 use Rattle.sbp_initiator.specs.Initiators.{new_state}
 use Rattle.sbp_initiator.specs.Receiving.{expire_step, expired_as, receive_step}
-use Rattle.sbp_initiator.specs.Refusals.{fits_session, is_in_stuck}
+use Rattle.sbp_initiator.specs.Refusals.{ends_list, fits_session, is_in_stuck, is_list_step, operation_of}
 use Rattle.sbp_initiator.specs.Seeing.{see_step}
-use Rattle.sbp_initiator.specs.States.{session_of}
+use Rattle.sbp_initiator.specs.States.{operation_in, session_of}
 use Rattle.initiator_laws.specs.Laws.{after, acts, lets_expire, receives, sees}
 use Rattle.initiator_laws.proofs.Effects.{Fits}
 use Rattle.initiator_laws.proofs.Over.{counted_now, sound}
 use Rattle.initiator_laws.proofs.Purposes.{IfFor, closes_asked, expires_asked}
 use Rattle.initiator_laws.proofs.Runs.{FitsNow}
 use Rattle.sbp_bus.specs.Packets.{judged_note}
-use Rattle.sbp_laws.specs.Actions.{is_right_state}
-use Rattle.sbp_laws.specs.Hosts.{begun, host_at, is_stuck, new_host, ready_host}
+use Rattle.sbp_laws.specs.Actions.{cuts_list, is_right_state, is_waiting, running_operation}
+use Rattle.sbp_laws.specs.Hosts.{Host, Underway, begun, host_at, is_stuck, new_host, ready_host}
 use Rattle.sbp_laws.specs.Turns.{event_of}
 use Rattle.sbp_world.specs.Histories.{history_of}
 use Rattle.sbp_world.specs.Runs.{Run}
@@ -41,9 +44,9 @@ use Rattle.host_terms.specs.Core.{Core, HasSession, HostLaw, host_core, own_core
 use Rattle.host_terms.specs.Refusing.{initiator_of}
 use Rattle.host_terms.specs.Runs.{IsRun}
 use Rattle.host_terms.proofs.Calling.{IsOwn, own_first, own_on}
-use Rattle.host_terms.proofs.Carried.{of_runs}
+use Rattle.host_terms.proofs.Carried.{between_runs, of_runs}
 use Rattle.host_terms.proofs.Carries.{Carries, Does, Tells}
-use Rattle.host_terms.proofs.Cores.{apart_core, begun_by, sent_core}
+use Rattle.host_terms.proofs.Cores.{apart_core, begun_by, sent_core, untrue}
 use Rattle.host_terms.proofs.KnowActs.{act_acted, asked_known}
 use Rattle.host_terms.proofs.KnowHears.{IfExpires, IfFits, expire_known, receive_known}
 use Rattle.host_terms.proofs.Knowing.{Known, Sits}
@@ -339,14 +342,64 @@ right_row actions.TargetReset (seats.Returning response) = refl
 right_row actions.TargetReset (seats.Leaving response) = refl
 right_row actions.TargetReset (seats.Stuck origin) = refl
 
+-- and on the operation under way
+some_running : (u : Option Underway) → not (is_none u) ≡ is_some (running_operation u)
+some_running None = refl
+some_running (Some underway) = refl
+
+cuts_same : (operation : Option Operation) → cuts_list operation ≡ ends_list operation
+cuts_same None = refl
+cuts_same (Some operations.Rom) = refl
+cuts_same (Some operations.Login) = refl
+cuts_same (Some operations.Query) = refl
+cuts_same (Some operations.Reconnect) = refl
+cuts_same (Some operations.Logout) = refl
+cuts_same (Some operations.Abort) = refl
+cuts_same (Some operations.AbortSet) = refl
+cuts_same (Some operations.UnitReset) = refl
+cuts_same (Some operations.TargetReset) = refl
+cuts_same (Some operations.AgentReset) = refl
+cuts_same (Some operations.State) = refl
+cuts_same (Some operations.Enable) = refl
+
+abbrev waits_by : Action → Option Operation → Bool → Bool
+waits_by action under_way pointing =
+    (is_some (operation_of action) && is_some under_way) || (ends_list (operation_of action) && pointing) || (is_list_step action && ends_list under_way)
+
+waiting_same : (action : Action) (wire : Terms) (host : Host) (pointing : Bool) → ends_list (operation_of action) ≡ false → is_waiting action wire host ≡ waits_by action (running_operation host.operation) pointing
+waiting_same (actions.Put cmd) wire host pointing e = cuts_same (running_operation host.operation)
+waiting_same (actions.Append cmd) wire host pointing e = cuts_same (running_operation host.operation)
+waiting_same actions.Low wire host pointing e = cuts_same (running_operation host.operation)
+waiting_same actions.Link wire host pointing e = cuts_same (running_operation host.operation)
+waiting_same actions.Ring wire host pointing e = cuts_same (running_operation host.operation)
+waiting_same (actions.Dummy orb) wire host pointing e = cuts_same (running_operation host.operation)
+waiting_same actions.Rom wire host pointing e = ap (λ b. (b || false) || false) (some_running host.operation)
+waiting_same actions.AgentReset wire host pointing e = untrue (sym e)
+waiting_same actions.State wire host pointing e = refl
+waiting_same actions.Enable wire host pointing e = ap (λ b. (b || false) || false) (some_running host.operation)
+waiting_same (actions.Login unit reconnect exclusive password) wire host pointing e = ap (λ b. (b || false) || false) (some_running host.operation)
+waiting_same (actions.Query unit) wire host pointing e = ap (λ b. (b || false) || false) (some_running host.operation)
+waiting_same actions.Reconnect wire host pointing e = ap (λ b. (b || false) || false) (some_running host.operation)
+waiting_same actions.Logout wire host pointing e = untrue (sym e)
+waiting_same (actions.Abort orb) wire host pointing e = ap (λ b. (b || false) || false) (some_running host.operation)
+waiting_same actions.AbortSet wire host pointing e = untrue (sym e)
+waiting_same actions.UnitReset wire host pointing e = untrue (sym e)
+waiting_same actions.TargetReset wire host pointing e = untrue (sym e)
+
 session_rows : (line : ℕ) (run : Run) (i : ℕ) (action : Action) (has_label : Bool) → host_core (host_at (history_of line run) i) ≡ own_core (initiator_of run i) → HasSession line run i action has_label
 session_rows line run i action has_label e =
     let seat = (initiator_of run i).seat in
     let session : (host_at (history_of line run) i).session ≡ session_in seat = ap (λ (c : Core). c.session) e in
-    record { stuck = ap is_stuck session ∙ stuck_row seat; wrong_state = ap (λ x. not (is_right_state action x)) session ∙ ap not (right_row action seat) }
+    let operation : running_operation (host_at (history_of line run) i).operation ≡ operation_in (initiator_of run i).operation = ap (λ (c : Core). c.operation) e in
+    record {
+      stuck = ap is_stuck session ∙ stuck_row seat;
+      wrong_state = ap (λ x. not (is_right_state action x)) session ∙ ap not (right_row action seat);
+      waiting = λ f. waiting_same action (terms (history_of line run)) (host_at (history_of line run) i) (points seat) f ∙ ap (λ x. waits_by action x (points seat)) operation;
+    }
 
 pub host_law : HostLaw
 host_law = record {
   core = core_of_runs;
+  between = λ line run r next most told m i b. (between_runs (Cored run.ready) (cored_carried run.ready) line run (λ j c. first_cored line j run.initiators run.ready c) r next most told m i b).core;
   rows = λ line run r i b action has_label. session_rows line run i action has_label (core_of_runs line run r i b);
 }

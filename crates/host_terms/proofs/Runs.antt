@@ -229,11 +229,11 @@ rows_after line run r i b =
 
 -- ---- between two deliveries of a line
 
-are_told : (told : List (Option Told)) (s : Scene) → MayAll told (begun s) → AreTold told
+pub are_told : (told : List (Option Told)) (s : Scene) → MayAll told (begun s) → AreTold told
 unfolding MayHappen
 are_told told s m = happened_fits (events.Step (length told)) told s (record { few = omega arith; all = λ l. absurd (omega (arith, l)); may = m })
 
-count_between : (told : List (Option Told)) (s : Scene) → length (after_all told (begun s)).world.initiators ≡ length s.world.initiators
+pub count_between : (told : List (Option Told)) (s : Scene) → length (after_all told (begun s)).world.initiators ≡ length s.world.initiators
 unfolding happens
 count_between told s = ap (λ (z : Sizes). z.0) (happens_keeps 0 (events.Step 0) told s)
 
