@@ -1,5 +1,5 @@
 -- What each note makes of the core of an initiator's host.
-use Rattle.std.proofs.Common.{arith, ◌≡◌, refl, sym, ◌∙◌, ap, ℕ, zero, suc, ◌+◌, ◌&&◌, not, nat_eq, Bool, true, false, cond, List, [], ◌∷◌, Option, Some, None}
+use Rattle.std.proofs.Common.{arith, ◌≡◌, refl, sym, ◌∙◌, ap, ℕ, zero, suc, ◌+◌, ◌%◌, ◌&&◌, not, nat_eq, Bool, true, false, cond, List, [], ◌∷◌, Option, Some, None}
 use Rattle.std.proofs.lemmas.Bool.Decides.{nat_tests}
 use Rattle.orb_layout.specs.Replies.{Answer, Done, Expired, NoLabel, Payload, Refused}
 use Rattle.orb_layout.specs.declared.status.StatusKind.{StatusKind}
@@ -17,12 +17,11 @@ use Rattle.sbp_journal.specs.declared.operation.Operation.{Operation}
 use Rattle.sbp_journal.specs.declared.operation.Operation.TheVariants as operations
 use Rattle.sbp_journal.specs.declared.operation.OpWord.{OpWord}
 use Rattle.sbp_journal.specs.declared.operation.OpWord.TheVariants as words
-use Rattle.sbp_laws.specs.Actions.{running_operation}
 use Rattle.sbp_laws.specs.Lists.{present_list}
 use Rattle.sbp_laws.specs.Packets.{answer_in, answered_at, packet_at, receiver_in, sender_in}
 use Rattle.sbp_laws.specs.Turns.{event_of}
 use Rattle.sbp_laws.specs.Hosts.{Host, Underway, acted, got_by, goes_on, host_at, is_management, is_serial, known_host, list_begins, op_ended, operation_of, pointer_answered, reset_seen, ring, sent_as, sent_in, session_ended, session_reset, session_sent, session_stuck}
-use Rattle.host_terms.specs.Core.{Core, host_core}
+use Rattle.host_terms.specs.Core.{Core, host_core, work_of}
 use Rattle.host_terms.proofs.Carries.{IsNoAct, is_apart}
 use Rattle.host_terms.proofs.Prepares.{itself}
 
@@ -75,7 +74,7 @@ turned i j e = grind (arith, nat_tests)
 
 -- the core with another operation under way
 abbrev core_with : Host → Option Underway → Core
-core_with host u = record { session = host.session; operation = running_operation u; logins = host.logins; writes = host.writes }
+core_with host u = record { session = host.session; work = work_of u; logins = host.logins; writes = host.writes }
 
 goes_core : (u : Option Underway) (serial : ℕ) (host : Host) → host.operation ≡ u → host_core (goes_on u serial host) ≡ host_core host
 goes_core None serial host e = refl
@@ -112,8 +111,8 @@ sent_core serial generation from to bytes past i n =
 -- the request of an action
 abbrev pub begun_by : Option Operation → Core → Core
 begun_by None c = c
-begun_by (Some operations.Login) c = record { session = session_sent operations.Login c.session; operation = Some operations.Login; logins = c.logins + 1; writes = c.writes + 1 }
-begun_by (Some operation) c = record { session = session_sent operation c.session; operation = Some operation; logins = c.logins; writes = cond (is_management operation) (c.writes + 1) c.writes }
+begun_by (Some operations.Login) c = record { session = session_sent operations.Login c.session; work = Some (record { operation = operations.Login; place = Some (c.writes % 2) }); logins = c.logins + 1; writes = c.writes + 1 }
+begun_by (Some operation) c = record { session = session_sent operation c.session; work = Some (record { operation = operation; place = cond (is_management operation) (Some (c.writes % 2)) None }); logins = c.logins; writes = cond (is_management operation) (c.writes + 1) c.writes }
 
 ring_core : (pointer : Option ℕ) (serial : ℕ) (host : Host) → host_core (ring pointer serial host) ≡ host_core host
 ring_core None serial host = refl
@@ -173,7 +172,7 @@ got_core None wire serial present host = refl
 -- no operation is a read of AGENT_STATE
 abbrev pub ended_in : Operation → OpWord → Core → Core
 ended_in operations.State word c = c
-ended_in operation word c = record { session = session_ended operation word c.session; operation = None; logins = c.logins; writes = c.writes }
+ended_in operation word c = record { session = session_ended operation word c.session; work = None; logins = c.logins; writes = c.writes }
 
 op_core : (operation : Operation) (word : OpWord) (host : Host) → host_core (op_ended operation word host) ≡ ended_in operation word (host_core host)
 op_core operations.Rom words.Done host = refl
@@ -211,14 +210,14 @@ op_told operation word past i =
 
 -- a session becomes stuck
 abbrev pub stuck_in : Core → Core
-stuck_in c = record { session = session_stuck c.session; operation = c.operation; logins = c.logins; writes = c.writes }
+stuck_in c = record { session = session_stuck c.session; work = c.work; logins = c.logins; writes = c.writes }
 
 pub stuck_told : (past : List Moment) (i : ℕ) → host_core (host_at (said (notes.Stuck i) ∷ past) i) ≡ stuck_in (host_core (host_at past i))
 stuck_told past i = so_if (nat_eq i i) _ (host_at past i) (itself i)
 
 -- a generation is seen
 abbrev pub reset_in : Bool → Core → Core
-reset_in true c = record { session = session_reset c.session; operation = None; logins = c.logins; writes = c.writes }
+reset_in true c = record { session = session_reset c.session; work = None; logins = c.logins; writes = c.writes }
 reset_in false c = c
 
 reset_core : (b : Bool) (host : Host) → host_core (reset_seen b host) ≡ reset_in b (host_core host)

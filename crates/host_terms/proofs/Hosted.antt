@@ -5,10 +5,11 @@ use Rattle.async_packet.specs.Labels.{LabelParts}
 use Rattle.label_table.specs.declared.reply.Stale.{Stale}
 use Rattle.label_table.specs.Layer.{Finding, Layer, expiring_step, judging_step, of_again, of_generation, of_grammar, of_label, of_request, of_response, seeing_step}
 use Rattle.sbp_journal.specs.Run.{Moment, asked, said}
+use Rattle.sbp_journal.specs.Rows.{Refusals, refusal_of}
 use Rattle.sbp_journal.specs.Wire.{Terms, terms}
 use Rattle.sbp_journal.specs.declared.operation.Operation.{Operation}
 use Rattle.sbp_journal.specs.declared.operation.Operation.TheVariants as operations
-use Rattle.sbp_journal.specs.Outgoings.{empty_outbox}
+use Rattle.sbp_journal.specs.Outgoings.{OutboxState, empty_outbox}
 use Rattle.sbp_journal.specs.declared.event.Action.{Action}
 use Rattle.sbp_journal.specs.declared.event.Action.TheVariants as actions
 use Rattle.sbp_journal.specs.declared.event.Event.TheVariants as events
@@ -20,11 +21,13 @@ use Rattle.sbp_session.specs.Seats.{points}
 use Rattle.sbp_initiator.specs.declared.purpose.Purpose.{Purpose}
 use Rattle.sbp_initiator.specs.declared.purpose.Running.{Running}
 use Rattle.sbp_initiator.specs.declared.state.InitiatorState.{InitiatorState}
-use Rattle.sbp_initiator.specs.Acting.{IsAction, act_step}
+use Rattle.sbp_initiator.specs.Acting.{IsAction, act_step, facts_with}
 use Rattle.sbp_initiator.specs.Effects.{Turn}
 use Rattle.sbp_initiator.specs.Initiators.{new_state}
 use Rattle.sbp_initiator.specs.Receiving.{expire_step, expired_as, receive_step}
-use Rattle.sbp_initiator.specs.Refusals.{ends_list, fits_session, is_in_stuck, is_list_step, operation_of}
+use Rattle.sbp_initiator.proofs.FirstRow.{refusal_law}
+use Rattle.sbp_initiator.specs.Refusing.{finds_label}
+use Rattle.sbp_initiator.specs.Refusals.{refusal, rows_of, ends_list, fits_session, is_in_stuck, is_list_step, operation_of}
 use Rattle.sbp_initiator.specs.Seeing.{see_step}
 use Rattle.sbp_initiator.specs.States.{operation_in, session_of}
 use Rattle.initiator_laws.specs.Laws.{after, acts, lets_expire, receives, sees}
@@ -33,14 +36,14 @@ use Rattle.initiator_laws.proofs.Over.{counted_now, sound}
 use Rattle.initiator_laws.proofs.Purposes.{IfFor, closes_asked, expires_asked}
 use Rattle.initiator_laws.proofs.Runs.{FitsNow}
 use Rattle.sbp_bus.specs.Packets.{judged_note}
-use Rattle.sbp_laws.specs.Actions.{cuts_list, is_right_state, is_waiting, running_operation}
+use Rattle.sbp_laws.specs.Actions.{refusal_at, refusals, cuts_list, is_right_state, is_waiting, running_operation}
 use Rattle.sbp_laws.specs.Hosts.{Host, Underway, begun, host_at, is_stuck, new_host, ready_host}
 use Rattle.sbp_laws.specs.Turns.{event_of}
 use Rattle.sbp_world.specs.Histories.{history_of}
 use Rattle.sbp_world.specs.Runs.{Run}
 use Rattle.host_terms.specs.Calling.{IsCalled}
 use Rattle.host_terms.specs.Calls.{behind}
-use Rattle.host_terms.specs.Core.{Core, HasSession, HostLaw, host_core, own_core, session_in}
+use Rattle.host_terms.specs.Core.{DecidesBySession, Core, HasSession, HostLaw, host_core, operation_by, own_core, session_in, work_in, work_of}
 use Rattle.host_terms.specs.Refusing.{initiator_of}
 use Rattle.host_terms.specs.Runs.{IsRun}
 use Rattle.host_terms.proofs.Calling.{IsOwn, own_first, own_on}
@@ -94,7 +97,7 @@ module _ (ready : Bool) (i : ℕ) (s : InitiatorState) (h : IsCalled ready i s) 
 record Cored (ready : Bool) (past : List Moment) (i : ℕ) (s : InitiatorState) : Type 0 where
   own : IsOwn ready i s
   core : host_core (host_at past i) ≡ own_core s
-  sits : Sits (own_core s).operation (own_core s).session
+  sits : Sits (operation_by (own_core s).work) (own_core s).session
 
 module _ (ready : Bool) where
   known_of : (past : List Moment) (i : ℕ) (s : InitiatorState) → Cored ready past i s → Known past (empty_outbox, s)
@@ -193,7 +196,7 @@ unfolding new_state
 begun_core i initiators true b = let e : nat_lt i initiators ≡ true = grind (arith, nat_tests) in ap (λ c. host_core (cond c (ready_host i) new_host)) e
 begun_core i initiators false b = refl
 
-first_sits : (i : ℕ) (ready : Bool) → Sits (own_core (new_state i ready)).operation (own_core (new_state i ready)).session
+first_sits : (i : ℕ) (ready : Bool) → Sits (operation_by (own_core (new_state i ready)).work) (own_core (new_state i ready)).session
 unfolding new_state
 first_sits i ready = tt
 
@@ -343,6 +346,14 @@ right_row actions.TargetReset (seats.Leaving response) = refl
 right_row actions.TargetReset (seats.Stuck origin) = refl
 
 -- and on the operation under way
+working : (u : Option Underway) → running_operation u ≡ operation_by (work_of u)
+working None = refl
+working (Some underway) = refl
+
+worked : (r : Option Running) → operation_in r ≡ operation_by (work_in r)
+worked None = refl
+worked (Some running) = refl
+
 some_running : (u : Option Underway) → not (is_none u) ≡ is_some (running_operation u)
 some_running None = refl
 some_running (Some underway) = refl
@@ -390,16 +401,35 @@ session_rows : (line : ℕ) (run : Run) (i : ℕ) (action : Action) (has_label :
 session_rows line run i action has_label e =
     let seat = (initiator_of run i).seat in
     let session : (host_at (history_of line run) i).session ≡ session_in seat = ap (λ (c : Core). c.session) e in
-    let operation : running_operation (host_at (history_of line run) i).operation ≡ operation_in (initiator_of run i).operation = ap (λ (c : Core). c.operation) e in
+    let operation : running_operation (host_at (history_of line run) i).operation ≡ operation_in (initiator_of run i).operation = working (host_at (history_of line run) i).operation ∙ ap (λ (c : Core). operation_by c.work) e ∙ sym (worked (initiator_of run i).operation) in
     record {
       stuck = ap is_stuck session ∙ stuck_row seat;
       wrong_state = ap (λ x. not (is_right_state action x)) session ∙ ap not (right_row action seat);
       waiting = λ f. waiting_same action (terms (history_of line run)) (host_at (history_of line run) i) (points seat) f ∙ ap (λ x. waits_by action x (points seat)) operation;
     }
 
+two_rows : (a b c d : Bool) (x y : Option ℕ) → a ≡ c → b ≡ d → a || b ≡ true → cond a (Some 1) (cond b (Some 2) x) ≡ cond c (Some 1) (cond d (Some 2) y)
+two_rows true b true d x y e f g = refl
+two_rows true b false d x y e f g = untrue (sym e)
+two_rows false b true d x y e f g = untrue e
+two_rows false true false true x y e f g = refl
+two_rows false true false false x y e f g = untrue (sym f)
+two_rows false false false d x y e f g = untrue g
+
+first_same : (r q : Refusals) → r.stuck ≡ q.stuck → r.wrong_state ≡ q.wrong_state → DecidesBySession r → refusal_of r ≡ refusal_of q
+first_same r q e f g = two_rows r.stuck r.wrong_state q.stuck q.wrong_state _ _ e f g
+
+first_row : (line : ℕ) (run : Run) (i : ℕ) (action : Action) (o : OutboxState) → HasSession line run i action (finds_label action (initiator_of run i)) → DecidesBySession (refusals (history_of line run) i action (host_at (history_of line run) i)) → refusal_at (history_of line run) i action ≡ (act_step action o (initiator_of run i)).0
+unfolding refusal
+first_row line run i action o h d =
+    let s = initiator_of run i in
+    first_same (refusals (history_of line run) i action (host_at (history_of line run) i)) (rows_of action (facts_with (finds_label action s) s action)) h.stuck h.wrong_state d
+    ∙ sym (refusal_law.first action o s)
+
 pub host_law : HostLaw
 host_law = record {
   core = core_of_runs;
   between = λ line run r next most told m i b. (between_runs (Cored run.ready) (cored_carried run.ready) line run (λ j c. first_cored line j run.initiators run.ready c) r next most told m i b).core;
+  first = λ line run r i b action o d. first_row line run i action o (session_rows line run i action (finds_label action (initiator_of run i)) (core_of_runs line run r i b)) d;
   rows = λ line run r i b action has_label. session_rows line run i action has_label (core_of_runs line run r i b);
 }

@@ -28,12 +28,12 @@ use Rattle.sbp_initiator.specs.Acting.{act_step, append_step, asked_as, asked_fo
 use Rattle.sbp_initiator.specs.Commands.{put_lists}
 use Rattle.sbp_initiator.specs.Effects.{Turn, told}
 use Rattle.sbp_initiator.specs.Refusals.{is_in_held, is_in_live, is_in_out, refusal}
-use Rattle.sbp_initiator.specs.States.{is_unwritten, last_linked, no_marks, session_of}
+use Rattle.sbp_initiator.specs.States.{is_unwritten, last_linked, no_marks, place_of, session_of}
 use Rattle.sbp_laws.specs.Turns.{event_of}
 use Rattle.sbp_laws.specs.Hosts.{Session, host_at, operation_of}
 use Rattle.sbp_laws.specs.Hosts as hosts
 use Rattle.host_terms.specs.Calls.{behind}
-use Rattle.host_terms.specs.Core.{host_core, own_core, session_in}
+use Rattle.host_terms.specs.Core.{host_core, operation_by, own_core, session_in}
 use Rattle.host_terms.proofs.Acts.{Goes, goes_on}
 use Rattle.host_terms.proofs.Asked.{IsRequest}
 use Rattle.host_terms.proofs.Cores.{append_told, asks_core, begun_by, untrue}
@@ -144,7 +144,7 @@ pub record Starts (past : List Moment) (action : Action) (t : Turn) : Type 0 whe
   pub known : Known past (t.0, before)
   pub number : t.1.number ≡ before.number
   pub begun : begun_by (operation_of action) (own_core before) ≡ own_core t.1
-  pub sits : Sits (own_core t.1).operation (own_core t.1).session
+  pub sits : Sits (operation_by (own_core t.1).work) (own_core t.1).session
 
 step_starts : (past : List Moment) (action : Action) (t : Turn) → operation_of action ≡ None → Known past t → Starts past action t
 step_starts past action t e k = record {
@@ -156,11 +156,11 @@ step_starts past action t e k = record {
 }
 
 module _ (past : List Moment) (o : OutboxState) (s : InitiatorState) (k : Known past (o, s)) where
-  starts_with : (action : Action) (u : InitiatorState) → u.number ≡ s.number → begun_by (operation_of action) (own_core s) ≡ own_core u → Sits (own_core u).operation (own_core u).session → Starts past action (o, u)
+  starts_with : (action : Action) (u : InitiatorState) → u.number ≡ s.number → begun_by (operation_of action) (own_core s) ≡ own_core u → Sits (operation_by (own_core u).work) (own_core u).session → Starts past action (o, u)
   starts_with action u n e sits = record { before = s; known = k; number = n; begun = e; sits = sits }
 
   -- the pin of an abort is no part of it
-  pinned_starts : (orb : ℕ) (v : InitiatorState) → v.number ≡ s.number → begun_by (Some operations.Abort) (own_core s) ≡ own_core v → Sits (own_core v).operation (own_core v).session → (found : Option TicketParts) → Starts past (actions.Abort orb) (o, pinned_for found v)
+  pinned_starts : (orb : ℕ) (v : InitiatorState) → v.number ≡ s.number → begun_by (Some operations.Abort) (own_core s) ≡ own_core v → Sits (operation_by (own_core v).work) (own_core v).session → (found : Option TicketParts) → Starts past (actions.Abort orb) (o, pinned_for found v)
   pinned_starts orb v n e sits None = starts_with (actions.Abort orb) v n e sits
   pinned_starts orb v n e sits (Some t) = starts_with (actions.Abort orb) _ n e sits
 
@@ -179,18 +179,18 @@ module _ (past : List Moment) (o : OutboxState) (s : InitiatorState) (k : Known 
   done_starts (actions.Login unit reconnect exclusive password) g =
       let e = enters s.seat (not_not (is_in_out (session_of s.seat)) g.rows.wrong_state) in
       starts_with (actions.Login unit reconnect exclusive password) _ refl
-      (ap (λ x. record { session = x; operation = Some operations.Login; logins = s.counts.logins + 1; writes = s.counts.managed + 1 }) (sym e))
+      (ap (λ x. record { session = x; work = Some (record { operation = operations.Login; place = Some (place_of s.counts.managed) }); logins = s.counts.logins + 1; writes = s.counts.managed + 1 }) (sym e))
       (subst (λ x. Sits (Some operations.Login) x) (sym e) tt)
   done_starts (actions.Query unit) g = starts_with (actions.Query unit) _ refl refl tt
   done_starts actions.Reconnect g =
       let e = returns s.seat (not_not (is_in_held (session_of s.seat)) g.rows.wrong_state) in
       starts_with actions.Reconnect _ refl
-      (ap (λ x. record { session = x; operation = Some operations.Reconnect; logins = s.counts.logins; writes = s.counts.managed + 1 }) (sym e))
+      (ap (λ x. record { session = x; work = Some (record { operation = operations.Reconnect; place = Some (place_of s.counts.managed) }); logins = s.counts.logins; writes = s.counts.managed + 1 }) (sym e))
       (subst (λ x. Sits (Some operations.Reconnect) x) (sym e) tt)
   done_starts actions.Logout g =
       let e = leaves s.seat (not_not (is_in_live (session_of s.seat)) g.rows.wrong_state) (second_of _ (points s.seat) _ g.rows.waiting) in
       starts_with actions.Logout _ refl
-      (ap (λ x. record { session = x; operation = Some operations.Logout; logins = s.counts.logins; writes = s.counts.managed + 1 }) (sym e))
+      (ap (λ x. record { session = x; work = Some (record { operation = operations.Logout; place = Some (place_of s.counts.managed) }); logins = s.counts.logins; writes = s.counts.managed + 1 }) (sym e))
       (subst (λ x. Sits (Some operations.Logout) x) (sym e) tt)
   done_starts (actions.Abort orb) g =
       let v = managed_by (orb_by (actions.Abort orb) s) operations.Abort s in

@@ -18,12 +18,11 @@ use Rattle.sbp_session.specs.Seats.{is_stuck_seat}
 use Rattle.sbp_initiator.specs.declared.purpose.Running.{Running}
 use Rattle.sbp_initiator.specs.declared.state.InitiatorState.{InitiatorState}
 use Rattle.sbp_initiator.specs.Effects.{Turn, drop_list_step, dropped_as, end_own_for, end_own_step, end_step, good_event, good_word, moved, moves_session, stick_step, told}
-use Rattle.sbp_initiator.specs.States.{operation_in}
 use Rattle.sbp_laws.specs.Turns.{event_of}
 use Rattle.sbp_laws.specs.Hosts.{Session, host_at, session_ended, session_stuck}
 use Rattle.sbp_laws.specs.Hosts as terms
 use Rattle.host_terms.specs.Calls.{behind}
-use Rattle.host_terms.specs.Core.{Core, host_core, own_core, session_in}
+use Rattle.host_terms.specs.Core.{Core, host_core, operation_by, own_core, session_in, work_in}
 use Rattle.host_terms.proofs.Cores.{apart_core, drop_told, ended_in, op_told, stuck_in, stuck_told, untrue}
 use Rattle.host_terms.proofs.Listed.{behind_more}
 
@@ -63,7 +62,7 @@ pub record Known (past : List Moment) (t : Turn) : Type 0 where
   pub others : (j : ℕ) → (j == t.1.number) ≡ false → host_core (host_at (behind t.0.sides past) j) ≡ host_core (host_at past j)
   pub line : event_of (behind t.0.sides past) ≡ event_of past
   pub wire : terms (behind t.0.sides past) ≡ terms past
-  pub sits : Sits (own_core t.1).operation (own_core t.1).session
+  pub sits : Sits (operation_by (own_core t.1).work) (own_core t.1).session
 
 module _ (past : List Moment) where
   pub pick_known : (b : Bool) (x y : Turn) → (b ≡ true → Known past x) → (b ≡ false → Known past y) → Known past (cond b x y)
@@ -81,11 +80,11 @@ module _ (past : List Moment) where
     others = λ j f. ap (λ sides. host_core (host_at (behind sides past) j)) e ∙ k.others j (ap (nat_eq j) (sym n) ∙ f);
     line = ap (λ sides. event_of (behind sides past)) e ∙ k.line;
     wire = ap (λ sides. terms (behind sides past)) e ∙ k.wire;
-    sits = subst (λ (x : Core). Sits x.operation x.session) (sym c) k.sits;
+    sits = subst (λ (x : Core). Sits (operation_by x.work) x.session) (sym c) k.sits;
   }
 
   -- a note that the initiator tells
-  pub tell : (note : Note) (o : OutboxState) (s u : InitiatorState) (change : Core → Core) → u.number ≡ s.number → change (own_core s) ≡ own_core u → ((ms : List Moment) → host_core (host_at (said note ∷ ms) s.number) ≡ change (host_core (host_at ms s.number))) → ((ms : List Moment) (j : ℕ) → (j == s.number) ≡ false → host_core (host_at (said note ∷ ms) j) ≡ host_core (host_at ms j)) → ((ms : List Moment) → terms (said note ∷ ms) ≡ terms ms) → Sits (own_core u).operation (own_core u).session → Known past (o, s) → Known past (told o note, u)
+  pub tell : (note : Note) (o : OutboxState) (s u : InitiatorState) (change : Core → Core) → u.number ≡ s.number → change (own_core s) ≡ own_core u → ((ms : List Moment) → host_core (host_at (said note ∷ ms) s.number) ≡ change (host_core (host_at ms s.number))) → ((ms : List Moment) (j : ℕ) → (j == s.number) ≡ false → host_core (host_at (said note ∷ ms) j) ≡ host_core (host_at ms j)) → ((ms : List Moment) → terms (said note ∷ ms) ≡ terms ms) → Sits (operation_by (own_core u).work) (own_core u).session → Known past (o, s) → Known past (told o note, u)
   tell note o s u change n c here there plain sits k =
       let more = behind_more o.sides (sides.Own note) past in
       record {
@@ -99,7 +98,7 @@ module _ (past : List Moment) where
   -- one that leaves the core of every host
   pub tell_plain : (note : Note) (o : OutboxState) (s u : InitiatorState) → u.number ≡ s.number → own_core u ≡ own_core s → ((ms : List Moment) (j : ℕ) → host_core (host_at (said note ∷ ms) j) ≡ host_core (host_at ms j)) → ((ms : List Moment) → terms (said note ∷ ms) ≡ terms ms) → Known past (o, s) → Known past (told o note, u)
   tell_plain note o s u n c same plain k =
-      tell note o s u (λ x. x) n (sym c) (λ ms. same ms s.number) (λ ms j e. same ms j) plain (subst (λ (x : Core). Sits x.operation x.session) (sym c) k.sits) k
+      tell note o s u (λ x. x) n (sym c) (λ ms. same ms s.number) (λ ms j e. same ms j) plain (subst (λ (x : Core). Sits (operation_by x.work) x.session) (sym c) k.sits) k
 
   -- ---- a list is dropped
 
@@ -135,7 +134,7 @@ gets_stuck (seats.Stuck origin) e = untrue (sym e)
 
 -- the core with another session
 abbrev pub seated : Session → Core → Core
-seated session c = record { session = session; operation = c.operation; logins = c.logins; writes = c.writes }
+seated session c = record { session = session; work = c.work; logins = c.logins; writes = c.writes }
 
 module _ (past : List Moment) (o : OutboxState) (s : InitiatorState) (k : Known past (o, s)) where
   abbrev failing : InitiatorState
@@ -146,7 +145,7 @@ module _ (past : List Moment) (o : OutboxState) (s : InitiatorState) (k : Known 
   sticks_by false e =
       tell past (notes.Stuck s.number) o s failing stuck_in refl (ap (λ x. seated x (own_core s)) (gets_stuck s.seat e)) (λ ms. stuck_told ms s.number)
       (λ ms j f. apart_core (notes.Stuck s.number) ms j (ap not f)) (λ ms. refl)
-      (subst (λ x. Sits (own_core s).operation x) (gets_stuck s.seat e) (sits_stuck (own_core s).operation (session_in s.seat) k.sits)) k
+      (subst (λ x. Sits (operation_by (own_core s).work) x) (gets_stuck s.seat e) (sits_stuck (operation_by (own_core s).work) (session_in s.seat) k.sits)) k
 
   pub stick_known : Known past (stick_step o s)
   stick_known = sticks_by (is_stuck_seat s.seat) refl
@@ -155,7 +154,7 @@ module _ (past : List Moment) (o : OutboxState) (s : InitiatorState) (k : Known 
 
 -- none is under way, and the session is this
 abbrev pub closed_in : Session → Core → Core
-closed_in session c = record { session = session; operation = None; logins = c.logins; writes = c.writes }
+closed_in session c = record { session = session; work = None; logins = c.logins; writes = c.writes }
 
 ended_is : (operation : Operation) (word : OpWord) (c : Core) → Sits (Some operation) c.session → ended_in operation word c ≡ closed_in (session_ended operation word c.session) c
 ended_is operations.Rom word c h = refl
@@ -172,8 +171,8 @@ ended_is operations.State word c h = absurd h
 ended_is operations.Enable word c h = refl
 
 -- the operation under way goes with the session
-sits_now : (s : InitiatorState) (running : Running) (session : Session) → s.operation ≡ Some running → Sits (operation_in s.operation) session → Sits (Some running.operation) session
-sits_now s running session e h = subst (λ (x : Option Running). Sits (operation_in x) session) e h
+sits_now : (s : InitiatorState) (running : Running) (session : Session) → s.operation ≡ Some running → Sits (operation_by (work_in s.operation)) session → Sits (Some running.operation) session
+sits_now s running session e h = subst (λ (x : Option Running). Sits (operation_by (work_in x)) session) e h
 
 module _ (past : List Moment) (o : OutboxState) (s : InitiatorState) (running : Running) (is : s.operation ≡ Some running) (k : Known past (o, s)) where
   pub end_known : (word : OpWord) (seat : Seat) → session_ended running.operation word (session_in s.seat) ≡ session_in seat → Known past (end_step running.operation word o (record s { seat = seat }))
