@@ -45,3 +45,4 @@ pub mod KnowHears
 pub mod KnowSees
 pub mod KnowActs
 pub mod Hosted
+pub mod Deciding

@@ -12,3 +12,4 @@ pub mod Runs
 pub mod Calling
 pub mod Refusing
 pub mod Core
+pub mod Deciding

@@ -3,6 +3,7 @@ ghost use Rattle.host_terms.specs.Acting.{ActionLaw};
 ghost use Rattle.host_terms.specs.Calling.{CallsLaw};
 ghost use Rattle.host_terms.specs.Calls.{CallLaw};
 ghost use Rattle.host_terms.specs.Core.{HostLaw};
+ghost use Rattle.host_terms.specs.Deciding.{RunRefusalLaw};
 ghost use Rattle.host_terms.specs.Handing.{HandLaw};
 ghost use Rattle.host_terms.specs.Keeping.{KeepingLaw};
 ghost use Rattle.host_terms.specs.Lines.{LineLaw};
@@ -95,4 +96,12 @@ pub fn runs_are_calls()
 #[tactic(auto, using(crate::proofs::Hosted::host_law))]
 pub fn runs_know_sessions()
     ensures { HostLaw }
+{}
+
+/// The law that an action of a run is refused with the least number whose row holds of the run terms: each step of a
+/// list that sends nothing and begins no ORB; and each other action but logins, queries, rings and those that prepare
+/// an ORB or end a list, where its request finds a label exactly as the run says.
+#[tactic(auto, using(crate::proofs::Deciding::run_refusal_law))]
+pub fn runs_refuse_by_their_rows()
+    ensures { RunRefusalLaw }
 {}
