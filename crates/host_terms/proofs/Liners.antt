@@ -100,7 +100,7 @@ number_moves : (b : Bool) (x y : Stage) → Moves b x y → y.state.number ≡ x
 number_moves b _ _ (stay x) = refl
 number_moves b _ _ (go_on x y z before move) = number_move b y z move ∙ number_moves b x y before
 
-number_call : (call : Call) (t : Turn) → IsCall call → (done call t).1.number ≡ t.1.number
+pub number_call : (call : Call) (t : Turn) → IsCall call → (done call t).1.number ≡ t.1.number
 number_call call t h = number_moves true (staged [] t) (staged [] (done call t)) (call_moves call (staged [] t) t h (stay (staged [] t)))
 
 own_note : (side : Side) → IsOwn side → IsNote side
@@ -120,7 +120,7 @@ own_note (sides.Cleared unit) h = absurd h
 own_note (sides.Unsolicited place) h = absurd h
 own_note (sides.Unsent place) h = absurd h
 
-own_notes : (told : List Side) → AreOwn told → AreNotes told
+pub own_notes : (told : List Side) → AreOwn told → AreNotes told
 own_notes [] h = tt
 own_notes (side ∷ told) h = (own_note side h.0, own_notes told h.1)
 
@@ -239,7 +239,7 @@ module _ (past : List Moment) (line serial : ℕ) where
       untrue : true ≡ false → ⊥
       untrue e = cc
 
-  silent : (label : LabelParts) (s : InitiatorState) → (expire_step label empty_outbox s).0 ≡ false → (expire_step label empty_outbox s).1.0 ≡ empty_outbox
+  pub silent : (label : LabelParts) (s : InitiatorState) → (expire_step label empty_outbox s).0 ≡ false → (expire_step label empty_outbox s).1.0 ≡ empty_outbox
   unfolding expire_step
   silent label s e = stale_silent (expiring_step s.layer s.target label) s e
 

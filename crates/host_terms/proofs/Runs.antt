@@ -219,7 +219,7 @@ are_after line run (e ∷ before) few short all fit =
     ∙ ap (λ ms. map said e.notes ++ asked e.line e.event ∷ ms) b.is)
     (line_keeps e.line e.event e.told s fit.0 (happened_fits e.event e.told s all.0.may) all.0.may b.sound so_far)
 
-count_after : (run : Run) (entries : List Entry) → length (after (beginning run) entries).world.initiators ≡ run.initiators
+pub count_after : (run : Run) (entries : List Entry) → length (after (beginning run) entries).world.initiators ≡ run.initiators
 count_after run [] = ap (λ (z : Sizes). z.0) (new_sizes run.initiators run.ready run.units)
 count_after run (e ∷ before) = ap (λ (z : Sizes). z.0) (happens_keeps e.line e.event e.told (after (beginning run) before)) ∙ count_after run before
 
@@ -229,11 +229,11 @@ rows_after line run r i b =
 
 -- ---- between two deliveries of a line
 
-are_told : (told : List (Option Told)) (s : Scene) → MayAll told (begun s) → AreTold told
+pub are_told : (told : List (Option Told)) (s : Scene) → MayAll told (begun s) → AreTold told
 unfolding MayHappen
 are_told told s m = happened_fits (events.Step (length told)) told s (record { few = omega arith; all = λ l. absurd (omega (arith, l)); may = m })
 
-count_between : (told : List (Option Told)) (s : Scene) → length (after_all told (begun s)).world.initiators ≡ length s.world.initiators
+pub count_between : (told : List (Option Told)) (s : Scene) → length (after_all told (begun s)).world.initiators ≡ length s.world.initiators
 unfolding happens
 count_between told s = ap (λ (z : Sizes). z.0) (happens_keeps 0 (events.Step 0) told s)
 

@@ -9,3 +9,7 @@ pub mod Handing
 pub mod Worlds
 pub mod Lines
 pub mod Runs
+pub mod Calling
+pub mod Refusing
+pub mod Core
+pub mod Deciding

@@ -1,10 +1,14 @@
 //! The laws of the terms of a run: what they say of an initiator is what it holds.
 ghost use Rattle.host_terms.specs.Acting.{ActionLaw};
+ghost use Rattle.host_terms.specs.Calling.{CallsLaw};
 ghost use Rattle.host_terms.specs.Calls.{CallLaw};
+ghost use Rattle.host_terms.specs.Core.{HostLaw};
+ghost use Rattle.host_terms.specs.Deciding.{RunRefusalLaw};
 ghost use Rattle.host_terms.specs.Handing.{HandLaw};
 ghost use Rattle.host_terms.specs.Keeping.{KeepingLaw};
 ghost use Rattle.host_terms.specs.Lines.{LineLaw};
 ghost use Rattle.host_terms.specs.Reading.{ReadLaw};
+ghost use Rattle.host_terms.specs.Refusing.{RunActionLaw};
 ghost use Rattle.host_terms.specs.Runs.{RunLaw};
 ghost use Rattle.host_terms.specs.Steps.{StepLaw};
 ghost use Rattle.host_terms.specs.Worlds.{WorldLaw};
@@ -71,4 +75,33 @@ pub fn steps_of_worlds_keep_rows()
 #[tactic(auto, using(crate::proofs::Runs::run_law))]
 pub fn runs_keep_rows()
     ensures { RunLaw }
+{}
+
+/// The law that behind every line of a run the rows of a refusal that read the lists of an initiator are those of the
+/// run, for each action, and that an action that is done tells the notes that the run asks for.
+#[tactic(auto, using(crate::proofs::Refusing::run_action_law))]
+pub fn run_actions_tell_their_notes()
+    ensures { RunActionLaw }
+{}
+
+/// The law that each initiator of every run is what a list of its own calls makes of a new one: so the laws of an
+/// initiator over every list of calls hold of it.
+#[tactic(auto, using(crate::proofs::Calling::calls_law))]
+pub fn runs_are_calls()
+    ensures { CallsLaw }
+{}
+
+/// The law that in every run the terms of an initiator's host have its session, the operation under way, and how many
+/// login numbers and management writes it used, and that the rows of a refusal that read the session are its own.
+#[tactic(auto, using(crate::proofs::Hosted::host_law))]
+pub fn runs_know_sessions()
+    ensures { HostLaw }
+{}
+
+/// The law that an action of a run is refused with the least number whose row holds of the run terms: each step of a
+/// list that sends nothing and begins no ORB; and each other action but logins, queries, rings and those that prepare
+/// an ORB or end a list, where its request finds a label exactly as the run says.
+#[tactic(auto, using(crate::proofs::Deciding::run_refusal_law))]
+pub fn runs_refuse_by_their_rows()
+    ensures { RunRefusalLaw }
 {}

@@ -72,10 +72,10 @@ eight_bytes x (suc (suc (suc (suc (suc (suc zero)))))) = omega arith
 eight_bytes x (suc (suc (suc (suc (suc (suc (suc zero))))))) = omega arith
 eight_bytes x (suc (suc (suc (suc (suc (suc (suc (suc k)))))))) = omega arith
 
-abbrev FitsWanted : Wanted → Type 0
+abbrev pub FitsWanted : Wanted → Type 0
 FitsWanted wanted = FitsRequest (wanted_body wanted)
 
-abbrev IfDemand : Option Demand → Type 0
+abbrev pub IfDemand : Option Demand → Type 0
 IfDemand None = Unit {0}
 IfDemand (Some demand) = FitsWanted demand.wanted
 
@@ -103,7 +103,7 @@ module _ (known : ℕ → Type 0) (acts most : ℕ) (s : InitiatorState) (f : Fi
   manage_asks : IfDemand (Some (manage_demand s))
   manage_asks = points_at (unwrap_or s.management 0) (start (windows.Management (place_of s.counts.managed))) (agent_fits s.management f.management_fits)
 
-  demand_fits : (action : Action) → IfDemand (demand_of action s)
+  pub demand_fits : (action : Action) → IfDemand (demand_of action s)
   demand_fits actions.Rom = omega arith
   demand_fits (actions.Login unit reconnect exclusive password) = manage_asks
   demand_fits (actions.Query unit) = manage_asks

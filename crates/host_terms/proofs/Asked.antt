@@ -1,0 +1,53 @@
+-- What the transaction layer sends when it is asked for something: a request, under a label.
+use Rattle.std.proofs.Common.{arith, ◌≡◌, refl, sym, ◌∙◌, ap, ℕ, suc, ◌+◌, ◌<◌, Bool, true, false, cond, List, [], ◌∷◌, length, Option, Some, None}
+use Rattle.async_packet.specs.Canon.{IsValid}
+use Rattle.label_table.specs.declared.judgement.Asked.{Asked}
+use Rattle.label_table.specs.declared.place.Place.{Place}
+use Rattle.label_table.specs.Bodies.{Body, header_to, request_with}
+use Rattle.label_table.specs.Layer.{Layer, asked_at, asking_in, asking_step, peer_at, peer_place, unlabelled}
+use Rattle.label_table.specs.Peers.{begun_for}
+use Rattle.label_table.specs.Table.{begin_at, begin_step, lowest_from, serves}
+use Rattle.label_table.proofs.Calls.{after_kept}
+use Rattle.sbp_journal.specs.Transactions.{Kind, part_of, request}
+use Rattle.sbp_initiator.specs.declared.purpose.Purpose.{Purpose}
+use Rattle.bus_transactions.specs.Fitting.{IsLayer}
+use Rattle.bus_transactions.proofs.MoveAsk.{asked_bytes}
+
+pub record IsRequest (bytes : List ℕ) : Type 0 where
+  pub label : ℕ
+  pub kind : Kind
+  pub part : part_of bytes ≡ request label kind
+
+abbrev pub IfRequest : Option Asked → Type 0
+IfRequest None = Unit {0}
+IfRequest (Some asked) = IsRequest asked.bytes
+
+-- a label that serves is one of the table
+below_by : (b : Bool) (number count n : ℕ) (rest : Option ℕ) → cond b (Some number) rest ≡ Some n → (rest ≡ Some n → n < number + 1 + count) → n < number + suc count
+below_by true number count n rest e h = let f : number ≡ n = cc in omega arith
+below_by false number count n rest e h = let f = h e in omega arith
+
+below : (number : ℕ) (bytes : List ℕ) (places : List Place) (n : ℕ) → lowest_from number bytes places ≡ Some n → n < number + length places
+unfolding lowest_from
+below number bytes [] n e = cc
+below number bytes (place ∷ places) n e =
+    below_by (serves number bytes place) number (length places) n (lowest_from (number + 1) bytes places) e (λ f. below (number + 1) bytes places n f)
+
+module _ (layer : Layer Purpose) (peer : ℕ) (body : Body) (purpose : Purpose) (c : IsLayer layer) (v : IsValid (request_with (header_to layer.node peer 0) body)) where
+  found_request : (k : ℕ) (number : Option ℕ) → ((n : ℕ) → number ≡ Some n → n < 64) → IfRequest (asked_at k layer (begun_for (peer_at layer k) peer purpose (begin_at number (peer_at layer k).table (unlabelled layer peer body)))).0
+  found_request k None s = tt
+  found_request k (Some number) s = let a = asked_bytes layer.node peer number body _ v (s number refl) refl in record { label = number; kind = a.kind; part = a.part }
+
+  full : (k : ℕ) → length (peer_at layer k).table.places ≡ 64
+  full k = ap (λ (l : Layer Purpose). length (peer_at l k).table.places) (sym c.layer_is) ∙ (after_kept c.first c.calls).parts.full k
+
+  asking_request : (found : Option ℕ) → IfRequest (asking_in found layer peer (unlabelled layer peer body) purpose).0
+  unfolding begin_step
+  asking_request None = tt
+  asking_request (Some k) =
+      found_request k (lowest_from 0 (unlabelled layer peer body) (peer_at layer k).table.places)
+      (λ n e. let b = below 0 (unlabelled layer peer body) (peer_at layer k).table.places n e in let f = full k in omega arith)
+
+  pub is_request : IfRequest (asking_step layer peer body purpose).0
+  unfolding asking_step
+  is_request = asking_request (peer_place peer layer)

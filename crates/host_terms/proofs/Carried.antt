@@ -1,0 +1,229 @@
+-- What the lines of a run carry on holds of each initiator after every line.
+use Rattle.std.proofs.Common.{arith, ◌≡◌, refl, sym, ◌∙◌, ap, subst, ℕ, suc, ◌+◌, ◌^◌, ◌<◌, ◌≤◌, nat_lt, Bool, true, false, cond, List, [], ◌∷◌, ◌++◌, length, map, Option, Some, None}
+use Rattle.bus_transactions.specs.May.{is_reset}
+use Rattle.bus_transactions.proofs.Fits.{request_fits}
+use Rattle.bus_transactions.proofs.Follows.{last_is}
+use Rattle.packet_store.specs.Stored.{Stored}
+use Rattle.rbc_disk.specs.Runs.{Told}
+use Rattle.sbp_journal.specs.Run.{Moment, asked, said}
+use Rattle.sbp_journal.specs.Wire.{terms}
+use Rattle.sbp_journal.specs.declared.event.Action.{Action}
+use Rattle.sbp_journal.specs.declared.event.Event.{Event}
+use Rattle.sbp_journal.specs.declared.event.Event.TheVariants as events
+use Rattle.sbp_journal.specs.declared.note.Note.TheVariants as notes
+use Rattle.sbp_initiator.specs.declared.state.InitiatorState.{InitiatorState}
+use Rattle.sbp_initiator.specs.declared.purpose.Demand.{Demand}
+use Rattle.sbp_initiator.specs.Acting.{IsAction, asked_for, demand_of}
+use Rattle.sbp_initiator.specs.States.{wanted_body}
+use Rattle.sbp_initiator.specs.Initiators.{new_state}
+use Rattle.sbp_bus.specs.Generations.{node_of, reset_step, topology_at}
+use Rattle.sbp_bus.specs.Packets.{end_note, no_node, no_packet}
+use Rattle.sbp_target.specs.Receiving.{with_key}
+use Rattle.sbp_world.specs.Histories.{moments_behind}
+use Rattle.sbp_world.specs.Lines.{MayHappen, acted, happens, keyed, no_unit}
+use Rattle.sbp_world.specs.Making.{new_world}
+use Rattle.sbp_world.specs.Nodes.{reset_line}
+use Rattle.sbp_world.specs.Packets.{MayIf, delivered_if, inject_line, injected, injected_to, is_in_flight, lose_line, lost, may_repeat, refused}
+use Rattle.sbp_world.specs.Runs.{AreEntries, Entry, Run, after, beginning}
+use Rattle.sbp_world.specs.Sending.{posted}
+use Rattle.sbp_world.specs.Settling.{MayAll, MayNext, after_all, delivered_at, delivered_next, is_settled, lowest}
+use Rattle.sbp_world.specs.Settling as settling
+use Rattle.sbp_world.specs.Worlds.{Scene, WorldState, begun, initiator_at, with_note, with_target, without_notes}
+use Rattle.sbp_world.specs.Wire.Lines.{AreLines, IsLine}
+use Rattle.sbp_world.specs.Wire.Wires.{Stands}
+use Rattle.sbp_world.specs.FitTarget.{BytesTold}
+use Rattle.sbp_world.proofs.FitInitiator.Law.{fitting_law as own_fitting_law}
+use Rattle.sbp_world.proofs.FitTarget.Law.{fitting_law}
+use Rattle.sbp_world.proofs.Making.{initiators_size}
+use Rattle.sbp_world.proofs.Wire.Bus.{holds}
+use Rattle.sbp_world.proofs.FitInitiator.Acts.{IfDemand, demand_fits}
+use Rattle.sbp_world.proofs.Wire.Holding.{Sound, TargetOf, target_small}
+use Rattle.sbp_world.proofs.Wire.Runs.{sound_after}
+use Rattle.sbp_world.proofs.Wire.Sound.{next_heard, opens}
+use Rattle.sbp_world.proofs.Wire.Starts.{states_at}
+use Rattle.sbp_world.proofs.Wire.ToldBytes.{AreTold, happened_fits}
+use Rattle.host_terms.specs.Handing.{history}
+use Rattle.host_terms.specs.Runs.{IsRun, more_deliveries}
+use Rattle.host_terms.proofs.Acting.{acts}
+use Rattle.host_terms.proofs.Asked.{IfRequest, is_request}
+use Rattle.host_terms.proofs.Carries.{Are, Carries, IsNoAct, NoneActs, note_carried}
+use Rattle.host_terms.proofs.Hosting.{line_same}
+use Rattle.host_terms.proofs.Knows.{may_see, target_there}
+use Rattle.host_terms.proofs.Passes.{delivers, line_expires, line_sees, ticks}
+use Rattle.host_terms.proofs.Runs.{are_told, count_after, count_between}
+
+-- the next packet was not injected
+fresh : {past : List Moment} (w : WorldState) → Stands past w → (terms (history w past)).injected (w.store.last + 1) ≡ false
+fresh w h =
+    let k = holds h.wire h.reached in
+    let counted : w.store.last ≡ (terms h.wire.past).count = ap (λ (st : Stored). st.last) (sym h.is.store_is) ∙ last_is k.follows in
+    ap (λ ms. (terms ms).injected (w.store.last + 1)) (sym h.is.past_is) ∙ (k.facts.unsent (w.store.last + 1) (omega arith)).honest
+
+-- what an action asks for is a request
+own_request : {past : List Moment} {lines : ℕ} (w : WorldState) (i : ℕ) → i < length w.initiators → lines + 1 < 2 ^ 32 → Sound past lines w → (action : Action) (d : Demand) → demand_of action (initiator_at w i) ≡ Some d → IfRequest (asked_for d (initiator_at w i)).0
+own_request w i inside few sound action d e =
+    let s = initiator_at w i in
+    let h = sound.nodes.own.holds i inside in
+    let count = sound.nodes.own.counts i inside in
+    let small = h.fits.running_fits in
+    let fits : IfDemand (Some d) = subst IfDemand e (demand_fits (TargetOf w.generations.seen i) s.counts.acts (s.counts.acts + 1) s h.fits (omega arith) action) in
+    let peer : s.target < 2 ^ 16 = target_small w.generations.seen i s.target h.fits.target_known in
+    is_request s.layer s.target (wanted_body d.wanted) d.purpose h.layer (request_fits s.layer.node s.target (wanted_body d.wanted) h.layer.small peer fits)
+
+-- a line that is no action stays so
+none_acts : (past : List Moment) (line : ℕ) (event : Event) (w : WorldState) → ((i : ℕ) → IsNoAct i (Some event)) → NoneActs (history w (asked line event ∷ past))
+none_acts past line event w n i = subst (IsNoAct i) (sym (line_same w.fresh (asked line event ∷ past))) (n i)
+
+-- a world behind some deliveries
+record Heard (P : List Moment → ℕ → InitiatorState → Type 0) (past : List Moment) (lines : ℕ) (w : WorldState) : Type 0 where
+  sound : Sound past lines w
+  all : Are P past w
+
+module _ (P : List Moment → ℕ → InitiatorState → Type 0) (law : Carries P) where
+  opened : (past : List Moment) (line : ℕ) (event : Event) (w : WorldState) → Are P past w → Are P (asked line event ∷ history w past) (without_notes w)
+  opened past line event w h i b = law.asked line event (history w past) i (initiator_at w i) (h i b)
+
+  -- ---- an action
+
+  acts_line : {past : List Moment} {lines : ℕ} (line i : ℕ) (w : WorldState) → i < length w.initiators → lines + 1 < 2 ^ 32 → Sound past lines w → Are P past w → (action : Action) → IsAction action → Are P (asked line (events.Act i action) ∷ history w past) (acted line i action (without_notes w))
+  acts_line {past} line i w inside few sound h action fit =
+      let event = events.Act i action in
+      acts P law (asked line event ∷ history w past) line i action (without_notes w) inside (opened past line event w h) refl fit 0
+      (ap (λ n. node_of w.generations n (initiator_at w i).target) (let e : i + 1 ≡ suc i = omega arith in e) ∙ target_there w sound.stands i inside sound.nodes)
+      (fresh w sound.stands) (λ d e. own_request w i inside few sound action d e)
+
+  -- ---- deliveries
+
+  module _ (past : List Moment) (lines line : ℕ) (event : Event) (n : (i : ℕ) → IsNoAct i (Some event)) where
+    abbrev now : List Moment
+    now = asked line event ∷ past
+
+    one_heard : (serial : ℕ) (again : Bool) (b : Bool) (told : List (Option Told)) (s : Scene) → MayIf b serial told s → Are P now s.world → Are P now (delivered_if b line serial again told s).world
+    one_heard serial again true [] s m h = absurd m
+    one_heard serial again true (told ∷ []) s m h = delivers P law now serial again told s m (none_acts past line event s.world n) h
+    one_heard serial again true (told ∷ other ∷ more) s m h = absurd m
+    one_heard serial again false told s m h = note_carried P law now s.world (notes.Refused line no_packet) (λ i. refl) h
+
+    next_told : (told : Option Told) → BytesTold told → (s : Scene) → Heard P now lines s.world → (terms now).repeats ≡ false → (o : Option ℕ) → lowest s.world ≡ o → settling.MayAt o told s → Heard P now lines (delivered_at o told s).world
+    next_told told t s h r None e m = absurd m
+    next_told told t s h r (Some serial) e m = record {
+      sound = next_heard fitting_law own_fitting_law told t s h.sound r (Some serial) e;
+      all = delivers P law now serial false told s m (none_acts past line event s.world n) h.all;
+    }
+
+    all_told : (told : List (Option Told)) → AreTold told → (s : Scene) → MayAll told s → Heard P now lines s.world → (terms now).repeats ≡ false → Heard P now lines (after_all told s).world
+    unfolding delivered_next MayNext
+    all_told [] t s m h r = h
+    all_told (told ∷ before) t s m h r =
+        let b = all_told before t.1 s m.1 h r in
+        next_told told t.0 (after_all before s) b r (lowest (after_all before s).world) refl m.0
+
+  ends : (past : List Moment) (w : WorldState) (b : Bool) → Are P past w → Are P past (with_note (end_note b) w)
+  ends past w true h = note_carried P law past w notes.Settled (λ i. refl) h
+  ends past w false h = note_carried P law past w notes.Stopped (λ i. refl) h
+
+  -- ---- the other lines
+
+  loses : (past : List Moment) (line serial : ℕ) (w : WorldState) (b : Bool) → Are P past w → Are P past (cond b (lost serial w) (refused line no_packet w))
+  loses past line serial w true h = note_carried P law past w (notes.Lost serial) (λ i. refl) h
+  loses past line serial w false h = note_carried P law past w (notes.Refused line no_packet) (λ i. refl) h
+
+  keys : (past : List Moment) (line unit : ℕ) (key : List ℕ) (w : WorldState) (b : Bool) → Are P past w → Are P past (cond b (with_note (notes.Key unit) (with_target (with_key unit key w.target) w)) (refused line no_unit w))
+  keys past line unit key w true h = note_carried P law past w (notes.Key unit) (λ i. refl) h
+  keys past line unit key w false h = note_carried P law past w (notes.Refused line no_unit) (λ i. refl) h
+
+  injects : (past : List Moment) (line from : ℕ) (bytes : List ℕ) (w : WorldState) (to : Option ℕ) → NoneActs (history w past) → Are P past w → Are P past (injected to line from bytes w)
+  unfolding posted
+  injects past line from bytes w None n h = note_carried P law past w (notes.Refused line no_node) (λ i. refl) h
+  injects past line from bytes w (Some to) n h = λ i b.
+      let serial = w.store.last + 1 in
+      law.sent serial (topology_at w.generations from).generation from to bytes (said (notes.Injected serial) ∷ history w past) i (initiator_at w i) (n i)
+      (law.apart (notes.Injected serial) (history w past) i (initiator_at w i) refl (h i b))
+
+  -- ---- every line
+
+  line_keeps : {past : List Moment} {lines : ℕ} (line : ℕ) (event : Event) (told : List (Option Told)) (s : Scene) → lines + 1 < 2 ^ 32 → IsLine event (length s.world.initiators) → AreTold told → MayHappen event told s → Sound past lines s.world → Are P past s.world → Are P (asked line event ∷ history s.world past) (happens line event told s).world
+  unfolding happens MayHappen reset_line lose_line inject_line keyed
+  line_keeps line (events.Begin initiators ready) told s few q t m sound h = absurd q
+  line_keeps line (events.Act i action) told s few q t m sound h = acts_line line i s.world q.0 few sound h action q.2
+  line_keeps {past} line (events.Reset physical) told s few q t m sound h =
+      let w = s.world in
+      let v = record (without_notes w) { generations = reset_step physical w.generations } in
+      note_carried P law (asked line (events.Reset physical) ∷ history w past) v (notes.Reset v.generations.latest.generation) (λ i. refl) (opened past line (events.Reset physical) w h)
+  line_keeps {past} line (events.See node) told s few q t m sound h =
+      let event = events.See node in
+      let o = opens line event s.world refl sound in
+      line_sees P law (asked line event ∷ history s.world past) node (without_notes s.world) (λ i. tt) (opened past line event s.world h)
+      (λ i e. let l : node ≤ length s.world.initiators = q in omega arith)
+      (λ i e. may_see (without_notes s.world) o.stands i (let l : node ≤ length s.world.initiators = q in omega arith))
+  line_keeps {past} {lines} line (events.Deliver serial) told s few q t m sound h =
+      let event = events.Deliver serial in
+      one_heard (history s.world past) lines line event (λ i. tt) serial false (is_in_flight serial (begun s).world) told (begun s) m (opened past line event s.world h)
+  line_keeps {past} {lines} line (events.Repeat serial) told s few q t m sound h =
+      let event = events.Repeat serial in
+      one_heard (history s.world past) lines line event (λ i. tt) serial true (may_repeat serial (begun s).world) told (begun s) m (opened past line event s.world h)
+  line_keeps {past} line (events.Lose serial) told s few q t m sound h =
+      let event = events.Lose serial in
+      loses (asked line event ∷ history s.world past) line serial (without_notes s.world) (is_in_flight serial (without_notes s.world)) (opened past line event s.world h)
+  line_keeps {past} line (events.Timeout serial) told s few q t m sound h =
+      let event = events.Timeout serial in
+      line_expires P law (asked line event ∷ history s.world past) line serial (without_notes s.world) (λ i. tt) (opened past line event s.world h)
+  line_keeps {past} {lines} line (events.Step count) told s few q t m sound h =
+      let event = events.Step count in
+      (all_told (history s.world past) lines line event (λ i. tt) told t (begun s) m.may (record { sound = opens line event s.world refl sound; all = opened past line event s.world h }) refl).all
+  line_keeps {past} {lines} line events.Settle told s few q t m sound h =
+      let all = all_told (history s.world past) lines line events.Settle (λ i. tt) told t (begun s) m.may (record { sound = opens line events.Settle s.world refl sound; all = opened past line events.Settle s.world h }) refl in
+      let w = (after_all told (begun s)).world in
+      ends (asked line events.Settle ∷ history s.world past) w (is_settled w) all.all
+  line_keeps {past} line events.Tick told s few q t m sound h =
+      ticks P law (asked line events.Tick ∷ history s.world past) (without_notes s.world) (λ i. tt) (opened past line events.Tick s.world h)
+  line_keeps {past} line (events.Inject initiator bytes) told s few q t m sound h =
+      let event = events.Inject initiator bytes in
+      injects (asked line event ∷ history s.world past) line (initiator + 1) bytes (without_notes s.world) (injected_to (initiator + 1) bytes (without_notes s.world)) (λ i. tt) (opened past line event s.world h)
+  line_keeps {past} line (events.Key unit key) told s few q t m sound h =
+      let event = events.Key unit key in
+      keys (asked line event ∷ history s.world past) line unit key (without_notes s.world) (nat_lt unit (length s.world.target.units)) (opened past line event s.world h)
+
+  -- ---- a run
+
+  abbrev AreAt : List Moment → WorldState → Type 0
+  AreAt ms w = (i : ℕ) → i < length w.initiators → P ms i (initiator_at w i)
+
+  module _ (line : ℕ) (run : Run) (first : (i : ℕ) → i < run.initiators → P (moments_behind line run []) i (new_state i run.ready)) where
+    first_are : AreAt (moments_behind line run []) (beginning run).world
+    unfolding new_world
+    first_are i b =
+        let there : i < run.initiators = subst (λ n. i < n) (initiators_size run.initiators run.ready) b in
+        subst (P (moments_behind line run []) i) (sym (states_at run.initiators i run.ready (new_state 0 false) there)) (first i there)
+
+    are_after : (entries : List Entry) → run.initiators ≤ 4 → length entries + 2 < 2 ^ 32 → AreEntries (beginning run) entries → AreLines run entries → AreAt (moments_behind line run entries) (after (beginning run) entries).world
+    are_after [] few short all fit = first_are
+    are_after (e ∷ before) few short all fit =
+        let b = sound_after fitting_law own_fitting_law line run before few (omega arith) all.1 fit.1 in
+        let s = after (beginning run) before in
+        let so_far : Are P b.past s.world = subst (λ ms. AreAt ms s.world) (sym b.is) (are_after before few (omega arith) all.1 fit.1) in
+        let now = (happens e.line e.event e.told s).world in
+        subst (λ ms. AreAt ms now)
+        (ap (λ ns. map said ns ++ asked e.line e.event ∷ (map said s.world.fresh ++ b.past)) (sym all.0.notes_are)
+        ∙ ap (λ ms. map said e.notes ++ asked e.line e.event ∷ ms) b.is)
+        (line_keeps e.line e.event e.told s (omega arith) fit.0 (happened_fits e.event e.told s all.0.may) all.0.may b.sound so_far)
+
+    pub of_runs : IsRun run → (i : ℕ) → i < run.initiators → P (moments_behind line run run.entries) i (initiator_at (after (beginning run) run.entries).world i)
+    of_runs r i b = are_after run.entries r.few r.short r.entries r.lines i (subst (λ n. i < n) (sym (count_after run run.entries)) b)
+
+    -- ---- between two deliveries of a line
+
+    between_by : IsRun run → (next : ℕ) (event : Event) → is_reset event ≡ false → ((i : ℕ) → IsNoAct i (Some event)) → ((ms : List Moment) → (terms (asked next event ∷ ms)).repeats ≡ false) → (told : List (Option Told)) → MayAll told (begun (after (beginning run) run.entries)) → (i : ℕ) → i < run.initiators → (let w = (after_all told (begun (after (beginning run) run.entries))).world in P (map said w.fresh ++ asked next event ∷ moments_behind line run run.entries) i (initiator_at w i))
+    between_by r next event e n repeats told m i b =
+        let before = sound_after fitting_law own_fitting_law line run run.entries r.few r.short r.entries r.lines in
+        let s = after (beginning run) run.entries in
+        let so_far : Are P before.past s.world = subst (λ ms. AreAt ms s.world) (sym before.is) (are_after run.entries r.few r.short r.entries r.lines) in
+        let all = all_told (history s.world before.past) (length run.entries) next event n told (are_told told s m) (begun s) m
+        (record { sound = opens next event s.world e before.sound; all = opened before.past next event s.world so_far }) (repeats (history s.world before.past)) in
+        let w = (after_all told (begun s)).world in
+        subst (λ ms. P (map said w.fresh ++ asked next event ∷ ms) i (initiator_at w i)) before.is
+        (all.all i (subst (λ k. i < k) (sym (count_between told s ∙ count_after run run.entries)) b))
+
+    pub between_runs : IsRun run → (next : ℕ) (most : Option ℕ) (told : List (Option Told)) → MayAll told (begun (after (beginning run) run.entries)) → (i : ℕ) → i < run.initiators → (let w = (after_all told (begun (after (beginning run) run.entries))).world in P (map said w.fresh ++ asked next (more_deliveries most) ∷ moments_behind line run run.entries) i (initiator_at w i))
+    between_runs r next (Some count) told m i b = between_by r next (events.Step count) refl (λ j. tt) (λ ms. refl) told m i b
+    between_runs r next None told m i b = between_by r next events.Settle refl (λ j. tt) (λ ms. refl) told m i b
