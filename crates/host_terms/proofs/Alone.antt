@@ -28,8 +28,8 @@ use Rattle.sbp_journal.specs.declared.event.Cmd.{Cmd}
 use Rattle.sbp_journal.specs.declared.note.Note.TheVariants as notes
 use Rattle.sbp_journal.specs.declared.operation.OpWord.{OpWord}
 use Rattle.sbp_journal.specs.declared.operation.OpWord.TheVariants as words
-use Rattle.sbp_initiator.specs.declared.fifo.Fifo.{Fifo}
-use Rattle.sbp_initiator.specs.declared.fifo.Fifo.TheVariants as fifos
+use Rattle.initiator_base.specs.declared.fifos.Fifo.{Fifo}
+use Rattle.initiator_base.specs.declared.fifos.Fifo.TheVariants as fifos
 use Rattle.sbp_initiator.specs.declared.purpose.Demand.{Demand}
 use Rattle.sbp_initiator.specs.declared.purpose.Ending.{Ending}
 use Rattle.sbp_initiator.specs.declared.purpose.Ending.TheVariants as endings

@@ -17,14 +17,15 @@ use Rattle.sbp_journal.specs.Run.{Moment}
 use Rattle.sbp_journal.specs.Outgoings.{OutboxState}
 use Rattle.sbp_journal.specs.declared.cause.Judged.{Judged}
 use Rattle.sbp_journal.specs.declared.note.Note.TheVariants as notes
-use Rattle.sbp_initiator.specs.declared.fifo.Fifo.{Fifo}
-use Rattle.sbp_initiator.specs.declared.fifo.Fifo.TheVariants as fifos
+use Rattle.initiator_base.specs.declared.fifos.Fifo.{Fifo}
+use Rattle.initiator_base.specs.declared.fifos.Fifo.TheVariants as fifos
 use Rattle.sbp_initiator.specs.declared.purpose.Ending.TheVariants as endings
 use Rattle.sbp_initiator.specs.declared.purpose.Purpose.{Purpose}
 use Rattle.sbp_initiator.specs.declared.purpose.Running.{Running}
 use Rattle.sbp_initiator.specs.declared.state.InitiatorState.{InitiatorState}
 use Rattle.sbp_initiator.specs.Effects.{Turn, managed_step, told, with_dead}
-use Rattle.sbp_initiator.specs.Receiving.{addressed, answer_of, block_at, block_by, block_step, called, expire_step, expired_as, fifo_of, is_dead_kind, is_foreign, managed_for, present_for, quadlet_at, read_as, receive_step, received, responded_as, respond_step, serve_step, status_step, taken_as, taken_by, type_error, written_as}
+use Rattle.initiator_base.specs.Fifos.{is_dead_kind}
+use Rattle.sbp_initiator.specs.Receiving.{addressed, answer_of, block_at, block_by, block_step, called, expire_step, expired_as, fifo_of, is_foreign, managed_for, present_for, quadlet_at, read_as, receive_step, received, responded_as, respond_step, serve_step, status_step, taken_as, taken_by, type_error, written_as}
 use Rattle.sbp_initiator.specs.States.{ending_of, is_present_orb, status_in}
 use Rattle.initiator_laws.proofs.Effects.{Fits}
 use Rattle.initiator_laws.proofs.Purposes.{IfFor}
