@@ -20,9 +20,7 @@ use command_agent::{AgentState, AgentStep, PointRefusal};
 use orb_layout::{Ask, OrbPointer};
 use sbp_base::{NoMemory, Offset, put_quad};
 use sbp_journal::{Cause, CutCause, Judged, Outbox, Side};
-use target_base::{
-    ADDRESS, Access, COMPLETE, CONFLICT, DATA, Demand, LoginPlace, demand_of,
-};
+use target_base::{ADDRESS, Access, COMPLETE, CONFLICT, DATA, Demand, LoginPlace, demand_of};
 
 /// The number of a state, which AGENT_STATE tells.
 fn state_number(state: AgentState) -> u32
