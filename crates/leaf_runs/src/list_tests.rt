@@ -1,4 +1,4 @@
-ghost use Rattle.std.specs.Prelude.{IsTrue};
+ghost use Rattle.std.specs.Prelude.{◌≡◌, length, IsTrue};
 ghost use Rattle.orb_list.specs.Requests.{IsRequest, asked_of};
 ghost use Rattle.orb_list.specs.Holds.{HoldsSlots};
 
@@ -17,11 +17,19 @@ struct Desk {
     ghost holds: { HoldsSlots slots.slots image },
 }
 
+/// Whether bytes are as many as a command block has.
+fn is_block(bytes: &[u8]) -> bool
+    ensures { IsTrue result → length bytes.now ≡ 12 }
+{
+    bytes.len() == 12
+}
+
 /// Whether a request is one of a command, with no page table or one of three segments.
 fn fits(request: &Request<'_>) -> bool
     ensures { IsTrue result → IsRequest (asked_of request.now) }
 {
-    request.length <= 16_384
+    is_block(request.cdb.as_slice())
+        && request.length <= 16_384
         && request.payload.len() <= usize::from(request.length)
         && request.max_payload < 16
         && match request.segments {
