@@ -20,6 +20,7 @@ use Rattle.label_table.specs.Bodies.{Body, header_to, quadlet_read, request_with
 use Rattle.label_table.specs.Layer.{Layer, asking_step, unlabelled}
 use Rattle.label_table.specs.Requests.{is_last, is_write, with_label}
 use Rattle.label_table.proofs.Requests.{least_spelled}
+use Rattle.label_table.proofs.Rewritten.{writes_labels}
 use Rattle.label_table.proofs.Steps.{write_with}
 use Rattle.sbp_journal.specs.Run.{Moment}
 use Rattle.sbp_journal.specs.Wire.{Held, Terms, free, rests, terms, waits}
@@ -46,7 +47,7 @@ use Rattle.sbp_world.proofs.FitTarget.Law.{fitting_law}
 use Rattle.sbp_world.specs.Histories.{history_of}
 use Rattle.sbp_world.specs.Runs.{Run, after, beginning}
 use Rattle.host_terms.specs.Handing.{history}
-use Rattle.host_terms.specs.Labels.{RunLabelLaw, sends_read}
+use Rattle.host_terms.specs.Labels.{RunLabelLaw, label_in, sends_read}
 use Rattle.host_terms.specs.Refusing.{initiator_of}
 use Rattle.host_terms.specs.Runs.{IsRun}
 use Rattle.host_terms.proofs.Deciding.{run_refusal_law}
@@ -66,20 +67,24 @@ none_found zero label test h = refl
 none_found (suc tries) label test h =
     ap (λ b. cond b (Some label) (lowest_from tries test (label + 1))) (h label (omega arith)) ∙ none_found tries (label + 1) test (λ m l. h m (omega arith))
 
-one_found : (b : Bool) (label : ℕ) (rest : Option ℕ) → (b ≡ false → is_some rest ≡ true) → is_some (cond b (Some label) rest) ≡ true
-one_found true label rest h = refl
-one_found false label rest h = h refl
+-- the first of some tests that hold
+at_first : (label n : ℕ) (test : ℕ → Bool) (rest : Option ℕ) (b : Bool) → test label ≡ b → label ≤ n → test n ≡ true → ((m : ℕ) → m < n → test m ≡ false) → (label + 1 ≤ n → rest ≡ Some n) → cond b (Some label) rest ≡ Some n
+at_first label n test rest true e l t lower h = ap Some (last (nat_eq label n) refl)
+  where
+    last : (c : Bool) → nat_eq label n ≡ c → label ≡ n
+    last true f = grind arith
+    last false f = untrue (sym (lower label (grind arith)) ∙ e)
+at_first label n test rest false e l t lower h = h (above (nat_eq label n) refl)
+  where
+    above : (c : Bool) → nat_eq label n ≡ c → label + 1 ≤ n
+    above true f = let i : label ≡ n = grind arith in untrue (sym e ∙ ap test i ∙ t)
+    above false f = grind arith
 
-above : (test : ℕ → Bool) (label n : ℕ) (b : Bool) → nat_eq label n ≡ b → test label ≡ false → test n ≡ true → label ≤ n → label + 1 ≤ n
-above test label n true e f g l =
-    let i : label ≡ n = grind arith in untrue (sym f ∙ ap test i ∙ g)
-above test label n false e f g l = grind arith
-
-some_found : (tries label n : ℕ) (test : ℕ → Bool) → label ≤ n → n < label + tries → test n ≡ true → is_some (lowest_from tries test label) ≡ true
+first_found : (tries label n : ℕ) (test : ℕ → Bool) → label ≤ n → n < label + tries → test n ≡ true → ((m : ℕ) → m < n → test m ≡ false) → lowest_from tries test label ≡ Some n
 unfolding lowest_from
-some_found zero label n test l m e = absurd (omega arith)
-some_found (suc tries) label n test l m e =
-    one_found (test label) label (lowest_from tries test (label + 1)) (λ f. some_found tries (label + 1) n test (above test label n (nat_eq label n) refl f e l) (omega arith) e)
+first_found zero label n test l m t lower = absurd (omega arith)
+first_found (suc tries) label n test l m t lower =
+    at_first label n test (lowest_from tries test (label + 1)) (test label) refl l t lower (λ g. first_found tries (label + 1) n test g (omega arith) t lower)
 
 same_found : (tries label : ℕ) (test other : ℕ → Bool) → ((m : ℕ) → test m ≡ other m) → lowest_from tries test label ≡ lowest_from tries other label
 unfolding lowest_from
@@ -180,26 +185,33 @@ module _ {past : List Moment} {lines : ℕ} (w : WorldState) (sound : Sound past
       let law : LabelsLaw wire = subst LabelsLaw (sym sound.stands.reached.is) (labels_always sound.stands.reached.moves sound.stands.reached.may) in
       none_found 64 0 (serves T (suc i) 0 bytes) (λ m l. serves_same T (suc i) 0 bytes m least ∙ law (suc i) 0 m body may e (omega arith))
 
-  one_serves : (asked : Asked) (new : Node) → AskedAs (wire.layer (suc i)) (id_for wire (suc i) 0) (unlabelled (wire.layer (suc i)) (id_for wire (suc i) 0) body) (Some asked, new) → is_some (label_for T (suc i) 0 bytes) ≡ true
+  one_serves : (asked : Asked) (new : Node) → AskedAs (wire.layer (suc i)) (id_for wire (suc i) 0) (unlabelled (wire.layer (suc i)) (id_for wire (suc i) 0) body) (Some asked, new) → label_for T (suc i) 0 bytes ≡ Some asked.label.number
   unfolding label_for
   one_serves asked new a =
       let n = asked.label.number in
       let b = asked_bytes (wire.layer (suc i)).node (id_for wire (suc i) 0) n body asked.bytes may.valid a.small a.labelled in
-      let takes = ((asked_own wire wire_holds (suc i) 0 body may asked new a).lowest n b.kind b.part).takes in
+      let lowest = (asked_own wire wire_holds (suc i) 0 body may asked new a).lowest n b.kind b.part in
       let spelled : asked.bytes ≡ with_label n bytes = a.labelled ∙ ap (with_label n) bytes_are in
       let small = a.small in
-      some_found 64 0 n (serves T (suc i) 0 bytes) (omega arith) (omega arith)
-      (serves_same T (suc i) 0 bytes n least ∙ sym (ap (sent.serves T (transaction (T.generation (suc i)) (suc i) 0 n)) spelled) ∙ takes)
+      first_found 64 0 n (serves T (suc i) 0 bytes) (omega arith) (omega arith)
+      (serves_same T (suc i) 0 bytes n least ∙ sym (ap (sent.serves T (transaction (T.generation (suc i)) (suc i) 0 n)) spelled) ∙ lowest.takes)
+      (λ m l. serves_same T (suc i) 0 bytes m least
+      ∙ ap (sent.serves T (transaction (T.generation (suc i)) (suc i) 0 m)) (sym (ap (with_label m) spelled ∙ writes_labels.last bytes m n))
+      ∙ lowest.lower m l)
 
-  finds_by : (r : Option Asked × Node) → AskedAs (wire.layer (suc i)) (id_for wire (suc i) 0) (unlabelled (wire.layer (suc i)) (id_for wire (suc i) 0) body) r → (r.0 ≡ None → label_for T (suc i) 0 bytes ≡ None) → is_some r.0 ≡ finds_label T (suc i) 0 body
-  finds_by (None, new) a h = sym (found_by T (suc i) 0 body None (h refl))
-  finds_by (Some asked, new) a h = sym (found_by T (suc i) 0 body (label_for T (suc i) 0 bytes) refl ∙ one_serves asked new a)
+  label_by : (r : Option Asked × Node) → AskedAs (wire.layer (suc i)) (id_for wire (suc i) 0) (unlabelled (wire.layer (suc i)) (id_for wire (suc i) 0) body) r → (r.0 ≡ None → label_for T (suc i) 0 bytes ≡ None) → label_in r.0 ≡ label_for T (suc i) 0 bytes
+  label_by (None, new) a h = sym (h refl)
+  label_by (Some asked, new) a h = sym (one_serves asked new a)
 
-  pub finds_own : (purpose : Purpose) → is_some (asking_step s.layer s.target body purpose).0 ≡ finds_label (terms (history w past)) (suc i) 0 body
-  finds_own purpose =
-      ap is_some (asks_same purpose)
-      ∙ finds_by (asking_step (wire.layer (suc i)) (id_for wire (suc i) 0) body tt) (asks (wire.layer (suc i)) (id_for wire (suc i) 0) body (wire_holds.nodes (suc i)).places) none_serves
-      ∙ ap (λ ms. finds_label (terms ms) (suc i) 0 body) sound.stands.is.past_is
+  pub own_label : (purpose : Purpose) → (let t = terms (history w past) in label_in (asking_step s.layer s.target body purpose).0 ≡ label_for t (suc i) 0 (request_bytes t (suc i) 0 body))
+  own_label purpose =
+      ap label_in (asks_same purpose)
+      ∙ label_by (asking_step (wire.layer (suc i)) (id_for wire (suc i) 0) body tt) (asks (wire.layer (suc i)) (id_for wire (suc i) 0) body (wire_holds.nodes (suc i)).places) none_serves
+      ∙ ap (λ ms. label_for (terms ms) (suc i) 0 (request_bytes (terms ms) (suc i) 0 body)) sound.stands.is.past_is
+
+some_label : (o : Option Asked) → is_some (label_in o) ≡ is_some o
+some_label None = refl
+some_label (Some asked) = refl
 
 -- ---- reads find a label whatever their address
 
@@ -254,9 +266,15 @@ module _ (line : ℕ) (run : Run) (r : IsRun run) (i : ℕ) (b : i < run.initiat
   there : i < length last.initiators
   there = subst (λ n. i < n) (sym (count_after run run.entries)) b
 
+  run_label : (body : Body) (purpose : Purpose) → FitsRequest body → (let s = initiator_of run i in let t = terms (history_of line run) in label_in (asking_step s.layer s.target body purpose).0 ≡ label_for t (suc i) 0 (request_bytes t (suc i) 0 body))
+  run_label body purpose fit =
+      own_label last after_run.sound i there body fit purpose ∙ ap (λ ms. label_for (terms ms) (suc i) 0 (request_bytes (terms ms) (suc i) 0 body)) after_run.is
+
   run_finds : (body : Body) (purpose : Purpose) → FitsRequest body → (let s = initiator_of run i in is_some (asking_step s.layer s.target body purpose).0 ≡ finds_label (terms (history_of line run)) (suc i) 0 body)
   run_finds body purpose fit =
-      finds_own last after_run.sound i there body fit purpose ∙ ap (λ ms. finds_label (terms ms) (suc i) 0 body) after_run.is
+      let s = initiator_of run i in
+      let t = terms (history_of line run) in
+      sym (some_label (asking_step s.layer s.target body purpose).0) ∙ ap is_some (run_label body purpose fit) ∙ sym (found_by t (suc i) 0 body (label_for t (suc i) 0 (request_bytes t (suc i) 0 body)) refl)
 
   run_plain : (offset : ℕ) → offset < 2 ^ 48 → is_write (request_bytes (terms (history_of line run)) (suc i) 0 (quadlet_read offset)) ≡ false
   run_plain offset fit =
@@ -291,4 +309,4 @@ module _ (line : ℕ) (run : Run) (r : IsRun run) (i : ℕ) (b : i < run.initiat
   read_refused actions.TargetReset o e = untrue e
 
 pub run_label_law : RunLabelLaw
-run_label_law = record { finds = run_finds; reads = read_refused }
+run_label_law = record { label = run_label; finds = run_finds; reads = read_refused }

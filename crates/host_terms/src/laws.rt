@@ -108,8 +108,9 @@ pub fn runs_refuse_by_their_rows()
     ensures { RunRefusalLaw }
 {}
 
-/// The law that in every run a request of an initiator to its target finds a label exactly where the run terms say so;
-/// and that a read of the ROM and a read of AGENT_STATE are refused with the least number whose row holds of them.
+/// The law that in every run a request of an initiator to its target finds the label that the run terms say, and none
+/// exactly where they say so; and that a read of the ROM and a read of AGENT_STATE are refused with the least number
+/// whose row holds of them.
 #[tactic(auto, using(crate::proofs::Labels::run_label_law))]
 pub fn runs_find_labels()
     ensures { RunLabelLaw }
