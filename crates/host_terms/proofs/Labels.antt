@@ -1,6 +1,5 @@
 -- A request of an initiator finds a label exactly where the run says so.
 use Rattle.std.proofs.Common.{arith, ◌≡◌, refl, sym, ◌∙◌, ap, subst, ℕ, zero, suc, ◌+◌, ◌%◌, ◌^◌, ◌<◌, ◌≤◌, ◌&&◌, ◌||◌, nat_eq, nat_le, not, is_some, Bool, true, false, cond, List, Option, Some, None, length}
-use Rattle.std.proofs.lemmas.Bool.Decides.{nat_tests}
 use Rattle.async_packet.specs.Canon.{IsValid, canon}
 use Rattle.async_packet.proofs.RoundTrip.{canon_spells}
 use Rattle.bus_transactions.specs.Bare.{bare, bare_after, same}
@@ -37,7 +36,6 @@ use Rattle.sbp_laws.specs.Actions as run_actions
 use Rattle.sbp_laws.specs.Hosts.{host_at}
 use Rattle.sbp_laws.specs.Packets.{finds_label, label_for, lowest_from, request_bytes, serves, to_peer}
 use Rattle.sbp_laws.specs.Packets as packets
-use Rattle.sbp_bus.specs.Generations.{topology_at}
 use Rattle.sbp_world.specs.Worlds.{WorldState, initiator_at}
 use Rattle.sbp_world.proofs.Wire.Bus.{holds}
 use Rattle.sbp_world.proofs.Wire.Holding.{Sound, target_small, to_target}

@@ -1,5 +1,5 @@
 -- For which list an ORB_POINTER is answered, over every list of calls.
-use Rattle.std.proofs.Common.{◌≡◌, ap, subst, ◌∙◌, ℕ, ◌+◌, Bool, true, false, List, Option, Some, None}
+use Rattle.std.proofs.Common.{◌≡◌, ap, subst, ◌∙◌, ℕ, ◌+◌, Bool, true, List, Option, Some}
 use Rattle.orb_list.specs.declared.list.PresentList.{PresentList}
 use Rattle.label_table.specs.Layer.{Layer, expiring_step, judging_step}
 use Rattle.sbp_initiator.specs.declared.purpose.Purpose.{Purpose}

@@ -1,11 +1,10 @@
 -- For which list an ORB_POINTER is answered (NCITS 325-1998, ORB_POINTER). Over every list of calls: a write of ORB_POINTER that a response
 -- closes, or that times out, is that of a list that was begun; and where this list is the present one, its ORB_POINTER counts as written.
 -- While no list is present, none counts as written.
-use Rattle.std.specs.Prelude.{◌≡◌, ◌<◌, ℕ, Bool, true, false, List, Option, Some, None, Result, Ok, Err}
+use Rattle.std.specs.Prelude.{◌≡◌, ◌<◌, ℕ, Bool, true, false, List, Some, None, Ok}
 use Rattle.async_packet.specs.Labels.{LabelParts}
 use Rattle.async_packet.specs.Packet.{Packet}
 use Rattle.label_table.specs.Layer.{of_response, expiring_step, judging_step}
-use Rattle.sbp_initiator.specs.declared.purpose.Purpose.{Purpose}
 use Rattle.sbp_initiator.specs.declared.purpose.Purpose.TheVariants as purposes
 use Rattle.sbp_initiator.specs.declared.state.InitiatorState.{InitiatorState}
 use Rattle.sbp_initiator.specs.States.{is_list, is_unwritten}
