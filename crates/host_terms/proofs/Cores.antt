@@ -1,5 +1,5 @@
 -- What each note makes of the core of an initiator's host.
-use Rattle.std.proofs.Common.{arith, ◌≡◌, refl, sym, ◌∙◌, ap, ℕ, zero, suc, ◌+◌, ◌%◌, ◌&&◌, not, nat_eq, Bool, true, false, cond, List, [], ◌∷◌, Option, Some, None}
+use Rattle.std.proofs.Common.{arith, ◌≡◌, refl, sym, ◌∙◌, ap, ℕ, zero, suc, ◌+◌, ◌%◌, ◌&&◌, not, nat_eq, is_some, Bool, true, false, cond, List, [], ◌∷◌, Option, Some, None}
 use Rattle.std.proofs.lemmas.Bool.Decides.{nat_tests}
 use Rattle.orb_layout.specs.Replies.{Answer, Done, Expired, NoLabel, Payload, Refused}
 use Rattle.orb_layout.specs.declared.status.StatusKind.{StatusKind}
@@ -74,7 +74,7 @@ turned i j e = grind (arith, nat_tests)
 
 -- the core with another operation under way
 abbrev core_with : Host → Option Underway → Core
-core_with host u = record { session = host.session; work = work_of u; logins = host.logins; writes = host.writes }
+core_with host u = record (host_core host) { work = work_of u }
 
 goes_core : (u : Option Underway) (serial : ℕ) (host : Host) → host.operation ≡ u → host_core (goes_on u serial host) ≡ host_core host
 goes_core None serial host e = refl
@@ -108,17 +108,32 @@ sent_core serial generation from to bytes past i n =
     same_if ((nat_eq from (suc i)) && not ((known_host past i).wire.injected serial)) (sent_as (part_of bytes) (event_of past) i (present_list past i) serial (host_at past i)) (host_at past i)
     (part_core (part_of bytes) (event_of past) i (present_list past i) serial (host_at past i) n)
 
--- the request of an action
+-- the request of an operation
 abbrev pub begun_by : Option Operation → Core → Core
 begun_by None c = c
-begun_by (Some operations.Login) c = record { session = session_sent operations.Login c.session; work = Some (record { operation = operations.Login; place = Some (c.writes % 2) }); logins = c.logins + 1; writes = c.writes + 1 }
-begun_by (Some operation) c = record { session = session_sent operation c.session; work = Some (record { operation = operation; place = cond (is_management operation) (Some (c.writes % 2)) None }); logins = c.logins; writes = cond (is_management operation) (c.writes + 1) c.writes }
+begun_by (Some operations.Login) c = record c { session = session_sent operations.Login c.session; work = Some (record { operation = operations.Login; place = Some (c.writes % 2) }); logins = c.logins + 1; writes = c.writes + 1 }
+begun_by (Some operations.AgentReset) c = record c { session = session_sent operations.AgentReset c.session; work = Some (record { operation = operations.AgentReset; place = None }); running = c.running + 1 }
+begun_by (Some operation) c = record c { session = session_sent operation c.session; work = Some (record { operation = operation; place = cond (is_management operation) (Some (c.writes % 2)) None }); writes = cond (is_management operation) (c.writes + 1) c.writes }
 
-ring_core : (pointer : Option ℕ) (serial : ℕ) (host : Host) → host_core (ring pointer serial host) ≡ host_core host
-ring_core None serial host = refl
-ring_core (Some first) serial host = refl
+-- that of a ring: it writes ORB_POINTER where that was not yet written, and else uses up the running number
+abbrev pub rung_as : Bool → Core → Core
+rung_as true c = record c { running = c.running + 1 }
+rung_as false c = record c { wrote_pointer = true }
 
-acted_core : (action : Action) (list : Option ℕ) (serial : ℕ) (host : Host) → host_core (acted action (operation_of action) list serial host) ≡ begun_by (operation_of action) (host_core host)
+abbrev pub rung_by : Core → Core
+rung_by c = rung_as c.wrote_pointer c
+
+-- the request of an action
+abbrev pub started_by : Action → Core → Core
+started_by (actions.Append cmd) c = rung_by c
+started_by actions.Ring c = rung_by c
+started_by action c = begun_by (operation_of action) c
+
+ring_core : (pointer : Option ℕ) (serial : ℕ) (host : Host) → host.pointer ≡ pointer → host_core (ring pointer serial host) ≡ rung_by (host_core host)
+ring_core None serial host e = ap (λ (p : Option ℕ). rung_as (is_some p) (host_core host)) (sym e)
+ring_core (Some first) serial host e = ap (λ (p : Option ℕ). rung_as (is_some p) (host_core host)) (sym e)
+
+acted_core : (action : Action) (list : Option ℕ) (serial : ℕ) (host : Host) → host_core (acted action (operation_of action) list serial host) ≡ started_by action (host_core host)
 acted_core actions.Rom list serial host = refl
 acted_core (actions.Login unit reconnect exclusive password) list serial host = refl
 acted_core (actions.Query unit) list serial host = refl
@@ -132,20 +147,20 @@ acted_core actions.AgentReset list serial host = refl
 acted_core actions.State list serial host = refl
 acted_core (actions.Dummy k) list serial host = refl
 acted_core (actions.Put cmd) list serial host = refl
-acted_core (actions.Append cmd) list serial host = ring_core host.pointer serial host
+acted_core (actions.Append cmd) list serial host = ring_core host.pointer serial host refl
 acted_core actions.Low list serial host = refl
 acted_core actions.Link list serial host = refl
-acted_core actions.Ring list serial host = ring_core host.pointer serial host
+acted_core actions.Ring list serial host = ring_core host.pointer serial host refl
 acted_core actions.Enable list serial host = refl
 
-request_core : (part : Part) (label : ℕ) (kind : Kind) (event : Option Event) (action : Action) (i : ℕ) (list : Option ℕ) (serial : ℕ) (host : Host) → part ≡ request label kind → event ≡ Some (events.Act i action) → host_core (sent_as part event i list serial host) ≡ begun_by (operation_of action) (host_core host)
+request_core : (part : Part) (label : ℕ) (kind : Kind) (event : Option Event) (action : Action) (i : ℕ) (list : Option ℕ) (serial : ℕ) (host : Host) → part ≡ request label kind → event ≡ Some (events.Act i action) → host_core (sent_as part event i list serial host) ≡ started_by action (host_core host)
 request_core part label kind event action i list serial host p e =
     ap (λ x. host_core (sent_as x event i list serial host)) p
     ∙ ap (λ x. host_core (sent_in x i list serial host)) e
     ∙ so_if (nat_eq i i) (acted action (operation_of action) list serial host) (goes_on host.operation serial host) (itself i)
     ∙ acted_core action list serial host
 
-pub asks_core : (action : Action) (label : ℕ) (kind : Kind) (serial generation to : ℕ) (bytes : List ℕ) (past : List Moment) (i : ℕ) → event_of past ≡ Some (events.Act i action) → part_of bytes ≡ request label kind → (terms past).injected serial ≡ false → host_core (host_at (said (notes.Sent serial generation (suc i) to bytes) ∷ past) i) ≡ begun_by (operation_of action) (host_core (host_at past i))
+pub asks_core : (action : Action) (label : ℕ) (kind : Kind) (serial generation to : ℕ) (bytes : List ℕ) (past : List Moment) (i : ℕ) → event_of past ≡ Some (events.Act i action) → part_of bytes ≡ request label kind → (terms past).injected serial ≡ false → host_core (host_at (said (notes.Sent serial generation (suc i) to bytes) ∷ past) i) ≡ started_by action (host_core (host_at past i))
 asks_core action label kind serial generation to bytes past i e p f =
     let host = host_at past i in
     let own : (known_host past i).wire.injected serial ≡ false = ap (λ (t : Terms). t.injected serial) (wire_is past i) ∙ f in
@@ -172,7 +187,7 @@ got_core None wire serial present host = refl
 -- no operation is a read of AGENT_STATE
 abbrev pub ended_in : Operation → OpWord → Core → Core
 ended_in operations.State word c = c
-ended_in operation word c = record { session = session_ended operation word c.session; work = None; logins = c.logins; writes = c.writes }
+ended_in operation word c = record c { session = session_ended operation word c.session; work = None }
 
 op_core : (operation : Operation) (word : OpWord) (host : Host) → host_core (op_ended operation word host) ≡ ended_in operation word (host_core host)
 op_core operations.Rom words.Done host = refl
@@ -210,14 +225,14 @@ op_told operation word past i =
 
 -- a session becomes stuck
 abbrev pub stuck_in : Core → Core
-stuck_in c = record { session = session_stuck c.session; work = c.work; logins = c.logins; writes = c.writes }
+stuck_in c = record c { session = session_stuck c.session }
 
 pub stuck_told : (past : List Moment) (i : ℕ) → host_core (host_at (said (notes.Stuck i) ∷ past) i) ≡ stuck_in (host_core (host_at past i))
 stuck_told past i = so_if (nat_eq i i) _ (host_at past i) (itself i)
 
 -- a generation is seen
 abbrev pub reset_in : Bool → Core → Core
-reset_in true c = record { session = session_reset c.session; work = None; logins = c.logins; writes = c.writes }
+reset_in true c = record c { session = session_reset c.session; work = None }
 reset_in false c = c
 
 reset_core : (b : Bool) (host : Host) → host_core (reset_seen b host) ≡ reset_in b (host_core host)
@@ -231,17 +246,34 @@ seen_told generation past i =
     ∙ reset_core (not (nat_eq generation ((known_host past i).wire.generation (suc i)))) host
     ∙ ap (λ (t : Terms). reset_in (not (nat_eq generation (t.generation (suc i)))) (host_core host)) (wire_is past i)
 
--- ---- notes that leave it
+-- a list begins with its first ORB, or ends
+abbrev pub list_in : ℕ → Core → Core
+list_in zero c = record c { wrote_pointer = false }
+list_in (suc k) c = c
 
-pub drop_told : (j n : ℕ) (past : List Moment) (i : ℕ) → host_core (host_at (said (notes.Drop j n) ∷ past) i) ≡ host_core (host_at past i)
-drop_told j n past i = same_if (nat_eq j i) (list_begins zero (host_at past i)) (host_at past i) refl
+pub list_first : (k : ℕ) → nat_eq k 0 ≡ true → (c : Core) → list_in k c ≡ list_in zero c
+list_first zero e c = refl
+list_first (suc k) e c = untrue (sym (later k) ∙ e)
+  where
+    later : (k : ℕ) → nat_eq (suc k) 0 ≡ false
+    later k = grind (arith, nat_tests)
 
-begins_core : (k : ℕ) (host : Host) → host_core (list_begins k host) ≡ host_core host
+pub list_later : (k : ℕ) → nat_eq k 0 ≡ false → (c : Core) → list_in k c ≡ c
+list_later zero e c = untrue (sym e)
+list_later (suc k) e c = refl
+
+begins_core : (k : ℕ) (host : Host) → host_core (list_begins k host) ≡ list_in k (host_core host)
 begins_core zero host = refl
 begins_core (suc k) host = refl
 
-pub append_told : (j n k : ℕ) (cdb : List ℕ) (buffer : NoteBuffer) (past : List Moment) (i : ℕ) → host_core (host_at (said (notes.Append j n k cdb buffer) ∷ past) i) ≡ host_core (host_at past i)
-append_told j n k cdb buffer past i = same_if (nat_eq j i) (list_begins k (host_at past i)) (host_at past i) (begins_core k (host_at past i))
+pub drop_told : (n : ℕ) (past : List Moment) (i : ℕ) → host_core (host_at (said (notes.Drop i n) ∷ past) i) ≡ list_in zero (host_core (host_at past i))
+drop_told n past i = so_if (nat_eq i i) (list_begins zero (host_at past i)) (host_at past i) (itself i)
+
+pub append_told : (n k : ℕ) (cdb : List ℕ) (buffer : NoteBuffer) (past : List Moment) (i : ℕ) → host_core (host_at (said (notes.Append i n k cdb buffer) ∷ past) i) ≡ list_in k (host_core (host_at past i))
+append_told n k cdb buffer past i =
+    so_if (nat_eq i i) (list_begins k (host_at past i)) (host_at past i) (itself i) ∙ begins_core k (host_at past i)
+
+-- ---- notes that leave it
 
 pub taken_told : (j n k : ℕ) (status : StatusKind) (answer : List ℕ) (past : List Moment) (i : ℕ) → host_core (host_at (said (notes.Taken j n k status answer) ∷ past) i) ≡ host_core (host_at past i)
 taken_told j n k status answer past i = same_if (nat_eq j i) _ (host_at past i) refl
@@ -258,7 +290,7 @@ expired_told serial past i = same_if (is_serial (sender_in ((known_host past i).
 -- those that say nothing of the initiator
 pub apart_core : (note : Note) (past : List Moment) (i : ℕ) → is_apart i note ≡ true → host_core (host_at (said note ∷ past) i) ≡ host_core (host_at past i)
 apart_core (notes.Begin initiators ready) past i e = untrue e
-apart_core (notes.Append j n k cdb buffer) past i e = append_told j n k cdb buffer past i
+apart_core (notes.Append j n k cdb buffer) past i e = none_if (nat_eq j i) (list_begins k (host_at past i)) (host_at past i) (away i j e)
 apart_core (notes.Low j n k) past i e = refl
 apart_core (notes.Linked j n k) past i e = refl
 apart_core (notes.Rung j n k) past i e = refl
@@ -274,7 +306,7 @@ apart_core (notes.Ended j n k status) past i e = refl
 apart_core (notes.Taken j n k status answer) past i e = taken_told j n k status answer past i
 apart_core (notes.Cut j n cause) past i e = refl
 apart_core (notes.Dead j n cause) past i e = refl
-apart_core (notes.Drop j n) past i e = drop_told j n past i
+apart_core (notes.Drop j n) past i e = none_if (nat_eq j i) (list_begins zero (host_at past i)) (host_at past i) (away i j e)
 apart_core (notes.Managed j word subject status login) past i e = refl
 apart_core (notes.ManageFailed j cause) past i e = refl
 apart_core (notes.Held id) past i e = refl

@@ -19,6 +19,7 @@ use Rattle.sbp_session.specs.declared.seat.Seat.{Seat}
 use Rattle.sbp_session.specs.declared.seat.Seat.TheVariants as seats
 use Rattle.sbp_session.specs.Seats.{points}
 use Rattle.sbp_initiator.specs.declared.purpose.Purpose.{Purpose}
+use Rattle.sbp_initiator.specs.declared.purpose.Purpose.TheVariants as purposes
 use Rattle.sbp_initiator.specs.declared.purpose.Running.{Running}
 use Rattle.sbp_initiator.specs.declared.state.InitiatorState.{InitiatorState}
 use Rattle.sbp_initiator.specs.Acting.{IsAction, act_step, facts_with}
@@ -31,10 +32,10 @@ use Rattle.sbp_initiator.specs.Refusals.{refusal, rows_of, ends_list, fits_sessi
 use Rattle.sbp_initiator.specs.Seeing.{see_step}
 use Rattle.sbp_initiator.specs.States.{operation_in, session_of}
 use Rattle.initiator_laws.specs.Laws.{after, acts, lets_expire, receives, sees}
-use Rattle.initiator_laws.proofs.Effects.{Fits}
-use Rattle.initiator_laws.proofs.Over.{counted_now, sound}
+use Rattle.initiator_laws.proofs.Effects.{Fits, HasMarks}
+use Rattle.initiator_laws.proofs.Over.{counted_now, pointed_now, sound}
 use Rattle.initiator_laws.proofs.Purposes.{IfFor, closes_asked, expires_asked}
-use Rattle.initiator_laws.proofs.Runs.{FitsNow}
+use Rattle.initiator_laws.proofs.Runs.{FitsNow, WasPointed}
 use Rattle.sbp_bus.specs.Packets.{judged_note}
 use Rattle.sbp_laws.specs.Actions.{refusal_at, refusals, cuts_list, is_right_state, is_waiting, running_operation}
 use Rattle.sbp_laws.specs.Hosts.{Host, Underway, begun, host_at, is_stuck, new_host, ready_host}
@@ -49,8 +50,9 @@ use Rattle.host_terms.specs.Runs.{IsRun}
 use Rattle.host_terms.proofs.Calling.{IsOwn, own_first, own_on}
 use Rattle.host_terms.proofs.Carried.{between_runs, of_runs}
 use Rattle.host_terms.proofs.Carries.{Carries, Does, Tells}
-use Rattle.host_terms.proofs.Cores.{apart_core, begun_by, sent_core, untrue}
+use Rattle.host_terms.proofs.Cores.{apart_core, sent_core, untrue}
 use Rattle.host_terms.proofs.KnowActs.{act_acted, asked_known}
+use Rattle.host_terms.proofs.KnowEnds.{Points}
 use Rattle.host_terms.proofs.KnowHears.{IfExpires, IfFits, expire_known, receive_known}
 use Rattle.host_terms.proofs.Knowing.{Known, Sits}
 use Rattle.host_terms.proofs.KnowSees.{sees_known}
@@ -58,19 +60,31 @@ use Rattle.host_terms.proofs.Passes.{judged_apart}
 
 -- ---- what a transaction was for fits the operation under way
 
-for_fits : (operation : Option Running) (counted : ℕ → Option ℕ) (count : ℕ) (purpose : Option Purpose) → IfFor (FitsNow operation count counted) purpose → IfFor (λ p. Fits p operation) purpose
-for_fits operation counted count None f = tt
-for_fits operation counted count (Some purpose) f = f.fits
-
 module _ (ready : Bool) (i : ℕ) (s : InitiatorState) (h : IsCalled ready i s) where
   abbrev t : Turn
   t = after i ready h.calls
 
+  abbrev Fitting : Purpose → Type 0
+  Fitting = FitsNow t.1.operation t.1.counts.acts (counted_now i ready h.calls) (pointed_now i ready h.calls)
+
+  points_of : (purpose : Purpose) → WasPointed (pointed_now i ready h.calls) purpose → Points purpose t.1.lists.slots.present t.1.marks.pointing
+  points_of (purposes.Pointer list) w = λ e. (sound i ready h.calls).marks.pointed.written list w e
+  points_of (purposes.AgentReset act) w = tt
+  points_of (purposes.Enable act) w = tt
+  points_of (purposes.Rom act) w = tt
+  points_of (purposes.Management act) w = tt
+  points_of (purposes.State act list) w = tt
+  points_of purposes.Doorbell w = tt
+
+  for_fits : (purpose : Option Purpose) → IfFor Fitting purpose → IfFor (λ p. Fits p t.1.operation × Points p t.1.lists.slots.present t.1.marks.pointing) purpose
+  for_fits None f = tt
+  for_fits (Some purpose) f = (f.fits, points_of purpose f.points)
+
   hears_of : (generation : ℕ) (bytes : List ℕ) (f : Finding Purpose) → (judging_step t.1.layer generation bytes).0 ≡ f → IfFits f t.1
   hears_of generation bytes (of_response q label purpose) e =
       let k = (sound i ready h.calls).wires in
-      for_fits t.1.operation (counted_now i ready h.calls) t.1.counts.acts purpose
-      (closes_asked (FitsNow t.1.operation t.1.counts.acts (counted_now i ready h.calls)) (0xffc1 + i) k.calls generation bytes q label purpose k.asks (ap (λ (l : Layer Purpose). (judging_step l generation bytes).0) k.layer_is ∙ e))
+      for_fits purpose
+      (closes_asked Fitting (0xffc1 + i) k.calls generation bytes q label purpose k.asks (ap (λ (l : Layer Purpose). (judging_step l generation bytes).0) k.layer_is ∙ e))
   hears_of generation bytes of_generation e = tt
   hears_of generation bytes of_grammar e = tt
   hears_of generation bytes of_label e = tt
@@ -84,13 +98,16 @@ module _ (ready : Bool) (i : ℕ) (s : InitiatorState) (h : IsCalled ready i s) 
   expires_of : (label : LabelParts) (r : Result (Option Purpose) Stale) → (expiring_step t.1.layer t.1.target label).0 ≡ r → IfExpires r t.1
   expires_of label (Ok purpose) e =
       let k = (sound i ready h.calls).wires in
-      for_fits t.1.operation (counted_now i ready h.calls) t.1.counts.acts purpose
-      (expires_asked (FitsNow t.1.operation t.1.counts.acts (counted_now i ready h.calls)) (0xffc1 + i) k.calls t.1.target label purpose k.asks (ap (λ (l : Layer Purpose). (expiring_step l t.1.target label).0) k.layer_is ∙ e))
+      for_fits purpose
+      (expires_asked Fitting (0xffc1 + i) k.calls t.1.target label purpose k.asks (ap (λ (l : Layer Purpose). (expiring_step l t.1.target label).0) k.layer_is ∙ e))
   expires_of label (Err stale) e = tt
 
   pub expires_fit : (label : LabelParts) → IfExpires (expiring_step s.layer s.target label).0 s
   expires_fit label =
       subst (λ (x : InitiatorState). IfExpires (expiring_step x.layer x.target label).0 x) h.is (expires_of label (expiring_step t.1.layer t.1.target label).0 refl)
+
+  pub marks_of : HasMarks s.lists.slots.present s.marks.pointing
+  marks_of = subst (λ (x : InitiatorState). HasMarks x.lists.slots.present x.marks.pointing) h.is (sound i ready h.calls).marks.marks
 
 -- ---- an initiator of a run
 
@@ -153,7 +170,7 @@ module _ (ready : Bool) where
       let new = ap (λ j. not (generation == (terms past).generation (suc j))) (sym n) in
       subst (λ j. Tells (Cored ready) (said (notes.Seen (suc j) generation) ∷ past) i (see_step generation id target empty_outbox s)) n
       (tells_of (said (notes.Seen (suc s.number) generation) ∷ past) i (see_step generation id target empty_outbox s) (own_on ready i s (sees generation id target) tt h.own)
-      (sees_known past generation id target s (e ∙ new) (known_of past i s h)))
+      (sees_known past generation id target s (e ∙ new) (marks_of ready i s h.own.called) (known_of past i s h)))
 
   acts_told : (action : Action) (past : List Moment) (i : ℕ) (s : InitiatorState) → event_of past ≡ Some (events.Act i action) → IsAction action → (act_step action empty_outbox s).0 ≡ None → Cored ready past i s → Does (Cored ready) past i (act_step action empty_outbox s).1
   acts_told action past i s under fit done h =
@@ -166,7 +183,7 @@ module _ (ready : Bool) where
         others = λ j x e c. record { own = c.own; core = k.others j (ap (nat_eq j) (sym a.starts.number ∙ own.number) ∙ e) ∙ c.core; sits = c.sits };
         quiet = λ none. record {
           own = own;
-          core = ap (λ j. host_core (host_at (behind t.0.sides past) j)) number ∙ k.own ∙ (ap (λ x. begun_by x (own_core a.starts.before)) (sym (a.quiet none)) ∙ a.starts.begun);
+          core = ap (λ j. host_core (host_at (behind t.0.sides past) j)) number ∙ k.own ∙ (sym (a.quiet none (own_core a.starts.before)) ∙ a.starts.begun);
           sits = a.starts.sits;
         };
         asking = λ packet one serial generation to f q. record {

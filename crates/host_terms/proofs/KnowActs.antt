@@ -1,10 +1,10 @@
 -- An action that is done, and the core of the initiator's host.
-use Rattle.std.proofs.Common.{◌≡◌, refl, sym, ◌∙◌, ap, subst, ℕ, suc, ◌+◌, ◌==◌, ◌||◌, not, Bool, true, false, cond, List, [], ◌∷◌, ◌++◌, Option, Some, None}
+use Rattle.std.proofs.Common.{◌≡◌, refl, sym, ◌∙◌, ap, subst, ℕ, suc, ◌+◌, ◌==◌, ◌||◌, not, nat_eq, Bool, true, false, cond, List, [], ◌∷◌, ◌++◌, Option, Some, None}
 use Rattle.label_table.specs.declared.judgement.Asked.{Asked}
 use Rattle.label_table.specs.Layer.{Layer}
 use Rattle.orb_list.specs.declared.list.PresentList.{PresentList}
 use Rattle.orb_list.specs.Lists.{ListState, dummy_lists, high_lists, low_lists}
-use Rattle.orb_list.specs.Table.{find_in}
+use Rattle.orb_list.specs.Table.{find_in, list_number, may_prepare}
 use Rattle.orb_list.specs.Tickets.{TicketParts}
 use Rattle.sbp_journal.specs.Run.{Moment, said}
 use Rattle.sbp_journal.specs.Wire.{Terms, terms}
@@ -15,6 +15,7 @@ use Rattle.sbp_journal.specs.declared.event.Action.TheVariants as actions
 use Rattle.sbp_journal.specs.declared.event.Cmd.{Cmd}
 use Rattle.sbp_journal.specs.declared.event.Event.TheVariants as events
 use Rattle.sbp_journal.specs.declared.note.Note.TheVariants as notes
+use Rattle.sbp_journal.specs.declared.note.NoteBuffer.{NoteBuffer}
 use Rattle.sbp_journal.specs.declared.operation.Operation.TheVariants as operations
 use Rattle.sbp_journal.specs.declared.outbox.Outgoing.{Outgoing}
 use Rattle.sbp_session.specs.declared.seat.Seat.{Seat}
@@ -22,22 +23,24 @@ use Rattle.sbp_session.specs.declared.seat.Seat.TheVariants as seats
 use Rattle.sbp_session.specs.Moves.{goes, pointing, sent}
 use Rattle.sbp_session.specs.Seats.{points}
 use Rattle.sbp_initiator.specs.declared.purpose.Demand.{Demand}
+use Rattle.sbp_initiator.specs.declared.purpose.Pointing.TheVariants as pointings
 use Rattle.sbp_initiator.specs.declared.purpose.Purpose.{Purpose}
 use Rattle.sbp_initiator.specs.declared.state.InitiatorState.{InitiatorState}
 use Rattle.sbp_initiator.specs.Acting.{act_step, append_step, asked_as, asked_for, counted, demand_of, demanded_as, done_step, dummy_for, facts_with, judged_as, link_as, link_step, login_id, low_as, low_step, managed_by, orb_by, pinned_for, put_as, put_step, ring_for, with_running}
 use Rattle.sbp_initiator.specs.Commands.{put_lists}
 use Rattle.sbp_initiator.specs.Effects.{Turn, told}
 use Rattle.sbp_initiator.specs.Refusals.{is_in_held, is_in_live, is_in_out, refusal}
-use Rattle.sbp_initiator.specs.States.{is_unwritten, last_linked, no_marks, place_of, session_of}
+use Rattle.sbp_initiator.specs.States.{is_list, is_unwritten, last_linked, no_marks, place_of, session_of}
+use Rattle.initiator_laws.proofs.Actions.{append_named, is_ok, present_named}
 use Rattle.sbp_laws.specs.Turns.{event_of}
 use Rattle.sbp_laws.specs.Hosts.{Session, host_at, operation_of}
 use Rattle.sbp_laws.specs.Hosts as hosts
 use Rattle.host_terms.specs.Calls.{behind}
-use Rattle.host_terms.specs.Core.{host_core, operation_by, own_core, session_in}
+use Rattle.host_terms.specs.Core.{Core, host_core, operation_by, own_core, session_in}
 use Rattle.host_terms.proofs.Acts.{Goes, goes_on}
 use Rattle.host_terms.proofs.Asked.{IsRequest}
-use Rattle.host_terms.proofs.Cores.{append_told, asks_core, begun_by, untrue}
-use Rattle.host_terms.proofs.Knowing.{Known, Sits, pick_state, seated, still_known, tell_plain}
+use Rattle.host_terms.proofs.Cores.{append_told, apart_core, asks_core, begun_by, list_first, list_in, list_later, rung_as, rung_by, started_by, untrue}
+use Rattle.host_terms.proofs.Knowing.{Known, Sits, seated, still_known, tell, tell_plain}
 use Rattle.host_terms.proofs.Requested.{done_sends}
 
 -- ---- the session of an action
@@ -99,14 +102,20 @@ second_of false false c e = refl
 -- ---- the steps of a list
 
 module _ (past : List Moment) where
+  -- the first ORB of a list begins it
+  begins_known : (list number slot : ℕ) (cdb : List ℕ) (buffer : NoteBuffer) (o : OutboxState) (s u : InitiatorState) → u.number ≡ s.number → own_core u ≡ own_core s → (b : Bool) → nat_eq number 0 ≡ b → Known past (o, s) → Known past (told o (notes.Append s.number list number cdb buffer), cond b (record u { marks = record no_marks { first = slot } }) u)
+  begins_known list number slot cdb buffer o s u n c true e k =
+      let note = notes.Append s.number list number cdb buffer in
+      tell past note o s (record u { marks = record no_marks { first = slot } }) (list_in number) n (list_first number e (own_core s) ∙ ap (list_in 0) (sym c)) (λ ms. append_told list number cdb buffer ms s.number)
+      (λ ms j f. apart_core note ms j (ap not f)) (λ ms. refl) (subst (λ (x : Core). Sits (operation_by x.work) x.session) (sym c) k.sits) k
+  begins_known list number slot cdb buffer o s u n c false e k =
+      let note = notes.Append s.number list number cdb buffer in
+      tell past note o s u (list_in number) n (list_later number e (own_core s) ∙ sym c) (λ ms. append_told list number cdb buffer ms s.number)
+      (λ ms j f. apart_core note ms j (ap not f)) (λ ms. refl) (subst (λ (x : Core). Sits (operation_by x.work) x.session) (sym c) k.sits) k
+
   put_known : (r : Option TicketParts × ListState) (cmd : Cmd) (o : OutboxState) (s : InitiatorState) → Known past (o, s) → Known past (put_as r cmd o s)
   put_known (None, lists) cmd o s k = still_known past o o s (record s { lists = lists }) refl refl refl k
-  put_known (Some t, lists) cmd o s k =
-      let note = notes.Append s.number t.list t.number cmd.cdb (buffer_of cmd) in
-      let u = record s { lists = lists } in
-      let v = record u { marks = record no_marks { first = t.slot } } in
-      let now : Known past (told o note, u) = tell_plain past note o s u refl refl (λ ms j. append_told s.number t.list t.number cmd.cdb (buffer_of cmd) ms j) (λ ms. refl) k in
-      pick_state past (t.number == 0) (told o note) v u (still_known past (told o note) (told o note) u v refl refl refl now) now
+  put_known (Some t, lists) cmd o s k = begins_known t.list t.number t.slot cmd.cdb (buffer_of cmd) o s (record s { lists = lists }) refl refl (t.number == 0) refl k
 
   low_known : (r : Option TicketParts × ListState) (o : OutboxState) (s : InitiatorState) → Known past (o, s) → Known past (low_as r o s)
   low_known (None, lists) o s k = still_known past o o s (record s { lists = lists }) refl refl refl k
@@ -116,25 +125,9 @@ module _ (past : List Moment) where
   link_known (None, lists) o s k = still_known past o o s (record s { lists = lists }) refl refl refl k
   link_known (Some t, lists) o s k = tell_plain past (notes.Linked s.number t.list t.number) o s (record s { lists = lists }) refl refl (λ ms j. refl) (λ ms. refl) k
 
-  ring_known : (found : Option PresentList) (o : OutboxState) (s : InitiatorState) → Known past (o, s) → Known past (ring_for found o s)
-  ring_known None o s k = k
-  ring_known (Some list) o s k =
-      let note = notes.Rung s.number list.tail.list (last_linked list) in
-      let now : Known past (told o note, s) = tell_plain past note o s s refl refl (λ ms j. refl) (λ ms. refl) k in
-      pick_state past (is_unwritten s.marks.pointing) (told o note) _ (with_running s)
-      (still_known past (told o note) (told o note) s _ refl refl (ap (λ x. seated x (own_core s)) (pointing_session s.seat)) now)
-      (still_known past (told o note) (told o note) s (with_running s) refl refl refl now)
-
   dummy_known : (found : Option TicketParts) (o : OutboxState) (s : InitiatorState) → Known past (o, s) → Known past (dummy_for found o s)
   dummy_known None o s k = k
   dummy_known (Some t) o s k = tell_plain past (notes.Dummied s.number t.list t.number) o s (record s { lists = dummy_lists s.lists t }) refl refl (λ ms j. refl) (λ ms. refl) k
-
-  append_known : (cmd : Cmd) (o : OutboxState) (s : InitiatorState) → Known past (o, s) → Known past (append_step cmd o s)
-  append_known cmd o s k =
-      let a = put_step cmd o s in
-      let b = low_step a.0 a.1 in
-      let c = link_step b.0 b.1 in
-      ring_known c.1.lists.slots.present c.0 c.1 (link_known (high_lists b.1.lists) b.0 b.1 (low_known (low_lists a.1.lists) a.0 a.1 (put_known (put_lists s.lists cmd s.layer.node (login_id s)) cmd o s k)))
 
 -- ---- an action that is done
 
@@ -143,20 +136,53 @@ pub record Starts (past : List Moment) (action : Action) (t : Turn) : Type 0 whe
   pub before : InitiatorState
   pub known : Known past (t.0, before)
   pub number : t.1.number ≡ before.number
-  pub begun : begun_by (operation_of action) (own_core before) ≡ own_core t.1
+  pub begun : started_by action (own_core before) ≡ own_core t.1
   pub sits : Sits (operation_by (own_core t.1).work) (own_core t.1).session
 
-step_starts : (past : List Moment) (action : Action) (t : Turn) → operation_of action ≡ None → Known past t → Starts past action t
-step_starts past action t e k = record {
-  before = t.1;
-  known = k;
-  number = refl;
-  begun = ap (λ x. begun_by x (own_core t.1)) e;
-  sits = k.sits;
-}
+step_starts : (past : List Moment) (action : Action) (t : Turn) → ((c : Core) → started_by action c ≡ c) → Known past t → Starts past action t
+step_starts past action t e k = record { before = t.1; known = k; number = refl; begun = e (own_core t.1); sits = k.sits }
+
+-- ---- a ring
+
+-- what it leaves: ORB_POINTER counts as written, or the running number is used up
+abbrev pointing_on : InitiatorState → InitiatorState
+pointing_on s = record s { marks = record s.marks { pointing = pointings.Written }; seat = goes pointing s.seat }
+
+module _ (past : List Moment) (action : Action) (rings : (c : Core) → started_by action c ≡ rung_by c) where
+  ring_by : (b : Bool) (o : OutboxState) (s : InitiatorState) → is_unwritten s.marks.pointing ≡ b → Known past (o, s) → Starts past action (o, cond b (pointing_on s) (with_running s))
+  ring_by true o s e k =
+      let c = own_core s in
+      record {
+        before = s;
+        known = k;
+        number = refl;
+        begun = rings c ∙ ap (λ (b : Bool). rung_as (not b) c) e ∙ ap (λ x. seated x (rung_as false c)) (sym (pointing_session s.seat));
+        sits = subst (λ x. Sits (operation_by c.work) x) (sym (pointing_session s.seat)) k.sits;
+      }
+  ring_by false o s e k = record {
+    before = s;
+    known = k;
+    number = refl;
+    begun = rings (own_core s) ∙ ap (λ (b : Bool). rung_as (not b) (own_core s)) e;
+    sits = k.sits;
+  }
+
+  ring_starts : (found : Option PresentList) (n : ℕ) (o : OutboxState) (s : InitiatorState) → is_list found n ≡ true → Known past (o, s) → Starts past action (ring_for found o s)
+  ring_starts None n o s e k = untrue e
+  ring_starts (Some list) n o s e k =
+      let note = notes.Rung s.number list.tail.list (last_linked list) in
+      ring_by (is_unwritten s.marks.pointing) (told o note) s refl (tell_plain past note o s s refl refl (λ ms j. refl) (λ ms. refl) k)
+
+append_starts : (past : List Moment) (cmd : Cmd) (o : OutboxState) (s : InitiatorState) → is_ok (may_prepare s.lists.slots) ≡ true → Known past (o, s) → Starts past (actions.Append cmd) (append_step cmd o s)
+append_starts past cmd o s e k =
+    let a = put_step cmd o s in
+    let b = low_step a.0 a.1 in
+    let c = link_step b.0 b.1 in
+    let now = link_known past (high_lists b.1.lists) b.0 b.1 (low_known past (low_lists a.1.lists) a.0 a.1 (put_known past (put_lists s.lists cmd s.layer.node (login_id s)) cmd o s k)) in
+    ring_starts past (actions.Append cmd) (λ x. refl) c.1.lists.slots.present (list_number s.lists.slots.present s.lists.slots.lists) c.0 c.1 (append_named cmd o s e) now
 
 module _ (past : List Moment) (o : OutboxState) (s : InitiatorState) (k : Known past (o, s)) where
-  starts_with : (action : Action) (u : InitiatorState) → u.number ≡ s.number → begun_by (operation_of action) (own_core s) ≡ own_core u → Sits (operation_by (own_core u).work) (own_core u).session → Starts past action (o, u)
+  starts_with : (action : Action) (u : InitiatorState) → u.number ≡ s.number → started_by action (own_core s) ≡ own_core u → Sits (operation_by (own_core u).work) (own_core u).session → Starts past action (o, u)
   starts_with action u n e sits = record { before = s; known = k; number = n; begun = e; sits = sits }
 
   -- the pin of an abort is no part of it
@@ -166,12 +192,13 @@ module _ (past : List Moment) (o : OutboxState) (s : InitiatorState) (k : Known 
 
   pub done_starts : (action : Action) → Goes action s → Starts past action (done_step action o s)
   unfolding done_step
-  done_starts (actions.Put cmd) g = step_starts past (actions.Put cmd) _ refl (put_known past (put_lists s.lists cmd s.layer.node (login_id s)) cmd o s k)
-  done_starts (actions.Append cmd) g = step_starts past (actions.Append cmd) _ refl (append_known past cmd o s k)
-  done_starts actions.Low g = step_starts past actions.Low _ refl (low_known past (low_lists s.lists) o s k)
-  done_starts actions.Link g = step_starts past actions.Link _ refl (link_known past (high_lists s.lists) o s k)
-  done_starts actions.Ring g = step_starts past actions.Ring _ refl (ring_known past s.lists.slots.present o s k)
-  done_starts (actions.Dummy orb) g = step_starts past (actions.Dummy orb) _ refl (dummy_known past (find_in s.lists.slots.slots orb) o s k)
+  done_starts (actions.Put cmd) g = step_starts past (actions.Put cmd) _ (λ c. refl) (put_known past (put_lists s.lists cmd s.layer.node (login_id s)) cmd o s k)
+  done_starts (actions.Append cmd) g = append_starts past cmd o s (g.allowed.prepares refl) k
+  done_starts actions.Low g = step_starts past actions.Low _ (λ c. refl) (low_known past (low_lists s.lists) o s k)
+  done_starts actions.Link g = step_starts past actions.Link _ (λ c. refl) (link_known past (high_lists s.lists) o s k)
+  done_starts actions.Ring g =
+      ring_starts past actions.Ring (λ c. refl) s.lists.slots.present (list_number s.lists.slots.present s.lists.slots.lists) o s (present_named s.lists.slots.present s.lists.slots.lists (g.allowed.rings refl)) k
+  done_starts (actions.Dummy orb) g = step_starts past (actions.Dummy orb) _ (λ c. refl) (dummy_known past (find_in s.lists.slots.slots orb) o s k)
   done_starts actions.State g = starts_with actions.State _ refl refl k.sits
   done_starts actions.Rom g = starts_with actions.Rom _ refl refl tt
   done_starts actions.AgentReset g = starts_with actions.AgentReset _ refl refl tt
@@ -179,18 +206,18 @@ module _ (past : List Moment) (o : OutboxState) (s : InitiatorState) (k : Known 
   done_starts (actions.Login unit reconnect exclusive password) g =
       let e = enters s.seat (not_not (is_in_out (session_of s.seat)) g.rows.wrong_state) in
       starts_with (actions.Login unit reconnect exclusive password) _ refl
-      (ap (λ x. record { session = x; work = Some (record { operation = operations.Login; place = Some (place_of s.counts.managed) }); logins = s.counts.logins + 1; writes = s.counts.managed + 1 }) (sym e))
+      (ap (λ x. record { session = x; work = Some (record { operation = operations.Login; place = Some (place_of s.counts.managed) }); logins = s.counts.logins + 1; writes = s.counts.managed + 1; running = s.counts.running; wrote_pointer = not (is_unwritten s.marks.pointing) }) (sym e))
       (subst (λ x. Sits (Some operations.Login) x) (sym e) tt)
   done_starts (actions.Query unit) g = starts_with (actions.Query unit) _ refl refl tt
   done_starts actions.Reconnect g =
       let e = returns s.seat (not_not (is_in_held (session_of s.seat)) g.rows.wrong_state) in
       starts_with actions.Reconnect _ refl
-      (ap (λ x. record { session = x; work = Some (record { operation = operations.Reconnect; place = Some (place_of s.counts.managed) }); logins = s.counts.logins; writes = s.counts.managed + 1 }) (sym e))
+      (ap (λ x. record { session = x; work = Some (record { operation = operations.Reconnect; place = Some (place_of s.counts.managed) }); logins = s.counts.logins; writes = s.counts.managed + 1; running = s.counts.running; wrote_pointer = not (is_unwritten s.marks.pointing) }) (sym e))
       (subst (λ x. Sits (Some operations.Reconnect) x) (sym e) tt)
   done_starts actions.Logout g =
       let e = leaves s.seat (not_not (is_in_live (session_of s.seat)) g.rows.wrong_state) (second_of _ (points s.seat) _ g.rows.waiting) in
       starts_with actions.Logout _ refl
-      (ap (λ x. record { session = x; work = Some (record { operation = operations.Logout; place = Some (place_of s.counts.managed) }); logins = s.counts.logins; writes = s.counts.managed + 1 }) (sym e))
+      (ap (λ x. record { session = x; work = Some (record { operation = operations.Logout; place = Some (place_of s.counts.managed) }); logins = s.counts.logins; writes = s.counts.managed + 1; running = s.counts.running; wrote_pointer = not (is_unwritten s.marks.pointing) }) (sym e))
       (subst (λ x. Sits (Some operations.Logout) x) (sym e) tt)
   done_starts (actions.Abort orb) g =
       let v = managed_by (orb_by (actions.Abort orb) s) operations.Abort s in
@@ -210,7 +237,7 @@ some_none number e = absurd (differ e)
 -- what it left, with and without a request behind it
 pub record Acted (past : List Moment) (action : Action) (t : Turn) : Type 0 where
   pub starts : Starts past action t
-  pub quiet : t.0.packets ≡ [] → operation_of action ≡ None
+  pub quiet : t.0.packets ≡ [] → (c : Core) → started_by action c ≡ c
 
 counted_starts : (past : List Moment) (action : Action) (p : OutboxState) (t : Turn) → p.sides ≡ t.0.sides → Starts past action t → Starts past action (p, counted t.1)
 counted_starts past action p t e h = record {
@@ -227,17 +254,17 @@ no_demand e = absurd (differ e)
     differ : {d : Demand} → Some d ≡ None → ⊥
     differ e = cc
 
--- an action that asks for nothing is no operation
-none_asks : (action : Action) (s : InitiatorState) → demand_of action s ≡ None → operation_of action ≡ None
-none_asks (actions.Put cmd) s e = refl
-none_asks (actions.Append cmd) s e = refl
-none_asks actions.Low s e = refl
-none_asks actions.Link s e = refl
-none_asks actions.Ring s e = refl
-none_asks (actions.Dummy orb) s e = refl
+-- an action that asks for nothing is no operation and no ring
+none_asks : (action : Action) (s : InitiatorState) → demand_of action s ≡ None → (c : Core) → started_by action c ≡ c
+none_asks (actions.Put cmd) s e = λ c. refl
+none_asks (actions.Append cmd) s e = no_demand e
+none_asks actions.Low s e = λ c. refl
+none_asks actions.Link s e = λ c. refl
+none_asks actions.Ring s e = no_demand e
+none_asks (actions.Dummy orb) s e = λ c. refl
 none_asks actions.Rom s e = no_demand e
 none_asks actions.AgentReset s e = no_demand e
-none_asks actions.State s e = refl
+none_asks actions.State s e = λ c. refl
 none_asks actions.Enable s e = no_demand e
 none_asks (actions.Login unit reconnect exclusive password) s e = no_demand e
 none_asks (actions.Query unit) s e = no_demand e
@@ -285,6 +312,6 @@ module _ (past : List Moment) (action : Action) (s : InitiatorState) (k : Known 
 pub asked_known : (past : List Moment) (action : Action) (t : Turn) (i serial generation to : ℕ) (bytes : List ℕ) → Starts past action t → t.1.number ≡ i → event_of past ≡ Some (events.Act i action) → (terms past).injected serial ≡ false → IsRequest bytes → host_core (host_at (said (notes.Sent serial generation (suc i) to bytes) ∷ behind t.0.sides past) i) ≡ own_core t.1
 asked_known past action t i serial generation to bytes h n e f q =
     asks_core action q.label q.kind serial generation to bytes (behind t.0.sides past) i (h.known.line ∙ e) q.part (ap (λ (x : Terms). x.injected serial) h.known.wire ∙ f)
-    ∙ ap (λ j. begun_by (operation_of action) (host_core (host_at (behind t.0.sides past) j))) (sym n ∙ h.number)
-    ∙ ap (begun_by (operation_of action)) h.known.own
+    ∙ ap (λ j. started_by action (host_core (host_at (behind t.0.sides past) j))) (sym n ∙ h.number)
+    ∙ ap (started_by action) h.known.own
     ∙ h.begun

@@ -1,5 +1,5 @@
 -- The end of a transaction, and the core of the initiator's host.
-use Rattle.std.proofs.Common.{arith, ◌≡◌, refl, sym, ◌∙◌, ap, subst, ℕ, ◌==◌, not, Bool, true, false, List, length, Option, Some, None, Result, Ok, Err}
+use Rattle.std.proofs.Common.{arith, ◌≡◌, refl, sym, ◌∙◌, ap, subst, ℕ, ◌==◌, not, Bool, true, false, cond, List, length, Option, Some, None, Result, Ok, Err}
 use Rattle.std.proofs.lemmas.Bool.Decides.{nat_tests}
 use Rattle.config_rom.specs.declared.fault.RomFault.{RomFault}
 use Rattle.config_rom.specs.declared.unit.SbpUnit.{SbpUnit}
@@ -7,6 +7,7 @@ use Rattle.config_rom.specs.Reading.{Tree, reading}
 use Rattle.config_rom.specs.Unit.{sbp_unit_of}
 use Rattle.label_table.specs.declared.judgement.Asked.{Asked}
 use Rattle.label_table.specs.Layer.{Layer, asking_step}
+use Rattle.orb_list.specs.declared.list.PresentList.{PresentList}
 use Rattle.orb_list.specs.Lists.{ListState, drop_lists}
 use Rattle.sbp_journal.specs.Run.{Moment}
 use Rattle.sbp_journal.specs.Outgoings.{OutboxState}
@@ -20,13 +21,14 @@ use Rattle.sbp_session.specs.declared.seat.Seat.TheVariants as seats
 use Rattle.sbp_session.specs.Moves.{bad, conflict, goes, pointed}
 use Rattle.sbp_initiator.specs.declared.purpose.Ending.{Ending}
 use Rattle.sbp_initiator.specs.declared.purpose.Ending.TheVariants as endings
+use Rattle.sbp_initiator.specs.declared.purpose.Pointing.{Pointing}
 use Rattle.sbp_initiator.specs.declared.purpose.Purpose.{Purpose}
 use Rattle.sbp_initiator.specs.declared.purpose.Purpose.TheVariants as purposes
 use Rattle.sbp_initiator.specs.declared.purpose.Running.{Running}
 use Rattle.sbp_initiator.specs.declared.state.InitiatorState.{InitiatorState}
 use Rattle.sbp_initiator.specs.Effects.{asked_quad, conflict_for, drop_list_step, drop_where, dropped_as, end_own_step, ended_for, ended_step, fail_step, fault_number, good_event, good_word, is_address, is_conflict, known_where, managed_step, next_quad, pointed_step, quad_got, response_of, state_told, with_answered, with_dead, with_request, with_rom, with_unit}
 use Rattle.sbp_initiator.specs.Refusals.{ends_list}
-use Rattle.sbp_initiator.specs.States.{counts_for, is_list}
+use Rattle.sbp_initiator.specs.States.{counts_for, is_list, is_unwritten}
 use Rattle.initiator_base.specs.Quads.{with_quad}
 use Rattle.initiator_base.specs.Places.{management_at}
 use Rattle.initiator_laws.proofs.Effects.{Fits, IsFor}
@@ -57,12 +59,22 @@ drop_operation : (r : Option ℕ × ListState) (o : OutboxState) (s : InitiatorS
 drop_operation (None, lists) o s = refl
 drop_operation (Some n, lists) o s = refl
 
+-- an ORB_POINTER that is answered for the present list was written
+abbrev pub Points : Purpose → Option PresentList → Pointing → Type 0
+Points (purposes.Pointer list) present pointing = is_list present list ≡ true → is_unwritten pointing ≡ false
+Points _ present pointing = Unit {0}
+
 module _ (past : List Moment) where
-  pointed_known : (list : ℕ) (o : OutboxState) (s : InitiatorState) → Known past (o, s) → Known past (o, pointed_step list s)
-  pointed_known list o s k =
-      let t = record s { seat = goes pointed s.seat } in
-      let same = ap (λ x. seated x (own_core s)) (pointed_session s.seat) in
-      pick_state past (is_list s.lists.slots.present list) o (with_answered t) t (still_known past o o s (with_answered t) refl refl same k) (still_known past o o s t refl refl same k)
+  answers_known : (list : ℕ) (o : OutboxState) (s : InitiatorState) (b : Bool) → is_list s.lists.slots.present list ≡ b → (b ≡ true → is_unwritten s.marks.pointing ≡ false) → Known past (o, s) → Known past (o, cond b (with_answered (record s { seat = goes pointed s.seat })) (record s { seat = goes pointed s.seat }))
+  answers_known list o s true e w k =
+      still_known past o o s (with_answered (record s { seat = goes pointed s.seat })) refl refl
+      (ap (λ x. record (own_core s) { session = x; wrote_pointer = true }) (pointed_session s.seat) ∙ ap (λ (b : Bool). record (own_core s) { wrote_pointer = not b }) (sym (w refl)))
+      k
+  answers_known list o s false e w k =
+      still_known past o o s (record s { seat = goes pointed s.seat }) refl refl (ap (λ x. seated x (own_core s)) (pointed_session s.seat)) k
+
+  pointed_known : (list : ℕ) (o : OutboxState) (s : InitiatorState) → Points (purposes.Pointer list) s.lists.slots.present s.marks.pointing → Known past (o, s) → Known past (o, pointed_step list s)
+  pointed_known list o s w k = answers_known list o s (is_list s.lists.slots.present list) refl w k
 
   fail_known : (act : ℕ) (o : OutboxState) (s : InitiatorState) → Known past (o, s) → Known past (fail_step act o s)
   fail_known act o s k =
@@ -132,35 +144,35 @@ module _ (past : List Moment) where
 
   -- ---- by what the transaction was for
 
-  pub ended_known : (purpose : Purpose) (ending : Ending) (o : OutboxState) (s : InitiatorState) → Fits purpose s.operation → Known past (o, s) → Known past (ended_step purpose ending o s)
+  pub ended_known : (purpose : Purpose) (ending : Ending) (o : OutboxState) (s : InitiatorState) → Fits purpose s.operation → Points purpose s.lists.slots.present s.marks.pointing → Known past (o, s) → Known past (ended_step purpose ending o s)
   unfolding ended_step
-  ended_known (purposes.Pointer list) (endings.Complete value) o s f k = pointed_known list o s k
-  ended_known (purposes.Pointer list) (endings.Refused rcode) o s f k = stick_known past o s k
-  ended_known (purposes.Pointer list) endings.Expired o s f k = stick_known past o s k
-  ended_known purposes.Doorbell (endings.Complete value) o s f k = k
-  ended_known purposes.Doorbell (endings.Refused rcode) o s f k = stick_known past o s k
-  ended_known purposes.Doorbell endings.Expired o s f k = stick_known past o s k
-  ended_known (purposes.AgentReset act) (endings.Complete value) o s f k = reset_known act o s f k
-  ended_known (purposes.AgentReset act) (endings.Refused rcode) o s f k = fail_known act o s k
-  ended_known (purposes.AgentReset act) endings.Expired o s f k = fail_known act o s k
-  ended_known (purposes.Enable act) (endings.Complete value) o s f k = end_own_known past act words.Done o s (stays_for operations.Enable words.Done act s.operation (λ x. refl) f) k
-  ended_known (purposes.Enable act) (endings.Refused rcode) o s f k = fail_known act o s k
-  ended_known (purposes.Enable act) endings.Expired o s f k = fail_known act o s k
-  ended_known (purposes.Management act) (endings.Complete value) o s f k = k
-  ended_known (purposes.Management act) (endings.Refused rcode) o s f k =
+  ended_known (purposes.Pointer list) (endings.Complete value) o s f w k = pointed_known list o s w k
+  ended_known (purposes.Pointer list) (endings.Refused rcode) o s f w k = stick_known past o s k
+  ended_known (purposes.Pointer list) endings.Expired o s f w k = stick_known past o s k
+  ended_known purposes.Doorbell (endings.Complete value) o s f w k = k
+  ended_known purposes.Doorbell (endings.Refused rcode) o s f w k = stick_known past o s k
+  ended_known purposes.Doorbell endings.Expired o s f w k = stick_known past o s k
+  ended_known (purposes.AgentReset act) (endings.Complete value) o s f w k = reset_known act o s f k
+  ended_known (purposes.AgentReset act) (endings.Refused rcode) o s f w k = fail_known act o s k
+  ended_known (purposes.AgentReset act) endings.Expired o s f w k = fail_known act o s k
+  ended_known (purposes.Enable act) (endings.Complete value) o s f w k = end_own_known past act words.Done o s (stays_for operations.Enable words.Done act s.operation (λ x. refl) f) k
+  ended_known (purposes.Enable act) (endings.Refused rcode) o s f w k = fail_known act o s k
+  ended_known (purposes.Enable act) endings.Expired o s f w k = fail_known act o s k
+  ended_known (purposes.Management act) (endings.Complete value) o s f w k = k
+  ended_known (purposes.Management act) (endings.Refused rcode) o s f w k =
       pick_known past (is_conflict rcode) _ _ (λ e. conflict_known s.operation act o s refl k) (λ e. fail_known act o s k)
-  ended_known (purposes.Management act) endings.Expired o s f k = fail_known act o s k
-  ended_known (purposes.Rom act) (endings.Complete value) o s f k =
+  ended_known (purposes.Management act) endings.Expired o s f w k = fail_known act o s k
+  ended_known (purposes.Rom act) (endings.Complete value) o s f w k =
       let u = record s { quads = with_quad s.quads value } in quad_known act o u f (still_known past o o s u refl refl refl k)
-  ended_known (purposes.Rom act) (endings.Refused rcode) o s f k =
+  ended_known (purposes.Rom act) (endings.Refused rcode) o s f w k =
       pick_known past (is_address rcode) _ _ (λ e. rom_known act (reading s.quads) o s f k) (λ e. end_own_known past act words.Error o s (stays_error act s.operation) k)
-  ended_known (purposes.Rom act) endings.Expired o s f k = end_own_known past act words.Error o s (stays_error act s.operation) k
-  ended_known (purposes.State act list) (endings.Complete value) o s f k =
+  ended_known (purposes.Rom act) endings.Expired o s f w k = end_own_known past act words.Error o s (stays_error act s.operation) k
+  ended_known (purposes.State act list) (endings.Complete value) o s f w k =
       let d = known_where (counts_for s.lists.slots.present list) value o s in
       state_known act (words.State value) d.0 d.1 (tells_known (counts_for s.lists.slots.present list) value o s k)
-  ended_known (purposes.State act list) (endings.Refused rcode) o s f k = state_known act words.Error o s k
-  ended_known (purposes.State act list) endings.Expired o s f k = state_known act words.Error o s k
+  ended_known (purposes.State act list) (endings.Refused rcode) o s f w k = state_known act words.Error o s k
+  ended_known (purposes.State act list) endings.Expired o s f w k = state_known act words.Error o s k
 
-  pub for_known : (purpose : Option Purpose) (ending : Ending) (o : OutboxState) (s : InitiatorState) → IfFor (λ p. Fits p s.operation) purpose → Known past (o, s) → Known past (ended_for purpose ending o s)
+  pub for_known : (purpose : Option Purpose) (ending : Ending) (o : OutboxState) (s : InitiatorState) → IfFor (λ p. Fits p s.operation × Points p s.lists.slots.present s.marks.pointing) purpose → Known past (o, s) → Known past (ended_for purpose ending o s)
   for_known None ending o s f k = k
-  for_known (Some purpose) ending o s f k = ended_known purpose ending o s f k
+  for_known (Some purpose) ending o s f k = ended_known purpose ending o s f.0 f.1 k

@@ -30,16 +30,16 @@ use Rattle.sbp_initiator.specs.States.{ending_of, is_present_orb, status_in}
 use Rattle.initiator_laws.proofs.Effects.{Fits}
 use Rattle.initiator_laws.proofs.Purposes.{IfFor}
 use Rattle.host_terms.proofs.Cores.{taken_told}
-use Rattle.host_terms.proofs.KnowEnds.{for_known, managed_known}
+use Rattle.host_terms.proofs.KnowEnds.{Points, for_known, managed_known}
 use Rattle.host_terms.proofs.Knowing.{Known, pick_state, still_known, tell_plain}
 
 -- what a response closes, or expires, is for the operation under way
 abbrev pub IfFits : Finding Purpose → InitiatorState → Type 0
-IfFits (of_response q label purpose) s = IfFor (λ p. Fits p s.operation) purpose
+IfFits (of_response q label purpose) s = IfFor (λ p. Fits p s.operation × Points p s.lists.slots.present s.marks.pointing) purpose
 IfFits _ s = Unit {0}
 
 abbrev pub IfExpires : Result (Option Purpose) Stale → InitiatorState → Type 0
-IfExpires (Ok purpose) s = IfFor (λ p. Fits p s.operation) purpose
+IfExpires (Ok purpose) s = IfFor (λ p. Fits p s.operation × Points p s.lists.slots.present s.marks.pointing) purpose
 IfExpires (Err stale) s = Unit {0}
 
 module _ (past : List Moment) where

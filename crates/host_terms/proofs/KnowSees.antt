@@ -15,7 +15,12 @@ use Rattle.sbp_session.specs.Moves.{goes, reset}
 use Rattle.sbp_initiator.specs.declared.purpose.Purpose.{Purpose}
 use Rattle.sbp_initiator.specs.declared.purpose.Running.{Running}
 use Rattle.sbp_initiator.specs.declared.state.InitiatorState.{InitiatorState}
-use Rattle.sbp_initiator.specs.Effects.{drop_list_step}
+use Rattle.orb_list.specs.declared.list.PresentList.{PresentList}
+use Rattle.orb_list.specs.Lists.{drop_lists, with_slots}
+use Rattle.orb_list.specs.Table.{drop_for, drop_step}
+use Rattle.sbp_initiator.specs.States.{is_unwritten}
+use Rattle.initiator_laws.proofs.Effects.{HasMarks}
+use Rattle.sbp_initiator.specs.Effects.{drop_list_step, dropped_as}
 use Rattle.sbp_initiator.specs.Seeing.{all_end, freed_step, interrupted, reset_step, reset_told, resets_told, see_step, seen_as, states_end}
 use Rattle.sbp_laws.specs.Hosts.{Session, host_at, session_reset}
 use Rattle.host_terms.specs.Core.{Core, host_core, own_core, session_in}
@@ -80,26 +85,35 @@ module _ (past : List Moment) (target : ℕ) (s : InitiatorState) where
   resets_known None acts o k = states_known acts o k
   resets_known (Some running) acts o k = all_known running acts o k
 
-  pub all_reset : Known past (empty_outbox, idle) → Known past (reset_step target empty_outbox s)
-  all_reset k =
+  -- no ORB_POINTER counts as written where the list was dropped
+  unwritten_as : (present : Option PresentList) (o : OutboxState) → HasMarks present s.marks.pointing → is_unwritten (dropped_as ((drop_for present s.lists.slots).0, with_slots s.lists (drop_for present s.lists.slots).1) o idle).1.marks.pointing ≡ true
+  unwritten_as None o h = h
+  unwritten_as (Some list) o h = refl
+
+  unwritten : (o : OutboxState) → HasMarks s.lists.slots.present s.marks.pointing → is_unwritten (drop_list_step o idle).1.marks.pointing ≡ true
+  unfolding drop_lists drop_step
+  unwritten o h = unwritten_as s.lists.slots.present o h
+
+  pub all_reset : HasMarks s.lists.slots.present s.marks.pointing → Known past (empty_outbox, idle) → Known past (reset_step target empty_outbox s)
+  all_reset h k =
       let o = resets_told s.number s.operation s.states empty_outbox in
       let d = drop_list_step o idle in
-      still_known past d.0 d.0 d.1 (freed_step d).1 refl refl refl (drop_known past o idle (resets_known s.operation s.states empty_outbox k))
+      still_known past d.0 d.0 d.1 (freed_step d).1 refl refl (ap (λ (b : Bool). record (own_core d.1) { wrote_pointer = not b }) (sym (unwritten o h))) (drop_known past o idle (resets_known s.operation s.states empty_outbox k))
 
 -- what the note of a sight says
 module _ (past : List Moment) (generation : ℕ) where
-  sight_by : (target : ℕ) (s : InitiatorState) (r : Bool × Layer Purpose) → r.0 ≡ not (generation == (terms past).generation (suc s.number)) → Known past (empty_outbox, s) → Known (said (notes.Seen (suc s.number) generation) ∷ past) (seen_as r target empty_outbox s)
-  sight_by target s (true, layer) e k =
+  sight_by : (target : ℕ) (s : InitiatorState) (r : Bool × Layer Purpose) → r.0 ≡ not (generation == (terms past).generation (suc s.number)) → HasMarks s.lists.slots.present s.marks.pointing → Known past (empty_outbox, s) → Known (said (notes.Seen (suc s.number) generation) ∷ past) (seen_as r target empty_outbox s)
+  sight_by target s (true, layer) e h k =
       let u = record s { layer = layer } in
       let now = said (notes.Seen (suc s.number) generation) ∷ past in
-      all_reset now target u (record {
+      all_reset now target u h (record {
         own = seen_told generation past s.number ∙ ap (λ b. reset_in b (host_core (host_at past s.number))) (sym e) ∙ ap (reset_in true) k.own ∙ ap (λ x. closed_in x (own_core s)) (reset_session s.seat);
         others = λ j f. refl;
         line = refl;
         wire = refl;
         sits = tt;
       })
-  sight_by target s (false, layer) e k = record {
+  sight_by target s (false, layer) e h k = record {
     own = seen_told generation past s.number ∙ ap (λ b. reset_in b (host_core (host_at past s.number))) (sym e) ∙ k.own;
     others = λ j f. refl;
     line = refl;
@@ -107,6 +121,6 @@ module _ (past : List Moment) (generation : ℕ) where
     sits = k.sits;
   }
 
-  pub sees_known : (id target : ℕ) (s : InitiatorState) → (seeing_step s.layer generation id).0 ≡ not (generation == (terms past).generation (suc s.number)) → Known past (empty_outbox, s) → Known (said (notes.Seen (suc s.number) generation) ∷ past) (see_step generation id target empty_outbox s)
+  pub sees_known : (id target : ℕ) (s : InitiatorState) → (seeing_step s.layer generation id).0 ≡ not (generation == (terms past).generation (suc s.number)) → HasMarks s.lists.slots.present s.marks.pointing → Known past (empty_outbox, s) → Known (said (notes.Seen (suc s.number) generation) ∷ past) (see_step generation id target empty_outbox s)
   unfolding see_step
-  sees_known id target s e k = sight_by target s (seeing_step s.layer generation id) e k
+  sees_known id target s e h k = sight_by target s (seeing_step s.layer generation id) e h k

@@ -23,7 +23,7 @@ use Rattle.sbp_laws.specs.Hosts.{Session, host_at, session_ended, session_stuck}
 use Rattle.sbp_laws.specs.Hosts as terms
 use Rattle.host_terms.specs.Calls.{behind}
 use Rattle.host_terms.specs.Core.{Core, host_core, operation_by, own_core, session_in, work_in}
-use Rattle.host_terms.proofs.Cores.{apart_core, drop_told, ended_in, op_told, stuck_in, stuck_told, untrue}
+use Rattle.host_terms.proofs.Cores.{apart_core, drop_told, ended_in, list_in, op_told, stuck_in, stuck_told, untrue}
 use Rattle.host_terms.proofs.Listed.{behind_more}
 
 -- An operation that moves the session goes with the state that it began, or with a session that is stuck; and a read of AGENT_STATE is none.
@@ -105,7 +105,8 @@ module _ (past : List Moment) where
   drop_cases : (r : Option ℕ × ListState) (o : OutboxState) (s : InitiatorState) → Known past (o, s) → Known past (dropped_as r o s)
   drop_cases (None, lists) o s k = still_known o o s (record s { lists = lists }) refl refl refl k
   drop_cases (Some n, lists) o s k =
-      tell_plain (notes.Drop s.number n) o s _ refl refl (λ ms j. drop_told s.number n ms j) (λ ms. refl) k
+      tell (notes.Drop s.number n) o s (dropped_as (Some n, lists) o s).1 (list_in 0) refl refl (λ ms. drop_told n ms s.number)
+      (λ ms j f. apart_core (notes.Drop s.number n) ms j (ap not f)) (λ ms. refl) k.sits k
 
   pub drop_known : (o : OutboxState) (s : InitiatorState) → Known past (o, s) → Known past (drop_list_step o s)
   drop_known o s k = drop_cases (drop_lists s.lists) o s k
@@ -134,7 +135,7 @@ gets_stuck (seats.Stuck origin) e = untrue (sym e)
 
 -- the core with another session
 abbrev pub seated : Session → Core → Core
-seated session c = record { session = session; work = c.work; logins = c.logins; writes = c.writes }
+seated session c = record c { session = session }
 
 module _ (past : List Moment) (o : OutboxState) (s : InitiatorState) (k : Known past (o, s)) where
   abbrev failing : InitiatorState
@@ -154,7 +155,7 @@ module _ (past : List Moment) (o : OutboxState) (s : InitiatorState) (k : Known 
 
 -- none is under way, and the session is this
 abbrev pub closed_in : Session → Core → Core
-closed_in session c = record { session = session; work = None; logins = c.logins; writes = c.writes }
+closed_in session c = record c { session = session; work = None }
 
 ended_is : (operation : Operation) (word : OpWord) (c : Core) → Sits (Some operation) c.session → ended_in operation word c ≡ closed_in (session_ended operation word c.session) c
 ended_is operations.Rom word c h = refl

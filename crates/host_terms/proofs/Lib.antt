@@ -46,3 +46,4 @@ pub mod KnowSees
 pub mod KnowActs
 pub mod Hosted
 pub mod Deciding
+pub mod Labels

@@ -1,6 +1,7 @@
 -- What the run terms say of an initiator's host is what it has (NCITS 325-1998, login, reconnect, logout): its session, the operation under way
--- with the place of its management ORB, how many login numbers it used and how many management writes it sent.
-use Rattle.std.specs.Prelude.{◌≡◌, ◌<◌, ℕ, ◌||◌, Bool, true, false, if◌then◌else◌, List, ◌∷◌, ◌++◌, map, Option, Some, None}
+-- with the place of its management ORB, how many login numbers it used and how many management writes it sent, its next running number, and
+-- whether it wrote ORB_POINTER for its present list.
+use Rattle.std.specs.Prelude.{◌≡◌, ◌<◌, ℕ, ◌||◌, not, is_some, Bool, true, false, if◌then◌else◌, List, ◌∷◌, ◌++◌, map, Option, Some, None}
 use Rattle.rbc_disk.specs.Runs.{Told}
 use Rattle.sbp_journal.specs.Run.{asked, said}
 use Rattle.sbp_journal.specs.Rows.{Refusals}
@@ -15,7 +16,7 @@ use Rattle.sbp_initiator.specs.declared.purpose.Running.{Running}
 use Rattle.sbp_initiator.specs.declared.state.InitiatorState.{InitiatorState}
 use Rattle.sbp_initiator.specs.Acting.{act_step, facts_with}
 use Rattle.sbp_initiator.specs.Refusals.{ends_list, operation_of, rows_of}
-use Rattle.sbp_initiator.specs.States.{place_of}
+use Rattle.sbp_initiator.specs.States.{is_unwritten, place_of}
 use Rattle.sbp_laws.specs.Actions.{refusal_at, refusals}
 use Rattle.sbp_laws.specs.Hosts.{Host, Session, Underway, host_at, is_management}
 use Rattle.sbp_laws.specs.Hosts as terms
@@ -53,9 +54,18 @@ pub record Core : Type 0 where
   pub work : Option Work
   pub logins : ℕ
   pub writes : ℕ
+  pub running : ℕ
+  pub wrote_pointer : Bool
 
 abbrev pub host_core : Host → Core
-host_core host = record { session = host.session; work = work_of host.operation; logins = host.logins; writes = host.writes }
+host_core host = record {
+  session = host.session;
+  work = work_of host.operation;
+  logins = host.logins;
+  writes = host.writes;
+  running = host.running;
+  wrote_pointer = is_some host.pointer;
+}
 
 -- the session of a seat: of a stuck one, whether it had a login as it became so
 abbrev pub had_login : Origin → Bool
@@ -76,7 +86,14 @@ session_in (seats.Leaving response) = terms.leaving
 session_in (seats.Stuck origin) = terms.stuck (had_login origin)
 
 abbrev pub own_core : InitiatorState → Core
-own_core s = record { session = session_in s.seat; work = work_in s.operation; logins = s.counts.logins; writes = s.counts.managed }
+own_core s = record {
+  session = session_in s.seat;
+  work = work_in s.operation;
+  logins = s.counts.logins;
+  writes = s.counts.managed;
+  running = s.counts.running;
+  wrote_pointer = not (is_unwritten s.marks.pointing);
+}
 
 -- the rows of a refusal that read the session and the operation; whether an ORB_POINTER write is under way counts for the operations that end
 -- a list alone

@@ -13,3 +13,4 @@ pub mod Calling
 pub mod Refusing
 pub mod Core
 pub mod Deciding
+pub mod Labels

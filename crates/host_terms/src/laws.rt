@@ -6,6 +6,7 @@ ghost use Rattle.host_terms.specs.Core.{HostLaw};
 ghost use Rattle.host_terms.specs.Deciding.{RunRefusalLaw};
 ghost use Rattle.host_terms.specs.Handing.{HandLaw};
 ghost use Rattle.host_terms.specs.Keeping.{KeepingLaw};
+ghost use Rattle.host_terms.specs.Labels.{RunLabelLaw};
 ghost use Rattle.host_terms.specs.Lines.{LineLaw};
 ghost use Rattle.host_terms.specs.Reading.{ReadLaw};
 ghost use Rattle.host_terms.specs.Refusing.{RunActionLaw};
@@ -91,8 +92,9 @@ pub fn runs_are_calls()
     ensures { CallsLaw }
 {}
 
-/// The law that in every run the terms of an initiator's host have its session, the operation under way, and how many
-/// login numbers and management writes it used, and that the rows of a refusal that read the session are its own.
+/// The law that in every run the terms of an initiator's host have its session, the operation under way, how many
+/// login numbers and management writes it used, its next running number, and whether it wrote ORB_POINTER for its
+/// present list; and that the rows of a refusal that read the session are its own.
 #[tactic(auto, using(crate::proofs::Hosted::host_law))]
 pub fn runs_know_sessions()
     ensures { HostLaw }
@@ -104,4 +106,12 @@ pub fn runs_know_sessions()
 #[tactic(auto, using(crate::proofs::Deciding::run_refusal_law))]
 pub fn runs_refuse_by_their_rows()
     ensures { RunRefusalLaw }
+{}
+
+/// The law that in every run a request of an initiator to its target finds the label that the run terms say, and none
+/// exactly where they say so; and that a read of the ROM and a read of AGENT_STATE are refused with the least number
+/// whose row holds of them.
+#[tactic(auto, using(crate::proofs::Labels::run_label_law))]
+pub fn runs_find_labels()
+    ensures { RunLabelLaw }
 {}

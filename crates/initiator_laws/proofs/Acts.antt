@@ -1,5 +1,5 @@
 -- What holds after an action, and what it tells.
-use Rattle.std.proofs.Common.{arith, ◌≡◌, refl, sym, ap, subst, ◌∙◌, ℕ, ◌+◌, ◌<◌, ◌++◌, nat_eq, is_some, Bool, true, false, cond, List, [], ◌∷◌, length, Option, Some, None}
+use Rattle.std.proofs.Common.{arith, ◌≡◌, refl, sym, ap, subst, ◌∙◌, ℕ, ◌+◌, ◌<◌, ◌++◌, nat_eq, ◌||◌, is_some, Bool, true, false, cond, List, [], ◌∷◌, length, Option, Some, None}
 use Rattle.label_table.specs.declared.judgement.Asked.{Asked}
 use Rattle.label_table.specs.Layer.{Layer}
 use Rattle.bus_memory.specs.Windows.{start}
@@ -33,13 +33,13 @@ use Rattle.initiator_laws.specs.Slots.{orb_in}
 use Rattle.initiator_laws.specs.Marks.{CountsFor, answered_list, begins_read, counted_if, is_read, read_begun}
 use Rattle.label_table.specs.History as wire
 use Rattle.initiator_laws.specs.Numbers.{is_numbered, value_of, carried, RisesTo}
-use Rattle.initiator_laws.proofs.Actions.{Allowed, Done, allowed, done_does, used}
-use Rattle.initiator_laws.proofs.Effects.{Fits, Holds, IsFor, IsForOrb}
+use Rattle.initiator_laws.proofs.Actions.{Allowed, Done, allowed, done_does, pointed_after, pointed_by, remembered, used}
+use Rattle.initiator_laws.proofs.Effects.{Fits, Holds, IsFor, IsForOrb, Past}
 use Rattle.initiator_laws.proofs.Did.{done_reads}
 use Rattle.initiator_laws.proofs.Lives.{IsNew, IsNot, read_act, reads_with}
 use Rattle.initiator_laws.proofs.Purposes.{AllAsk, all_ask}
 use Rattle.initiator_laws.proofs.Requests.{HasOrb}
-use Rattle.initiator_laws.proofs.Runs.{FitsNow, IsBegun, IsEarlier, Sound, act_in, none_some}
+use Rattle.initiator_laws.proofs.Runs.{FitsNow, IsBegun, IsEarlier, Sound, WasPointed, act_in, none_some}
 use Rattle.initiator_laws.proofs.Wires.{Wire, ask_wire, number_wire, numbered_none}
 
 -- ---- the request of an action
@@ -98,8 +98,8 @@ IsAt acts None = Unit {0}
 IsAt acts (Some act) = act ≡ acts
 
 -- what a demand is for fits the operation that begins with it; and one that carries the running number carries this one
-record Apt (operation : Option Running) (acts running : ℕ) (counted : ℕ → Option ℕ) (demand : Demand) : Type 0 where
-  fits : FitsNow operation (acts + 1) counted demand.purpose
+record Apt (operation : Option Running) (acts running : ℕ) (counted : ℕ → Option ℕ) (pointed : ℕ → Bool) (demand : Demand) : Type 0 where
+  fits : FitsNow operation (acts + 1) counted (pointed_by demand.purpose pointed) demand.purpose
   value : is_numbered demand.purpose ≡ true → value_of (wanted_body demand.wanted) ≡ Some running
   read : IsAt acts (read_act demand.purpose)
 
@@ -122,30 +122,37 @@ for_own operation r e = record { same = λ running f g. ap (λ (x : Running). x.
 for_orb : (r : Running) → is_managed r.operation ≡ true → IsForOrb r.act (Some r)
 for_orb r e = record { managed = λ running f g. ap (λ (x : Running). is_managed x.operation) (sym (some_is r running f)) ∙ e }
 
-pick_apt : (c : Bool) (operation : Option Running) (acts running : ℕ) (counted : ℕ → Option ℕ) (x y : Demand) → Apt operation acts running counted x → Apt operation acts running counted y → Apt operation acts running counted (cond c x y)
-pick_apt true operation acts running counted x y a b = a
-pick_apt false operation acts running counted x y a b = b
+pick_apt : (c : Bool) (operation : Option Running) (acts running : ℕ) (counted : ℕ → Option ℕ) (pointed : ℕ → Bool) (x y : Demand) → Apt operation acts running counted pointed x → Apt operation acts running counted pointed y → Apt operation acts running counted pointed (cond c x y)
+pick_apt true operation acts running counted pointed x y a b = a
+pick_apt false operation acts running counted pointed x y a b = b
 
-ring_apt : (s : InitiatorState) (counted : ℕ → Option ℕ) → Apt s.operation s.counts.acts s.counts.running counted (ring_demand s)
-ring_apt s counted =
-    pick_apt (is_unwritten s.marks.pointing) s.operation s.counts.acts s.counts.running counted _ _
-    (record { fits = record { fits = tt; earlier = tt; counts = tt }; value = λ e. untrue e; read = tt })
-    (record { fits = record { fits = tt; earlier = tt; counts = tt }; value = λ e. refl; read = tt })
+own_pointed : (n : ℕ) (b : Bool) → (nat_eq n n || b) ≡ true
+own_pointed n b = ap (λ (c : Bool). c || b) (own_number n)
+  where
+    own_number : (n : ℕ) → nat_eq n n ≡ true
+    own_number n = grind arith
+
+ring_apt : (s : InitiatorState) (counted : ℕ → Option ℕ) (pointed : ℕ → Bool) → Apt s.operation s.counts.acts s.counts.running counted pointed (ring_demand s)
+ring_apt s counted pointed =
+    let n = list_number s.lists.slots.present s.lists.slots.lists in
+    pick_apt (is_unwritten s.marks.pointing) s.operation s.counts.acts s.counts.running counted pointed _ _
+    (record { fits = record { fits = tt; earlier = tt; counts = tt; points = own_pointed n (pointed n) }; value = λ e. untrue e; read = tt })
+    (record { fits = record { fits = tt; earlier = tt; counts = tt; points = tt }; value = λ e. refl; read = tt })
 
 orb_apt : (b : Bool) (operation : Operation) (s : InitiatorState) → is_managed operation ≡ true → IsForOrb s.counts.acts (Some (begun_as b operation s))
 orb_apt true operation s m = for_orb (begun_as true operation s) m
 orb_apt false operation s m = for_orb (begun_as false operation s) m
 
-managed_apt : (operation : Operation) (s : InitiatorState) (counted : ℕ → Option ℕ) → is_managed operation ≡ true → Apt (after_by (Some operation) s) s.counts.acts s.counts.running counted (manage_demand s)
-managed_apt operation s counted m = record {
-  fits = record { fits = orb_apt (is_managed operation) operation s m; earlier = now_earlier s.counts.acts; counts = tt };
+managed_apt : (operation : Operation) (s : InitiatorState) (counted : ℕ → Option ℕ) (pointed : ℕ → Bool) → is_managed operation ≡ true → Apt (after_by (Some operation) s) s.counts.acts s.counts.running counted pointed (manage_demand s)
+managed_apt operation s counted pointed m = record {
+  fits = record { fits = orb_apt (is_managed operation) operation s m; earlier = now_earlier s.counts.acts; counts = tt; points = tt };
   value = λ e. untrue e;
   read = tt;
 }
 
-module _ {operation : Option Running} {acts running : ℕ} {counted : ℕ → Option ℕ} where
-  demand_is : (x y : Demand) → Some x ≡ Some y → Apt operation acts running counted x → Apt operation acts running counted y
-  demand_is x y e a = subst (λ (d : Demand). Apt operation acts running counted d) (some_is x y e) a
+module _ {operation : Option Running} {acts running : ℕ} {counted : ℕ → Option ℕ} {pointed : ℕ → Bool} where
+  demand_is : (x y : Demand) → Some x ≡ Some y → Apt operation acts running counted pointed x → Apt operation acts running counted pointed y
+  demand_is x y e a = subst (λ (d : Demand). Apt operation acts running counted pointed d) (some_is x y e) a
 
 -- the list that a read counts for, behind an action
 abbrev pub counted_act : Option ℕ → Action → InitiatorState → (ℕ → Option ℕ) → ℕ → Option ℕ
@@ -189,29 +196,29 @@ still_counts (purposes.Management act) c list n counted h f = tt
 still_counts (purposes.Pointer known) c list n counted h f = tt
 still_counts purposes.Doorbell c list n counted h f = tt
 
-apt : (action : Action) (s : InitiatorState) (counted : ℕ → Option ℕ) (demand : Demand) → demand_of action s ≡ Some demand → Apt (after_by (operation_of action) s) s.counts.acts s.counts.running (counted_act None action s counted) demand
-apt actions.Rom s counted demand e =
-    demand_is _ demand e (record { fits = record { fits = for_own operations.Rom (begun_as false operations.Rom s) refl; earlier = now_earlier s.counts.acts; counts = tt }; value = λ f. untrue f; read = tt })
-apt (actions.Login unit reconnect exclusive password) s counted demand e = demand_is _ demand e (managed_apt operations.Login s _ refl)
-apt (actions.Query unit) s counted demand e = demand_is _ demand e (managed_apt operations.Query s _ refl)
-apt actions.Reconnect s counted demand e = demand_is _ demand e (managed_apt operations.Reconnect s _ refl)
-apt actions.Logout s counted demand e = demand_is _ demand e (managed_apt operations.Logout s _ refl)
-apt (actions.Abort orb) s counted demand e = demand_is _ demand e (managed_apt operations.Abort s _ refl)
-apt actions.AbortSet s counted demand e = demand_is _ demand e (managed_apt operations.AbortSet s _ refl)
-apt actions.UnitReset s counted demand e = demand_is _ demand e (managed_apt operations.UnitReset s _ refl)
-apt actions.TargetReset s counted demand e = demand_is _ demand e (managed_apt operations.TargetReset s _ refl)
-apt actions.AgentReset s counted demand e =
-    demand_is _ demand e (record { fits = record { fits = for_own operations.AgentReset (begun_as false operations.AgentReset s) refl; earlier = now_earlier s.counts.acts; counts = tt }; value = λ f. refl; read = tt })
-apt actions.State s counted demand e =
-    demand_is _ demand e (record { fits = record { fits = tt; earlier = now_earlier s.counts.acts; counts = state_counts s counted }; value = λ f. untrue f; read = refl })
-apt (actions.Dummy orb) s counted demand e = none_some e
-apt (actions.Put cmd) s counted demand e = none_some e
-apt (actions.Append cmd) s counted demand e = demand_is _ demand e (ring_apt s _)
-apt actions.Low s counted demand e = none_some e
-apt actions.Link s counted demand e = none_some e
-apt actions.Ring s counted demand e = demand_is _ demand e (ring_apt s _)
-apt actions.Enable s counted demand e =
-    demand_is _ demand e (record { fits = record { fits = for_own operations.Enable (begun_as false operations.Enable s) refl; earlier = now_earlier s.counts.acts; counts = tt }; value = λ f. untrue f; read = tt })
+apt : (action : Action) (s : InitiatorState) (counted : ℕ → Option ℕ) (pointed : ℕ → Bool) (demand : Demand) → demand_of action s ≡ Some demand → Apt (after_by (operation_of action) s) s.counts.acts s.counts.running (counted_act None action s counted) pointed demand
+apt actions.Rom s counted pointed demand e =
+    demand_is _ demand e (record { fits = record { fits = for_own operations.Rom (begun_as false operations.Rom s) refl; earlier = now_earlier s.counts.acts; counts = tt; points = tt }; value = λ f. untrue f; read = tt })
+apt (actions.Login unit reconnect exclusive password) s counted pointed demand e = demand_is _ demand e (managed_apt operations.Login s _ _ refl)
+apt (actions.Query unit) s counted pointed demand e = demand_is _ demand e (managed_apt operations.Query s _ _ refl)
+apt actions.Reconnect s counted pointed demand e = demand_is _ demand e (managed_apt operations.Reconnect s _ _ refl)
+apt actions.Logout s counted pointed demand e = demand_is _ demand e (managed_apt operations.Logout s _ _ refl)
+apt (actions.Abort orb) s counted pointed demand e = demand_is _ demand e (managed_apt operations.Abort s _ _ refl)
+apt actions.AbortSet s counted pointed demand e = demand_is _ demand e (managed_apt operations.AbortSet s _ _ refl)
+apt actions.UnitReset s counted pointed demand e = demand_is _ demand e (managed_apt operations.UnitReset s _ _ refl)
+apt actions.TargetReset s counted pointed demand e = demand_is _ demand e (managed_apt operations.TargetReset s _ _ refl)
+apt actions.AgentReset s counted pointed demand e =
+    demand_is _ demand e (record { fits = record { fits = for_own operations.AgentReset (begun_as false operations.AgentReset s) refl; earlier = now_earlier s.counts.acts; counts = tt; points = tt }; value = λ f. refl; read = tt })
+apt actions.State s counted pointed demand e =
+    demand_is _ demand e (record { fits = record { fits = tt; earlier = now_earlier s.counts.acts; counts = state_counts s counted; points = tt }; value = λ f. untrue f; read = refl })
+apt (actions.Dummy orb) s counted pointed demand e = none_some e
+apt (actions.Put cmd) s counted pointed demand e = none_some e
+apt (actions.Append cmd) s counted pointed demand e = demand_is _ demand e (ring_apt s _ _)
+apt actions.Low s counted pointed demand e = none_some e
+apt actions.Link s counted pointed demand e = none_some e
+apt actions.Ring s counted pointed demand e = demand_is _ demand e (ring_apt s _ _)
+apt actions.Enable s counted pointed demand e =
+    demand_is _ demand e (record { fits = record { fits = for_own operations.Enable (begun_as false operations.Enable s) refl; earlier = now_earlier s.counts.acts; counts = tt; points = tt }; value = λ f. untrue f; read = tt })
 
 -- ---- the transactions of earlier actions
 
@@ -249,19 +256,44 @@ begun_act : (b : Bool) (operation : Operation) (s : InitiatorState) → (begun_a
 begun_act true operation s = refl
 begun_act false operation s = refl
 
+-- more was asked for
+still_pointed : (purpose : Purpose) (old new : ℕ → Bool) → ((n : ℕ) → old n ≡ true → new n ≡ true) → WasPointed old purpose → WasPointed new purpose
+still_pointed (purposes.Pointer list) old new more h = more list h
+still_pointed (purposes.AgentReset act) old new more h = tt
+still_pointed (purposes.Enable act) old new more h = tt
+still_pointed (purposes.Rom act) old new more h = tt
+still_pointed (purposes.Management act) old new more h = tt
+still_pointed (purposes.State act list) old new more h = tt
+still_pointed purposes.Doorbell old new more h = tt
+
+or_more : (a b : Bool) → b ≡ true → (a || b) ≡ true
+or_more true b e = refl
+or_more false b e = e
+
+more_pointed : (purpose : Purpose) (pointed : ℕ → Bool) (n : ℕ) → pointed n ≡ true → pointed_by purpose pointed n ≡ true
+more_pointed (purposes.Pointer list) pointed n h = or_more (nat_eq list n) (pointed n) h
+more_pointed (purposes.AgentReset act) pointed n h = h
+more_pointed (purposes.Enable act) pointed n h = h
+more_pointed (purposes.Rom act) pointed n h = h
+more_pointed (purposes.Management act) pointed n h = h
+more_pointed (purposes.State act list) pointed n h = h
+more_pointed purposes.Doorbell pointed n h = h
+
 -- by the list that a read counts for which begins with the action
-still_fits : (begins : Option Operation) (s : InitiatorState) (c : Bool) (list : Option ℕ) (counted : ℕ → Option ℕ) (purpose : Purpose) → FitsNow s.operation s.counts.acts counted purpose → FitsNow (after_by begins s) (s.counts.acts + 1) (counted_if c list s.counts.acts counted) purpose
-still_fits None s c list counted purpose f = record {
+still_fits : (begins : Option Operation) (s : InitiatorState) (c : Bool) (list : Option ℕ) (counted : ℕ → Option ℕ) (old new : ℕ → Bool) → ((n : ℕ) → old n ≡ true → new n ≡ true) → (purpose : Purpose) → FitsNow s.operation s.counts.acts counted old purpose → FitsNow (after_by begins s) (s.counts.acts + 1) (counted_if c list s.counts.acts counted) new purpose
+still_fits None s c list counted old new more purpose f = record {
   fits = f.fits;
   earlier = earlier_on (act_in purpose) s.counts.acts f.earlier;
   counts = still_counts purpose c list s.counts.acts counted f.earlier f.counts;
+  points = still_pointed purpose old new more f.points;
 }
-still_fits (Some operation) s c list counted purpose f =
+still_fits (Some operation) s c list counted old new more purpose f =
     let r = begun_as (is_managed operation) operation s in
     record {
       fits = earlier_fits purpose r (subst (λ (n : ℕ). IsEarlier (act_in purpose) n) (sym (begun_act (is_managed operation) operation s)) f.earlier);
       earlier = earlier_on (act_in purpose) s.counts.acts f.earlier;
       counts = still_counts purpose c list s.counts.acts counted f.earlier f.counts;
+      points = still_pointed purpose old new more f.points;
     }
 
 -- ---- what holds of the operation that begins
@@ -320,22 +352,22 @@ with_orb_sized (Some orb) place held h m = pick_sized (nat_eq place m) (manageme
 -- ---- an action as a whole
 
 -- what holds where a step left this
-record Left (node : ℕ) (held : ℕ → List ℕ) (counted : ℕ → Option ℕ) (demand : Option Demand) (begins : Option Operation) (o : OutboxState) (s : InitiatorState) (t : Turn) : Type 0 where
+record Left (node : ℕ) (held : Past) (counted : ℕ → Option ℕ) (demand : Option Demand) (begins : Option Operation) (o : OutboxState) (s : InitiatorState) (t : Turn) : Type 0 where
   operation : t.1.operation ≡ after_by begins s
   acts : t.1.counts.acts ≡ s.counts.acts + 1
   running : t.1.counts.running ≡ used demand s.counts.running
   marks : Holds held t.1.lists t.1.marks.pointing
-  sized : (m : ℕ) → length (held m) ≡ 32
-  wires : Wire (FitsNow (after_by begins s) (s.counts.acts + 1) counted) t.1.states node (used demand s.counts.running) t.1.layer t.0.packets
+  sized : (m : ℕ) → length (held.places m) ≡ 32
+  wires : Wire (FitsNow (after_by begins s) (s.counts.acts + 1) counted held.pointed) t.1.states node (used demand s.counts.running) t.1.layer t.0.packets
 
-left_sound : (node : ℕ) (held new : ℕ → List ℕ) (counted next : ℕ → Option ℕ) (demand : Option Demand) (begins : Option Operation) (o : OutboxState) (s : InitiatorState) (t : Turn) → Sound node held counted (o, s) → Left node new next demand begins o s t → Sound node new next t
+left_sound : (node : ℕ) (held new : Past) (counted next : ℕ → Option ℕ) (demand : Option Demand) (begins : Option Operation) (o : OutboxState) (s : InitiatorState) (t : Turn) → Sound node held counted (o, s) → Left node new next demand begins o s t → Sound node new next t
 left_sound node held new counted next demand begins o s t k l = record {
   wires = record {
     calls = l.wires.calls;
     layer_is = l.wires.layer_is;
     packets_are = l.wires.packets_are;
     rises = subst (λ (n : ℕ). RisesTo n (carried node l.wires.calls)) (sym l.running) l.wires.rises;
-    asks = subst (λ (r : Option Running). AllAsk (FitsNow r t.1.counts.acts next) l.wires.calls) (sym l.operation) (subst (λ (n : ℕ). AllAsk (FitsNow (after_by begins s) n next) l.wires.calls) (sym l.acts) l.wires.asks);
+    asks = subst (λ (r : Option Running). AllAsk (FitsNow r t.1.counts.acts next new.pointed) l.wires.calls) (sym l.operation) (subst (λ (n : ℕ). AllAsk (FitsNow (after_by begins s) n next new.pointed) l.wires.calls) (sym l.acts) l.wires.asks);
     new = l.wires.new;
     lives = l.wires.lives;
   };
@@ -346,13 +378,13 @@ left_sound node held new counted next demand begins o s t k l = record {
 }
 
 -- the layer as it was, by transactions that fit still
-kept_wire : (node : ℕ) (begins : Option Operation) (read : Bool) (list : Option ℕ) (counted : ℕ → Option ℕ) (o : OutboxState) (s : InitiatorState) → Wire (FitsNow s.operation s.counts.acts counted) s.states node s.counts.running s.layer o.packets → Wire (FitsNow (after_by begins s) (s.counts.acts + 1) (counted_if read list s.counts.acts counted)) s.states node s.counts.running s.layer o.packets
-kept_wire node begins read list counted o s w = record {
+kept_wire : (node : ℕ) (begins : Option Operation) (read : Bool) (list : Option ℕ) (counted : ℕ → Option ℕ) (old new : ℕ → Bool) (o : OutboxState) (s : InitiatorState) → ((n : ℕ) → old n ≡ true → new n ≡ true) → Wire (FitsNow s.operation s.counts.acts counted old) s.states node s.counts.running s.layer o.packets → Wire (FitsNow (after_by begins s) (s.counts.acts + 1) (counted_if read list s.counts.acts counted) new) s.states node s.counts.running s.layer o.packets
+kept_wire node begins read list counted old new o s more w = record {
   calls = w.calls;
   layer_is = w.layer_is;
   packets_are = w.packets_are;
   rises = w.rises;
-  asks = all_ask (FitsNow s.operation s.counts.acts counted) (FitsNow (after_by begins s) (s.counts.acts + 1) (counted_if read list s.counts.acts counted)) (still_fits begins s read list counted) w.calls w.asks;
+  asks = all_ask (FitsNow s.operation s.counts.acts counted old) (FitsNow (after_by begins s) (s.counts.acts + 1) (counted_if read list s.counts.acts counted) new) (still_fits begins s read list counted old new more) w.calls w.asks;
   new = w.new;
   lives = w.lives;
 }
@@ -370,11 +402,11 @@ not_earlier n (purposes.Management act) h e = none_some e
 not_earlier n (purposes.Pointer list) h e = none_some e
 not_earlier n purposes.Doorbell h e = none_some e
 
-new_at : (a : Option ℕ) (s : InitiatorState) (counted : ℕ → Option ℕ) (calls : List (wire.Call Purpose)) → IsAt s.counts.acts a → AllAsk (FitsNow s.operation s.counts.acts counted) calls → IsNew a calls
-new_at None s counted calls e asks = tt
-new_at (Some act) s counted calls e asks =
+new_at : (a : Option ℕ) (s : InitiatorState) (counted : ℕ → Option ℕ) (pointed : ℕ → Bool) (calls : List (wire.Call Purpose)) → IsAt s.counts.acts a → AllAsk (FitsNow s.operation s.counts.acts counted pointed) calls → IsNew a calls
+new_at None s counted pointed calls e asks = tt
+new_at (Some act) s counted pointed calls e asks =
     subst (λ (n : ℕ). AllAsk (IsNot n) calls) (sym e)
-    (all_ask (FitsNow s.operation s.counts.acts counted) (IsNot s.counts.acts) (λ p f. not_earlier s.counts.acts p f.earlier) calls asks)
+    (all_ask (FitsNow s.operation s.counts.acts counted pointed) (IsNot s.counts.acts) (λ p f. not_earlier s.counts.acts p f.earlier) calls asks)
 
 -- what the action makes of the reads is by its request
 as_read : (purpose : Purpose) (action : Action) (acts : ℕ) (reads : List ℕ) → is_some (read_act purpose) ≡ is_read action → IsAt acts (read_act purpose) → read_begun None action acts reads ≡ reads_with (read_act purpose) reads
@@ -439,18 +471,27 @@ none_read actions.Ring s acts reads e = refl
 none_read actions.Enable s acts reads e = refl
 
 -- with the request of an action
-asked_as_wire : (c : Bool) (node : ℕ) (begins : Option Operation) (read : Bool) (list : Option ℕ) (counted : ℕ → Option ℕ) (demand : Demand) (asked : Asked) (layer : Layer Purpose) (o : OutboxState) (s : InitiatorState) → is_numbered demand.purpose ≡ c → asked_for demand s ≡ (Some asked, layer) → Apt (after_by begins s) s.counts.acts s.counts.running (counted_if read list s.counts.acts counted) demand → Wire (FitsNow s.operation s.counts.acts counted) s.states node s.counts.running s.layer o.packets → Wire (FitsNow (after_by begins s) (s.counts.acts + 1) (counted_if read list s.counts.acts counted)) (reads_with (read_act demand.purpose) s.states) node (cond c (s.counts.running + 1) s.counts.running) layer (o.packets ++ outgoing s.target asked ∷ [])
+asked_as_wire : (c : Bool) (node : ℕ) (begins : Option Operation) (read : Bool) (list : Option ℕ) (counted : ℕ → Option ℕ) (pointed : ℕ → Bool) (demand : Demand) (asked : Asked) (layer : Layer Purpose) (o : OutboxState) (s : InitiatorState) → is_numbered demand.purpose ≡ c → asked_for demand s ≡ (Some asked, layer) → Apt (after_by begins s) s.counts.acts s.counts.running (counted_if read list s.counts.acts counted) pointed demand → Wire (FitsNow s.operation s.counts.acts counted pointed) s.states node s.counts.running s.layer o.packets → Wire (FitsNow (after_by begins s) (s.counts.acts + 1) (counted_if read list s.counts.acts counted) (pointed_by demand.purpose pointed)) (reads_with (read_act demand.purpose) s.states) node (cond c (s.counts.running + 1) s.counts.running) layer (o.packets ++ outgoing s.target asked ∷ [])
 unfolding kept_wire
-asked_as_wire true node begins read list counted demand asked layer o s n e a w =
-    subst (λ (x : Option ℕ). Wire (FitsNow (after_by begins s) (s.counts.acts + 1) (counted_if read list s.counts.acts counted)) (reads_with x s.states) node (s.counts.running + 1) layer (o.packets ++ outgoing s.target asked ∷ [])) (sym (numbered_none demand.purpose n))
-    (number_wire s.target (wanted_body demand.wanted) demand.purpose asked layer e n (a.value n) a.fits (kept_wire node begins read list counted o s w))
-asked_as_wire false node begins read list counted demand asked layer o s n e a w =
-    ask_wire s.target (wanted_body demand.wanted) demand.purpose asked layer e n a.fits (kept_wire node begins read list counted o s w) (new_at (read_act demand.purpose) s counted w.calls a.read w.asks)
+asked_as_wire true node begins read list counted pointed demand asked layer o s n e a w =
+    subst (λ (x : Option ℕ). Wire (FitsNow (after_by begins s) (s.counts.acts + 1) (counted_if read list s.counts.acts counted) (pointed_by demand.purpose pointed)) (reads_with x s.states) node (s.counts.running + 1) layer (o.packets ++ outgoing s.target asked ∷ [])) (sym (numbered_none demand.purpose n))
+    (number_wire s.target (wanted_body demand.wanted) demand.purpose asked layer e n (a.value n) a.fits (kept_wire node begins read list counted pointed (pointed_by demand.purpose pointed) o s (more_pointed demand.purpose pointed) w))
+asked_as_wire false node begins read list counted pointed demand asked layer o s n e a w =
+    ask_wire s.target (wanted_body demand.wanted) demand.purpose asked layer e n a.fits (kept_wire node begins read list counted pointed (pointed_by demand.purpose pointed) o s (more_pointed demand.purpose pointed) w) (new_at (read_act demand.purpose) s counted pointed w.calls a.read w.asks)
+
+-- what is remembered of an action, where it is not refused
+abbrev pub pointed_if : Option ℕ → Option Demand → (ℕ → Bool) → ℕ → Bool
+pointed_if (Some number) demand pointed n = pointed n
+pointed_if None demand pointed n = pointed_after demand pointed n
+
+abbrev pub past_if : Option ℕ → Action → InitiatorState → Past → Past
+past_if refused action s held =
+    record { places = held_if refused action s held.places; pointed = pointed_if refused (demand_of action s) held.pointed }
 
 -- what an action is refused for, or what it tells, and what holds afterwards
-pub record Acted (node : ℕ) (held : ℕ → List ℕ) (counted : ℕ → Option ℕ) (action : Action) (o : OutboxState) (s : InitiatorState) (r : Option ℕ × Turn) : Type 0 where
+pub record Acted (node : ℕ) (held : Past) (counted : ℕ → Option ℕ) (action : Action) (o : OutboxState) (s : InitiatorState) (r : Option ℕ × Turn) : Type 0 where
   pub begins : r.0 ≡ None → Begins action o s r.1
-  pub sound : Sound node (held_if r.0 action s held) (counted_act r.0 action s counted) r.1
+  pub sound : Sound node (past_if r.0 action s held) (counted_act r.0 action s counted) r.1
 
 some_none : {A : Type 0} {n : ℕ} → Some n ≡ None → A
 some_none e = absurd (differ e)
@@ -458,7 +499,7 @@ some_none e = absurd (differ e)
     differ : {n : ℕ} → Some n ≡ None → ⊥
     differ e = cc
 
-sent_acted : (node : ℕ) (held : ℕ → List ℕ) (counted : ℕ → Option ℕ) (action : Action) (demand : Demand) (asked : Asked) (layer : Layer Purpose) (o : OutboxState) (s : InitiatorState) → Sound node held counted (o, s) → Allowed action s → demand_of action s ≡ Some demand → asked_for demand s ≡ (Some asked, layer) → Acted node held counted action o s (asked_as (Some asked, layer) action o s)
+sent_acted : (node : ℕ) (held : Past) (counted : ℕ → Option ℕ) (action : Action) (demand : Demand) (asked : Asked) (layer : Layer Purpose) (o : OutboxState) (s : InitiatorState) → Sound node held counted (o, s) → Allowed action s → demand_of action s ≡ Some demand → asked_for demand s ≡ (Some asked, layer) → Acted node held counted action o s (asked_as (Some asked, layer) action o s)
 sent_acted node held counted action demand asked layer o s k a e f =
     let u = record s { layer = layer } in
     let d0 = done_does action o u (record { prepares = a.prepares; rings = a.rings; marks = k.marks.marks }) in
@@ -466,56 +507,58 @@ sent_acted node held counted action demand asked layer o s k a e f =
     (subst (λ (x : Option ManagementOrb). Done (demand_of action u) (operation_of action) x o u (done_step action o u)) (orb_same action s layer) d0) in
     record {
       begins = λ g. record { news = d.news; sides = d.sides; steps = d.steps; free = a.free; operation = d.operation ∙ after_same (operation_of action) s layer };
-      sound = left_sound node held (with_orb (orb_in (operation_of action) action s) (place_of s.counts.managed) held) counted (counted_act None action s counted) (Some demand) (operation_of action) o s (asked_as (Some asked, layer) action o s).1 k
+      sound = subst (λ (d : Option Demand). Sound node (record { places = held_if None action s held.places; pointed = pointed_after d held.pointed }) (counted_act None action s counted) (asked_as (Some asked, layer) action o s).1) (sym e)
+          (left_sound node held (remembered (orb_in (operation_of action) action s) (place_of s.counts.managed) (Some demand) held) counted (counted_act None action s counted) (Some demand) (operation_of action) o s (asked_as (Some asked, layer) action o s).1 k
           (record {
             operation = d.operation ∙ after_same (operation_of action) s layer;
             acts = ap (λ (n : ℕ). n + 1) d.acts;
             running = d.running;
             marks = d.marks held k.sized k.marks;
-            sized = with_orb_sized (orb_in (operation_of action) action s) (place_of s.counts.managed) held k.sized;
-            wires = subst (λ (x : List ℕ). Wire (FitsNow (after_by (operation_of action) s) (s.counts.acts + 1) (counted_act None action s counted)) x node (used (Some demand) s.counts.running) (done_step action o u).1.layer ((done_step action o u).0.packets ++ outgoing s.target asked ∷ [])) (sym (done_reads action o u a.prepares ∙ as_read demand.purpose action s.counts.acts s.states (demand_reads action s demand e) (apt action s counted demand e).read))
-                (subst (λ (l : Layer Purpose). Wire (FitsNow (after_by (operation_of action) s) (s.counts.acts + 1) (counted_act None action s counted)) (reads_with (read_act demand.purpose) s.states) node (used (Some demand) s.counts.running) l ((done_step action o u).0.packets ++ outgoing s.target asked ∷ [])) (sym d.layer)
-                (subst (λ (ps : List Outgoing). Wire (FitsNow (after_by (operation_of action) s) (s.counts.acts + 1) (counted_act None action s counted)) (reads_with (read_act demand.purpose) s.states) node (used (Some demand) s.counts.running) layer (ps ++ outgoing s.target asked ∷ [])) (sym d.packets)
-                (asked_as_wire (is_numbered demand.purpose) node (operation_of action) (is_read action) (answered_list (is_answered s.marks.pointing) s.lists.slots.present) counted demand asked layer o s refl f (apt action s counted demand e) k.wires)));
-          });
+            sized = with_orb_sized (orb_in (operation_of action) action s) (place_of s.counts.managed) held.places k.sized;
+            wires = subst (λ (x : List ℕ). Wire (FitsNow (after_by (operation_of action) s) (s.counts.acts + 1) (counted_act None action s counted) (pointed_by demand.purpose held.pointed)) x node (used (Some demand) s.counts.running) (done_step action o u).1.layer ((done_step action o u).0.packets ++ outgoing s.target asked ∷ [])) (sym (done_reads action o u a.prepares ∙ as_read demand.purpose action s.counts.acts s.states (demand_reads action s demand e) (apt action s counted held.pointed demand e).read))
+                (subst (λ (l : Layer Purpose). Wire (FitsNow (after_by (operation_of action) s) (s.counts.acts + 1) (counted_act None action s counted) (pointed_by demand.purpose held.pointed)) (reads_with (read_act demand.purpose) s.states) node (used (Some demand) s.counts.running) l ((done_step action o u).0.packets ++ outgoing s.target asked ∷ [])) (sym d.layer)
+                (subst (λ (ps : List Outgoing). Wire (FitsNow (after_by (operation_of action) s) (s.counts.acts + 1) (counted_act None action s counted) (pointed_by demand.purpose held.pointed)) (reads_with (read_act demand.purpose) s.states) node (used (Some demand) s.counts.running) layer (ps ++ outgoing s.target asked ∷ [])) (sym d.packets)
+                (asked_as_wire (is_numbered demand.purpose) node (operation_of action) (is_read action) (answered_list (is_answered s.marks.pointing) s.lists.slots.present) counted held.pointed demand asked layer o s refl f (apt action s counted held.pointed demand e) k.wires)));
+          }));
     }
 
-none_acted : (node : ℕ) (held : ℕ → List ℕ) (counted : ℕ → Option ℕ) (action : Action) (demand : Demand) (layer : Layer Purpose) (o : OutboxState) (s : InitiatorState) → Sound node held counted (o, s) → layer ≡ s.layer → Acted node held counted action o s (asked_as (None, layer) action o s)
+none_acted : (node : ℕ) (held : Past) (counted : ℕ → Option ℕ) (action : Action) (demand : Demand) (layer : Layer Purpose) (o : OutboxState) (s : InitiatorState) → Sound node held counted (o, s) → layer ≡ s.layer → Acted node held counted action o s (asked_as (None, layer) action o s)
 none_acted node held counted action demand layer o s k e = record {
   begins = λ g. some_none g;
   sound = subst (λ (l : Layer Purpose). Sound node held counted (o, record s { layer = l })) (sym e) k;
 }
 
-asked_acted : (r : Option Asked × Layer Purpose) (node : ℕ) (held : ℕ → List ℕ) (counted : ℕ → Option ℕ) (action : Action) (demand : Demand) (o : OutboxState) (s : InitiatorState) → Sound node held counted (o, s) → Allowed action s → demand_of action s ≡ Some demand → asked_for demand s ≡ r → Acted node held counted action o s (asked_as r action o s)
+asked_acted : (r : Option Asked × Layer Purpose) (node : ℕ) (held : Past) (counted : ℕ → Option ℕ) (action : Action) (demand : Demand) (o : OutboxState) (s : InitiatorState) → Sound node held counted (o, s) → Allowed action s → demand_of action s ≡ Some demand → asked_for demand s ≡ r → Acted node held counted action o s (asked_as r action o s)
 asked_acted (None, layer) node held counted action demand o s k a e f =
     none_acted node held counted action demand layer o s k (none_asked s.layer layer s.target (wanted_body demand.wanted) demand.purpose (sym f))
 asked_acted (Some asked, layer) node held counted action demand o s k a e f = sent_acted node held counted action demand asked layer o s k a e f
 
-demanded_acted : (demand : Option Demand) (node : ℕ) (held : ℕ → List ℕ) (counted : ℕ → Option ℕ) (action : Action) (o : OutboxState) (s : InitiatorState) → Sound node held counted (o, s) → Allowed action s → demand_of action s ≡ demand → Acted node held counted action o s (demanded_as demand action o s)
+demanded_acted : (demand : Option Demand) (node : ℕ) (held : Past) (counted : ℕ → Option ℕ) (action : Action) (o : OutboxState) (s : InitiatorState) → Sound node held counted (o, s) → Allowed action s → demand_of action s ≡ demand → Acted node held counted action o s (demanded_as demand action o s)
 demanded_acted None node held counted action o s k a e =
     let d0 = done_does action o s (record { prepares = a.prepares; rings = a.rings; marks = k.marks.marks }) in
     let d : Done None (operation_of action) (orb_in (operation_of action) action s) o s (done_step action o s) = subst (λ (x : Option Demand). Done x (operation_of action) (orb_in (operation_of action) action s) o s (done_step action o s)) e d0 in
     record {
       begins = λ g. record { news = d.news; sides = d.sides; steps = d.steps; free = a.free; operation = d.operation };
-      sound = left_sound node held (with_orb (orb_in (operation_of action) action s) (place_of s.counts.managed) held) counted (counted_act None action s counted) None (operation_of action) o s (demanded_as None action o s).1 k
+      sound = subst (λ (d : Option Demand). Sound node (record { places = held_if None action s held.places; pointed = pointed_after d held.pointed }) (counted_act None action s counted) (demanded_as None action o s).1) (sym e)
+          (left_sound node held (remembered (orb_in (operation_of action) action s) (place_of s.counts.managed) None held) counted (counted_act None action s counted) None (operation_of action) o s (demanded_as None action o s).1 k
           (record {
             operation = d.operation;
             acts = ap (λ (n : ℕ). n + 1) d.acts;
             running = d.running;
             marks = d.marks held k.sized k.marks;
-            sized = with_orb_sized (orb_in (operation_of action) action s) (place_of s.counts.managed) held k.sized;
-            wires = subst (λ (x : List ℕ). Wire (FitsNow (after_by (operation_of action) s) (s.counts.acts + 1) (counted_act None action s counted)) x node s.counts.running (done_step action o s).1.layer (done_step action o s).0.packets) (sym (done_reads action o s a.prepares ∙ none_read action s s.counts.acts s.states e))
-                (subst (λ (l : Layer Purpose). Wire (FitsNow (after_by (operation_of action) s) (s.counts.acts + 1) (counted_act None action s counted)) s.states node s.counts.running l (done_step action o s).0.packets) (sym d.layer)
-                (subst (λ (ps : List Outgoing). Wire (FitsNow (after_by (operation_of action) s) (s.counts.acts + 1) (counted_act None action s counted)) s.states node s.counts.running s.layer ps) (sym d.packets)
-                (kept_wire node (operation_of action) (is_read action) (answered_list (is_answered s.marks.pointing) s.lists.slots.present) counted o s k.wires)));
-          });
+            sized = with_orb_sized (orb_in (operation_of action) action s) (place_of s.counts.managed) held.places k.sized;
+            wires = subst (λ (x : List ℕ). Wire (FitsNow (after_by (operation_of action) s) (s.counts.acts + 1) (counted_act None action s counted) held.pointed) x node s.counts.running (done_step action o s).1.layer (done_step action o s).0.packets) (sym (done_reads action o s a.prepares ∙ none_read action s s.counts.acts s.states e))
+                (subst (λ (l : Layer Purpose). Wire (FitsNow (after_by (operation_of action) s) (s.counts.acts + 1) (counted_act None action s counted) held.pointed) s.states node s.counts.running l (done_step action o s).0.packets) (sym d.layer)
+                (subst (λ (ps : List Outgoing). Wire (FitsNow (after_by (operation_of action) s) (s.counts.acts + 1) (counted_act None action s counted) held.pointed) s.states node s.counts.running s.layer ps) (sym d.packets)
+                (kept_wire node (operation_of action) (is_read action) (answered_list (is_answered s.marks.pointing) s.lists.slots.present) counted held.pointed held.pointed o s (λ n h. h) k.wires)));
+          }));
     }
 demanded_acted (Some demand) node held counted action o s k a e = asked_acted (asked_for demand s) node held counted action demand o s k a e refl
 
-judged_acted : (r : Option ℕ) (node : ℕ) (held : ℕ → List ℕ) (counted : ℕ → Option ℕ) (action : Action) (o : OutboxState) (s : InitiatorState) → Sound node held counted (o, s) → refusal action (facts_with true s action) ≡ r → Acted node held counted action o s (judged_as r action o s)
+judged_acted : (r : Option ℕ) (node : ℕ) (held : Past) (counted : ℕ → Option ℕ) (action : Action) (o : OutboxState) (s : InitiatorState) → Sound node held counted (o, s) → refusal action (facts_with true s action) ≡ r → Acted node held counted action o s (judged_as r action o s)
 judged_acted (Some number) node held counted action o s k e = record { begins = λ g. some_none g; sound = k }
 judged_acted None node held counted action o s k e = demanded_acted (demand_of action s) node held counted action o s k (allowed action s e) refl
 
-pub act_acted : (node : ℕ) (held : ℕ → List ℕ) (counted : ℕ → Option ℕ) (action : Action) (o : OutboxState) (s : InitiatorState) → Sound node held counted (o, s) → Acted node held counted action o s (act_step action o s)
+pub act_acted : (node : ℕ) (held : Past) (counted : ℕ → Option ℕ) (action : Action) (o : OutboxState) (s : InitiatorState) → Sound node held counted (o, s) → Acted node held counted action o s (act_step action o s)
 unfolding act_step
 act_acted node held counted action o s k = judged_acted (refusal action (facts_with true s action)) node held counted action o s k refl

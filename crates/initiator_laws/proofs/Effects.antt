@@ -1,5 +1,5 @@
 -- What the end of a transaction tells, and what it makes of the operation under way.
-use Rattle.std.proofs.Common.{arith, ◌≡◌, refl, sym, ap, subst, ◌∙◌, ℕ, ◌++◌, append_assoc, append-nil, nat_eq, ◌&&◌, not, Bool, true, false, cond, List, [], ◌∷◌, length, slice_index_or, Option, Some, None, Result, Ok, Err}
+use Rattle.std.proofs.Common.{arith, ◌≡◌, refl, sym, ap, subst, ◌∙◌, ℕ, ◌<◌, ◌++◌, append_assoc, append-nil, nat_eq, ◌&&◌, not, Bool, true, false, cond, List, [], ◌∷◌, length, slice_index_or, Option, Some, None, Result, Ok, Err}
 use Rattle.label_table.specs.declared.judgement.Asked.{Asked}
 use Rattle.label_table.specs.Bodies.{Body}
 use Rattle.label_table.specs.Layer.{Layer, asking_step}
@@ -82,21 +82,39 @@ abbrev pub HasMarks : Option PresentList → Pointing → Type 0
 HasMarks None pointing = is_unwritten pointing ≡ true
 HasMarks (Some list) pointing = Unit {0}
 
+-- the present list is one of those that were begun
+abbrev pub IsBegunList : Option PresentList → ℕ → Type 0
+IsBegunList None lists = Unit {0}
+IsBegunList (Some list) lists = list.tail.list < lists
+
+-- Each list whose ORB_POINTER was asked for was begun; and where it is the present one, this counts as written.
+pub record Begun (pointed : ℕ → Bool) (present : Option PresentList) (lists : ℕ) (pointing : Pointing) : Type 0 where
+  pub list : IsBegunList present lists
+  pub below : (n : ℕ) → pointed n ≡ true → n < lists
+  pub written : (n : ℕ) → pointed n ≡ true → is_list present n ≡ true → is_unwritten pointing ≡ false
+
+-- what is remembered of actions: what each place of management holds, and the lists whose ORB_POINTER was asked for
+pub record Past : Type 0 where
+  pub places : ℕ → List ℕ
+  pub pointed : ℕ → Bool
+
 -- And what the two places of management hold.
-pub record Holds (x : ℕ → List ℕ) (lists : ListState) (pointing : Pointing) : Type 0 where
+pub record Holds (x : Past) (lists : ListState) (pointing : Pointing) : Type 0 where
   pub marks : HasMarks lists.slots.present pointing
-  pub orbs : (m : ℕ) → (place_at lists.memory m).orb ≡ x m
+  pub orbs : (m : ℕ) → (place_at lists.memory m).orb ≡ x.places m
   pub places : length lists.memory.places ≡ 2
+  pub pointed : Begun x.pointed lists.slots.present lists.slots.lists pointing
 
 abbrev pub KeepsMarks : InitiatorState → InitiatorState → Type 0
-KeepsMarks s t = (x : ℕ → List ℕ) → Holds x s.lists s.marks.pointing → Holds x t.lists t.marks.pointing
+KeepsMarks s t = (x : Past) → Holds x s.lists s.marks.pointing → Holds x t.lists t.marks.pointing
 
 -- the lists change, and with them neither this nor that
-pub relisted : (lists new : ListState) (pointing : Pointing) → new.slots.present ≡ lists.slots.present → ((m : ℕ) → (place_at new.memory m).orb ≡ (place_at lists.memory m).orb) → length new.memory.places ≡ length lists.memory.places → (x : ℕ → List ℕ) → Holds x lists pointing → Holds x new pointing
-relisted lists new pointing e f g x h = record {
+pub relisted : (lists new : ListState) (pointing : Pointing) → new.slots.present ≡ lists.slots.present → new.slots.lists ≡ lists.slots.lists → ((m : ℕ) → (place_at new.memory m).orb ≡ (place_at lists.memory m).orb) → length new.memory.places ≡ length lists.memory.places → (x : Past) → Holds x lists pointing → Holds x new pointing
+relisted lists new pointing e c f g x h = record {
   marks = subst (λ (p : Option PresentList). HasMarks p pointing) (sym e) h.marks;
   orbs = λ m. f m ∙ h.orbs m;
   places = g ∙ h.places;
+  pointed = subst (λ (p : Option PresentList). Begun x.pointed p new.slots.lists pointing) (sym e) (subst (λ (n : ℕ). Begun x.pointed lists.slots.present n pointing) (sym c) h.pointed);
 }
 
 -- What a step tells, with the list that it drops, the end of a read of AGENT_STATE and whether the session becomes Stuck; what it makes of the operation under way; and what it leaves as it was.
@@ -159,6 +177,14 @@ unpin_present : (lists : ListState) → (unpin_lists lists).slots.present ≡ li
 unfolding unpin_lists unpin_step
 unpin_present lists = unpin_for_present lists.slots.pinned lists.slots lists.memory
 
+unpin_for_count : (t : Option TicketParts) (slots : SlotTable) (m : Memory) → (unpin_for t slots m).0.lists ≡ slots.lists
+unpin_for_count None slots m = refl
+unpin_for_count (Some t) slots m = refl
+
+unpin_count : (lists : ListState) → (unpin_lists lists).slots.lists ≡ lists.slots.lists
+unfolding unpin_lists unpin_step
+unpin_count lists = unpin_for_count lists.slots.pinned lists.slots lists.memory
+
 unpin_for_memory : (t : Option TicketParts) (slots : SlotTable) (m : Memory) → (unpin_for t slots m).1.places ≡ m.places
 unfolding closed
 unpin_for_memory None slots m = refl
@@ -184,7 +210,7 @@ end_does running word o s t e w layer counts number target marks = record {
   counts = counts;
   number = number;
   target = target;
-  marks = λ x h. relisted t.lists (unpin_lists t.lists) t.marks.pointing (unpin_present t.lists) (unpin_orbs t.lists) (unpin_places t.lists) x (marks x h);
+  marks = λ x h. relisted t.lists (unpin_lists t.lists) t.marks.pointing (unpin_present t.lists) (unpin_count t.lists) (unpin_orbs t.lists) (unpin_places t.lists) x (marks x h);
   gone = tt;
 }
 
@@ -220,12 +246,19 @@ pub record Drops (o : OutboxState) (s : InitiatorState) (drop : Option ℕ) (t :
   pub marks : KeepsMarks s t.1
   pub gone : IfGone drop t.1.lists.slots.present
 
+-- no list is present
+pub none_begun : (named : ℕ → Bool) (present : Option PresentList) (lists : ℕ) (pointing : Pointing) → Begun named present lists pointing → Begun named None lists pointings.Unwritten
+none_begun named present lists pointing h = record { list = tt; below = h.below; written = λ n e f. absurd (untrue f) }
+  where
+    untrue : false ≡ true → ⊥
+    untrue e = cc
+
 none_drops : (o : OutboxState) (s : InitiatorState) → Drops o s None (o, s)
 none_drops o s = record { sides = sym (append-nil o.sides); operation = refl; layer = refl; packets = refl; counts = refl; number = refl; target = refl; marks = λ x h. h; gone = tt }
 
 drops_as : (present : Option PresentList) (o : OutboxState) (s : InitiatorState) → Drops o s (present_list present) (dropped_as ((drop_for present s.lists.slots).0, record s.lists { slots = (drop_for present s.lists.slots).1 }) o s)
 drops_as None o s = record { sides = sym (append-nil o.sides); operation = refl; layer = refl; packets = refl; counts = refl; number = refl; target = refl; marks = λ x h. h; gone = tt }
-drops_as (Some list) o s = record { sides = refl; operation = refl; layer = refl; packets = refl; counts = refl; number = refl; target = refl; marks = λ x h. record { marks = refl; orbs = h.orbs; places = h.places }; gone = refl }
+drops_as (Some list) o s = record { sides = refl; operation = refl; layer = refl; packets = refl; counts = refl; number = refl; target = refl; marks = λ x h. record { marks = refl; orbs = h.orbs; places = h.places; pointed = none_begun x.pointed s.lists.slots.present s.lists.slots.lists s.marks.pointing h.pointed }; gone = refl }
 
 pub list_drops : (o : OutboxState) (s : InitiatorState) → Drops o s (present_list s.lists.slots.present) (drop_list_step o s)
 unfolding drop_lists drop_step
@@ -278,7 +311,7 @@ stuck_end false running o s lists e marks = record {
 fail_as : (c : Bool) (running : Running) (o : OutboxState) (s : InitiatorState) → s.operation ≡ Some running → Does o s None None (not (is_stuck_seat s.seat)) None (then_step stick_step (cond c (end_step running.operation words.Error o s) (o, s)))
 fail_as true running o s e =
     stuck_end (is_stuck_seat s.seat) running o s (unpin_lists s.lists) e
-    (relisted s.lists (unpin_lists s.lists) s.marks.pointing (unpin_present s.lists) (unpin_orbs s.lists) (unpin_places s.lists))
+    (relisted s.lists (unpin_lists s.lists) s.marks.pointing (unpin_present s.lists) (unpin_count s.lists) (unpin_orbs s.lists) (unpin_places s.lists))
 fail_as false running o s e = sticks_does o s
 
 fail_for : (r : Option Running) (act : ℕ) (o : OutboxState) (s : InitiatorState) → s.operation ≡ r → Does o s None None (not (is_stuck_seat s.seat)) None (then_step stick_step (end_own_for r act words.Error o s))
@@ -336,7 +369,7 @@ answered_marks (Some known) list e = tt
 
 pointed_as : (c : Bool) (list : ℕ) (o : OutboxState) (s : InitiatorState) → is_list s.lists.slots.present list ≡ c → Does o s None None false None (o, cond c (with_answered (record s { seat = goes pointed s.seat })) (record s { seat = goes pointed s.seat }))
 pointed_as true list o s e =
-    idle o s (with_answered (record s { seat = goes pointed s.seat })) refl refl refl refl refl (λ x h. record { marks = answered_marks s.lists.slots.present list e; orbs = h.orbs; places = h.places })
+    idle o s (with_answered (record s { seat = goes pointed s.seat })) refl refl refl refl refl (λ x h. record { marks = answered_marks s.lists.slots.present list e; orbs = h.orbs; places = h.places; pointed = record { list = h.pointed.list; below = h.pointed.below; written = λ n f g. refl } })
 pointed_as false list o s e = idle o s (record s { seat = goes pointed s.seat }) refl refl refl refl refl (λ x h. h)
 
 pointer_does : (list : ℕ) (ending : Ending) (o : OutboxState) (s : InitiatorState) → Does o s None None (sticks_by (is_failed ending) s.seat) None (pointer_ended list ending o s)

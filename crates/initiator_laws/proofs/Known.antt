@@ -10,7 +10,7 @@ use Rattle.initiator_laws.specs.Laws as laws
 use Rattle.initiator_laws.specs.Marks.{CountsFor, MarkLaw, WasRead, answered_after, answered_list, begins_read, call_answers, call_dead, counted_after, counted_if, dead_after, known_if, loses_list, reads_after, reads_by}
 use Rattle.sbp_initiator.specs.Acting.{act_step}
 use Rattle.initiator_laws.proofs.Lives.{closes_read, expires_read}
-use Rattle.initiator_laws.proofs.Over.{counted_now, sound}
+use Rattle.initiator_laws.proofs.Over.{counted_now, pointed_now, sound}
 use Rattle.initiator_laws.proofs.Purposes.{IfFor, closes_asked, expires_asked}
 use Rattle.initiator_laws.proofs.Runs.{FitsNow}
 use Rattle.initiator_laws.proofs.Slotted.{leaves_after}
@@ -62,7 +62,7 @@ module _ (number : ℕ) (ready : Bool) where
   counted_is (lets_expire label ∷ calls) h n = counted_is calls h.1 n
   counted_is (laws.sees generation id target ∷ calls) h n = counted_is calls h.1 n
 
-  for_list : (calls : List Call) → AreCalls calls → (purpose : Option Purpose) → IfFor (FitsNow (after number ready calls).1.operation (after number ready calls).1.counts.acts (counted_now number ready calls)) purpose → CountsFor (counted_after number ready calls) purpose
+  for_list : (calls : List Call) → AreCalls calls → (purpose : Option Purpose) → IfFor (FitsNow (after number ready calls).1.operation (after number ready calls).1.counts.acts (counted_now number ready calls) (pointed_now number ready calls)) purpose → CountsFor (counted_after number ready calls) purpose
   for_list calls h None f = tt
   for_list calls h (Some (purposes.State act list)) f = f.counts ∙ counted_is calls h act
   for_list calls h (Some (purposes.AgentReset act)) f = tt
@@ -76,7 +76,7 @@ pub mark_law : MarkLaw
 mark_law number ready calls h =
     let turn = after number ready calls in
     let w = (sound number ready calls).wires in
-    let P : Purpose → Type 0 = FitsNow turn.1.operation turn.1.counts.acts (counted_now number ready calls) in
+    let P : Purpose → Type 0 = FitsNow turn.1.operation turn.1.counts.acts (counted_now number ready calls) (pointed_now number ready calls) in
     record {
       answered = answered_is number ready calls h;
       dead = dead_is number ready calls h;

@@ -20,3 +20,4 @@ pub mod Brings
 pub mod Did
 pub mod Known
 pub mod Lives
+pub mod Pointers

@@ -46,7 +46,7 @@ use Rattle.initiator_laws.specs.Drops.{IfGone, drop_if}
 use Rattle.initiator_laws.specs.Ends.{own, OpEnd, notes_of, is_managed, OpMove}
 use Rattle.initiator_laws.specs.Judging.{facts_at}
 use Rattle.initiator_laws.specs.Taking.{Brought, nothing, unsolicited, read_as, brought, waiting_at, taken_of, taken_by, block_note, good_drops, kind_drops, block_drops, block_notes}
-use Rattle.initiator_laws.proofs.Effects.{HasMarks, Holds, KeepsMarks, managed_does}
+use Rattle.initiator_laws.proofs.Effects.{Begun, HasMarks, Holds, KeepsMarks, Past, managed_does}
 
 -- ---- small facts
 
@@ -80,6 +80,23 @@ take_marks : (pointing : Pointing) (lists : ListState) (block : StatusBlock) →
 unfolding take_lists slot_step
 take_marks pointing lists block h = for_marks (slot_of block.orb) block pointing lists h
 
+-- and what is known of the lists that were begun
+passed_begun : (pointed : ℕ → Bool) (present : Option PresentList) (number lists : ℕ) (pointing : Pointing) → Begun pointed present lists pointing → Begun pointed (passed_for present number) lists pointing
+passed_begun pointed None number lists pointing h = h
+passed_begun pointed (Some list) number lists pointing h = record { list = h.list; below = h.below; written = λ n e f. h.written n e f }
+
+status_begun : (t : Option TicketParts) (slot : ℕ) (block : StatusBlock) (pointed : ℕ → Bool) (pointing : Pointing) (lists : ListState) → Begun pointed lists.slots.present lists.slots.lists pointing → (let new = (stepped (status_at t slot lists.slots lists.memory block) lists).1.slots in Begun pointed new.present new.lists pointing)
+status_begun None slot block pointed pointing lists h = h
+status_begun (Some t) slot block pointed pointing lists h = passed_begun pointed lists.slots.present t.number lists.slots.lists pointing h
+
+for_begun : (slot : Option ℕ) (block : StatusBlock) (pointed : ℕ → Bool) (pointing : Pointing) (lists : ListState) → Begun pointed lists.slots.present lists.slots.lists pointing → (let new = (stepped (status_for slot lists.slots lists.memory block) lists).1.slots in Begun pointed new.present new.lists pointing)
+for_begun None block pointed pointing lists h = h
+for_begun (Some slot) block pointed pointing lists h = status_begun (waiting (slot_in lists.slots.slots slot)) slot block pointed pointing lists h
+
+take_begun : (pointed : ℕ → Bool) (pointing : Pointing) (lists : ListState) (block : StatusBlock) → Begun pointed lists.slots.present lists.slots.lists pointing → (let new = (take_lists lists block).1.slots in Begun pointed new.present new.lists pointing)
+unfolding take_lists slot_step
+take_begun pointed pointing lists block h = for_begun (slot_of block.orb) block pointed pointing lists h
+
 taken_memory : (t : Option TicketParts) (slot : ℕ) (block : StatusBlock) (s : SlotTable) (m : Memory) → (status_at t slot s m block).1.1.places ≡ m.places
 unfolding closed
 taken_memory None slot block s m = refl
@@ -93,11 +110,12 @@ take_memory : (lists : ListState) (block : StatusBlock) → (take_lists lists bl
 unfolding take_lists slot_step
 take_memory lists block = for_memory (slot_of block.orb) block lists.slots lists.memory
 
-take_keeps : (pointing : Pointing) (lists : ListState) (block : StatusBlock) (x : ℕ → List ℕ) → Holds x lists pointing → Holds x (take_lists lists block).1 pointing
+take_keeps : (pointing : Pointing) (lists : ListState) (block : StatusBlock) (x : Past) → Holds x lists pointing → Holds x (take_lists lists block).1 pointing
 take_keeps pointing lists block x h = record {
   marks = take_marks pointing lists block h.marks;
   orbs = λ m. ap (λ (l : List PlaceMemory). (slice_index_or l m empty_place).orb) (take_memory lists block) ∙ h.orbs m;
   places = ap length (take_memory lists block) ∙ h.places;
+  pointed = take_begun x.pointed pointing lists block h.pointed;
 }
 
 -- a response that is written leaves the ORB of each place
@@ -151,11 +169,11 @@ write_orbs : (m : Memory) (offset : ℕ) (bytes : List ℕ) → SameOrbs m (writ
 unfolding judged
 write_orbs m offset bytes = row_orbs (nat_eq (length bytes) 0 || is_fifo offset) (spot_of m offset (length bytes)) m bytes
 
-write_keeps : (pointing : Pointing) (lists : ListState) (offset : ℕ) (bytes : List ℕ) (x : ℕ → List ℕ) → Holds x lists pointing → Holds x (write_lists lists offset bytes).1 pointing
+write_keeps : (pointing : Pointing) (lists : ListState) (offset : ℕ) (bytes : List ℕ) (x : Past) → Holds x lists pointing → Holds x (write_lists lists offset bytes).1 pointing
 unfolding write_lists
 write_keeps pointing lists offset bytes x h =
     let k = write_orbs lists.memory offset bytes in
-    record { marks = h.marks; orbs = λ m. k.orbs m ∙ h.orbs m; places = k.places ∙ h.places }
+    record { marks = h.marks; orbs = λ m. k.orbs m ∙ h.orbs m; places = k.places ∙ h.places; pointed = h.pointed }
 
 -- a write of a block, and of a quadlet
 abbrev pub block_write_of : ℕ → List ℕ → Access

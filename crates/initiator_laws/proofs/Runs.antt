@@ -32,7 +32,7 @@ use Rattle.initiator_laws.specs.Marks.{CountsFor, expired_reads, finding_reads, 
 use Rattle.initiator_laws.specs.Numbers.{is_numbered, carried, RisesTo}
 use Rattle.initiator_laws.specs.Taking.{block_notes, call_drops, call_fails, call_note, call_read, expired_fails, expired_read, finding_drops, finding_fails, finding_note, finding_read, purpose_fails, purpose_read}
 use Rattle.initiator_laws.specs.Tells.{is_heard, Tells}
-use Rattle.initiator_laws.proofs.Effects.{Asking, Fits, Holds, Wired, ended_does}
+use Rattle.initiator_laws.proofs.Effects.{Asking, Fits, Holds, Past, Wired, ended_does}
 use Rattle.initiator_laws.proofs.Brings.{request_left}
 use Rattle.initiator_laws.proofs.Leaves.{for_leaves}
 use Rattle.initiator_laws.proofs.Lives.{IsNew, LivesIn, read_act, reads_with}
@@ -56,20 +56,26 @@ abbrev pub IsEarlier : Option ℕ → ℕ → Type 0
 IsEarlier None acts = Unit {0}
 IsEarlier (Some act) acts = act < acts
 
--- a transaction fits the operation under way, is for an earlier action, and a read of AGENT_STATE counts for its list
-pub record FitsNow (operation : Option Running) (acts : ℕ) (counted : ℕ → Option ℕ) (purpose : Purpose) : Type 0 where
+abbrev pub WasPointed : (ℕ → Bool) → Purpose → Type 0
+WasPointed pointed (purposes.Pointer list) = pointed list ≡ true
+WasPointed pointed _ = Unit {0}
+
+-- a transaction fits the operation under way, is for an earlier action, a read of AGENT_STATE counts for its list, and an ORB_POINTER is that of
+-- a list for which it was asked
+pub record FitsNow (operation : Option Running) (acts : ℕ) (counted : ℕ → Option ℕ) (pointed : ℕ → Bool) (purpose : Purpose) : Type 0 where
   pub fits : Fits purpose operation
   pub earlier : IsEarlier (act_in purpose) acts
   pub counts : CountsFor counted (Some purpose)
+  pub points : WasPointed pointed purpose
 
 -- the operation under way is of an earlier action
 pub record IsBegun (operation : Option Running) (acts : ℕ) : Type 0 where
   pub before : (running : Running) → operation ≡ Some running → running.act < acts
 
-pub record Sound (node : ℕ) (held : ℕ → List ℕ) (counted : ℕ → Option ℕ) (t : Turn) : Type 0 where
-  pub wires : Wire (FitsNow t.1.operation t.1.counts.acts counted) t.1.states node t.1.counts.running t.1.layer t.0.packets
+pub record Sound (node : ℕ) (held : Past) (counted : ℕ → Option ℕ) (t : Turn) : Type 0 where
+  pub wires : Wire (FitsNow t.1.operation t.1.counts.acts counted held.pointed) t.1.states node t.1.counts.running t.1.layer t.0.packets
   pub marks : Holds held t.1.lists t.1.marks.pointing
-  pub sized : (m : ℕ) → length (held m) ≡ 32
+  pub sized : (m : ℕ) → length (held.places m) ≡ 32
   pub orb : HasOrb t.1.operation
   pub begun : IsBegun t.1.operation t.1.counts.acts
 
@@ -104,21 +110,21 @@ begun_move before None after n m h = subst (λ (r : Option Running). IsBegun r n
 begun_move before (Some end) after n m h = subst (λ (r : Option Running). IsBegun r n) (sym m.1) (record { before = λ r e. none_some e })
 
 -- what is kept by a call that no action is
-module _ (node : ℕ) (held : ℕ → List ℕ) (counted : ℕ → Option ℕ) (s : InitiatorState) (op : Option OpEnd) (t : Turn) where
-  kept_wire : (reads : List ℕ) → t.1.states ≡ reads → OpMove s.operation op t.1.operation → t.1.counts.acts ≡ s.counts.acts → t.1.counts.running ≡ s.counts.running → Wire (FitsNow s.operation s.counts.acts counted) reads node s.counts.running t.1.layer t.0.packets → Wire (FitsNow t.1.operation t.1.counts.acts counted) t.1.states node t.1.counts.running t.1.layer t.0.packets
+module _ (node : ℕ) (held : Past) (counted : ℕ → Option ℕ) (s : InitiatorState) (op : Option OpEnd) (t : Turn) where
+  kept_wire : (reads : List ℕ) → t.1.states ≡ reads → OpMove s.operation op t.1.operation → t.1.counts.acts ≡ s.counts.acts → t.1.counts.running ≡ s.counts.running → Wire (FitsNow s.operation s.counts.acts counted held.pointed) reads node s.counts.running t.1.layer t.0.packets → Wire (FitsNow t.1.operation t.1.counts.acts counted held.pointed) t.1.states node t.1.counts.running t.1.layer t.0.packets
   kept_wire reads x m a r w = record {
     calls = w.calls;
     layer_is = w.layer_is;
     packets_are = w.packets_are;
     rises = subst (λ (n : ℕ). RisesTo n (carried node w.calls)) (sym r) w.rises;
-    asks = all_ask (FitsNow s.operation s.counts.acts counted) (FitsNow t.1.operation t.1.counts.acts counted)
-        (λ p f. record { fits = fits_move s.operation op t.1.operation p m f.fits; earlier = subst (λ (n : ℕ). IsEarlier (act_in p) n) (sym a) f.earlier; counts = f.counts })
+    asks = all_ask (FitsNow s.operation s.counts.acts counted held.pointed) (FitsNow t.1.operation t.1.counts.acts counted held.pointed)
+        (λ p f. record { fits = fits_move s.operation op t.1.operation p m f.fits; earlier = subst (λ (n : ℕ). IsEarlier (act_in p) n) (sym a) f.earlier; counts = f.counts; points = f.points })
         w.calls w.asks;
     new = w.new;
     lives = subst (λ (l : List ℕ). LivesIn l (wire.history node w.calls)) (sym x) w.lives;
   }
 
-  kept_sound : (reads : List ℕ) → t.1.states ≡ reads → (old : Turn) → Sound node held counted old → old.1.operation ≡ s.operation → old.1.counts.acts ≡ s.counts.acts → OpMove s.operation op t.1.operation → t.1.counts.acts ≡ s.counts.acts → t.1.counts.running ≡ s.counts.running → Holds held t.1.lists t.1.marks.pointing → Wire (FitsNow s.operation s.counts.acts counted) reads node s.counts.running t.1.layer t.0.packets → Sound node held counted t
+  kept_sound : (reads : List ℕ) → t.1.states ≡ reads → (old : Turn) → Sound node held counted old → old.1.operation ≡ s.operation → old.1.counts.acts ≡ s.counts.acts → OpMove s.operation op t.1.operation → t.1.counts.acts ≡ s.counts.acts → t.1.counts.running ≡ s.counts.running → Holds held t.1.lists t.1.marks.pointing → Wire (FitsNow s.operation s.counts.acts counted held.pointed) reads node s.counts.running t.1.layer t.0.packets → Sound node held counted t
   kept_sound reads x old k e f m a r h w = record {
     wires = kept_wire reads x m a r w;
     marks = h;
@@ -144,7 +150,7 @@ expired_drops (purposes.Pointer list) present = refl
 expired_drops purposes.Doorbell present = refl
 
 -- what is told, and what holds afterwards
-pub record Heard (node : ℕ) (held : ℕ → List ℕ) (counted : ℕ → Option ℕ) (first : Option Note) (drop : Option ℕ) (read : Option OpWord) (fails : Bool) (old new : Turn) : Type 0 where
+pub record Heard (node : ℕ) (held : Past) (counted : ℕ → Option ℕ) (first : Option Note) (drop : Option ℕ) (read : Option OpWord) (fails : Bool) (old new : Turn) : Type 0 where
   pub op : Option OpEnd
   pub sides : new.0.sides ≡ old.0.sides ++ own (block_notes first ++ notes_of old.1.number drop op read (sticks_by fails old.1.seat))
   pub move : OpMove old.1.operation op new.1.operation
@@ -166,7 +172,7 @@ drop_for_purpose None ending s = None
 drop_for_purpose (Some purpose) ending s = drop_if (ends_the_list purpose ending s.lists.slots.present) s.lists.slots.present
 
 -- the layer of a state is another, by a call that closed a transaction
-ended_heard : (node : ℕ) (held : ℕ → List ℕ) (counted : ℕ → Option ℕ) (old : Turn) (u : InitiatorState) (purpose : Option Purpose) (ending : Ending) → Sound node held counted old → u.operation ≡ old.1.operation → u.number ≡ old.1.number → u.seat ≡ old.1.seat → u.counts.acts ≡ old.1.counts.acts → u.counts.running ≡ old.1.counts.running → Holds held u.lists u.marks.pointing → Wire (FitsNow u.operation u.counts.acts counted) (read_over purpose u.states) node u.counts.running u.layer old.0.packets → IfFor (FitsNow u.operation u.counts.acts counted) purpose → Heard node held counted None (drop_for_purpose purpose ending u) (purpose_read purpose ending) (purpose_fails purpose ending) old (ended_for purpose ending old.0 u)
+ended_heard : (node : ℕ) (held : Past) (counted : ℕ → Option ℕ) (old : Turn) (u : InitiatorState) (purpose : Option Purpose) (ending : Ending) → Sound node held counted old → u.operation ≡ old.1.operation → u.number ≡ old.1.number → u.seat ≡ old.1.seat → u.counts.acts ≡ old.1.counts.acts → u.counts.running ≡ old.1.counts.running → Holds held u.lists u.marks.pointing → Wire (FitsNow u.operation u.counts.acts counted held.pointed) (read_over purpose u.states) node u.counts.running u.layer old.0.packets → IfFor (FitsNow u.operation u.counts.acts counted held.pointed) purpose → Heard node held counted None (drop_for_purpose purpose ending u) (purpose_read purpose ending) (purpose_fails purpose ending) old (ended_for purpose ending old.0 u)
 ended_heard node held counted old u None ending k op number seat acts running marks w f = record {
   op = None;
   sides = sym (append-nil old.0.sides);
@@ -184,7 +190,7 @@ ended_heard node held counted old u (Some purpose) ending k op number seat acts 
       move = subst (λ (r : Option Running). OpMove r d.does.op t.1.operation) op d.does.move;
       gone = d.does.gone;
       sound = kept_sound node held counted u d.does.op t (read_over (Some purpose) u.states) (for_leaves (Some purpose) ending old.0 u).states old k (sym op) (sym acts) d.does.move (ap (λ (c : Counts). c.acts) d.does.counts) (ap (λ (c : Counts). c.running) d.does.counts) (d.does.marks held marks)
-          (wired_on node (FitsNow u.operation u.counts.acts counted) (read_over (Some purpose) u.states) purpose old.0 u t d.asking d.does.wire d.same d.plain d.unread f w);
+          (wired_on node (FitsNow u.operation u.counts.acts counted held.pointed) (read_over (Some purpose) u.states) purpose old.0 u t d.asking d.does.wire d.same d.plain d.unread f w);
     }
 
 -- ---- a delivery
@@ -198,21 +204,21 @@ expired_for node P reads running layer packets peer label purpose w e =
     expires_asked P node w.calls peer label purpose w.asks (ap (λ (l : Layer Purpose). (expiring_step l peer label).0) w.layer_is ∙ e)
 
 -- a request is answered
-request_heard : (node : ℕ) (held : ℕ → List ℕ) (counted : ℕ → Option ℕ) (p : Packet) (bytes : List ℕ) (old : Turn) (u : InitiatorState) (first : Option Note) (drop : Option ℕ) (t : Turn) → Sound node held counted old → u.operation ≡ old.1.operation → u.number ≡ old.1.number → u.counts ≡ old.1.counts → Holds held u.lists u.marks.pointing → Wire (FitsNow u.operation u.counts.acts counted) u.states node u.counts.running u.layer old.0.packets → t.1.states ≡ u.states → Answers p bytes old.0 u first drop t → Heard node held counted first drop None false old t
+request_heard : (node : ℕ) (held : Past) (counted : ℕ → Option ℕ) (p : Packet) (bytes : List ℕ) (old : Turn) (u : InitiatorState) (first : Option Note) (drop : Option ℕ) (t : Turn) → Sound node held counted old → u.operation ≡ old.1.operation → u.number ≡ old.1.number → u.counts ≡ old.1.counts → Holds held u.lists u.marks.pointing → Wire (FitsNow u.operation u.counts.acts counted held.pointed) u.states node u.counts.running u.layer old.0.packets → t.1.states ≡ u.states → Answers p bytes old.0 u first drop t → Heard node held counted first drop None false old t
 request_heard node held counted p bytes old u first drop t k op number counts marks w x a = record {
   op = a.op;
   sides = subst (λ (n : ℕ). t.0.sides ≡ old.0.sides ++ own (block_notes first ++ notes_of n drop a.op None false)) number a.sides;
   move = subst (λ (r : Option Running). OpMove r a.op t.1.operation) op a.move;
   gone = a.gone;
   sound = kept_sound node held counted u a.op t u.states x old k (sym op) (ap (λ (c : Counts). c.acts) (sym counts)) a.move a.acts a.running (a.marks held marks)
-      (subst (λ (ps : List Outgoing). Wire (FitsNow u.operation u.counts.acts counted) u.states node u.counts.running t.1.layer ps) (sym a.packets)
-      (subst (λ (l : Layer Purpose). Wire (FitsNow u.operation u.counts.acts counted) u.states node u.counts.running l (old.0.packets ++ response p (answering_step u.layer p bytes a.rcode a.given).0 ∷ [])) (sym a.layer)
+      (subst (λ (ps : List Outgoing). Wire (FitsNow u.operation u.counts.acts counted held.pointed) u.states node u.counts.running t.1.layer ps) (sym a.packets)
+      (subst (λ (l : Layer Purpose). Wire (FitsNow u.operation u.counts.acts counted held.pointed) u.states node u.counts.running l (old.0.packets ++ response p (answering_step u.layer p bytes a.rcode a.given).0 ∷ [])) (sym a.layer)
       (answer_wire p bytes a.rcode a.given w)));
 }
 
-module _ (node : ℕ) (held : ℕ → List ℕ) (counted : ℕ → Option ℕ) (o : OutboxState) (s : InitiatorState) (k : Sound node held counted (o, s)) where
+module _ (node : ℕ) (held : Past) (counted : ℕ → Option ℕ) (o : OutboxState) (s : InitiatorState) (k : Sound node held counted (o, s)) where
   -- nothing is told
-  nothing_heard : (u : InitiatorState) → u.operation ≡ s.operation → u.counts.acts ≡ s.counts.acts → u.counts.running ≡ s.counts.running → Holds held u.lists u.marks.pointing → u.states ≡ s.states → Wire (FitsNow s.operation s.counts.acts counted) s.states node s.counts.running u.layer o.packets → Heard node held counted None None None false (o, s) (o, u)
+  nothing_heard : (u : InitiatorState) → u.operation ≡ s.operation → u.counts.acts ≡ s.counts.acts → u.counts.running ≡ s.counts.running → Holds held u.lists u.marks.pointing → u.states ≡ s.states → Wire (FitsNow s.operation s.counts.acts counted held.pointed) s.states node s.counts.running u.layer o.packets → Heard node held counted None None None false (o, s) (o, u)
   nothing_heard u op acts running marks x w = record {
     op = None;
     sides = sym (append-nil o.sides);
@@ -221,7 +227,7 @@ module _ (node : ℕ) (held : ℕ → List ℕ) (counted : ℕ → Option ℕ) (
     sound = kept_sound node held counted s None (o, u) s.states x (o, s) k refl refl op acts running marks w;
   }
 
-  received_heard : (finding : Finding Purpose) (layer : Layer Purpose) (bytes : List ℕ) → IsSame finding s.layer layer → Wire (FitsNow s.operation s.counts.acts counted) (finding_reads finding s.states) node s.counts.running layer o.packets → ((p : Packet) (label : LabelParts) (purpose : Option Purpose) → finding ≡ of_response p label purpose → IfFor (FitsNow s.operation s.counts.acts counted) purpose) → Heard node held counted (finding_note finding s) (drop_if (finding_drops finding s) s.lists.slots.present) (finding_read finding) (finding_fails finding) (o, s) (received (finding, layer) bytes o s).1
+  received_heard : (finding : Finding Purpose) (layer : Layer Purpose) (bytes : List ℕ) → IsSame finding s.layer layer → Wire (FitsNow s.operation s.counts.acts counted held.pointed) (finding_reads finding s.states) node s.counts.running layer o.packets → ((p : Packet) (label : LabelParts) (purpose : Option Purpose) → finding ≡ of_response p label purpose → IfFor (FitsNow s.operation s.counts.acts counted held.pointed) purpose) → Heard node held counted (finding_note finding s) (drop_if (finding_drops finding s) s.lists.slots.present) (finding_read finding) (finding_fails finding) (o, s) (received (finding, layer) bytes o s).1
   received_heard of_generation layer bytes same w f = nothing_heard (record s { layer = layer }) refl refl refl k.marks refl w
   received_heard of_grammar layer bytes same w f = nothing_heard (record s { layer = layer }) refl refl refl k.marks refl w
   received_heard of_label layer bytes same w f = nothing_heard (record s { layer = layer }) refl refl refl k.marks refl w
@@ -239,11 +245,11 @@ module _ (node : ℕ) (held : ℕ → List ℕ) (counted : ℕ → Option ℕ) (
   unfolding receive_step
   receive_heard generation bytes =
       received_heard (judging_step s.layer generation bytes).0 (judging_step s.layer generation bytes).1 bytes (judged_same (judging_step s.layer generation bytes).0 s.layer (judging_step s.layer generation bytes).1 generation bytes refl) (judge_wire generation bytes k.wires)
-      (λ p label purpose e. judged_for node (FitsNow s.operation s.counts.acts counted) s.states s.counts.running s.layer o.packets generation bytes p label purpose k.wires e)
+      (λ p label purpose e. judged_for node (FitsNow s.operation s.counts.acts counted held.pointed) s.states s.counts.running s.layer o.packets generation bytes p label purpose k.wires e)
 
   -- ---- a time-out
 
-  expired_heard : (r : Result (Option Purpose) Stale) (layer : Layer Purpose) → Wire (FitsNow s.operation s.counts.acts counted) (expired_reads r s.states) node s.counts.running layer o.packets → ((purpose : Option Purpose) → r ≡ Ok purpose → IfFor (FitsNow s.operation s.counts.acts counted) purpose) → Heard node held counted None None (expired_read r) (expired_fails r) (o, s) (expired_as (r, layer) o s).1
+  expired_heard : (r : Result (Option Purpose) Stale) (layer : Layer Purpose) → Wire (FitsNow s.operation s.counts.acts counted held.pointed) (expired_reads r s.states) node s.counts.running layer o.packets → ((purpose : Option Purpose) → r ≡ Ok purpose → IfFor (FitsNow s.operation s.counts.acts counted held.pointed) purpose) → Heard node held counted None None (expired_read r) (expired_fails r) (o, s) (expired_as (r, layer) o s).1
   expired_heard (Err stale) layer w f = nothing_heard (record s { layer = layer }) refl refl refl k.marks refl w
   expired_heard (Ok None) layer w f =
       ended_heard node held counted (o, s) (called (record s { layer = layer })) None endings.Expired k refl refl refl refl refl k.marks w tt
@@ -255,19 +261,19 @@ module _ (node : ℕ) (held : ℕ → List ℕ) (counted : ℕ → Option ℕ) (
   unfolding expire_step
   expire_heard label =
       expired_heard (expiring_step s.layer s.target label).0 (expiring_step s.layer s.target label).1 (expire_wire s.target label k.wires)
-      (λ purpose e. expired_for node (FitsNow s.operation s.counts.acts counted) s.states s.counts.running s.layer o.packets s.target label purpose k.wires e)
+      (λ purpose e. expired_for node (FitsNow s.operation s.counts.acts counted held.pointed) s.states s.counts.running s.layer o.packets s.target label purpose k.wires e)
 
 -- what is told, as the law says it
-heard_tells : (node : ℕ) (held : ℕ → List ℕ) (counted : ℕ → Option ℕ) (call : Call) (old new : Turn) → Heard node held counted (call_note call old.1) (drop_if (call_drops call old.1) old.1.lists.slots.present) (call_read call old.1) (call_fails call old.1) old new → Tells call old new
+heard_tells : (node : ℕ) (held : Past) (counted : ℕ → Option ℕ) (call : Call) (old new : Turn) → Heard node held counted (call_note call old.1) (drop_if (call_drops call old.1) old.1.lists.slots.present) (call_read call old.1) (call_fails call old.1) old new → Tells call old new
 heard_tells node held counted call old new h = record { op = h.op; sides = h.sides; move = h.move; gone = h.gone }
 
-pub call_tells : (node : ℕ) (held : ℕ → List ℕ) (counted : ℕ → Option ℕ) (call : Call) (old : Turn) → Sound node held counted old → is_heard call ≡ true → Tells call old (done call old)
+pub call_tells : (node : ℕ) (held : Past) (counted : ℕ → Option ℕ) (call : Call) (old : Turn) → Sound node held counted old → is_heard call ≡ true → Tells call old (done call old)
 call_tells node held counted (receives generation bytes) old k e = heard_tells node held counted (receives generation bytes) old _ (receive_heard node held counted old.0 old.1 k generation bytes)
 call_tells node held counted (lets_expire label) old k e = heard_tells node held counted (lets_expire label) old _ (expire_heard node held counted old.0 old.1 k label)
 call_tells node held counted (laws.acts action) old k e = absurd (untrue e)
 call_tells node held counted (laws.sees generation id target) old k e = absurd (untrue e)
 
-pub call_soundly : (node : ℕ) (held : ℕ → List ℕ) (counted : ℕ → Option ℕ) (call : Call) (old : Turn) → Sound node held counted old → is_heard call ≡ true → Sound node held counted (done call old)
+pub call_soundly : (node : ℕ) (held : Past) (counted : ℕ → Option ℕ) (call : Call) (old : Turn) → Sound node held counted old → is_heard call ≡ true → Sound node held counted (done call old)
 call_soundly node held counted (receives generation bytes) old k e = (receive_heard node held counted old.0 old.1 k generation bytes).sound
 call_soundly node held counted (lets_expire label) old k e = (expire_heard node held counted old.0 old.1 k label).sound
 call_soundly node held counted (laws.acts action) old k e = absurd (untrue e)

@@ -22,7 +22,7 @@ use Rattle.initiator_laws.specs.Drops.{present_list}
 use Rattle.initiator_laws.specs.Ends.{own, drops}
 use Rattle.initiator_laws.specs.Numbers.{carried, RisesTo}
 use Rattle.initiator_laws.specs.Tells.{state_resets, resets_with, resets, Sees}
-use Rattle.initiator_laws.proofs.Effects.{HasMarks, Holds, list_drops, told_twice}
+use Rattle.initiator_laws.proofs.Effects.{Begun, HasMarks, Holds, Past, list_drops, none_begun, told_twice}
 use Rattle.label_table.specs.History as wire
 use Rattle.initiator_laws.proofs.Leaves.{drops_keep}
 use Rattle.initiator_laws.proofs.Lives.{LivesIn}
@@ -70,27 +70,32 @@ free_present : (lists : ListState) → (free_lists lists).slots.present ≡ None
 unfolding free_lists free_all_step
 free_present lists = refl
 
+free_begun : (pointed : ℕ → Bool) (lists : ListState) (pointing : Pointing) → Begun pointed lists.slots.present lists.slots.lists pointing → Begun pointed (free_lists lists).slots.present (free_lists lists).slots.lists pointings.Unwritten
+unfolding free_lists free_all_step
+free_begun pointed lists pointing h = none_begun pointed lists.slots.present lists.slots.lists pointing h
+
 free_memory : (lists : ListState) → (free_lists lists).memory.places ≡ lists.memory.places
 unfolding free_lists free_all_step closed
 free_memory lists = refl
 
-free_holds : (held : ℕ → List ℕ) (lists : ListState) (pointing : Pointing) → Holds held lists pointing → Holds held (free_lists lists) pointings.Unwritten
+free_holds : (held : Past) (lists : ListState) (pointing : Pointing) → Holds held lists pointing → Holds held (free_lists lists) pointings.Unwritten
 free_holds held lists pointing h = record {
   marks = free_marks lists;
   orbs = λ m. ap (λ (l : List PlaceMemory). (slice_index_or l m empty_place).orb) (free_memory lists) ∙ h.orbs m;
   places = ap length (free_memory lists) ∙ h.places;
+  pointed = free_begun held.pointed lists pointing h.pointed;
 }
 
 -- ---- as a whole
 
-record Saw (node : ℕ) (held : ℕ → List ℕ) (counted : ℕ → Option ℕ) (seen : Bool) (old new : Turn) : Type 0 where
+record Saw (node : ℕ) (held : Past) (counted : ℕ → Option ℕ) (seen : Bool) (old new : Turn) : Type 0 where
   tells : Sees seen old new
   sound : Sound node held counted new
 
 abbrev seeing_as : Bool → Layer Purpose → Layer Purpose → Bool × Layer Purpose
 seeing_as c new old = cond c (true, new) (false, old)
 
-saw_as : (c : Bool) (node : ℕ) (held : ℕ → List ℕ) (counted : ℕ → Option ℕ) (generation id target : ℕ) (o : OutboxState) (s : InitiatorState) → Sound node held counted (o, s) → Wire (FitsNow s.operation s.counts.acts counted) (cond c [] s.states) node s.counts.running (seeing_as c (seen_in_generation s.layer generation id) s.layer).1 o.packets → Saw node held counted c (o, s) (seen_as (seeing_as c (seen_in_generation s.layer generation id) s.layer) target o s)
+saw_as : (c : Bool) (node : ℕ) (held : Past) (counted : ℕ → Option ℕ) (generation id target : ℕ) (o : OutboxState) (s : InitiatorState) → Sound node held counted (o, s) → Wire (FitsNow s.operation s.counts.acts counted held.pointed) (cond c [] s.states) node s.counts.running (seeing_as c (seen_in_generation s.layer generation id) s.layer).1 o.packets → Saw node held counted c (o, s) (seen_as (seeing_as c (seen_in_generation s.layer generation id) s.layer) target o s)
 saw_as false node held counted generation id target o s k w = record { tells = (refl, refl); sound = k }
 saw_as true node held counted generation id target o s k w =
     let u = record s { layer = seen_in_generation s.layer generation id } in
@@ -107,8 +112,8 @@ saw_as true node held counted generation id target o s k w =
           layer_is = w.layer_is ∙ sym d.layer;
           packets_are = w.packets_are ∙ sym (d.packets ∙ m.packets);
           rises = subst (λ (c : Counts). RisesTo c.running (carried node w.calls)) (sym d.counts) w.rises;
-          asks = all_ask (FitsNow s.operation s.counts.acts counted) (FitsNow t.1.operation t.1.counts.acts counted)
-              (λ p f. subst (λ (r : Option Running). FitsNow r t.1.counts.acts counted p) (sym d.operation) (subst (λ (c : Counts). FitsNow None c.acts counted p) (sym d.counts) (record { fits = fits_none p; earlier = f.earlier; counts = f.counts })))
+          asks = all_ask (FitsNow s.operation s.counts.acts counted held.pointed) (FitsNow t.1.operation t.1.counts.acts counted held.pointed)
+              (λ p f. subst (λ (r : Option Running). FitsNow r t.1.counts.acts counted held.pointed p) (sym d.operation) (subst (λ (c : Counts). FitsNow None c.acts counted held.pointed p) (sym d.counts) (record { fits = fits_none p; earlier = f.earlier; counts = f.counts; points = f.points })))
               w.calls w.asks;
           new = w.new;
           lives = subst (λ (l : List ℕ). LivesIn l (wire.history node w.calls)) (sym (drops_keep x v).states) w.lives;
@@ -120,12 +125,12 @@ saw_as true node held counted generation id target o s k w =
       };
     }
 
-saw : (node : ℕ) (held : ℕ → List ℕ) (counted : ℕ → Option ℕ) (generation id target : ℕ) (o : OutboxState) (s : InitiatorState) → Sound node held counted (o, s) → Saw node held counted (nat_lt s.layer.generation generation) (o, s) (see_step generation id target o s)
+saw : (node : ℕ) (held : Past) (counted : ℕ → Option ℕ) (generation id target : ℕ) (o : OutboxState) (s : InitiatorState) → Sound node held counted (o, s) → Saw node held counted (nat_lt s.layer.generation generation) (o, s) (see_step generation id target o s)
 unfolding see_step seeing_step
 saw node held counted generation id target o s k = saw_as (nat_lt s.layer.generation generation) node held counted generation id target o s k (see_wire generation id k.wires)
 
-pub sees_so : (node : ℕ) (held : ℕ → List ℕ) (counted : ℕ → Option ℕ) (generation id target : ℕ) (o : OutboxState) (s : InitiatorState) → Sound node held counted (o, s) → Sees (nat_lt s.layer.generation generation) (o, s) (see_step generation id target o s)
+pub sees_so : (node : ℕ) (held : Past) (counted : ℕ → Option ℕ) (generation id target : ℕ) (o : OutboxState) (s : InitiatorState) → Sound node held counted (o, s) → Sees (nat_lt s.layer.generation generation) (o, s) (see_step generation id target o s)
 sees_so node held counted generation id target o s k = (saw node held counted generation id target o s k).tells
 
-pub sees_soundly : (node : ℕ) (held : ℕ → List ℕ) (counted : ℕ → Option ℕ) (generation id target : ℕ) (o : OutboxState) (s : InitiatorState) → Sound node held counted (o, s) → Sound node held counted (see_step generation id target o s)
+pub sees_soundly : (node : ℕ) (held : Past) (counted : ℕ → Option ℕ) (generation id target : ℕ) (o : OutboxState) (s : InitiatorState) → Sound node held counted (o, s) → Sound node held counted (see_step generation id target o s)
 sees_soundly node held counted generation id target o s k = (saw node held counted generation id target o s k).sound

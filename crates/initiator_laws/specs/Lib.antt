@@ -10,3 +10,4 @@ pub mod Tells
 pub mod Served
 pub mod Slots
 pub mod Marks
+pub mod Pointers

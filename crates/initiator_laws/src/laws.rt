@@ -2,6 +2,7 @@ ghost use Rattle.initiator_laws.specs.Judging.{JudgingLaw};
 ghost use Rattle.initiator_laws.specs.Laws.{CountLaw, SessionLaw, WireLaw};
 ghost use Rattle.initiator_laws.specs.Marks.{MarkLaw};
 ghost use Rattle.initiator_laws.specs.Numbers.{NumberLaw};
+ghost use Rattle.initiator_laws.specs.Pointers.{PointerLaw};
 ghost use Rattle.initiator_laws.specs.Served.{ReadsLaw};
 ghost use Rattle.initiator_laws.specs.Slots.{SlotLaw};
 ghost use Rattle.initiator_laws.specs.Tells.{TakesLaw, TellsLaw};
@@ -81,4 +82,11 @@ pub fn slots_and_rom_are_read()
 /// list that was present, and whose ORB_POINTER had been answered, as it was asked for.
 pub fn lists_are_known()
     ensures { MarkLaw }
+{}
+
+/// The law that over every list of calls an ORB_POINTER that is answered, or that times out, is that of a list that
+/// was begun, and counts as written while this list is the present one.
+#[tactic(auto, using(crate::proofs::Pointers::pointer_law))]
+pub fn pointers_are_written()
+    ensures { PointerLaw }
 {}
