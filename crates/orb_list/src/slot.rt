@@ -66,7 +66,7 @@ impl Slot {
 
     /// Whether the ORB of the slot is over: its status was taken, the ORB behind it is linked, its src
     /// was 0 or the status of a later ORB was taken, and it is not pinned.
-    fn is_over(&self, list: &PresentList, pinned: &Option<Ticket>) -> bool
+    pub(crate) fn is_over(&self, list: &PresentList, pinned: &Option<Ticket>) -> bool
         ensures { result ≡ is_over list.now pinned.now self.now }
     {
         match self.state {
