@@ -27,6 +27,11 @@ done list pinned slots i = map (released (Some list) pinned) (take i slots) ++ d
 abbrev pub all_done : PresentList → Option TicketParts → List Slot → List Slot
 all_done list pinned slots = map (released (Some list) pinned) slots
 
+-- one slot more is gone through, whose memory tells whether it is free
+closed_next : (slots : List Slot) (m : Memory) (i : ℕ) → i < length slots → (slot_at m i).is_armed ≡ not (is_free (slot_in slots i)) → (b : Bool) → is_free (slot_in slots i) ≡ b → closed (take i slots) m ≡ closed (take (i + 1) slots) m
+closed_next slots m i lt armed true f = closed_unarmed slots m i lt (armed ∙ ap (λ (b : Bool). not b) f)
+closed_next slots m i lt armed false f = closed_held slots m i lt f
+
 module _ (list : PresentList) (pinned : Option TicketParts) (slots others : List Slot) (i : ℕ) (lt : i < length slots) (h : others ≡ done list pinned slots i) where
   abbrev front : List Slot
   front = map (released (Some list) pinned) (take i slots)
@@ -56,28 +61,21 @@ module _ (list : PresentList) (pinned : Option TicketParts) (slots others : List
         ap (λ (x : Memory). with_armed x i false) g ∙ closed_free (all_done list pinned slots) m i all_long free,
       )
 
-  stays_closed : (m : Memory) → (slot_at m i).is_armed ≡ not (is_free (slot_in others i)) → (b : Bool) → is_free (slot_in others i) ≡ b → slot_in (all_done list pinned slots) i ≡ slot_in others i → closed (take i (all_done list pinned slots)) m ≡ closed (take (i + 1) (all_done list pinned slots)) m
-  stays_closed m armed true f same = closed_unarmed (all_done list pinned slots) m i all_long (armed ∙ ap (λ (b : Bool). not b) f)
-  stays_closed m armed false f same = closed_held (all_done list pinned slots) m i all_long (ap (λ (s : Slot). is_free s) same ∙ f)
-
   -- every other slot stays, and is closed already where it is free
   pub held_done : (m image : Memory) → image ≡ closed (take i (all_done list pinned slots)) m → (slot_at m i).is_armed ≡ not (is_free (slot_in slots i)) → is_over list pinned (slot_in others i) ≡ false → (others ≡ done list pinned slots (i + 1)) × (image ≡ closed (take (i + 1) (all_done list pinned slots)) m)
   held_done m image g armed e =
       let now = released_held list pinned (slot_in others i) e in
-      let own : (slot_at m i).is_armed ≡ not (is_free (slot_in others i)) = armed ∙ ap (λ (s : Slot). not (is_free s)) (sym (next_read unused)) in (
+      let same : slot_in (all_done list pinned slots) i ≡ slot_in slots i = next_done ∙ now ∙ next_read unused in
+      let own : (slot_at m i).is_armed ≡ not (is_free (slot_in (all_done list pinned slots) i)) = armed ∙ ap (λ (s : Slot). not (is_free s)) (sym same) in (
         sym (set-get_or others i unused) ∙ ap (λ (s : Slot). set others i s) (sym now) ∙ one_done,
-        g ∙ stays_closed m own (is_free (slot_in others i)) refl (next_done ∙ now),
+        g ∙ closed_next (all_done list pinned slots) m i all_long own (is_free (slot_in (all_done list pinned slots) i)) refl,
       )
 
 -- without a list no ORB is over
-pub none_over : (pinned : Option TicketParts) (slots : List Slot) → map (released None pinned) slots ≡ slots
+none_over : (pinned : Option TicketParts) (slots : List Slot) → map (released None pinned) slots ≡ slots
 unfolding released
 none_over pinned [] = refl
 none_over pinned (slot ∷ slots) = ap (λ (l : List Slot). slot ∷ l) (none_over pinned slots)
-
-closed_next : (slots : List Slot) (m : Memory) (i : ℕ) → i < length slots → (slot_at m i).is_armed ≡ not (is_free (slot_in slots i)) → (b : Bool) → is_free (slot_in slots i) ≡ b → closed (take i slots) m ≡ closed (take (i + 1) slots) m
-closed_next slots m i lt armed true f = closed_unarmed slots m i lt (armed ∙ ap (λ (b : Bool). not b) f)
-closed_next slots m i lt armed false f = closed_held slots m i lt f
 
 closed_front : (slots : List Slot) (m : Memory) (i : ℕ) → i ≤ length slots → ((k : ℕ) → k < length slots → (slot_at m k).is_armed ≡ not (is_free (slot_in slots k))) → closed (take i slots) m ≡ m
 closed_front slots m zero h f = closed_none slots m
@@ -89,8 +87,8 @@ closed_front slots m (suc i) h f =
     ∙ closed_front slots m i (omega (arith, h)) f
 
 -- a memory that holds slots has closed the free ones
-pub held_closed : (slots : List Slot) (m : Memory) → length slots ≡ 32 → HoldsSlots slots m → closed slots m ≡ m
-held_closed slots m long h =
+closed_already : (slots : List Slot) (m : Memory) → length slots ≡ 32 → HoldsSlots slots m → closed slots m ≡ m
+closed_already slots m long h =
     ap (λ (l : List Slot). closed l m) (sym (take_all (length slots) slots (omega arith)))
     ∙ closed_front slots m (length slots) (omega arith) (λ k lt. h.armed k (omega (arith, lt, long)))
 
@@ -98,5 +96,5 @@ held_closed slots m long h =
 pub unswept : (s : SlotTable) (m : Memory) → s.present ≡ None → length s.slots ≡ 32 → HoldsSlots s.slots m → (s, m) ≡ sweep s m
 unswept s m none long h =
     let same : map (released s.present s.pinned) s.slots ≡ s.slots = ap (λ (p : Option PresentList). map (released p s.pinned) s.slots) none ∙ none_over s.pinned s.slots in
-    let closed_same : closed (swept s).slots m ≡ m = ap (λ (l : List Slot). closed l m) same ∙ held_closed s.slots m long h in
+    let closed_same : closed (swept s).slots m ≡ m = ap (λ (l : List Slot). closed l m) same ∙ closed_already s.slots m long h in
     ap (λ (l : List Slot). (record s { slots = l }, m)) (sym same) ∙ ap (λ (x : Memory). (swept s, x)) (sym closed_same)

@@ -1,5 +1,5 @@
 ghost use Rattle.std.specs.Prelude.{◌≡◌};
-ghost use Rattle.orb_list.specs.Table.{freed, is_free, is_over, is_pinned, next_is_linked, over_for, released, rested, state_after, unused, waiting};
+ghost use Rattle.orb_list.specs.Table.{freed, is_free, is_over, is_pinned, next_is_linked, over_for, rested, state_after, unused, waiting};
 
 use crate::list::{Link, PresentList};
 use crate::ticket::Ticket;
@@ -50,17 +50,6 @@ impl Slot {
         match self.state {
             SlotState::Waiting => self.last,
             SlotState::Free | SlotState::Taken { .. } | SlotState::Resting => None,
-        }
-    }
-
-    /// Frees the slot where its ORB is over in the present list.
-    #[tactic(auto, unfolding(crate::specs::Table::released))]
-    pub(crate) fn release(&mut self, present: &Option<PresentList>, pinned: &Option<Ticket>)
-        ensures { self.new ≡ released present.now pinned.now self.old }
-    {
-        match present {
-            Some(list) if self.is_over(list, pinned) => self.state = SlotState::Free,
-            _ => {}
         }
     }
 
