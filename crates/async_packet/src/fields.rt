@@ -18,6 +18,16 @@ pub fn tcode_at(bytes: &[u8]) -> u8
     ((quad_at(bytes, 0) >> 4) & 0xf) as u8
 }
 
+/// The label of bytes that have a quadlet 0: its bits 15 to 10.
+#[tactic(auto, unfolding(crate::specs::Fields::header_of))]
+pub fn label_at(bytes: &[u8]) -> u8
+    requires { 4 ≤ length bytes.now }
+    ensures value { result ≡ (header_of bytes.now).label }
+    ensures small { result < 2 ^ 6 }
+{
+    ((quad_at(bytes, 0) >> 10) & 0x3f) as u8
+}
+
 /// The header.
 #[tactic(auto, unfolding(crate::specs::Fields::header_of))]
 pub(crate) fn header_at(bytes: &[u8]) -> Header

@@ -7,7 +7,8 @@ use crate::fields::{LARGEST, extended_at, length_at, padded, tcode_at};
 
 /// The fault of bytes, if they are no packet: the first of the table that holds.
 #[tactic(auto, unfolding(crate::specs::Faults::fault_of))]
-pub(crate) fn judge(bytes: &[u8]) -> Option<PacketFault>
+#[inline(always)]
+pub fn judge(bytes: &[u8]) -> Option<PacketFault>
     ensures { result ≡ fault_of bytes.now }
 {
     if bytes.len() < 4 {

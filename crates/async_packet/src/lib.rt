@@ -11,7 +11,8 @@ mod validity;
 mod writing;
 
 pub use fault::PacketFault;
-pub use fields::tcode_at;
+pub use fields::{label_at, tcode_at};
+pub use judging::judge;
 pub use label::Label;
 pub use packet::{Header, PacketRef};
 pub use reading::{decode, decodes_back, reads_spelling, spells_once};

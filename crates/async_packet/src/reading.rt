@@ -15,6 +15,7 @@ use crate::packet::PacketRef;
 
 /// Reads the packet that the bytes spell. The payload is lent from them. Where they spell none, the
 /// error is the first fault of the table that holds.
+#[inline(always)]
 pub fn decode(bytes: &[u8]) -> Result<PacketRef<'_>, PacketFault>
     ensures spelled { IfOk result (λ p. Spells bytes.now (view p)) }
     ensures only { (p : Packet) → Spells bytes.now p → IsOkAnd result (λ q. view q ≡ p) }
@@ -43,6 +44,7 @@ pub fn reads_spelling()
 {}
 
 /// The packet of bytes that have no fault.
+#[inline(always)]
 fn packet_at(bytes: &[u8]) -> PacketRef<'_>
     requires { fault_of bytes.now ≡ None }
     ensures { Spells bytes.now (view result) }

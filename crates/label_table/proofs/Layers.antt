@@ -14,7 +14,6 @@ use Rattle.label_table.specs.Peers.{PeerPlace, no_peer, clear_place, disown_plac
 use Rattle.label_table.specs.Layer.{IsSound}
 use Rattle.async_packet.specs.Canon.{IsValid, canon}
 use Rattle.async_packet.proofs.RoundTrip.{canon_spells}
-use Rattle.label_table.proofs.Laws.{judged_not}
 use Rattle.label_table.proofs.Owned.{holds, set_at}
 use Rattle.label_table.proofs.Sources.{default_in, new_request_at}
 
@@ -114,11 +113,3 @@ request_asked header body v = record {
   spelled = canon_spells (request_with header body) v;
   asks = asks_with header body;
 }
-
--- where a source has no room nothing is remembered
-crowded_at : (filter : List SourcePlace) (source : ℕ) (bytes : List ℕ) (rcode : ℕ) (place : Option ℕ) → judge_at place filter bytes ≡ verdicts.Crowded → remember_at place filter source bytes rcode ≡ filter
-crowded_at filter source bytes rcode None e = refl
-crowded_at filter source bytes rcode (Some k) e = absurd (judged_not (source_at filter k) bytes e)
-
-pub crowded_stays : (filter : List SourcePlace) (source : ℕ) (bytes : List ℕ) (rcode : ℕ) → judge_step filter source bytes ≡ verdicts.Crowded → remember_step filter source bytes rcode ≡ filter
-crowded_stays filter source bytes rcode e = crowded_at filter source bytes rcode _ e

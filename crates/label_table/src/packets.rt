@@ -28,6 +28,7 @@ fn header_to(source: NodeId, destination: NodeId, label: u8) -> Header
 }
 
 /// The canonical bytes of a packet.
+#[inline(always)]
 fn canonical(alloc: Global, packet: &PacketRef<'_>) -> Result<Vec<u8>, NoMemory>
     requires { IsValid (view packet.now) }
     ensures { IfOk result (λ bytes. bytes.items ≡ canon (view packet.now)) }

@@ -9,23 +9,22 @@ use std::marker::Model;
 /// The most bytes of a request: 16 bytes and a payload of 2,048.
 pub(crate) const LONGEST: usize = 2064;
 
-/// Room for the bytes of one request, taken when it is made. Contracts see the request that is
-/// kept in it, or none.
+/// Room for the bytes of one request, taken when it is made; no byte of it is written before a
+/// request is kept. Contracts see the request that is kept in it, or none.
 #[derive(Drop)]
 pub struct RequestRoom {
     room: Vec<u8>,
-    count: usize,
     is_kept: bool,
 }
 
 impl Model for RequestRoom {
-    ghost use Rattle.std.specs.Prelude.{◌≡◌, ◌≤◌, ℕ, List, length, take, Option, Some, None, if◌then◌else◌};
+    ghost use Rattle.std.specs.Prelude.{◌≤◌, ℕ, List, vec_capacity, Option, Some, None, if◌then◌else◌};
 
     ghost Value = { Option (List ℕ) };
 
-    ghost view = { λ a. if a.is_kept then Some (take a.count a.room.items) else None };
+    ghost view = { λ a. if a.is_kept then Some a.room.items else None };
 
-    ghost invariant = { λ a. (length a.room.items ≡ 2064) × (a.count ≤ 2064) };
+    ghost invariant = { λ a. 2064 ≤ vec_capacity a.room };
 }
 
 impl RequestRoom {
@@ -34,8 +33,7 @@ impl RequestRoom {
         ensures { IfOk result (λ room. room ≡ None) }
     {
         Ok(RequestRoom {
-            room: vec![in alloc; 0; LONGEST]?,
-            count: 0,
+            room: Vec::with_capacity(alloc, LONGEST)?,
             is_kept: false,
         })
     }
@@ -45,9 +43,10 @@ impl RequestRoom {
         requires { length bytes.now ≤ 2064 }
         ensures { self.new ≡ Some bytes.now }
     {
-        let count = bytes.len();
-        self.room[0..count].copy_from_slice(bytes);
-        self.count = count;
+        self.room.clear();
+        let Ok(()) = self.room.extend_from_slice(bytes) else {
+            unreachable!()
+        };
         self.is_kept = true;
     }
 
@@ -62,7 +61,7 @@ impl RequestRoom {
     pub(crate) fn is(&self, bytes: &[u8]) -> bool
         ensures { result ≡ is_last self.now bytes.now }
     {
-        self.is_kept && &self.room[0..self.count] == bytes
+        self.is_kept && self.room.as_slice() == bytes
     }
 
     /// Whether a request is kept and has these bytes with this label, below 64, in them.
@@ -72,7 +71,7 @@ impl RequestRoom {
         requires small { number < 64 }
         ensures { result ≡ is_last self.now (with_label number bytes.now) }
     {
-        self.is_kept && has_label(&self.room[0..self.count], bytes, number)
+        self.is_kept && has_label(self.room.as_slice(), bytes, number)
     }
 }
 

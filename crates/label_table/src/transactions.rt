@@ -179,9 +179,7 @@ impl<P: Copy> Transactions<P> {
         requires rcode { rcode < 2 ^ 4 }
         ensures { self.new ≡ record self.old { filter = remember_step self.old.filter source bytes.now rcode } }
     {
-        if self.seen.judge(source, bytes) != Verdict::Crowded {
-            self.seen.remember(source, bytes, rcode);
-        }
+        self.seen.remember_if_room(source, bytes, rcode);
     }
 
     /// Asks a peer, for something: the canonical request, with the label that `Labels::begin` gives it.

@@ -39,6 +39,17 @@ held_more (slot ∷ slots) [] (suc i) h e = refl
 held_more (slot ∷ slots) (memory ∷ memories) (suc i) h e =
     ap (λ (l : List SlotMemory). closed_slot slot memory ∷ l) (held_more slots memories i (omega arith) e)
 
+slot_unarmed : (slot : Slot) (memory : SlotMemory) → memory.is_armed ≡ false → closed_slot slot memory ≡ memory
+slot_unarmed slot memory e = ap (λ (b : Bool). record memory { is_armed = b && not (is_free slot) }) e ∙ ap (λ (b : Bool). record memory { is_armed = b }) (sym e)
+
+unarmed_more : (slots : List Slot) (memories : List SlotMemory) (i : ℕ) → i < length slots → (get_or memories i empty_slot).is_armed ≡ false → closed_slots (take i slots) memories ≡ closed_slots (take (suc i) slots) memories
+unarmed_more [] memories i h e = absurd (omega arith)
+unarmed_more (slot ∷ slots) [] zero h e = refl
+unarmed_more (slot ∷ slots) (memory ∷ memories) zero h e = ap (λ (m : SlotMemory). m ∷ memories) (sym (slot_unarmed slot memory e))
+unarmed_more (slot ∷ slots) [] (suc i) h e = refl
+unarmed_more (slot ∷ slots) (memory ∷ memories) (suc i) h e =
+    ap (λ (l : List SlotMemory). closed_slot slot memory ∷ l) (unarmed_more slots memories i (omega arith) e)
+
 pub closed_none : (slots : List Slot) (m : Memory) → closed (take 0 slots) m ≡ m
 unfolding closed
 closed_none slots m = refl
@@ -55,6 +66,13 @@ unfolding closed
 closed_held slots m i h e =
     let n : suc i ≡ i + 1 = omega arith in
     ap (λ (l : List SlotMemory). record m { slots = l }) (held_more slots m.slots i h e)
+    ∙ ap (λ (k : ℕ). record m { slots = closed_slots (take k slots) m.slots }) n
+
+pub closed_unarmed : (slots : List Slot) (m : Memory) (i : ℕ) → i < length slots → (slot_at m i).is_armed ≡ false → closed (take i slots) m ≡ closed (take (i + 1) slots) m
+unfolding closed
+closed_unarmed slots m i h e =
+    let n : suc i ≡ i + 1 = omega arith in
+    ap (λ (l : List SlotMemory). record m { slots = l }) (unarmed_more slots m.slots i h e)
     ∙ ap (λ (k : ℕ). record m { slots = closed_slots (take k slots) m.slots }) n
 
 -- Each slot for itself.

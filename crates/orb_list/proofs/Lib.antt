@@ -2,6 +2,7 @@ pub mod Places
 pub mod Quads
 pub mod Searches
 pub mod Closed
+pub mod Freeing
 pub mod Sound
 pub mod Held
 pub mod Tied

@@ -1,5 +1,5 @@
 ghost use Rattle.std.specs.Prelude.{◌≡◌};
-ghost use Rattle.orb_list.specs.Table.{freed, is_free, is_over, is_pinned, next_is_linked, over_for, released, rested, state_after, unused, waiting};
+ghost use Rattle.orb_list.specs.Table.{freed, is_free, is_over, is_pinned, next_is_linked, over_for, rested, state_after, unused, waiting};
 
 use crate::list::{Link, PresentList};
 use crate::ticket::Ticket;
@@ -53,20 +53,9 @@ impl Slot {
         }
     }
 
-    /// Frees the slot where its ORB is over in the present list.
-    #[tactic(auto, unfolding(crate::specs::Table::released))]
-    pub(crate) fn release(&mut self, present: &Option<PresentList>, pinned: &Option<Ticket>)
-        ensures { self.new ≡ released present.now pinned.now self.old }
-    {
-        match present {
-            Some(list) if self.is_over(list, pinned) => self.state = SlotState::Free,
-            _ => {}
-        }
-    }
-
     /// Whether the ORB of the slot is over: its status was taken, the ORB behind it is linked, its src
     /// was 0 or the status of a later ORB was taken, and it is not pinned.
-    fn is_over(&self, list: &PresentList, pinned: &Option<Ticket>) -> bool
+    pub(crate) fn is_over(&self, list: &PresentList, pinned: &Option<Ticket>) -> bool
         ensures { result ≡ is_over list.now pinned.now self.now }
     {
         match self.state {

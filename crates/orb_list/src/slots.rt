@@ -420,11 +420,13 @@ impl Slots {
 
     /// Frees each slot whose ORB is over.
     fn sweep(&mut self, image: &mut Image)
+        requires { HoldsSlots self.old.slots image.old }
         ensures swept { (self.new, image.new) ≡ sweep self.old image.old }
-        ensures kept { HoldsSlots self.old.slots image.old → HoldsSlots self.new.slots image.new }
+        ensures kept { HoldsSlots self.new.slots image.new }
     {
-        release_all(&mut self.slots, &self.present, &self.pinned);
-        close(&self.slots, image);
+        if let Some(list) = &self.present {
+            free_over(&mut self.slots, list, &self.pinned, image);
+        }
     }
 }
 
@@ -459,12 +461,18 @@ fn find_in(slots: &[Slot], number: u32) -> Option<Ticket>
     None
 }
 
-/// Frees each slot whose ORB is over.
-fn release_all(slots: &mut [Slot], present: &Option<PresentList>, pinned: &Option<Ticket>)
-    ensures { slots.new ≡ map (released present.now pinned.now) slots.old }
+/// Frees each slot whose ORB is over in a list. The image, which holds the slots, frees the same ones.
+fn free_over(slots: &mut [Slot], list: &PresentList, pinned: &Option<Ticket>, image: &mut Image)
+    requires size { length slots.old ≡ 32 }
+    requires holds { HoldsSlots slots.old image.old }
+    ensures slots { slots.new ≡ map (released (Some list.now) pinned.now) slots.old }
+    ensures image { image.new ≡ closed (map (released (Some list.now) pinned.now) slots.old) image.old }
 {
-    for slot in slots.iter_mut() {
-        slot.release(present, pinned);
+    for number in 0..SLOTS {
+        if slots[number].is_over(list, pinned) {
+            slots[number].state = SlotState::Free;
+            image.free(number as u8);
+        }
     }
 }
 

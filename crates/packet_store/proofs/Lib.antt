@@ -1,3 +1,4 @@
+pub mod Roles
 pub mod Orders
 pub mod Rings
 pub mod Rows

@@ -1,5 +1,5 @@
 -- The part of a packet in a transaction (IEEE 1394-1995, transaction layer).
-use Rattle.std.specs.Prelude.{ℕ, List, Result, Ok, Err}
+use Rattle.std.specs.Prelude.{ℕ, ◌==◌, Bool, true, false, if◌then◌else◌, List, Result, Ok, Err}
 use Rattle.async_packet.specs.declared.fault.PacketFault.{PacketFault}
 use Rattle.async_packet.specs.Packet.{Packet, write_quadlet, write_block, write_response, read_quadlet, read_block, read_quadlet_response, read_block_response, lock, lock_response}
 use Rattle.async_packet.specs.Reading.{reading}
@@ -26,3 +26,16 @@ role_by (Err fault) = NoPacket
 -- the role of bytes
 unfoldable pub role_of : List ℕ → Role
 role_of bytes = role_by (reading bytes)
+
+-- the tcodes of requests
+abbrev pub asks : ℕ → Bool
+asks tcode =
+    if tcode == 0 then true
+    else if tcode == 1 then true
+    else if tcode == 2 then false
+    else if tcode == 4 then true
+    else if tcode == 5 then true
+    else if tcode == 6 then false
+    else if tcode == 7 then false
+    else if tcode == 9 then true
+    else false

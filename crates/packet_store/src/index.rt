@@ -70,6 +70,7 @@ impl Index {
     }
 
     /// Removes a serial under a transaction.
+    #[inline(always)]
     #[tactic(auto, unfolding(crate::specs::Indexes::has))]
     pub(crate) fn remove(&mut self, transaction: Transaction, serial: u64)
         ensures { (t : Transaction) (q : ℕ) → has self.new t q ≡ (not (is_same transaction t && (serial == q)) && has self.old t q) }

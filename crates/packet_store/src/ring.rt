@@ -87,6 +87,7 @@ impl Ring {
     }
 
     /// The packet of a serial.
+    #[inline(always)]
     #[tactic(auto, unfolding(crate::specs::Rings::holds))]
     pub(crate) fn get(&self, serial: u64) -> Option<&Kept>
         ensures { option_copied result ≡ holds self.now serial }
@@ -137,6 +138,9 @@ impl Ring {
         ensures size { length self.new.slots.items ≡ length self.old.slots.items }
         ensures free { OnOk result (slot self.new.slots.items at ≡ None) }
     {
+        if self.slots[at].is_none() {
+            return Ok(());
+        }
         if let Some(kept) = self.slots[at].take() {
             if let Err(refused) = self.older.insert(kept.serial, kept) {
                 let (_, kept) = refused.value;

@@ -1,8 +1,7 @@
 ghost use Rattle.std.specs.Prelude.{◌≡◌};
-ghost use Rattle.async_packet.specs.Packet.{view};
-ghost use Rattle.packet_store.specs.Roles.{role_of, role_in};
+ghost use Rattle.packet_store.specs.Roles.{asks, role_of};
 
-use async_packet::{PacketRef, decode};
+use async_packet::{judge, label_at, tcode_at};
 
 /// What bytes are in a transaction: its request, a response to it, each with its label, or no packet.
 #[derive(Clone, Copy)]
@@ -12,30 +11,29 @@ pub enum Role {
     NoPacket,
 }
 
-/// The role of bytes.
-#[tactic(auto, unfolding(crate::specs::Roles::role_of))]
+/// The role of bytes. Of a packet its tcode and its label alone are read.
+#[inline(always)]
+#[tactic(auto, using(crate::proofs::Roles::long_without_fault, crate::proofs::Roles::role_of_fault, crate::proofs::Roles::role_of_request, crate::proofs::Roles::role_of_response))]
 pub(crate) fn role_of(bytes: &[u8]) -> Role
     ensures { result ≡ role_of bytes.now }
 {
-    match decode(bytes) {
-        Err(_) => Role::NoPacket,
-        Ok(packet) => role_in(&packet),
+    if judge(bytes).is_some() {
+        return Role::NoPacket;
+    }
+    let label = label_at(bytes);
+    if asks(tcode_at(bytes)) {
+        Role::Request(label)
+    } else {
+        Role::Response(label)
     }
 }
 
-/// The role of a packet.
-fn role_in(packet: &PacketRef<'_>) -> Role
-    ensures { result ≡ role_in (view packet.now) }
+/// Whether packets of this tcode are requests.
+fn asks(tcode: u8) -> bool
+    ensures { result ≡ asks tcode }
 {
-    match packet {
-        PacketRef::WriteQuadlet { header, .. } => Role::Request(header.label),
-        PacketRef::WriteBlock { header, .. } => Role::Request(header.label),
-        PacketRef::WriteResponse { header, .. } => Role::Response(header.label),
-        PacketRef::ReadQuadlet { header, .. } => Role::Request(header.label),
-        PacketRef::ReadBlock { header, .. } => Role::Request(header.label),
-        PacketRef::ReadQuadletResponse { header, .. } => Role::Response(header.label),
-        PacketRef::ReadBlockResponse { header, .. } => Role::Response(header.label),
-        PacketRef::Lock { header, .. } => Role::Request(header.label),
-        PacketRef::LockResponse { header, .. } => Role::Response(header.label),
+    match tcode {
+        0 | 1 | 4 | 5 | 9 => true,
+        _ => false,
     }
 }

@@ -63,7 +63,7 @@ fn below_in(cell: &Option<Place>, transaction: &Transaction, end: u64) -> Option
 {
     match cell {
         Some(here) => {
-            if is_same(&here.transaction, transaction) && here.serial < end {
+            if here.serial < end && is_same(&here.transaction, transaction) {
                 Some(here.serial)
             } else {
                 None

@@ -39,6 +39,7 @@ impl Tables {
     }
 
     /// Takes out the packet of a serial, but for its place in the index.
+    #[inline(always)]
     fn discard(&mut self, serial: u64)
         ensures shelf { self.new.shelf ≡ without serial self.old.shelf }
         ensures index { self.new.index ≡ self.old.index }

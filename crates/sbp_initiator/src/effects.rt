@@ -27,6 +27,7 @@ const ADDRESS: u8 = 7;
 const LARGEST: u32 = 256;
 
 /// Tells a note of the initiator.
+#[inline(always)]
 pub(crate) fn tell(outbox: &mut Outbox, note: Note) -> Result<(), NoMemory>
     ensures { OnOk result (outbox.new ≡ told outbox.old note) }
 {

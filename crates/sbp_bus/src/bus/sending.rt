@@ -51,8 +51,10 @@ impl Bus {
         }
     }
 
-    /// Puts a packet in flight, with the generation that its sender knows, and tells it; its serial. Want
-    /// of memory is answered too where the store counts no further call.
+    /// Puts a packet in flight, with the generation that its sender knows, and tells it; its serial. The
+    /// store keeps the copy, whose room serves for one packet after another. Want of memory is answered
+    /// too where the store counts no further call.
+    #[inline(always)]
     fn post(&mut self, from: u8, to: u8, injected: bool, bytes: Bytes) -> Result<u64, NoMemory>
         requires { from < length self.old.generations.seen }
         ensures posted { OnOk result (self.new ≡ posted from to injected bytes self.old) }
@@ -68,7 +70,7 @@ impl Bus {
             generation,
             from,
             to,
-            bytes,
+            bytes: copy,
             injected,
         })?;
         self.last = serial;
@@ -80,7 +82,7 @@ impl Bus {
             generation: generation.number(),
             from,
             to,
-            bytes: copy,
+            bytes,
         })?;
         Ok(serial)
     }
