@@ -3,7 +3,7 @@ ghost use Rattle.std.specs.Fmt.{decimal};
 ghost use Rattle.hex.specs.Hex.{encode_upper};
 
 use crate::pairs::{digit, pair, two_pairs};
-use crate::words::put_digits;
+use crate::words::{copy_digits, put_digits};
 use std::marker::Model;
 
 /// How many bytes the room has.
@@ -79,7 +79,7 @@ impl Room {
         ensures count { length self.new ≡ length self.old + length bytes.now }
     {
         let end = self.count + bytes.len();
-        self.bytes[self.count..end].copy_from_slice(bytes);
+        put_bytes(bytes, &mut self.bytes[self.count..end]);
         self.count = end;
     }
 
@@ -105,6 +105,29 @@ impl Room {
         self.push_hexadecimal(bytes);
     }
 
+    /// The same of a few bytes, whose digits are copied one by one.
+    #[inline(always)]
+    pub fn push_few_digits(&mut self, bytes: &[u8])
+        requires { length self.old + 1 + 2 * length bytes.now ≤ 1024 }
+        ensures text { self.new ≡ self.old ++ 32 ∷ encode_upper bytes.now }
+        ensures count { length self.new ≡ length self.old + 1 + 2 * length bytes.now }
+    {
+        self.push_byte(b' ');
+        self.push_copied_digits(bytes);
+    }
+
+    /// Adds a few bytes as digits, which are copied one by one.
+    #[inline(always)]
+    fn push_copied_digits(&mut self, bytes: &[u8])
+        requires { length self.old + 2 * length bytes.now ≤ 1024 }
+        ensures text { self.new ≡ self.old ++ encode_upper bytes.now }
+        ensures count { length self.new ≡ length self.old + 2 * length bytes.now }
+    {
+        let end = self.count + 2 * bytes.len();
+        copy_digits(bytes, &mut self.bytes[self.count..end]);
+        self.count = end;
+    }
+
     /// Adds bytes as digits, two for each.
     #[inline(always)]
     pub fn push_hexadecimal(&mut self, bytes: &[u8])
@@ -128,19 +151,9 @@ impl Room {
         if number < 10 {
             self.push(&[b' ', digit(number as u16)]);
         } else {
-            self.push_long_number(number);
+            self.push_byte(b' ');
+            self.push_decimal(number);
         }
-    }
-
-    /// The same of any number. It stands apart, so that a single digit needs no call.
-    #[inline(never)]
-    fn push_long_number(&mut self, number: u64)
-        requires { length self.old + 21 ≤ 1024 }
-        ensures text { self.new ≡ self.old ++ 32 ∷ decimal number }
-        ensures few { length self.new ≤ length self.old + 21 }
-    {
-        self.push_byte(b' ');
-        self.push_decimal(number);
     }
 
     /// Adds a number in decimal.
@@ -192,5 +205,17 @@ impl Room {
     {
         let mut digits = itoa::Buffer::new();
         self.push(digits.format(number).as_bytes());
+    }
+}
+
+/// Copies bytes from the first one on. They are no part of where they go, so their order need not be
+/// looked at.
+#[inline(always)]
+fn put_bytes(bytes: &[u8], to: &mut [u8])
+    requires { length to.old ≡ length bytes.now }
+    ensures { to.new ≡ bytes.now }
+{
+    for at in 0..bytes.len() {
+        to[at] = bytes[at];
     }
 }

@@ -114,7 +114,7 @@ fn make_digits(bytes: &[u8], digits: &mut [u8])
 }
 
 /// Copies the digits of bytes from the table, two for each.
-fn copy_digits(bytes: &[u8], digits: &mut [u8])
+pub(crate) fn copy_digits(bytes: &[u8], digits: &mut [u8])
     requires { length digits.old ≡ 2 * length bytes.now }
     ensures { digits.new ≡ encode_upper bytes.now }
 {

@@ -155,7 +155,7 @@ pub(crate) fn push_status(room: &mut Room, status: StatusKind)
         StatusKind::Aborted => room.push_name("aborted"),
         StatusKind::Illegal(meaning) => {
             room.push_name("illegal");
-            room.push_digits(&[meaning]);
+            room.push_few_digits(&[meaning]);
         }
         StatusKind::Failed => room.push_name("failed"),
         StatusKind::Management(_) => unreachable!(),
@@ -213,7 +213,7 @@ pub(crate) fn push_end(room: &mut Room, end: OpWord)
         OpWord::Done => room.push_name("done"),
         OpWord::Refused(status) => {
             room.push_name("refused");
-            room.push_digits(&[status]);
+            room.push_few_digits(&[status]);
         }
         OpWord::Conflict => room.push_name("conflict"),
         OpWord::Error => room.push_name("error"),

@@ -335,7 +335,7 @@ fn push_list(room: &mut Room, keyword: &[u8], initiator: u8, list: Option<u32>, 
 }
 
 /// Adds the words of a packet that was sent.
-#[inline(never)]
+#[inline(always)]
 fn push_sent(
     out: &mut Bytes,
     room: &mut Room,
@@ -373,7 +373,7 @@ fn push_append(
 {
     room.push(b"append");
     push_orb(room, initiator, list, orb);
-    room.push_digits(cdb.as_slice());
+    room.push_few_digits(cdb.as_slice());
     push_buffer(alloc, out, room, buffer)
 }
 
@@ -398,7 +398,7 @@ fn push_ran(
     room.push(b"ran");
     push_named(room, initiator, list, orb);
     push_unit(room, unit);
-    room.push_digits(cdb.as_slice());
+    room.push_few_digits(cdb.as_slice());
     push_canonical(alloc, out, room, bytes)?;
     push_check(room, check);
     Ok(())
@@ -460,7 +460,7 @@ fn push_managed(
     room.push_number(u64::from(initiator));
     room.push_name(function_text(function));
     room.push_number(u64::from(subject));
-    room.push_digits(&[status]);
+    room.push_few_digits(&[status]);
     push_login(room, login);
 }
 
