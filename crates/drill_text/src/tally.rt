@@ -6,10 +6,9 @@ ghost use Rattle.drill_text.specs.Tally.{tally_of};
 ghost use Rattle.drill_text.specs.Tally as spec;
 
 use crate::sums::PairSums;
-use line_text::LineWriter;
 use orb_layout::StatusKind;
 use sbp_base::{Bytes, NoMemory};
-use sbp_journal::{Note, put_note};
+use sbp_journal::{LineWriter, Note, put_note};
 use std::alloc::Global;
 use std::marker::Model;
 

@@ -1,2 +1,2 @@
 mod Decimals
-mod Hexadecimal
+pub mod Hexadecimal

@@ -1,17 +1,18 @@
 ghost use Rattle.std.specs.Prelude.{◌≡◌, ◌*◌, ◌+◌, ◌<◌, ◌≤◌, ◌/◌, ◌%◌, ◌∷◌, ◌++◌, [], length, IsTrue};
 ghost use Rattle.std.specs.Fmt.{decimal};
 ghost use Rattle.hex.specs.Hex.{encode_upper};
-ghost use Rattle.line_text.specs.Pairs.{all_pairs};
 
-use crate::words::put_digits;
+use crate::pairs::{digit, pair, two_pairs};
+use crate::words::{copy_digits, put_digits};
 use std::marker::Model;
 
 /// How many bytes the room has.
-pub(crate) const ROOM: usize = 256;
+const ROOM: usize = 1024;
 
-/// Room for the last few bytes of a line. Bytes are put into it without any being asked for.
+/// Room for the last few bytes of some lines. Bytes are put into it without any being asked for, and a
+/// caller sees once for many words that they have room.
 #[derive(Drop)]
-pub(crate) struct Room {
+pub struct Room {
     bytes: [u8; ROOM],
     count: usize,
 }
@@ -23,12 +24,12 @@ impl Model for Room {
 
     ghost view = { λ room. take room.count room.bytes };
 
-    ghost invariant = { λ room. room.count ≤ 256 };
+    ghost invariant = { λ room. room.count ≤ 1024 };
 }
 
 impl Room {
     /// No bytes.
-    pub(crate) fn new() -> Room
+    pub fn new() -> Room
         ensures { result ≡ [] }
     {
         Room {
@@ -38,21 +39,22 @@ impl Room {
     }
 
     /// Whether so many more bytes have room.
-    pub(crate) fn takes(&self, more: usize) -> bool
-        ensures { IsTrue result → length self.now + more ≤ 256 }
+    #[inline(always)]
+    pub fn takes(&self, more: usize) -> bool
+        ensures { IsTrue result → length self.now + more ≤ 1024 }
     {
         more <= ROOM - self.count
     }
 
     /// The bytes, lent.
-    pub(crate) fn as_slice(&self) -> &[u8]
+    pub fn as_slice(&self) -> &[u8]
         ensures { result.now ≡ self.now }
     {
         &self.bytes[0..self.count]
     }
 
     /// Removes all bytes.
-    pub(crate) fn clear(&mut self)
+    pub fn clear(&mut self)
         ensures { self.new ≡ [] }
     {
         self.count = 0;
@@ -60,9 +62,10 @@ impl Room {
 
     /// Adds a byte.
     #[inline(always)]
-    pub(crate) fn push_byte(&mut self, byte: u8)
-        requires { length self.old < 256 }
-        ensures { self.new ≡ self.old ++ byte ∷ [] }
+    pub fn push_byte(&mut self, byte: u8)
+        requires { length self.old < 1024 }
+        ensures text { self.new ≡ self.old ++ byte ∷ [] }
+        ensures count { length self.new ≡ length self.old + 1 }
     {
         self.bytes[self.count] = byte;
         self.count += 1;
@@ -70,91 +73,149 @@ impl Room {
 
     /// Adds bytes.
     #[inline(always)]
-    pub(crate) fn push(&mut self, bytes: &[u8])
-        requires { length self.old + length bytes.now ≤ 256 }
-        ensures { self.new ≡ self.old ++ bytes.now }
+    pub fn push(&mut self, bytes: &[u8])
+        requires { length self.old + length bytes.now ≤ 1024 }
+        ensures text { self.new ≡ self.old ++ bytes.now }
+        ensures count { length self.new ≡ length self.old + length bytes.now }
     {
         let end = self.count + bytes.len();
-        self.bytes[self.count..end].copy_from_slice(bytes);
+        put_bytes(bytes, &mut self.bytes[self.count..end]);
+        self.count = end;
+    }
+
+    /// Adds a blank and a word.
+    #[inline(always)]
+    pub fn push_name(&mut self, name: &str)
+        requires { length self.old + 1 + length name.now ≤ 1024 }
+        ensures text { self.new ≡ self.old ++ 32 ∷ name.now }
+        ensures count { length self.new ≡ length self.old + 1 + length name.now }
+    {
+        self.push_byte(b' ');
+        self.push(name.as_bytes());
+    }
+
+    /// Adds a blank and bytes as digits, two for each.
+    #[inline(always)]
+    pub fn push_digits(&mut self, bytes: &[u8])
+        requires { length self.old + 1 + 2 * length bytes.now ≤ 1024 }
+        ensures text { self.new ≡ self.old ++ 32 ∷ encode_upper bytes.now }
+        ensures count { length self.new ≡ length self.old + 1 + 2 * length bytes.now }
+    {
+        self.push_byte(b' ');
+        self.push_hexadecimal(bytes);
+    }
+
+    /// The same of a few bytes, whose digits are copied one by one.
+    #[inline(always)]
+    pub fn push_few_digits(&mut self, bytes: &[u8])
+        requires { length self.old + 1 + 2 * length bytes.now ≤ 1024 }
+        ensures text { self.new ≡ self.old ++ 32 ∷ encode_upper bytes.now }
+        ensures count { length self.new ≡ length self.old + 1 + 2 * length bytes.now }
+    {
+        self.push_byte(b' ');
+        self.push_copied_digits(bytes);
+    }
+
+    /// Adds a few bytes as digits, which are copied one by one.
+    #[inline(always)]
+    fn push_copied_digits(&mut self, bytes: &[u8])
+        requires { length self.old + 2 * length bytes.now ≤ 1024 }
+        ensures text { self.new ≡ self.old ++ encode_upper bytes.now }
+        ensures count { length self.new ≡ length self.old + 2 * length bytes.now }
+    {
+        let end = self.count + 2 * bytes.len();
+        copy_digits(bytes, &mut self.bytes[self.count..end]);
         self.count = end;
     }
 
     /// Adds bytes as digits, two for each.
-    pub(crate) fn push_hexadecimal(&mut self, bytes: &[u8])
-        requires { length self.old + 2 * length bytes.now ≤ 256 }
-        ensures { self.new ≡ self.old ++ encode_upper bytes.now }
+    #[inline(always)]
+    pub fn push_hexadecimal(&mut self, bytes: &[u8])
+        requires { length self.old + 2 * length bytes.now ≤ 1024 }
+        ensures text { self.new ≡ self.old ++ encode_upper bytes.now }
+        ensures count { length self.new ≡ length self.old + 2 * length bytes.now }
     {
         let end = self.count + 2 * bytes.len();
         put_digits(bytes, &mut self.bytes[self.count..end]);
         self.count = end;
     }
 
+    /// Adds a blank and a number in decimal. Most numbers of a line have one digit.
+    #[tactic(auto, using(std::proofs::lemmas::Fmt::decimal_digit))]
+    #[inline(always)]
+    pub fn push_number(&mut self, number: u64)
+        requires { length self.old + 21 ≤ 1024 }
+        ensures text { self.new ≡ self.old ++ 32 ∷ decimal number }
+        ensures few { length self.new ≤ length self.old + 21 }
+    {
+        if number < 10 {
+            self.push(&[b' ', digit(number as u16)]);
+        } else {
+            self.push_byte(b' ');
+            self.push_decimal(number);
+        }
+    }
+
     /// Adds a number in decimal.
-    #[tactic(auto, using(crate::proofs::Decimals::front_and_four))]
-    pub(crate) fn push_decimal(&mut self, number: u64)
-        requires { length self.old + length (decimal number) ≤ 256 }
-        ensures { self.new ≡ self.old ++ decimal number }
+    #[tactic(auto, using(crate::proofs::Decimals::digits_few, crate::proofs::Decimals::front_and_four))]
+    #[inline(always)]
+    pub fn push_decimal(&mut self, number: u64)
+        requires { length self.old + 20 ≤ 1024 }
+        ensures text { self.new ≡ self.old ++ decimal number }
+        ensures few { length self.new ≤ length self.old + 20 }
     {
         if number < 10_000 {
             self.push_short(number as u16);
-        } else {
-            self.push_decimal(number / 10_000);
+        } else if number < 100_000_000 {
+            self.push_short((number / 10_000) as u16);
             self.push(&two_pairs((number % 10_000) as u16));
+        } else {
+            self.push_longest(number);
         }
     }
 
     /// Adds a number of one to four digits in decimal.
     #[tactic(auto, using(std::proofs::lemmas::Fmt::decimal_digit, crate::proofs::Decimals::two_digits, crate::proofs::Decimals::three_digits, crate::proofs::Decimals::four_digits))]
+    #[inline(always)]
     fn push_short(&mut self, number: u16)
         requires small { number < 10000 }
-        requires room { length self.old + length (decimal number) ≤ 256 }
-        ensures { self.new ≡ self.old ++ decimal number }
+        requires room { length self.old + 4 ≤ 1024 }
+        ensures text { self.new ≡ self.old ++ decimal number }
+        ensures few { length self.new ≤ length self.old + 4 }
     {
-        if number < 10 {
-            self.push_byte(digit(number));
-        } else if number < 100 {
-            self.push(&pair(number));
-        } else if number < 1000 {
+        if number >= 1000 {
+            self.push(&two_pairs(number));
+        } else if number >= 100 {
             let [tens, ones] = pair(number % 100);
             self.push(&[digit(number / 100), tens, ones]);
+        } else if number >= 10 {
+            self.push(&pair(number));
         } else {
-            self.push(&two_pairs(number));
+            self.push_byte(digit(number));
         }
+    }
+
+    /// Adds a number of any length in decimal.
+    #[tactic(auto, using(crate::proofs::Decimals::digits_few))]
+    #[inline(never)]
+    fn push_longest(&mut self, number: u64)
+        requires { length self.old + 20 ≤ 1024 }
+        ensures text { self.new ≡ self.old ++ decimal number }
+        ensures few { length self.new ≤ length self.old + 20 }
+    {
+        let mut digits = itoa::Buffer::new();
+        self.push(digits.format(number).as_bytes());
     }
 }
 
-/// The decimal digit of a number below ten.
-fn digit(number: u16) -> u8
-    requires { number < 10 }
-    ensures { result ≡ 48 + number }
+/// Copies bytes from the first one on. They are no part of where they go, so their order need not be
+/// looked at.
+#[inline(always)]
+fn put_bytes(bytes: &[u8], to: &mut [u8])
+    requires { length to.old ≡ length bytes.now }
+    ensures { to.new ≡ bytes.now }
 {
-    b'0' + number as u8
-}
-
-/// The two decimal digits of each number below a hundred.
-fn pairs() -> &'static [u8; 200]
-    ensures { result.now ≡ all_pairs }
-{
-    b"00010203040506070809101112131415161718192021222324252627282930313233343536373839404142434445464748495051525354555657585960616263646566676869707172737475767778798081828384858687888990919293949596979899"
-}
-
-/// The two decimal digits of a number below a hundred.
-#[tactic(auto, using(crate::proofs::Decimals::tens_at, crate::proofs::Decimals::ones_at))]
-fn pair(number: u16) -> [u8; 2]
-    requires { number < 100 }
-    ensures { result ≡ (48 + number / 10) ∷ (48 + number % 10) ∷ [] }
-{
-    let at = 2 * usize::from(number);
-    let pairs = pairs();
-    [pairs[at], pairs[at + 1]]
-}
-
-/// The four decimal digits of a number below ten thousand.
-fn two_pairs(number: u16) -> [u8; 4]
-    requires { number < 10000 }
-    ensures { result ≡ (48 + number / 100 / 10) ∷ (48 + number / 100 % 10) ∷ (48 + number % 100 / 10) ∷ (48 + number % 100 % 10) ∷ [] }
-{
-    let [thousands, hundreds] = pair(number / 100);
-    let [tens, ones] = pair(number % 100);
-    [thousands, hundreds, tens, ones]
+    for at in 0..bytes.len() {
+        to[at] = bytes[at];
+    }
 }

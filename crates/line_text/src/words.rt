@@ -3,10 +3,14 @@ ghost use Rattle.std.specs.Fmt.{decimal};
 ghost use Rattle.hex.specs.Hex.{encode_upper, upper_digits};
 ghost use Rattle.line_text.specs.Fields.{Field, word};
 
+use crate::pairs::byte_pair;
 use sbp_base::{Bytes, NoMemory};
 
 /// How many bytes are made digits at a time.
 const PIECE: usize = 64;
+
+/// How many bytes are made digits in one step.
+const BLOCK: usize = 8;
 
 /// Adds a blank and a word.
 pub fn push_name(out: &mut Bytes, name: &str) -> Result<(), NoMemory>
@@ -86,8 +90,19 @@ fn digit(number: u8) -> u8
     b'0' + number + letters
 }
 
-/// Writes the digits of bytes, two for each.
+/// Writes the digits of bytes, two for each: those of whole blocks are made, and those of the other
+/// bytes stand in a table.
 pub(crate) fn put_digits(bytes: &[u8], digits: &mut [u8])
+    requires { length digits.old ≡ 2 * length bytes.now }
+    ensures { digits.new ≡ encode_upper bytes.now }
+{
+    let whole = bytes.len() - bytes.len() % BLOCK;
+    make_digits(&bytes[..whole], &mut digits[..2 * whole]);
+    copy_digits(&bytes[whole..], &mut digits[2 * whole..]);
+}
+
+/// Makes the digits of bytes, two for each.
+fn make_digits(bytes: &[u8], digits: &mut [u8])
     requires { length digits.old ≡ 2 * length bytes.now }
     ensures { digits.new ≡ encode_upper bytes.now }
 {
@@ -95,6 +110,18 @@ pub(crate) fn put_digits(bytes: &[u8], digits: &mut [u8])
         let byte = bytes[at];
         digits[2 * at] = digit(byte / 16);
         digits[2 * at + 1] = digit(byte % 16);
+    }
+}
+
+/// Copies the digits of bytes from the table, two for each.
+pub(crate) fn copy_digits(bytes: &[u8], digits: &mut [u8])
+    requires { length digits.old ≡ 2 * length bytes.now }
+    ensures { digits.new ≡ encode_upper bytes.now }
+{
+    for at in 0..bytes.len() {
+        let [high, low] = byte_pair(bytes[at]);
+        digits[2 * at] = high;
+        digits[2 * at + 1] = low;
     }
 }
 

@@ -1,229 +1,233 @@
-ghost use Rattle.std.specs.Prelude.{◌≡◌, ◌<◌, ◌∷◌, ◌++◌, [], OnOk, slice_index};
+ghost use Rattle.std.specs.Prelude.{◌≡◌, ◌+◌, ◌<◌, ◌≤◌, ◌∷◌, ◌++◌, [], OnOk, length, slice_index};
 ghost use Rattle.hex.specs.Hex.{upper_digits};
-ghost use Rattle.sbp_journal.specs.Form.{IsSense, IsStatus, IsAnswer, IsCheck};
+ghost use Rattle.sbp_journal.specs.Form.{IsSense, IsStatus, IsCheck};
 ghost use Rattle.line_text.specs.Fields.{Field, word, further, sense_word};
-ghost use Rattle.sbp_journal.specs.Text.{orb_fields, named_fields, work_fields, buffer_fields, status_fields, check_fields, answer_fields, end_fields, login_fields};
+ghost use Rattle.sbp_journal.specs.Text.{orb_fields, named_fields, buffer_fields, status_fields, check_fields, answer_fields, end_fields, login_fields};
 
 use crate::canonical::canonical_text;
 use crate::note::NoteBuffer;
 use crate::operation::OpWord;
-use line_text::LineWriter;
+use crate::writer::{make_room, push_any_name};
+use line_text::Room;
 use orb_layout::StatusKind;
 use rbc_command::Sense;
-use sbp_base::NoMemory;
+use sbp_base::{Bytes, NoMemory};
 use std::alloc::Global;
 
 /// Adds `INITIATOR LIST ORB`.
-pub(crate) fn push_orb(
-    out: &mut LineWriter,
-    initiator: u8,
-    list: u32,
-    orb: u32,
-) -> Result<(), NoMemory>
-    ensures { OnOk result (out.new ≡ out.old ++ further (orb_fields initiator list orb)) }
+#[inline(always)]
+pub(crate) fn push_orb(room: &mut Room, initiator: u8, list: u32, orb: u32)
+    requires { length room.old + 63 ≤ 1024 }
+    ensures text { room.new ≡ room.old ++ further (orb_fields initiator list orb) }
+    ensures few { length room.new ≤ length room.old + 63 }
 {
-    out.push_number(u64::from(initiator))?;
-    out.push_number(u64::from(list))?;
-    out.push_number(u64::from(orb))
+    room.push_number(u64::from(initiator));
+    room.push_number(u64::from(list));
+    room.push_number(u64::from(orb));
 }
 
 /// Adds a number in decimal, or `-`.
-pub(crate) fn push_maybe(out: &mut LineWriter, number: Option<u32>) -> Result<(), NoMemory>
-    ensures { OnOk result (out.new ≡ out.old ++ 32 ∷ word (Field.maybe number)) }
+#[inline(always)]
+pub(crate) fn push_maybe(room: &mut Room, number: Option<u32>)
+    requires { length room.old + 21 ≤ 1024 }
+    ensures text { room.new ≡ room.old ++ 32 ∷ word (Field.maybe number) }
+    ensures few { length room.new ≤ length room.old + 21 }
 {
     match number {
-        None => out.push_name("-"),
-        Some(number) => out.push_number(u64::from(number)),
+        None => room.push_name("-"),
+        Some(number) => room.push_number(u64::from(number)),
     }
 }
 
 /// Adds `INITIATOR LIST ORB`, where a list and an ORB that are not known are `-`.
-pub(crate) fn push_named(
-    out: &mut LineWriter,
-    initiator: u8,
-    list: Option<u32>,
-    orb: Option<u32>,
-) -> Result<(), NoMemory>
-    ensures { OnOk result (out.new ≡ out.old ++ further (named_fields initiator list orb)) }
+#[inline(always)]
+pub(crate) fn push_named(room: &mut Room, initiator: u8, list: Option<u32>, orb: Option<u32>)
+    requires { length room.old + 63 ≤ 1024 }
+    ensures text { room.new ≡ room.old ++ further (named_fields initiator list orb) }
+    ensures few { length room.new ≤ length room.old + 63 }
 {
-    out.push_number(u64::from(initiator))?;
-    push_maybe(out, list)?;
-    push_maybe(out, orb)
-}
-
-/// Adds `INITIATOR LIST`, where a list that is not known is `-`, and a word.
-pub(crate) fn push_list(
-    out: &mut LineWriter,
-    initiator: u8,
-    list: Option<u32>,
-    cause: &str,
-) -> Result<(), NoMemory>
-    ensures { OnOk result (out.new ≡ out.old ++ further (Field.number initiator ∷ Field.maybe list ∷ Field.name cause.now ∷ [])) }
-{
-    out.push_number(u64::from(initiator))?;
-    push_maybe(out, list)?;
-    out.push_name(cause)
+    room.push_number(u64::from(initiator));
+    push_maybe(room, list);
+    push_maybe(room, orb);
 }
 
 /// Adds `t` for the target, node 0, or the number of the initiator.
-pub(crate) fn push_node(out: &mut LineWriter, node: u8) -> Result<(), NoMemory>
-    ensures { OnOk result (out.new ≡ out.old ++ 32 ∷ word (Field.node_name node)) }
+#[inline(always)]
+pub(crate) fn push_node(room: &mut Room, node: u8)
+    requires { length room.old + 21 ≤ 1024 }
+    ensures text { room.new ≡ room.old ++ 32 ∷ word (Field.node_name node) }
+    ensures few { length room.new ≤ length room.old + 21 }
 {
     if node == 0 {
-        return out.push_name("t");
+        room.push(b" t");
+    } else {
+        let initiator = node - 1;
+        room.push_number(u64::from(initiator));
     }
-    let initiator = node - 1;
-    out.push_number(u64::from(initiator))
 }
 
-/// Adds bytes in the canonical form.
-fn push_canonical(alloc: Global, out: &mut LineWriter, bytes: &[u8]) -> Result<(), NoMemory>
-    ensures { OnOk result (out.new ≡ out.old ++ 32 ∷ word (Field.bytes bytes.now)) }
-{
-    if bytes.is_empty() {
-        return out.push_name("-");
-    }
-    let text = canonical_text(alloc, bytes)?;
-    out.push_name(&text)
-}
-
-/// Adds `uUNIT CDB BYTES`.
-pub(crate) fn push_work(
+/// Adds bytes in the canonical form, and has room for a status behind them.
+pub(crate) fn push_canonical(
     alloc: Global,
-    out: &mut LineWriter,
-    unit: u8,
-    cdb: &[u8; 12],
+    out: &mut Bytes,
+    room: &mut Room,
     bytes: &[u8],
 ) -> Result<(), NoMemory>
-    ensures { OnOk result (out.new ≡ out.old ++ further (work_fields unit cdb.now bytes.now)) }
+    ensures text { OnOk result (out.new ++ room.new ≡ out.old ++ (room.old ++ 32 ∷ word (Field.bytes bytes.now))) }
+    ensures room { OnOk result (length room.new + 16 ≤ 1024) }
 {
-    push_unit(out, unit)?;
-    out.push_digits(cdb.as_slice())?;
-    push_canonical(alloc, out, bytes)
+    if bytes.is_empty() {
+        make_room(out, room, 18)?;
+        room.push_name("-");
+        return Ok(());
+    }
+    let text = canonical_text(alloc, bytes)?;
+    push_any_name(out, room, &text)?;
+    make_room(out, room, 16)
 }
 
 /// Adds `uUNIT`.
-fn push_unit(out: &mut LineWriter, unit: u8) -> Result<(), NoMemory>
-    ensures { OnOk result (out.new ≡ out.old ++ 32 ∷ word (Field.unit_name unit)) }
+#[inline(always)]
+pub(crate) fn push_unit(room: &mut Room, unit: u8)
+    requires { length room.old + 22 ≤ 1024 }
+    ensures text { room.new ≡ room.old ++ 32 ∷ word (Field.unit_name unit) }
+    ensures few { length room.new ≤ length room.old + 22 }
 {
-    out.push_byte(b' ')?;
-    out.push_byte(b'u')?;
-    out.push_decimal(u64::from(unit))
+    room.push(b" u");
+    room.push_decimal(u64::from(unit));
 }
 
 /// Adds `none`, `in LENGTH` or `out BYTES`.
+#[inline(always)]
 pub(crate) fn push_buffer(
     alloc: Global,
-    out: &mut LineWriter,
+    out: &mut Bytes,
+    room: &mut Room,
     buffer: &NoteBuffer,
 ) -> Result<(), NoMemory>
-    ensures { OnOk result (out.new ≡ out.old ++ further (buffer_fields buffer.now)) }
+    requires { length room.old + 24 ≤ 1024 }
+    ensures { OnOk result (out.new ++ room.new ≡ out.old ++ (room.old ++ further (buffer_fields buffer.now))) }
 {
     match buffer {
-        NoteBuffer::Nothing => out.push_name("none"),
+        NoteBuffer::Nothing => {
+            room.push_name("none");
+            Ok(())
+        }
         NoteBuffer::In(len) => {
-            out.push_name("in")?;
-            out.push_number(u64::from(*len))
+            room.push_name("in");
+            room.push_number(u64::from(*len));
+            Ok(())
         }
         NoteBuffer::Out(bytes) => {
-            out.push_name("out")?;
-            push_canonical(alloc, out, bytes.as_slice())
+            room.push_name("out");
+            push_canonical(alloc, out, room, bytes.as_slice())
         }
     }
 }
 
 /// Adds the words of a check condition, or of none.
-pub(crate) fn push_check(out: &mut LineWriter, check: Option<Sense>) -> Result<(), NoMemory>
-    requires { IsCheck check }
-    ensures { OnOk result (out.new ≡ out.old ++ further (check_fields check)) }
+pub(crate) fn push_check(room: &mut Room, check: Option<Sense>)
+    requires check { IsCheck check }
+    requires room { length room.old + 16 ≤ 1024 }
+    ensures { room.new ≡ room.old ++ further (check_fields check) }
 {
     match check {
-        None => push_status(out, StatusKind::Good),
-        Some(sense) => push_status(out, StatusKind::Check(sense)),
+        None => push_status(room, StatusKind::Good),
+        Some(sense) => push_status(room, StatusKind::Check(sense)),
     }
 }
 
 /// Adds the words of a status: `good`, `check K/CC/QQ`, `dummy`, `aborted`, `illegal XX` or `failed`.
-pub(crate) fn push_status(out: &mut LineWriter, status: StatusKind) -> Result<(), NoMemory>
-    requires { IsStatus status }
-    ensures { OnOk result (out.new ≡ out.old ++ further (status_fields status)) }
+#[inline(always)]
+pub(crate) fn push_status(room: &mut Room, status: StatusKind)
+    requires status { IsStatus status }
+    requires room { length room.old + 16 ≤ 1024 }
+    ensures text { room.new ≡ room.old ++ further (status_fields status) }
+    ensures few { length room.new ≤ length room.old + 16 }
 {
     match status {
-        StatusKind::Good => out.push_name("good"),
+        StatusKind::Good => room.push_name("good"),
         StatusKind::Check(sense) => {
-            out.push_name("check")?;
-            push_sense(out, sense)
+            room.push_name("check");
+            push_sense(room, sense);
         }
-        StatusKind::Dummy => out.push_name("dummy"),
-        StatusKind::Aborted => out.push_name("aborted"),
+        StatusKind::Dummy => room.push_name("dummy"),
+        StatusKind::Aborted => room.push_name("aborted"),
         StatusKind::Illegal(meaning) => {
-            out.push_name("illegal")?;
-            out.push_digits(&[meaning])
+            room.push_name("illegal");
+            room.push_few_digits(&[meaning]);
         }
-        StatusKind::Failed => out.push_name("failed"),
+        StatusKind::Failed => room.push_name("failed"),
         StatusKind::Management(_) => unreachable!(),
     }
 }
 
 /// Adds `K/CC/QQ`: sense key, code and qualifier.
-fn push_sense(out: &mut LineWriter, sense: Sense) -> Result<(), NoMemory>
-    requires { IsSense sense }
-    ensures { OnOk result (out.new ≡ out.old ++ 32 ∷ sense_word sense) }
+#[inline(never)]
+fn push_sense(room: &mut Room, sense: Sense)
+    requires sense { IsSense sense }
+    requires room { length room.old + 8 ≤ 1024 }
+    ensures text { room.new ≡ room.old ++ 32 ∷ sense_word sense }
+    ensures few { length room.new ≤ length room.old + 8 }
 {
-    out.push_name(key_text(sense.key))?;
-    out.push_byte(b'/')?;
-    out.push_hexadecimal(&[sense.code])?;
-    out.push_byte(b'/')?;
-    out.push_hexadecimal(&[sense.qualifier])
+    room.push_name(key_text(sense.key));
+    room.push_byte(b'/');
+    room.push_hexadecimal(&[sense.code]);
+    room.push_byte(b'/');
+    room.push_hexadecimal(&[sense.qualifier]);
 }
 
 /// Adds the bytes of an answer, if there are any.
+#[inline(always)]
 pub(crate) fn push_answer(
     alloc: Global,
-    out: &mut LineWriter,
+    out: &mut Bytes,
+    room: &mut Room,
     answer: &[u8],
 ) -> Result<(), NoMemory>
-    ensures { OnOk result (out.new ≡ out.old ++ further (answer_fields answer.now)) }
+    ensures { OnOk result (out.new ++ room.new ≡ out.old ++ (room.old ++ further (answer_fields answer.now))) }
 {
     if answer.is_empty() {
         return Ok(());
     }
-    push_canonical(alloc, out, answer)
+    push_canonical(alloc, out, room, answer)
 }
 
 /// Adds the login ID that a decision gives, if there is one.
-pub(crate) fn push_login(out: &mut LineWriter, login: Option<u16>) -> Result<(), NoMemory>
-    ensures { OnOk result (out.new ≡ out.old ++ further (login_fields login)) }
+pub(crate) fn push_login(room: &mut Room, login: Option<u16>)
+    requires { length room.old + 21 ≤ 1024 }
+    ensures { room.new ≡ room.old ++ further (login_fields login) }
 {
     match login {
-        None => Ok(()),
-        Some(login) => out.push_number(u64::from(login)),
+        None => {}
+        Some(login) => room.push_number(u64::from(login)),
     }
 }
 
 /// Adds the words for how an operation ended.
-pub(crate) fn push_end(out: &mut LineWriter, end: OpWord) -> Result<(), NoMemory>
-    ensures { OnOk result (out.new ≡ out.old ++ further (end_fields end)) }
+pub(crate) fn push_end(room: &mut Room, end: OpWord)
+    requires { length room.old + 32 ≤ 1024 }
+    ensures { room.new ≡ room.old ++ further (end_fields end) }
 {
     match end {
-        OpWord::Done => out.push_name("done"),
+        OpWord::Done => room.push_name("done"),
         OpWord::Refused(status) => {
-            out.push_name("refused")?;
-            out.push_digits(&[status])
+            room.push_name("refused");
+            room.push_few_digits(&[status]);
         }
-        OpWord::Conflict => out.push_name("conflict"),
-        OpWord::Error => out.push_name("error"),
-        OpWord::Reset => out.push_name("reset"),
+        OpWord::Conflict => room.push_name("conflict"),
+        OpWord::Error => room.push_name("error"),
+        OpWord::Reset => room.push_name("reset"),
         OpWord::Count(count) => {
-            out.push_name("done")?;
-            push_maybe(out, count.map(u32::from))
+            room.push_name("done");
+            push_maybe(room, count.map(u32::from));
         }
         OpWord::Bad(fault) => {
-            out.push_name("bad")?;
-            out.push_number(u64::from(fault))
+            room.push_name("bad");
+            room.push_number(u64::from(fault));
         }
-        OpWord::NoUnit => out.push_name("none"),
-        OpWord::State(value) => out.push_number(u64::from(value)),
+        OpWord::NoUnit => room.push_name("none"),
+        OpWord::State(value) => room.push_number(u64::from(value)),
     }
 }
 

@@ -14,6 +14,7 @@ mod side;
 mod text;
 mod typed;
 mod words;
+mod writer;
 
 pub use cause::{Cause, CutCause, Judged, TargetFault};
 pub use event::{Action, Cmd, Event};
@@ -23,3 +24,4 @@ pub use operation::{FunctionWord, OpWord, Operation};
 pub use outbox::{Outbox, Outgoing};
 pub use side::Side;
 pub use text::{append_note, append_notes, put_note, write_note};
+pub use writer::LineWriter;

@@ -1,77 +1,50 @@
-ghost use Rattle.std.specs.Prelude.{◌≡◌, ◌∷◌, ◌++◌, [], OnOk};
+ghost use Rattle.std.specs.Prelude.{◌≡◌, ◌+◌, ◌≤◌, ◌∷◌, ◌++◌, [], OnOk, codes, length};
 ghost use Rattle.sbp_journal.specs.Form.{HasForm, IsStatus, IsAnswer, IsCheck};
 ghost use Rattle.line_text.specs.Fields.{Field, word, further};
 ghost use Rattle.sbp_journal.specs.Text.{fields, orb_fields, named_fields, work_fields, buffer_fields, status_fields, check_fields, answer_fields, login_fields, end_fields, function_word, operation_word};
 ghost use Rattle.sbp_journal.specs.Text as texts;
 
 use crate::fields::{
-    push_answer, push_buffer, push_check, push_end, push_list, push_login, push_named, push_node,
-    push_orb, push_status, push_work,
+    push_answer, push_buffer, push_canonical, push_check, push_end, push_login, push_maybe,
+    push_named, push_node, push_orb, push_status, push_unit,
 };
 use crate::note::{Note, NoteBuffer};
 use crate::operation::{FunctionWord, OpWord, Operation};
 use crate::words::{cause_text, cut_text, fail_text, function_text, mode_text, operation_text};
-use line_text::LineWriter;
+use crate::writer::push_packet;
+use line_text::Room;
 use orb_layout::StatusKind;
 use rbc_command::Sense;
-use sbp_base::NoMemory;
+use sbp_base::{Bytes, NoMemory};
 use std::alloc::Global;
 
-/// Adds the word that the line of a note begins with.
-pub(crate) fn push_keyword(note: &Note, out: &mut LineWriter) -> Result<(), NoMemory>
-    ensures { OnOk result (out.new ≡ out.old ++ texts.keyword note.now) }
+/// Adds the words of a note: the one that its line begins with, and its fields.
+#[inline(always)]
+pub(crate) fn push_words(
+    alloc: Global,
+    note: &Note,
+    out: &mut Bytes,
+    room: &mut Room,
+) -> Result<(), NoMemory>
+    requires form { HasForm note.now }
+    requires room { length room.old + 256 ≤ 1024 }
+    ensures { OnOk result (out.new ++ room.new ≡ out.old ++ (room.old ++ (texts.keyword note.now ++ further (fields note.now)))) }
 {
     match note {
-        Note::Begin { .. } => out.push(b"begin"),
-        Note::Append { .. } => out.push(b"append"),
-        Note::Low { .. } => out.push(b"low"),
-        Note::Linked { .. } => out.push(b"linked"),
-        Note::Rung { .. } => out.push(b"rung"),
-        Note::Dummied { .. } => out.push(b"dummied"),
-        Note::Sent { .. } => out.push(b"sent"),
-        Note::Injected { .. } => out.push(b"injected"),
-        Note::Got { .. } => out.push(b"got"),
-        Note::Ignored { .. } => out.push(b"ignored"),
-        Note::Lost { .. } => out.push(b"lost"),
-        Note::TimedOut { .. } => out.push(b"timedout"),
-        Note::Ran { .. } => out.push(b"ran"),
-        Note::Ended { .. } => out.push(b"ended"),
-        Note::Taken { .. } => out.push(b"taken"),
-        Note::Cut { .. } => out.push(b"cut"),
-        Note::Dead { .. } => out.push(b"dead"),
-        Note::Drop { .. } => out.push(b"drop"),
-        Note::Managed { .. } => out.push(b"mgmt"),
-        Note::ManageFailed { .. } => out.push(b"mgmtfail"),
-        Note::Held { .. } => out.push(b"held"),
-        Note::Expired { .. } => out.push(b"expired"),
-        Note::Back { .. } => out.push(b"back"),
-        Note::Left { .. } => out.push(b"left"),
-        Note::Cleared { .. } => out.push(b"cleared"),
-        Note::Op { .. } => out.push(b"op"),
-        Note::Stuck { .. } => out.push(b"stuck"),
-        Note::Reset { .. } => out.push(b"reset"),
-        Note::Seen { .. } => out.push(b"seen"),
-        Note::Tick => out.push(b"tick"),
-        Note::Refused { .. } => out.push(b"refused"),
-        Note::Settled => out.push(b"settled"),
-        Note::Stopped => out.push(b"stopped"),
-        Note::Key { .. } => out.push(b"key"),
-        Note::Unsolicited { .. } => out.push(b"unsolicited"),
-        Note::Unsent { .. } => out.push(b"unsent"),
-        Note::Told { .. } => out.push(b"told"),
-    }
-}
-
-/// Adds the fields of a note.
-pub(crate) fn push_fields(alloc: Global, note: &Note, out: &mut LineWriter) -> Result<(), NoMemory>
-    requires { HasForm note.now }
-    ensures { OnOk result (out.new ≡ out.old ++ further (fields note.now)) }
-{
-    match note {
-        Note::Begin { initiators, ready } => push_word(
+        Note::Sent {
+            serial,
+            generation,
+            from,
+            to,
+            bytes,
+        } => push_sent(
             out,
-            u64::from(*initiators),
-            mode_text(*ready),
+            room,
+            *serial,
+            *generation,
+            *from,
+            *to,
+            bytes.as_slice(),
         ),
         Note::Append {
             initiator,
@@ -79,39 +52,7 @@ pub(crate) fn push_fields(alloc: Global, note: &Note, out: &mut LineWriter) -> R
             orb,
             cdb,
             buffer,
-        } => push_append(alloc, out, *initiator, *list, *orb, cdb, buffer),
-        Note::Low {
-            initiator,
-            list,
-            orb,
-        }
-        | Note::Linked {
-            initiator,
-            list,
-            orb,
-        }
-        | Note::Rung {
-            initiator,
-            list,
-            orb,
-        }
-        | Note::Dummied {
-            initiator,
-            list,
-            orb,
-        } => push_orb(out, *initiator, *list, *orb),
-        Note::Sent {
-            serial,
-            generation,
-            from,
-            to,
-            bytes,
-        } => push_sent(out, *serial, *generation, *from, *to, bytes.as_slice()),
-        Note::Injected { serial }
-        | Note::Got { serial }
-        | Note::Lost { serial }
-        | Note::TimedOut { serial } => out.push_number(*serial),
-        Note::Ignored { serial, cause } => push_word(out, *serial, cause_text(*cause)),
+        } => push_append(alloc, out, room, *initiator, *list, *orb, cdb, buffer),
         Note::Ran {
             initiator,
             list,
@@ -123,6 +64,7 @@ pub(crate) fn push_fields(alloc: Global, note: &Note, out: &mut LineWriter) -> R
         } => push_ran(
             alloc,
             out,
+            room,
             *initiator,
             *list,
             *orb,
@@ -131,12 +73,6 @@ pub(crate) fn push_fields(alloc: Global, note: &Note, out: &mut LineWriter) -> R
             bytes.as_slice(),
             *check,
         ),
-        Note::Ended {
-            initiator,
-            list,
-            orb,
-            status,
-        } => push_ended(out, *initiator, *list, *orb, *status),
         Note::Taken {
             initiator,
             list,
@@ -146,108 +82,307 @@ pub(crate) fn push_fields(alloc: Global, note: &Note, out: &mut LineWriter) -> R
         } => push_taken(
             alloc,
             out,
+            room,
             *initiator,
             *list,
             *orb,
             *status,
             answer.as_slice(),
         ),
+        Note::Got { serial } => {
+            push_one(room, b"got", *serial);
+            Ok(())
+        }
+        Note::Low {
+            initiator,
+            list,
+            orb,
+        } => {
+            push_orb_line(room, b"low", *initiator, *list, *orb);
+            Ok(())
+        }
+        Note::Linked {
+            initiator,
+            list,
+            orb,
+        } => {
+            push_orb_line(room, b"linked", *initiator, *list, *orb);
+            Ok(())
+        }
+        Note::Rung {
+            initiator,
+            list,
+            orb,
+        } => {
+            push_orb_line(room, b"rung", *initiator, *list, *orb);
+            Ok(())
+        }
+        Note::Dummied {
+            initiator,
+            list,
+            orb,
+        } => {
+            push_orb_line(room, b"dummied", *initiator, *list, *orb);
+            Ok(())
+        }
+        Note::Ended {
+            initiator,
+            list,
+            orb,
+            status,
+        } => {
+            push_ended(room, *initiator, *list, *orb, *status);
+            Ok(())
+        }
+        Note::Begin { initiators, ready } => {
+            push_word(room, b"begin", u64::from(*initiators), mode_text(*ready));
+            Ok(())
+        }
+        Note::Injected { serial } => {
+            push_one(room, b"injected", *serial);
+            Ok(())
+        }
+        Note::Ignored { serial, cause } => {
+            push_word(room, b"ignored", *serial, cause_text(*cause));
+            Ok(())
+        }
+        Note::Lost { serial } => {
+            push_one(room, b"lost", *serial);
+            Ok(())
+        }
+        Note::TimedOut { serial } => {
+            push_one(room, b"timedout", *serial);
+            Ok(())
+        }
         Note::Cut {
             initiator,
             list,
             cause,
-        } => push_list(out, *initiator, *list, cut_text(*cause)),
+        } => {
+            push_list(room, b"cut", *initiator, *list, cut_text(*cause));
+            Ok(())
+        }
         Note::Dead {
             initiator,
             list,
             cause,
-        } => push_list(out, *initiator, *list, fail_text(*cause)),
-        Note::Drop { initiator, list } => push_pair(out, u32::from(*initiator), *list),
+        } => {
+            push_list(room, b"dead", *initiator, *list, fail_text(*cause));
+            Ok(())
+        }
+        Note::Drop { initiator, list } => {
+            push_pair(room, b"drop", u32::from(*initiator), *list);
+            Ok(())
+        }
         Note::Managed {
             initiator,
             function,
             subject,
             status,
             login,
-        } => push_managed(out, *initiator, *function, *subject, *status, *login),
-        Note::ManageFailed { initiator, cause } => {
-            push_word(out, u64::from(*initiator), fail_text(*cause))
+        } => {
+            push_managed(room, *initiator, *function, *subject, *status, *login);
+            Ok(())
         }
-        Note::Held { login }
-        | Note::Expired { login }
-        | Note::Back { login }
-        | Note::Left { login } => out.push_number(u64::from(*login)),
-        Note::Cleared { unit } | Note::Key { unit } => out.push_number(u64::from(*unit)),
+        Note::ManageFailed { initiator, cause } => {
+            push_word(room, b"mgmtfail", u64::from(*initiator), fail_text(*cause));
+            Ok(())
+        }
+        Note::Held { login } => {
+            push_one(room, b"held", u64::from(*login));
+            Ok(())
+        }
+        Note::Expired { login } => {
+            push_one(room, b"expired", u64::from(*login));
+            Ok(())
+        }
+        Note::Back { login } => {
+            push_one(room, b"back", u64::from(*login));
+            Ok(())
+        }
+        Note::Left { login } => {
+            push_one(room, b"left", u64::from(*login));
+            Ok(())
+        }
+        Note::Cleared { unit } => {
+            push_one(room, b"cleared", u64::from(*unit));
+            Ok(())
+        }
         Note::Op {
             initiator,
             operation,
             word,
-        } => push_op(out, *initiator, *operation, *word),
-        Note::Stuck { initiator } | Note::Unsolicited { initiator } | Note::Unsent { initiator } =>
-            out.push_number(u64::from(*initiator)),
-        Note::Reset { generation } => out.push_number(u64::from(*generation)),
-        Note::Seen { node, generation } => push_seen(out, *node, *generation),
-        Note::Refused { line, number } => push_pair(out, *line, u32::from(*number)),
-        Note::Told { initiator } => push_word(out, u64::from(*initiator), "6/28/00"),
-        Note::Tick | Note::Settled | Note::Stopped => Ok(()),
+        } => {
+            push_op(room, *initiator, *operation, *word);
+            Ok(())
+        }
+        Note::Stuck { initiator } => {
+            push_one(room, b"stuck", u64::from(*initiator));
+            Ok(())
+        }
+        Note::Reset { generation } => {
+            push_one(room, b"reset", u64::from(*generation));
+            Ok(())
+        }
+        Note::Seen { node, generation } => {
+            push_seen(room, *node, *generation);
+            Ok(())
+        }
+        Note::Tick => {
+            push_alone(room, b"tick");
+            Ok(())
+        }
+        Note::Refused { line, number } => {
+            push_pair(room, b"refused", *line, u32::from(*number));
+            Ok(())
+        }
+        Note::Settled => {
+            push_alone(room, b"settled");
+            Ok(())
+        }
+        Note::Stopped => {
+            push_alone(room, b"stopped");
+            Ok(())
+        }
+        Note::Key { unit } => {
+            push_one(room, b"key", u64::from(*unit));
+            Ok(())
+        }
+        Note::Unsolicited { initiator } => {
+            push_one(room, b"unsolicited", u64::from(*initiator));
+            Ok(())
+        }
+        Note::Unsent { initiator } => {
+            push_one(room, b"unsent", u64::from(*initiator));
+            Ok(())
+        }
+        Note::Told { initiator } => {
+            push_word(room, b"told", u64::from(*initiator), "6/28/00");
+            Ok(())
+        }
     }
 }
 
-/// Adds a number and a word.
-fn push_word(out: &mut LineWriter, number: u64, name: &str) -> Result<(), NoMemory>
-    ensures { OnOk result (out.new ≡ out.old ++ further (Field.number number ∷ Field.name name.now ∷ [])) }
+/// Adds a word.
+#[inline(always)]
+fn push_alone(room: &mut Room, keyword: &[u8])
+    requires word { length keyword.now ≤ 12 }
+    requires room { length room.old + 256 ≤ 1024 }
+    ensures { room.new ≡ room.old ++ (keyword.now ++ further []) }
 {
-    out.push_number(number)?;
-    out.push_name(name)
+    room.push(keyword);
 }
 
-/// Adds two numbers.
-fn push_pair(out: &mut LineWriter, first: u32, second: u32) -> Result<(), NoMemory>
-    ensures { OnOk result (out.new ≡ out.old ++ further (Field.number first ∷ Field.number second ∷ [])) }
+/// Adds a word and a number.
+#[inline(always)]
+fn push_one(room: &mut Room, keyword: &[u8], number: u64)
+    requires word { length keyword.now ≤ 12 }
+    requires room { length room.old + 256 ≤ 1024 }
+    ensures { room.new ≡ room.old ++ (keyword.now ++ further (Field.number number ∷ [])) }
 {
-    out.push_number(u64::from(first))?;
-    out.push_number(u64::from(second))
+    room.push(keyword);
+    room.push_number(number);
 }
 
-/// Adds the fields of an ORB that was appended.
-fn push_append(
-    alloc: Global,
-    out: &mut LineWriter,
-    initiator: u8,
-    list: u32,
-    orb: u32,
-    cdb: &[u8; 12],
-    buffer: &NoteBuffer,
-) -> Result<(), NoMemory>
-    ensures { OnOk result (out.new ≡ out.old ++ further (orb_fields initiator list orb ++ Field.digits cdb.now ∷ buffer_fields buffer.now)) }
+/// Adds a word, a number and a word.
+#[inline(never)]
+fn push_word(room: &mut Room, keyword: &[u8], number: u64, name: &str)
+    requires word { length keyword.now ≤ 12 }
+    requires name { length name.now ≤ 12 }
+    requires room { length room.old + 256 ≤ 1024 }
+    ensures { room.new ≡ room.old ++ (keyword.now ++ further (Field.number number ∷ Field.name name.now ∷ [])) }
 {
-    push_orb(out, initiator, list, orb)?;
-    out.push_digits(cdb.as_slice())?;
-    push_buffer(alloc, out, buffer)
+    room.push(keyword);
+    room.push_number(number);
+    room.push_name(name);
 }
 
-/// Adds the fields of a packet that was sent.
+/// Adds a word and two numbers.
+#[inline(never)]
+fn push_pair(room: &mut Room, keyword: &[u8], first: u32, second: u32)
+    requires word { length keyword.now ≤ 12 }
+    requires room { length room.old + 256 ≤ 1024 }
+    ensures { room.new ≡ room.old ++ (keyword.now ++ further (Field.number first ∷ Field.number second ∷ [])) }
+{
+    room.push(keyword);
+    room.push_number(u64::from(first));
+    room.push_number(u64::from(second));
+}
+
+/// Adds a word and the numbers of an ORB.
+#[inline(always)]
+fn push_orb_line(room: &mut Room, keyword: &[u8], initiator: u8, list: u32, orb: u32)
+    requires word { length keyword.now ≤ 12 }
+    requires room { length room.old + 256 ≤ 1024 }
+    ensures { room.new ≡ room.old ++ (keyword.now ++ further (orb_fields initiator list orb)) }
+{
+    room.push(keyword);
+    push_orb(room, initiator, list, orb);
+}
+
+/// Adds a word, `INITIATOR LIST`, where a list that is not known is `-`, and a word.
+#[inline(never)]
+fn push_list(room: &mut Room, keyword: &[u8], initiator: u8, list: Option<u32>, cause: &str)
+    requires word { length keyword.now ≤ 12 }
+    requires name { length cause.now ≤ 12 }
+    requires room { length room.old + 256 ≤ 1024 }
+    ensures { room.new ≡ room.old ++ (keyword.now ++ further (Field.number initiator ∷ Field.maybe list ∷ Field.name cause.now ∷ [])) }
+{
+    room.push(keyword);
+    room.push_number(u64::from(initiator));
+    push_maybe(room, list);
+    room.push_name(cause);
+}
+
+/// Adds the words of a packet that was sent.
+#[inline(always)]
 fn push_sent(
-    out: &mut LineWriter,
+    out: &mut Bytes,
+    room: &mut Room,
     serial: u64,
     generation: u32,
     from: u8,
     to: u8,
     bytes: &[u8],
 ) -> Result<(), NoMemory>
-    ensures { OnOk result (out.new ≡ out.old ++ further (Field.number serial ∷ Field.number generation ∷ Field.node_name from ∷ Field.node_name to ∷ Field.digits bytes.now ∷ [])) }
+    requires { length room.old + 256 ≤ 1024 }
+    ensures { OnOk result (out.new ++ room.new ≡ out.old ++ (room.old ++ (codes "sent" ++ further (Field.number serial ∷ Field.number generation ∷ Field.node_name from ∷ Field.node_name to ∷ Field.digits bytes.now ∷ [])))) }
 {
-    out.push_number(serial)?;
-    out.push_number(u64::from(generation))?;
-    push_node(out, from)?;
-    push_node(out, to)?;
-    out.push_digits(bytes)
+    room.push(b"sent");
+    room.push_number(serial);
+    room.push_number(u64::from(generation));
+    push_node(room, from);
+    push_node(room, to);
+    push_packet(out, room, bytes)
 }
 
-/// Adds the fields of a command that ran.
+/// Adds the words of an ORB that was appended.
+#[inline(never)]
+fn push_append(
+    alloc: Global,
+    out: &mut Bytes,
+    room: &mut Room,
+    initiator: u8,
+    list: u32,
+    orb: u32,
+    cdb: &[u8; 12],
+    buffer: &NoteBuffer,
+) -> Result<(), NoMemory>
+    requires { length room.old + 256 ≤ 1024 }
+    ensures { OnOk result (out.new ++ room.new ≡ out.old ++ (room.old ++ (codes "append" ++ further (orb_fields initiator list orb ++ Field.digits cdb.now ∷ buffer_fields buffer.now)))) }
+{
+    room.push(b"append");
+    push_orb(room, initiator, list, orb);
+    room.push_few_digits(cdb.as_slice());
+    push_buffer(alloc, out, room, buffer)
+}
+
+/// Adds the words of a command that ran.
+#[inline(never)]
 fn push_ran(
     alloc: Global,
-    out: &mut LineWriter,
+    out: &mut Bytes,
+    room: &mut Room,
     initiator: u8,
     list: Option<u32>,
     orb: Option<u32>,
@@ -256,84 +391,98 @@ fn push_ran(
     bytes: &[u8],
     check: Option<Sense>,
 ) -> Result<(), NoMemory>
-    requires { IsCheck check }
-    ensures { OnOk result (out.new ≡ out.old ++ further (named_fields initiator list orb ++ work_fields unit cdb.now bytes.now ++ check_fields check)) }
+    requires check { IsCheck check }
+    requires room { length room.old + 256 ≤ 1024 }
+    ensures { OnOk result (out.new ++ room.new ≡ out.old ++ (room.old ++ (codes "ran" ++ further (named_fields initiator list orb ++ work_fields unit cdb.now bytes.now ++ check_fields check)))) }
 {
-    push_named(out, initiator, list, orb)?;
-    push_work(alloc, out, unit, cdb, bytes)?;
-    push_check(out, check)
+    room.push(b"ran");
+    push_named(room, initiator, list, orb);
+    push_unit(room, unit);
+    room.push_few_digits(cdb.as_slice());
+    push_canonical(alloc, out, room, bytes)?;
+    push_check(room, check);
+    Ok(())
 }
 
-/// Adds the fields of an ORB that ended.
+/// Adds the words of an ORB that ended.
 fn push_ended(
-    out: &mut LineWriter,
+    room: &mut Room,
     initiator: u8,
     list: Option<u32>,
     orb: Option<u32>,
     status: StatusKind,
-) -> Result<(), NoMemory>
-    requires { IsStatus status }
-    ensures { OnOk result (out.new ≡ out.old ++ further (named_fields initiator list orb ++ status_fields status)) }
+)
+    requires status { IsStatus status }
+    requires room { length room.old + 256 ≤ 1024 }
+    ensures { room.new ≡ room.old ++ (codes "ended" ++ further (named_fields initiator list orb ++ status_fields status)) }
 {
-    push_named(out, initiator, list, orb)?;
-    push_status(out, status)
+    room.push(b"ended");
+    push_named(room, initiator, list, orb);
+    push_status(room, status);
 }
 
-/// Adds the fields of a status that was taken.
+/// Adds the words of a status that was taken.
 #[tactic(auto, using(crate::proofs::LineWords::answer_status))]
 fn push_taken(
     alloc: Global,
-    out: &mut LineWriter,
+    out: &mut Bytes,
+    room: &mut Room,
     initiator: u8,
     list: u32,
     orb: u32,
     status: StatusKind,
     answer: &[u8],
 ) -> Result<(), NoMemory>
-    requires { IsAnswer status answer.now }
-    ensures { OnOk result (out.new ≡ out.old ++ further (orb_fields initiator list orb ++ status_fields status ++ answer_fields answer.now)) }
+    requires answer { IsAnswer status answer.now }
+    requires room { length room.old + 256 ≤ 1024 }
+    ensures { OnOk result (out.new ++ room.new ≡ out.old ++ (room.old ++ (codes "taken" ++ further (orb_fields initiator list orb ++ status_fields status ++ answer_fields answer.now)))) }
 {
-    push_orb(out, initiator, list, orb)?;
-    push_status(out, status)?;
-    push_answer(alloc, out, answer)
+    room.push(b"taken");
+    push_orb(room, initiator, list, orb);
+    push_status(room, status);
+    push_answer(alloc, out, room, answer)
 }
 
-/// Adds the fields of a management operation.
+/// Adds the words of a management operation.
+#[inline(never)]
 fn push_managed(
-    out: &mut LineWriter,
+    room: &mut Room,
     initiator: u8,
     function: FunctionWord,
     subject: u16,
     status: u8,
     login: Option<u16>,
-) -> Result<(), NoMemory>
-    ensures { OnOk result (out.new ≡ out.old ++ further (Field.number initiator ∷ Field.name (function_word function) ∷ Field.number subject ∷ Field.digits (status ∷ []) ∷ login_fields login)) }
+)
+    requires { length room.old + 256 ≤ 1024 }
+    ensures { room.new ≡ room.old ++ (codes "mgmt" ++ further (Field.number initiator ∷ Field.name (function_word function) ∷ Field.number subject ∷ Field.digits (status ∷ []) ∷ login_fields login)) }
 {
-    out.push_number(u64::from(initiator))?;
-    out.push_name(function_text(function))?;
-    out.push_number(u64::from(subject))?;
-    out.push_digits(&[status])?;
-    push_login(out, login)
+    room.push(b"mgmt");
+    room.push_number(u64::from(initiator));
+    room.push_name(function_text(function));
+    room.push_number(u64::from(subject));
+    room.push_few_digits(&[status]);
+    push_login(room, login);
 }
 
-/// Adds the fields of an operation that ended.
-fn push_op(
-    out: &mut LineWriter,
-    initiator: u8,
-    operation: Operation,
-    end: OpWord,
-) -> Result<(), NoMemory>
-    ensures { OnOk result (out.new ≡ out.old ++ further (Field.number initiator ∷ Field.name (operation_word operation) ∷ end_fields end)) }
+/// Adds the words of an operation that ended.
+#[inline(never)]
+fn push_op(room: &mut Room, initiator: u8, operation: Operation, end: OpWord)
+    requires { length room.old + 256 ≤ 1024 }
+    ensures { room.new ≡ room.old ++ (codes "op" ++ further (Field.number initiator ∷ Field.name (operation_word operation) ∷ end_fields end)) }
 {
-    out.push_number(u64::from(initiator))?;
-    out.push_name(operation_text(operation))?;
-    push_end(out, end)
+    room.push(b"op");
+    room.push_number(u64::from(initiator));
+    room.push_name(operation_text(operation));
+    push_end(room, end);
 }
 
-/// Adds a node and a generation.
-fn push_seen(out: &mut LineWriter, node: u8, generation: u32) -> Result<(), NoMemory>
-    ensures { OnOk result (out.new ≡ out.old ++ further (Field.node_name node ∷ Field.number generation ∷ [])) }
+/// Adds the words of a node that saw a reset.
+#[inline(never)]
+fn push_seen(room: &mut Room, node: u8, generation: u32)
+    requires { length room.old + 256 ≤ 1024 }
+    ensures { room.new ≡ room.old ++ (codes "seen" ++ further (Field.node_name node ∷ Field.number generation ∷ [])) }
 {
-    push_node(out, node)?;
-    out.push_number(u64::from(generation))
+    room.push(b"seen");
+    push_node(room, node);
+    room.push_number(u64::from(generation));
 }

@@ -4,12 +4,15 @@ ghost use Rattle.sbp_journal.specs.Form.{HasForm};
 ghost use Rattle.sbp_journal.specs.Text.{note_text, text_of};
 
 use crate::journal::Text;
-use crate::lines::{push_fields, push_keyword};
+use crate::lines::push_words;
 use crate::note::Note;
-use line_text::LineWriter;
+use crate::writer::{LineWriter, make_room};
+use line_text::Room;
 use sbp_base::{Bytes, NoMemory};
 use std::alloc::Global;
-use std::mem::replace;
+
+/// How much room a line has from its beginning: all words of a note have it, but for long data.
+const LINE: usize = 256;
 
 /// Adds the line of a note, with its line feed. It is made whole before any of it is added, so that a
 /// note for which memory was wanting leaves no part of a line.
@@ -29,10 +32,9 @@ pub fn append_note(alloc: Global, note: &Note, out: &mut Bytes) -> Result<(), No
     requires { HasForm note.now }
     ensures { OnOk result (out.new ≡ out.old ++ note_text note.now) }
 {
-    let mut line = LineWriter::behind(replace(out, Bytes::new(alloc)));
-    let put = put_note(alloc, note, &mut line);
-    line.move_to(out)?;
-    put
+    let mut room = Room::new();
+    put_line(alloc, note, out, &mut room)?;
+    out.extend_from_slice(room.as_slice())
 }
 
 /// Adds the lines of some notes to bytes, of which a part is added where memory was wanting.
@@ -40,30 +42,44 @@ pub fn append_notes(alloc: Global, notes: &[Note], out: &mut Bytes) -> Result<()
     requires { AllByRecursion HasForm notes.now }
     ensures { OnOk result (out.new ≡ out.old ++ text_of notes.now) }
 {
-    let mut lines = LineWriter::behind(replace(out, Bytes::new(alloc)));
-    let put = put_notes(alloc, notes, &mut lines);
-    lines.move_to(out)?;
-    put
-}
-
-/// Adds the lines of some notes.
-fn put_notes(alloc: Global, notes: &[Note], out: &mut LineWriter) -> Result<(), NoMemory>
-    requires { AllByRecursion HasForm notes.now }
-    ensures { OnOk result (out.new ≡ out.old ++ text_of notes.now) }
-{
-    for note in notes {
-        put_note(alloc, note, out)?;
-    }
-    Ok(())
+    let mut room = Room::new();
+    put_lines(alloc, notes, out, &mut room)?;
+    out.extend_from_slice(room.as_slice())
 }
 
 /// Adds the line of a note, with its line feed.
-#[tactic(auto, using(crate::proofs::LineWords::line_is))]
 pub fn put_note(alloc: Global, note: &Note, out: &mut LineWriter) -> Result<(), NoMemory>
     requires { HasForm note.now }
     ensures { OnOk result (out.new ≡ out.old ++ note_text note.now) }
 {
-    push_keyword(note, out)?;
-    push_fields(alloc, note, out)?;
-    out.end_line()
+    put_line(alloc, note, &mut out.bytes, &mut out.room)
+}
+
+/// Adds the lines of some notes to bytes, the last of which wait in a room.
+fn put_lines(
+    alloc: Global,
+    notes: &[Note],
+    out: &mut Bytes,
+    room: &mut Room,
+) -> Result<(), NoMemory>
+    requires { AllByRecursion HasForm notes.now }
+    ensures { OnOk result (out.new ++ room.new ≡ out.old ++ room.old ++ text_of notes.now) }
+{
+    for note in notes {
+        put_line(alloc, note, out, room)?;
+    }
+    Ok(())
+}
+
+/// Adds the line of a note, with its line feed, to bytes, the last of which wait in a room.
+#[inline(always)]
+fn put_line(alloc: Global, note: &Note, out: &mut Bytes, room: &mut Room) -> Result<(), NoMemory>
+    requires { HasForm note.now }
+    ensures { OnOk result (out.new ++ room.new ≡ out.old ++ room.old ++ note_text note.now) }
+{
+    make_room(out, room, LINE)?;
+    push_words(alloc, note, out, room)?;
+    make_room(out, room, 1)?;
+    room.push_byte(b'\n');
+    Ok(())
 }

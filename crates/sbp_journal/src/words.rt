@@ -1,4 +1,4 @@
-ghost use Rattle.std.specs.Prelude.{◌≡◌};
+ghost use Rattle.std.specs.Prelude.{◌≡◌, ◌≤◌, length};
 ghost use Rattle.sbp_journal.specs.Text.{mode, cause_word, cut_word, fail_word, function_word, operation_word};
 
 use crate::cause::{Cause, CutCause};
@@ -7,14 +7,16 @@ use orb_layout::FailCause;
 
 /// The word for how a run begins.
 pub(crate) fn mode_text(ready: bool) -> &'static str
-    ensures { result.now ≡ mode ready }
+    ensures word { result.now ≡ mode ready }
+    ensures few { length result.now ≤ 12 }
 {
     if ready { "ready" } else { "cold" }
 }
 
 /// The word for why a packet was ignored.
 pub(crate) fn cause_text(cause: Cause) -> &'static str
-    ensures { result.now ≡ cause_word cause }
+    ensures word { result.now ≡ cause_word cause }
+    ensures few { length result.now ≤ 12 }
 {
     match cause {
         Cause::Generation => "generation",
@@ -29,7 +31,8 @@ pub(crate) fn cause_text(cause: Cause) -> &'static str
 
 /// The word for why a list was cut.
 pub(crate) fn cut_text(cause: CutCause) -> &'static str
-    ensures { result.now ≡ cut_word cause }
+    ensures word { result.now ≡ cut_word cause }
+    ensures few { length result.now ≤ 12 }
 {
     match cause {
         CutCause::AgentReset => "agentreset",
@@ -43,7 +46,8 @@ pub(crate) fn cut_text(cause: CutCause) -> &'static str
 
 /// The word for why an agent is dead, or a management operation failed.
 pub(crate) fn fail_text(cause: FailCause) -> &'static str
-    ensures { result.now ≡ fail_word cause }
+    ensures word { result.now ≡ fail_word cause }
+    ensures few { length result.now ≤ 12 }
 {
     match cause {
         FailCause::Timeout => "timeout",
@@ -55,7 +59,8 @@ pub(crate) fn fail_text(cause: FailCause) -> &'static str
 
 /// The word of a management function.
 pub(crate) fn function_text(function: FunctionWord) -> &'static str
-    ensures { result.now ≡ function_word function }
+    ensures word { result.now ≡ function_word function }
+    ensures few { length result.now ≤ 12 }
 {
     match function {
         FunctionWord::Login => "login",
@@ -72,7 +77,8 @@ pub(crate) fn function_text(function: FunctionWord) -> &'static str
 
 /// The word of an operation.
 pub(crate) fn operation_text(operation: Operation) -> &'static str
-    ensures { result.now ≡ operation_word operation }
+    ensures word { result.now ≡ operation_word operation }
+    ensures few { length result.now ≤ 12 }
 {
     match operation {
         Operation::Rom => "rom",

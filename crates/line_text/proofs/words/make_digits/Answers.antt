@@ -1,0 +1,11 @@
+use Rattle.std.proofs.Common.{arith}
+use Rattle.hex.specs.Hex.{upper_digits}
+use Rattle.hex.proofs.Pairs.{encode_step, encode_done}
+use Rattle.line_text.proofs.words.make_digits.Goals as goal
+
+pub loop-at-preserved : goal.loop-at-preserved
+loop-at-preserved c =
+    encode_step upper_digits c.args.bytes.now c.loop-at.digits c.loop-at.at _ _ (omega arith) (omega arith) c.digit.ensures c.digit-in-loop-at.ensures c.loop-at.invariant
+
+pub returns : goal.returns
+returns c = encode_done _ _ _ c.loop-at.at (omega arith) (omega arith) c.loop-at.invariant
