@@ -2,7 +2,6 @@ use login_table::Logins;
 use mgmt_agent::{Busy, Decision, Effect, Manager, ManagerStep};
 use orb_layout::{Ask, FailCause, Reply};
 use sbp_base::{NodeId, Offset, put_quad};
-use std::test::Fail;
 
 /// A unit has no key.
 const NO_KEY: u64 = 0;
@@ -35,40 +34,38 @@ impl Desk {
     }
 
     /// Gives a reply where an operation is under way.
-    fn reply(&mut self, reply: Reply<'_>) -> Result<ManagerStep, &'static str> {
-        if self.manager.source().is_none() {
-            return Err("no operation");
-        }
-        Ok(self.manager.reply(&mut self.logins, &self.keys, reply))
+    fn reply(&mut self, reply: Reply<'_>) -> Option<ManagerStep> {
+        self.manager.source()?;
+        Some(self.manager.reply(&mut self.logins, &self.keys, reply))
     }
 
     /// Starts an operation of a node, whose ORB stands at 30000h, and reads the ORB.
-    fn start(&mut self, physical: u8, bytes: &[u8]) -> Result<ManagerStep, &'static str> {
-        match self.manager.start(node(physical)?, offset(0x3_0000)?) {
+    fn start(&mut self, physical: u8, bytes: &[u8]) -> Option<ManagerStep> {
+        let node = NodeId::local(physical)?;
+        match self.manager.start(node, Offset::new(0x3_0000)?) {
             Ok(Ask::Read { length: 32, .. }) => self.reply(Reply::Payload(bytes)),
-            _ => Err("start"),
+            _ => None,
         }
     }
 
     /// Gives the EUI-64 0011223300000000h + `last`.
-    fn give_eui(&mut self, last: u8) -> Result<ManagerStep, &'static str> {
+    fn give_eui(&mut self, last: u8) -> Option<ManagerStep> {
         self.reply(Reply::Payload(&[0, 0x11, 0x22, 0x33]))?;
         self.reply(Reply::Payload(&[0, 0, 0, last]))
     }
 
     /// A login of a node, whose EUI-64 ends with its number, from its start to its end.
-    fn login(&mut self, physical: u8, bytes: &[u8]) -> Result<Decision, &'static str> {
+    fn login(&mut self, physical: u8, bytes: &[u8]) -> Option<Decision> {
         self.start(physical, bytes)?;
-        let step = self.give_eui(physical)?;
-        let decision = step.decided.ok_or("not decided")?;
+        let decision = self.give_eui(physical)?.decided?;
         if let Ask::Write { .. } = self.reply(Reply::Done)?.ask {
             self.reply(Reply::Done)?;
         }
-        Ok(decision)
+        Some(decision)
     }
 
     /// Whether each login is decided so.
-    fn decides(&mut self, cases: &[Case]) -> Result<bool, &'static str> {
+    fn decides(&mut self, cases: &[Case]) -> bool {
         for (physical, exclusive, password, lengths, status, login) in cases {
             let bytes = orb(0, *exclusive, *password, *lengths);
             let decision = Decision {
@@ -77,11 +74,11 @@ impl Desk {
                 status: *status,
                 login: *login,
             };
-            if self.login(*physical, &bytes)? != decision {
-                return Ok(false);
+            if self.login(*physical, &bytes) != Some(decision) {
+                return false;
             }
         }
-        Ok(true)
+        true
     }
 }
 
@@ -108,100 +105,102 @@ fn orb_on(function: u8, exclusive: bool, subject: u8, password: u64, lengths: u3
     bytes
 }
 
-/// The node FFC0h + `physical`.
-fn node(physical: u8) -> Result<NodeId, &'static str> {
-    NodeId::local(physical).ok_or("node")
+/// Whether an exclusive login keeps another node out until it leaves.
+fn keeps_out(desk: &mut Desk) -> Option<bool> {
+    let is_out = desk.decides(&[(1, true, 0, 16, 0x00, 1), (2, false, 0, 16, 0x04, 0)]);
+    let is_left = desk.logins.leave(1, NodeId::local(1)?) == Ok(0);
+    Some(is_out && is_left && desk.decides(&[(2, false, 0, 16, 0x00, 2)]))
 }
 
-/// The address of a value.
-fn offset(value: u64) -> Result<Offset, &'static str> {
-    Offset::new(value).ok_or("offset")
-}
-
-/// An exclusive login keeps another node out until it leaves; a unit with a key wants it as an immediate
-/// password.
-#[test]
-fn logins_are_decided(rt: HostRuntime) -> Result<(), Fail> {
-    let mut desk = Desk::new(NO_KEY);
-    assert!(rt; desk.decides(&[(1, true, 0, 16, 0x00, 1), (2, false, 0, 16, 0x04, 0)])?);
-    assert_eq!(rt; desk.logins.leave(1, node(1)?), Ok(0));
-    assert!(rt; desk.decides(&[(2, false, 0, 16, 0x00, 2)])?);
-    let keyed = Desk::new(PASSWORD).decides(&[
-        (1, false, 0, 16, 0x04, 0),
-        (1, false, PASSWORD, ELSEWHERE + 16, 0x04, 0),
-        (1, false, PASSWORD, 16, 0x00, 1),
-    ])?;
-    assert!(rt; keyed);
-    Ok(())
-}
+/// Logins to a unit with a key, which wants it as an immediate password.
+const KEYED: [Case; 3] = [
+    (1, false, 0, 16, 0x04, 0),
+    (1, false, PASSWORD, ELSEWHERE + 16, 0x04, 0),
+    (1, false, PASSWORD, 16, 0x00, 1),
+];
 
 /// The first entries of the response of a query, cut after 20 bytes.
 const CUT: [u8; 20] = [
     0, 100, 0, 8, 0xff, 0xc1, 0, 1, 0, 0x11, 0x22, 0x33, 0, 0, 0, 1, 0xff, 0xc2, 0, 2,
 ];
 
-/// A query of a unit with eight logins is cut after the 20 bytes that its ORB allows; the operation
-/// keeps others waiting, and fails where its time runs out.
-#[test]
-fn query_cut_short(rt: HostRuntime) -> Result<(), Fail> {
-    let mut desk = Desk::new(NO_KEY);
+/// Whether a unit takes eight logins.
+fn takes_eight(desk: &mut Desk) -> bool {
     for physical in 1..=8_u8 {
-        let case = (physical, false, 0, 0, 0x00, u16::from(physical));
-        assert!(rt; desk.decides(&[case])?);
+        if !desk.decides(&[(physical, false, 0, 0, 0x00, u16::from(physical))]) {
+            return false;
+        }
     }
-    desk.logins.hold();
-    let step = desk.start(9, &orb(1, false, 0, 20))?;
+    true
+}
+
+/// Whether a query of it is cut after the 20 bytes that its ORB allows; the operation keeps others waiting,
+/// and fails where its time runs out.
+fn cuts_query(desk: &mut Desk) -> Option<bool> {
+    let node = NodeId::local(1)?;
+    let place = Offset::new(0x1_0000)?;
     let write = Ask::Write {
-        offset: offset(0x1_0000)?,
+        offset: place,
         length: 20,
     };
-    assert_eq!(rt; step.ask, write);
-    assert_eq!(rt; desk.manager.outgoing(), CUT.as_slice());
-    assert_eq!(rt; desk.manager.start(node(1)?, offset(0x1_0000)?), Err(Busy));
-    let failed = desk.reply(Reply::Expired)?;
-    assert_eq!(rt; failed.failed, Some(FailCause::Timeout));
-    assert!(rt; desk.manager.start(node(1)?, offset(0x1_0000)?).is_ok());
-    Ok(())
+    desk.logins.hold();
+    let is_cut = desk.start(9, &orb(1, false, 0, 20))?.ask == write
+        && desk.manager.outgoing() == CUT.as_slice();
+    let is_busy = desk.manager.start(node, place) == Err(Busy);
+    let is_failed = desk.reply(Reply::Expired)?.failed == Some(FailCause::Timeout);
+    Some(is_cut && is_busy && is_failed && desk.manager.start(node, place).is_ok())
 }
 
-/// The status that a function on login ID 1 has for a node, and what it does.
-fn on_login_of(desk: &mut Desk, function: u8, physical: u8) -> Result<(u8, Effect), &'static str> {
-    let step = desk.start(physical, &on_login(function))?;
-    let decision = step.decided.ok_or("not decided")?;
-    Ok((decision.status, step.effect))
-}
-
-/// What each function on a live login decides and does for its node, and for another one, whose
-/// operation a reset ends.
-#[test]
-fn functions_on_a_login(rt: HostRuntime) -> Result<(), Fail> {
-    let mut desk = Desk::new(NO_KEY);
-    assert!(rt; desk.decides(&[(1, false, 0, 16, 0x00, 1)])?);
-    let orb = offset(0x0304_0506_0708)?;
-    for (function, effect) in [
-        (0xb, Effect::Abort { place: 0, orb }),
-        (0xc, Effect::AbortSet { place: 0 }),
-        (0xe, Effect::UnitReset { unit: 0 }),
-        (0xf, Effect::TargetReset),
-        (0x7, Effect::Left { place: 0 }),
-    ] {
-        let (status, _effect) = on_login_of(&mut desk, function, 2)?;
-        assert_eq!(rt; status, 0x0a);
-        desk.manager.clear();
-        assert_eq!(rt; on_login_of(&mut desk, function, 1)?, (0x00, effect));
-        desk.reply(Reply::Done)?;
+/// Whether a function on login ID 1 has this status for a node, and does this, if anything.
+fn does(desk: &mut Desk, function: u8, physical: u8, status: u8, effect: Option<Effect>) -> bool {
+    let Some(step) = desk.start(physical, &on_login(function)) else {
+        return false;
+    };
+    match step.decided {
+        Some(decision) => {
+            decision.status == status && (effect.is_none() || effect == Some(step.effect))
+        }
+        None => false,
     }
-    Ok(())
 }
 
-/// A reconnect of the EUI-64 of a held login, under another node ID.
-#[test]
-fn reconnect(rt: HostRuntime) -> Result<(), Fail> {
-    let mut desk = Desk::new(NO_KEY);
-    assert!(rt; desk.decides(&[(1, false, 0, 16, 0x00, 1)])?);
+/// Whether a function on a live login is refused another node, whose operation a reset ends, and does this for
+/// its node.
+fn is_done(desk: &mut Desk, function: u8, effect: Effect) -> bool {
+    let is_refused = does(desk, function, 2, 0x0a, None);
+    desk.manager.clear();
+    is_refused && does(desk, function, 1, 0x00, Some(effect)) && desk.reply(Reply::Done).is_some()
+}
+
+/// Whether each function is so.
+fn functions_on_a_login(desk: &mut Desk) -> Option<bool> {
+    let orb = Offset::new(0x0304_0506_0708)?;
+    let are_done = desk.decides(&[(1, false, 0, 16, 0x00, 1)])
+        && is_done(desk, 0xb, Effect::Abort { place: 0, orb })
+        && is_done(desk, 0xc, Effect::AbortSet { place: 0 })
+        && is_done(desk, 0xe, Effect::UnitReset { unit: 0 })
+        && is_done(desk, 0xf, Effect::TargetReset)
+        && is_done(desk, 0x7, Effect::Left { place: 0 });
+    Some(are_done)
+}
+
+/// Whether a reconnect of the EUI-64 of a held login, under another node ID, brings it back.
+fn reconnects(desk: &mut Desk) -> Option<bool> {
+    let is_in = desk.decides(&[(1, false, 0, 16, 0x00, 1)]);
     desk.logins.hold();
     desk.start(2, &on_login(3))?;
-    assert_eq!(rt; desk.give_eui(1)?.effect, Effect::Back { place: 0 });
-    assert!(rt; desk.logins.by_agent(0, node(2)?).is_some());
-    Ok(())
+    let is_back = desk.give_eui(1)?.effect == Effect::Back { place: 0 };
+    Some(is_in && is_back && desk.logins.by_agent(0, NodeId::local(2)?).is_some())
+}
+
+/// Operations of new managers each.
+#[test]
+fn operations(rt: HostRuntime) {
+    assert!(rt; keeps_out(&mut Desk::new(NO_KEY)) == Some(true));
+    assert!(rt; Desk::new(PASSWORD).decides(&KEYED));
+    let mut full = Desk::new(NO_KEY);
+    assert!(rt; takes_eight(&mut full));
+    assert!(rt; cuts_query(&mut full) == Some(true));
+    assert!(rt; functions_on_a_login(&mut Desk::new(NO_KEY)) == Some(true));
+    assert!(rt; reconnects(&mut Desk::new(NO_KEY)) == Some(true));
 }
