@@ -7,7 +7,6 @@ use orb_layout::{StatusBlock, StatusKind};
 use orb_list::{ListFault, Request, Slots, Ticket};
 use sbp_base::{NoMemory, NodeId, Offset};
 use std::alloc::Global;
-use std::test::Fail;
 
 /// Slots with the image that holds them.
 #[derive(Drop)]
@@ -213,13 +212,30 @@ const TABLE: [u8; 24] = [
     0x00, 0x0c, 0x00, 0x00, 0x11, 0x00, 0x04, 0x14,
 ];
 
-/// Lists from no ORB on.
+/// What is done with a list.
+#[derive(Clone, Copy)]
+enum Course {
+    Halves,
+    Full,
+    Pinned,
+    Table,
+}
+
+/// Whether it is so from no ORB on.
+fn is_so(alloc: Global, course: Course) -> Option<bool> {
+    let mut desk = Desk::new(alloc, &[]).ok()?;
+    match course {
+        Course::Halves => links_by_halves(&mut desk),
+        Course::Full => Some(runs_out(&mut desk)),
+        Course::Pinned => keeps_pinned(&mut desk),
+        Course::Table => has_page_table(&mut desk),
+    }
+}
+
 #[test]
-fn lists(rt: HostRuntime) -> Result<(), Fail> {
-    let alloc = rt.alloc();
-    assert!(rt; links_by_halves(&mut Desk::new(alloc, &[])?) == Some(true));
-    assert!(rt; runs_out(&mut Desk::new(alloc, &[])?));
-    assert!(rt; keeps_pinned(&mut Desk::new(alloc, &[])?) == Some(true));
-    assert!(rt; has_page_table(&mut Desk::new(alloc, &[])?) == Some(true));
-    Ok(())
+fn lists(rt: HostRuntime) {
+    assert!(rt; is_so(rt.alloc(), Course::Halves) == Some(true));
+    assert!(rt; is_so(rt.alloc(), Course::Full) == Some(true));
+    assert!(rt; is_so(rt.alloc(), Course::Pinned) == Some(true));
+    assert!(rt; is_so(rt.alloc(), Course::Table) == Some(true));
 }

@@ -34,34 +34,36 @@ impl Desk {
     }
 
     /// Gives a reply where an operation is under way.
-    fn reply(&mut self, reply: Reply<'_>) -> Option<ManagerStep> {
-        self.manager.source()?;
-        Some(self.manager.reply(&mut self.logins, &self.keys, reply))
+    fn reply(&mut self, reply: Reply<'_>) -> Result<ManagerStep, &'static str> {
+        if self.manager.source().is_none() {
+            return Err("no operation");
+        }
+        Ok(self.manager.reply(&mut self.logins, &self.keys, reply))
     }
 
     /// Starts an operation of a node, whose ORB stands at 30000h, and reads the ORB.
-    fn start(&mut self, physical: u8, bytes: &[u8]) -> Option<ManagerStep> {
-        let node = NodeId::local(physical)?;
-        match self.manager.start(node, Offset::new(0x3_0000)?) {
+    fn start(&mut self, physical: u8, bytes: &[u8]) -> Result<ManagerStep, &'static str> {
+        match self.manager.start(node(physical)?, offset(0x3_0000)?) {
             Ok(Ask::Read { length: 32, .. }) => self.reply(Reply::Payload(bytes)),
-            _ => None,
+            _ => Err("start"),
         }
     }
 
     /// Gives the EUI-64 0011223300000000h + `last`.
-    fn give_eui(&mut self, last: u8) -> Option<ManagerStep> {
+    fn give_eui(&mut self, last: u8) -> Result<ManagerStep, &'static str> {
         self.reply(Reply::Payload(&[0, 0x11, 0x22, 0x33]))?;
         self.reply(Reply::Payload(&[0, 0, 0, last]))
     }
 
     /// A login of a node, whose EUI-64 ends with its number, from its start to its end.
-    fn login(&mut self, physical: u8, bytes: &[u8]) -> Option<Decision> {
+    fn login(&mut self, physical: u8, bytes: &[u8]) -> Result<Decision, &'static str> {
         self.start(physical, bytes)?;
-        let decision = self.give_eui(physical)?.decided?;
+        let step = self.give_eui(physical)?;
+        let decision = step.decided.ok_or("not decided")?;
         if let Ask::Write { .. } = self.reply(Reply::Done)?.ask {
             self.reply(Reply::Done)?;
         }
-        Some(decision)
+        Ok(decision)
     }
 
     /// Whether each login is decided so.
@@ -74,7 +76,7 @@ impl Desk {
                 status: *status,
                 login: *login,
             };
-            if self.login(*physical, &bytes) != Some(decision) {
+            if self.login(*physical, &bytes) != Ok(decision) {
                 return false;
             }
         }
@@ -105,11 +107,21 @@ fn orb_on(function: u8, exclusive: bool, subject: u8, password: u64, lengths: u3
     bytes
 }
 
+/// The node FFC0h + `physical`.
+fn node(physical: u8) -> Result<NodeId, &'static str> {
+    NodeId::local(physical).ok_or("node")
+}
+
+/// The address of a value.
+fn offset(value: u64) -> Result<Offset, &'static str> {
+    Offset::new(value).ok_or("offset")
+}
+
 /// Whether an exclusive login keeps another node out until it leaves.
-fn keeps_out(desk: &mut Desk) -> Option<bool> {
+fn keeps_out(desk: &mut Desk) -> Result<bool, &'static str> {
     let is_out = desk.decides(&[(1, true, 0, 16, 0x00, 1), (2, false, 0, 16, 0x04, 0)]);
-    let is_left = desk.logins.leave(1, NodeId::local(1)?) == Ok(0);
-    Some(is_out && is_left && desk.decides(&[(2, false, 0, 16, 0x00, 2)]))
+    let is_left = desk.logins.leave(1, node(1)?) == Ok(0);
+    Ok(is_out && is_left && desk.decides(&[(2, false, 0, 16, 0x00, 2)]))
 }
 
 /// Logins to a unit with a key, which wants it as an immediate password.
@@ -136,9 +148,9 @@ fn takes_eight(desk: &mut Desk) -> bool {
 
 /// Whether a query of it is cut after the 20 bytes that its ORB allows; the operation keeps others waiting,
 /// and fails where its time runs out.
-fn cuts_query(desk: &mut Desk) -> Option<bool> {
-    let node = NodeId::local(1)?;
-    let place = Offset::new(0x1_0000)?;
+fn cuts_query(desk: &mut Desk) -> Result<bool, &'static str> {
+    let first = node(1)?;
+    let place = offset(0x1_0000)?;
     let write = Ask::Write {
         offset: place,
         length: 20,
@@ -146,14 +158,14 @@ fn cuts_query(desk: &mut Desk) -> Option<bool> {
     desk.logins.hold();
     let is_cut = desk.start(9, &orb(1, false, 0, 20))?.ask == write
         && desk.manager.outgoing() == CUT.as_slice();
-    let is_busy = desk.manager.start(node, place) == Err(Busy);
+    let is_busy = desk.manager.start(first, place) == Err(Busy);
     let is_failed = desk.reply(Reply::Expired)?.failed == Some(FailCause::Timeout);
-    Some(is_cut && is_busy && is_failed && desk.manager.start(node, place).is_ok())
+    Ok(is_cut && is_busy && is_failed && desk.manager.start(first, place).is_ok())
 }
 
 /// Whether a function on login ID 1 has this status for a node, and does this, if anything.
 fn does(desk: &mut Desk, function: u8, physical: u8, status: u8, effect: Option<Effect>) -> bool {
-    let Some(step) = desk.start(physical, &on_login(function)) else {
+    let Ok(step) = desk.start(physical, &on_login(function)) else {
         return false;
     };
     match step.decided {
@@ -169,38 +181,38 @@ fn does(desk: &mut Desk, function: u8, physical: u8, status: u8, effect: Option<
 fn is_done(desk: &mut Desk, function: u8, effect: Effect) -> bool {
     let is_refused = does(desk, function, 2, 0x0a, None);
     desk.manager.clear();
-    is_refused && does(desk, function, 1, 0x00, Some(effect)) && desk.reply(Reply::Done).is_some()
+    is_refused && does(desk, function, 1, 0x00, Some(effect)) && desk.reply(Reply::Done).is_ok()
 }
 
 /// Whether each function is so.
-fn functions_on_a_login(desk: &mut Desk) -> Option<bool> {
-    let orb = Offset::new(0x0304_0506_0708)?;
+fn functions_on_a_login(desk: &mut Desk) -> Result<bool, &'static str> {
+    let orb = offset(0x0304_0506_0708)?;
     let are_done = desk.decides(&[(1, false, 0, 16, 0x00, 1)])
         && is_done(desk, 0xb, Effect::Abort { place: 0, orb })
         && is_done(desk, 0xc, Effect::AbortSet { place: 0 })
         && is_done(desk, 0xe, Effect::UnitReset { unit: 0 })
         && is_done(desk, 0xf, Effect::TargetReset)
         && is_done(desk, 0x7, Effect::Left { place: 0 });
-    Some(are_done)
+    Ok(are_done)
 }
 
 /// Whether a reconnect of the EUI-64 of a held login, under another node ID, brings it back.
-fn reconnects(desk: &mut Desk) -> Option<bool> {
+fn reconnects(desk: &mut Desk) -> Result<bool, &'static str> {
     let is_in = desk.decides(&[(1, false, 0, 16, 0x00, 1)]);
     desk.logins.hold();
     desk.start(2, &on_login(3))?;
     let is_back = desk.give_eui(1)?.effect == Effect::Back { place: 0 };
-    Some(is_in && is_back && desk.logins.by_agent(0, NodeId::local(2)?).is_some())
+    Ok(is_in && is_back && desk.logins.by_agent(0, node(2)?).is_some())
 }
 
 /// Operations of new managers each.
 #[test]
 fn operations(rt: HostRuntime) {
-    assert!(rt; keeps_out(&mut Desk::new(NO_KEY)) == Some(true));
+    assert!(rt; keeps_out(&mut Desk::new(NO_KEY)) == Ok(true));
     assert!(rt; Desk::new(PASSWORD).decides(&KEYED));
     let mut full = Desk::new(NO_KEY);
     assert!(rt; takes_eight(&mut full));
-    assert!(rt; cuts_query(&mut full) == Some(true));
-    assert!(rt; functions_on_a_login(&mut Desk::new(NO_KEY)) == Some(true));
-    assert!(rt; reconnects(&mut Desk::new(NO_KEY)) == Some(true));
+    assert!(rt; cuts_query(&mut full) == Ok(true));
+    assert!(rt; functions_on_a_login(&mut Desk::new(NO_KEY)) == Ok(true));
+    assert!(rt; reconnects(&mut Desk::new(NO_KEY)) == Ok(true));
 }
