@@ -2,6 +2,7 @@ use command_agent::{Agent, AgentState, AgentStep, PointRefusal, Which};
 use orb_layout::{Ask, FailCause, OrbPointer, Reply, StatusKind};
 use rbc_disk::{Medium, Outcome, RamMedium, Unit};
 use sbp_base::{NoMemory, Offset};
+use std::alloc::Global;
 use std::test::Fail;
 
 /// An ORB with a buffer at 11000000h. Its next one is at this address, or there is none where it is 0.
@@ -79,10 +80,10 @@ fn asking(ask: Ask) -> AgentStep {
 }
 
 /// An agent of place 0 over a disk of 16 blocks of 5Ah, pointed to 10000000h, after these inputs.
-fn run(rt: &impl AllocGlobal, inputs: &[Input]) -> Result<Course, NoMemory> {
-    let mut agent = Agent::new(rt.alloc())?;
+fn run(alloc: Global, inputs: &[Input]) -> Result<Course, NoMemory> {
+    let mut agent = Agent::new(alloc)?;
     let mut unit = Unit::new();
-    let mut medium = RamMedium::new(rt.alloc(), 16, 0x5a)?;
+    let mut medium = RamMedium::new(alloc, 16, 0x5a)?;
     let mut step = quiet();
     let _ = agent.point(at(0x1000_0000));
     for input in inputs {
@@ -106,13 +107,15 @@ fn give(agent: &mut Agent, unit: &mut Unit, medium: &mut dyn Medium, input: Inpu
             }
             quiet()
         }
-        Input::Ahead(orb) => hear(
-            agent,
-            unit,
-            medium,
-            Which::Ahead,
-            Reply::Payload(&bytes(orb)),
-        ),
+        Input::Ahead(orb) => {
+            hear(
+                agent,
+                unit,
+                medium,
+                Which::Ahead,
+                Reply::Payload(&bytes(orb)),
+            )
+        }
         Input::AheadExpired => hear(agent, unit, medium, Which::Ahead, Reply::Expired),
         Input::Orb(orb) => hear(
             agent,
@@ -121,24 +124,24 @@ fn give(agent: &mut Agent, unit: &mut Unit, medium: &mut dyn Medium, input: Inpu
             Which::Main,
             Reply::Payload(&bytes(orb)),
         ),
-        Input::Table => hear(agent, unit, medium, Which::Main, Reply::Payload(TABLE)),
-        Input::Null => hear(agent, unit, medium, Which::Main, Reply::Payload(NULL)),
-        Input::Zeros(count) => {
-            let zeros = [0; 512];
-            hear(
-                agent,
-                unit,
-                medium,
-                Which::Main,
-                Reply::Payload(&zeros[..count.min(512)]),
-            )
-        }
-        Input::Done => hear(agent, unit, medium, Which::Main, Reply::Done),
-        Input::Expired => hear(agent, unit, medium, Which::Main, Reply::Expired),
-        Input::Refused => hear(agent, unit, medium, Which::Main, Reply::Refused(4)),
-        Input::NoLabel => hear(agent, unit, medium, Which::Main, Reply::NoLabel),
+        _ => hear(agent, unit, medium, Which::Main, reply_of(input)),
     }
 }
+
+/// The reply that an input is to the main transaction, but for an ORB.
+fn reply_of(input: Input) -> Reply<'static> {
+    match input {
+        Input::Table => Reply::Payload(TABLE),
+        Input::Null => Reply::Payload(NULL),
+        Input::Zeros(count) => Reply::Payload(&ZEROS[..count.min(512)]),
+        Input::Expired => Reply::Expired,
+        Input::Refused => Reply::Refused(4),
+        Input::NoLabel => Reply::NoLabel,
+        _ => Reply::Done,
+    }
+}
+
+const ZEROS: [u8; 512] = [0; 512];
 
 /// The read that a pointer brings about, or nothing where it is not taken.
 fn point_to(agent: &mut Agent, pointer: u64) -> AgentStep {
@@ -436,22 +439,21 @@ const ILLEGAL: Told = Told::Failed(StatusKind::Illegal(0xff), FailCause::Grammar
 
 const ILLEGAL_FORMAT: Told = Told::Failed(StatusKind::Illegal(0x01), FailCause::Grammar);
 
-/// The last step of each of these runs.
-fn check(rt: &impl AllocGlobal, runs: &[(&[Input], Told)]) -> Option<usize> {
+/// The place of the first run whose last step is another one.
+fn other_step(alloc: Global, runs: &[(&[Input], Told)]) -> Result<Option<usize>, NoMemory> {
     for (place, (inputs, told)) in runs.iter().enumerate() {
-        match run(rt, inputs) {
-            Ok(course) if course.step == step(*told) => {}
-            _ => return Some(place),
+        if run(alloc, inputs)?.step != step(*told) {
+            return Ok(Some(place));
         }
     }
-    None
+    Ok(None)
 }
 
 #[test]
 fn last_steps(rt: HostRuntime) -> Result<(), Fail> {
-    assert_eq!(rt; check(&rt, &MOVED), None);
-    assert_eq!(rt; check(&rt, &FOLLOWED), None);
-    assert_eq!(rt; check(&rt, &ENDED), None);
+    for runs in [MOVED.as_slice(), FOLLOWED.as_slice(), ENDED.as_slice()] {
+        assert_eq!(rt; other_step(rt.alloc(), runs)?, None);
+    }
     Ok(())
 }
 
@@ -486,43 +488,51 @@ const STATES: [(&[Input], AgentState, &[u8]); 6] = [
     (&[READ, Input::Done], AgentState::Active, &[0x5a; 128]),
 ];
 
-#[test]
-fn states_and_bytes(rt: HostRuntime) -> Result<(), Fail> {
-    for (inputs, state, bytes) in STATES {
-        let run = run(&rt, inputs).ok().ok_or("memory")?;
-        assert_eq!(rt; run.agent.state(), state);
-        assert_eq!(rt; run.agent.outgoing(), bytes);
+/// The place of the first run whose state or bytes are others.
+fn other_state(alloc: Global) -> Result<Option<usize>, NoMemory> {
+    for (place, (inputs, state, bytes)) in STATES.iter().enumerate() {
+        let agent = run(alloc, inputs)?.agent;
+        if agent.state() != *state || agent.outgoing() != *bytes {
+            return Ok(Some(place));
+        }
     }
-    Ok(())
+    Ok(None)
+}
+
+/// Whether pointers are refused that are null, or come to an active agent; and a reset leaves no ORB.
+fn refuses(agent: &mut Agent) -> bool {
+    agent.point(OrbPointer::Null) == Err(PointRefusal::Null)
+        && agent.point(at(0x1000_0003)) == Ok(read(0x1000_0000, 32))
+        && agent.point(at(0x1000_0000)) == Err(PointRefusal::Conflict)
+        && agent.present() == Offset::new(0x1000_0000)
+        && agent.reset()
+        && !agent.reset()
+        && agent.present() == None
+}
+
+/// What a transaction that is lost brings, without a unit and a medium, where it is under way.
+fn lose(agent: &mut Agent, which: Which, cause: FailCause) -> Option<AgentStep> {
+    if agent.is_under_way(which) {
+        Some(agent.lose(which, cause))
+    } else {
+        None
+    }
+}
+
+/// Whether the read ahead is lost, and then the status write.
+fn loses(agent: &mut Agent) -> bool {
+    lose(agent, Which::Ahead, FailCause::Label) == Some(quiet())
+        && !agent.is_under_way(Which::Ahead)
+        && lose(agent, Which::Main, FailCause::Timeout)
+            == Some(step(Told::Dead(FailCause::Timeout)))
+        && agent.state() == AgentState::Dead
 }
 
 #[test]
-fn refusals(rt: HostRuntime) -> Result<(), Fail> {
-    let mut agent = Agent::new(rt.alloc()).ok().ok_or("memory")?;
-    assert_eq!(rt; agent.point(OrbPointer::Null), Err(PointRefusal::Null));
-    assert_eq!(rt; agent.point(at(0x1000_0003)), Ok(read(0x1000_0000, 32)));
-    assert_eq!(rt; agent.point(at(0x1000_0000)), Err(PointRefusal::Conflict));
-    assert_eq!(rt; agent.present(), Offset::new(0x1000_0000));
-    assert!(rt; agent.reset());
-    assert!(rt; !agent.reset());
-    assert_eq!(rt; agent.present(), None);
-    Ok(())
-}
-
-/// Transactions that are lost, without a unit and a medium: the read ahead, then the status write.
-#[test]
-fn losses(rt: HostRuntime) -> Result<(), Fail> {
-    let mut agent = run(&rt, &[FIRST, Input::Bell]).ok().ok_or("memory")?.agent;
-    if agent.is_under_way(Which::Ahead) {
-        assert_eq!(rt; agent.lose(Which::Ahead, FailCause::Label), quiet());
-    }
-    assert!(rt; !agent.is_under_way(Which::Ahead));
-    if agent.is_under_way(Which::Main) {
-        assert_eq!(rt;
-            agent.lose(Which::Main, FailCause::Timeout),
-            step(Told::Dead(FailCause::Timeout))
-        );
-    }
-    assert_eq!(rt; agent.state(), AgentState::Dead);
+fn states_and_losses(rt: HostRuntime) -> Result<(), Fail> {
+    assert_eq!(rt; other_state(rt.alloc())?, None);
+    assert!(rt; refuses(&mut Agent::new(rt.alloc())?));
+    let mut course = run(rt.alloc(), &[FIRST, Input::Bell])?;
+    assert!(rt; loses(&mut course.agent));
     Ok(())
 }

@@ -1,99 +1,98 @@
 ghost use Rattle.std.specs.Prelude.{◌<◌};
 
 use rbc_disk::{BufferPlan, Medium, Need, Outcome, Sense, Unit};
-use sbp_base::NoMemory;
-use std::process::Abort;
-use std::test::Fail;
+use std::alloc::Global;
 
 /// The bytes of the room for answers, of each buffer and of each payload: 32 blocks.
 pub(crate) const ROOM: usize = 16384;
 
 pub(crate) const GOOD: Outcome = Outcome::Good { answer: 0 };
 
-/// A command block, the direction of its buffer, the byte that a payload is filled with, and how the
-/// command is to end.
+/// A command that is sent.
 #[derive(Clone, Copy)]
-pub(crate) struct Case {
-    cdb: [u8; 12],
-    to_initiator: bool,
-    fill: u8,
-    ended: Outcome,
+pub(crate) enum Sent {
+    /// This one, which sends no data.
+    Block([u8; 12]),
+    /// READ(12) from this block on, of so many.
+    Read(u8, u8),
+    /// VERIFY from this block on, of so many.
+    Verify(u8, u8),
+    /// A WRITE of 32 blocks of this byte.
+    WriteAll(u8),
 }
 
-/// A command that sends no data.
-pub(crate) const fn ends(cdb: [u8; 12], ended: Outcome) -> Case {
-    Case {
-        cdb,
-        to_initiator: true,
-        fill: 0,
-        ended,
-    }
-}
+/// A command, and how it is to end.
+pub(crate) type Case = (Sent, Outcome);
 
-/// A command that ends with a check.
-pub(crate) const fn checked(cdb: [u8; 12], sense: Sense) -> Case {
-    ends(cdb, Outcome::Check(sense))
-}
-
-/// A WRITE of 32 blocks of one byte.
-pub(crate) const fn write_all(fill: u8, ended: Outcome) -> Case {
-    Case {
-        cdb: [0xaa, 0, 0, 0, 0, 0, 0, 0, 0, 32, 0, 0],
-        to_initiator: false,
-        fill,
-        ended,
+/// The command block, the direction of the buffer, and the byte that a payload is filled with.
+fn command(sent: Sent) -> ([u8; 12], bool, u8) {
+    match sent {
+        Sent::Block(cdb) => (cdb, true, 0),
+        Sent::Read(lba, count) => ([0xa8, 0, 0, 0, 0, lba, 0, 0, 0, count, 0, 0], true, 0),
+        Sent::Verify(lba, count) => ([0x2f, 0, 0, 0, 0, lba, 0, 0, count, 0, 0, 0], true, 0),
+        Sent::WriteAll(fill) => ([0xaa, 0, 0, 0, 0, 0, 0, 0, 0, 32, 0, 0], false, fill),
     }
 }
 
 /// How a command of a login ends, where its data are none or 32 blocks.
 fn run(
+    alloc: Global,
     unit: &mut Unit,
     medium: &mut dyn Medium,
     login: u8,
-    case: &Case,
-    payload: &[u8],
+    sent: Sent,
     room: &mut [u8],
 ) -> Option<Outcome>
     requires { login < 8 }
 {
+    let (cdb, to_initiator, fill) = command(sent);
+    let payload = vec![in alloc; fill; ROOM].ok()?;
     let buffer = BufferPlan {
-        to_initiator: case.to_initiator,
+        to_initiator,
         bytes: 16384,
     };
     if payload.len() != ROOM || room.len() != ROOM {
         return None;
     }
-    match unit.needs(medium, login, &case.cdb, buffer) {
-        Need::RunNow => Some(unit.run(medium, login, &case.cdb, buffer, &[], room)),
-        Need::Payload(16384) => Some(unit.run(medium, login, &case.cdb, buffer, payload, room)),
-        Need::Payload(_) => None,
-    }
+    let payload = match unit.needs(medium, login, &cdb, buffer) {
+        Need::RunNow => &[],
+        Need::Payload(16384) => payload.as_slice(),
+        Need::Payload(_) => return None,
+    };
+    Some(unit.run(medium, login, &cdb, buffer, payload, room))
 }
 
-/// Runs commands of a login in turn, each of which ends as its case says; gives the room for answers.
+/// Runs commands of a login in turn; the room for answers, where each ends as its case says.
 pub(crate) fn play(
-    rt: &(impl Abort + AllocGlobal),
+    alloc: Global,
     unit: &mut Unit,
     medium: &mut dyn Medium,
     login: u8,
     cases: &[Case],
-) -> Result<Vec<u8>, Fail>
+) -> Option<Vec<u8>>
     requires { login < 8 }
 {
-    let mut room = vec![in rt.alloc(); 0xee; ROOM]?;
-    for case in cases {
-        let payload = vec![in rt.alloc(); case.fill; ROOM]?;
-        let ended = run(
-            unit,
-            medium,
-            login,
-            case,
-            payload.as_slice(),
-            room.as_mut_slice(),
-        );
-        assert_eq!(rt; ended, Some(case.ended), "{:?}", case.cdb);
+    let mut room = vec![in alloc; 0xee; ROOM].ok()?;
+    for (sent, ended) in cases {
+        if run(alloc, unit, medium, login, *sent, room.as_mut_slice()) != Some(*ended) {
+            return None;
+        }
     }
-    Ok(room)
+    Some(room)
+}
+
+/// Whether a new unit plays so for login 0, with these bytes in the room for answers from `at` on.
+pub(crate) fn plays(
+    alloc: Global,
+    medium: &mut dyn Medium,
+    cases: &[Case],
+    at: usize,
+    bytes: &[u8],
+) -> bool {
+    match play(alloc, &mut Unit::new(), medium, 0, cases) {
+        Some(room) => holds(room.as_slice(), at, bytes),
+        None => false,
+    }
 }
 
 /// Whether a room has these bytes from `at` on.

@@ -67,11 +67,6 @@ impl Trial {
         })
     }
 
-    /// What was told, lent.
-    pub(crate) fn told(&self) -> &[u8] {
-        self.told.as_slice()
-    }
-
     /// Tells a line.
     fn tell(&mut self, line: &str) -> Result<(), NoMemory> {
         self.told.extend_from_slice(line.as_bytes())?;
@@ -222,7 +217,7 @@ impl Trial {
     }
 
     /// Does what a line says, so many times.
-    pub(crate) fn repeat(&mut self, line: &str, times: u32) -> Result<(), NoMemory> {
+    fn repeat(&mut self, line: &str, times: u32) -> Result<(), NoMemory> {
         for _ in 0..times {
             self.serve(line.as_bytes())?;
         }
@@ -237,18 +232,33 @@ impl Trial {
         Ok(())
     }
 
-    /// Whether this is the last that was told.
-    pub(crate) fn ends_with(&self, text: &str) -> bool {
-        self.told.as_slice().ends_with(text.as_bytes())
-    }
-
     /// Tells a line of a run and does what it says, where it begins so; other lines are what is to come.
-    pub(crate) fn step(&mut self, line: &[u8]) -> Result<(), NoMemory> {
+    fn step(&mut self, line: &[u8]) -> Result<(), NoMemory> {
         if let [b'>', b' ', said @ ..] = line {
             self.told.extend_from_slice(line)?;
             end_line(&mut self.told)?;
             self.serve(said)?;
         }
         Ok(())
+    }
+
+    /// Whether a text is told where the lines of it are done that say what is done.
+    pub(crate) fn tells(&mut self, text: &str) -> Result<bool, NoMemory> {
+        let lines = parts_of(self.alloc, text.as_bytes(), b'\n')?;
+        for line in &lines {
+            self.step(line)?;
+        }
+        Ok(self.told.as_slice() == text.as_bytes())
+    }
+
+    /// Whether the end of each row is told where its line is done so many times.
+    pub(crate) fn ends_so(&mut self, rows: &[(&str, u32, &str)]) -> Result<bool, NoMemory> {
+        for (line, times, end) in rows {
+            self.repeat(line, *times)?;
+            if !self.told.as_slice().ends_with(end.as_bytes()) {
+                return Ok(false);
+            }
+        }
+        Ok(true)
     }
 }

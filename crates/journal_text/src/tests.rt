@@ -1,5 +1,5 @@
-ghost use Rattle.std.specs.Prelude.{◌<◌, length};
-ghost use Rattle.sbp_journal.specs.Form.{IsBuffer, IsStatus, HasForm, IsDecision};
+ghost use Rattle.std.specs.Prelude.{◌<◌, length, IsTrue};
+ghost use Rattle.sbp_journal.specs.Form.{IsBuffer, IsStatus, HasForm};
 
 use orb_layout::{FailCause, StatusKind};
 use rbc_command::Sense;
@@ -9,7 +9,6 @@ use sbp_journal::{
     Text, write_note,
 };
 use std::alloc::Global;
-use std::process::Abort;
 use std::test::Fail;
 
 const WRITE: [u8; 12] = [0x2a, 0, 0, 0, 0, 5, 0, 0, 1, 0, 0, 0];
@@ -146,39 +145,13 @@ fn write_forms(alloc: Global, out: &mut Text) -> Result<(), NoMemory> {
     write_ran(alloc, None, 3, &READ, &[], true, out)
 }
 
-/// Each form of a line, as it was written by hand.
-#[test]
-fn lines_of_notes(rt: HostRuntime) -> Result<(), Fail> {
-    let block = [0xaa; 512];
-    let mut run = Text::new(rt.alloc());
-    write_run(rt.alloc(), &block, &mut run)
-        .ok()
-        .ok_or("memory")?;
-    assert_eq!(rt; run.as_slice(), LINES.as_bytes());
-    let mut forms = Text::new(rt.alloc());
-    write_forms(rt.alloc(), &mut forms).ok().ok_or("memory")?;
-    assert_eq!(rt; forms.as_slice(), FORMS.as_bytes());
-    Ok(())
-}
-
-/// A note has this line.
-fn tells(rt: &impl Abort, alloc: Global, note: &Note, line: &str)
-    requires { HasForm note.now }
-{
-    let mut text = Text::new(alloc);
-    let written = write_note(alloc, note, &mut text);
-    assert!(rt; written.is_ok());
-    assert_eq!(rt; text.as_slice(), line.as_bytes());
-}
-
 /// A packet was sent.
-fn tells_sent(
-    rt: &impl Abort,
+fn write_sent(
     alloc: Global,
     from: u8,
     to: u8,
     bytes: &[u8],
-    line: &str,
+    out: &mut Text,
 ) -> Result<(), NoMemory> {
     let note = Note::Sent {
         serial: 2,
@@ -187,319 +160,471 @@ fn tells_sent(
         to,
         bytes: Bytes::from_slice(alloc, bytes)?,
     };
-    tells(rt, alloc, &note, line);
-    Ok(())
+    write_note(alloc, &note, out)
 }
 
-/// An operation of initiator 1 ended.
-fn tells_end(rt: &impl Abort, alloc: Global, operation: Operation, word: OpWord, line: &str) {
-    let note = Note::Op {
-        initiator: 1,
-        operation,
-        word,
-    };
-    tells(rt, alloc, &note, line);
+/// A write response.
+const RESPONSE: [u8; 12] = [0xff, 0xc1, 0x01, 0x20, 0xff, 0xc0, 0, 0, 0, 0, 0, 0];
+
+/// Packets that were sent.
+const SENT: &str = "sent 2 1 t 0 FFC10120FFC0000000000000
+sent 2 1 3 t 0A
+";
+
+/// Whether notes with bytes have these lines, as they were written by hand.
+fn has_lines(alloc: Global) -> Result<bool, NoMemory> {
+    let mut run = Text::new(alloc);
+    write_run(alloc, &[0xaa; 512], &mut run)?;
+    let mut forms = Text::new(alloc);
+    write_forms(alloc, &mut forms)?;
+    let mut sent = Text::new(alloc);
+    write_sent(alloc, 0, 1, &RESPONSE, &mut sent)?;
+    write_sent(alloc, 4, 0, &[0x0a], &mut sent)?;
+    let is_so = run.as_slice() == LINES.as_bytes()
+        && forms.as_slice() == FORMS.as_bytes()
+        && sent.as_slice() == SENT.as_bytes();
+    Ok(is_so)
 }
 
-/// An ORB ended with a status of its list.
-fn tells_ended(rt: &impl Abort, alloc: Global, status: StatusKind, line: &str)
-    requires { IsStatus status }
+/// Whether a status is one that an ORB of a list ends with, but for a check.
+fn is_status(status: StatusKind) -> bool
+    ensures { IsTrue result → IsStatus status }
 {
-    let note = Note::Ended {
+    match status {
+        StatusKind::Good
+        | StatusKind::Dummy
+        | StatusKind::Aborted
+        | StatusKind::Illegal(_)
+        | StatusKind::Failed => true,
+        _ => false,
+    }
+}
+
+/// Whether a note is one without bytes, and has its form.
+fn has_form(note: &Note) -> bool
+    ensures { IsTrue result → HasForm note.now }
+{
+    match note {
+        Note::Ended { status, .. } => is_status(*status),
+        Note::Managed {
+            function,
+            status,
+            login,
+            ..
+        } => {
+            let gives = matches!(function, FunctionWord::Login) && *status == 0;
+            login.is_some() == gives
+        }
+        Note::Append { .. } | Note::Ran { .. } | Note::Taken { .. } => false,
+        _ => true,
+    }
+}
+
+/// Whether notes without bytes have these lines.
+fn tell(alloc: Global, notes: &[Note], lines: &str) -> Result<bool, NoMemory> {
+    let mut text = Text::new(alloc);
+    for note in notes {
+        if !has_form(note) {
+            return Ok(false);
+        }
+        write_note(alloc, note, &mut text)?;
+    }
+    Ok(text.as_slice() == lines.as_bytes())
+}
+
+/// Packets.
+const PACKETS: [Note; 11] = [
+    Note::Injected { serial: 1 },
+    Note::Got { serial: u64::MAX },
+    Note::Lost { serial: 3 },
+    Note::TimedOut { serial: 4 },
+    Note::Ignored {
+        serial: 7,
+        cause: Cause::Generation,
+    },
+    Note::Ignored {
+        serial: 7,
+        cause: Cause::Grammar,
+    },
+    Note::Ignored {
+        serial: 7,
+        cause: Cause::Label,
+    },
+    Note::Ignored {
+        serial: 7,
+        cause: Cause::Again,
+    },
+    Note::Ignored {
+        serial: 7,
+        cause: Cause::Source,
+    },
+    Note::Ignored {
+        serial: 7,
+        cause: Cause::Login,
+    },
+    Note::Ignored {
+        serial: 7,
+        cause: Cause::Slot,
+    },
+];
+
+const PACKET_LINES: &str = "injected 1
+got 18446744073709551615
+lost 3
+timedout 4
+ignored 7 generation
+ignored 7 grammar
+ignored 7 label
+ignored 7 again
+ignored 7 source
+ignored 7 login
+ignored 7 slot
+";
+
+/// The ends of ORBs and of lists.
+const ENDS: [Note; 14] = [
+    Note::Ended {
         initiator: 1,
         list: Some(2),
         orb: None,
-        status,
-    };
-    tells(rt, alloc, &note, line);
-}
-
-/// A management ORB of initiator 0 was decided.
-fn tells_decision(
-    rt: &impl Abort,
-    alloc: Global,
-    function: FunctionWord,
-    subject: u16,
-    status: u8,
-    login: Option<u16>,
-    line: &str,
-)
-    requires { IsDecision function status login }
-{
-    let note = Note::Managed {
+        status: StatusKind::Dummy,
+    },
+    Note::Ended {
+        initiator: 1,
+        list: Some(2),
+        orb: None,
+        status: StatusKind::Aborted,
+    },
+    Note::Ended {
+        initiator: 1,
+        list: Some(2),
+        orb: None,
+        status: StatusKind::Illegal(1),
+    },
+    Note::Ended {
+        initiator: 1,
+        list: Some(2),
+        orb: None,
+        status: StatusKind::Failed,
+    },
+    Note::Cut {
         initiator: 0,
-        function,
-        subject,
-        status,
-        login,
-    };
-    tells(rt, alloc, &note, line);
-}
+        list: Some(3),
+        cause: CutCause::AgentReset,
+    },
+    Note::Cut {
+        initiator: 0,
+        list: Some(3),
+        cause: CutCause::AbortSet,
+    },
+    Note::Cut {
+        initiator: 0,
+        list: Some(3),
+        cause: CutCause::UnitReset,
+    },
+    Note::Cut {
+        initiator: 0,
+        list: Some(3),
+        cause: CutCause::TargetReset,
+    },
+    Note::Cut {
+        initiator: 0,
+        list: Some(3),
+        cause: CutCause::Logout,
+    },
+    Note::Cut {
+        initiator: 0,
+        list: Some(3),
+        cause: CutCause::Reset,
+    },
+    Note::Dead {
+        initiator: 2,
+        list: None,
+        cause: FailCause::Timeout,
+    },
+    Note::Dead {
+        initiator: 2,
+        list: None,
+        cause: FailCause::Label,
+    },
+    Note::Dead {
+        initiator: 2,
+        list: None,
+        cause: FailCause::Refused,
+    },
+    Note::Dead {
+        initiator: 2,
+        list: None,
+        cause: FailCause::Grammar,
+    },
+];
 
-/// Packets, with the bytes of a write response and with none.
+const END_LINES: &str = "ended 1 2 - dummy
+ended 1 2 - aborted
+ended 1 2 - illegal 01
+ended 1 2 - failed
+cut 0 3 agentreset
+cut 0 3 abortset
+cut 0 3 unitreset
+cut 0 3 targetreset
+cut 0 3 logout
+cut 0 3 reset
+dead 2 - timeout
+dead 2 - label
+dead 2 - refused
+dead 2 - grammar
+";
+
+/// Steps of a list, each with its keyword.
+const STEPS: [Note; 4] = [
+    Note::Linked {
+        initiator: 3,
+        list: 1,
+        orb: 65535,
+    },
+    Note::Rung {
+        initiator: 3,
+        list: 1,
+        orb: 65535,
+    },
+    Note::Dummied {
+        initiator: 3,
+        list: 1,
+        orb: 65535,
+    },
+    Note::Drop {
+        initiator: 3,
+        list: 1,
+    },
+];
+
+const STEP_LINES: &str = "linked 3 1 65535
+rung 3 1 65535
+dummied 3 1 65535
+drop 3 1
+";
+
+/// Decisions of the management agent, and what comes of logins and units.
+const LOGINS: [Note; 12] = [
+    Note::Managed {
+        initiator: 0,
+        function: FunctionWord::Login,
+        subject: 0,
+        status: 0,
+        login: Some(1),
+    },
+    Note::Managed {
+        initiator: 0,
+        function: FunctionWord::Login,
+        subject: 3,
+        status: 5,
+        login: None,
+    },
+    Note::Managed {
+        initiator: 0,
+        function: FunctionWord::Reconnect,
+        subject: 1,
+        status: 0,
+        login: None,
+    },
+    Note::Managed {
+        initiator: 0,
+        function: FunctionWord::UnitReset,
+        subject: 1,
+        status: 0xa,
+        login: None,
+    },
+    Note::Managed {
+        initiator: 0,
+        function: FunctionWord::Other,
+        subject: 0,
+        status: 9,
+        login: None,
+    },
+    Note::ManageFailed {
+        initiator: 1,
+        cause: FailCause::Refused,
+    },
+    Note::Held { login: 1 },
+    Note::Expired { login: 2 },
+    Note::Back { login: 3 },
+    Note::Left { login: 65535 },
+    Note::Cleared { unit: 2 },
+    Note::Key { unit: 3 },
+];
+
+const LOGIN_LINES: &str = "mgmt 0 login 0 00 1
+mgmt 0 login 3 05
+mgmt 0 reconnect 1 00
+mgmt 0 lureset 1 0A
+mgmt 0 other 0 09
+mgmtfail 1 refused
+held 1
+expired 2
+back 3
+left 65535
+cleared 2
+key 3
+";
+
+/// Ends of operations.
+const OPERATIONS: [Note; 11] = [
+    Note::Op {
+        initiator: 1,
+        operation: Operation::Rom,
+        word: OpWord::Bad(4),
+    },
+    Note::Op {
+        initiator: 1,
+        operation: Operation::Rom,
+        word: OpWord::NoUnit,
+    },
+    Note::Op {
+        initiator: 1,
+        operation: Operation::Login,
+        word: OpWord::Refused(4),
+    },
+    Note::Op {
+        initiator: 1,
+        operation: Operation::Query,
+        word: OpWord::Count(Some(2)),
+    },
+    Note::Op {
+        initiator: 1,
+        operation: Operation::Query,
+        word: OpWord::Count(None),
+    },
+    Note::Op {
+        initiator: 1,
+        operation: Operation::Logout,
+        word: OpWord::Conflict,
+    },
+    Note::Op {
+        initiator: 1,
+        operation: Operation::TargetReset,
+        word: OpWord::Error,
+    },
+    Note::Op {
+        initiator: 1,
+        operation: Operation::UnitReset,
+        word: OpWord::Done,
+    },
+    Note::Op {
+        initiator: 1,
+        operation: Operation::AgentReset,
+        word: OpWord::Reset,
+    },
+    Note::Op {
+        initiator: 1,
+        operation: Operation::State,
+        word: OpWord::State(3),
+    },
+    Note::Op {
+        initiator: 1,
+        operation: Operation::Enable,
+        word: OpWord::Done,
+    },
+];
+
+const OPERATION_LINES: &str = "op 1 rom bad 4
+op 1 rom none
+op 1 login refused 04
+op 1 query done 2
+op 1 query done -
+op 1 logout conflict
+op 1 treset error
+op 1 lureset done
+op 1 agentreset reset
+op 1 state 3
+op 1 enable done
+";
+
+/// What else a run tells.
+const RUN: [Note; 12] = [
+    Note::Begin {
+        initiators: 2,
+        ready: false,
+    },
+    Note::Reset { generation: 1 },
+    Note::Seen {
+        node: 0,
+        generation: 1,
+    },
+    Note::Seen {
+        node: 1,
+        generation: 2,
+    },
+    Note::Refused {
+        line: 65536,
+        number: 12,
+    },
+    Note::Stuck { initiator: 0 },
+    Note::Tick,
+    Note::Settled,
+    Note::Stopped,
+    Note::Unsolicited { initiator: 1 },
+    Note::Unsent { initiator: 1 },
+    Note::Told { initiator: 1 },
+];
+
+const RUN_LINES: &str = "begin 2 cold
+reset 1
+seen t 1
+seen 0 2
+refused 65536 12
+stuck 0
+tick
+settled
+stopped
+unsolicited 1
+unsent 1
+told 1 6/28/00
+";
+
+/// Each form of a line, as it was written by hand.
 #[test]
-fn lines_of_packets(rt: HostRuntime) -> Result<(), Fail> {
+fn lines_of_notes(rt: HostRuntime) -> Result<(), Fail> {
+    assert!(rt; has_lines(rt.alloc())?);
     let alloc = rt.alloc();
-    let response = [0xff, 0xc1, 0x01, 0x20, 0xff, 0xc0, 0, 0, 0, 0, 0, 0];
-    tells_sent(
-        &rt,
-        alloc,
-        0,
-        1,
-        &response,
-        "sent 2 1 t 0 FFC10120FFC0000000000000\n",
-    )
-    .ok()
-    .ok_or("memory")?;
-    tells_sent(&rt, alloc, 4, 0, &[0x0a], "sent 2 1 3 t 0A\n")
-        .ok()
-        .ok_or("memory")?;
-    let injected = Note::Injected { serial: 1 };
-    tells(&rt, alloc, &injected, "injected 1\n");
-    let got = Note::Got { serial: u64::MAX };
-    tells(&rt, alloc, &got, "got 18446744073709551615\n");
-    tells(&rt, alloc, &Note::Lost { serial: 3 }, "lost 3\n");
-    tells(&rt, alloc, &Note::TimedOut { serial: 4 }, "timedout 4\n");
-    for (cause, line) in [
-        (Cause::Generation, "ignored 7 generation\n"),
-        (Cause::Grammar, "ignored 7 grammar\n"),
-        (Cause::Label, "ignored 7 label\n"),
-        (Cause::Again, "ignored 7 again\n"),
-        (Cause::Source, "ignored 7 source\n"),
-        (Cause::Login, "ignored 7 login\n"),
-        (Cause::Slot, "ignored 7 slot\n"),
-    ] {
-        tells(&rt, alloc, &Note::Ignored { serial: 7, cause }, line);
-    }
+    assert!(rt; tell(alloc, &PACKETS, PACKET_LINES)?);
+    assert!(rt; tell(alloc, &ENDS, END_LINES)?);
+    assert!(rt; tell(alloc, &STEPS, STEP_LINES)?);
+    assert!(rt; tell(alloc, &LOGINS, LOGIN_LINES)?);
+    assert!(rt; tell(alloc, &OPERATIONS, OPERATION_LINES)?);
+    assert!(rt; tell(alloc, &RUN, RUN_LINES)?);
     Ok(())
 }
 
-/// The ends of ORBs and of lists.
-#[test]
-fn lines_of_ends(rt: HostRuntime) {
-    let alloc = rt.alloc();
-    tells_ended(&rt, alloc, StatusKind::Dummy, "ended 1 2 - dummy\n");
-    tells_ended(&rt, alloc, StatusKind::Aborted, "ended 1 2 - aborted\n");
-    tells_ended(
-        &rt,
-        alloc,
-        StatusKind::Illegal(1),
-        "ended 1 2 - illegal 01\n",
-    );
-    tells_ended(&rt, alloc, StatusKind::Failed, "ended 1 2 - failed\n");
-    for (cause, line) in [
-        (CutCause::AgentReset, "cut 0 3 agentreset\n"),
-        (CutCause::AbortSet, "cut 0 3 abortset\n"),
-        (CutCause::UnitReset, "cut 0 3 unitreset\n"),
-        (CutCause::TargetReset, "cut 0 3 targetreset\n"),
-        (CutCause::Logout, "cut 0 3 logout\n"),
-        (CutCause::Reset, "cut 0 3 reset\n"),
-    ] {
-        let note = Note::Cut {
-            initiator: 0,
-            list: Some(3),
-            cause,
-        };
-        tells(&rt, alloc, &note, line);
-    }
-    for (cause, line) in [
-        (FailCause::Timeout, "dead 2 - timeout\n"),
-        (FailCause::Label, "dead 2 - label\n"),
-        (FailCause::Refused, "dead 2 - refused\n"),
-        (FailCause::Grammar, "dead 2 - grammar\n"),
-    ] {
-        let note = Note::Dead {
-            initiator: 2,
-            list: None,
-            cause,
-        };
-        tells(&rt, alloc, &note, line);
-    }
-}
-
-/// Steps of a list, each with its keyword.
-#[test]
-fn lines_of_steps(rt: HostRuntime) {
-    let alloc = rt.alloc();
-    let (initiator, list, orb) = (3, 1, 65535);
-    let linked = Note::Linked {
-        initiator,
-        list,
-        orb,
-    };
-    tells(&rt, alloc, &linked, "linked 3 1 65535\n");
-    let rung = Note::Rung {
-        initiator,
-        list,
-        orb,
-    };
-    tells(&rt, alloc, &rung, "rung 3 1 65535\n");
-    let dummied = Note::Dummied {
-        initiator,
-        list,
-        orb,
-    };
-    tells(&rt, alloc, &dummied, "dummied 3 1 65535\n");
-    tells(&rt, alloc, &Note::Drop { initiator, list }, "drop 3 1\n");
-}
-
-/// Decisions of the management agent, and what comes of logins and units.
-#[test]
-fn lines_of_logins(rt: HostRuntime) {
-    let alloc = rt.alloc();
-    tells_decision(
-        &rt,
-        alloc,
-        FunctionWord::Login,
-        0,
-        0,
-        Some(1),
-        "mgmt 0 login 0 00 1\n",
-    );
-    tells_decision(
-        &rt,
-        alloc,
-        FunctionWord::Login,
-        3,
-        5,
-        None,
-        "mgmt 0 login 3 05\n",
-    );
-    tells_decision(
-        &rt,
-        alloc,
-        FunctionWord::Reconnect,
-        1,
-        0,
-        None,
-        "mgmt 0 reconnect 1 00\n",
-    );
-    tells_decision(
-        &rt,
-        alloc,
-        FunctionWord::UnitReset,
-        1,
-        0xa,
-        None,
-        "mgmt 0 lureset 1 0A\n",
-    );
-    tells_decision(
-        &rt,
-        alloc,
-        FunctionWord::Other,
-        0,
-        9,
-        None,
-        "mgmt 0 other 0 09\n",
-    );
-    let failed = Note::ManageFailed {
-        initiator: 1,
-        cause: FailCause::Refused,
-    };
-    tells(&rt, alloc, &failed, "mgmtfail 1 refused\n");
-    tells(&rt, alloc, &Note::Held { login: 1 }, "held 1\n");
-    tells(&rt, alloc, &Note::Expired { login: 2 }, "expired 2\n");
-    tells(&rt, alloc, &Note::Back { login: 3 }, "back 3\n");
-    tells(&rt, alloc, &Note::Left { login: 65535 }, "left 65535\n");
-    tells(&rt, alloc, &Note::Cleared { unit: 2 }, "cleared 2\n");
-    tells(&rt, alloc, &Note::Key { unit: 3 }, "key 3\n");
-}
-
-/// Ends of operations.
-#[test]
-fn lines_of_operations(rt: HostRuntime) {
-    let alloc = rt.alloc();
-    for (operation, word, line) in [
-        (Operation::Rom, OpWord::Bad(4), "op 1 rom bad 4\n"),
-        (Operation::Rom, OpWord::NoUnit, "op 1 rom none\n"),
-        (
-            Operation::Login,
-            OpWord::Refused(4),
-            "op 1 login refused 04\n",
-        ),
-        (
-            Operation::Query,
-            OpWord::Count(Some(2)),
-            "op 1 query done 2\n",
-        ),
-        (Operation::Query, OpWord::Count(None), "op 1 query done -\n"),
-        (
-            Operation::Logout,
-            OpWord::Conflict,
-            "op 1 logout conflict\n",
-        ),
-        (Operation::TargetReset, OpWord::Error, "op 1 treset error\n"),
-        (Operation::UnitReset, OpWord::Done, "op 1 lureset done\n"),
-        (
-            Operation::AgentReset,
-            OpWord::Reset,
-            "op 1 agentreset reset\n",
-        ),
-        (Operation::State, OpWord::State(3), "op 1 state 3\n"),
-        (Operation::Enable, OpWord::Done, "op 1 enable done\n"),
-    ] {
-        tells_end(&rt, alloc, operation, word, line);
-    }
-}
-
-/// What else a run tells.
-#[test]
-fn lines_of_the_run(rt: HostRuntime) {
-    let alloc = rt.alloc();
-    let begin = Note::Begin {
-        initiators: 2,
-        ready: false,
-    };
-    tells(&rt, alloc, &begin, "begin 2 cold\n");
-    tells(&rt, alloc, &Note::Reset { generation: 1 }, "reset 1\n");
-    let target = Note::Seen {
-        node: 0,
-        generation: 1,
-    };
-    tells(&rt, alloc, &target, "seen t 1\n");
-    let initiator = Note::Seen {
-        node: 1,
-        generation: 2,
-    };
-    tells(&rt, alloc, &initiator, "seen 0 2\n");
-    let refused = Note::Refused {
-        line: 65536,
-        number: 12,
-    };
-    tells(&rt, alloc, &refused, "refused 65536 12\n");
-    tells(&rt, alloc, &Note::Stuck { initiator: 0 }, "stuck 0\n");
-    tells(&rt, alloc, &Note::Tick, "tick\n");
-    tells(&rt, alloc, &Note::Settled, "settled\n");
-    tells(&rt, alloc, &Note::Stopped, "stopped\n");
-    let unsolicited = Note::Unsolicited { initiator: 1 };
-    tells(&rt, alloc, &unsolicited, "unsolicited 1\n");
-    tells(&rt, alloc, &Note::Unsent { initiator: 1 }, "unsent 1\n");
-    tells(&rt, alloc, &Note::Told { initiator: 1 }, "told 1 6/28/00\n");
-}
-
-/// Packets and sides are taken out in the order in which they were put in.
-#[test]
-fn outbox_keeps_order(rt: HostRuntime) -> Result<(), Fail> {
-    let alloc = rt.alloc();
-    let mut outbox = Outbox::new(alloc);
+/// Puts two packets and two sides into an outbox.
+fn put_in(alloc: Global, outbox: &mut Outbox) -> Result<(), NoMemory> {
     for id in [0xffc0, 0xffc1] {
         let packet = Outgoing {
             to: NodeId::from_raw(id),
             label: None,
             bytes: Bytes::new(alloc),
         };
-        outbox.send(packet).ok().ok_or("memory")?;
+        outbox.send(packet)?;
     }
-    outbox.tell(Side::Held(1)).ok().ok_or("memory")?;
-    outbox
-        .tell(Side::Own(Note::Stuck { initiator: 0 }))
-        .ok()
-        .ok_or("memory")?;
-    let first = outbox.take_packet().map(|packet| packet.to.raw());
-    assert_eq!(rt; first, Some(0xffc0));
-    assert!(rt; matches!(outbox.take_side(), Some(Side::Held(1))));
+    outbox.tell(Side::Held(1))?;
+    outbox.tell(Side::Own(Note::Stuck { initiator: 0 }))
+}
+
+/// Whether the first of each are taken out, and none behind a clear.
+fn is_taken(outbox: &mut Outbox) -> bool {
+    let packet = outbox.take_packet().map(|packet| packet.to.raw());
+    let is_held = matches!(outbox.take_side(), Some(Side::Held(1)));
     outbox.clear();
-    assert!(rt; outbox.take_packet().is_none());
-    assert!(rt; outbox.take_side().is_none());
+    packet == Some(0xffc0)
+        && is_held
+        && outbox.take_packet().is_none()
+        && outbox.take_side().is_none()
+}
+
+/// Packets and sides are taken out in the order in which they were put in.
+#[test]
+fn outbox_keeps_order(rt: HostRuntime) -> Result<(), Fail> {
+    let mut outbox = Outbox::new(rt.alloc());
+    put_in(rt.alloc(), &mut outbox)?;
+    assert!(rt; is_taken(&mut outbox));
     Ok(())
 }

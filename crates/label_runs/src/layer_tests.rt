@@ -1,8 +1,7 @@
-use async_packet::PacketRef;
-use label_table::{Asked, Judgement, RequestBody, Stale, Transactions};
-use sbp_base::{Bytes, Generation, NodeId, Offset};
+use async_packet::{Label, PacketRef};
+use label_table::{Judgement, RequestBody, Stale, Transactions};
+use sbp_base::{Generation, NodeId, Offset};
 use std::alloc::Global;
-use std::test::Fail;
 
 /// The target's node and the initiator's.
 const TARGET: u16 = 0xffc0;
@@ -27,26 +26,26 @@ const FETCHED: [u8; 48] = [
     0, 0, 0, 0, 0, 0, 0, 0, 0x82, 0x90, 0, 0, 0, 0, 0, 0, 0, 0, 0, 0, 0, 0, 0, 0,
 ];
 
-/// `ask` while few calls were made, for something, which finds a label.
+/// `ask` while few calls were made, for something, which finds a label and spells these bytes.
 fn ask(
     layer: &mut Transactions<u8>,
     alloc: Global,
     peer: u16,
     body: &RequestBody<'_>,
     purpose: u8,
-) -> Result<Asked, &'static str> {
+    spelled: &[u8],
+) -> Option<Label> {
     let fits = match body {
         RequestBody::WriteBlock { payload, .. } => payload.len() <= 2048,
         RequestBody::ReadBlock { length, .. } => *length <= 2048,
         _ => false,
     };
     if layer.calls() > 1000 || !fits {
-        return Err("condition");
+        return None;
     }
     match layer.ask(alloc, NodeId::from_raw(peer), body, purpose) {
-        Ok(Some(asked)) => Ok(asked),
-        Ok(None) => Err("label"),
-        Err(_) => Err("memory"),
+        Ok(Some(asked)) if asked.bytes.as_slice() == spelled => Some(asked.label),
+        _ => None,
     }
 }
 
@@ -69,96 +68,87 @@ fn row(
     }
 }
 
-/// Judges a write, and answers it with an rcode, or with that of the first time.
-fn serve_write(
-    layer: &mut Transactions<u8>,
-    alloc: Global,
-    bytes: &[u8],
-    rcode: u8,
-) -> Result<Bytes, &'static str> {
+/// Judges the write of the pointer, and answers it with an rcode, or with that of the first time; whether
+/// the response is that of rcode 0.
+fn serves_write(layer: &mut Transactions<u8>, alloc: Global, rcode: u8) -> bool {
     if layer.calls() > 1000 || rcode > 15 {
-        return Err("condition");
+        return false;
     }
-    let (packet, rcode) = match layer.judge(Generation::first(), bytes) {
+    let (packet, rcode) = match layer.judge(Generation::first(), &POINTER) {
         Judgement::Again { packet, rcode } => (packet, rcode),
         Judgement::Request { packet } => (packet, rcode),
-        _ => return Err("row"),
+        _ => return false,
     };
     if !matches!(packet, PacketRef::WriteBlock { .. }) {
-        return Err("kind");
+        return false;
     }
-    match layer.answer(alloc, &packet, bytes, rcode, &[]) {
-        Ok(response) => Ok(response),
-        Err(_) => Err("memory"),
+    match layer.answer(alloc, &packet, &POINTER, rcode, &[]) {
+        Ok(response) => response.as_slice() == WRITTEN.as_slice(),
+        Err(_) => false,
     }
 }
 
-/// A pointer is written and answered; the write comes again, and is answered as the first time.
-#[test]
-fn pointer_written(rt: HostRuntime) -> Result<(), Fail> {
-    let mut target = Transactions::new(rt.alloc(), NodeId::from_raw(TARGET))?;
-    for rcode in [0, 7] {
-        let response = serve_write(&mut target, rt.alloc(), &POINTER, rcode)?;
-        assert_eq!(rt; response.as_slice(), WRITTEN.as_slice());
-    }
-    Ok(())
-}
-
-/// The request that an initiator sends for it, and what its response tells, once.
-#[test]
-fn pointer_asked(rt: HostRuntime) -> Result<(), Fail> {
-    let mut initiator = Transactions::new(rt.alloc(), NodeId::from_raw(INITIATOR))?;
-    let Some(offset) = Offset::new(0xffff_f004_0008) else {
-        return Err(Fail::new("offset"));
-    };
+/// Whether an initiator sends the request of that write, and its response tells what it was for, once.
+fn asks_for_write(layer: &mut Transactions<u8>, alloc: Global) -> Option<bool> {
     let body = RequestBody::WriteBlock {
-        offset,
+        offset: Offset::new(0xffff_f004_0008)?,
         payload: &POINTER[16..24],
     };
-    let asked = ask(&mut initiator, rt.alloc(), TARGET, &body, 1)?;
-    assert_eq!(rt; asked.bytes.as_slice(), POINTER.as_slice());
-    for found in [("response", Some(1)), ("label", None)] {
-        assert_eq!(rt; row(&mut initiator, Generation::first(), &WRITTEN), found);
-    }
-    Ok(())
-}
-
-/// The rows by which a packet is ignored, each where the ones before it do not hold.
-#[test]
-fn rows_in_order(rt: HostRuntime) -> Result<(), Fail> {
-    let mut target = Transactions::new(rt.alloc(), NodeId::from_raw(TARGET))?;
+    let _label = ask(layer, alloc, TARGET, &body, 1, &POINTER)?;
     let first = Generation::first();
-    for (generation, bytes, word) in [
-        (first.next(), &POINTER[0..3], "generation"),
-        (first, &POINTER[0..3], "grammar"),
-        (first, &WRITTEN[..], "grammar"),
-        (first, &FETCHED[..], "label"),
-    ] {
-        assert_eq!(rt; row(&mut target, generation, bytes), (word, None));
-    }
-    Ok(())
+    let is_told = row(layer, first, &WRITTEN) == ("response", Some(1));
+    Some(is_told && row(layer, first, &WRITTEN) == ("label", None))
 }
 
-/// A transaction that was left to nobody tells nothing, and one from before a reset is stale.
-#[test]
-fn nobody_and_resets(rt: HostRuntime) -> Result<(), Fail> {
-    let mut target = Transactions::new(rt.alloc(), NodeId::from_raw(TARGET))?;
+/// Whether a packet is ignored by each row where the ones before it do not hold.
+fn ignores_by_rows(layer: &mut Transactions<u8>) -> bool {
+    let first = Generation::first();
+    row(layer, first.next(), &POINTER[0..3]) == ("generation", None)
+        && row(layer, first, &POINTER[0..3]) == ("grammar", None)
+        && row(layer, first, &WRITTEN) == ("grammar", None)
+        && row(layer, first, &FETCHED) == ("label", None)
+}
+
+/// Whether a transaction that was left to nobody tells nothing, and one from before a reset is stale.
+fn leaves_and_resets(layer: &mut Transactions<u8>, alloc: Global) -> Option<bool> {
+    let first = Generation::first();
     let initiator = NodeId::from_raw(INITIATOR);
-    let Some(offset) = Offset::new(0x1000_0000) else {
-        return Err(Fail::new("offset"));
+    let body = RequestBody::ReadBlock {
+        offset: Offset::new(0x1000_0000)?,
+        length: 32,
     };
-    let body = RequestBody::ReadBlock { offset, length: 32 };
-    let asked = ask(&mut target, rt.alloc(), INITIATOR, &body, 2)?;
-    assert_eq!(rt; asked.bytes.as_slice(), FETCH.as_slice());
-    target.disown(initiator, asked.label);
-    assert_eq!(rt;
-        row(&mut target, Generation::first(), &FETCHED),
-        ("response", None)
-    );
-    let asked = ask(&mut target, rt.alloc(), INITIATOR, &body, 2)?;
-    assert!(rt; target.calls() < 1000);
-    assert!(rt; target.see(Generation::first().next(), NodeId::from_raw(TARGET)));
-    assert!(rt; target.calls() < 1000);
-    assert_eq!(rt; target.expire(initiator, asked.label), Err(Stale));
-    Ok(())
+    let left = ask(layer, alloc, INITIATOR, &body, 2, &FETCH)?;
+    layer.disown(initiator, left);
+    let tells_nothing = row(layer, first, &FETCHED) == ("response", None);
+    let stale = ask(layer, alloc, INITIATOR, &body, 2, &FETCH)?;
+    if layer.calls() > 1000 || !layer.see(first.next(), NodeId::from_raw(TARGET)) {
+        return None;
+    }
+    if layer.calls() > 1000 {
+        return None;
+    }
+    Some(tells_nothing && layer.expire(initiator, stale) == Err(Stale))
+}
+
+/// Whether a target's layer serves a write that comes again as the first time.
+fn serves_twice(alloc: Global) -> Option<bool> {
+    let mut target = Transactions::new(alloc, NodeId::from_raw(TARGET)).ok()?;
+    Some(serves_write(&mut target, alloc, 0) && serves_write(&mut target, alloc, 7))
+}
+
+/// Whether new layers of an initiator and of a target do the rest.
+fn asks_and_ignores(alloc: Global) -> Option<bool> {
+    let mut initiator = Transactions::new(alloc, NodeId::from_raw(INITIATOR)).ok()?;
+    let is_asked = asks_for_write(&mut initiator, alloc)?;
+    let mut target = Transactions::new(alloc, NodeId::from_raw(TARGET)).ok()?;
+    let is_ignored = ignores_by_rows(&mut target);
+    Some(is_asked && is_ignored && leaves_and_resets(&mut target, alloc)?)
+}
+
+/// A pointer is written and answered; the write comes again, and is answered as the first time. The request
+/// that an initiator sends for it; the rows; and transactions that are left, and that a reset ends.
+#[test]
+fn transactions(rt: HostRuntime) {
+    assert!(rt; serves_twice(rt.alloc()) == Some(true));
+    assert!(rt; asks_and_ignores(rt.alloc()) == Some(true));
 }

@@ -1,24 +1,18 @@
 use orb_layout::{
     CommandOrb, LoginResponse, ManagementOrb, OrbFault, OrbPointer, QueryEntry, QueryResponse,
 };
-use sbp_base::{NodeId, Offset, quad_at};
-use std::test::Fail;
+use sbp_base::{NodeId, Offset};
 
 const LOGIN_ORB: [u8; 32] = [
     0, 0, 0, 0, 0, 0, 0, 0, 0, 0, 0, 0, 0x12, 0, 0x10, 0, 0x80, 0x20, 0, 0, 0, 0, 0, 0x10, 0, 0, 0,
     0, 0x13, 0, 0, 0,
 ];
 
-fn at(place: u64) -> Result<Offset, Fail> {
-    Ok(Offset::new(place).ok_or("offset")?)
-}
-
-/// A login ORB of the examples, and one of 31 bytes.
-#[test]
-fn login_orb(rt: HostRuntime) -> Result<(), Fail> {
+/// Whether a login ORB of the examples is written and read so, and none is read of 31 bytes.
+fn has_login_orb() -> Option<bool> {
     let orb = ManagementOrb {
         first: 0,
-        second: at(0x1200_1000)?,
+        second: Offset::new(0x1200_1000)?,
         notify: true,
         format: 0,
         exclusive: false,
@@ -27,23 +21,27 @@ fn login_orb(rt: HostRuntime) -> Result<(), Fail> {
         subject: 0,
         password_length: 0,
         response_length: 16,
-        fifo: at(0x1300_0000)?,
+        fifo: Offset::new(0x1300_0000)?,
     };
     let mut out = [0xaau8; 32];
-    assert_eq!(rt; orb.write(&mut out), 32);
-    assert_eq!(rt; out, LOGIN_ORB);
-    assert_eq!(rt; ManagementOrb::read(&LOGIN_ORB), Ok(orb));
-    let short = ManagementOrb::read(&LOGIN_ORB[..31]);
-    assert_eq!(rt; short, Err(OrbFault::Length { need: 32 }));
-    Ok(())
+    let is_so = orb.write(&mut out) == 32
+        && out == LOGIN_ORB
+        && ManagementOrb::read(&LOGIN_ORB) == Ok(orb)
+        && ManagementOrb::read(&LOGIN_ORB[..31]) == Err(OrbFault::Length { need: 32 });
+    Some(is_so)
 }
 
-/// A command ORB with a page table of three elements, whose next pointer is null.
-#[test]
-fn command_orb(rt: HostRuntime) -> Result<(), Fail> {
+/// A command ORB up to its options.
+const COMMAND_ORB: [u8; 20] = [
+    0x80, 0, 0, 0, 0, 0, 0, 0, 0xff, 0xc1, 0, 0, 0x12, 0, 0, 0, 0x82, 0x78, 0, 3,
+];
+
+/// Whether a command ORB with a page table of three elements, whose next pointer is null, is written so
+/// and read as it was, and none is read of 31 bytes.
+fn has_command_orb() -> Option<bool> {
     let orb = CommandOrb {
         next: OrbPointer::Null,
-        descriptor: at(0x1200_0000)?,
+        descriptor: Offset::new(0x1200_0000)?,
         descriptor_node: NodeId::from_raw(0xffc1),
         format: 0,
         notify: true,
@@ -56,41 +54,39 @@ fn command_orb(rt: HostRuntime) -> Result<(), Fail> {
         cdb: [0x2a, 0, 0, 0, 0, 8, 0, 0, 2, 0, 0, 0],
     };
     let mut out = [0xaau8; 32];
-    assert_eq!(rt; orb.write(&mut out), 32);
-    assert_eq!(rt; quad_at(&out, 0), 0x8000_0000);
-    assert_eq!(rt; quad_at(&out, 4), 0);
-    assert_eq!(rt; quad_at(&out, 8), 0xffc1_0000);
-    assert_eq!(rt; quad_at(&out, 12), 0x1200_0000);
-    assert_eq!(rt; quad_at(&out, 16), 0x8278_0003);
-    assert_eq!(rt; CommandOrb::read(&out), Ok(orb));
-    assert_eq!(rt;
-        CommandOrb::read(&out[1..]),
-        Err(OrbFault::Length { need: 32 })
-    );
-    Ok(())
+    let is_so = orb.write(&mut out) == 32
+        && out[..20] == COMMAND_ORB[..]
+        && CommandOrb::read(&out) == Ok(orb)
+        && CommandOrb::read(&out[1..]) == Err(OrbFault::Length { need: 32 });
+    Some(is_so)
 }
 
-/// A login response, whose reserved bits and node ID are not looked at.
-#[test]
-fn login_response(rt: HostRuntime) -> Result<(), Fail> {
+const LOGIN_RESPONSE: [u8; 16] = [0, 0x10, 0, 5, 0, 0, 0xff, 0xff, 0xf0, 1, 0, 0, 0, 0, 0, 2];
+
+/// Whether a login response is written so, and read as it was where its reserved bits and node ID are
+/// others.
+fn has_login_response() -> Option<bool> {
     let response = LoginResponse {
         login: 5,
-        agent: at(0xffff_f001_0000)?,
+        agent: Offset::new(0xffff_f001_0000)?,
         hold: 2,
     };
     let mut out = [0u8; 32];
-    assert_eq!(rt; response.write(&mut out), 16);
-    let written = [0, 0x10, 0, 5, 0, 0, 0xff, 0xff, 0xf0, 1, 0, 0, 0, 0, 0, 2];
-    assert_eq!(rt; &out[..16], written.as_slice());
+    let length = response.write(&mut out);
+    let is_written = out[..16] == LOGIN_RESPONSE[..];
     out[4] = 0xff;
     out[12] = 0x80;
-    assert_eq!(rt; LoginResponse::read(&out), Ok(response));
-    Ok(())
+    Some(length == 16 && is_written && LoginResponse::read(&out) == Ok(response))
 }
 
-/// A query response of two logins, whole and cut short, and lengths that are none.
-#[test]
-fn query_response(rt: HostRuntime) -> Result<(), Fail> {
+/// A query response of two logins.
+const QUERY_RESPONSE: [u8; 28] = [
+    0, 0x1c, 0, 8, 0xff, 0xc0, 0, 1, 2, 0, 0, 0, 0, 0, 0, 1, 0xff, 0xc1, 0, 2, 2, 0, 0, 0, 0, 0, 0,
+    2,
+];
+
+/// Whether a query response of two logins is written so.
+fn has_query_response() -> bool {
     let logins = [
         QueryEntry {
             node: NodeId::from_raw(0xffc0),
@@ -104,16 +100,25 @@ fn query_response(rt: HostRuntime) -> Result<(), Fail> {
         },
     ];
     let mut out = [0u8; 100];
-    assert_eq!(rt; QueryResponse::write_into(&logins, &mut out), 28);
-    assert_eq!(rt; quad_at(&out, 0), 0x001c_0008);
-    assert_eq!(rt; quad_at(&out, 16), 0xffc1_0002);
-    assert_eq!(rt; quad_at(&out, 20), 0x0200_0000);
-    assert_eq!(rt; quad_at(&out, 24), 2);
-    assert_eq!(rt; QueryResponse::count(&out), Some(2));
-    assert_eq!(rt; QueryResponse::count(&out[..4]), Some(2));
-    assert_eq!(rt; QueryResponse::count(&out[..3]), None);
-    assert_eq!(rt; QueryResponse::count(&[0, 112, 0, 8]), None);
-    assert_eq!(rt; QueryResponse::count(&[0, 5, 0, 8]), None);
-    assert_eq!(rt; QueryResponse::count(&[0, 4, 0, 8]), Some(0));
-    Ok(())
+    QueryResponse::write_into(&logins, &mut out) == 28 && out[..28] == QUERY_RESPONSE[..]
+}
+
+/// Whether its logins are counted, of the whole and cut short, and lengths that are none are not.
+fn has_query_counts() -> bool {
+    QueryResponse::count(&QUERY_RESPONSE) == Some(2)
+        && QueryResponse::count(&QUERY_RESPONSE[..4]) == Some(2)
+        && QueryResponse::count(&QUERY_RESPONSE[..3]) == None
+        && QueryResponse::count(&[0, 112, 0, 8]) == None
+        && QueryResponse::count(&[0, 5, 0, 8]) == None
+        && QueryResponse::count(&[0, 4, 0, 8]) == Some(0)
+}
+
+/// The layouts of the ORBs, the login response and the query response.
+#[test]
+fn orbs_and_responses(rt: HostRuntime) {
+    assert!(rt; has_login_orb() == Some(true));
+    assert!(rt; has_command_orb() == Some(true));
+    assert!(rt; has_login_response() == Some(true));
+    assert!(rt; has_query_response());
+    assert!(rt; has_query_counts());
 }

@@ -3,7 +3,6 @@ ghost use Rattle.std.specs.Prelude.{◌<◌};
 use orb_layout::{OrbFault, StatusBlock, StatusKind, read_status};
 use rbc_command::Sense;
 use sbp_base::{Offset, quad_at};
-use std::test::Fail;
 
 const CHECK: [u8; 24] = [
     0x05, 0, 0, 0, 0x10, 0, 0, 0x40, 0x02, 0x05, 0x21, 0x00, 0, 0, 0, 0, 0, 0, 0, 0, 0, 0, 0, 0,
@@ -24,87 +23,122 @@ fn both_ways(block: StatusBlock, high: u32, low: u32) -> bool
         && read_status(&out[..8], !management) != Ok(block)
 }
 
-/// A block of 8 bytes with this first byte and sbp_status, as it is read.
-fn read_short(first: u8, status: u8, management: bool) -> Result<StatusBlock, OrbFault> {
-    read_status(&[first, status, 0, 0, 0x10, 0, 0, 0], management)
-}
+/// Each kind of 8 bytes of a command, with its first quadlet: good and illegal are the examples.
+const OF_COMMANDS: [(StatusKind, u32); 9] = [
+    (StatusKind::Good, 0x4100_0000),
+    (StatusKind::Dummy, 0x410b_0000),
+    (StatusKind::Aborted, 0x410c_0000),
+    (StatusKind::Failed, 0x59ff_0000),
+    (StatusKind::Illegal(0x01), 0x6901_0000),
+    (StatusKind::Illegal(0x02), 0x6902_0000),
+    (StatusKind::Illegal(0x03), 0x6903_0000),
+    (StatusKind::Illegal(0x06), 0x6906_0000),
+    (StatusKind::Illegal(0xff), 0x69ff_0000),
+];
 
-/// Each kind of 8 bytes, with each meaning that it may have: good and illegal are the examples.
-#[test]
-fn short_blocks(rt: HostRuntime) -> Result<(), Fail> {
-    let orb = Offset::new(0x1000_0000).ok_or("offset")?;
-    let cases = [
-        (StatusKind::Good, 0x4100_0000),
-        (StatusKind::Dummy, 0x410b_0000),
-        (StatusKind::Aborted, 0x410c_0000),
-        (StatusKind::Failed, 0x59ff_0000),
-        (StatusKind::Illegal(0x01), 0x6901_0000),
-        (StatusKind::Illegal(0x02), 0x6902_0000),
-        (StatusKind::Illegal(0x03), 0x6903_0000),
-        (StatusKind::Illegal(0x06), 0x6906_0000),
-        (StatusKind::Illegal(0xff), 0x69ff_0000),
-    ];
+/// Each meaning of a management function, with its first quadlet.
+const OF_FUNCTIONS: [(StatusKind, u32); 7] = [
+    (StatusKind::Management(0x00), 0x0100_ffff),
+    (StatusKind::Management(0x01), 0x0101_ffff),
+    (StatusKind::Management(0x04), 0x0104_ffff),
+    (StatusKind::Management(0x05), 0x0105_ffff),
+    (StatusKind::Management(0x08), 0x0108_ffff),
+    (StatusKind::Management(0x09), 0x0109_ffff),
+    (StatusKind::Management(0x0a), 0x010a_ffff),
+];
+
+/// Whether blocks of these kinds are written and read so.
+fn all_both_ways(src: u8, orb: Offset, low: u32, cases: &[(StatusKind, u32)]) -> bool
+    requires { src < 4 }
+{
     for (kind, high) in cases {
-        assert!(rt; both_ways(StatusBlock { src: 1, kind, orb }, high, 0x1000_0000));
+        let block = StatusBlock {
+            src,
+            kind: *kind,
+            orb,
+        };
+        if !both_ways(block, *high, low) {
+            return false;
+        }
     }
-    let orb = Offset::new(0xffff_0000_0008).ok_or("offset")?;
-    for meaning in [0x00u8, 0x01, 0x04, 0x05, 0x08, 0x09, 0x0a] {
-        let kind = StatusKind::Management(meaning);
-        let high = 0x0100_ffff + (u32::from(meaning) << 16);
-        assert!(rt; both_ways(StatusBlock { src: 0, kind, orb }, high, 8));
-    }
-    Ok(())
+    true
 }
 
-/// A check condition of 24 bytes, its bytes cut short, and check parts that no row reads.
-#[test]
-fn check_condition(rt: HostRuntime) -> Result<(), Fail> {
+/// Each kind of 8 bytes, with each meaning that it may have.
+fn short_blocks() -> Option<bool> {
+    let orb = Offset::new(0x1000_0000)?;
+    let last = Offset::new(0xffff_0000_0008)?;
+    let is_so = all_both_ways(1, orb, 0x1000_0000, &OF_COMMANDS)
+        && all_both_ways(0, last, 8, &OF_FUNCTIONS);
+    Some(is_so)
+}
+
+/// A check condition of 24 bytes, and its bytes cut short.
+fn check_condition() -> Option<bool> {
     let block = StatusBlock {
         src: 0,
         kind: StatusKind::Check(Sense::OUTSIDE),
-        orb: Offset::new(0x1000_0040).ok_or("offset")?,
+        orb: Offset::new(0x1000_0040)?,
     };
     let mut out = [0u8; 32];
-    assert_eq!(rt; block.write(&mut out), 24);
-    assert_eq!(rt; &out[..24], CHECK.as_slice());
-    assert_eq!(rt; StatusBlock::read(&CHECK), Ok(block));
-    assert_eq!(rt;
-        StatusBlock::read(&CHECK[..20]),
-        Err(OrbFault::Length { need: 24 })
-    );
-    let mut other = CHECK;
-    other[9] = 0x10;
-    assert_eq!(rt; StatusBlock::read(&other), Err(OrbFault::Form));
-    other = CHECK;
-    other[23] = 1;
-    assert_eq!(rt; StatusBlock::read(&other), Err(OrbFault::Form));
-    Ok(())
+    let is_so = block.write(&mut out) == 24
+        && out[..24] == CHECK[..]
+        && StatusBlock::read(&CHECK) == Ok(block)
+        && StatusBlock::read(&CHECK[..20]) == Err(OrbFault::Length { need: 24 });
+    Some(is_so)
 }
 
-/// Blocks that no row reads: another src, len, resp, dead or meaning, and other lengths than the len's.
-#[test]
-fn no_status(rt: HostRuntime) -> Result<(), Fail> {
-    let cases = [
-        (0xc1, 0x00, false),
-        (0x40, 0x00, false),
-        (0x59, 0x0b, false),
-        (0x51, 0xff, false),
-        (0x69, 0x04, false),
-        (0x41, 0x01, false),
-        (0x41, 0x01, true),
-        (0x01, 0x06, true),
-    ];
-    for (first, status, management) in cases {
-        assert_eq!(rt; read_short(first, status, management), Err(OrbFault::Form));
+/// Whether no row reads the bytes of a block.
+fn has_no_row(bytes: &[u8], management: bool) -> bool {
+    read_status(bytes, management) == Err(OrbFault::Form)
+}
+
+/// Check parts that no row reads.
+fn other_checks() -> bool {
+    let mut other = CHECK;
+    other[9] = 0x10;
+    let mut behind = CHECK;
+    behind[23] = 1;
+    StatusBlock::read(&other) == Err(OrbFault::Form)
+        && StatusBlock::read(&behind) == Err(OrbFault::Form)
+}
+
+/// The first byte and the sbp_status of blocks of 8 bytes that no row reads, and whether a management
+/// function had them: another src, len, resp, dead or meaning.
+const ROWLESS: [(u8, u8, bool); 8] = [
+    (0xc1, 0x00, false),
+    (0x40, 0x00, false),
+    (0x59, 0x0b, false),
+    (0x51, 0xff, false),
+    (0x69, 0x04, false),
+    (0x41, 0x01, false),
+    (0x41, 0x01, true),
+    (0x01, 0x06, true),
+];
+
+/// Whether no row reads any of these.
+fn no_row_reads() -> bool {
+    for (first, status, management) in &ROWLESS {
+        if !has_no_row(&[*first, *status, 0, 0, 0x10, 0, 0, 0], *management) {
+            return false;
+        }
     }
-    assert_eq!(rt; StatusBlock::read(&[0x41; 9]), Err(OrbFault::Form));
-    assert_eq!(rt;
-        StatusBlock::read(&[0x41, 0, 0, 0]),
-        Err(OrbFault::Length { need: 8 })
-    );
-    assert_eq!(rt;
-        read_short(0x42, 0x00, false),
-        Err(OrbFault::Length { need: 12 })
-    );
-    Ok(())
+    true
+}
+
+/// Other lengths than the len's.
+fn other_lengths() -> bool {
+    StatusBlock::read(&[0x41; 9]) == Err(OrbFault::Form)
+        && StatusBlock::read(&[0x41, 0, 0, 0]) == Err(OrbFault::Length { need: 8 })
+        && read_status(&[0x42, 0, 0, 0, 0x10, 0, 0, 0], false) == Err(OrbFault::Length { need: 12 })
+}
+
+/// Blocks that are written and read, and blocks that no row reads.
+#[test]
+fn status_blocks(rt: HostRuntime) {
+    assert!(rt; short_blocks() == Some(true));
+    assert!(rt; check_condition() == Some(true));
+    assert!(rt; other_checks());
+    assert!(rt; no_row_reads());
+    assert!(rt; other_lengths());
 }

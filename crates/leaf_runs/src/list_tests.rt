@@ -7,7 +7,6 @@ use orb_layout::{StatusBlock, StatusKind};
 use orb_list::{ListFault, Request, Slots, Ticket};
 use sbp_base::{NoMemory, NodeId, Offset};
 use std::alloc::Global;
-use std::test::Fail;
 
 /// Slots with the image that holds them.
 #[derive(Drop)]
@@ -138,62 +137,53 @@ fn append(desk: &mut Desk) -> Option<Result<u8, ListFault>> {
     Some(Ok(ticket.slot()))
 }
 
-/// A pointer whose low quadlet alone is written is still null: its bytes before the link, between its
+/// Whether a pointer whose low quadlet alone is written is still null: its bytes before the link, between its
 /// steps and after it.
-#[test]
-fn half_a_link(rt: HostRuntime) -> Result<(), Fail> {
-    let mut desk = Desk::new(rt.alloc(), &[])?;
-    assert_eq!(rt; append(&mut desk), Some(Ok(0)));
-    let second = desk.prepare(&test_ready()).ok_or("condition")?;
-    assert!(rt; second.is_ok());
-    assert!(rt; desk.serves(Window::Orb(0), &[0x80, 0, 0, 0, 0, 0, 0, 0]));
-    let third = desk.prepare(&test_ready()).ok_or("condition")?;
-    assert_eq!(rt; third, Err(ListFault::MidLink));
-    let low = desk.link_low().ok_or("condition")?;
-    assert_eq!(rt; low, second);
-    assert!(rt; desk.serves(Window::Orb(0), &[0x80, 0, 0, 0, 0x10, 0, 0, 0x40]));
-    let high = desk.link_high().ok_or("condition")?;
-    assert_eq!(rt; high, second);
-    assert!(rt; desk.serves(Window::Orb(0), &[0, 0, 0, 0, 0x10, 0, 0, 0x40]));
-    let again = desk.link_high().ok_or("condition")?;
-    assert_eq!(rt; again, Err(ListFault::NotLinking));
-    Ok(())
+fn links_by_halves(desk: &mut Desk) -> Option<bool> {
+    let is_first = append(desk) == Some(Ok(0));
+    let second = desk.prepare(&test_ready())?;
+    let is_null = second.is_ok() && desk.serves(Window::Orb(0), &[0x80, 0, 0, 0, 0, 0, 0, 0]);
+    let must_link = desk.prepare(&test_ready())? == Err(ListFault::MidLink);
+    let is_half = desk.link_low()? == second
+        && desk.serves(Window::Orb(0), &[0x80, 0, 0, 0, 0x10, 0, 0, 0x40]);
+    let is_linked = desk.link_high()? == second
+        && desk.serves(Window::Orb(0), &[0, 0, 0, 0, 0x10, 0, 0, 0x40]);
+    let is_over = desk.link_high()? == Err(ListFault::NotLinking);
+    Some(is_first && is_null && must_link && is_half && is_linked && is_over)
 }
 
-/// The 33rd ORB finds no slot.
-#[test]
-fn slots_run_out(rt: HostRuntime) -> Result<(), Fail> {
-    let mut desk = Desk::new(rt.alloc(), &[])?;
+/// Whether the 33rd ORB finds no slot.
+fn runs_out(desk: &mut Desk) -> bool {
     for slot in 0..32_u8 {
-        assert_eq!(rt; append(&mut desk), Some(Ok(slot)));
+        if append(desk) != Some(Ok(slot)) {
+            return false;
+        }
     }
-    assert_eq!(rt; append(&mut desk), Some(Err(ListFault::NoSlot)));
-    Ok(())
+    append(desk) == Some(Err(ListFault::NoSlot))
 }
 
-/// A pinned slot stays in use, so the next ORB takes another; without the pin it is free again.
-#[test]
-fn pinned_slot(rt: HostRuntime) -> Result<(), Fail> {
-    let mut desk = Desk::new(rt.alloc(), &[])?;
-    assert_eq!(rt; append(&mut desk), Some(Ok(0)));
-    assert_eq!(rt; append(&mut desk), Some(Ok(1)));
-    let first = desk.slots.find(0).ok_or("find")?;
-    assert!(rt; desk.pin(&first));
-    let taken = desk.take(0, 0).ok_or("condition")?;
-    assert_eq!(rt; taken, Ok(first));
-    let again = desk.take(0, 0).ok_or("condition")?;
-    assert_eq!(rt; again, Err(ListFault::Slot));
-    assert_eq!(rt; append(&mut desk), Some(Ok(2)));
-    assert!(rt; desk.serves(Window::Orb(1), &[0, 0, 0, 0, 0x10, 0, 0, 0x80]));
-    assert!(rt; desk.unpin());
-    assert_eq!(rt; append(&mut desk), Some(Ok(0)));
-    Ok(())
+/// Whether a pinned slot stays in use, so the next ORB takes another, and without the pin it is free again.
+fn keeps_pinned(desk: &mut Desk) -> Option<bool> {
+    let are_two = append(desk) == Some(Ok(0)) && append(desk) == Some(Ok(1));
+    let first = desk.slots.find(0)?;
+    let is_taken = desk.pin(&first) && desk.take(0, 0)? == Ok(first);
+    let is_taken_once = desk.take(0, 0)? == Err(ListFault::Slot);
+    let is_another = append(desk) == Some(Ok(2))
+        && desk.serves(Window::Orb(1), &[0, 0, 0, 0, 0x10, 0, 0, 0x80]);
+    let is_free = desk.unpin() && append(desk) == Some(Ok(0));
+    Some(are_two && is_taken && is_taken_once && is_another && is_free)
 }
 
-/// A write of two blocks in three segments: the ORB's fifth quadlet, the page table and the data.
-#[test]
-fn page_table(rt: HostRuntime) -> Result<(), Fail> {
-    let mut desk = Desk::new(rt.alloc(), &[])?;
+/// Whether a buffer has the bytes of the first request, in its segments.
+fn has_segments(buffer: &[u8]) -> bool {
+    buffer.get(511) == Some(&0x11)
+        && buffer.get(512) == Some(&0)
+        && buffer.get(0x414) == Some(&0x11)
+        && buffer.get(0x420) == Some(&0)
+}
+
+/// Whether a write of two blocks in three segments has its ORB's fifth quadlet, its page table and its data.
+fn has_page_table(desk: &mut Desk) -> Option<bool> {
     let request = Request {
         cdb: [0x2a, 0, 0, 0, 0, 8, 0, 0, 2, 0, 0, 0],
         to_initiator: false,
@@ -204,15 +194,11 @@ fn page_table(rt: HostRuntime) -> Result<(), Fail> {
         node: NodeId::from_raw(0xffc1),
         login: 1,
     };
-    let prepared = desk.prepare(&request).ok_or("condition")?;
-    assert!(rt; prepared.is_ok());
-    assert!(rt; desk.serves(Window::Orb(0), &ORB));
-    assert!(rt; desk.serves(Window::Table(0), &TABLE));
-    assert_eq!(rt; desk.image.buffer(0)[511], 0x11);
-    assert_eq!(rt; desk.image.buffer(0)[512], 0);
-    assert_eq!(rt; desk.image.buffer(0)[0x414], 0x11);
-    assert_eq!(rt; desk.image.buffer(0)[0x420], 0);
-    Ok(())
+    let is_so = desk.prepare(&request)?.is_ok()
+        && desk.serves(Window::Orb(0), &ORB)
+        && desk.serves(Window::Table(0), &TABLE)
+        && has_segments(desk.image.buffer(0));
+    Some(is_so)
 }
 
 /// The ORB up to its options.
@@ -225,3 +211,31 @@ const TABLE: [u8; 24] = [
     0x02, 0x00, 0x00, 0x00, 0x11, 0x00, 0x00, 0x00, 0x01, 0xf4, 0x00, 0x00, 0x11, 0x00, 0x02, 0x10,
     0x00, 0x0c, 0x00, 0x00, 0x11, 0x00, 0x04, 0x14,
 ];
+
+/// What is done with a list.
+#[derive(Clone, Copy)]
+enum Course {
+    Halves,
+    Full,
+    Pinned,
+    Table,
+}
+
+/// Whether it is so from no ORB on.
+fn is_so(alloc: Global, course: Course) -> Option<bool> {
+    let mut desk = Desk::new(alloc, &[]).ok()?;
+    match course {
+        Course::Halves => links_by_halves(&mut desk),
+        Course::Full => Some(runs_out(&mut desk)),
+        Course::Pinned => keeps_pinned(&mut desk),
+        Course::Table => has_page_table(&mut desk),
+    }
+}
+
+#[test]
+fn lists(rt: HostRuntime) {
+    assert!(rt; is_so(rt.alloc(), Course::Halves) == Some(true));
+    assert!(rt; is_so(rt.alloc(), Course::Full) == Some(true));
+    assert!(rt; is_so(rt.alloc(), Course::Pinned) == Some(true));
+    assert!(rt; is_so(rt.alloc(), Course::Table) == Some(true));
+}

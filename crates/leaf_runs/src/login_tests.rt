@@ -1,6 +1,5 @@
 use login_table::{Entered, LoginRefusal, Logins};
 use sbp_base::{NodeId, Offset};
-use std::test::Fail;
 
 const EUI: u64 = 0x0011_2233_4455_6677;
 
@@ -29,25 +28,26 @@ type Told = Result<(u8, u16, u16), LoginRefusal>;
 const NOTHING: Told = Ok((0, 0, 0));
 
 /// Does a turn.
-fn told(logins: &mut Logins, turn: Turn) -> Result<Told, &'static str> {
+fn told(logins: &mut Logins, turn: Turn) -> Option<Told> {
     let told = match turn {
         Turn::Enter(unit, physical, exclusive) => {
-            let fifo = Offset::new(0x1_0000).ok_or("offset")?;
+            let fifo = Offset::new(0x1_0000)?;
+            let node = NodeId::local(physical)?;
             let eui = EUI ^ u64::from(physical);
-            let entered = logins.enter(unit, node(physical)?, eui, fifo, 3, exclusive);
+            let entered = logins.enter(unit, node, eui, fifo, 3, exclusive);
             entered.map(|entered| (entered.place, entered.login, entered.replaced.unwrap_or(0)))
         }
         Turn::Back(login, physical) => {
             let eui = EUI ^ u64::from(physical);
-            let place = logins.back(login, node(physical)?, eui);
+            let place = logins.back(login, NodeId::local(physical)?, eui);
             place.map(|place| (place, 0, 0))
         }
         Turn::Leave(login, physical) => {
-            let place = logins.leave(login, node(physical)?);
+            let place = logins.leave(login, NodeId::local(physical)?);
             place.map(|place| (place, 0, 0))
         }
         Turn::Agent(place, physical) => {
-            let login = logins.by_agent(place, node(physical)?);
+            let login = logins.by_agent(place, NodeId::local(physical)?);
             Ok((place, login.map_or(0, |login| login.login), 0))
         }
         Turn::Hold => {
@@ -64,12 +64,7 @@ fn told(logins: &mut Logins, turn: Turn) -> Result<Told, &'static str> {
             ))
         }
     };
-    Ok(told)
-}
-
-/// The node FFC0h + `physical`.
-fn node(physical: u8) -> Result<NodeId, &'static str> {
-    NodeId::local(physical).ok_or("node")
+    Some(told)
 }
 
 /// A reconnect in the last second of a hold of 3 + 1 seconds.
@@ -108,39 +103,49 @@ const EXCLUSIVE: [(Turn, Told); 7] = [
     (Turn::Enter(0, 2, false), Ok((1, 3, 0))),
 ];
 
-/// Courses from no logins on.
-#[test]
-fn courses(rt: HostRuntime) -> Result<(), Fail> {
-    for course in [
-        LAST_SECOND.as_slice(),
-        AFTER_THE_LAST_SECOND.as_slice(),
-        EXCLUSIVE.as_slice(),
-    ] {
-        let mut logins = Logins::new();
-        for (turn, expected) in course {
-            assert_eq!(rt; told(&mut logins, *turn)?, *expected);
+/// Whether a course tells so from no logins on.
+fn is_told(course: &[(Turn, Told)]) -> bool {
+    let mut logins = Logins::new();
+    for (turn, expected) in course {
+        if told(&mut logins, *turn) != Some(*expected) {
+            return false;
         }
     }
-    Ok(())
+    true
 }
 
-/// The IDs go up to 65535 and round, past the one that is in use; the ninth login finds no room.
-#[test]
-fn ids_go_round(rt: HostRuntime) -> Result<(), Fail> {
-    let mut logins = Logins::new();
-    told(&mut logins, Turn::Enter(0, 1, false))?.map_err(|_| "login")?;
+/// Whether the IDs go up to 65535, of one login behind the other beside the first.
+fn ids_go_up(logins: &mut Logins) -> bool {
+    if told(logins, Turn::Enter(0, 1, false)) != Some(Ok((0, 1, 0))) {
+        return false;
+    }
     for login in 2..=u16::MAX {
-        let entered = told(&mut logins, Turn::Enter(1, 2, false))?;
-        assert_eq!(rt; entered, Ok((1, login, 0)));
-        let left = told(&mut logins, Turn::Leave(login, 2))?;
-        assert_eq!(rt; left, Ok((1, 0, 0)));
+        let entered = told(logins, Turn::Enter(1, 2, false));
+        let left = told(logins, Turn::Leave(login, 2));
+        if entered != Some(Ok((1, login, 0))) || left != Some(Ok((1, 0, 0))) {
+            return false;
+        }
     }
+    true
+}
+
+/// Whether they then go round, past the one that is in use, and the ninth login finds no room.
+fn ids_go_round(logins: &mut Logins) -> bool {
     for physical in 2..9_u8 {
-        let entered = told(&mut logins, Turn::Enter(1, physical, false))?;
-        let login = entered.map(|(_place, login, _replaced)| login);
-        assert_eq!(rt; login, Ok(u16::from(physical)));
+        match told(logins, Turn::Enter(1, physical, false)) {
+            Some(Ok((_place, login, _replaced))) if login == u16::from(physical) => {}
+            _ => return false,
+        }
     }
-    let ninth = told(&mut logins, Turn::Enter(1, 9, false))?;
-    assert_eq!(rt; ninth, Err(LoginRefusal::NoRoom));
-    Ok(())
+    told(logins, Turn::Enter(1, 9, false)) == Some(Err(LoginRefusal::NoRoom))
+}
+
+#[test]
+fn courses(rt: HostRuntime) {
+    assert!(rt; is_told(&LAST_SECOND));
+    assert!(rt; is_told(&AFTER_THE_LAST_SECOND));
+    assert!(rt; is_told(&EXCLUSIVE));
+    let mut logins = Logins::new();
+    assert!(rt; ids_go_up(&mut logins));
+    assert!(rt; ids_go_round(&mut logins));
 }

@@ -2,7 +2,6 @@ use login_table::Logins;
 use mgmt_agent::{Busy, Decision, Effect, Manager, ManagerStep};
 use orb_layout::{Ask, FailCause, Reply};
 use sbp_base::{NodeId, Offset, put_quad};
-use std::test::Fail;
 
 /// A unit has no key.
 const NO_KEY: u64 = 0;
@@ -68,7 +67,7 @@ impl Desk {
     }
 
     /// Whether each login is decided so.
-    fn decides(&mut self, cases: &[Case]) -> Result<bool, &'static str> {
+    fn decides(&mut self, cases: &[Case]) -> bool {
         for (physical, exclusive, password, lengths, status, login) in cases {
             let bytes = orb(0, *exclusive, *password, *lengths);
             let decision = Decision {
@@ -77,11 +76,11 @@ impl Desk {
                 status: *status,
                 login: *login,
             };
-            if self.login(*physical, &bytes)? != decision {
-                return Ok(false);
+            if self.login(*physical, &bytes) != Ok(decision) {
+                return false;
             }
         }
-        Ok(true)
+        true
     }
 }
 
@@ -118,90 +117,102 @@ fn offset(value: u64) -> Result<Offset, &'static str> {
     Offset::new(value).ok_or("offset")
 }
 
-/// An exclusive login keeps another node out until it leaves; a unit with a key wants it as an immediate
-/// password.
-#[test]
-fn logins_are_decided(rt: HostRuntime) -> Result<(), Fail> {
-    let mut desk = Desk::new(NO_KEY);
-    assert!(rt; desk.decides(&[(1, true, 0, 16, 0x00, 1), (2, false, 0, 16, 0x04, 0)])?);
-    assert_eq!(rt; desk.logins.leave(1, node(1)?), Ok(0));
-    assert!(rt; desk.decides(&[(2, false, 0, 16, 0x00, 2)])?);
-    let keyed = Desk::new(PASSWORD).decides(&[
-        (1, false, 0, 16, 0x04, 0),
-        (1, false, PASSWORD, ELSEWHERE + 16, 0x04, 0),
-        (1, false, PASSWORD, 16, 0x00, 1),
-    ])?;
-    assert!(rt; keyed);
-    Ok(())
+/// Whether an exclusive login keeps another node out until it leaves.
+fn keeps_out(desk: &mut Desk) -> Result<bool, &'static str> {
+    let is_out = desk.decides(&[(1, true, 0, 16, 0x00, 1), (2, false, 0, 16, 0x04, 0)]);
+    let is_left = desk.logins.leave(1, node(1)?) == Ok(0);
+    Ok(is_out && is_left && desk.decides(&[(2, false, 0, 16, 0x00, 2)]))
 }
+
+/// Logins to a unit with a key, which wants it as an immediate password.
+const KEYED: [Case; 3] = [
+    (1, false, 0, 16, 0x04, 0),
+    (1, false, PASSWORD, ELSEWHERE + 16, 0x04, 0),
+    (1, false, PASSWORD, 16, 0x00, 1),
+];
 
 /// The first entries of the response of a query, cut after 20 bytes.
 const CUT: [u8; 20] = [
     0, 100, 0, 8, 0xff, 0xc1, 0, 1, 0, 0x11, 0x22, 0x33, 0, 0, 0, 1, 0xff, 0xc2, 0, 2,
 ];
 
-/// A query of a unit with eight logins is cut after the 20 bytes that its ORB allows; the operation
-/// keeps others waiting, and fails where its time runs out.
-#[test]
-fn query_cut_short(rt: HostRuntime) -> Result<(), Fail> {
-    let mut desk = Desk::new(NO_KEY);
+/// Whether a unit takes eight logins.
+fn takes_eight(desk: &mut Desk) -> bool {
     for physical in 1..=8_u8 {
-        let case = (physical, false, 0, 0, 0x00, u16::from(physical));
-        assert!(rt; desk.decides(&[case])?);
+        if !desk.decides(&[(physical, false, 0, 0, 0x00, u16::from(physical))]) {
+            return false;
+        }
     }
-    desk.logins.hold();
-    let step = desk.start(9, &orb(1, false, 0, 20))?;
+    true
+}
+
+/// Whether a query of it is cut after the 20 bytes that its ORB allows; the operation keeps others waiting,
+/// and fails where its time runs out.
+fn cuts_query(desk: &mut Desk) -> Result<bool, &'static str> {
+    let first = node(1)?;
+    let place = offset(0x1_0000)?;
     let write = Ask::Write {
-        offset: offset(0x1_0000)?,
+        offset: place,
         length: 20,
     };
-    assert_eq!(rt; step.ask, write);
-    assert_eq!(rt; desk.manager.outgoing(), CUT.as_slice());
-    assert_eq!(rt; desk.manager.start(node(1)?, offset(0x1_0000)?), Err(Busy));
-    let failed = desk.reply(Reply::Expired)?;
-    assert_eq!(rt; failed.failed, Some(FailCause::Timeout));
-    assert!(rt; desk.manager.start(node(1)?, offset(0x1_0000)?).is_ok());
-    Ok(())
+    desk.logins.hold();
+    let is_cut = desk.start(9, &orb(1, false, 0, 20))?.ask == write
+        && desk.manager.outgoing() == CUT.as_slice();
+    let is_busy = desk.manager.start(first, place) == Err(Busy);
+    let is_failed = desk.reply(Reply::Expired)?.failed == Some(FailCause::Timeout);
+    Ok(is_cut && is_busy && is_failed && desk.manager.start(first, place).is_ok())
 }
 
-/// The status that a function on login ID 1 has for a node, and what it does.
-fn on_login_of(desk: &mut Desk, function: u8, physical: u8) -> Result<(u8, Effect), &'static str> {
-    let step = desk.start(physical, &on_login(function))?;
-    let decision = step.decided.ok_or("not decided")?;
-    Ok((decision.status, step.effect))
-}
-
-/// What each function on a live login decides and does for its node, and for another one, whose
-/// operation a reset ends.
-#[test]
-fn functions_on_a_login(rt: HostRuntime) -> Result<(), Fail> {
-    let mut desk = Desk::new(NO_KEY);
-    assert!(rt; desk.decides(&[(1, false, 0, 16, 0x00, 1)])?);
-    let orb = offset(0x0304_0506_0708)?;
-    for (function, effect) in [
-        (0xb, Effect::Abort { place: 0, orb }),
-        (0xc, Effect::AbortSet { place: 0 }),
-        (0xe, Effect::UnitReset { unit: 0 }),
-        (0xf, Effect::TargetReset),
-        (0x7, Effect::Left { place: 0 }),
-    ] {
-        let (status, _effect) = on_login_of(&mut desk, function, 2)?;
-        assert_eq!(rt; status, 0x0a);
-        desk.manager.clear();
-        assert_eq!(rt; on_login_of(&mut desk, function, 1)?, (0x00, effect));
-        desk.reply(Reply::Done)?;
+/// Whether a function on login ID 1 has this status for a node, and does this, if anything.
+fn does(desk: &mut Desk, function: u8, physical: u8, status: u8, effect: Option<Effect>) -> bool {
+    let Ok(step) = desk.start(physical, &on_login(function)) else {
+        return false;
+    };
+    match step.decided {
+        Some(decision) => {
+            decision.status == status && (effect.is_none() || effect == Some(step.effect))
+        }
+        None => false,
     }
-    Ok(())
 }
 
-/// A reconnect of the EUI-64 of a held login, under another node ID.
-#[test]
-fn reconnect(rt: HostRuntime) -> Result<(), Fail> {
-    let mut desk = Desk::new(NO_KEY);
-    assert!(rt; desk.decides(&[(1, false, 0, 16, 0x00, 1)])?);
+/// Whether a function on a live login is refused another node, whose operation a reset ends, and does this for
+/// its node.
+fn is_done(desk: &mut Desk, function: u8, effect: Effect) -> bool {
+    let is_refused = does(desk, function, 2, 0x0a, None);
+    desk.manager.clear();
+    is_refused && does(desk, function, 1, 0x00, Some(effect)) && desk.reply(Reply::Done).is_ok()
+}
+
+/// Whether each function is so.
+fn functions_on_a_login(desk: &mut Desk) -> Result<bool, &'static str> {
+    let orb = offset(0x0304_0506_0708)?;
+    let are_done = desk.decides(&[(1, false, 0, 16, 0x00, 1)])
+        && is_done(desk, 0xb, Effect::Abort { place: 0, orb })
+        && is_done(desk, 0xc, Effect::AbortSet { place: 0 })
+        && is_done(desk, 0xe, Effect::UnitReset { unit: 0 })
+        && is_done(desk, 0xf, Effect::TargetReset)
+        && is_done(desk, 0x7, Effect::Left { place: 0 });
+    Ok(are_done)
+}
+
+/// Whether a reconnect of the EUI-64 of a held login, under another node ID, brings it back.
+fn reconnects(desk: &mut Desk) -> Result<bool, &'static str> {
+    let is_in = desk.decides(&[(1, false, 0, 16, 0x00, 1)]);
     desk.logins.hold();
     desk.start(2, &on_login(3))?;
-    assert_eq!(rt; desk.give_eui(1)?.effect, Effect::Back { place: 0 });
-    assert!(rt; desk.logins.by_agent(0, node(2)?).is_some());
-    Ok(())
+    let is_back = desk.give_eui(1)?.effect == Effect::Back { place: 0 };
+    Ok(is_in && is_back && desk.logins.by_agent(0, node(2)?).is_some())
+}
+
+/// Operations of new managers each.
+#[test]
+fn operations(rt: HostRuntime) {
+    assert!(rt; keeps_out(&mut Desk::new(NO_KEY)) == Ok(true));
+    assert!(rt; Desk::new(PASSWORD).decides(&KEYED));
+    let mut full = Desk::new(NO_KEY);
+    assert!(rt; takes_eight(&mut full));
+    assert!(rt; cuts_query(&mut full) == Ok(true));
+    assert!(rt; functions_on_a_login(&mut Desk::new(NO_KEY)) == Ok(true));
+    assert!(rt; reconnects(&mut Desk::new(NO_KEY)) == Ok(true));
 }

@@ -1,6 +1,6 @@
 use bus_memory::{Image, Spot, Window};
 use sbp_base::Offset;
-use std::test::Fail;
+use std::alloc::Global;
 
 /// An access that is tried: the address, the bytes, at most 64, and the rcode that it must have.
 type Case = (u64, usize, u8);
@@ -97,38 +97,53 @@ const WRITES: [Case; 6] = [
     (0x1200_11ff, 2, 7),
 ];
 
-/// Windows at their edges: one byte past a window, windows of slots that are not armed, the gap behind
-/// an ORB, FIFOs, and what lies outside.
-#[test]
-fn windows_at_their_edges(rt: HostRuntime) -> Result<(), Fail> {
-    let mut image = Image::new(rt.alloc(), &[0x0404_0000, 0x3133_3934])?;
-    assert!(rt; reads(&image, &ALWAYS));
-    assert!(rt; reads(&image, &[(0x1000_07c0, 32, 7)]));
+/// A read of the whole last slot where it is not armed.
+const UNARMED: [Case; 1] = [(0x1000_07c0, 32, 7)];
+
+/// Whether windows have their edges: one byte past a window, windows of slots that are not armed, the gap
+/// behind an ORB, FIFOs, and what lies outside.
+fn has_edges(image: &mut Image) -> bool {
+    let is_unarmed = reads(image, &ALWAYS) && reads(image, &UNARMED);
     image.arm(31);
-    assert!(rt; reads(&image, &LAST_SLOT));
-    assert!(rt; writes(&mut image, &WRITES));
+    let is_armed = reads(image, &LAST_SLOT) && writes(image, &WRITES);
     image.free(31);
-    assert!(rt; reads(&image, &[(0x1000_07c0, 32, 7)]));
-    Ok(())
+    is_unarmed && is_armed && reads(image, &UNARMED)
 }
 
-/// The bytes last set are read and lent, and the direction of a slot's ORB decides whether its buffer
-/// is read or written.
-#[test]
-fn bytes_last_set(rt: HostRuntime) -> Result<(), Fail> {
-    let mut image = Image::new(rt.alloc(), &[])?;
+/// Whether the bytes last set are read, and the direction of a slot's ORB decides whether its buffer is read
+/// or written.
+fn keeps_bytes(image: &mut Image) -> Option<bool> {
+    let end = Offset::new(0x1100_fffd)?;
+    let mut last = [0u8; 3];
     image.arm(1);
     image.fill(1, 32_764, &[1, 2, 3, 4]);
-    let mut last = [0u8; 3];
-    let end = Offset::new(0x1100_fffd).ok_or("offset")?;
-    assert_eq!(rt; image.serve_read(end, &mut last), 0);
-    assert_eq!(rt; last, [2, 3, 4]);
-    set(&mut image, 0x1000_0050, 0x0800_0000).ok_or("quadlet")?;
-    assert_eq!(rt; image.serve_read(end, &mut last), 6);
-    assert_eq!(rt; image.serve_write(end, &[9, 8, 7]), 0);
-    assert!(rt; image.buffer(1)[32_764..] == [1, 9, 8, 7]);
-    let response = Window::Response(1).start();
-    assert_eq!(rt; image.serve_write(response, &[6, 5]), 0);
-    assert!(rt; image.response(1)[0..3] == [6, 5, 0]);
-    Ok(())
+    let is_read = image.serve_read(end, &mut last) == 0 && last == [2, 3, 4];
+    set(image, 0x1000_0050, 0x0800_0000)?;
+    let is_turned = image.serve_read(end, &mut last) == 6;
+    let is_written = image.serve_write(end, &[9, 8, 7]) == 0
+        && image.serve_write(Window::Response(1).start(), &[6, 5]) == 0;
+    Some(is_read && is_turned && is_written)
+}
+
+/// Whether what was written is lent.
+fn lends_bytes(image: &Image) -> bool {
+    image.buffer(1)[32_764..] == [1, 9, 8, 7] && image.response(1)[0..3] == [6, 5, 0]
+}
+
+/// Whether a memory with a ROM of two quadlets has those edges.
+fn new_has_edges(alloc: Global) -> Option<bool> {
+    let mut image = Image::new(alloc, &[0x0404_0000, 0x3133_3934]).ok()?;
+    Some(has_edges(&mut image))
+}
+
+/// Whether one without a ROM keeps and lends bytes.
+fn new_keeps_bytes(alloc: Global) -> Option<bool> {
+    let mut image = Image::new(alloc, &[]).ok()?;
+    Some(keeps_bytes(&mut image)? && lends_bytes(&image))
+}
+
+#[test]
+fn memory(rt: HostRuntime) {
+    assert!(rt; new_has_edges(rt.alloc()) == Some(true));
+    assert!(rt; new_keeps_bytes(rt.alloc()) == Some(true));
 }

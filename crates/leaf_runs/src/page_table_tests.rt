@@ -1,6 +1,5 @@
 use page_table::{Chunk, PageFault, SegmentTable, elements};
 use sbp_base::Offset;
-use std::test::Fail;
 
 /// Segments of 512, 500 and 12 bytes.
 const TABLE: [u8; 24] = [
@@ -45,45 +44,42 @@ fn has_chunks(table: &SegmentTable, total: u32, cases: &[Case]) -> bool {
     table.total() == total
 }
 
-/// The chunks of a table, under limits that fit its segments and that do not; and a buffer without a page
-/// table, which is one segment, and of which one without bytes has none.
-#[test]
-fn chunks(rt: HostRuntime) -> Result<(), Fail> {
-    let mut table = SegmentTable::new();
-    assert_eq!(rt; table.total(), 0);
-    assert_eq!(rt; elements(&TABLE, &mut table), Ok(()));
-    let of_the_table = [
-        (0, 512, 0x1100_0000, 512),
-        (512, 512, 0x1100_0210, 500),
-        (1012, 512, 0x1100_0414, 12),
-        (1024, 512, 0, 0),
-        (511, 512, 0x1100_01ff, 1),
-        (512, 8, 0x1100_0210, 8),
-    ];
-    assert!(rt; has_chunks(&table, 1024, &of_the_table));
-    let base = Offset::new(0x1100_0000).ok_or("an address")?;
+/// The chunks of a table, under limits that fit its segments and that do not.
+const CHUNKS: [Case; 6] = [
+    (0, 512, 0x1100_0000, 512),
+    (512, 512, 0x1100_0210, 500),
+    (1012, 512, 0x1100_0414, 12),
+    (1024, 512, 0, 0),
+    (511, 512, 0x1100_01ff, 1),
+    (512, 8, 0x1100_0210, 8),
+];
+
+/// Whether a table has its chunks; and a buffer without a page table, which is one segment, and of which one
+/// without bytes has none.
+fn is_cut(table: &mut SegmentTable) -> Option<bool> {
+    let base = Offset::new(0x1100_0000)?;
+    let is_table = table.total() == 0
+        && elements(&TABLE, table) == Ok(())
+        && has_chunks(table, 1024, &CHUNKS);
     table.set_single(base, 513);
-    assert!(rt; has_chunks(&table, 513, &[(512, 512, 0x1100_0200, 1)]));
+    let is_single = has_chunks(table, 513, &[(512, 512, 0x1100_0200, 1)]);
     table.set_single(base, 0);
-    assert!(rt; has_chunks(&table, 0, &[(0, 512, 0, 0)]));
-    Ok(())
+    Some(is_table && is_single && has_chunks(table, 0, &[(0, 512, 0, 0)]))
 }
 
-/// The faults of an element, an end at 2^48 itself, and a table that stays as it is at a fault. The first
-/// of two faulty elements decides.
+/// Whether an element has its fault, an end at 2^48 itself has none, and a table stays as it is at a fault.
+/// The first of two faulty elements decides.
+fn has_faults(table: &mut SegmentTable) -> bool {
+    elements(&PAST_BEHIND, table) == Err(PageFault::PastEnd { at: 1 })
+        && table.total() == 0
+        && elements(&TO_THE_END, table) == Ok(())
+        && elements(&NO_BYTES, table) == Err(PageFault::ZeroSegment { at: 0 })
+        && elements(&ONE_PAST, table) == Err(PageFault::PastEnd { at: 0 })
+        && chunk_at(table, 0, 512) == (0xffff_ffff_fffc, 4)
+}
+
 #[test]
-fn faults_by_place(rt: HostRuntime) -> Result<(), Fail> {
-    let mut table = SegmentTable::new();
-    let fault = elements(&PAST_BEHIND, &mut table);
-    assert_eq!(rt; fault, Err(PageFault::PastEnd { at: 1 }));
-    assert_eq!(rt; table.total(), 0);
-    assert_eq!(rt; elements(&TO_THE_END, &mut table), Ok(()));
-    for (bytes, fault) in [
-        (NO_BYTES, PageFault::ZeroSegment { at: 0 }),
-        (ONE_PAST, PageFault::PastEnd { at: 0 }),
-    ] {
-        assert_eq!(rt; elements(&bytes, &mut table), Err(fault));
-    }
-    assert_eq!(rt; chunk_at(&table, 0, 512), (0xffff_ffff_fffc, 4));
-    Ok(())
+fn tables(rt: HostRuntime) {
+    assert!(rt; is_cut(&mut SegmentTable::new()) == Some(true));
+    assert!(rt; has_faults(&mut SegmentTable::new()));
 }

@@ -1,6 +1,5 @@
 use config_rom::{Block, RomFault, RomPlan, SbpUnit, make, parse, sbp_unit, sum16};
 use std::alloc::Global;
-use std::test::Fail;
 
 /// A ROM of four bus quadlets, a root directory with one leaf, and the leaf.
 const SMALL: [u32; 9] = [
@@ -15,23 +14,14 @@ const SMALL: [u32; 9] = [
     1,
 ];
 
-/// The sum of one quadlet with its last bit alone is P_0; that of no quadlets is 0.
-#[test]
-fn known_sums(rt: HostRuntime) -> Result<(), Fail> {
-    for (quad, sum) in [
-        (1u32, 0x1021u16),
-        (2, 0x2042),
-        (0x10, 0x1231),
-        (0x8100_0001, 0xbbad),
-    ] {
-        assert_eq!(rt; sum16(&[quad]), sum);
-    }
-    assert_eq!(rt; sum16(&[]), 0);
-    Ok(())
+/// Whether the sum of one quadlet with its last bit alone is P_0, and that of no quadlets is 0.
+fn has_known_sums() -> bool {
+    sum16(&[1]) == 0x1021
+        && sum16(&[2]) == 0x2042
+        && sum16(&[0x10]) == 0x1231
+        && sum16(&[0x8100_0001]) == 0xbbad
+        && sum16(&[]) == 0
 }
-
-/// The type of a row: quadlets, the blocks that are read of them, and how many entries.
-type Row<'a> = (&'a [u32], &'a [Block], usize);
 
 /// The blocks of the small ROM.
 const SMALL_BLOCKS: [Block; 2] = [
@@ -157,18 +147,11 @@ fn is_read(alloc: Global, quads: &[u32], blocks: &[Block], entries: usize) -> bo
 }
 
 /// ROMs without a unit.
-#[test]
-fn roms_are_read(rt: HostRuntime) -> Result<(), Fail> {
-    let rows: [Row<'_>; 4] = [
-        (&SMALL, &SMALL_BLOCKS, 1),
-        (&WRONG, &WRONG_BLOCKS, 1),
-        (&SHARED, &SHARED_BLOCKS, 3),
-        (&INSIDE, &INSIDE_BLOCKS, 3),
-    ];
-    for (quads, blocks, entries) in rows {
-        assert!(rt; is_read(rt.alloc(), quads, blocks, entries));
-    }
-    Ok(())
+fn are_read(alloc: Global) -> bool {
+    is_read(alloc, &SMALL, &SMALL_BLOCKS, 1)
+        && is_read(alloc, &WRONG, &WRONG_BLOCKS, 1)
+        && is_read(alloc, &SHARED, &SHARED_BLOCKS, 3)
+        && is_read(alloc, &INSIDE, &INSIDE_BLOCKS, 3)
 }
 
 /// The blocks of the ROM of a target with three units.
@@ -187,27 +170,31 @@ const MADE_BLOCKS: [Block; 2] = [
     },
 ];
 
-/// The ROM of a target with three units is read again.
-#[test]
-fn made_rom_parses(rt: HostRuntime) -> Result<(), Fail> {
+/// What is told of its unit.
+const MADE_UNIT: SbpUnit = SbpUnit {
+    management: 16384,
+    orb_quads: 8,
+    timeout: 4,
+    units: 3,
+    first_type: 14,
+};
+
+/// Whether the ROM of a target with three units is read again.
+fn made_rom_parses(alloc: Global) -> Option<bool> {
     let plan = RomPlan {
         eui: 0x0200_0000_0000_0010,
         units: 3,
     };
-    let words = make(rt.alloc(), &plan).ok().ok_or("memory")?;
-    assert_eq!(rt; words.as_slice().len(), 19);
-    let rom = parse(rt.alloc(), words.as_slice()).ok().ok_or("refused")?;
-    assert!(rt; rom.eui() == 0x0200_0000_0000_0010 && rom.bus_sum_is_right());
-    assert_eq!(rt; rom.blocks(), MADE_BLOCKS.as_slice());
-    let told = SbpUnit {
-        management: 16384,
-        orb_quads: 8,
-        timeout: 4,
-        units: 3,
-        first_type: 14,
-    };
-    assert_eq!(rt; sbp_unit(&rom), Some(told));
-    Ok(())
+    let words = make(alloc, &plan).ok()?;
+    if words.as_slice().len() != 19 {
+        return None;
+    }
+    let rom = parse(alloc, words.as_slice()).ok()?;
+    let is_so = rom.eui() == 0x0200_0000_0000_0010
+        && rom.bus_sum_is_right()
+        && rom.blocks() == MADE_BLOCKS.as_slice()
+        && sbp_unit(&rom) == Some(MADE_UNIT);
+    Some(is_so)
 }
 
 /// Two links that name blocks outside, and an entry that names itself: it is told before those behind
@@ -249,32 +236,38 @@ fn fault_of(alloc: Global, quads: &[u32]) -> Option<RomFault> {
 }
 
 /// Each fault once, and a fault inside told before one behind the end.
-#[test]
-fn first_faults(rt: HostRuntime) -> Result<(), Fail> {
-    let alloc = rt.alloc();
-    for (at, quad, also_at, also, fault) in FAULTS {
+fn has_first_faults(alloc: Global) -> bool {
+    for (at, quad, also_at, also, fault) in &FAULTS {
         let mut quads = SMALL;
-        if at < 9 && also_at < 9 {
-            quads[at] = quad;
-            quads[also_at] = also;
+        if *at < 9 && *also_at < 9 {
+            quads[*at] = *quad;
+            quads[*also_at] = *also;
         }
-        assert_eq!(rt; fault_of(alloc, &quads), Some(fault));
+        if fault_of(alloc, &quads) != Some(*fault) {
+            return false;
+        }
     }
-    for quads in [&SMALL[..0], &SMALL[..5]] {
-        assert_eq!(rt; fault_of(alloc, quads), Some(RomFault::Short { need: 6 }));
-    }
-    assert_eq!(rt; fault_of(alloc, &VOID), Some(RomFault::Entry { at: 9 }));
-    Ok(())
+    fault_of(alloc, &SMALL[..0]) == Some(RomFault::Short { need: 6 })
+        && fault_of(alloc, &SMALL[..5]) == Some(RomFault::Short { need: 6 })
+        && fault_of(alloc, &VOID) == Some(RomFault::Entry { at: 9 })
 }
 
-/// A root directory that fills 256 quadlets.
-#[test]
-fn largest_rom(rt: HostRuntime) -> Result<(), Fail> {
+/// Whether a root directory that fills 256 quadlets has all its entries.
+fn has_largest(alloc: Global) -> Option<bool> {
     let mut quads = [0u32; 256];
     quads[0] = 0x0400_0000;
     quads[1] = 0x3133_3934;
     quads[5] = 0x00fa_0000;
-    let rom = parse(rt.alloc(), &quads).ok().ok_or("refused")?;
-    assert_eq!(rt; (rom.blocks().len(), rom.entries().len()), (1, 250));
-    Ok(())
+    let rom = parse(alloc, &quads).ok()?;
+    Some(rom.blocks().len() == 1 && rom.entries().len() == 250)
+}
+
+/// Sums, ROMs that are read and made, and ROMs that are refused.
+#[test]
+fn roms(rt: HostRuntime) {
+    assert!(rt; has_known_sums());
+    assert!(rt; are_read(rt.alloc()));
+    assert!(rt; made_rom_parses(rt.alloc()) == Some(true));
+    assert!(rt; has_first_faults(rt.alloc()));
+    assert!(rt; has_largest(rt.alloc()) == Some(true));
 }

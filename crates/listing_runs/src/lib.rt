@@ -3,6 +3,8 @@
 #![tactic(auto)]
 
 #[cfg(test)]
+mod calls;
+#[cfg(test)]
 mod packet_boundaries;
 #[cfg(test)]
 mod packet_tests;

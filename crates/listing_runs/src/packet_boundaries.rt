@@ -1,5 +1,6 @@
-use crate::packet_tests::lists;
-use line_session::Status;
+//! Packets of each kind with their faults at each boundary: a byte short and one long, the largest length
+//! and one above it, each length of a lock, reserved and pad bits set.
+use crate::calls::Case;
 
 const TRACE_1: &str = "FFC0FF0F FFC1FFFF F0040010 DEADBEEF\n\
 FFC01500 FFC10000 00000000\n\
@@ -129,23 +130,11 @@ fault 1 Short 4\n\
 fault 1 Short 12\n\
 fault 1 Short 16\n";
 
-/// Packets of each kind with their faults at each boundary: a byte short and one long, the largest
-/// length and one above it, each length of a lock, reserved and pad bits set.
-#[test]
-fn boundaries_are_listed(rt: HostRuntime) {
-    for (trace, listing) in [
-        (TRACE_1, LISTING_1),
-        (TRACE_2, LISTING_2),
-        (TRACE_3, LISTING_3),
-        (TRACE_4, LISTING_4),
-        (TRACE_5, LISTING_5),
-    ] {
-        let ends = lists(
-            rt.alloc(),
-            trace.as_bytes(),
-            Status::Done,
-            listing.as_bytes(),
-        );
-        assert_eq!(rt; ends, Ok(true), "at {trace}");
-    }
-}
+/// Each trace with its listing.
+pub(crate) const BOUNDARIES: [Case; 5] = [
+    (TRACE_1, LISTING_1),
+    (TRACE_2, LISTING_2),
+    (TRACE_3, LISTING_3),
+    (TRACE_4, LISTING_4),
+    (TRACE_5, LISTING_5),
+];

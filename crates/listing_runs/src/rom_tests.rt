@@ -1,7 +1,6 @@
-use line_session::{Status, serve_lines};
-use rom_listing::RomLister;
-use sbp_base::{Bytes, MemorySink, MemorySource, NoMemory};
-use std::alloc::Global;
+use crate::calls::{Case, Kind, ends_so, other_end};
+use line_session::Status;
+use std::test::Fail;
 
 /// A ROM with a root directory of one entry, and a leaf.
 const ROM: &str =
@@ -49,99 +48,39 @@ entry 15 imm 3A 000A08\n\
 entry 16 imm 14 000000\n\
 unit 16384 8 10 1 0\n";
 
-/// How a call ended, and what was written.
-#[derive(Drop)]
-struct Ended {
-    status: Status,
-    written: Bytes,
-}
+/// Inputs that are read to their end.
+const ROMS: [Case; 7] = [
+    (ROM, LISTING),
+    (WRONG, WRONG_LISTING),
+    (UNIT, UNIT_LISTING),
+    (
+        "04000000 31333934 00000000 02000000 00000010 00010000 D1000000",
+        "fault 3 Entry 6\n",
+    ),
+    (
+        "04000000 31333934 00000000 02000000 00000010",
+        "fault 1 Short 6\n",
+    ),
+    ("", "fault 1 Short 6\n"),
+    ("\n \t\r\n\n", "fault 1 Short 6\n"),
+];
 
-/// Lists an input; `reads` and `writes` name the calls that fail.
-fn serve(alloc: Global, input: &[u8], reads: &[u32], writes: &[u32]) -> Result<Ended, NoMemory> {
-    let mut lister = RomLister::new(alloc)?;
-    let mut media = Vec::new(alloc);
-    let mut source = MemorySource::new(input.to_vec(alloc)?, reads.to_vec(alloc)?);
-    let mut sink = MemorySink::new(alloc, writes.to_vec(alloc)?);
-    let status = serve_lines(alloc, &mut lister, &mut media, &mut source, &mut sink);
-    let written = Bytes::from_slice(alloc, sink.bytes())?;
-    Ok(Ended { status, written })
-}
+/// Faulty digits.
+const FAULTY: [Case; 3] = [
+    ("04000000\n313339\n", "script 2 4\n"),
+    ("04000000\n0400000\n", "script 2 9\n"),
+    ("# 04", "script 1 9\n"),
+];
 
-/// Whether an input ends so with this output.
-fn ends_with(
-    alloc: Global,
-    input: &[u8],
-    status: Status,
-    written: &[u8],
-) -> Result<bool, NoMemory> {
-    let ended = serve(alloc, input, &[], &[])?;
-    Ok(ended.status == status && ended.written.as_slice() == written)
-}
-
-/// Inputs, their status and their output.
+/// Each of these inputs ends so; nothing is written where the source fails, and nothing where the sink does
+/// at its first call.
 #[test]
-fn roms_are_listed(rt: HostRuntime) {
-    for (input, status, written) in [
-        (ROM, Status::Done, LISTING),
-        (WRONG, Status::Done, WRONG_LISTING),
-        (UNIT, Status::Done, UNIT_LISTING),
-        (
-            "04000000 31333934 00000000 02000000 00000010 00010000 D1000000",
-            Status::Done,
-            "fault 3 Entry 6\n",
-        ),
-        (
-            "04000000 31333934 00000000 02000000 00000010",
-            Status::Done,
-            "fault 1 Short 6\n",
-        ),
-        ("", Status::Done, "fault 1 Short 6\n"),
-        ("\n \t\r\n\n", Status::Done, "fault 1 Short 6\n"),
-        ("04000000\n313339\n", Status::Script, "script 2 4\n"),
-        ("04000000\n0400000\n", Status::Script, "script 2 9\n"),
-        ("# 04", Status::Script, "script 1 9\n"),
-    ] {
-        let ends = ends_with(rt.alloc(), input.as_bytes(), status, written.as_bytes());
-        assert_eq!(rt; ends, Ok(true), "at {input}");
-    }
-}
-
-/// Whether so many quadlets of zeros end so with this output.
-fn zeros_end(
-    alloc: Global,
-    count: usize,
-    status: Status,
-    written: &[u8],
-) -> Result<bool, NoMemory> {
-    let mut input = Vec::new(alloc);
-    for _ in 0..count {
-        input.extend_from_slice(b"00000000\n".as_slice())?;
-    }
-    ends_with(alloc, input.as_slice(), status, written)
-}
-
-/// A ROM has at most 256 quadlets.
-#[test]
-fn quadlets_are_counted(rt: HostRuntime) {
-    for (count, status, written) in [
-        (256usize, Status::Done, "fault 2 Name\n"),
-        (257, Status::Script, "script 257 5\n"),
-    ] {
-        let ends = zeros_end(rt.alloc(), count, status, written.as_bytes());
-        assert_eq!(rt; ends, Ok(true), "at {count}");
-    }
-}
-
-/// Nothing is written where the source fails, and nothing where the sink does at its first call.
-#[test]
-fn outside_fails(rt: HostRuntime) {
-    for (reads, writes, status) in [
-        ([2u32].as_slice(), [].as_slice(), Status::ReadFault),
-        ([].as_slice(), [1u32].as_slice(), Status::WriteFault),
-    ] {
-        let ended = serve(rt.alloc(), ROM.as_bytes(), reads, writes);
-        let fails = ended.map(|ended| ended.status == status
-            && ended.written.as_slice().is_empty());
-        assert_eq!(rt; fails, Ok(true));
-    }
+fn roms_are_listed(rt: HostRuntime) -> Result<(), Fail> {
+    let alloc = rt.alloc();
+    assert_eq!(rt; other_end(alloc, Kind::Rom, Status::Done, &ROMS)?, None);
+    assert_eq!(rt; other_end(alloc, Kind::Rom, Status::Script, &FAULTY)?, None);
+    let rom = ROM.as_bytes();
+    assert!(rt; ends_so(alloc, Kind::Rom, rom, [2, 0], Status::ReadFault, b"")?);
+    assert!(rt; ends_so(alloc, Kind::Rom, rom, [0, 1], Status::WriteFault, b"")?);
+    Ok(())
 }

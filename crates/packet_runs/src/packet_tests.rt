@@ -2,7 +2,6 @@ use async_packet::{
     Header, Label, PacketFault, PacketRef, decode, encode_into, encoded_len, is_valid,
 };
 use sbp_base::{Generation, NodeId, Offset};
-use std::test::Fail;
 
 /// From node FFC2h to FFC1h, label 5, retry code 1, priority 2.
 fn header() -> Header {
@@ -15,49 +14,41 @@ fn header() -> Header {
     }
 }
 
-/// Fields stand at their places; reserved bits, pad bytes and the extended_tcode of a block are free.
-#[test]
-fn fields_are_read(rt: HostRuntime) -> Result<(), Fail> {
-    let offset = Offset::new(0xffff_f001_0008).ok_or("offset")?;
-    let bytes = b"\xff\xc1\x15\x02\xff\xc2\xff\xff\xf0\x01\x00\x08\x01\x02\x03\x04";
-    assert_eq!(rt;
-        decode(bytes),
-        Ok(PacketRef::WriteQuadlet {
-            header: header(),
-            offset,
-            value: 0x0102_0304
-        })
-    );
-    let bytes = b"\xff\xc1\x15\x12\xff\xc2\xff\xff\xf0\x01\x00\x08\x00\x03\x12\x34abc\x99";
-    assert_eq!(rt;
-        decode(bytes),
-        Ok(PacketRef::WriteBlock {
-            header: header(),
-            offset,
-            payload: b"abc".as_slice()
-        })
-    );
-    let bytes = b"\xff\xc1\x15\x62\xff\xc2\x7f\xff\x88\x88\x88\x88\x01\x02\x03\x04";
-    assert_eq!(rt;
-        decode(bytes),
-        Ok(PacketRef::ReadQuadletResponse {
-            header: header(),
-            rcode: 7,
-            value: 0x0102_0304
-        })
-    );
-    let bytes = b"\xff\xc1\x15\xb2\xff\xc2\x4a\xbc\x88\x88\x88\x88\x00\x00\x00\x02";
-    let payload = b"".as_slice();
-    assert_eq!(rt;
-        decode(bytes),
-        Ok(PacketRef::LockResponse {
-            header: header(),
-            rcode: 4,
-            extended: 2,
-            payload
-        })
-    );
-    Ok(())
+/// Whether the fields of writes stand at their places; pad bytes and the extended_tcode of a block are free.
+fn writes_are_read() -> Option<bool> {
+    let offset = Offset::new(0xffff_f001_0008)?;
+    let quadlet = PacketRef::WriteQuadlet {
+        header: header(),
+        offset,
+        value: 0x0102_0304,
+    };
+    let block = PacketRef::WriteBlock {
+        header: header(),
+        offset,
+        payload: b"abc",
+    };
+    let is_so = decode(b"\xff\xc1\x15\x02\xff\xc2\xff\xff\xf0\x01\x00\x08\x01\x02\x03\x04")
+        == Ok(quadlet)
+        && decode(b"\xff\xc1\x15\x12\xff\xc2\xff\xff\xf0\x01\x00\x08\x00\x03\x12\x34abc\x99")
+            == Ok(block);
+    Some(is_so)
+}
+
+/// Whether those of responses do; their reserved bits are free.
+fn responses_are_read() -> bool {
+    let quadlet = PacketRef::ReadQuadletResponse {
+        header: header(),
+        rcode: 7,
+        value: 0x0102_0304,
+    };
+    let lock = PacketRef::LockResponse {
+        header: header(),
+        rcode: 4,
+        extended: 2,
+        payload: b"",
+    };
+    decode(b"\xff\xc1\x15\x62\xff\xc2\x7f\xff\x88\x88\x88\x88\x01\x02\x03\x04") == Ok(quadlet)
+        && decode(b"\xff\xc1\x15\xb2\xff\xc2\x4a\xbc\x88\x88\x88\x88\x00\x00\x00\x02") == Ok(lock)
 }
 
 /// The canonical spelling of each kind, in the order of the tcodes.
@@ -73,22 +64,27 @@ const SPELLINGS: [&[u8]; 9] = [
     b"\xff\xc1\x15\xb2\xff\xc2\x00\x00\x00\x00\x00\x00\x00\x04\x00\x03abcd",
 ];
 
-/// What is read is written as it was, and no byte behind it.
-#[test]
-fn each_kind_is_written_back(rt: HostRuntime) -> Result<(), Fail> {
-    for bytes in SPELLINGS {
-        let Ok(packet) = decode(bytes) else {
-            return Err("no packet".into());
-        };
-        let mut out = [0x77u8; 32];
-        if !is_valid(&packet) || encoded_len(&packet) > out.len() {
-            return Err("not valid".into());
+/// Whether what is read of bytes is written as it was, and no byte behind it.
+fn is_written_back(bytes: &[u8]) -> bool {
+    let fill = [0x77u8; 32];
+    let mut out = fill;
+    match decode(bytes) {
+        Ok(packet) if is_valid(&packet) && encoded_len(&packet) <= out.len() => {
+            let count = encode_into(&packet, &mut out);
+            out[..count] == bytes[..] && out[count..] == fill[count..]
         }
-        let count = encode_into(&packet, &mut out);
-        assert_eq!(rt; &out[..count], bytes);
-        assert!(rt; out[count..].iter().all(|byte| *byte == 0x77));
+        _ => false,
     }
-    Ok(())
+}
+
+/// Whether each kind is.
+fn each_is_written_back() -> bool {
+    for bytes in &SPELLINGS {
+        if !is_written_back(bytes) {
+            return false;
+        }
+    }
+    true
 }
 
 /// Bytes that are no packet, each with the first fault that holds.
@@ -133,20 +129,28 @@ const FAULTS: [(&[u8], PacketFault); 11] = [
     ),
 ];
 
-#[test]
-fn first_fault_is_answered(rt: HostRuntime) -> Result<(), Fail> {
-    for (bytes, fault) in FAULTS {
-        assert_eq!(rt; decode(bytes), Err(fault));
+/// Whether each is answered.
+fn first_faults() -> bool {
+    for (bytes, fault) in &FAULTS {
+        if decode(bytes) != Err(*fault) {
+            return false;
+        }
     }
-    Ok(())
+    true
 }
 
-/// A label tells what it was made of.
-#[test]
-fn label_is_told(rt: HostRuntime) -> Result<(), Fail> {
+/// Whether a label tells what it was made of.
+fn label_is_told() -> bool {
     let label = Label::new(63, Generation::first(), 9);
-    assert_eq!(rt; label.number(), 63);
-    assert_eq!(rt; label.generation(), Generation::first());
-    assert_eq!(rt; label.serial(), 9);
-    Ok(())
+    label.number() == 63 && label.generation() == Generation::first() && label.serial() == 9
+}
+
+/// Packets that are read and written, and bytes that are none.
+#[test]
+fn packets(rt: HostRuntime) {
+    assert!(rt; writes_are_read() == Some(true));
+    assert!(rt; responses_are_read());
+    assert!(rt; each_is_written_back());
+    assert!(rt; first_faults());
+    assert!(rt; label_is_told());
 }

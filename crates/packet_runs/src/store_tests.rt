@@ -1,8 +1,6 @@
 use packet_store::{Sent, Store};
 use sbp_base::{Bytes, Generation};
 use std::alloc::Global;
-use std::rt::HostRuntime;
-use std::test::Fail;
 
 /// A read of a quadlet from node FFC1h to node FFC0h, with label 0.
 const READ: [u8; 12] = [
@@ -15,114 +13,116 @@ const ANSWER: [u8; 16] = [
 ];
 
 /// Sends a packet between initiator 0 and the target.
-fn send(
-    store: &mut Store,
-    alloc: Global,
-    from: u8,
-    bytes: &[u8],
-    injected: bool,
-) -> Result<u64, &'static str> {
+fn send(store: &mut Store, alloc: Global, from: u8, bytes: &[u8], injected: bool) -> Option<u64> {
     if store.calls() > 10_000 {
-        return Err("count");
+        return None;
     }
-    let Ok(bytes) = Bytes::from_slice(alloc, bytes) else {
-        return Err("memory")
-    };
-    let to = if from == 0 { 1 } else { 0 };
     let sent = Sent {
         generation: Generation::first(),
         from,
-        to,
-        bytes,
+        to: if from == 0 { 1 } else { 0 },
+        bytes: Bytes::from_slice(alloc, bytes).ok()?,
         injected,
     };
-    match store.send(sent) {
-        Ok(serial) => Ok(serial),
-        Err(_) => Err("memory"),
-    }
+    store.send(sent).ok()
 }
 
-/// Delivers a packet that is in flight.
-fn deliver(store: &mut Store, serial: u64) -> Result<(), &'static str> {
+/// Sends the request, or the same as one that is injected.
+fn ask(store: &mut Store, alloc: Global, injected: bool) -> Option<u64> {
+    send(store, alloc, 1, &READ, injected)
+}
+
+/// Sends the answer.
+fn answer(store: &mut Store, alloc: Global) -> Option<u64> {
+    send(store, alloc, 0, &ANSWER, false)
+}
+
+/// Delivers a packet that is in flight, or else tells that it is none.
+fn deliver(store: &mut Store, serial: u64) -> Option<()> {
     if store.calls() > 10_000 || !store.is_in_flight(serial) {
-        return Err("flight");
+        return None;
     }
     store.delivered(serial);
-    Ok(())
+    Some(())
 }
 
 /// Loses a packet that is in flight.
-fn lose(store: &mut Store, serial: u64) -> Result<(), &'static str> {
+fn lose(store: &mut Store, serial: u64) -> Option<()> {
     if store.calls() > 10_000 || !store.is_in_flight(serial) {
-        return Err("flight");
+        return None;
     }
     store.lost(serial);
-    Ok(())
+    Some(())
 }
 
-/// After 2,000 packets the delivered ones among the last 1,024 serials are kept.
-#[test]
-fn old_packet_gone(rt: HostRuntime) -> Result<(), Fail> {
-    let mut store = Store::new(rt.alloc());
-    for _ in 0..2000 {
-        let serial = send(&mut store, rt.alloc(), 0, &ANSWER, false)?;
-        deliver(&mut store, serial)?;
-        assert!(rt; store.kept() <= 1024);
+/// Sends answers and delivers each; whether so many packets at most are kept behind each.
+fn keeps_few(store: &mut Store, alloc: Global, count: u32, most: usize) -> Option<bool> {
+    for _ in 0..count {
+        let serial = answer(store, alloc)?;
+        deliver(store, serial)?;
+        if store.kept() > most {
+            return Some(false);
+        }
     }
-    assert!(rt; store.get(1).is_none());
-    assert!(rt; store.get(976).is_none());
-    assert!(rt; store.get(977).is_some());
-    assert_eq!(rt; store.kept(), 1024);
-    assert_eq!(rt; store.in_flight(), 0);
-    assert_eq!(rt; store.lowest(), None);
-    Ok(())
+    Some(true)
 }
 
-/// A label used again withdraws the request that was delivered and its answer in flight.
-#[test]
-fn label_used_again(rt: HostRuntime) -> Result<(), Fail> {
-    let mut store = Store::new(rt.alloc());
-    let request = send(&mut store, rt.alloc(), 1, &READ, false)?;
-    deliver(&mut store, request)?;
-    let answer = send(&mut store, rt.alloc(), 0, &ANSWER, false)?;
-    let again = send(&mut store, rt.alloc(), 1, &READ, false)?;
-    assert!(rt; !store.is_in_flight(answer));
-    assert!(rt; store.get(request).is_none());
-    assert_eq!(rt; store.lowest(), Some(again));
-    Ok(())
+/// Whether after 2,000 packets the delivered ones among the last 1,024 serials are kept.
+fn old_packet_goes(store: &mut Store, alloc: Global) -> Option<bool> {
+    let is_so = keeps_few(store, alloc, 2000, 1024)?
+        && store.get(1).is_none()
+        && store.get(976).is_none()
+        && store.get(977).is_some()
+        && store.kept() == 1024
+        && store.in_flight() == 0
+        && store.lowest() == None;
+    Some(is_so)
 }
 
-/// An injected request withdraws nothing and is never withdrawn.
-#[test]
-fn injected_request(rt: HostRuntime) -> Result<(), Fail> {
-    let mut store = Store::new(rt.alloc());
-    let request = send(&mut store, rt.alloc(), 1, &READ, false)?;
-    let injected = send(&mut store, rt.alloc(), 1, &READ, true)?;
-    assert!(rt; store.is_in_flight(request));
-    assert!(rt; store.is_in_flight(injected));
-    let again = send(&mut store, rt.alloc(), 1, &READ, false)?;
-    assert!(rt; !store.is_in_flight(request));
-    assert!(rt; store.is_in_flight(injected));
-    assert!(rt; store.is_in_flight(again));
-    Ok(())
+/// Whether a label used again withdraws the request that was delivered and its answer in flight.
+fn label_is_used_again(store: &mut Store, alloc: Global) -> Option<bool> {
+    let request = ask(store, alloc, false)?;
+    deliver(store, request)?;
+    let answered = answer(store, alloc)?;
+    let again = ask(store, alloc, false)?;
+    let is_so = !store.is_in_flight(answered)
+        && store.get(request).is_none()
+        && store.lowest() == Some(again);
+    Some(is_so)
 }
 
-/// A packet stays in flight however old it is, and one that is older than 1,023 serials is dropped as
-/// it arrives. A lost packet is gone.
+/// Whether an injected request withdraws nothing and is never withdrawn.
+fn injected_stays(store: &mut Store, alloc: Global) -> Option<bool> {
+    let request = ask(store, alloc, false)?;
+    let injected = ask(store, alloc, true)?;
+    let withdraws = !store.is_in_flight(request) || !store.is_in_flight(injected);
+    let again = ask(store, alloc, false)?;
+    let is_so = !withdraws
+        && !store.is_in_flight(request)
+        && store.is_in_flight(injected)
+        && store.is_in_flight(again);
+    Some(is_so)
+}
+
+/// Whether a packet stays in flight however old it is, and one that is older than 1,023 serials is dropped
+/// as it arrives. A lost packet is gone.
+fn late_and_lost(store: &mut Store, alloc: Global) -> Option<bool> {
+    let late = ask(store, alloc, false)?;
+    let is_lowest = keeps_few(store, alloc, 1024, 1025)? && store.lowest() == Some(late);
+    deliver(store, late)?;
+    let is_dropped = store.get(late).is_none();
+    let lost = answer(store, alloc)?;
+    lose(store, lost)?;
+    let is_gone = store.get(lost).is_none() && store.in_flight() == 0;
+    Some(is_lowest && is_dropped && is_gone)
+}
+
+/// Courses of new stores each.
 #[test]
-fn late_and_lost(rt: HostRuntime) -> Result<(), Fail> {
-    let mut store = Store::new(rt.alloc());
-    let late = send(&mut store, rt.alloc(), 1, &READ, false)?;
-    for _ in 0..1024 {
-        let serial = send(&mut store, rt.alloc(), 0, &ANSWER, false)?;
-        deliver(&mut store, serial)?;
-    }
-    assert_eq!(rt; store.lowest(), Some(late));
-    deliver(&mut store, late)?;
-    assert!(rt; store.get(late).is_none());
-    let lost = send(&mut store, rt.alloc(), 0, &ANSWER, false)?;
-    lose(&mut store, lost)?;
-    assert!(rt; store.get(lost).is_none());
-    assert_eq!(rt; store.in_flight(), 0);
-    Ok(())
+fn stores(rt: HostRuntime) {
+    let alloc = rt.alloc();
+    assert!(rt; old_packet_goes(&mut Store::new(alloc), alloc) == Some(true));
+    assert!(rt; label_is_used_again(&mut Store::new(alloc), alloc) == Some(true));
+    assert!(rt; injected_stays(&mut Store::new(alloc), alloc) == Some(true));
+    assert!(rt; late_and_lost(&mut Store::new(alloc), alloc) == Some(true));
 }

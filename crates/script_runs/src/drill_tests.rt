@@ -35,20 +35,24 @@ fn event_by(alloc: Global, drill: &mut Drill) -> Result<Drilled, NoMemory> {
 }
 
 /// The script of `drill 1 2`, worked out by another program.
-#[test]
-fn a_drill_of_two_lines(rt: HostRuntime) -> Result<(), Fail> {
+const TWO_LINES: [Drilled; 6] = [
+    Drilled::Begin,
+    Drilled::Append(0, 0x28, 12, 0),
+    Drilled::Append(0, 0x2a, 51, 0x9a),
+    Drilled::Settle,
+    Drilled::End,
+    Drilled::End,
+];
+
+/// Whether it is drilled.
+fn drills_two_lines(alloc: Global) -> Result<bool, NoMemory> {
     let mut drill = Drill::new(1, 2);
-    for want in [
-        Drilled::Begin,
-        Drilled::Append(0, 0x28, 12, 0),
-        Drilled::Append(0, 0x2a, 51, 0x9a),
-        Drilled::Settle,
-        Drilled::End,
-        Drilled::End,
-    ] {
-        assert_eq!(rt; event_by(rt.alloc(), &mut drill)?, want);
+    for want in &TWO_LINES {
+        if event_by(alloc, &mut drill)? != *want {
+            return Ok(false);
+        }
     }
-    Ok(())
+    Ok(true)
 }
 
 /// The line of a drill's command, as a script has it.
@@ -105,12 +109,21 @@ fn is_in_place(alloc: Global, place: u8, event: &Option<Event>) -> Result<bool, 
     }
 }
 
-#[test]
-fn drilled_lines_are_read(rt: HostRuntime) -> Result<(), Fail> {
+/// Whether each event of that drill is.
+fn are_in_place(alloc: Global) -> Result<bool, NoMemory> {
     let mut drill = Drill::new(1, 17);
     for place in 0_u8..21 {
-        let event = drill_line(rt.alloc(), &mut drill)?;
-        assert_eq!(rt; is_in_place(rt.alloc(), place, &event)?, true, "{place}");
+        let event = drill_line(alloc, &mut drill)?;
+        if !is_in_place(alloc, place, &event)? {
+            return Ok(false);
+        }
     }
+    Ok(true)
+}
+
+#[test]
+fn drills(rt: HostRuntime) -> Result<(), Fail> {
+    assert!(rt; drills_two_lines(rt.alloc())?);
+    assert!(rt; are_in_place(rt.alloc())?);
     Ok(())
 }

@@ -1,5 +1,6 @@
 ghost use Rattle.std.specs.Prelude.{◌≤◌};
 
+use sbp_base::NoMemory;
 use sbp_journal::{Action, Event};
 use script_text::{LineFault, read_line, read_write};
 use std::alloc::Global;
@@ -124,68 +125,73 @@ const RANGES: [&str; 26] = [
     "append 0 write 0 AA*16384+BB*512",
 ];
 
-/// Lines on a bus of two initiators.
+/// The first of these lines, on a bus of two initiators, that says something else.
+fn other(alloc: Global, lines: &[&'static str], want: Said) -> Option<&'static str> {
+    for line in lines {
+        if said_by(alloc, line.as_bytes(), 2) != want {
+            return Some(*line);
+        }
+    }
+    None
+}
+
+/// The other faults, each before those behind it in the order, and lines that say nothing: the line, the
+/// number of initiators and what the line says.
+const ORDER: [(&str, u8, Said); 22] = [
+    ("settle", 0, Said::Fault(LineFault::Place)),
+    ("jump", 1, Said::Fault(LineFault::Unknown)),
+    ("append 4 tur", 1, RANGE),
+    ("append 1 tur", 1, Said::Fault(LineFault::NoInitiator)),
+    ("begin", 1, Said::Fault(LineFault::Place)),
+    ("begin 1 ready", 2, Said::Fault(LineFault::Place)),
+    ("begin 0 ready", 0, RANGE),
+    ("begin 5 cold", 0, RANGE),
+    ("begin 4 warm", 0, SHAPE),
+    ("begin 4 cold", 0, Said::Event),
+    ("jump", 0, Said::Fault(LineFault::Unknown)),
+    (" settle", 1, Said::Fault(LineFault::Unknown)),
+    (" #", 1, Said::Fault(LineFault::Unknown)),
+    ("submit 0 AA*512", 1, Said::Fault(LineFault::Unknown)),
+    ("settle\r", 1, Said::Fault(LineFault::Byte)),
+    ("jump\t1", 1, Said::Fault(LineFault::Byte)),
+    ("see 3", 2, Said::Fault(LineFault::NoInitiator)),
+    ("inject 2 ffc00000", 2, Said::Fault(LineFault::NoInitiator)),
+    ("", 0, Said::Nothing),
+    (" \t ", 0, Said::Nothing),
+    ("#\tany\r", 0, Said::Nothing),
+    ("\r", 0, Said::Fault(LineFault::Byte)),
+];
+
+/// The first line of these that says something else.
+fn out_of_order(alloc: Global) -> Option<&'static str> {
+    for (line, initiators, want) in &ORDER {
+        if *initiators > 4 || said_by(alloc, line.as_bytes(), *initiators) != *want {
+            return Some(*line);
+        }
+    }
+    None
+}
+
+/// What a comment of so many bytes says.
+fn comment_says(alloc: Global, count: usize) -> Result<Said, NoMemory> {
+    let line = vec![in alloc; b'#'; count]?;
+    Ok(said_by(alloc, line.as_slice(), 1))
+}
+
+/// Lines and the faults that they have. A comment has 8,192 bytes at most.
 #[test]
-fn lines_are_judged(rt: HostRuntime) {
+fn lines_are_judged(rt: HostRuntime) -> Result<(), Fail> {
+    let alloc = rt.alloc();
     for (lines, want) in [
         (ROWS.as_slice(), Said::Event),
         (SHAPES.as_slice(), SHAPE),
         (RANGES.as_slice(), RANGE),
     ] {
-        for line in lines {
-            assert_eq!(rt; said_by(rt.alloc(), line.as_bytes(), 2), want, "{line}");
-        }
+        assert_eq!(rt; other(alloc, lines, want), None);
     }
-}
-
-/// The other faults, each before those behind it in the order, and lines that say nothing.
-#[test]
-fn order_of_faults(rt: HostRuntime) {
-    for (line, initiators, want) in [
-        ("settle", 0, Said::Fault(LineFault::Place)),
-        ("jump", 1, Said::Fault(LineFault::Unknown)),
-        ("append 4 tur", 1, RANGE),
-        ("append 1 tur", 1, Said::Fault(LineFault::NoInitiator)),
-        ("begin", 1, Said::Fault(LineFault::Place)),
-        ("begin 1 ready", 2, Said::Fault(LineFault::Place)),
-        ("begin 0 ready", 0, RANGE),
-        ("begin 5 cold", 0, RANGE),
-        ("begin 4 warm", 0, SHAPE),
-        ("begin 4 cold", 0, Said::Event),
-        ("jump", 0, Said::Fault(LineFault::Unknown)),
-        (" settle", 1, Said::Fault(LineFault::Unknown)),
-        (" #", 1, Said::Fault(LineFault::Unknown)),
-        ("submit 0 AA*512", 1, Said::Fault(LineFault::Unknown)),
-        ("settle\r", 1, Said::Fault(LineFault::Byte)),
-        ("jump\t1", 1, Said::Fault(LineFault::Byte)),
-        ("see 3", 2, Said::Fault(LineFault::NoInitiator)),
-        ("inject 2 ffc00000", 2, Said::Fault(LineFault::NoInitiator)),
-        ("", 0, Said::Nothing),
-        (" \t ", 0, Said::Nothing),
-        ("#\tany\r", 0, Said::Nothing),
-        ("\r", 0, Said::Fault(LineFault::Byte)),
-    ] {
-        assert_eq!(rt;
-            said_by(rt.alloc(), line.as_bytes(), initiators),
-            want,
-            "{line}"
-        );
-    }
-}
-
-/// A comment has 8,192 bytes at most.
-#[test]
-fn lines_have_an_end(rt: HostRuntime) -> Result<(), Fail> {
-    let mut line = Vec::new(rt.alloc());
-    for _byte in 0..8192 {
-        line.push(b'#')?;
-    }
-    assert_eq!(rt; said_by(rt.alloc(), line.as_slice(), 1), Said::Nothing);
-    line.push(b'#')?;
-    assert_eq!(rt;
-        said_by(rt.alloc(), line.as_slice(), 1),
-        Said::Fault(LineFault::TooLong)
-    );
+    assert_eq!(rt; out_of_order(alloc), None);
+    assert!(rt; comment_says(alloc, 8192)? == Said::Nothing);
+    assert!(rt; comment_says(alloc, 8193)? == Said::Fault(LineFault::TooLong));
     Ok(())
 }
 
@@ -209,26 +215,23 @@ fn login_by(alloc: Global, line: &str) -> Option<(u8, u8, u8, bool, [u8; 8])> {
     }
 }
 
-/// A login with each choice of what may follow; digits of both cases are read.
-#[test]
-fn logins_are_read(rt: HostRuntime) {
-    const KEY: [u8; 8] = [0xab, 0xcd, 0xef, 0x01, 0x23, 0x45, 0x67, 0x89];
-    for (line, want) in [
-        ("login 1 2 3", (1, 2, 3, false, [0; 8])),
-        ("login 0 3 15 excl", (0, 3, 15, true, [0; 8])),
-        ("login 3 0 0 pass abCDef0123456789", (3, 0, 0, false, KEY)),
-        (
-            "login 2 0 0 excl pass ABcdEF0123456789",
-            (2, 0, 0, true, KEY),
-        ),
-    ] {
-        assert_eq!(rt; login_by(rt.alloc(), line), Some(want), "{line}");
-    }
+const KEY: [u8; 8] = [0xab, 0xcd, 0xef, 0x01, 0x23, 0x45, 0x67, 0x89];
+
+/// Whether a login is read with each choice of what may follow; digits of both cases are.
+fn logins_are_read(alloc: Global) -> bool {
+    login_by(alloc, "login 1 2 3") == Some((1, 2, 3, false, [0; 8]))
+        && login_by(alloc, "login 0 3 15 excl") == Some((0, 3, 15, true, [0; 8]))
+        && login_by(alloc, "login 3 0 0 pass abCDef0123456789") == Some((3, 0, 0, false, KEY))
+        && login_by(alloc, "login 2 0 0 excl pass ABcdEF0123456789") == Some((2, 0, 0, true, KEY))
 }
 
 /// What a command line says of its CMD: the command block, the direction, the length, how many bytes
 /// are sent and the last of them, how many segments there are, and max_payload.
-fn cmd_by(alloc: Global, line: &str) -> Option<([u8; 12], bool, u16, usize, u8, usize, u8)> {
+type Ordered = ([u8; 12], Rest);
+
+type Rest = (bool, u16, usize, u8, usize, u8);
+
+fn cmd_by(alloc: Global, line: &str) -> Option<Ordered> {
     match read_line(alloc, line.as_bytes(), 1) {
         Ok(
             Some(
@@ -241,97 +244,121 @@ fn cmd_by(alloc: Global, line: &str) -> Option<([u8; 12], bool, u16, usize, u8, 
             let bytes = cmd.payload.as_slice();
             let last = bytes.last().copied().unwrap_or(0);
             let segments = cmd.segments.as_slice().len();
-            Some((
-                cmd.cdb,
+            let sent = bytes.len();
+            let rest = (
                 cmd.to_initiator,
                 cmd.length,
-                bytes.len(),
+                sent,
                 last,
                 segments,
                 cmd.max_payload,
-            ))
+            );
+            Some((cmd.cdb, rest))
         }
         _ => None,
     }
 }
 
 /// Commands without blocks: the opcode, byte 4, the direction and the length.
-#[test]
-fn plain_commands_are_read(rt: HostRuntime) {
-    for (line, opcode, fourth, to_initiator, length) in [
-        ("put 0 tur", 0x00, 0, false, 0),
-        ("put 0 inquiry", 0x12, 36, true, 36),
-        ("put 0 start", 0x1b, 1, false, 0),
-        ("put 0 stop", 0x1b, 0, false, 0),
-        ("put 0 eject", 0x1b, 2, false, 0),
-        ("put 0 load", 0x1b, 3, false, 0),
-        ("put 0 prevent", 0x1e, 1, false, 0),
-        ("put 0 allow", 0x1e, 0, false, 0),
-        ("put 0 capacity", 0x25, 0, true, 8),
-        ("put 0 sync", 0x35, 0, false, 0),
-    ] {
-        let cdb = [opcode, 0, 0, 0, fourth, 0, 0, 0, 0, 0, 0, 0];
-        let want = (cdb, to_initiator, length, 0, 0, 0, 9);
-        assert_eq!(rt; cmd_by(rt.alloc(), line), Some(want), "{line}");
+const PLAIN: [(&str, u8, u8, bool, u16); 10] = [
+    ("put 0 tur", 0x00, 0, false, 0),
+    ("put 0 inquiry", 0x12, 36, true, 36),
+    ("put 0 start", 0x1b, 1, false, 0),
+    ("put 0 stop", 0x1b, 0, false, 0),
+    ("put 0 eject", 0x1b, 2, false, 0),
+    ("put 0 load", 0x1b, 3, false, 0),
+    ("put 0 prevent", 0x1e, 1, false, 0),
+    ("put 0 allow", 0x1e, 0, false, 0),
+    ("put 0 capacity", 0x25, 0, true, 8),
+    ("put 0 sync", 0x35, 0, false, 0),
+];
+
+/// The first of these that is read as another one.
+fn other_plain(alloc: Global) -> Option<&'static str> {
+    for (line, opcode, fourth, to_initiator, length) in &PLAIN {
+        let cdb = [*opcode, 0, 0, 0, *fourth, 0, 0, 0, 0, 0, 0, 0];
+        if cmd_by(alloc, line) != Some((cdb, (*to_initiator, *length, 0, 0, 0, 9))) {
+            return Some(*line);
+        }
     }
+    None
 }
 
 /// Commands on blocks, with their segments and their max_payload.
-#[test]
-fn block_commands_are_read(rt: HostRuntime) {
-    for (line, cdb, rest) in [
-        (
-            "put 0 read 16909060 2",
-            [0x28, 0, 1, 2, 3, 4, 0, 0, 2, 0, 0, 0],
-            (true, 1024, 0, 0, 0, 9),
-        ),
-        (
-            "put 0 read12 4294967295 32 seg 16383,1 pay 0",
-            [0xa8, 0, 255, 255, 255, 255, 0, 0, 0, 32, 0, 0],
-            (true, 16384, 0, 0, 2, 0),
-        ),
-        (
-            "put 0 read 0 0 pay 3",
-            [0x28, 0, 0, 0, 0, 0, 0, 0, 0, 0, 0, 0],
-            (false, 0, 0, 0, 0, 3),
-        ),
-        (
-            "put 0 verify 5 4",
-            [0x2f, 0, 0, 0, 0, 5, 0, 0, 4, 0, 0, 0],
-            (false, 0, 0, 0, 0, 9),
-        ),
-        (
-            "put 0 write 5 AA*510+0bBc",
-            [0x2a, 0, 0, 0, 0, 5, 0, 0, 1, 0, 0, 0],
-            (false, 512, 512, 0xbc, 0, 9),
-        ),
-        (
-            "put 0 write12 5 11*1000+22*24 seg 512,512",
-            [0xaa, 0, 0, 0, 0, 5, 0, 0, 0, 2, 0, 0],
-            (false, 1024, 1024, 0x22, 2, 9),
-        ),
-    ] {
-        let want = (cdb, rest.0, rest.1, rest.2, rest.3, rest.4, rest.5);
-        assert_eq!(rt; cmd_by(rt.alloc(), line), Some(want), "{line}");
+const ON_BLOCKS: [(&str, [u8; 12], Rest); 6] = [
+    (
+        "put 0 read 16909060 2",
+        [0x28, 0, 1, 2, 3, 4, 0, 0, 2, 0, 0, 0],
+        (true, 1024, 0, 0, 0, 9),
+    ),
+    (
+        "put 0 read12 4294967295 32 seg 16383,1 pay 0",
+        [0xa8, 0, 255, 255, 255, 255, 0, 0, 0, 32, 0, 0],
+        (true, 16384, 0, 0, 2, 0),
+    ),
+    (
+        "put 0 read 0 0 pay 3",
+        [0x28, 0, 0, 0, 0, 0, 0, 0, 0, 0, 0, 0],
+        (false, 0, 0, 0, 0, 3),
+    ),
+    (
+        "put 0 verify 5 4",
+        [0x2f, 0, 0, 0, 0, 5, 0, 0, 4, 0, 0, 0],
+        (false, 0, 0, 0, 0, 9),
+    ),
+    (
+        "put 0 write 5 AA*510+0bBc",
+        [0x2a, 0, 0, 0, 0, 5, 0, 0, 1, 0, 0, 0],
+        (false, 512, 512, 0xbc, 0, 9),
+    ),
+    (
+        "put 0 write12 5 11*1000+22*24 seg 512,512",
+        [0xaa, 0, 0, 0, 0, 5, 0, 0, 0, 2, 0, 0],
+        (false, 1024, 1024, 0x22, 2, 9),
+    ),
+];
+
+/// The first of these that is read as another one.
+fn other_on_blocks(alloc: Global) -> Option<&'static str> {
+    for (line, cdb, rest) in &ON_BLOCKS {
+        if cmd_by(alloc, line) != Some((*cdb, *rest)) {
+            return Some(*line);
+        }
     }
+    None
 }
 
 /// The two words of a write.
-#[test]
-fn writes_are_read(rt: HostRuntime) {
-    for (words, want) in [
-        ("5 AA*512", Said::Event),
-        ("5 AA*512 pay 1", SHAPE),
-        ("5", SHAPE),
-        ("", SHAPE),
-        ("5 AA\t", SHAPE),
-        ("5 AA*511", RANGE),
-        ("4294967296 AA*512", RANGE),
-    ] {
-        let said = match read_write(rt.alloc(), words.as_bytes()) {
+const WRITES: [(&str, Said); 7] = [
+    ("5 AA*512", Said::Event),
+    ("5 AA*512 pay 1", SHAPE),
+    ("5", SHAPE),
+    ("", SHAPE),
+    ("5 AA\t", SHAPE),
+    ("5 AA*511", RANGE),
+    ("4294967296 AA*512", RANGE),
+];
+
+/// The first of these that says something else.
+fn other_write(alloc: Global) -> Option<&'static str> {
+    for (words, want) in &WRITES {
+        let said = match read_write(alloc, words.as_bytes()) {
             Ok(_) => Said::Event,
             Err(fault) => Said::Fault(fault),
         };
-        assert_eq!(rt; said, want, "{words}");
+        if said != *want {
+            return Some(*words);
+        }
     }
+    None
+}
+
+/// The fields of logins and of commands.
+#[test]
+fn fields_are_read(rt: HostRuntime) {
+    let alloc = rt.alloc();
+    assert!(rt; logins_are_read(alloc));
+    assert_eq!(rt; other_plain(alloc), None);
+    assert_eq!(rt; other_on_blocks(alloc), None);
+    assert_eq!(rt; other_write(alloc), None);
 }

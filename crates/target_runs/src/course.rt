@@ -36,11 +36,13 @@ impl Course {
         let judged = self
             .bench
             .receive(generation, bytes.as_slice(), &mut self.outbox)?;
-        let line = match judged {
-            Judged::Got => format!(in self.alloc; "got\n")?,
-            Judged::Ignored(cause) => format!(in self.alloc; "ignored {cause:?}\n")?,
-        };
-        self.told.push_str(line.as_str())?;
+        match judged {
+            Judged::Got => self.told.push_str("got\n")?,
+            Judged::Ignored(cause) => {
+                let line = format!(in self.alloc; "ignored {cause:?}\n")?;
+                self.told.push_str(line.as_str())?
+            }
+        }
         Ok(())
     }
 
@@ -157,11 +159,24 @@ impl Course {
         self.asked.insert(0, packet)?;
         Ok(())
     }
+
+    /// Does what each line says that begins with `> `, and tells it.
+    fn play(&mut self, text: &str) -> Result<(), Fail> {
+        for line in text.lines() {
+            if let Some(input) = line.strip_prefix("> ") {
+                self.told.push_str(line)?;
+                self.told.push_str("\n")?;
+                self.act(input)?;
+                self.tell()?;
+            }
+        }
+        Ok(())
+    }
 }
 
-/// Does what each line says that begins with `> `, and gives these lines, each with what came of it
-/// behind: the judgement, the sides, and the packets, a response with `<` and a request with `?`.
-pub(crate) fn play(alloc: Global, bench: Bench, text: &str) -> Result<String, Fail> {
+/// Whether a text has what comes of each of its lines that begins with `> ` behind it: the judgement, the
+/// sides, and the packets, a response with `<` and a request with `?`.
+pub(crate) fn is_told(alloc: Global, bench: Bench, text: &str) -> Result<bool, Fail> {
     let mut course = Course {
         alloc,
         bench,
@@ -170,13 +185,6 @@ pub(crate) fn play(alloc: Global, bench: Bench, text: &str) -> Result<String, Fa
         outbox: Outbox::new(alloc),
         told: String::new(alloc),
     };
-    for line in text.lines() {
-        if let Some(input) = line.strip_prefix("> ") {
-            course.told.push_str(line)?;
-            course.told.push_str("\n")?;
-            course.act(input)?;
-            course.tell()?;
-        }
-    }
-    Ok(course.told)
+    course.play(text)?;
+    Ok(course.told.as_str() == text)
 }
