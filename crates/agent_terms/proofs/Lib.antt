@@ -1,5 +1,6 @@
 pub mod Steps
 pub mod Writes
+pub mod Serials
 pub mod Walk
 pub mod Follows
 pub mod Mild

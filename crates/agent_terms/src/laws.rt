@@ -11,7 +11,8 @@ pub fn alike_agents_step_alike()
 
 /// Each call of a target changes its agents as its notes and packets tell: the first note of its turn,
 /// then what the call tells, then its packets, one after the other; and what was asked for and did not
-/// leave is lost when the turn is over.
+/// leave is lost when the turn is over. The serial of a transaction that an agent waits for is that of
+/// the request that left for it, under the label that the target keeps.
 pub fn calls_change_the_agents()
     ensures { AgentsLaw }
 {}
