@@ -17,3 +17,4 @@ pub mod Hiring
 pub mod Managed
 pub mod Notes
 pub mod Keeping
+pub mod Demands

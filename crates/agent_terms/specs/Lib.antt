@@ -2,3 +2,4 @@ pub mod Alike
 pub mod Crews
 pub mod Calls
 pub mod Notes
+pub mod Demands

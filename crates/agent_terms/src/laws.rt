@@ -1,6 +1,7 @@
 //! The terms of the agents and the target.
 ghost use Rattle.agent_terms.specs.Alike.{AlikeLaw};
 ghost use Rattle.agent_terms.specs.Calls.{AgentsLaw};
+ghost use Rattle.agent_terms.specs.Demands.{DemandsLaw};
 ghost use Rattle.agent_terms.specs.Notes.{NotesLaw};
 
 /// Two agents that differ in nothing that their phase reads any more answer each call alike, and stay so.
@@ -22,4 +23,11 @@ pub fn calls_change_the_agents()
 #[tactic(auto, using(crate::proofs::Notes::notes_law))]
 pub fn notes_change_the_agents()
     ensures { NotesLaw }
+{}
+
+/// A request that the target got makes of the agents and of the enabled registers of the terms what the
+/// target is asked for by its address.
+#[tactic(auto, using(crate::proofs::Demands::demands_law))]
+pub fn requests_ask_of_the_agents()
+    ensures { DemandsLaw }
 {}

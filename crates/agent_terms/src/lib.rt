@@ -3,4 +3,7 @@
 
 mod laws;
 
-pub use laws::{alike_agents_step_alike, calls_change_the_agents, notes_change_the_agents};
+pub use laws::{
+    alike_agents_step_alike, calls_change_the_agents, notes_change_the_agents,
+    requests_ask_of_the_agents,
+};
