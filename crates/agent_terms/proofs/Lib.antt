@@ -18,3 +18,4 @@ pub mod Managed
 pub mod Notes
 pub mod Keeping
 pub mod Demands
+pub mod Hands

@@ -3,3 +3,4 @@ pub mod Crews
 pub mod Calls
 pub mod Notes
 pub mod Demands
+pub mod Hands

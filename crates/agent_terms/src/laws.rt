@@ -2,6 +2,7 @@
 ghost use Rattle.agent_terms.specs.Alike.{AlikeLaw};
 ghost use Rattle.agent_terms.specs.Calls.{AgentsLaw};
 ghost use Rattle.agent_terms.specs.Demands.{DemandsLaw};
+ghost use Rattle.agent_terms.specs.Hands.{HandsLaw};
 ghost use Rattle.agent_terms.specs.Notes.{NotesLaw};
 
 /// Two agents that differ in nothing that their phase reads any more answer each call alike, and stay so.
@@ -30,4 +31,11 @@ pub fn notes_change_the_agents()
 #[tactic(auto, using(crate::proofs::Demands::demands_law))]
 pub fn requests_ask_of_the_agents()
     ensures { DemandsLaw }
+{}
+
+/// What the target hands out behind the first note of a turn changes the agents of the terms as what it
+/// tells and its packets do, in this order; a reply that waits takes its agent on before.
+#[tactic(auto, using(crate::proofs::Hands::hands_law))]
+pub fn hand_outs_change_the_agents()
+    ensures { HandsLaw }
 {}
