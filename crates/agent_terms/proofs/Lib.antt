@@ -17,5 +17,7 @@ pub mod Hiring
 pub mod Managed
 pub mod Notes
 pub mod Keeping
+pub mod Purposes
 pub mod Demands
 pub mod Hands
+pub mod Runs

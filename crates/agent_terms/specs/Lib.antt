@@ -4,3 +4,4 @@ pub mod Calls
 pub mod Notes
 pub mod Demands
 pub mod Hands
+pub mod Purposes

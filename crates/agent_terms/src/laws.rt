@@ -4,6 +4,7 @@ ghost use Rattle.agent_terms.specs.Calls.{AgentsLaw};
 ghost use Rattle.agent_terms.specs.Demands.{DemandsLaw};
 ghost use Rattle.agent_terms.specs.Hands.{HandsLaw};
 ghost use Rattle.agent_terms.specs.Notes.{NotesLaw};
+ghost use Rattle.agent_terms.specs.Purposes.{BetweenLaw, PurposesLaw};
 
 /// Two agents that differ in nothing that their phase reads any more answer each call alike, and stay so.
 #[tactic(auto, using(crate::proofs::Steps::alike_law))]
@@ -38,4 +39,18 @@ pub fn requests_ask_of_the_agents()
 #[tactic(auto, using(crate::proofs::Hands::hands_law))]
 pub fn hand_outs_change_the_agents()
     ensures { HandsLaw }
+{}
+
+/// After every line of every run of a machine with a unit, each transaction that an agent waits for has one request
+/// that waits on the wire, and each request of the target that waits there is for an agent, as its main transaction or
+/// its read ahead, for the management operation, as the terms have it, for an unsolicited status, or for nobody.
+#[tactic(auto, using(crate::proofs::Runs::purposes_law))]
+pub fn requests_have_purposes()
+    ensures { PurposesLaw }
+{}
+
+/// And behind each delivery of a line that may follow, as the packets in flight are delivered one after the other.
+#[tactic(auto, using(crate::proofs::Runs::between_law))]
+pub fn deliveries_keep_the_purposes()
+    ensures { BetweenLaw }
 {}
