@@ -91,10 +91,10 @@ module _ (units ready : ℕ) (has : 0 < units) (start : List Disk) {past : List 
   abbrev stands : Stands past w
   stands = h.sound.stands
 
-  g : Good w.target
+  pub g : Good w.target
   g = good_of units ready h.calls w.target has h.made
 
-  law : TransactionLaw w.target
+  pub law : TransactionLaw w.target
   law = law_of units ready h.calls w.target has h.made
 
   abbrev t : Terms
@@ -132,7 +132,7 @@ module _ (units ready : ℕ) (has : 0 < units) (start : List Disk) {past : List 
     life = sym (g.mid.known.lives_are sent.peer sent.label) ∙ f.life
 
     -- at its table, by the whole of its label
-    state_is : state_for layer.peers sent.peer number ≡ states.UnderWay f.kind sent.label.serial
+    pub state_is : state_for layer.peers sent.peer number ≡ states.UnderWay f.kind sent.label.serial
     state_is =
         ap (λ (x : Layer Purpose). state_for x.peers sent.peer number) (sym g.mid.known.layer_is)
         ∙ (after_kept 0xffc0 g.mid.known.steps).agree.stands sent.peer sent.label f.kind (Some (purposes.Agent place)) life
@@ -142,6 +142,9 @@ module _ (units ready : ℕ) (has : 0 < units) (start : List Disk) {past : List 
         (after_kept 0xffc0 g.mid.known.steps).agree.now sent.peer sent.label f.kind (Some (purposes.Agent place)) life
         ∙ ap (λ (x : Layer Purpose). x.generation) g.mid.known.layer_is
         ∙ sym (ap (λ (l : Node). l.generation) layer_is)
+
+    pub label_generation : sent.label.generation ≡ layer.generation
+    label_generation = generation_is ∙ ap (λ (l : Node). l.generation) layer_is
 
     waiting : Waits (t.held (transaction (t.generation 0) 0 aimed.node number))
     waiting =
@@ -193,7 +196,7 @@ module _ (units ready : ℕ) (has : 0 < units) (start : List Disk) {past : List 
         ∙ ap (λ n. x.current (transaction n 0 aimed.node number)) wire_generation
         ∙ sym (goes_on.awaited stands.wire (transaction (x.generation 0) 0 aimed.node number) waiting.kind waiting.serial stands.reached wire_waits).current
 
-    has_request : HasRequest t w.requests sent
+    pub has_request : HasRequest t w.requests sent
     has_request = record {
       peer = aimed.node;
       kind = waiting.kind;
@@ -203,11 +206,11 @@ module _ (units ready : ℕ) (has : 0 < units) (start : List Disk) {past : List 
       found = ap (find w.requests) (sym entry_is) ∙ entered ∙ ap (λ i. Some (request_of 0 i handle)) wire_peer ∙ ap (λ (l : LabelParts). Some (request_of 0 sent.peer l)) label_is;
     }
 
-  main_has : (place : ℕ) → place < 8 → (sent : Sent) → (desk_at w.target place).main ≡ Some sent → HasRequest t w.requests sent
+  pub main_has : (place : ℕ) → place < 8 → (sent : Sent) → (desk_at w.target place).main ≡ Some sent → HasRequest t w.requests sent
   main_has place b sent e =
       has_request place sent ((g.mid.seats place b).main_for sent e).0 ((h.sound.nodes.target_holds.fits.seats place).main sent e).0
 
-  ahead_has : (place : ℕ) → place < 8 → (sent : Sent) → (desk_at w.target place).ahead ≡ Some sent → HasRequest t w.requests sent
+  pub ahead_has : (place : ℕ) → place < 8 → (sent : Sent) → (desk_at w.target place).ahead ≡ Some sent → HasRequest t w.requests sent
   ahead_has place b sent e =
       has_request place sent ((g.mid.seats place b).ahead_for sent e).0 ((h.sound.nodes.target_holds.fits.seats place).ahead sent e).0
 
@@ -215,7 +218,7 @@ module _ (units ready : ℕ) (has : 0 < units) (start : List Disk) {past : List 
   abbrev manages : Option ℕ
   manages = (target_at start (hist past w)).manages
 
-  operation_by : (peer number : ℕ) (kind : Kind) (serial : ℕ) → t.held (transaction (t.generation 0) 0 peer number) ≡ waits kind serial → IsUnderWay layer (Some purposes.Management) (ids peer) number → (source : Option ℕ) → source_in w.target.manager.operation ≡ source → Awaits t layer source manages → manages ≡ Some serial
+  pub operation_by : (peer number : ℕ) (kind : Kind) (serial : ℕ) → t.held (transaction (t.generation 0) 0 peer number) ≡ waits kind serial → IsUnderWay layer (Some purposes.Management) (ids peer) number → (source : Option ℕ) → source_in w.target.manager.operation ≡ source → Awaits t layer source manages → manages ≡ Some serial
   operation_by peer number kind serial e under None f a = absurd (law.none_has f (ids peer) number under)
   operation_by peer number kind serial e under (Some source) f a =
       let one = law.operation_has source f in
@@ -228,7 +231,7 @@ module _ (units ready : ℕ) (has : 0 < units) (start : List Disk) {past : List 
       let serial_is : a.serial ≡ serial = cc in
       a.manages_is ∙ ap Some serial_is
 
-  has_purpose : (peer number : ℕ) (kind : Kind) (serial : ℕ) → t.held (transaction (t.generation 0) 0 peer number) ≡ waits kind serial → HasPurpose t w.target manages peer number serial
+  pub has_purpose : (peer number : ℕ) (kind : Kind) (serial : ℕ) → t.held (transaction (t.generation 0) 0 peer number) ≡ waits kind serial → HasPurpose t w.target manages peer number serial
   has_purpose peer number kind serial e =
       let s = state_waits (state_for layer.peers (ids peer) number) (kind_as kind) (labels peer number ∙ ap shape_of e) in
       let purpose = purpose_for layer.peers (ids peer) number in

@@ -5,3 +5,4 @@ pub mod Notes
 pub mod Demands
 pub mod Hands
 pub mod Purposes
+pub mod Serials

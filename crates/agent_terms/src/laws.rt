@@ -5,6 +5,7 @@ ghost use Rattle.agent_terms.specs.Demands.{DemandsLaw};
 ghost use Rattle.agent_terms.specs.Hands.{HandsLaw};
 ghost use Rattle.agent_terms.specs.Notes.{NotesLaw};
 ghost use Rattle.agent_terms.specs.Purposes.{BetweenLaw, PurposesLaw};
+ghost use Rattle.agent_terms.specs.Serials.{HandedBetweenLaw, HandedLaw};
 
 /// Two agents that differ in nothing that their phase reads any more answer each call alike, and stay so.
 #[tactic(auto, using(crate::proofs::Steps::alike_law))]
@@ -53,4 +54,18 @@ pub fn requests_have_purposes()
 #[tactic(auto, using(crate::proofs::Runs::between_law))]
 pub fn deliveries_keep_the_purposes()
     ensures { BetweenLaw }
+{}
+
+/// After every line of every run where the agents of the terms are the target's, a response to a request that
+/// waits and its time-out are handed, by the terms, to the agent or to the operation that the target has the
+/// transaction under way for, or to nobody.
+#[tactic(auto, using(crate::proofs::Runs::handed_law))]
+pub fn serials_have_purposes()
+    ensures { HandedLaw }
+{}
+
+/// And behind each delivery of a line that may follow.
+#[tactic(auto, using(crate::proofs::Runs::handed_between_law))]
+pub fn deliveries_keep_what_serials_are_for()
+    ensures { HandedBetweenLaw }
 {}

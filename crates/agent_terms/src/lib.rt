@@ -5,6 +5,6 @@ mod laws;
 
 pub use laws::{
     alike_agents_step_alike, calls_change_the_agents, deliveries_keep_the_purposes,
-    hand_outs_change_the_agents, notes_change_the_agents, requests_ask_of_the_agents,
-    requests_have_purposes,
+    deliveries_keep_what_serials_are_for, hand_outs_change_the_agents, notes_change_the_agents,
+    requests_ask_of_the_agents, requests_have_purposes, serials_have_purposes,
 };
