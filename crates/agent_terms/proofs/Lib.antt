@@ -17,6 +17,7 @@ pub mod Hiring
 pub mod Managed
 pub mod Notes
 pub mod Keeping
+pub mod Leaving
 pub mod Purposes
 pub mod Handed
 pub mod Demands

@@ -8,6 +8,8 @@ use Rattle.sbp_world.specs.Worlds.{begun}
 use Rattle.target_terms.proofs.Lines.{all_heard, opens}
 use Rattle.target_terms.proofs.Runs.{are_told, holds_after, no_repeats, not_reset}
 use Rattle.target_terms.proofs.Still.{hist}
+use Rattle.agent_terms.specs.Leaving.{LeavingBetweenLaw, LeavingLaw}
+use Rattle.agent_terms.proofs.Leaving.{packets_leave}
 use Rattle.agent_terms.specs.Purposes.{ArePurposesAt, BetweenLaw, PurposesLaw}
 use Rattle.agent_terms.specs.Serials.{AreHandedAt, HandedBetweenLaw, HandedLaw}
 use Rattle.agent_terms.proofs.Handed.{are_handed}
@@ -44,3 +46,17 @@ handed_between_law line run few has small size short all fit next event d told m
     let h = all_heard run.units logins has run.start.disks told (are_told told s may) (begun s) opened (no_repeats event (hist r.past s.world) next d) in
     let w = (after_all told (begun s)).world in
     subst (λ ms. AreHandedAt run.start.disks (map said w.fresh ++ asked next event ∷ ms) w) r.is (are_handed run.units logins has run.start.disks w h)
+
+pub leaving_law : LeavingLaw
+leaving_law run few has small size short all fit =
+    let r = holds_after 0 run run.entries few has small size short all fit in
+    packets_leave run.units (ready_logins run.initiators run.ready) has run.start.disks (after (beginning run) run.entries).world r.holds
+
+pub leaving_between_law : LeavingBetweenLaw
+leaving_between_law run few has small size short all fit next event d told may =
+    let r = holds_after 0 run run.entries few has small size short all fit in
+    let s = after (beginning run) run.entries in
+    let logins = ready_logins run.initiators run.ready in
+    let opened = opens run.units logins has run.start.disks next event s.world (not_reset event d) r.holds in
+    let h = all_heard run.units logins has run.start.disks told (are_told told s may) (begun s) opened (no_repeats event (hist r.past s.world) next d) in
+    packets_leave run.units logins has run.start.disks (after_all told (begun s)).world h

@@ -4,5 +4,6 @@ pub mod Calls
 pub mod Notes
 pub mod Demands
 pub mod Hands
+pub mod Leaving
 pub mod Purposes
 pub mod Serials

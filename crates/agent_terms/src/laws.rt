@@ -3,6 +3,7 @@ ghost use Rattle.agent_terms.specs.Alike.{AlikeLaw};
 ghost use Rattle.agent_terms.specs.Calls.{AgentsLaw};
 ghost use Rattle.agent_terms.specs.Demands.{DemandsLaw};
 ghost use Rattle.agent_terms.specs.Hands.{HandsLaw};
+ghost use Rattle.agent_terms.specs.Leaving.{LeavingBetweenLaw, LeavingLaw};
 ghost use Rattle.agent_terms.specs.Notes.{NotesLaw};
 ghost use Rattle.agent_terms.specs.Purposes.{BetweenLaw, PurposesLaw};
 ghost use Rattle.agent_terms.specs.Serials.{HandedBetweenLaw, HandedLaw};
@@ -68,4 +69,17 @@ pub fn serials_have_purposes()
 #[tactic(auto, using(crate::proofs::Runs::handed_between_law))]
 pub fn deliveries_keep_what_serials_are_for()
     ensures { HandedBetweenLaw }
+{}
+
+/// After every line of every run each packet that the target hands out leaves, whatever is delivered to it and
+/// whatever times out: it goes to a node of the bus, and is a request where it has a label.
+#[tactic(auto, using(crate::proofs::Runs::leaving_law))]
+pub fn packets_of_the_target_leave()
+    ensures { LeavingLaw }
+{}
+
+/// And behind each delivery of a line that may follow.
+#[tactic(auto, using(crate::proofs::Runs::leaving_between_law))]
+pub fn deliveries_keep_packets_leaving()
+    ensures { LeavingBetweenLaw }
 {}
