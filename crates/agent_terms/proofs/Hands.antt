@@ -55,9 +55,13 @@ pub record Crew (t : Target) (agents : List Agent) : Type 0 where
   pub are : t.agents ≡ agents
   pub none : t.reply ≡ None
 
-no_reply : (reply : Option Reply) (t : Target) → t.reply ≡ reply → (taken_on None reply t).reply ≡ None
+pub no_reply : (reply : Option Reply) (t : Target) → t.reply ≡ reply → (taken_on None reply t).reply ≡ None
 no_reply None t e = e
 no_reply (Some reply) t e = refl
+
+-- with a reply that waits it is taken on
+pub taken_agents : (t : Target) (reply : Reply) → t.reply ≡ Some reply → (taken_on None t.reply t).agents ≡ (let plain = plain_for t reply in changed reply.place (λ a. answered None a.untold reply.place plain reply.which reply.answer a) t.agents)
+taken_agents t reply e = ap (λ (r : Option Reply). (taken_on None r t).agents) e
 
 -- ---- a world that tells
 told_same : (weight : ℕ) (side : Side) (w : WorldState) → TellsBehind side → ((told weight side w).generations ≡ w.generations) × ((told weight side w).store ≡ w.store)
@@ -210,9 +214,6 @@ module _ (start : List Disk) (past : List Moment) where
   -- ---- a reply takes its agent on with the first note
   going_reply : (note : Note) (t : Target) (reply : Reply) → t.reply ≡ Some reply → (going_on note t).reply ≡ None
   going_reply note t reply e = ap (λ (r : Option Reply). (taken_on (told_in r note t) r (with_untold note r t)).reply) e
-
-  taken_agents : (t : Target) (reply : Reply) → t.reply ≡ Some reply → (taken_on None t.reply t).agents ≡ (let plain = plain_for t reply in changed reply.place (λ a. answered None a.untold reply.place plain reply.which reply.answer a) t.agents)
-  taken_agents t reply e = ap (λ (r : Option Reply). (taken_on None r t).agents) e
 
   first_crew : (weight : ℕ) (side : Side) (later : List Side) (w : WorldState) (reply : Reply) → (term_in start past w).reply ≡ Some reply → length (term_in start past w).agents ≡ 8 → reply.place < 8 → IsOfStep (side ∷ later) → Crew (term_in start past (told weight side w)) (crew_side side (office_of (term_in start past w)) (resumed (Some reply) (side ∷ later) (term_in start past w)))
   unfolding told

@@ -22,4 +22,5 @@ pub mod Purposes
 pub mod Handed
 pub mod Demands
 pub mod Hands
+pub mod Asides
 pub mod Runs

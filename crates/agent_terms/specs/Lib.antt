@@ -4,6 +4,7 @@ pub mod Calls
 pub mod Notes
 pub mod Demands
 pub mod Hands
+pub mod Asides
 pub mod Leaving
 pub mod Purposes
 pub mod Serials

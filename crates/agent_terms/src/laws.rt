@@ -1,5 +1,6 @@
 //! The terms of the agents and the target.
 ghost use Rattle.agent_terms.specs.Alike.{AlikeLaw};
+ghost use Rattle.agent_terms.specs.Asides.{AsidesLaw};
 ghost use Rattle.agent_terms.specs.Calls.{AgentsLaw};
 ghost use Rattle.agent_terms.specs.Demands.{DemandsLaw};
 ghost use Rattle.agent_terms.specs.Hands.{HandsLaw};
@@ -41,6 +42,13 @@ pub fn requests_ask_of_the_agents()
 #[tactic(auto, using(crate::proofs::Hands::hands_law))]
 pub fn hand_outs_change_the_agents()
     ensures { HandsLaw }
+{}
+
+/// The notes of initiators and of the bus, and what other nodes send, get, see and wait for in vain leave
+/// the agents of the terms alone.
+#[tactic(auto, using(crate::proofs::Asides::asides_law))]
+pub fn other_notes_leave_the_agents()
+    ensures { AsidesLaw }
 {}
 
 /// After every line of every run of a machine with a unit, each transaction that an agent waits for has one request
