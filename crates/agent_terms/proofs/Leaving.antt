@@ -58,7 +58,7 @@ record Found (g : GenerationsState) (id : ℕ) : Type 0 where
   there : node_of g 0 id ≡ Some to
 
 -- ---- asks, from a layer that steps led to
-led_to : (before : Layer Purpose) (made : List (wire.Call Purpose)) → wire.after 0xffc0 made ≡ before → (steps : List (wire.Call Purpose)) → wire.after 0xffc0 (steps ++ made) ≡ layer_after before steps
+pub led_to : (before : Layer Purpose) (made : List (wire.Call Purpose)) → wire.after 0xffc0 made ≡ before → (steps : List (wire.Call Purpose)) → wire.after 0xffc0 (steps ++ made) ≡ layer_after before steps
 led_to before made e [] = e
 led_to before made e (step ∷ steps) = ap (wire.done step) (led_to before made e steps)
 
@@ -135,7 +135,7 @@ module _ (units ready : ℕ) (has : 0 < units) (start : List Disk) {past : List 
   abbrev stands : Stands past w
   stands = h.sound.stands
 
-  good : Good w.target
+  pub good : Good w.target
   good = good_of units ready h.calls w.target has h.made
 
   abbrev layer : Layer Purpose
@@ -152,7 +152,7 @@ module _ (units ready : ℕ) (has : 0 < units) (start : List Disk) {past : List 
 
   -- ---- a delivery
   module _ (serial : ℕ) (sent : Sent) (found : found_sent serial w.store.kept ≡ Some sent) where
-    source_known : sent.generation ≡ layer.generation → (p : Packet) → reading sent.bytes ≡ Ok p → K (header_in p).source
+    pub source_known : sent.generation ≡ layer.generation → (p : Packet) → reading sent.bytes ≡ Ok p → K (header_in p).source
     source_known current p read =
         let there : 0 ≤ length w.initiators = omega arith in
         let layer_is : layer.generation ≡ (topology_at w.generations 0).generation = sym (ap (λ (l : Node). l.generation) (stands.is.layers_are 0 there)) ∙ stands.is.sights 0 there in

@@ -18,6 +18,7 @@ pub mod Managed
 pub mod Notes
 pub mod Keeping
 pub mod Leaving
+pub mod Fresh
 pub mod Purposes
 pub mod Handed
 pub mod Demands

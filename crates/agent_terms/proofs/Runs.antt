@@ -8,6 +8,8 @@ use Rattle.sbp_world.specs.Worlds.{begun}
 use Rattle.target_terms.proofs.Lines.{all_heard, opens}
 use Rattle.target_terms.proofs.Runs.{are_told, holds_after, no_repeats, not_reset}
 use Rattle.target_terms.proofs.Still.{hist}
+use Rattle.agent_terms.specs.Fresh.{LabelsBetweenLaw, LabelsLaw}
+use Rattle.agent_terms.proofs.Fresh.{labels_new}
 use Rattle.agent_terms.specs.Leaving.{LeavingBetweenLaw, LeavingLaw}
 use Rattle.agent_terms.proofs.Leaving.{packets_leave}
 use Rattle.agent_terms.specs.Purposes.{ArePurposesAt, BetweenLaw, PurposesLaw}
@@ -60,3 +62,17 @@ leaving_between_law run few has small size short all fit next event d told may =
     let opened = opens run.units logins has run.start.disks next event s.world (not_reset event d) r.holds in
     let h = all_heard run.units logins has run.start.disks told (are_told told s may) (begun s) opened (no_repeats event (hist r.past s.world) next d) in
     packets_leave run.units logins has run.start.disks (after_all told (begun s)).world h
+
+pub labels_law : LabelsLaw
+labels_law run few has small size short all fit =
+    let r = holds_after 0 run run.entries few has small size short all fit in
+    labels_new run.units (ready_logins run.initiators run.ready) has run.start.disks (after (beginning run) run.entries).world r.holds
+
+pub labels_between_law : LabelsBetweenLaw
+labels_between_law run few has small size short all fit next event d told may =
+    let r = holds_after 0 run run.entries few has small size short all fit in
+    let s = after (beginning run) run.entries in
+    let logins = ready_logins run.initiators run.ready in
+    let opened = opens run.units logins has run.start.disks next event s.world (not_reset event d) r.holds in
+    let h = all_heard run.units logins has run.start.disks told (are_told told s may) (begun s) opened (no_repeats event (hist r.past s.world) next d) in
+    labels_new run.units logins has run.start.disks (after_all told (begun s)).world h

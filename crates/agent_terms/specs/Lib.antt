@@ -6,5 +6,6 @@ pub mod Demands
 pub mod Hands
 pub mod Asides
 pub mod Leaving
+pub mod Fresh
 pub mod Purposes
 pub mod Serials

@@ -3,6 +3,7 @@ ghost use Rattle.agent_terms.specs.Alike.{AlikeLaw};
 ghost use Rattle.agent_terms.specs.Asides.{AsidesLaw};
 ghost use Rattle.agent_terms.specs.Calls.{AgentsLaw};
 ghost use Rattle.agent_terms.specs.Demands.{DemandsLaw};
+ghost use Rattle.agent_terms.specs.Fresh.{LabelsBetweenLaw, LabelsLaw};
 ghost use Rattle.agent_terms.specs.Hands.{HandsLaw};
 ghost use Rattle.agent_terms.specs.Leaving.{LeavingBetweenLaw, LeavingLaw};
 ghost use Rattle.agent_terms.specs.Notes.{NotesLaw};
@@ -90,4 +91,17 @@ pub fn packets_of_the_target_leave()
 #[tactic(auto, using(crate::proofs::Runs::leaving_between_law))]
 pub fn deliveries_keep_packets_leaving()
     ensures { LeavingBetweenLaw }
+{}
+
+/// After every line of every run the requests that the target hands out have labels of their own, whatever is
+/// delivered to it and whatever times out: no two go to one node under one label, and none has the label of a
+/// transaction that an agent waits for.
+#[tactic(auto, using(crate::proofs::Runs::labels_law))]
+pub fn labels_of_requests_are_new()
+    ensures { LabelsLaw }
+{}
+
+/// And behind each delivery of a line that may follow.
+pub fn deliveries_keep_labels_new()
+    ensures { LabelsBetweenLaw }
 {}
