@@ -33,90 +33,105 @@ use Rattle.target_laws.proofs.Seats.{split}
 use Rattle.target_terms.proofs.Calm.{AreQuiet}
 use Rattle.target_terms.specs.Offices.{Office}
 use Rattle.agent_terms.specs.Calls.{AreOf, Follow, replied}
-use Rattle.agent_terms.specs.Crews.{ToldAlike, agent_in, crew_over, crew_packets, crew_sides}
-use Rattle.agent_terms.proofs.Cuts.{AreCut, cut_settled}
+use Rattle.agent_terms.specs.Crews.{Request, ToldAlike, agent_in, crew_over, crew_packets, crew_sides, with_requests}
+use Rattle.agent_terms.proofs.Cuts.{AreCut, IsKept, cut_settled, kept_self}
 use Rattle.agent_terms.proofs.Follows.{Settled}
 use Rattle.agent_terms.proofs.Lists.{AreIdle, AreNoEntries, all_over, at_other, at_own, idle_packets, idle_sides, turn_over, turn_packets, turn_sides}
 use Rattle.agent_terms.proofs.Mild.{IsGiven}
+use Rattle.agent_terms.proofs.Serials.{Paired, Within, one_none, paired_at, paired_more, requests_within}
 use Rattle.agent_terms.proofs.Registers.{Turned, ahead_lapses, beside_self, ended_turned, main_lapses}
 use Rattle.agent_terms.proofs.Rounds.{ahead_advances, main_advances}
 
 -- ---- all agents are settled
-pub record AllSettled (agents : List Agent) (node : NodeState) : Type 0 where
+pub record AllSettled (requests : List Request) (agents : List Agent) (node : NodeState) : Type 0 where
   pub size : length agents ≡ 8
   pub each : (p : ℕ) → p < 8 → Settled (desk_at node p).agent (desk_at node p).pointer (agent_in agents p)
+  pub paired : (p : ℕ) → p < 8 → Paired requests (desk_at node p) (agent_in agents p)
 
-pub settled_of : (agents : List Agent) (node : NodeState) → Good node → AreOf agents node → AllSettled agents node
+pub settled_of : {requests : List Request} (agents : List Agent) (node : NodeState) → Good node → AreOf requests agents node → AllSettled requests agents node
 settled_of agents node g a = record {
   size = a.size;
   each = λ p b.
       let i = a.each p b in
       let f = g.mid.fits p b (not_eight p b) in
       record { machine = i.machine; main = i.main ∙ f.main; ahead = i.ahead ∙ f.ahead; pointer_is = i.pointer; asks = i.asks; asks_ahead = i.asks_ahead };
+  paired = λ p b. record { main = (a.each p b).main_is; ahead = (a.each p b).ahead_is };
 }
 
-pub of_settled : (agents : List Agent) (node : NodeState) → Good node → AllSettled agents node → AreOf agents node
+pub of_settled : {requests : List Request} (agents : List Agent) (node : NodeState) → Good node → AllSettled requests agents node → AreOf requests agents node
 of_settled agents node g a = record {
   size = a.size;
   each = λ p b.
       let i = a.each p b in
       let f = g.mid.fits p b (not_eight p b) in
-      record { machine = i.machine; pointer = i.pointer_is; main = i.main ∙ sym f.main; ahead = i.ahead ∙ sym f.ahead; asks = i.asks; asks_ahead = i.asks_ahead };
+      record { machine = i.machine; pointer = i.pointer_is; main = i.main ∙ sym f.main; ahead = i.ahead ∙ sym f.ahead; main_is = (a.paired p b).main; ahead_is = (a.paired p b).ahead; asks = i.asks; asks_ahead = i.asks_ahead };
 }
 
-pub settled_idle : (agents : List Agent) (node : NodeState) → AllSettled agents node → AreIdle agents
+pub settled_more : (before now : List Request) → Within before now → (agents : List Agent) (node : NodeState) → AllSettled before agents node → AllSettled now agents node
+settled_more before now w agents node a = record { size = a.size; each = a.each; paired = λ p b. paired_more before now w (desk_at node p) (agent_in agents p) (a.paired p b) }
+
+pub settled_idle : {requests : List Request} (agents : List Agent) (node : NodeState) → AllSettled requests agents node → AreIdle agents
 settled_idle agents node a = record { size = a.size; each = λ p b. record { asks = (a.each p b).asks; asks_ahead = (a.each p b).asks_ahead } }
 
 -- what was told and sent leaves them settled
-pub record Behind (o : Office) (agents : List Agent) (s : Scene) : Type 0 where
-  pub all : (last : ℕ) → AllSettled (crew_over (crew_packets last s.outbox.packets (crew_sides s.outbox.sides o agents))) s.node
+pub record Behind (requests : List Request) (o : Office) (agents : List Agent) (s : Scene) : Type 0 where
+  pub all : (last : ℕ) → AllSettled (with_requests last s.outbox.packets requests) (crew_over (crew_packets last s.outbox.packets (crew_sides s.outbox.sides o agents))) s.node
 
-pub behind_follow : (o : Office) (agents : List Agent) (s : Scene) → Good s.node → Behind o agents s → Follow o agents s
+pub behind_follow : {requests : List Request} (o : Office) (agents : List Agent) (s : Scene) → Good s.node → Behind requests o agents s → Follow requests o agents s
 behind_follow o agents s g h = λ last. of_settled _ s.node g (h.all last)
 
 -- ---- nothing more is done than is told
-pub idle_behind : (o : Office) (agents : List Agent) (s : Scene) → AreNoEntries s.outbox.sides → AllSettled agents s.node → Behind o agents s
-idle_behind o agents s none a =
+pub idle_behind : {requests : List Request} (o : Office) (agents : List Agent) (s : Scene) → AreNoEntries s.outbox.sides → AllSettled requests agents s.node → Behind requests o agents s
+idle_behind {requests} o agents s none a =
     let idle = settled_idle agents s.node a in
     record {
       all = λ last.
-          subst (λ (xs : List Agent). AllSettled xs s.node)
-          (sym (ap (λ (xs : List Agent). crew_over (crew_packets last s.outbox.packets xs)) (idle_sides agents idle s.outbox.sides o none) ∙ ap crew_over (idle_packets agents idle last s.outbox.packets) ∙ all_over agents idle)) a;
+          let now = with_requests last s.outbox.packets requests in
+          subst (λ (xs : List Agent). AllSettled now xs s.node)
+          (sym (ap (λ (xs : List Agent). crew_over (crew_packets last s.outbox.packets xs)) (idle_sides agents idle s.outbox.sides o none) ∙ ap crew_over (idle_packets agents idle last s.outbox.packets) ∙ all_over agents idle))
+          (settled_more requests now (requests_within last s.outbox.packets requests) agents s.node a);
     }
 
 -- the agents of the desks are as before
 pub record IsUnmoved (before now : NodeState) : Type 0 where
   pub agent : (p : ℕ) → p < 8 → (desk_at now p).agent ≡ (desk_at before p).agent
   pub pointer : (p : ℕ) → p < 8 → (desk_at now p).pointer ≡ (desk_at before p).pointer
+  pub kept : (p : ℕ) → p < 8 → IsKept (desk_at before p) (desk_at now p)
 
-pub unmoved_settled : (agents : List Agent) (before now : NodeState) → IsUnmoved before now → AllSettled agents before → AllSettled agents now
-unmoved_settled agents before now u a = record {
+pub unmoved_settled : {requests : List Request} (agents : List Agent) (before now : NodeState) → IsUnmoved before now → AllSettled requests agents before → AllSettled requests agents now
+unmoved_settled {requests} agents before now u a = record {
   size = a.size;
   each = λ p b.
       subst (λ (m : Machine). Settled m (desk_at now p).pointer (agent_in agents p)) (sym (u.agent p b))
       (subst (λ (x : Option ℕ). Settled (desk_at before p).agent x (agent_in agents p)) (sym (u.pointer p b)) (a.each p b));
+  paired = λ p b. paired_at requests (desk_at before p) (desk_at now p) (agent_in agents p) (u.kept p b).main (u.kept p b).ahead (a.paired p b);
 }
 
 pub same_desks : (before now : NodeState) → now.desks ≡ before.desks → IsUnmoved before now
 same_desks before now e =
     let at : (p : ℕ) → desk_at now p ≡ desk_at before p = λ p. ap (λ ds. slice_index_or ds p new_desk) e in
-    record { agent = λ p b. ap (λ (d : Desk). d.agent) (at p); pointer = λ p b. ap (λ (d : Desk). d.pointer) (at p) }
+    record { agent = λ p b. ap (λ (d : Desk). d.agent) (at p); pointer = λ p b. ap (λ (d : Desk). d.pointer) (at p); kept = λ p b. subst (λ (d : Desk). IsKept (desk_at before p) d) (sym (at p)) (kept_self (desk_at before p)) }
 
 -- ---- lists are cut
 pub record TermsCut (test : ℕ → Bool) (before now : List Agent) : Type 0 where
   pub size : length now ≡ 8
   pub each : (p : ℕ) → p < 8 → agent_in now p ≡ cond (test p) (cut_agent (agent_in before p)) (agent_in before p)
 
-pub cut_all_settled : (test : ℕ → Bool) (agents now : List Agent) (before later : NodeState) → AreCut test before later → TermsCut test agents now → AllSettled agents before → AllSettled now later
-cut_all_settled test agents now before later c t a = record {
+pub cut_all_settled : {requests : List Request} (test : ℕ → Bool) (agents now : List Agent) (before later : NodeState) → AreCut test before later → TermsCut test agents now → AllSettled requests agents before → AllSettled requests now later
+cut_all_settled {requests} test agents now before later c t a = record {
   size = t.size;
   each = λ p b.
       subst (λ (m : Machine). Settled m (desk_at later p).pointer (agent_in now p)) (sym (c.agent p b))
       (subst (λ (x : Option ℕ). Settled (cond (test p) (reset_step (desk_at before p).agent) (desk_at before p).agent) x (agent_in now p)) (sym (c.pointer p b))
       (subst (λ (x : Agent). Settled (cond (test p) (reset_step (desk_at before p).agent) (desk_at before p).agent) (desk_at before p).pointer x) (sym (t.each p b))
       (by (test p) p b)));
+  paired = λ p b. subst (λ (x : Agent). Paired requests (desk_at later p) x) (sym (t.each p b)) (pair_by (test p) p b refl);
 }
   where
+    pair_by : (x : Bool) (p : ℕ) → p < 8 → test p ≡ x → Paired requests (desk_at later p) (cond x (cut_agent (agent_in agents p)) (agent_in agents p))
+    pair_by true p b e = record { main = one_none requests (desk_at later p).main; ahead = one_none requests (desk_at later p).ahead }
+    pair_by false p b e = let k = c.kept p b e in paired_at requests (desk_at before p) (desk_at later p) (agent_in agents p) k.main k.ahead (a.paired p b)
+
     by : (x : Bool) (p : ℕ) → p < 8 → Settled (cond x (reset_step (desk_at before p).agent) (desk_at before p).agent) (desk_at before p).pointer (cond x (cut_agent (agent_in agents p)) (agent_in agents p))
     by true p b = let i = a.each p b in cut_settled (desk_at before p).agent (desk_at before p).pointer (agent_in agents p) i.pointer_is
     by false p b = a.each p b
@@ -140,8 +155,8 @@ all_terms_cut agents size = record {
 }
 
 -- ---- one agent has its turn
-module _ (agents : List Agent) (node : NodeState) (a : AllSettled agents node) (q : ℕ) (b : q < 8) where
-  pub turned_behind : (o : Office) (first : Agent) (s : Scene) → AreQuiet s.outbox.sides → Turned q node first s → Behind o (slice_set agents q first) s
+module _ {requests : List Request} (agents : List Agent) (node : NodeState) (a : AllSettled requests agents node) (q : ℕ) (b : q < 8) where
+  pub turned_behind : (o : Office) (first : Agent) (s : Scene) → AreQuiet s.outbox.sides → Turned requests q node first s → Behind requests o (slice_set agents q first) s
   turned_behind o first s quiet t =
       let idle = settled_idle agents node a in
       let is : (last : ℕ) → crew_over (crew_packets last s.outbox.packets (crew_sides s.outbox.sides o (slice_set agents q first))) ≡ slice_set agents q (agent_over (t.now last))
@@ -150,14 +165,29 @@ module _ (agents : List Agent) (node : NodeState) (a : AllSettled agents node) (
       ∙ ap crew_over (turn_packets agents idle q b last s.outbox.packets _)
       ∙ turn_over agents idle q b _
       ∙ ap (λ (x : Agent). slice_set agents q (agent_over x)) (t.out.is last) in
-      record { all = λ last. subst (λ (xs : List Agent). AllSettled xs s.node) (sym (is last)) (settled_now (agent_over (t.now last)) (t.settled last)) }
+      record {
+        all = λ last.
+            let now = with_requests last s.outbox.packets requests in
+            subst (λ (xs : List Agent). AllSettled now xs s.node) (sym (is last)) (settled_now now (requests_within last s.outbox.packets requests) (agent_over (t.now last)) (t.settled last) (t.paired last));
+      }
     where
-      settled_now : (x : Agent) → Settled (desk_at s.node q).agent (desk_at s.node q).pointer x → AllSettled (slice_set agents q x) s.node
-      settled_now x h = record {
+      settled_now : (now : List Request) → Within requests now → (x : Agent) → Settled (desk_at s.node q).agent (desk_at s.node q).pointer x → Paired now (desk_at s.node q) x → AllSettled now (slice_set agents q x) s.node
+      settled_now now w x h k = record {
         size = length-set agents q x ∙ a.size;
         each = λ p l. by (nat_eq p q) p l refl;
+        paired = λ p l. pair_by (nat_eq p q) p l refl;
       }
         where
+          pair_by : (y : Bool) (p : ℕ) → p < 8 → nat_eq p q ≡ y → Paired now (desk_at s.node p) (agent_in (slice_set agents q x) p)
+          pair_by true p l e =
+              let same : p ≡ q = grind (arith, nat_tests) in
+              subst (λ (i : ℕ). Paired now (desk_at s.node i) (agent_in (slice_set agents q x) i)) (sym same) (subst (λ (y : Agent). Paired now (desk_at s.node q) y) (sym (at_own agents q x a.size b)) k)
+          pair_by false p l e =
+              let n : p ≢ q = λ z. (let yes : nat_eq p q ≡ true = grind (arith, nat_tests) in absurd (let no : true ≡ false = sym yes ∙ e in cc)) in
+              let o = t.kept p n in
+              subst (λ (y : Agent). Paired now (desk_at s.node p) y) (sym (at_other agents q p x a.size b n))
+              (paired_at now (desk_at node p) (desk_at s.node p) (agent_in agents p) o.0 o.1 (paired_more requests now w (desk_at node p) (agent_in agents p) (a.paired p l)))
+
           by : (y : Bool) (p : ℕ) → p < 8 → nat_eq p q ≡ y → Settled (desk_at s.node p).agent (desk_at s.node p).pointer (agent_in (slice_set agents q x) p)
           by true p l e =
               let same : p ≡ q = grind (arith, nat_tests) in
@@ -178,8 +208,8 @@ served_there node q i = ap (λ (l : Option Login). if_served (length node.units)
     on_unit true e = refl
     on_unit false e = absurd (let no : false ≡ true = e in cc)
 
-module _ (node : NodeState) (g : Good node) (agents : List Agent) (is : AreOf agents node) where
-  abbrev own : AllSettled agents node
+module _ {requests : List Request} (node : NodeState) (g : Good node) (agents : List Agent) (is : AreOf requests agents node) where
+  abbrev own : AllSettled requests agents node
   own = settled_of agents node g is
 
   small : (place peer : ℕ) (label : LabelParts) (kind : ReplyKind) → g.lives peer label ≡ under_way kind (Some (purposes.Agent place)) → place < 8
@@ -199,7 +229,7 @@ module _ (node : NodeState) (g : Good node) (agents : List Agent) (is : AreOf ag
     module _ (ta tm : Option Told) (v : Bool) (t : ToldAlike v ta tm) (answer : Answer) (given : IsGiven answer) (disks : List Disk) (before now : List ℕ) where
       abbrev Replied : Option Login → Option Which → Type 0
       Replied login which =
-          TellsBy tm place answer login which (stage over_layer disks) before now → (let w = replied_by tm place answer login which (whole (scene over_layer empty_outbox) disks) in AreQuiet w.outbox.sides → Behind o (replied ta v place answer node disks login which agents) (scene_of w))
+          TellsBy tm place answer login which (stage over_layer disks) before now → (let w = replied_by tm place answer login which (whole (scene over_layer empty_outbox) disks) in AreQuiet w.outbox.sides → Behind requests o (replied ta v place answer node disks login which agents) (scene_of w))
 
       replied_as : Came place node (sent_to peer label) → Replied (served_login over_layer place) (which_in (desk_at over_layer place) peer label)
       replied_as (for_main m w i s) =
@@ -223,7 +253,7 @@ module _ (node : NodeState) (g : Good node) (agents : List Agent) (is : AreOf ag
     -- a time-out
     abbrev Lapsed : Option Login → Option Which → Type 0
     Lapsed login which =
-        (let s = expired_by place login which (scene over_layer empty_outbox) in AreQuiet s.outbox.sides → Behind o (replied None false place Expired node [] login which agents) s)
+        (let s = expired_by place login which (scene over_layer empty_outbox) in AreQuiet s.outbox.sides → Behind requests o (replied None false place Expired node [] login which agents) s)
 
     lapsed_as : Came place node (sent_to peer label) → Lapsed (login_at over_layer place) (which_in (desk_at over_layer place) peer label)
     lapsed_as (for_main m w i s) =

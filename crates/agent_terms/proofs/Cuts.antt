@@ -29,12 +29,24 @@ cut_settled m pointer a p = record {
   asks_ahead = refl;
 }
 
+-- what a desk waits for stays
+pub record IsKept (before now : Desk) : Type 0 where
+  pub main : now.main ≡ before.main
+  pub ahead : now.ahead ≡ before.ahead
+
+pub kept_self : (d : Desk) → IsKept d d
+kept_self d = record { main = refl; ahead = refl }
+
+kept_then : (d e : Desk) (now : Desk) → now ≡ e → IsKept d e → IsKept d now
+kept_then d e now f k = subst (λ (x : Desk). IsKept d x) (sym f) k
+
 -- ---- what cuts make of desks: `test` tells the places in which the list is cut
 pub record AreCut (test : ℕ → Bool) (before now : NodeState) : Type 0 where
   pub size : length now.desks ≡ 8
   pub logins : now.logins ≡ before.logins
   pub agent : (p : ℕ) → p < 8 → (desk_at now p).agent ≡ cond (test p) (reset_step (desk_at before p).agent) (desk_at before p).agent
   pub pointer : (p : ℕ) → p < 8 → (desk_at now p).pointer ≡ (desk_at before p).pointer
+  pub kept : (p : ℕ) → p < 8 → test p ≡ false → IsKept (desk_at before p) (desk_at now p)
 
 module _ (before : NodeState) where
   one_cut : (q : ℕ) (node : NodeState) → q < 8 → length node.desks ≡ 8 → (p : ℕ) → desk_at (cut_node q node) p ≡ cond (nat_eq p q) (reset_desk (desk_at node q)) (desk_at node p)
@@ -50,6 +62,8 @@ module _ (before : NodeState) where
     pub agent : (p : ℕ) → p < from → (desk_at node p).agent ≡ cond (test p) (reset_step (desk_at before p).agent) (desk_at before p).agent
     pub rest : (p : ℕ) → from ≤ p → (desk_at node p).agent ≡ (desk_at before p).agent
     pub pointer : (p : ℕ) → (desk_at node p).pointer ≡ (desk_at before p).pointer
+    pub kept : (p : ℕ) → p < from → test p ≡ false → IsKept (desk_at before p) (desk_at node p)
+    pub kept_rest : (p : ℕ) → from ≤ p → IsKept (desk_at before p) (desk_at node p)
 
   cut_pointer : (q : ℕ) (node : NodeState) → q < 8 → length node.desks ≡ 8 → (p : ℕ) → (desk_at (cut_node q node) p).pointer ≡ (desk_at node p).pointer
   cut_pointer q node b s p = ap (λ (d : Desk). d.pointer) (one_cut q node b s p) ∙ by (nat_eq p q) refl
@@ -60,6 +74,9 @@ module _ (before : NodeState) where
 
   cut_own : (q : ℕ) (node : NodeState) → q < 8 → length node.desks ≡ 8 → (desk_at (cut_node q node) q).agent ≡ reset_step (desk_at node q).agent
   cut_own q node b s = ap (λ (d : Desk). d.agent) (one_cut q node b s q ∙ ap (λ (x : Bool). cond x (reset_desk (desk_at node q)) (desk_at node q)) (same_id q))
+
+  off_cut : (q : ℕ) (node : NodeState) → q < 8 → length node.desks ≡ 8 → (p : ℕ) → p ≢ q → desk_at (cut_node q node) p ≡ desk_at node p
+  off_cut q node b s p n = one_cut q node b s p ∙ ap (λ (x : Bool). cond x (reset_desk (desk_at node q)) (desk_at node p)) (other_id p q n)
 
   cut_other : (q : ℕ) (node : NodeState) → q < 8 → length node.desks ≡ 8 → (p : ℕ) → p ≢ q → (desk_at (cut_node q node) p).agent ≡ (desk_at node p).agent
   cut_other q node b s p n = ap (λ (d : Desk). d.agent) (one_cut q node b s p ∙ ap (λ (x : Bool). cond x (reset_desk (desk_at node q)) (desk_at node p)) (other_id p q n))
@@ -77,8 +94,14 @@ module _ (before : NodeState) where
     agent = λ p l. by (nat_eq p k) p l refl;
     rest = λ p l. cut_other k node b w.size p (λ e. absurd (omega arith)) ∙ w.rest p (omega arith);
     pointer = λ p. cut_pointer k node b w.size p ∙ w.pointer p;
+    kept = λ p l f. kept_by (nat_eq p k) p l f refl;
+    kept_rest = λ p l. kept_then (desk_at before p) (desk_at node p) (desk_at (cut_node k node) p) (off_cut k node b w.size p (λ e. absurd (omega arith))) (w.kept_rest p (omega arith));
   }
     where
+      kept_by : (x : Bool) (p : ℕ) → p < k + 1 → test p ≡ false → nat_eq p k ≡ x → IsKept (desk_at before p) (desk_at (cut_node k node) p)
+      kept_by true p l f e = absurd (let clash : true ≡ false = sym t ∙ ap test (sym (place_is p k e)) ∙ f in cc)
+      kept_by false p l f e = kept_then (desk_at before p) (desk_at node p) (desk_at (cut_node k node) p) (off_cut k node b w.size p (not_of p k e)) (w.kept p (next_of p k l e) f)
+
       by : (x : Bool) (p : ℕ) → p < k + 1 → nat_eq p k ≡ x → (desk_at (cut_node k node) p).agent ≡ cond (test p) (reset_step (desk_at before p).agent) (desk_at before p).agent
       by true p l e =
           subst (λ (i : ℕ). (desk_at (cut_node k node) i).agent ≡ cond (test i) (reset_step (desk_at before i).agent) (desk_at before i).agent) (sym (place_is p k e))
@@ -92,8 +115,14 @@ module _ (before : NodeState) where
     agent = λ p l. by (nat_eq p k) p l refl;
     rest = λ p l. w.rest p (omega arith);
     pointer = w.pointer;
+    kept = λ p l f. kept_by (nat_eq p k) p l f refl;
+    kept_rest = λ p l. w.kept_rest p (omega arith);
   }
     where
+      kept_by : (x : Bool) (p : ℕ) → p < k + 1 → test p ≡ false → nat_eq p k ≡ x → IsKept (desk_at before p) (desk_at node p)
+      kept_by true p l f e = let same : p ≡ k = place_is p k e in w.kept_rest p (omega arith)
+      kept_by false p l f e = w.kept p (next_of p k l e) f
+
       by : (x : Bool) (p : ℕ) → p < k + 1 → nat_eq p k ≡ x → (desk_at node p).agent ≡ cond (test p) (reset_step (desk_at before p).agent) (desk_at before p).agent
       by true p l e =
           subst (λ (i : ℕ). (desk_at node i).agent ≡ cond (test i) (reset_step (desk_at before i).agent) (desk_at before i).agent) (sym (place_is p k e))
@@ -123,8 +152,8 @@ module _ (before : NodeState) where
 
 pub all_cut : (cause : CutCause) (unit : Option ℕ) (s : Scene) → length s.node.desks ≡ 8 → AreCut (λ p. is_cut unit (login_at s.node p)) s.node (cut_from 8 0 cause unit s).node
 all_cut cause unit s size =
-    let w = sweep_from s.node 8 0 cause unit s refl (record { size = size; logins = refl; agent = λ p l. absurd (omega arith); rest = λ p l. refl; pointer = λ p. refl }) in
-    record { size = w.size; logins = w.logins; agent = w.agent; pointer = λ p l. w.pointer p }
+    let w = sweep_from s.node 8 0 cause unit s refl (record { size = size; logins = refl; agent = λ p l. absurd (omega arith); rest = λ p l. refl; pointer = λ p. refl; kept = λ p l f. absurd (omega arith); kept_rest = λ p l. kept_self (desk_at s.node p) }) in
+    record { size = w.size; logins = w.logins; agent = w.agent; pointer = λ p l. w.pointer p; kept = λ p l f. w.kept p l f }
 
 -- one list is cut
 pub place_cut : (cause : CutCause) (q : ℕ) (s : Scene) → q < 8 → length s.node.desks ≡ 8 → AreCut (λ p. nat_eq p q) s.node (cut cause q s).node
@@ -134,6 +163,7 @@ place_cut cause q s b size = record {
   logins = refl;
   agent = λ p l. ap (λ (d : Desk). d.agent) (one_cut s.node q s.node b size p) ∙ by (nat_eq p q) p refl;
   pointer = λ p l. cut_pointer s.node q s.node b size p;
+  kept = λ p l f. kept_then (desk_at s.node p) (desk_at s.node p) (desk_at (cut_node q s.node) p) (off_cut s.node q s.node b size p (not_of s.node p q f)) (kept_self (desk_at s.node p));
 }
   where
     by : (x : Bool) (p : ℕ) → nat_eq p q ≡ x → (cond x (reset_desk (desk_at s.node q)) (desk_at s.node p)).agent ≡ cond x (reset_step (desk_at s.node p).agent) (desk_at s.node p).agent

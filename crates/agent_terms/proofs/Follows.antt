@@ -1,5 +1,5 @@
 -- What follows a step of an agent leaves its term as it leaves the agent.
-use Rattle.std.proofs.Common.{◌≡◌, ◌∙◌, refl, sym, ap, subst, ℕ, ◌<◌, ◌&&◌, ◌||◌, not, nat_lt, is_some, Bool, true, false, cond, Option, Some, None}
+use Rattle.std.proofs.Common.{◌≡◌, ◌∙◌, refl, sym, ap, subst, ℕ, ◌<◌, ◌&&◌, ◌||◌, not, nat_lt, is_some, Bool, true, false, cond, List, Option, Some, None}
 use Rattle.label_table.specs.declared.judgement.Asked.{Asked}
 use Rattle.label_table.specs.Bodies.{Body}
 use Rattle.label_table.specs.Layer.{Layer, asking_step, free_labels}
@@ -21,14 +21,17 @@ use Rattle.sbp_laws.specs.Targets.{Agent, agent_over, ahead_lost, is_nothing, ma
 use Rattle.sbp_target.specs.declared.purpose.Purpose.{Purpose}
 use Rattle.sbp_target.specs.declared.purpose.Purpose.TheVariants as purposes
 use Rattle.sbp_target.specs.Agents.{after_ahead, after_loss, after_main, agent_body, ahead_asked, ahead_sent, ask_ahead, ask_main, follow, lose, lose_main, lost_by, noted, send_ahead}
-use Rattle.sbp_target.specs.Nodes.{NodeState, Scene, desk_at, scene, with_agent}
+use Rattle.sbp_target.specs.Nodes.{NodeState, Scene, desk_at, scene, with_agent, with_desk}
 use Rattle.sbp_target.specs.Sending.{request_step, sent_by, with_packet}
 use Rattle.sbp_target.specs.Telling.{tell_step}
+use Rattle.sbp_target.specs.declared.desk.Desk.{Desk}
 use Rattle.target_laws.proofs.Stepped.{Behind, Carries, Fit, Lost, ahead_loses, is_asked, is_bare, last_loses, main_loses}
 use Rattle.target_terms.proofs.Requests.{writes_body}
 use Rattle.agent_terms.specs.Alike.{Alike}
+use Rattle.agent_terms.specs.Crews.{Request, with_requests}
+use Rattle.agent_terms.proofs.Serials.{Paired, Turning, more_has, more_within, number_after, one_more, one_unless, paired_as, paired_more, paired_unless, requests_within}
 use Rattle.agent_terms.proofs.Steps.{lost_alike}
-use Rattle.agent_terms.proofs.Walk.{Gone, Holds, IsOther, Left, Out, Told, dead_on, holds_set, holds_still, main_leaves, main_none, notes_hold, notes_told, number_after, other_on, out_as, out_more, told_as, told_out}
+use Rattle.agent_terms.proofs.Walk.{Gone, Holds, IsOther, Left, Out, Told, dead_on, desk_set, holds_set, holds_still, main_leaves, main_none, notes_hold, notes_pair, notes_told, other_on, out_as, out_more, told_as, told_out}
 use Rattle.agent_terms.proofs.Writes.{HasBody, asked_writes, has_body, no_body}
 
 no : false ≡ true → ⊥
@@ -106,12 +109,13 @@ pub record Unwanting (a : Agent) : Type 0 where
 unwanting : (a : Agent) → a.asks ≡ Nothing → wants a.asks_ahead true ≡ false → Unwanting a
 unwanting a e f = record { asks = ap (λ (x : Ask). wants x true) e; asks_ahead = f }
 
-pub record Done (q : ℕ) (before : NodeState) (first : Agent) (pointer : Option ℕ) (Calm : Type 0) (s : Scene) : Type 0 where
+pub record Done (requests : List Request) (q : ℕ) (before : NodeState) (first : Agent) (pointer : Option ℕ) (Calm : Type 0) (s : Scene) : Type 0 where
   pub now : ℕ → Agent
   pub machine : Machine
   pub out : Out first now s.outbox
   pub holds : Holds q before machine s.node
   pub settled : (last : ℕ) → Settled machine pointer (agent_over (now last))
+  pub paired : (last : ℕ) → Paired (with_requests last s.outbox.packets requests) (desk_at s.node q) (agent_over (now last))
   pub calm : Calm → (last : ℕ) → Unwanting (now last)
 
 settled_as : (m : Machine) (pointer : Option ℕ) (a b : Agent) → a ≡ b → Settled m pointer b → Settled m pointer a
@@ -184,7 +188,7 @@ or_not : (b c : Bool) → c ≡ false → (b || not c) ≡ true
 or_not true c e = refl
 or_not false c e = ap not e
 
-module _ (q : ℕ) (b : q < 8) (before : NodeState) (first : Agent) (pointer : Option ℕ) (login : Login) where
+module _ (requests : List Request) (q : ℕ) (b : q < 8) (before : NodeState) (first : Agent) (pointer : Option ℕ) (login : Login) where
   -- a step that is silent does nothing
   silent : (step : AgentStep) (t : Scene) → step ≡ quiet → ask_main q login step (noted q step t) ≡ (true, t)
   unfolding ask_main noted tell_step
@@ -192,6 +196,12 @@ module _ (q : ℕ) (b : q < 8) (before : NodeState) (first : Agent) (pointer : O
 
   holds_agent : (m now : Machine) (s : Scene) → Holds q before m s.node → Holds q before now (with_agent s.node q now)
   holds_agent m now s h = holds_set q before m now s.node (with_agent s.node q now) (record (desk_at s.node q) { agent = now }) b h refl refl refl refl
+
+  -- one that asks for nothing more
+  told_pairs : (last : ℕ) (a : Agent) (s : Scene) → a.asks ≡ Nothing → a.asks_ahead ≡ Nothing → Paired requests (desk_at s.node q) a → Paired (with_requests last s.outbox.packets requests) (desk_at s.node q) (agent_over a)
+  told_pairs last a s idle none p =
+      let now = with_requests last s.outbox.packets requests in
+      paired_as now (desk_at s.node q) (agent_over a) a (over_idle a idle none) (paired_more requests now (requests_within last s.outbox.packets requests) (desk_at s.node q) a p)
 
   -- ---- the last status write is lost
   abbrev Dropped : Machine → Scene → Scene
@@ -204,7 +214,7 @@ module _ (q : ℕ) (b : q < 8) (before : NodeState) (first : Agent) (pointer : O
       = ap (λ (x : Machine). lost_step x Main causes.Label) h ∙ last_loses m causes.Label p in
       ap (λ (l : AgentStep × Machine). ask_main q login l.0 (noted q l.0 (scene (with_agent s.node q l.1) s.outbox))) is ∙ silent quiet (Dropped m s) refl
 
-  falls_done : (Calm : Type 0) (m : Machine) (a : Agent) (s : Scene) → (Calm → ⊥) → m.phase ≡ phases.WritingLastStatus → is_ahead m.ahead ≡ false → is_asked a.asks ≡ true → is_some a.main ≡ false → a.pointer ≡ pointer → Alike a.untold a.machine m → Told first a s.outbox → Holds q before m s.node → Done q before first pointer Calm (Dropped m s)
+  falls_done : (Calm : Type 0) (m : Machine) (a : Agent) (s : Scene) → (Calm → ⊥) → m.phase ≡ phases.WritingLastStatus → is_ahead m.ahead ≡ false → is_asked a.asks ≡ true → is_some a.main ≡ false → a.pointer ≡ pointer → Alike a.untold a.machine m → Told first a s.outbox → Holds q before m s.node → Done requests q before first pointer Calm (Dropped m s)
   falls_done Calm m a s rough p i k n o al t h =
       let dead : Machine = record m { phase = phases.Dead } in
       record {
@@ -220,6 +230,11 @@ module _ (q : ℕ) (b : q < 8) (before : NodeState) (first : Agent) (pointer : O
           asks = refl;
           asks_ahead = refl;
         });
+        paired = λ last.
+            let now = with_requests last s.outbox.packets requests in
+            let d = desk_at (Dropped m s).node q in
+            paired_as now d (agent_over a) (fallen a) (over_last a k (al.phase ∙ p))
+            (paired_unless now d (fallen a) n (ap (λ (c : Bool). is_some (cond (not c) None a.ahead)) al.flag ∙ ap (λ (c : Bool). is_some (cond (not c) None a.ahead)) i));
         calm = λ c. absurd (rough c);
       }
 
@@ -239,22 +254,22 @@ module _ (q : ℕ) (b : q < 8) (before : NodeState) (first : Agent) (pointer : O
     holds : Holds q before machine s.node
 
   abbrev Lands : Type 0 → Bool × Scene → Type 0
-  Lands Calm (true, s) = Done q before first pointer Calm s
+  Lands Calm (true, s) = Done requests q before first pointer Calm s
   Lands Calm (false, s) = Falls s × (Calm → ⊥)
 
   sent_under : (m : Machine) (s : Scene) → Holds q before m s.node → is_sent m.phase ≡ true → is_under_way Main (desk_at s.node q).agent ≡ true
   sent_under m s h e = ap (λ (x : Machine). is_sent x.phase) h.agent ∙ e
 
-  lands_again : (Calm : Type 0) (r : Bool × Scene) → Lands Calm r → Done q before first pointer Calm (after_loss q login r)
+  lands_again : (Calm : Type 0) (r : Bool × Scene) → Lands Calm r → Done requests q before first pointer Calm (after_loss q login r)
   unfolding lose
   lands_again Calm (true, s) d = d
   lands_again Calm (false, s) (f, rough) =
       let under = sent_under f.machine s f.holds (ap is_sent f.phase) in
-      subst (λ (r : Bool × Scene). Done q before first pointer Calm r.1) (sym (falls_is (is_under_way Main (desk_at s.node q).agent) f.machine s under f.phase f.holds.agent))
+      subst (λ (r : Bool × Scene). Done requests q before first pointer Calm r.1) (sym (falls_is (is_under_way Main (desk_at s.node q).agent) f.machine s under f.phase f.holds.agent))
       (falls_done Calm f.machine f.agent s rough f.phase f.idle f.asked f.main f.pointer_is f.alike f.told f.holds)
 
   -- the status block of an ORB that failed leaves, or is lost too
-  block_leaves : (Calm : Type 0) (l : AgentStep × Machine) (had : Bool) (lost : Lost had l) (a : Agent) (st : Stepped false l.0 l.1 pointer a) → (Calm → is_asked l.0.ask ≡ false) → is_asked l.0.ask ≡ true → (r : Bool × Scene) → Left q b before first l.1 a r → Lands Calm r
+  block_leaves : (Calm : Type 0) (l : AgentStep × Machine) (had : Bool) (lost : Lost had l) (a : Agent) (st : Stepped false l.0 l.1 pointer a) → (Calm → is_asked l.0.ask ≡ false) → is_asked l.0.ask ≡ true → (r : Bool × Scene) → Left requests q b before first l.1 a r → Lands Calm r
   block_leaves Calm l had lost a st quiet_if asked (true, s) g =
       let c : ℕ → Agent = λ last. record a { main = Some (g.serial last); asks = Nothing } in
       let none : a.asks_ahead ≡ Nothing = st.asks_ahead ∙ not_asked l.0.ahead lost.unasked in
@@ -271,6 +286,7 @@ module _ (q : ℕ) (b : q < 8) (before : NodeState) (first : Agent) (pointer : O
           asks = refl;
           asks_ahead = none;
         });
+        paired = λ last. paired_as (with_requests last s.outbox.packets requests) (desk_at s.node q) (agent_over (c last)) (c last) (over_idle (c last) refl none) (g.paired last);
         calm = λ c. absurd (no_2 (sym asked ∙ quiet_if c));
       }
   block_leaves Calm l had lost a st quiet_if asked (false, s) g = (
@@ -289,13 +305,13 @@ module _ (q : ℕ) (b : q < 8) (before : NodeState) (first : Agent) (pointer : O
     λ c. no_2 (sym asked ∙ quiet_if c),
   )
 
-  block_by : (x : Bool) (Calm : Type 0) (l : AgentStep × Machine) (had : Bool) (lost : Lost had l) (a : Agent) (st : Stepped false l.0 l.1 pointer a) → (Calm → is_asked l.0.ask ≡ false) → is_asked l.0.ask ≡ x → (s : Scene) → Told first a s.outbox → Holds q before l.1 s.node → Lands Calm (ask_main q login l.0 s)
-  block_by true Calm l had lost a st quiet_if asked s t h =
-      block_leaves Calm l had lost a st quiet_if asked (ask_main q login l.0 s) (main_leaves q b before first l.1 a login l.0 s asked lost.behind.carried st.asks t h)
-  block_by false Calm l had lost a st quiet_if asked s t h =
+  block_by : (x : Bool) (Calm : Type 0) (l : AgentStep × Machine) (had : Bool) (lost : Lost had l) (a : Agent) (st : Stepped false l.0 l.1 pointer a) → (Calm → is_asked l.0.ask ≡ false) → is_asked l.0.ask ≡ x → (s : Scene) → Told first a s.outbox → Holds q before l.1 s.node → Paired requests (desk_at s.node q) a → Lands Calm (ask_main q login l.0 s)
+  block_by true Calm l had lost a st quiet_if asked s t h p =
+      block_leaves Calm l had lost a st quiet_if asked (ask_main q login l.0 s) (main_leaves requests q b before first l.1 a login l.0 s asked lost.behind.carried st.asks t h p)
+  block_by false Calm l had lost a st quiet_if asked s t h p =
       let idle : a.asks ≡ Nothing = st.asks ∙ not_asked l.0.ask asked in
       let none : a.asks_ahead ≡ Nothing = st.asks_ahead ∙ not_asked l.0.ahead lost.unasked in
-      subst (λ (r : Bool × Scene). Lands Calm r) (sym (main_none q b before first login l.0 s asked)) (record {
+      subst (λ (r : Bool × Scene). Lands Calm r) (sym (main_none requests q b before first login l.0 s asked)) (record {
         now = λ last. a;
         machine = l.1;
         out = told_out first a s.outbox t;
@@ -308,6 +324,7 @@ module _ (q : ℕ) (b : q < 8) (before : NodeState) (first : Agent) (pointer : O
           asks = idle;
           asks_ahead = none;
         });
+        paired = λ last. told_pairs last a s idle none p;
         calm = λ c last. unwanting a idle (ap (λ (x : Ask). wants x true) none);
       })
 
@@ -339,31 +356,37 @@ module _ (q : ℕ) (b : q < 8) (before : NodeState) (first : Agent) (pointer : O
       let lost = main_loses m causes.Label sent f in
       let place = scene (with_agent s.node q l.1) s.outbox in
       let u = noted q l.0 place in
-      let told = lost_told l.0.dead a u.outbox (dies m y sent) (notes_told q b before first a l.0 place t) in
-      let hold = notes_hold q b before first l.1 l.0 place (holds_agent m l.1 s h) in
+      let told = lost_told l.0.dead a u.outbox (dies m y sent) (notes_told requests q b before first a l.0 place t) in
+      let hold = notes_hold requests q b before first l.1 l.0 place (holds_agent m l.1 s h) in
+      let st = lost_stepped (is_ahead m.ahead) m a lost k n o al in
       subst (λ (own : Machine). Lands Calm (ask_main q login (lost_step own Main causes.Label).0 (noted q (lost_step own Main causes.Label).0 (scene (with_agent s.node q (lost_step own Main causes.Label).1) s.outbox)))) (sym h.agent)
-      (block_by (is_asked l.0.ask) Calm l (is_ahead m.ahead) lost (main_lost a) (lost_stepped (is_ahead m.ahead) m a lost k n o al) (λ z. status_asks m (c z)) refl u told hold)
+      (block_by (is_asked l.0.ask) Calm l (is_ahead m.ahead) lost (main_lost a) st (λ z. status_asks m (c z)) refl u told hold (paired_unless requests (desk_at u.node q) (main_lost a) (st.main ∙ lost.unturned) st.ahead))
 
-  main_lands : (x : Bool) (Calm : Type 0) (m : Machine) (a : Agent) (s : Scene) → is_last m.phase ≡ x → is_sent m.phase ≡ true → Fit m → is_asked a.asks ≡ true → is_some a.main ≡ false → a.pointer ≡ pointer → Alike a.untold a.machine m → (Calm → m.phase ≡ phases.WritingStatus) → Told first a s.outbox → Holds q before m s.node → Done q before first pointer Calm (lose_main q login s)
+  main_lands : (x : Bool) (Calm : Type 0) (m : Machine) (a : Agent) (s : Scene) → is_last m.phase ≡ x → is_sent m.phase ≡ true → Fit m → is_asked a.asks ≡ true → is_some a.main ≡ false → a.pointer ≡ pointer → Alike a.untold a.machine m → (Calm → m.phase ≡ phases.WritingStatus) → Told first a s.outbox → Holds q before m s.node → Done requests q before first pointer Calm (lose_main q login s)
   unfolding lose_main lose
   main_lands true Calm m a s y sent f k n o al c t h =
       let p = last_is m.phase y in
       let rough : Calm → ⊥ = λ z. let e : phases.WritingLastStatus ≡ phases.WritingStatus = sym p ∙ c z in cc in
-      subst (λ (r : Bool × Scene). Done q before first pointer Calm (after_loss q login r)) (sym (falls_is (is_under_way Main (desk_at s.node q).agent) m s (sent_under m s h sent) p h.agent))
+      subst (λ (r : Bool × Scene). Done requests q before first pointer Calm (after_loss q login r)) (sym (falls_is (is_under_way Main (desk_at s.node q).agent) m s (sent_under m s h sent) p h.agent))
       (falls_done Calm m a s rough p (f.bare (ap (λ (x : Phase). is_bare x) p)) k n o al t h)
   main_lands false Calm m a s y sent f k n o al c t h =
       lands_again Calm (lost_by (is_under_way Main (desk_at s.node q).agent) q login Main s) (dies_then (is_under_way Main (desk_at s.node q).agent) Calm m a s y (sent_under m s h sent) sent f k n o al c t h)
 
   -- ---- the read ahead
 
+  abbrev AllPaired : (ℕ → Agent) → Scene → Type 0
+  AllPaired now s = (last : ℕ) → Paired (with_requests last s.outbox.packets requests) (desk_at s.node q) (now last)
+
   record Ran (m : Machine) (now : ℕ → Agent) (s : Scene) : Type 0 where
     serial : ℕ → ℕ
     out : Out first (λ last. record (now last) { ahead = Some (serial last); asks_ahead = Nothing }) s.outbox
     holds : Holds q before m s.node
+    paired : AllPaired (λ last. record (now last) { ahead = Some (serial last); asks_ahead = Nothing }) s
 
   record Kept (m : Machine) (now : ℕ → Agent) (s : Scene) : Type 0 where
     out : Out first now s.outbox
     holds : Holds q before m s.node
+    paired : AllPaired now s
 
   abbrev AheadLeft : Machine → (ℕ → Agent) → Bool × Scene → Type 0
   AheadLeft m now (true, s) = Ran m now s
@@ -375,34 +398,43 @@ module _ (q : ℕ) (b : q < 8) (before : NodeState) (first : Agent) (pointer : O
       ∙ ap (λ (y : Ask). cond (wants y w) (record a { main = Some serial; asks = Nothing }) (cond (wants a.asks_ahead w) (record a { ahead = Some serial; asks_ahead = Nothing }) a)) f
       ∙ ap (λ (y : Bool). cond y (record a { ahead = Some serial; asks_ahead = Nothing }) a) g
 
-  ahead_by : (m : Machine) (now : ℕ → Agent) (body : Body) (s : Scene) (r : Option Asked × Layer Purpose) → asking_step s.node.layer login.node body (purposes.Agent q) ≡ r → ((last : ℕ) → (now last).asks ≡ Nothing) → ((last : ℕ) → wants (now last).asks_ahead (writes_body body) ≡ true) → Out first now s.outbox → Holds q before m s.node → AheadLeft m now (ahead_sent q login.node s.node (sent_by r s.outbox login.node))
-  ahead_by m now body s (None, layer) e i w t h = record { out = t; holds = holds_still q before m s.node (record s.node { layer = layer }) h refl }
-  ahead_by m now body s (Some asked, layer) e i w t h =
+  ahead_by : (m : Machine) (now : ℕ → Agent) (body : Body) (s : Scene) (r : Option Asked × Layer Purpose) → asking_step s.node.layer login.node body (purposes.Agent q) ≡ r → ((last : ℕ) → (now last).asks ≡ Nothing) → ((last : ℕ) → wants (now last).asks_ahead (writes_body body) ≡ true) → Out first now s.outbox → Holds q before m s.node → AllPaired now s → AheadLeft m now (ahead_sent q login.node s.node (sent_by r s.outbox login.node))
+  ahead_by m now body s (None, layer) e i w t h p = record { out = t; holds = holds_still q before m s.node (record s.node { layer = layer }) h refl; paired = λ last. p last }
+  ahead_by m now body s (Some asked, layer) e i w t h p =
       let packet : Outgoing = record { to = login.node; label = Some asked.label; bytes = asked.bytes } in
       let serial : ℕ → ℕ = λ last. number_after last s.outbox.packets in
       let writes = asked_writes s.node.layer layer login.node body (purposes.Agent q) asked e in
+      let d : Desk = record (desk_at s.node q) { ahead = Some (record { peer = login.node; label = asked.label }) } in
+      let later = with_desk (record s.node { layer = layer }) q d in
       record {
         serial = serial;
         out = out_as first _ (λ last. record (now last) { ahead = Some (serial last); asks_ahead = Nothing }) (with_packet s.outbox packet) (λ last. sends_ahead (now last) (serial last) (writes_body body) (is_write asked.bytes) writes (i last) (w last)) (out_more first now s.outbox packet t);
-        holds = holds_set q before m m s.node _ (record (desk_at s.node q) { ahead = Some (record { peer = login.node; label = asked.label }) }) b h refl h.agent refl refl;
+        holds = holds_set q before m m s.node later d b h refl h.agent refl refl;
+        paired = λ last.
+            let before = with_requests last s.outbox.packets requests in
+            let after = with_requests last (with_packet s.outbox packet).packets requests in
+            subst (λ (x : Desk). Paired after x (record (now last) { ahead = Some (serial last); asks_ahead = Nothing })) (sym (desk_set q s.node later d b h.size refl)) (record {
+              main = one_more before after (more_within last s.outbox.packets packet requests) (desk_at s.node q).main (now last).main (p last).main;
+              ahead = more_has last s.outbox.packets login.node asked.label asked.bytes requests;
+            });
       }
 
-  ahead_if : (x : Bool) (m : Machine) (now : ℕ → Agent) (body : Body) (s : Scene) → ((last : ℕ) → (now last).asks ≡ Nothing) → ((last : ℕ) → wants (now last).asks_ahead (writes_body body) ≡ true) → Out first now s.outbox → Holds q before m s.node → AheadLeft m now (cond x (false, s) (ahead_sent q login.node s.node (request_step s.node.layer s.outbox login.node body (purposes.Agent q))))
+  ahead_if : (x : Bool) (m : Machine) (now : ℕ → Agent) (body : Body) (s : Scene) → ((last : ℕ) → (now last).asks ≡ Nothing) → ((last : ℕ) → wants (now last).asks_ahead (writes_body body) ≡ true) → Out first now s.outbox → Holds q before m s.node → AllPaired now s → AheadLeft m now (cond x (false, s) (ahead_sent q login.node s.node (request_step s.node.layer s.outbox login.node body (purposes.Agent q))))
   unfolding request_step
-  ahead_if true m now body s i w t h = record { out = t; holds = h }
-  ahead_if false m now body s i w t h = ahead_by m now body s (asking_step s.node.layer login.node body (purposes.Agent q)) refl i w t h
+  ahead_if true m now body s i w t h p = record { out = t; holds = h; paired = p }
+  ahead_if false m now body s i w t h p = ahead_by m now body s (asking_step s.node.layer login.node body (purposes.Agent q)) refl i w t h p
 
-  ahead_in : (m : Machine) (now : ℕ → Agent) (ask : Ask) (body : Option Body) (s : Scene) → HasBody ask body → ((last : ℕ) → (now last).asks ≡ Nothing) → ((last : ℕ) → (now last).asks_ahead ≡ ask) → Out first now s.outbox → Holds q before m s.node → AheadLeft m now (ahead_asked body q login s)
-  ahead_in m now ask None s hb i e t h = absurd (let none : None ≡ Some hb.body = hb.is in cc)
-  ahead_in m now ask (Some body) s hb i e t h =
+  ahead_in : (m : Machine) (now : ℕ → Agent) (ask : Ask) (body : Option Body) (s : Scene) → HasBody ask body → ((last : ℕ) → (now last).asks ≡ Nothing) → ((last : ℕ) → (now last).asks_ahead ≡ ask) → Out first now s.outbox → Holds q before m s.node → AllPaired now s → AheadLeft m now (ahead_asked body q login s)
+  ahead_in m now ask None s hb i e t h p = absurd (let none : None ≡ Some hb.body = hb.is in cc)
+  ahead_in m now ask (Some body) s hb i e t h p =
       let same : body ≡ hb.body = let f : Some body ≡ Some hb.body = hb.is in cc in
-      ahead_if (nat_lt (free_labels s.node.layer login.node) 16) m now body s i (λ last. ap (λ x. wants x (writes_body body)) (e last) ∙ ap (λ x. wants ask (writes_body x)) same ∙ hb.wanted) t h
+      ahead_if (nat_lt (free_labels s.node.layer login.node) 16) m now body s i (λ last. ap (λ x. wants x (writes_body body)) (e last) ∙ ap (λ x. wants ask (writes_body x)) same ∙ hb.wanted) t h p
 
-  ahead_leaves : (m : Machine) (now : ℕ → Agent) (ask : Ask) (s : Scene) → is_asked ask ≡ true → Carries ask m.outgoing → ((last : ℕ) → (now last).asks ≡ Nothing) → ((last : ℕ) → (now last).asks_ahead ≡ ask) → Out first now s.outbox → Holds q before m s.node → AheadLeft m now (send_ahead q login ask s)
+  ahead_leaves : (m : Machine) (now : ℕ → Agent) (ask : Ask) (s : Scene) → is_asked ask ≡ true → Carries ask m.outgoing → ((last : ℕ) → (now last).asks ≡ Nothing) → ((last : ℕ) → (now last).asks_ahead ≡ ask) → Out first now s.outbox → Holds q before m s.node → AllPaired now s → AheadLeft m now (send_ahead q login ask s)
   unfolding send_ahead
-  ahead_leaves m now ask s x c i e t h =
+  ahead_leaves m now ask s x c i e t h p =
       let outgoing = (desk_at s.node q).agent.outgoing in
-      ahead_in m now ask (agent_body ask false login.fifo outgoing) s (has_body ask false login.fifo outgoing (subst (λ (n : Machine). Carries ask n.outgoing) (sym h.agent) c) x) i e t h
+      ahead_in m now ask (agent_body ask false login.fifo outgoing) s (has_body ask false login.fifo outgoing (subst (λ (n : Machine). Carries ask n.outgoing) (sym h.agent) c) x) i e t h p
 
   none_ahead : (body : Option Body) (s : Scene) → body ≡ None → ahead_asked body q login s ≡ (true, s)
   none_ahead None s e = refl
@@ -413,16 +445,16 @@ module _ (q : ℕ) (b : q < 8) (before : NodeState) (first : Agent) (pointer : O
   unsent_ahead ask s x = none_ahead (agent_body ask false login.fifo (desk_at s.node q).agent.outgoing) s (no_body ask false login.fifo (desk_at s.node q).agent.outgoing x)
 
   -- it found no label
-  lost_ahead_by : (x : Bool) (Calm : Type 0) (m : Machine) (now : ℕ → Agent) (s : Scene) → x ≡ true → Fit m → is_ahead m.ahead ≡ true → ((last : ℕ) → (now last).asks ≡ Nothing) → ((last : ℕ) → is_asked (now last).asks_ahead ≡ true) → ((last : ℕ) → wants (now last).asks_ahead true ≡ false) → ((last : ℕ) → is_some (now last).main ≡ is_sent m.phase) → ((last : ℕ) → is_some (now last).ahead ≡ false) → ((last : ℕ) → (now last).pointer ≡ pointer) → ((last : ℕ) → Alike (now last).untold (now last).machine m) → Out first now s.outbox → Holds q before m s.node → Done q before first pointer Calm (lost_by x q login Ahead s).1
-  lost_ahead_by false Calm m now s e f u i k w n z o al t h = absurd (no e)
-  lost_ahead_by true Calm m now s e f u i k w n z o al t h =
+  lost_ahead_by : (x : Bool) (Calm : Type 0) (m : Machine) (now : ℕ → Agent) (s : Scene) → x ≡ true → Fit m → is_ahead m.ahead ≡ true → ((last : ℕ) → (now last).asks ≡ Nothing) → ((last : ℕ) → is_asked (now last).asks_ahead ≡ true) → ((last : ℕ) → wants (now last).asks_ahead true ≡ false) → ((last : ℕ) → is_some (now last).main ≡ is_sent m.phase) → ((last : ℕ) → is_some (now last).ahead ≡ false) → ((last : ℕ) → (now last).pointer ≡ pointer) → ((last : ℕ) → Alike (now last).untold (now last).machine m) → Out first now s.outbox → Holds q before m s.node → AllPaired now s → Done requests q before first pointer Calm (lost_by x q login Ahead s).1
+  lost_ahead_by false Calm m now s e f u i k w n z o al t h p = absurd (no e)
+  lost_ahead_by true Calm m now s e f u i k w n z o al t h p =
       let l = lost_step m Ahead causes.Label in
       let over = ahead_loses m causes.Label u f in
       let place = scene (with_agent s.node q l.1) s.outbox in
       let is : (lost_by true q login Ahead s).1 ≡ place
       = ap (λ (own : Machine). (ask_main q login (lost_step own Ahead causes.Label).0 (noted q (lost_step own Ahead causes.Label).0 (scene (with_agent s.node q (lost_step own Ahead causes.Label).1) s.outbox))).1) h.agent
       ∙ ap (λ (r : Bool × Scene). r.1) (silent l.0 place over.silent) in
-      subst (λ (r : Scene). Done q before first pointer Calm r) (sym is) (record {
+      subst (λ (r : Scene). Done requests q before first pointer Calm r) (sym is) (record {
         now = now;
         machine = l.1;
         out = t;
@@ -438,6 +470,13 @@ module _ (q : ℕ) (b : q < 8) (before : NodeState) (first : Agent) (pointer : O
               asks = refl;
               asks_ahead = refl;
             });
+        paired = λ last.
+            let a = now last in
+            let rs = with_requests last s.outbox.packets requests in
+            let d : Desk = record (desk_at s.node q) { agent = l.1 } in
+            let lost : Agent = record a { machine = (lost_step a.machine Ahead causes.Label).1; asks_ahead = Nothing; asks = Nothing } in
+            paired_as rs (desk_at place.node q) (agent_over a) lost (over_ahead a (i last) (k last))
+            (subst (λ (x : Desk). Paired rs x lost) (sym (desk_set q s.node place.node d b h.size refl)) (record { main = (p last).main; ahead = one_unless rs d.ahead a.ahead (z last) }));
         calm = λ c last. unwanting (now last) (i last) (w last);
       })
 
@@ -464,7 +503,7 @@ module _ (q : ℕ) (b : q < 8) (before : NodeState) (first : Agent) (pointer : O
     has_ahead : is_asked step.ahead ≡ true → is_ahead m.ahead ≡ true
     has_ahead e = behind.ahead ∙ ap (λ (x : Bool). x || (had && not (is_some step.dead || step.promoted))) e
 
-    ahead_done : (serial : ℕ → ℕ) (r : Bool × Scene) → is_asked step.ask ≡ true → is_asked step.ahead ≡ true → AheadLeft m (Sent serial) r → Done q before first pointer Calm (after_ahead q login r)
+    ahead_done : (serial : ℕ → ℕ) (r : Bool × Scene) → is_asked step.ask ≡ true → is_asked step.ahead ≡ true → AheadLeft m (Sent serial) r → Done requests q before first pointer Calm (after_ahead q login r)
     unfolding lose
     ahead_done serial (true, s) asked e g =
         let c : ℕ → Agent = λ last. record a { main = Some (serial last); asks = Nothing; ahead = Some (g.serial last); asks_ahead = Nothing } in
@@ -481,19 +520,20 @@ module _ (q : ℕ) (b : q < 8) (before : NodeState) (first : Agent) (pointer : O
             asks = refl;
             asks_ahead = refl;
           });
+          paired = λ last. paired_as (with_requests last s.outbox.packets requests) (desk_at s.node q) (agent_over (c last)) (c last) (over_idle (c last) refl refl) (g.paired last);
           calm = λ c last. record { asks = refl; asks_ahead = refl };
         }
     ahead_done serial (false, s) asked e g =
         lost_ahead_by (is_under_way Ahead (desk_at s.node q).agent) Calm m (Sent serial) s (ap (λ (x : Machine). is_ahead x.ahead) g.holds.agent ∙ has_ahead e) behind.fit (has_ahead e)
-        (λ last. refl) (λ last. ap is_asked st.asks_ahead ∙ e) (λ last. ap (λ x. wants x true) st.asks_ahead ∙ reads) (λ last. sent_phase asked) (λ last. none_before e) (λ last. st.pointer_is) (λ last. st.machine) g.out g.holds
+        (λ last. refl) (λ last. ap is_asked st.asks_ahead ∙ e) (λ last. ap (λ x. wants x true) st.asks_ahead ∙ reads) (λ last. sent_phase asked) (λ last. none_before e) (λ last. st.pointer_is) (λ last. st.machine) g.out g.holds g.paired
 
-    gone_done : (x : Bool) (s : Scene) → is_asked step.ask ≡ true → is_asked step.ahead ≡ x → Gone q b before first m a s → Done q before first pointer Calm (ask_ahead q login step.ahead s)
+    gone_done : (x : Bool) (s : Scene) → is_asked step.ask ≡ true → is_asked step.ahead ≡ x → Gone requests q b before first m a s → Done requests q before first pointer Calm (ask_ahead q login step.ahead s)
     gone_done true s asked e g =
         ahead_done g.serial (send_ahead q login step.ahead s) asked e
-        (ahead_leaves m (Sent g.serial) step.ahead s e behind.carried_ahead (λ last. refl) (λ last. st.asks_ahead) g.out g.holds)
+        (ahead_leaves m (Sent g.serial) step.ahead s e behind.carried_ahead (λ last. refl) (λ last. st.asks_ahead) g.out g.holds g.paired)
     gone_done false s asked e g =
         let none : a.asks_ahead ≡ Nothing = st.asks_ahead ∙ not_asked step.ahead e in
-        subst (λ (r : Bool × Scene). Done q before first pointer Calm (after_ahead q login r)) (sym (unsent_ahead step.ahead s e)) (record {
+        subst (λ (r : Bool × Scene). Done requests q before first pointer Calm (after_ahead q login r)) (sym (unsent_ahead step.ahead s e)) (record {
           now = Sent g.serial;
           machine = m;
           out = g.out;
@@ -506,10 +546,11 @@ module _ (q : ℕ) (b : q < 8) (before : NodeState) (first : Agent) (pointer : O
             asks = refl;
             asks_ahead = none;
           });
+          paired = λ last. paired_as (with_requests last s.outbox.packets requests) (desk_at s.node q) (agent_over (Sent g.serial last)) (Sent g.serial last) (over_idle (Sent g.serial last) refl none) (g.paired last);
           calm = λ c last. record { asks = refl; asks_ahead = ap (λ x. wants x true) none };
         })
 
-    main_done : (r : Bool × Scene) → (Calm → m.phase ≡ phases.WritingStatus) → is_asked step.ask ≡ true → Left q b before first m a r → Done q before first pointer Calm (after_main q login step r)
+    main_done : (r : Bool × Scene) → (Calm → m.phase ≡ phases.WritingStatus) → is_asked step.ask ≡ true → Left requests q b before first m a r → Done requests q before first pointer Calm (after_main q login step r)
     main_done (true, s) c asked g = gone_done (is_asked step.ahead) s asked refl g
     main_done (false, s) c asked g =
         let unturned : step.promoted ≡ false = never step.promoted (λ e. no_2 (sym asked ∙ (behind.turns e).1)) in
@@ -519,13 +560,13 @@ module _ (q : ℕ) (b : q < 8) (before : NodeState) (first : Agent) (pointer : O
         never true f = absurd (f refl)
         never false f = refl
 
-    idle_done : (u : Scene) → is_asked step.ask ≡ false → Told first a u.outbox → Holds q before m u.node → Done q before first pointer Calm (after_main q login step (ask_main q login step u))
-    idle_done u asked t h =
+    idle_done : (u : Scene) → is_asked step.ask ≡ false → Told first a u.outbox → Holds q before m u.node → Paired requests (desk_at u.node q) a → Done requests q before first pointer Calm (after_main q login step (ask_main q login step u))
+    idle_done u asked t h p =
         let unahead : is_asked step.ahead ≡ false = never (is_asked step.ahead) (λ e. no (sym asked ∙ (behind.alone e).2)) in
         let idle : a.asks ≡ Nothing = st.asks ∙ not_asked step.ask asked in
         let none : a.asks_ahead ≡ Nothing = st.asks_ahead ∙ not_asked step.ahead unahead in
-        subst (λ (r : Bool × Scene). Done q before first pointer Calm (after_main q login step r)) (sym (main_none q b before first login step u asked))
-        (subst (λ (r : Bool × Scene). Done q before first pointer Calm (after_ahead q login r)) (sym (unsent_ahead step.ahead u unahead)) (record {
+        subst (λ (r : Bool × Scene). Done requests q before first pointer Calm (after_main q login step r)) (sym (main_none requests q b before first login step u asked))
+        (subst (λ (r : Bool × Scene). Done requests q before first pointer Calm (after_ahead q login r)) (sym (unsent_ahead step.ahead u unahead)) (record {
           now = λ last. a;
           machine = m;
           out = told_out first a u.outbox t;
@@ -538,6 +579,7 @@ module _ (q : ℕ) (b : q < 8) (before : NodeState) (first : Agent) (pointer : O
             asks = idle;
             asks_ahead = none;
           });
+          paired = λ last. told_pairs last a u idle none p;
           calm = λ c last. unwanting a idle (ap (λ x. wants x true) none);
         }))
       where
@@ -545,12 +587,12 @@ module _ (q : ℕ) (b : q < 8) (before : NodeState) (first : Agent) (pointer : O
         never true f = absurd (f refl)
         never false f = refl
 
-    step_done : (x : Bool) (u : Scene) → is_asked step.ask ≡ x → (Calm → m.phase ≡ phases.WritingStatus) → Told first a u.outbox → Holds q before m u.node → Done q before first pointer Calm (after_main q login step (ask_main q login step u))
-    step_done true u asked c t h = main_done (ask_main q login step u) c asked (main_leaves q b before first m a login step u asked behind.carried st.asks t h)
-    step_done false u asked c t h = idle_done u asked t h
+    step_done : (x : Bool) (u : Scene) → is_asked step.ask ≡ x → (Calm → m.phase ≡ phases.WritingStatus) → Told first a u.outbox → Holds q before m u.node → Paired requests (desk_at u.node q) a → Done requests q before first pointer Calm (after_main q login step (ask_main q login step u))
+    step_done true u asked c t h p = main_done (ask_main q login step u) c asked (main_leaves requests q b before first m a login step u asked behind.carried st.asks t h p)
+    step_done false u asked c t h p = idle_done u asked t h p
 
-    pub follows : (s : Scene) → IsOther step.dead → (Calm → m.phase ≡ phases.WritingStatus) → Told first a s.outbox → Holds q before m s.node → Done q before first pointer Calm (follow q login step s)
+    pub follows : (s : Scene) → IsOther step.dead → (Calm → m.phase ≡ phases.WritingStatus) → Told first a s.outbox → Holds q before m s.node → Turning requests step.promoted (desk_at s.node q) a → Done requests q before first pointer Calm (follow q login step s)
     unfolding follow
-    follows s other c t h =
+    follows s other c t h p =
         let u = noted q step s in
-        step_done (is_asked step.ask) u refl c (told_as first (dead_on step.dead a) a u.outbox (other_on step.dead a other) (notes_told q b before first a step s t)) (notes_hold q b before first m step s h)
+        step_done (is_asked step.ask) u refl c (told_as first (dead_on step.dead a) a u.outbox (other_on step.dead a other) (notes_told requests q b before first a step s t)) (notes_hold requests q b before first m step s h) (notes_pair requests q b before first a m step s h p)

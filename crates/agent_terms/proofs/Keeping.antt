@@ -39,7 +39,7 @@ use Rattle.target_terms.specs.Calls as management
 use Rattle.target_terms.proofs.Calls.{barred_same, forgets_if}
 use Rattle.target_terms.proofs.Calm.{Calm, From, expires_agent, replies}
 use Rattle.agent_terms.specs.Calls.{AgentsLaw, AreOf, delivered, lapsed, requested}
-use Rattle.agent_terms.specs.Crews.{ToldAlike}
+use Rattle.agent_terms.specs.Crews.{Request, ToldAlike}
 use Rattle.agent_terms.proofs.Calls.{Behind, behind_follow, lapses_behind, replies_behind}
 use Rattle.agent_terms.proofs.Mild.{IsGiven}
 use Rattle.agent_terms.proofs.Serves.{answer_behind, call_behind, demand_behind, second_behind, sight_behind}
@@ -63,14 +63,14 @@ given_in (lock header offset extended payload) = tt
 from_self : (layer : Layer Purpose) (lives : Lives) → Known layer lives → From lives layer
 from_self layer lives k = record { lives = lives; known = k; before = λ p l kind h. h }
 
-module _ (node : NodeState) (g : Good node) (o : Office) (a : Agrees o node) (agents : List Agent) (is : AreOf agents node) where
+module _ {requests : List Request} (node : NodeState) (g : Good node) (o : Office) (a : Agrees o node) (agents : List Agent) (is : AreOf requests agents node) where
   from_same : (layer : Layer Purpose) → layer ≡ node.layer → From g.lives layer
   from_same layer same = from_self layer g.lives (subst (λ (l : Layer Purpose). Known l g.lives) (sym same) g.mid.known)
 
   calm_of : (layer : Layer Purpose) (lives : Lives) → Known layer lives → Calm lives node (scene (record node { layer = layer }) empty_outbox)
   calm_of layer lives k = record { logins = refl; keys = refl; manager = refl; rom = refl; quiet = tt; from = from_self layer lives k }
 
-  still : (layer : Layer Purpose) (first : Office) → Behind first agents (scene (record node { layer = layer }) empty_outbox)
+  still : (layer : Layer Purpose) (first : Office) → Behind requests first agents (scene (record node { layer = layer }) empty_outbox)
   still layer first = call_behind node g agents is first (scene (record node { layer = layer }) empty_outbox) refl tt
 
   -- the operation is that of the node that its request went to
@@ -78,11 +78,11 @@ module _ (node : NodeState) (g : Good node) (o : Office) (a : Agrees o node) (ag
   source_of peer label kind e = g.source ∙ ap (λ (x : Option Sent). peer_of x) (some_that g.request peer label (g.mid.hand.own peer label kind e))
 
   abbrev Does : Office → List Agent → Judged × Whole → Type 0
-  Does first now (judged, w) = Behind first now (scene w.node w.outbox)
+  Does first now (judged, w) = Behind requests first now (scene w.node w.outbox)
 
   module _ (ta tm : Option Told) (v : Bool) (t : ToldAlike v ta tm) (disks : List Disk) (generation : ℕ) (bytes before now : List ℕ) where
     -- a response
-    concluded_does : (layer : Layer Purpose) (lives : Lives) (k : Known layer lives) (p : Packet) (label : LabelParts) (kind : ReplyKind) (purpose : Option Purpose) → g.lives (header_in p).source label ≡ under_way kind purpose → TellsIn tm (of_response p label purpose) (with_layer layer (whole (scene node empty_outbox) disks)) before now → (let w = concluded tm purpose (header_in p).source label (answer_in p) (whole (scene (record node { layer = layer }) empty_outbox) disks) in Behind (management.delivered (of_response p label purpose) node o) (delivered ta v (of_response p label purpose) node disks o agents) (scene w.node w.outbox))
+    concluded_does : (layer : Layer Purpose) (lives : Lives) (k : Known layer lives) (p : Packet) (label : LabelParts) (kind : ReplyKind) (purpose : Option Purpose) → g.lives (header_in p).source label ≡ under_way kind purpose → TellsIn tm (of_response p label purpose) (with_layer layer (whole (scene node empty_outbox) disks)) before now → (let w = concluded tm purpose (header_in p).source label (answer_in p) (whole (scene (record node { layer = layer }) empty_outbox) disks) in Behind requests (management.delivered (of_response p label purpose) node o) (delivered ta v (of_response p label purpose) node disks o agents) (scene w.node w.outbox))
     unfolding concluded replied_to
     concluded_does layer lives k p label kind None e tells = still layer o
     concluded_does layer lives k p label kind (Some (purposes.Agent place)) e tells =
@@ -92,7 +92,7 @@ module _ (node : NodeState) (g : Good node) (o : Office) (a : Agrees o node) (ag
         managed_behind node g agents is layer lives k o a (header_in p).source (answer_in p) (source_of (header_in p).source label kind e)
     concluded_does layer lives k p label kind (Some purposes.Unsolicited) e tells = call_behind node g agents is o _ refl tt
 
-    response_does : (p : Packet) (label : LabelParts) (purpose : Option Purpose) (layer : Layer Purpose) → judging_step node.layer generation bytes ≡ (of_response p label purpose, layer) → is_some (reply_kind p) ≡ true → TellsIn tm (of_response p label purpose) (with_layer layer (whole (scene node empty_outbox) disks)) before now → (let w = concluded tm purpose (header_in p).source label (answer_in p) (whole (scene (record node { layer = layer }) empty_outbox) disks) in Behind (management.delivered (of_response p label purpose) node o) (delivered ta v (of_response p label purpose) node disks o agents) (scene w.node w.outbox))
+    response_does : (p : Packet) (label : LabelParts) (purpose : Option Purpose) (layer : Layer Purpose) → judging_step node.layer generation bytes ≡ (of_response p label purpose, layer) → is_some (reply_kind p) ≡ true → TellsIn tm (of_response p label purpose) (with_layer layer (whole (scene node empty_outbox) disks)) before now → (let w = concluded tm purpose (header_in p).source label (answer_in p) (whole (scene (record node { layer = layer }) empty_outbox) disks) in Behind requests (management.delivered (of_response p label purpose) node o) (delivered ta v (of_response p label purpose) node disks o agents) (scene w.node w.outbox))
     response_does p label purpose layer e kind tells =
         let c = closing_known node.layer layer g.lives generation bytes p label purpose g.mid.known e kind in
         concluded_does layer (live_on (wire.closed (header_in p).source label c.kind purpose) g.lives) c.known p label c.kind purpose c.life tells
@@ -102,20 +102,20 @@ module _ (node : NodeState) (g : Good node) (o : Office) (a : Agrees o node) (ag
       abbrev asked_scene : Scene
       asked_scene = scene (record node { layer = layer }) empty_outbox
 
-      request_if : (b : Bool) (first : Office) (x y : Judged) → is_barred node p ≡ b → Behind first (requested b p node agents) (cond {A = Judged × Scene} b (x, answered p bytes 7 [] asked_scene) (y, serve p bytes asked_scene)).1
+      request_if : (b : Bool) (first : Office) (x y : Judged) → is_barred node p ≡ b → Behind requests first (requested b p node agents) (cond {A = Judged × Scene} b (x, answered p bytes 7 [] asked_scene) (y, serve p bytes asked_scene)).1
       unfolding serve
       request_if true first x y e = answer_behind node g agents is first layer (from_same layer same) p bytes 7 []
       request_if false first x y e =
           demand_behind node g agents is first layer (from_same layer same) p bytes (demand_of (length node.rom) p)
           (λ place access d. let r = reaches node g p place access e d in (r.small, r.served))
 
-      request_does : (first : Office) → Behind first (requested (is_barred node p) p node agents) (request_step p bytes asked_scene).1
+      request_does : (first : Office) → Behind requests first (requested (is_barred node p) p node agents) (request_step p bytes asked_scene).1
       unfolding request_step
       request_does first =
-          subst (λ (b : Bool). Behind first (requested (is_barred node p) p node agents) (cond {A = Judged × Scene} b (judgements.Ignored ignored.Login, answered p bytes 7 [] asked_scene) (judgements.Got, serve p bytes asked_scene)).1) (sym (barred_same node g o a p bytes layer same))
+          subst (λ (b : Bool). Behind requests first (requested (is_barred node p) p node agents) (cond {A = Judged × Scene} b (judgements.Ignored ignored.Login, answered p bytes 7 [] asked_scene) (judgements.Got, serve p bytes asked_scene)).1) (sym (barred_same node g o a p bytes layer same))
           (request_if (is_barred node p) first (judgements.Ignored ignored.Login) judgements.Got refl)
 
-    as_judged : (first : Office) (later : List Agent) (r : Judged × Scene) (w : Whole) → Behind first later r.1 → Does first later (judged_scene r w)
+    as_judged : (first : Office) (later : List Agent) (r : Judged × Scene) (w : Whole) → Behind requests first later r.1 → Does first later (judged_scene r w)
     as_judged first later (judged, s) w d = record { all = d.all }
 
     found_does : (f : Finding Purpose) (layer : Layer Purpose) → judging_step node.layer generation bytes ≡ (f, layer) → IsFound f node.layer layer bytes → TellsIn tm f (with_layer layer (whole (scene node empty_outbox) disks)) before now → Does (management.delivered f node o) (delivered ta v f node disks o agents) (received_as tm bytes f (with_layer layer (whole (scene node empty_outbox) disks)))
@@ -137,7 +137,7 @@ module _ (node : NodeState) (g : Good node) (o : Office) (a : Agrees o node) (ag
         found_does (judging_step node.layer generation bytes).0 (judging_step node.layer generation bytes).1 refl (found node.layer generation bytes) tells
 
   -- ---- a time-out
-  lapses_for : (peer : ℕ) (label : LabelParts) (kind : ReplyKind) (layer : Layer Purpose) (lives : Lives) (k : Known layer lives) (purpose : Option Purpose) → g.lives peer label ≡ under_way kind purpose → Behind (management.lapsed (Ok purpose) o) (lapsed (Ok purpose) peer label node o agents) (timed_out purpose peer label (scene (record node { layer = layer }) empty_outbox))
+  lapses_for : (peer : ℕ) (label : LabelParts) (kind : ReplyKind) (layer : Layer Purpose) (lives : Lives) (k : Known layer lives) (purpose : Option Purpose) → g.lives peer label ≡ under_way kind purpose → Behind requests (management.lapsed (Ok purpose) o) (lapsed (Ok purpose) peer label node o agents) (timed_out purpose peer label (scene (record node { layer = layer }) empty_outbox))
   unfolding expire_agent
   lapses_for peer label kind layer lives k None e = still layer o
   lapses_for peer label kind layer lives k (Some (purposes.Agent place)) e =
@@ -146,19 +146,19 @@ module _ (node : NodeState) (g : Good node) (o : Office) (a : Agrees o node) (ag
   lapses_for peer label kind layer lives k (Some purposes.Management) e = managed_behind node g agents is layer lives k o a peer Expired (source_of peer label kind e)
   lapses_for peer label kind layer lives k (Some purposes.Unsolicited) e = still layer o
 
-  lapses_by : (r : Result (Option Purpose) Stale × Layer Purpose) (peer : ℕ) (label : LabelParts) → expiring_step node.layer peer label ≡ r → Behind (management.lapsed r.0 o) (lapsed r.0 peer label node o agents) (expired_in r peer label (scene node empty_outbox)).1
+  lapses_by : (r : Result (Option Purpose) Stale × Layer Purpose) (peer : ℕ) (label : LabelParts) → expiring_step node.layer peer label ≡ r → Behind requests (management.lapsed r.0 o) (lapsed r.0 peer label node o agents) (expired_in r peer label (scene node empty_outbox)).1
   lapses_by (Ok purpose, layer) peer label e =
       let x = expiring_known node.layer layer g.lives peer label purpose g.mid.known e in
       lapses_for peer label x.kind layer (live_on (wire.expired peer label purpose) g.lives) x.known purpose x.life
   lapses_by (Err stale, layer) peer label e = still layer o
 
-  pub lapse_does : (peer : ℕ) (label : LabelParts) → Behind (management.lapsed (expiring_step node.layer peer label).0 o) (lapsed (expiring_step node.layer peer label).0 peer label node o agents) (expired peer label (scene node empty_outbox)).1
+  pub lapse_does : (peer : ℕ) (label : LabelParts) → Behind requests (management.lapsed (expiring_step node.layer peer label).0 o) (lapsed (expiring_step node.layer peer label).0 peer label node o agents) (expired peer label (scene node empty_outbox)).1
   unfolding expired
   lapse_does peer label = lapses_by (expiring_step node.layer peer label) peer label refl
 
 -- ---- the law
 pub agents_law : AgentsLaw
-agents_law units ready calls o agents h a is =
+agents_law units ready calls requests o agents h a is =
     let node = after units ready calls in
     let g = all_good units ready calls h in
     record {

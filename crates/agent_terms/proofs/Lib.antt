@@ -1,5 +1,6 @@
 pub mod Steps
 pub mod Writes
+pub mod Serials
 pub mod Walk
 pub mod Follows
 pub mod Mild
@@ -16,3 +17,11 @@ pub mod Hiring
 pub mod Managed
 pub mod Notes
 pub mod Keeping
+pub mod Leaving
+pub mod Fresh
+pub mod Purposes
+pub mod Handed
+pub mod Demands
+pub mod Hands
+pub mod Asides
+pub mod Runs

@@ -45,9 +45,10 @@ use Rattle.target_terms.specs.Offices.{Agrees, Office, replied, stepped}
 use Rattle.target_terms.specs.Offices as office
 use Rattle.agent_terms.specs.Alike.{answers, has_list, moves_data}
 use Rattle.agent_terms.specs.Calls.{AreOf, affected, managed}
-use Rattle.agent_terms.specs.Crews.{agent_in, crew_over, crew_packets, crew_side, crew_sides, hired}
-use Rattle.agent_terms.proofs.Calls.{AllSettled, Behind, IsUnmoved, TermsCut, all_terms_cut, cut_all_settled, one_term_cut, same_desks, settled_idle, settled_of, unmoved_settled}
-use Rattle.agent_terms.proofs.Cuts.{all_cut, place_cut}
+use Rattle.agent_terms.specs.Crews.{Request, agent_in, crew_over, crew_packets, crew_side, crew_sides, hired, with_requests}
+use Rattle.agent_terms.proofs.Calls.{AllSettled, Behind, IsUnmoved, TermsCut, all_terms_cut, cut_all_settled, one_term_cut, same_desks, settled_idle, settled_more, settled_of, unmoved_settled}
+use Rattle.agent_terms.proofs.Cuts.{IsKept, all_cut, kept_self, place_cut}
+use Rattle.agent_terms.proofs.Serials.{Paired, one_none, requests_within}
 use Rattle.agent_terms.proofs.Follows.{Settled}
 use Rattle.agent_terms.proofs.Hiring.{Hires, HiresIn, IsEntry, reply_hires}
 use Rattle.agent_terms.proofs.Lists.{AreNoEntries, all_over, at_other, at_own, crew_more, entries_more, idle_packets, idle_sides, quiet_entries}
@@ -80,12 +81,23 @@ module _ (n : NodeState) (size : length n.desks ≡ 8) (place : ℕ) (b : place 
   off k f = at k ∙ ap (λ (x : Bool). cond x d (desk_at n k)) (other_id k place f)
 
   -- one agent is another, and the rest are as they were
-  one_settled : (agents : List Agent) (a : Agent) → AllSettled agents n → Settled d.agent d.pointer a → AllSettled (slice_set agents place a) (with_desk n place d)
-  one_settled agents a s h = record {
+  one_settled : {requests : List Request} (agents : List Agent) (a : Agent) → AllSettled requests agents n → Settled d.agent d.pointer a → Paired requests d a → AllSettled requests (slice_set agents place a) (with_desk n place d)
+  one_settled {requests} agents a s h k = record {
     size = length-set agents place a ∙ s.size;
     each = λ p l. by (nat_eq p place) p l refl;
+    paired = λ p l. pair_by (nat_eq p place) p l refl;
   }
     where
+      pair_by : (x : Bool) (p : ℕ) → p < 8 → nat_eq p place ≡ x → Paired requests (desk_at (with_desk n place d) p) (agent_in (slice_set agents place a) p)
+      pair_by true p l e =
+          let same : p ≡ place = grind (arith, nat_tests) in
+          subst (λ (i : ℕ). Paired requests (desk_at (with_desk n place d) i) (agent_in (slice_set agents place a) i)) (sym same)
+          (subst (λ (x : Desk). Paired requests x (agent_in (slice_set agents place a) place)) (sym here) (subst (λ (x : Agent). Paired requests d x) (sym (at_own agents place a s.size b)) k))
+      pair_by false p l e =
+          let f : p ≢ place = grind (arith, nat_tests) in
+          subst (λ (x : Desk). Paired requests x (agent_in (slice_set agents place a) p)) (sym (off p f))
+          (subst (λ (x : Agent). Paired requests (desk_at n p) x) (sym (at_other agents place p a s.size b f)) (s.paired p l))
+
       by : (x : Bool) (p : ℕ) → p < 8 → nat_eq p place ≡ x → Settled (desk_at (with_desk n place d) p).agent (desk_at (with_desk n place d) p).pointer (agent_in (slice_set agents place a) p)
       by true p l e =
           let same : p ≡ place = grind (arith, nat_tests) in
@@ -102,8 +114,13 @@ register_unmoved n size place b x =
     record {
       agent = λ k l. ap (λ (y : Desk). y.agent) (at n size place b d k) ∙ agent_by (nat_eq k place) k refl;
       pointer = λ k l. ap (λ (y : Desk). y.pointer) (at n size place b d k) ∙ pointer_by (nat_eq k place) k refl;
+      kept = λ k l. subst (λ (y : Desk). IsKept (desk_at n k) y) (sym (at n size place b d k)) (kept_by (nat_eq k place) k refl);
     }
   where
+    kept_by : (y : Bool) (k : ℕ) → nat_eq k place ≡ y → IsKept (desk_at n k) (cond y (record (desk_at n place) { is_enabled = x }) (desk_at n k))
+    kept_by true k f = let same : k ≡ place = grind (arith, nat_tests) in subst (λ (i : ℕ). IsKept (desk_at n i) (record (desk_at n place) { is_enabled = x })) (sym same) (record { main = refl; ahead = refl })
+    kept_by false k f = kept_self (desk_at n k)
+
     agent_by : (y : Bool) (k : ℕ) → nat_eq k place ≡ y → (cond y (record (desk_at n place) { is_enabled = x }) (desk_at n k)).agent ≡ (desk_at n k).agent
     agent_by true k f = let same : k ≡ place = grind (arith, nat_tests) in ap (λ (i : ℕ). (desk_at n i).agent) (sym same)
     agent_by false k f = refl
@@ -155,13 +172,13 @@ abbrev IsNoEntry : Effect → Type 0
 IsNoEntry (effects.Entered place replaced) = ⊥
 IsNoEntry effect = Unit {0}
 
-record Comes (first : Office) (agents now : List Agent) (s : Scene) : Type 0 where
+record Comes (requests : List Request) (first : Office) (agents now : List Agent) (s : Scene) : Type 0 where
   crew : crew_sides s.outbox.sides first agents ≡ now
-  settled : AllSettled now s.node
+  settled : AllSettled requests now s.node
 
-record Stays (agents : List Agent) (s : Scene) : Type 0 where
+record Stays (requests : List Request) (agents : List Agent) (s : Scene) : Type 0 where
   entries : AreNoEntries s.outbox.sides
-  settled : AllSettled agents s.node
+  settled : AllSettled requests agents s.node
 
 reset_phase : (p : Phase) → is_reset (state_in p) ≡ true → p ≡ phases.Reset
 reset_phase phases.Reset e = refl
@@ -175,7 +192,7 @@ reset_phase phases.Answering e = absurd (no e)
 reset_phase phases.WritingStatus e = absurd (no e)
 reset_phase phases.ReadingNext e = absurd (no e)
 
-module _ (node : NodeState) (g : Good node) (agents : List Agent) (is : AreOf agents node) (layer : Layer Purpose) (lives : Lives) (k : Known layer lives) (o : Office) (a : Agrees o node) where
+module _ {requests : List Request} (node : NodeState) (g : Good node) (agents : List Agent) (is : AreOf requests agents node) (layer : Layer Purpose) (lives : Lives) (k : Known layer lives) (o : Office) (a : Agrees o node) where
   module _ (m : management.Machine) (t : Table) where
     abbrev then_node : NodeState
     then_node = with_manager (record node { layer = layer }) (m, t)
@@ -186,22 +203,22 @@ module _ (node : NodeState) (g : Good node) (agents : List Agent) (is : AreOf ag
     calm : Calm lives then_node begun
     calm = record { logins = refl; keys = refl; manager = refl; rom = refl; quiet = tt; from = record { lives = lives; known = k; before = λ p l kind h. h } }
 
-    own : AllSettled agents then_node
+    own : AllSettled requests agents then_node
     own = unmoved_settled agents node then_node (same_desks node then_node refl) (settled_of agents node g is)
 
-    one_cut : (cause : CutCause) (place : ℕ) → place < 8 → Stays (slice_set agents place (cut_agent (agent_in agents place))) (cut cause place begun)
+    one_cut : (cause : CutCause) (place : ℕ) → place < 8 → Stays requests (slice_set agents place (cut_agent (agent_in agents place))) (cut cause place begun)
     one_cut cause place b = record {
       entries = quiet_entries _ (cuts_at lives then_node cause place begun calm).quiet;
       settled = cut_all_settled (λ p. nat_eq p place) agents _ then_node (cut cause place begun).node (place_cut cause place begun b g.mid.size) (one_term_cut agents place is.size b) own;
     }
 
-    placed_cut : (cause : CutCause) (place : ℕ) → place < 8 → Stays (slice_set agents place (cut_agent (agent_in agents place))) (cut_placed (place_in place) cause begun)
-    placed_cut cause place b = subst (λ (x : Option ℕ). Stays (slice_set agents place (cut_agent (agent_in agents place))) (cut_placed x cause begun)) (sym (in_place place b)) (one_cut cause place b)
+    placed_cut : (cause : CutCause) (place : ℕ) → place < 8 → Stays requests (slice_set agents place (cut_agent (agent_in agents place))) (cut_placed (place_in place) cause begun)
+    placed_cut cause place b = subst (λ (x : Option ℕ). Stays requests (slice_set agents place (cut_agent (agent_in agents place))) (cut_placed x cause begun)) (sym (in_place place b)) (one_cut cause place b)
 
     cut_size : (cause : CutCause) (place : ℕ) → place < 8 → length (cut_placed (place_in place) cause begun).node.desks ≡ 8
     cut_size cause place b = subst (λ (x : Option ℕ). length (cut_placed x cause begun).node.desks ≡ 8) (sym (in_place place b)) (place_cut cause place begun b g.mid.size).size
 
-    aborts : (place orb : ℕ) → place < 8 → AllSettled (slice_set agents place (record (agent_in agents place) { machine = abort_step (agent_in agents place).machine orb })) (with_desk then_node place (record (desk_at node place) { agent = abort_step (desk_at node place).agent orb }))
+    aborts : (place orb : ℕ) → place < 8 → AllSettled requests (slice_set agents place (record (agent_in agents place) { machine = abort_step (agent_in agents place).machine orb })) (with_desk then_node place (record (desk_at node place) { agent = abort_step (desk_at node place).agent orb }))
     unfolding abort_step
     aborts place orb b =
         let s = own.each place b in
@@ -213,8 +230,9 @@ module _ (node : NodeState) (g : Good node) (agents : List Agent) (is : AreOf ag
           asks = s.asks;
           asks_ahead = s.asks_ahead;
         })
+        (record { main = (own.paired place b).main; ahead = (own.paired place b).ahead })
 
-    units_cut : (unit : ℕ) → t ≡ o.table → Stays (cut_where (on_unit unit o.table.places) 0 agents) (cut_all cuts.UnitReset (Some unit) begun)
+    units_cut : (unit : ℕ) → t ≡ o.table → Stays requests (cut_where (on_unit unit o.table.places) 0 agents) (cut_all cuts.UnitReset (Some unit) begun)
     units_cut unit e =
         let c = all_cut cuts.UnitReset (Some unit) begun g.mid.size in
         let s = cut_all cuts.UnitReset (Some unit) begun in
@@ -226,18 +244,19 @@ module _ (node : NodeState) (g : Good node) (agents : List Agent) (is : AreOf ag
             logins = c.logins;
             agent = λ p l. c.agent p l ∙ ap (λ (x : Bool). cond x (reset_step (desk_at then_node p).agent) (desk_at then_node p).agent) (tests p);
             pointer = c.pointer;
+            kept = λ p l f. c.kept p l (tests p ∙ f);
           }) (terms_where (on_unit unit o.table.places) agents is.size) own;
         }
 
-    all_units_cut : Stays (map cut_agent agents) (cut_all cuts.TargetReset None begun)
+    all_units_cut : Stays requests (map cut_agent agents) (cut_all cuts.TargetReset None begun)
     all_units_cut =
         let c = all_cut cuts.TargetReset None begun g.mid.size in
         record {
           entries = quiet_entries _ (cuts_all lives then_node cuts.TargetReset None begun calm).quiet;
-          settled = cut_all_settled (λ p. true) agents _ then_node (cut_all cuts.TargetReset None begun).node (record { size = c.size; logins = c.logins; agent = c.agent; pointer = c.pointer }) (all_terms_cut agents is.size) own;
+          settled = cut_all_settled (λ p. true) agents _ then_node (cut_all cuts.TargetReset None begun).node (record { size = c.size; logins = c.logins; agent = c.agent; pointer = c.pointer; kept = c.kept }) (all_terms_cut agents is.size) own;
         }
 
-    effects_stay : (effect : Effect) (subject : ℕ) → IsNoEntry effect → PlaceBelow effect → ((unit : ℕ) → effect ≡ effects.UnitReset unit → t ≡ o.table) → Stays (affected effect o agents) (effect_by effect subject begun)
+    effects_stay : (effect : Effect) (subject : ℕ) → IsNoEntry effect → PlaceBelow effect → ((unit : ℕ) → effect ≡ effects.UnitReset unit → t ≡ o.table) → Stays requests (affected effect o agents) (effect_by effect subject begun)
     effects_stay effects.Nothing subject n b u = record { entries = tt; settled = own }
     effects_stay (effects.Entered place replaced) subject n b u = absurd n
     effects_stay (effects.Back place) subject n b u = record { entries = (tt, tt); settled = own }
@@ -308,7 +327,7 @@ module _ (node : NodeState) (g : Good node) (agents : List Agent) (is : AreOf ag
     left_comes None first = (refl, refl)
     left_comes (Some id) first = (refl, refl)
 
-    enters : (place : ℕ) (replaced : Option ℕ) (d : Decision) (source : ℕ) (first : Office) → place < 8 → IsEntry (function_word d.function) o.table (left_by replaced first) place d.status d.login → Comes first agents (slice_set agents place new_agent) (node_decided (Some d) (effects.Entered place replaced) source begun)
+    enters : (place : ℕ) (replaced : Option ℕ) (d : Decision) (source : ℕ) (first : Office) → place < 8 → IsEntry (function_word d.function) o.table (left_by replaced first) place d.status d.login → Comes requests first agents (slice_set agents place new_agent) (node_decided (Some d) (effects.Entered place replaced) source begun)
     unfolding node_decided
     enters place replaced d source first b e =
         let told = (tell_left replaced empty_outbox).sides in
@@ -320,11 +339,11 @@ module _ (node : NodeState) (g : Good node) (agents : List Agent) (is : AreOf ag
               ∙ ap (λ (x : Office). crew_side side x (crew_sides told first agents)) l.0
               ∙ ap (crew_side side (left_by replaced first)) l.1
               ∙ e.hires agents;
-          settled = one_settled then_node g.mid.size place b (record (desk_at node place) { pointer = None; is_enabled = false }) agents new_agent own (fresh_settled place b (free_reset place b e.free));
+          settled = one_settled then_node g.mid.size place b (record (desk_at node place) { pointer = None; is_enabled = false }) agents new_agent own (fresh_settled place b (free_reset place b e.free)) (record { main = one_none requests (desk_at node place).main; ahead = one_none requests (desk_at node place).ahead });
         }
 
     -- ---- a decision
-    stays_comes : (d : Decision) (effect : Effect) (source : ℕ) (first : Office) → Stays (affected effect o agents) (effect_by effect d.subject begun) → ((x : Office) (xs : List Agent) → hired (function_word d.function) (login_if (function_word d.function) d.status d.login) x xs ≡ xs) → Comes first (affected effect o agents) (affected effect o agents) (node_decided (Some d) effect source begun)
+    stays_comes : (d : Decision) (effect : Effect) (source : ℕ) (first : Office) → Stays requests (affected effect o agents) (effect_by effect d.subject begun) → ((x : Office) (xs : List Agent) → hired (function_word d.function) (login_if (function_word d.function) d.status d.login) x xs ≡ xs) → Comes requests first (affected effect o agents) (affected effect o agents) (node_decided (Some d) effect source begun)
     unfolding node_decided
     stays_comes d effect source first s h =
         let e = effect_by effect d.subject begun in
@@ -335,10 +354,10 @@ module _ (node : NodeState) (g : Good node) (agents : List Agent) (is : AreOf ag
               crew_more e.outbox.sides side first now
               ∙ ap (crew_side side (office.by_sides e.outbox.sides first)) (idle_sides now (settled_idle now e.node s.settled) e.outbox.sides first s.entries)
               ∙ h (office.by_sides e.outbox.sides first) now;
-          settled = record { size = s.settled.size; each = s.settled.each };
+          settled = record { size = s.settled.size; each = s.settled.each; paired = s.settled.paired };
         }
 
-    decision_comes : (d : Decision) (effect : Effect) (source : ℕ) (first : Office) → PlaceBelow effect → ((unit : ℕ) → effect ≡ effects.UnitReset unit → t ≡ o.table) → HiresIn (function_word d.function) o.table first d.status d.login effect → (now : List Agent) × Comes first (affected effect o agents) now (node_decided (Some d) effect source begun)
+    decision_comes : (d : Decision) (effect : Effect) (source : ℕ) (first : Office) → PlaceBelow effect → ((unit : ℕ) → effect ≡ effects.UnitReset unit → t ≡ o.table) → HiresIn (function_word d.function) o.table first d.status d.login effect → (now : List Agent) × Comes requests first (affected effect o agents) now (node_decided (Some d) effect source begun)
     decision_comes d effects.Nothing source first b u h = (_, stays_comes d effects.Nothing source first (effects_stay effects.Nothing d.subject tt b u) h)
     decision_comes d (effects.Entered place replaced) source first b u h = (_, enters place replaced d source first b h)
     decision_comes d (effects.Back place) source first b u h = (_, stays_comes d (effects.Back place) source first (effects_stay (effects.Back place) d.subject tt b u) h)
@@ -348,26 +367,28 @@ module _ (node : NodeState) (g : Good node) (agents : List Agent) (is : AreOf ag
     decision_comes d (effects.UnitReset unit) source first b u h = (_, stays_comes d (effects.UnitReset unit) source first (effects_stay (effects.UnitReset unit) d.subject tt b u) h)
     decision_comes d effects.TargetReset source first b u h = (_, stays_comes d effects.TargetReset source first (effects_stay effects.TargetReset d.subject tt b u) h)
 
-    none_comes : (effect : Effect) (source : ℕ) (first : Office) → effect ≡ effects.Nothing → Comes first (affected effect o agents) agents (node_decided None effect source begun)
+    none_comes : (effect : Effect) (source : ℕ) (first : Office) → effect ≡ effects.Nothing → Comes requests first (affected effect o agents) agents (node_decided None effect source begun)
     unfolding node_decided
     none_comes effect source first e = record { crew = ap (λ (x : Effect). affected x o agents) e; settled = own }
 
   -- ---- a step of the operation
-  comes_behind : (first : Office) (source : ℕ) (step : ManagerStep) (agents now : List Agent) (s : Scene) → Comes first agents now s → Behind first agents (ask_manager source step.ask (failed_by source step.failed s))
+  comes_behind : (first : Office) (source : ℕ) (step : ManagerStep) (agents now : List Agent) (s : Scene) → Comes requests first agents now s → Behind requests first agents (ask_manager source step.ask (failed_by source step.failed s))
   comes_behind first source step agents now s c =
       let f = failed_by source step.failed s in
       let l = ask_manager source step.ask f in
       let keeps = ask_keeps source step.ask f in
       let crew : crew_sides l.outbox.sides first agents ≡ now = keeps.crew first agents now (failed_crew source step.failed s.outbox first agents now c.crew) in
-      let settled : AllSettled now l.node = unmoved_settled now s.node l.node (same_desks s.node l.node keeps.desks) c.settled in
+      let settled : AllSettled requests now l.node = unmoved_settled now s.node l.node (same_desks s.node l.node keeps.desks) c.settled in
       let idle = settled_idle now l.node settled in
       record {
         all = λ last.
-            subst (λ (xs : List Agent). AllSettled xs l.node)
-            (sym (ap (λ (xs : List Agent). crew_over (crew_packets last l.outbox.packets xs)) crew ∙ ap crew_over (idle_packets now idle last l.outbox.packets) ∙ all_over now idle)) settled;
+            let last_requests = with_requests last l.outbox.packets requests in
+            subst (λ (xs : List Agent). AllSettled last_requests xs l.node)
+            (sym (ap (λ (xs : List Agent). crew_over (crew_packets last l.outbox.packets xs)) crew ∙ ap crew_over (idle_packets now idle last l.outbox.packets) ∙ all_over now idle))
+            (settled_more requests last_requests (requests_within last l.outbox.packets requests) now l.node settled);
       }
 
-  step_behind : (source : ℕ) (answer : Answer) (step : ManagerStep) (m : management.Machine) (t : Table) (decided : Option Decision) → step.decided ≡ decided → PlaceBelow step.effect → Hires o.table o.manager.operation answer (step, (m, t)) → Behind (stepped o answer (step, (m, t))) (affected step.effect o agents) (ask_manager source step.ask (failed_by source step.failed (node_decided decided step.effect source (begun m t))))
+  step_behind : (source : ℕ) (answer : Answer) (step : ManagerStep) (m : management.Machine) (t : Table) (decided : Option Decision) → step.decided ≡ decided → PlaceBelow step.effect → Hires o.table o.manager.operation answer (step, (m, t)) → Behind requests (stepped o answer (step, (m, t))) (affected step.effect o agents) (ask_manager source step.ask (failed_by source step.failed (node_decided decided step.effect source (begun m t))))
   step_behind source answer step m t None e b h =
       let first = stepped o answer (step, (m, t)) in
       comes_behind first source step (affected step.effect o agents) agents (node_decided None step.effect source (begun m t)) (none_comes m t step.effect source first (h.none e))
@@ -378,10 +399,10 @@ module _ (node : NodeState) (g : Good node) (agents : List Agent) (is : AreOf ag
       let c = decision_comes m t d step.effect source first b h.keeps (h.hires d e first x.0 decided_is refl) in
       comes_behind first source step (affected step.effect o agents) c.0 (node_decided (Some d) step.effect source (begun m t)) c.1
 
-  with_behind : (source : ℕ) (answer : Answer) (r : ManagerStep × (management.Machine × Table)) → PlaceBelow r.0.effect → Hires o.table o.manager.operation answer r → Behind (stepped o answer r) (affected r.0.effect o agents) (managed_with source (scene (record node { layer = layer }) empty_outbox) r)
+  with_behind : (source : ℕ) (answer : Answer) (r : ManagerStep × (management.Machine × Table)) → PlaceBelow r.0.effect → Hires o.table o.manager.operation answer r → Behind requests (stepped o answer r) (affected r.0.effect o agents) (managed_with source (scene (record node { layer = layer }) empty_outbox) r)
   with_behind source answer (step, (m, t)) b h = step_behind source answer step m t step.decided refl b h
 
-  pub managed_behind : (source : ℕ) (answer : Answer) → management.source_in node.manager.operation ≡ Some source → Behind (replied answer o) (managed answer o agents) (manage answer (scene (record node { layer = layer }) empty_outbox))
+  pub managed_behind : (source : ℕ) (answer : Answer) → management.source_in node.manager.operation ≡ Some source → Behind requests (replied answer o) (managed answer o agents) (manage answer (scene (record node { layer = layer }) empty_outbox))
   unfolding manage
   managed_behind source answer e =
       let r = management.reply_step o.manager o.table o.keys answer in
@@ -390,6 +411,6 @@ module _ (node : NodeState) (g : Good node) (agents : List Agent) (is : AreOf ag
       ∙ ap (λ t. management.reply_step o.manager t node.keys answer) (sym a.table)
       ∙ ap (λ ks. management.reply_step o.manager o.table ks answer) (sym a.keys) in
       let table = subst (λ (x : Table). IsTable x) (sym a.table) g.table in
-      subst (λ (x : Option ℕ). Behind (replied answer o) (managed answer o agents) (managed_in x answer (scene (record node { layer = layer }) empty_outbox))) (sym e)
-      (subst (λ (x : ManagerStep × (management.Machine × Table)). Behind (replied answer o) (managed answer o agents) (managed_with source (scene (record node { layer = layer }) empty_outbox) x)) (sym same)
+      subst (λ (x : Option ℕ). Behind requests (replied answer o) (managed answer o agents) (managed_in x answer (scene (record node { layer = layer }) empty_outbox))) (sym e)
+      (subst (λ (x : ManagerStep × (management.Machine × Table)). Behind requests (replied answer o) (managed answer o agents) (managed_with source (scene (record node { layer = layer }) empty_outbox) x)) (sym same)
       (with_behind source answer r (places_of_effects o.manager o.table o.keys answer table) (reply_hires o.table table.sound o.manager o.keys answer)))

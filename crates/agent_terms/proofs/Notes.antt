@@ -1,5 +1,5 @@
 -- What the notes of a history make of the agents of its terms.
-use Rattle.std.proofs.Common.{arith, ◌≡◌, ◌∙◌, refl, sym, ap, subst, ℕ, ◌/◌, ◌^◌, ◌==◌, ◌<◌, Bool, true, false, cond, List, ◌∷◌, length, map, replicate, is_some, is_none, Option, Some, None}
+use Rattle.std.proofs.Common.{arith, ◌≡◌, ◌∙◌, refl, sym, ap, subst, ℕ, ◌/◌, ◌^◌, ◌==◌, ◌<◌, Bool, true, false, cond, List, [], ◌∷◌, length, map, replicate, is_some, is_none, Option, Some, None}
 use Rattle.std.specs.Prelude.{position, slice_index_or, slice_set}
 use Rattle.std.proofs.lemmas.Bool.Decides.{nat_tests}
 use Rattle.std.proofs.lemmas.Grind.{common_steps}
@@ -130,7 +130,7 @@ manager_or : (b : Bool) (serial : ℕ) (t : Target) → (cond b (record t { mana
 manager_or true serial t = refl
 manager_or false serial t = refl
 
-sends_for : (place : Option ℕ) (w : Bool) (serial : ℕ) (t : Target) → (sent_for place w serial t).agents ≡ sent_among place w serial t.agents
+pub sends_for : (place : Option ℕ) (w : Bool) (serial : ℕ) (t : Target) → (sent_for place w serial t).agents ≡ sent_among place w serial t.agents
 sends_for None w serial t = manager_or (wants t.manager_asks w) serial t
 sends_for (Some place) w serial t = refl
 
@@ -158,13 +158,13 @@ goes_on note t reply e size b =
     untold_is _ plain u = refl
 
 -- ---- a new target
-begins : (start : List Disk) (units ready : ℕ) → AreOf (new_target start).agents (new_node units ready)
+begins : (start : List Disk) (units ready : ℕ) → AreOf [] (new_target start).agents (new_node units ready)
 begins start units ready = record {
   size = refl;
   each = λ p b.
       let a : agent_in (replicate 8 new_agent) p ≡ new_agent = grind (arith, nat_tests, common_steps) in
       let d : slice_index_or (replicate 8 new_desk) p new_desk ≡ new_desk = grind (arith, nat_tests, common_steps) in
-      subst (λ (x : Agent). IsOf x (desk_at (new_node units ready) p)) (sym a) (subst (λ (x : Desk). IsOf new_agent x) (sym d) (record {
+      subst (λ (x : Agent). IsOf [] x (desk_at (new_node units ready) p)) (sym a) (subst (λ (x : Desk). IsOf [] new_agent x) (sym d) (record {
         machine = record {
           phase = refl;
           flag = refl;
@@ -184,6 +184,8 @@ begins start units ready = record {
         pointer = refl;
         main = refl;
         ahead = refl;
+        main_is = tt;
+        ahead_is = tt;
         asks = refl;
         asks_ahead = refl;
       }));

@@ -28,6 +28,7 @@ use Rattle.sbp_journal.specs.Outgoings.{empty_outbox}
 use Rattle.sbp_laws.specs.Targets.{Agent, agent_over, pointed_by as term_pointed, rings}
 use Rattle.sbp_target.specs.declared.desk.Desk.{Desk}
 use Rattle.sbp_target.specs.declared.purpose.Purpose.{Purpose}
+use Rattle.sbp_target.specs.declared.purpose.Sent.{Sent}
 use Rattle.sbp_target.specs.Agents.{follow}
 use Rattle.sbp_target.specs.Desks.{expired_desk, new_desk, pointed_desk}
 use Rattle.sbp_target.specs.Nodes.{NodeState, Scene, desk_at, login_at, scene, with_desk}
@@ -38,13 +39,14 @@ use Rattle.sbp_target.specs.Telling.{orb_of}
 use Rattle.target_laws.proofs.Calling.{Good}
 use Rattle.target_laws.proofs.Stepped.{ahead_loses, behind_fetch, behind_reread, is_bare, main_loses}
 use Rattle.agent_terms.specs.Alike.{Alike, StepsAlike}
-use Rattle.agent_terms.specs.Crews.{IsOf, ToldAlike, address, answered as term_answered, pointed}
+use Rattle.agent_terms.specs.Crews.{AreOne, IsOf, Request, ToldAlike, address, answered as term_answered, pointed, with_requests}
 use Rattle.agent_terms.proofs.Announces.{Ended, done_ended}
 use Rattle.agent_terms.proofs.Follows.{Settled, Stepped, follows}
 use Rattle.agent_terms.proofs.Mild.{Mild, reply_mild}
 use Rattle.agent_terms.proofs.Rounds.{alike_told, blank_now}
 use Rattle.agent_terms.proofs.Steps.{doorbell_alike, fetch_same}
-use Rattle.agent_terms.proofs.Turns.{ahead_follows, ahead_is, ahead_settled, fits, lapse_ends, main_follows, main_is, main_stepped, quiet_done, settled_done}
+use Rattle.agent_terms.proofs.Serials.{Paired, turning_unless}
+use Rattle.agent_terms.proofs.Turns.{ahead_follows, ahead_is, ahead_settled, ahead_turns, fits, lapse_ends, main_follows, main_is, main_stepped, main_turns, quiet_done, settled_done}
 use Rattle.agent_terms.proofs.Walk.{Holds, Out, Told as Tells, holds_still, same_id, other_id, silent_more}
 
 no : false ≡ true → ⊥
@@ -54,21 +56,24 @@ no_2 : true ≡ false → ⊥
 no_2 e = cc
 
 -- ---- what a turn makes of the agent of a place, however its packets are numbered
-pub record Turned (q : ℕ) (node : NodeState) (first : Agent) (s : Scene) : Type 0 where
+pub record Turned (requests : List Request) (q : ℕ) (node : NodeState) (first : Agent) (s : Scene) : Type 0 where
   pub now : ℕ → Agent
   pub out : Out first now s.outbox
   pub size : length s.node.desks ≡ 8
   pub settled : (last : ℕ) → Settled (desk_at s.node q).agent (desk_at s.node q).pointer (agent_over (now last))
+  pub paired : (last : ℕ) → Paired (with_requests last s.outbox.packets requests) (desk_at s.node q) (agent_over (now last))
   pub others : (p : ℕ) → p ≢ q → ((desk_at s.node p).agent ≡ (desk_at node p).agent) × ((desk_at s.node p).pointer ≡ (desk_at node p).pointer)
+  pub kept : (p : ℕ) → p ≢ q → ((desk_at s.node p).main ≡ (desk_at node p).main) × ((desk_at s.node p).ahead ≡ (desk_at node p).ahead)
 
 -- all desks but one are those of a node
 pub record IsBeside (q : ℕ) (node before : NodeState) : Type 0 where
   pub others : (p : ℕ) → p ≢ q → ((desk_at before p).agent ≡ (desk_at node p).agent) × ((desk_at before p).pointer ≡ (desk_at node p).pointer)
+  pub kept : (p : ℕ) → p ≢ q → ((desk_at before p).main ≡ (desk_at node p).main) × ((desk_at before p).ahead ≡ (desk_at node p).ahead)
 
 pub beside_self : (q : ℕ) (node : NodeState) → IsBeside q node node
-beside_self q node = record { others = λ p n. (refl, refl) }
+beside_self q node = record { others = λ p n. (refl, refl); kept = λ p n. (refl, refl) }
 
-pub ended_turned : (q : ℕ) (node before : NodeState) (first : Agent) (pointer : Option ℕ) (s : Scene) → IsBeside q node before → pointer ≡ (desk_at before q).pointer → Ended q before first pointer s → Turned q node first s
+pub ended_turned : {requests : List Request} (q : ℕ) (node before : NodeState) (first : Agent) (pointer : Option ℕ) (s : Scene) → IsBeside q node before → pointer ≡ (desk_at before q).pointer → Ended requests q before first pointer s → Turned requests q node first s
 ended_turned q node before first pointer s beside e d = record {
   now = d.now;
   out = d.out;
@@ -76,7 +81,12 @@ ended_turned q node before first pointer s beside e d = record {
   settled = λ last.
       subst (λ (m : Machine). Settled m (desk_at s.node q).pointer (agent_over (d.now last))) (sym d.stands.agent)
       (subst (λ (x : Option ℕ). Settled d.machine x (agent_over (d.now last))) (e ∙ sym (d.stands.pointer q)) (d.settled last));
+  paired = d.paired;
   others = λ p n. let o = beside.others p n in (d.stands.others p n ∙ o.0, d.stands.pointer p ∙ o.1);
+  kept = λ p n.
+      let o = beside.kept p n in
+      let k = d.stands.kept p n in
+      (k.0 ∙ o.0, k.1 ∙ o.1);
 }
 
 -- ---- a request is answered
@@ -111,7 +121,7 @@ unsent_2 phases.Answering e = cc
 unsent_2 phases.WritingStatus e = cc
 unsent_2 phases.ReadingNext e = cc
 
-module _ (node : NodeState) (g : Good node) (q : ℕ) (b : q < 8) (a : Agent) (is : IsOf a (desk_at node q)) (layer : Layer Purpose) (login : Login) where
+module _ {requests : List Request} (node : NodeState) (g : Good node) (q : ℕ) (b : q < 8) (a : Agent) (is : IsOf requests a (desk_at node q)) (layer : Layer Purpose) (login : Login) where
   abbrev own : Machine
   own = (desk_at node q).agent
 
@@ -132,7 +142,7 @@ module _ (node : NodeState) (g : Good node) (q : ℕ) (b : q < 8) (a : Agent) (i
         losses : (which : Which) → (lost_step own which causes.Timeout).0.ran ≡ None
         losses which = losses_silent own which causes.Timeout
 
-    pub main_lapses : is_sent own.phase ≡ true → Turned q node (term_answered None a.untold q plain Main Expired a) (expired_with q login (expired_desk Main (desk_at node q)) (scene over_layer empty_outbox))
+    pub main_lapses : is_sent own.phase ≡ true → Turned requests q node (term_answered None a.untold q plain Main Expired a) (expired_with q login (expired_desk Main (desk_at node q)) (scene over_layer empty_outbox))
     main_lapses sent =
         let ra = reply_step a.machine q plain None Main Expired in
         let r = lost_step own Main causes.Timeout in
@@ -143,9 +153,9 @@ module _ (node : NodeState) (g : Good node) (q : ℕ) (b : q < 8) (a : Agent) (i
         let mild : Mild r = subst (λ (x : AgentStep × Machine). Mild x) (lost_is Main) (reply_mild own q plain None Main Expired tt) in
         let st = main_stepped node g q b a is a.untold None ra r behind same.step blank in
         ended_turned q node node first (desk_at node q).pointer _ (beside_self q node) refl
-        (lapse_ends node g q b a is layer login Main first r (main_follows node g q b a is layer login first (is_ahead own.ahead) r behind mild st))
+        (lapse_ends node g q b a is layer login Main first r (main_follows node g q b a is layer login first (is_ahead own.ahead) r behind mild st) (main_turns node g q b a is a.untold None ra r same.step))
 
-    pub ahead_lapses : is_ahead own.ahead ≡ true → Turned q node (term_answered None a.untold q plain Ahead Expired a) (expired_with q login (expired_desk Ahead (desk_at node q)) (scene over_layer empty_outbox))
+    pub ahead_lapses : is_ahead own.ahead ≡ true → Turned requests q node (term_answered None a.untold q plain Ahead Expired a) (expired_with q login (expired_desk Ahead (desk_at node q)) (scene over_layer empty_outbox))
     ahead_lapses under =
         let ra = reply_step a.machine q plain None Ahead Expired in
         let r = lost_step own Ahead causes.Timeout in
@@ -155,7 +165,7 @@ module _ (node : NodeState) (g : Good node) (q : ℕ) (b : q < 8) (a : Agent) (i
         let over = ahead_loses own causes.Timeout under (fits node g q b a is).agent in
         let st = ahead_settled node g q b a is a.untold None ra r over same.step blank in
         ended_turned q node node first (desk_at node q).pointer _ (beside_self q node) refl
-        (lapse_ends node g q b a is layer login Ahead first r (ahead_follows node g q b a is layer login first r over.silent st))
+        (lapse_ends node g q b a is layer login Ahead first r (ahead_follows node g q b a is layer login first r over.silent st) (ahead_turns node g q b a is a.untold None ra r same.step))
 
   -- ---- an agent as it stands
   settled_now : Settled own (desk_at node q).pointer a
@@ -183,12 +193,23 @@ module _ (node : NodeState) (g : Good node) (q : ℕ) (b : q < 8) (a : Agent) (i
     off k f = at k ∙ ap (λ (x : Bool). cond x d (desk_at node k)) (other_id k q f)
 
     beside : IsBeside q node with_it
-    beside = record { others = λ k f. (ap (λ (x : Desk). x.agent) (off k f), ap (λ (x : Desk). x.pointer) (off k f)) }
+    beside = record {
+      others = λ k f. (ap (λ (x : Desk). x.agent) (off k f), ap (λ (x : Desk). x.pointer) (off k f));
+      kept = λ k f. (ap (λ (x : Desk). x.main) (off k f), ap (λ (x : Desk). x.ahead) (off k f));
+    }
+
+    -- what it waits for is the same
+    pair_it : (x : Agent) → d.main ≡ (desk_at node q).main → d.ahead ≡ (desk_at node q).ahead → x.main ≡ a.main → x.ahead ≡ a.ahead → Paired requests (desk_at with_it q) x
+    pair_it x m f n e =
+        subst (λ (y : Desk). Paired requests y x) (sym here) (record {
+          main = subst (λ (y : Option ℕ). AreOne requests d.main y) (sym n) (subst (λ (y : Option Sent). AreOne requests y a.main) (sym m) is.main_is);
+          ahead = subst (λ (y : Option ℕ). AreOne requests d.ahead y) (sym e) (subst (λ (y : Option Sent). AreOne requests y a.ahead) (sym f) is.ahead_is);
+        })
 
     holds_it : (later : NodeState) → later.desks ≡ with_it.desks → Holds q with_it d.agent later
     holds_it later e =
         holds_still q with_it d.agent with_it later
-        (record { size = length-set node.desks q d ∙ g.mid.size; agent = ap (λ (x : Desk). x.agent) here; pointer = λ p. refl; enabled = λ p. refl; others = λ p n. refl })
+        (record { size = length-set node.desks q d ∙ g.mid.size; agent = ap (λ (x : Desk). x.agent) here; pointer = λ p. refl; enabled = λ p. refl; others = λ p n. refl; kept = λ p n. (refl, refl) })
         e
 
   module _ (request : Packet) (bytes : List ℕ) where
@@ -197,7 +218,7 @@ module _ (node : NodeState) (g : Good node) (q : ℕ) (b : q < 8) (a : Agent) (i
     asked_login ask s (Some other) e = let same : other ≡ login = cc in ap (λ (l : Login). follow q l (asks ask) s) same
 
     -- ---- ORB_POINTER
-    opens : (next : ℕ) → login_at node q ≡ Some login → is_sent own.phase ≡ false → Turned q node (term_pointed (Ok (fetch_step a.machine next).0.ask, (fetch_step a.machine next).1) next a) (pointed_by q request bytes (pointed_desk (desk_at node q) (Ok (fetch_step own next).0.ask, (fetch_step own next).1)) (scene over_layer empty_outbox))
+    opens : (next : ℕ) → login_at node q ≡ Some login → is_sent own.phase ≡ false → Turned requests q node (term_pointed (Ok (fetch_step a.machine next).0.ask, (fetch_step a.machine next).1) next a) (pointed_by q request bytes (pointed_desk (desk_at node q) (Ok (fetch_step own next).0.ask, (fetch_step own next).1)) (scene over_layer empty_outbox))
     opens next l unsent =
         let m = (fetch_step own next).1 in
         let d : Desk = record (desk_at node q) { agent = m; pointer = present_of m } in
@@ -214,20 +235,20 @@ module _ (node : NodeState) (g : Good node) (q : ℕ) (b : q < 8) (a : Agent) (i
           asks = refl;
           asks_ahead = refl;
         } in
-        let done = follows q b (with_it d) first (Some (aligned next)) login ⊥ false (fetch_step own next).0 m first (behind_fetch own next) st refl t tt (λ z. absurd z) told (holds_it d t.node refl) in
-        subst (λ (s : Scene). Turned q node first s) (sym (asked_login ask t (login_at node q) l))
-        (ended_turned q node (with_it d) first (Some (aligned next)) (follow q login (asks ask) t) (beside d) (sym (ap (λ (x : Desk). x.pointer) (here d))) (done_ended q (with_it d) first (Some (aligned next)) (follow q login (asks ask) t) done))
+        let done = follows requests q b (with_it d) first (Some (aligned next)) login ⊥ false (fetch_step own next).0 m first (behind_fetch own next) st refl t tt (λ z. absurd z) told (holds_it d t.node refl) (turning_unless requests false (desk_at t.node q) first st.main st.ahead) in
+        subst (λ (s : Scene). Turned requests q node first s) (sym (asked_login ask t (login_at node q) l))
+        (ended_turned q node (with_it d) first (Some (aligned next)) (follow q login (asks ask) t) (beside d) (sym (ap (λ (x : Desk). x.pointer) (here d))) (done_ended requests q (with_it d) first (Some (aligned next)) (follow q login (asks ask) t) done))
 
-    refuses : (rcode : ℕ) → Turned q node a (answered request bytes rcode [] (scene (with_desk over_layer q (record (desk_at node q) { agent = own })) empty_outbox))
+    refuses : (rcode : ℕ) → Turned requests q node a (answered request bytes rcode [] (scene (with_desk over_layer q (record (desk_at node q) { agent = own })) empty_outbox))
     refuses rcode =
         let d : Desk = record (desk_at node q) { agent = own } in
         let s = scene (with_it d) empty_outbox in
         let t = answered request bytes rcode [] s in
         ended_turned q node (with_it d) a (desk_at node q).pointer t (beside d) (sym (ap (λ (x : Desk). x.pointer) (here d)))
-        (done_ended {Calm = ⊥} q (with_it d) a (desk_at node q).pointer t
-        (settled_done q (with_it d) a (desk_at node q).pointer own t settled_now (answered_told a a request bytes rcode [] s (record { is = refl; silent = tt })) (holds_it d t.node refl)))
+        (done_ended {Calm = ⊥} requests q (with_it d) a (desk_at node q).pointer t
+        (settled_done requests q (with_it d) a (desk_at node q).pointer own t settled_now (answered_told a a request bytes rcode [] s (record { is = refl; silent = tt })) (holds_it d t.node refl) (pair_it d a refl refl refl refl)))
 
-    point_by : (state : AgentState) (pointer : OrbPointer) → state_in own.phase ≡ state → login_at node q ≡ Some login → Turned q node (term_pointed (point_in state a.machine pointer) (address pointer) a) (pointed_by q request bytes (pointed_desk (desk_at node q) (point_in state own pointer)) (scene over_layer empty_outbox))
+    point_by : (state : AgentState) (pointer : OrbPointer) → state_in own.phase ≡ state → login_at node q ≡ Some login → Turned requests q node (term_pointed (point_in state a.machine pointer) (address pointer) a) (pointed_by q request bytes (pointed_desk (desk_at node q) (point_in state own pointer)) (scene over_layer empty_outbox))
     point_by states.Reset Null e l = refuses _
     point_by states.Reset (At next) e l = opens next l (unsent own.phase e)
     point_by states.Suspended Null e l = refuses _
@@ -237,10 +258,10 @@ module _ (node : NodeState) (g : Good node) (q : ℕ) (b : q < 8) (a : Agent) (i
     point_by states.Dead Null e l = refuses _
     point_by states.Dead (At next) e l = refuses _
 
-    pub points : (pointer : OrbPointer) → login_at node q ≡ Some login → Turned q node (pointed pointer a) (point q pointer request bytes (scene over_layer empty_outbox))
+    pub points : (pointer : OrbPointer) → login_at node q ≡ Some login → Turned requests q node (pointed pointer a) (point q pointer request bytes (scene over_layer empty_outbox))
     unfolding point point_step
     points pointer l =
-        subst (λ (p : Phase). Turned q node (term_pointed (point_in (state_in p) a.machine pointer) (address pointer) a) (pointed_by q request bytes (pointed_desk (desk_at node q) (point_in (state_in own.phase) own pointer)) (scene over_layer empty_outbox))) (sym is.machine.phase)
+        subst (λ (p : Phase). Turned requests q node (term_pointed (point_in (state_in p) a.machine pointer) (address pointer) a) (pointed_by q request bytes (pointed_desk (desk_at node q) (point_in (state_in own.phase) own pointer)) (scene over_layer empty_outbox))) (sym is.machine.phase)
         (point_by (state_in own.phase) pointer refl l)
 
     -- ---- DOORBELL
@@ -248,7 +269,7 @@ module _ (node : NodeState) (g : Good node) (q : ℕ) (b : q < 8) (a : Agent) (i
     rung_term s = record a { machine = s.1; asks = s.0 }
 
     -- one that asks for nothing
-    rests : (m n : Machine) → Alike a.untold n m → is_sent m.phase ≡ is_sent own.phase → is_ahead m.ahead ≡ is_ahead own.ahead → login_at node q ≡ Some login → Turned q node (rung_term (Nothing, n)) (rung_by q request bytes (Nothing, m) (scene over_layer empty_outbox))
+    rests : (m n : Machine) → Alike a.untold n m → is_sent m.phase ≡ is_sent own.phase → is_ahead m.ahead ≡ is_ahead own.ahead → login_at node q ≡ Some login → Turned requests q node (rung_term (Nothing, n)) (rung_by q request bytes (Nothing, m) (scene over_layer empty_outbox))
     rests m n al sent ahead l =
         let d : Desk = record (desk_at node q) { agent = m } in
         let first = rung_term (Nothing, n) in
@@ -262,13 +283,13 @@ module _ (node : NodeState) (g : Good node) (q : ℕ) (b : q < 8) (a : Agent) (i
           asks = refl;
           asks_ahead = is.asks_ahead;
         } in
-        subst (λ (x : Scene). Turned q node first x) (sym (asked_login Nothing t (login_at node q) l))
+        subst (λ (x : Scene). Turned requests q node first x) (sym (asked_login Nothing t (login_at node q) l))
         (ended_turned q node (with_it d) first (desk_at node q).pointer (follow q login (asks Nothing) t) (beside d) (sym (ap (λ (x : Desk). x.pointer) (here d)))
-        (done_ended {Calm = ⊥} q (with_it d) first (desk_at node q).pointer (follow q login (asks Nothing) t)
-        (quiet_done q (with_it d) first (desk_at node q).pointer login (asks Nothing) m t refl st (answered_told first first request bytes 0 [] s (record { is = refl; silent = tt })) (holds_it d t.node refl))))
+        (done_ended {Calm = ⊥} requests q (with_it d) first (desk_at node q).pointer (follow q login (asks Nothing) t)
+        (quiet_done requests q (with_it d) first (desk_at node q).pointer login (asks Nothing) m t refl st (answered_told first first request bytes 0 [] s (record { is = refl; silent = tt })) (holds_it d t.node refl) (pair_it d first refl refl refl refl))))
 
     -- one that reads the next pointer again
-    rereads : is_sent own.phase ≡ false → is_ahead own.ahead ≡ false → (s : Ask × Machine) → s.0 ≡ (reread_step own).0.ask → Alike a.untold s.1 (reread_step own).1 → login_at node q ≡ Some login → Turned q node (rung_term s) (rung_by q request bytes ((reread_step own).0.ask, (reread_step own).1) (scene over_layer empty_outbox))
+    rereads : is_sent own.phase ≡ false → is_ahead own.ahead ≡ false → (s : Ask × Machine) → s.0 ≡ (reread_step own).0.ask → Alike a.untold s.1 (reread_step own).1 → login_at node q ≡ Some login → Turned requests q node (rung_term s) (rung_by q request bytes ((reread_step own).0.ask, (reread_step own).1) (scene over_layer empty_outbox))
     rereads sent idle r e al l =
         let m = (reread_step own).1 in
         let ask = (reread_step own).0.ask in
@@ -284,18 +305,18 @@ module _ (node : NodeState) (g : Good node) (q : ℕ) (b : q < 8) (a : Agent) (i
           asks = e;
           asks_ahead = is.asks_ahead;
         } in
-        let done = follows q b (with_it d) first (desk_at node q).pointer login ⊥ false (reread_step own).0 m first (behind_reread own idle) st refl t tt (λ z. absurd z) (answered_told first first request bytes 0 [] s (record { is = refl; silent = tt })) (holds_it d t.node refl) in
-        subst (λ (x : Scene). Turned q node first x) (sym (asked_login ask t (login_at node q) l))
-        (ended_turned q node (with_it d) first (desk_at node q).pointer (follow q login (asks ask) t) (beside d) (sym (ap (λ (x : Desk). x.pointer) (here d))) (done_ended q (with_it d) first (desk_at node q).pointer (follow q login (asks ask) t) done))
+        let done = follows requests q b (with_it d) first (desk_at node q).pointer login ⊥ false (reread_step own).0 m first (behind_reread own idle) st refl t tt (λ z. absurd z) (answered_told first first request bytes 0 [] s (record { is = refl; silent = tt })) (holds_it d t.node refl) (turning_unless requests false (desk_at t.node q) first st.main st.ahead) in
+        subst (λ (x : Scene). Turned requests q node first x) (sym (asked_login ask t (login_at node q) l))
+        (ended_turned q node (with_it d) first (desk_at node q).pointer (follow q login (asks ask) t) (beside d) (sym (ap (λ (x : Desk). x.pointer) (here d))) (done_ended requests q (with_it d) first (desk_at node q).pointer (follow q login (asks ask) t) done))
 
-    rung_as : (state : AgentState) → state_in own.phase ≡ state → (s : Ask × Machine) → s.0 ≡ (doorbell_in state own).0 → Alike a.untold s.1 (doorbell_in state own).1 → login_at node q ≡ Some login → Turned q node (rung_term s) (rung_by q request bytes (doorbell_in state own) (scene over_layer empty_outbox))
-    rung_as states.Active e s f al l = subst (λ (x : Ask). Turned q node (rung_term (x, s.1)) (rung_by q request bytes (Nothing, record own { doorbell = true }) (scene over_layer empty_outbox))) (sym f) (rests (record own { doorbell = true }) s.1 al refl refl l)
+    rung_as : (state : AgentState) → state_in own.phase ≡ state → (s : Ask × Machine) → s.0 ≡ (doorbell_in state own).0 → Alike a.untold s.1 (doorbell_in state own).1 → login_at node q ≡ Some login → Turned requests q node (rung_term s) (rung_by q request bytes (doorbell_in state own) (scene over_layer empty_outbox))
+    rung_as states.Active e s f al l = subst (λ (x : Ask). Turned requests q node (rung_term (x, s.1)) (rung_by q request bytes (Nothing, record own { doorbell = true }) (scene over_layer empty_outbox))) (sym f) (rests (record own { doorbell = true }) s.1 al refl refl l)
     rung_as states.Suspended e s f al l =
         let u = unsent_2 own.phase e in rereads u.0 ((fits node g q b a is).agent.bare u.1) s f al l
-    rung_as states.Reset e s f al l = subst (λ (x : Ask). Turned q node (rung_term (x, s.1)) (rung_by q request bytes (Nothing, own) (scene over_layer empty_outbox))) (sym f) (rests own s.1 al refl refl l)
-    rung_as states.Dead e s f al l = subst (λ (x : Ask). Turned q node (rung_term (x, s.1)) (rung_by q request bytes (Nothing, own) (scene over_layer empty_outbox))) (sym f) (rests own s.1 al refl refl l)
+    rung_as states.Reset e s f al l = subst (λ (x : Ask). Turned requests q node (rung_term (x, s.1)) (rung_by q request bytes (Nothing, own) (scene over_layer empty_outbox))) (sym f) (rests own s.1 al refl refl l)
+    rung_as states.Dead e s f al l = subst (λ (x : Ask). Turned requests q node (rung_term (x, s.1)) (rung_by q request bytes (Nothing, own) (scene over_layer empty_outbox))) (sym f) (rests own s.1 al refl refl l)
 
-    pub rings_turn : login_at node q ≡ Some login → Turned q node (rings a) (ring q request bytes (scene over_layer empty_outbox))
+    pub rings_turn : login_at node q ≡ Some login → Turned requests q node (rings a) (ring q request bytes (scene over_layer empty_outbox))
     unfolding ring doorbell_step
     rings_turn l =
         let same = doorbell_alike a.untold a.machine own is.machine in rung_as (state_in own.phase) refl (doorbell_step a.machine) same.0 same.1 l

@@ -22,18 +22,18 @@ use Rattle.sbp_target.specs.Replies.{advance, came, plain_at, replied, replied_w
 use Rattle.target_laws.proofs.Calling.{Good}
 use Rattle.target_laws.proofs.Stepped.{ahead_replied, main_replied}
 use Rattle.agent_terms.specs.Alike.{Alike, StepsAlike}
-use Rattle.agent_terms.specs.Crews.{IsOf, ToldAlike, answered}
+use Rattle.agent_terms.specs.Crews.{IsOf, Request, ToldAlike, answered}
 use Rattle.agent_terms.proofs.Announces.{Ended}
 use Rattle.agent_terms.proofs.Loads.{came_there, ran_loads}
 use Rattle.agent_terms.proofs.Mild.{IsGiven, reply_mild}
 use Rattle.agent_terms.proofs.Steps.{reply_alike}
-use Rattle.agent_terms.proofs.Turns.{ahead_follows, ahead_settled, fits, main_follows, main_stepped, reply_ends}
+use Rattle.agent_terms.proofs.Turns.{ahead_follows, ahead_settled, ahead_turns, fits, main_follows, main_stepped, main_turns, reply_ends}
 
 ran_told : (ran : Option Outcome) (answer : List ℕ) → is_some (told_in ran answer) ≡ is_some ran
 ran_told None answer = refl
 ran_told (Some outcome) answer = refl
 
-module _ (node : NodeState) (g : Good node) (q : ℕ) (b : q < 8) (a : Agent) (is : IsOf a (desk_at node q)) (layer : Layer Purpose) (login : Login) (v : Bool) where
+module _ {requests : List Request} (node : NodeState) (g : Good node) (q : ℕ) (b : q < 8) (a : Agent) (is : IsOf requests a (desk_at node q)) (layer : Layer Purpose) (login : Login) (v : Bool) where
   abbrev own : Machine
   own = (desk_at node q).agent
 
@@ -65,7 +65,7 @@ module _ (node : NodeState) (g : Good node) (q : ℕ) (b : q < 8) (a : Agent) (i
         ran_loads r.0.ran r.1 q plain_now may (came_there disks login.unit (left_by r.0.ran r.1.orb.cdb r.1.payload q plain_now).medium e) (r.1.phase ≡ phases.WritingStatus)
         (λ o f z. (reply_mild own q plain_now tm which answer given).ends o f z)
 
-    pub main_advances : tm ≡ told_in (step_now Main).0.ran (step_now Main).1.answer → MayTell (step_now Main).0.ran (step_now Main).1 q plain_now → Ended q node (answered ta v q plain_now Main answer a) point_now (scene_of (advance tm q login Main answer (whole (scene over_layer empty_outbox) disks)))
+    pub main_advances : tm ≡ told_in (step_now Main).0.ran (step_now Main).1.answer → MayTell (step_now Main).0.ran (step_now Main).1 q plain_now → Ended requests q node (answered ta v q plain_now Main answer a) point_now (scene_of (advance tm q login Main answer (whole (scene over_layer empty_outbox) disks)))
     unfolding advance replied
     main_advances so may =
         let ra = reply_step a.machine q plain_now ta Main answer in
@@ -74,9 +74,10 @@ module _ (node : NodeState) (g : Good node) (q : ℕ) (b : q < 8) (a : Agent) (i
         let behind = main_replied own q plain_now tm answer (fits node g q b a is).agent in
         let st = main_stepped node g q b a is v ta ra r behind (alike_told ta tm plain_now Main answer t ran).step (blank_now ta tm plain_now Main answer t ran) in
         let first = answered ta v q plain_now Main answer a in
-        reply_ends node g q b a is layer login Main disks first r (main_follows node g q b a is layer login first (is_ahead own.ahead) r behind (reply_mild own q plain_now tm Main answer given) st) (loads_end Main may)
+        reply_ends node g q b a is layer login Main disks first r (main_follows node g q b a is layer login first (is_ahead own.ahead) r behind (reply_mild own q plain_now tm Main answer given) st)
+        (main_turns node g q b a is v ta ra r (alike_told ta tm plain_now Main answer t ran).step) (loads_end Main may)
 
-    pub ahead_advances : is_ahead own.ahead ≡ true → tm ≡ told_in (step_now Ahead).0.ran (step_now Ahead).1.answer → MayTell (step_now Ahead).0.ran (step_now Ahead).1 q plain_now → Ended q node (answered ta v q plain_now Ahead answer a) point_now (scene_of (advance tm q login Ahead answer (whole (scene over_layer empty_outbox) disks)))
+    pub ahead_advances : is_ahead own.ahead ≡ true → tm ≡ told_in (step_now Ahead).0.ran (step_now Ahead).1.answer → MayTell (step_now Ahead).0.ran (step_now Ahead).1 q plain_now → Ended requests q node (answered ta v q plain_now Ahead answer a) point_now (scene_of (advance tm q login Ahead answer (whole (scene over_layer empty_outbox) disks)))
     unfolding advance replied
     ahead_advances under so may =
         let ra = reply_step a.machine q plain_now ta Ahead answer in
@@ -85,4 +86,5 @@ module _ (node : NodeState) (g : Good node) (q : ℕ) (b : q < 8) (a : Agent) (i
         let over = ahead_replied own q plain_now tm answer under (fits node g q b a is).agent in
         let st = ahead_settled node g q b a is v ta ra r over (alike_told ta tm plain_now Ahead answer t ran).step (blank_now ta tm plain_now Ahead answer t ran) in
         let first = answered ta v q plain_now Ahead answer a in
-        reply_ends node g q b a is layer login Ahead disks first r (ahead_follows node g q b a is layer login first r over.silent st) (loads_end Ahead may)
+        reply_ends node g q b a is layer login Ahead disks first r (ahead_follows node g q b a is layer login first r over.silent st)
+        (ahead_turns node g q b a is v ta ra r (alike_told ta tm plain_now Ahead answer t ran).step) (loads_end Ahead may)

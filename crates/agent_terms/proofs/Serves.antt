@@ -1,5 +1,5 @@
 -- Requests that a target serves, and its other calls, change its agents as its notes do.
-use Rattle.std.proofs.Common.{arith, ◌≡◌, ◌∙◌, refl, sym, ap, ℕ, zero, suc, ◌+◌, ◌<◌, nat_eq, Bool, true, false, cond, List, [], length, map, Option, Some, None, Result, Ok, Err}
+use Rattle.std.proofs.Common.{arith, ◌≡◌, ◌∙◌, refl, sym, ap, subst, ℕ, zero, suc, ◌+◌, ◌<◌, nat_eq, Bool, true, false, cond, List, [], length, map, Option, Some, None, Result, Ok, Err}
 use Rattle.std.specs.Prelude.{slice_index_or, slice_set}
 use Rattle.std.proofs.lemmas.Bool.Decides.{nat_tests}
 use Rattle.std.proofs.lemmas.List.{get_or-map, length-map}
@@ -40,21 +40,21 @@ use Rattle.target_laws.proofs.Following.{IsServed}
 use Rattle.target_terms.proofs.Calm.{AreQuiet, Calm, From, accesses_by, answers, cuts_all}
 use Rattle.target_terms.specs.Offices.{Office}
 use Rattle.agent_terms.specs.Calls.{AreOf, accessed, demanded, seen}
-use Rattle.agent_terms.specs.Crews.{agent_in, crew_sides}
+use Rattle.agent_terms.specs.Crews.{Request, agent_in, crew_sides}
 use Rattle.agent_terms.proofs.Calls.{AllSettled, Behind, IsUnmoved, all_terms_cut, cut_all_settled, idle_behind, one_term_cut, same_desks, settled_of, turned_behind, unmoved_settled}
-use Rattle.agent_terms.proofs.Cuts.{AreCut, all_cut, place_cut}
+use Rattle.agent_terms.proofs.Cuts.{AreCut, IsKept, all_cut, kept_self, place_cut}
 use Rattle.agent_terms.proofs.Lists.{AreNoEntries, crew_more, entries_more, quiet_entries}
 use Rattle.agent_terms.proofs.Registers.{points, rings_turn}
 
 -- ---- a register of an agent
-module _ (node : NodeState) (g : Good node) (agents : List Agent) (is : AreOf agents node) (o : Office) (layer : Layer Purpose) (from : From g.lives layer) (p : Packet) (bytes : List ℕ) where
+module _ {requests : List Request} (node : NodeState) (g : Good node) (agents : List Agent) (is : AreOf requests agents node) (o : Office) (layer : Layer Purpose) (from : From g.lives layer) (p : Packet) (bytes : List ℕ) where
   abbrev over_layer : NodeState
   over_layer = record node { layer = layer }
 
   abbrev begun : Scene
   begun = scene over_layer empty_outbox
 
-  own : AllSettled agents node
+  own : AllSettled requests agents node
   own = settled_of agents node g is
 
   calm : Calm g.lives node begun
@@ -63,7 +63,7 @@ module _ (node : NodeState) (g : Good node) (agents : List Agent) (is : AreOf ag
   quiet_access : (access : Access) (place : ℕ) → AreQuiet (accessed_by access place p bytes begun).outbox.sides
   quiet_access access place = (accesses_by g.lives node access place p bytes begun calm).quiet
 
-  unmoved_behind : (s : Scene) → s.node.desks ≡ node.desks → AreNoEntries s.outbox.sides → Behind o agents s
+  unmoved_behind : (s : Scene) → s.node.desks ≡ node.desks → AreNoEntries s.outbox.sides → Behind requests o agents s
   unmoved_behind s e none = idle_behind o agents s none (unmoved_settled agents node s.node (same_desks node s.node e) own)
 
   enabled_unmoved : (place : ℕ) → place < 8 → IsUnmoved node (enabled place begun).node
@@ -73,8 +73,13 @@ module _ (node : NodeState) (g : Good node) (agents : List Agent) (is : AreOf ag
       record {
         agent = λ k l. ap (λ (x : Desk). x.agent) (at k) ∙ agent_by (nat_eq k place) k refl;
         pointer = λ k l. ap (λ (x : Desk). x.pointer) (at k) ∙ pointer_by (nat_eq k place) k refl;
+        kept = λ k l. subst (λ (x : Desk). IsKept (desk_at node k) x) (sym (at k)) (kept_by (nat_eq k place) k refl);
       }
     where
+      kept_by : (x : Bool) (k : ℕ) → nat_eq k place ≡ x → IsKept (desk_at node k) (cond x (record (desk_at node place) { is_enabled = true }) (desk_at node k))
+      kept_by true k f = let same : k ≡ place = grind (arith, nat_tests) in subst (λ (i : ℕ). IsKept (desk_at node i) (record (desk_at node place) { is_enabled = true })) (sym same) (record { main = refl; ahead = refl })
+      kept_by false k f = kept_self (desk_at node k)
+
       agent_by : (x : Bool) (k : ℕ) → nat_eq k place ≡ x → (cond x (record (desk_at node place) { is_enabled = true }) (desk_at node k)).agent ≡ (desk_at node k).agent
       agent_by true k f = let same : k ≡ place = grind (arith, nat_tests) in ap (λ (i : ℕ). (desk_at node i).agent) (sym same)
       agent_by false k f = refl
@@ -83,16 +88,16 @@ module _ (node : NodeState) (g : Good node) (agents : List Agent) (is : AreOf ag
       pointer_by true k f = let same : k ≡ place = grind (arith, nat_tests) in ap (λ (i : ℕ). (desk_at node i).pointer) (sym same)
       pointer_by false k f = refl
 
-  reset_behind : (place : ℕ) → place < 8 → Behind o (slice_set agents place (cut_agent (agent_in agents place))) (answered p bytes 0 [] (cut cuts.AgentReset place begun))
+  reset_behind : (place : ℕ) → place < 8 → Behind requests o (slice_set agents place (cut_agent (agent_in agents place))) (answered p bytes 0 [] (cut cuts.AgentReset place begun))
   reset_behind place b =
       let c = place_cut cuts.AgentReset place begun b g.mid.size in
       let s = answered p bytes 0 [] (cut cuts.AgentReset place begun) in
-      let later : AreCut (λ k. nat_eq k place) over_layer s.node = record { size = c.size; logins = c.logins; agent = c.agent; pointer = c.pointer } in
+      let later : AreCut (λ k. nat_eq k place) over_layer s.node = record { size = c.size; logins = c.logins; agent = c.agent; pointer = c.pointer; kept = c.kept } in
       idle_behind o (slice_set agents place (cut_agent (agent_in agents place))) s (quiet_entries s.outbox.sides (quiet_access accesses.Reset place))
       (cut_all_settled (λ k. nat_eq k place) agents (slice_set agents place (cut_agent (agent_in agents place))) over_layer s.node later (one_term_cut agents place is.size b)
       (unmoved_settled agents node over_layer (same_desks node over_layer refl) own))
 
-  access_behind : (access : Access) (place : ℕ) → place < 8 → IsServed node place → Behind o (accessed access place agents) (accessed_by access place p bytes begun)
+  access_behind : (access : Access) (place : ℕ) → place < 8 → IsServed node place → Behind requests o (accessed access place agents) (accessed_by access place p bytes begun)
   access_behind accesses.State place b i = unmoved_behind (accessed_by accesses.State place p bytes begun) refl (quiet_entries _ (quiet_access accesses.State place))
   access_behind accesses.Reset place b i = reset_behind place b
   access_behind (accesses.Point pointer) place b i =
@@ -103,7 +108,7 @@ module _ (node : NodeState) (g : Good node) (agents : List Agent) (is : AreOf ag
   access_behind accesses.Enable place b i =
       let s = accessed_by accesses.Enable place p bytes begun in
       let u = enabled_unmoved place b in
-      idle_behind o agents s (quiet_entries _ (quiet_access accesses.Enable place)) (unmoved_settled agents node s.node (record { agent = u.agent; pointer = u.pointer }) own)
+      idle_behind o agents s (quiet_entries _ (quiet_access accesses.Enable place)) (unmoved_settled agents node s.node (record { agent = u.agent; pointer = u.pointer; kept = u.kept }) own)
 
 -- ---- what the management operation asks for leaves the agents alone
 pub record Keeps (before s : Scene) : Type 0 where
@@ -153,15 +158,15 @@ unfolding start
 start_keeps orb request bytes s = started_keeps (header_in request).source request bytes (management.start_step s.node.manager (header_in request).source orb) s
 
 -- ---- what is asked of the target
-module _ (node : NodeState) (g : Good node) (agents : List Agent) (is : AreOf agents node) (o : Office) (layer : Layer Purpose) (from : From g.lives layer) (p : Packet) (bytes : List ℕ) where
+module _ {requests : List Request} (node : NodeState) (g : Good node) (agents : List Agent) (is : AreOf requests agents node) (o : Office) (layer : Layer Purpose) (from : From g.lives layer) (p : Packet) (bytes : List ℕ) where
   answered_quiet : (rcode : ℕ) (given : List ℕ) → AreNoEntries (answered p bytes rcode given (scene (record node { layer = layer }) empty_outbox)).outbox.sides
   answered_quiet rcode given =
       quiet_entries _ (answers g.lives node p bytes rcode given (scene (record node { layer = layer }) empty_outbox) (calm node g agents is o layer from p bytes)).quiet
 
-  pub answer_behind : (rcode : ℕ) (given : List ℕ) → Behind o agents (answered p bytes rcode given (scene (record node { layer = layer }) empty_outbox))
+  pub answer_behind : (rcode : ℕ) (given : List ℕ) → Behind requests o agents (answered p bytes rcode given (scene (record node { layer = layer }) empty_outbox))
   answer_behind rcode given = unmoved_behind node g agents is o layer from p bytes (answered p bytes rcode given (scene (record node { layer = layer }) empty_outbox)) refl (answered_quiet rcode given)
 
-  pub demand_behind : (demand : Demand) → ((place : ℕ) (access : Access) → demand ≡ demands.Agent place access → (place < 8) × IsServed node place) → Behind o (demanded demand agents) (served_as demand p bytes (scene (record node { layer = layer }) empty_outbox))
+  pub demand_behind : (demand : Demand) → ((place : ℕ) (access : Access) → demand ≡ demands.Agent place access → (place < 8) × IsServed node place) → Behind requests o (demanded demand agents) (served_as demand p bytes (scene (record node { layer = layer }) empty_outbox))
   demand_behind (demands.Refused rcode) r = answer_behind rcode []
   demand_behind (demands.Rom at len) r = answer_behind 0 _
   demand_behind (demands.Manage orb) r =
@@ -192,11 +197,11 @@ expired_entries (suc left) at logins o h =
 disabled_at : (desks : List Desk) (p : ℕ) → p < length desks → slice_index_or (map disabled desks) p new_desk ≡ disabled (slice_index_or desks p new_desk)
 disabled_at desks p b = get_or-map disabled desks p new_desk new_desk b
 
-module _ (node : NodeState) (g : Good node) (agents : List Agent) (is : AreOf agents node) (o : Office) where
-  still_behind : (s : Scene) → s.node.desks ≡ node.desks → AreNoEntries s.outbox.sides → Behind o agents s
+module _ {requests : List Request} (node : NodeState) (g : Good node) (agents : List Agent) (is : AreOf requests agents node) (o : Office) where
+  still_behind : (s : Scene) → s.node.desks ≡ node.desks → AreNoEntries s.outbox.sides → Behind requests o agents s
   still_behind s e none = idle_behind o agents s none (unmoved_settled agents node s.node (same_desks node s.node e) (settled_of agents node g is))
 
-  sight_by : (r : Bool × Layer Purpose) → From g.lives r.1 → Behind o (seen r.0 agents) (reset_by r (scene node empty_outbox)).1
+  sight_by : (r : Bool × Layer Purpose) → From g.lives r.1 → Behind requests o (seen r.0 agents) (reset_by r (scene node empty_outbox)).1
   sight_by (false, layer) f = still_behind (reset_by (false, layer) (scene node empty_outbox)).1 refl tt
   sight_by (true, layer) f =
       let begun = scene (cleared_node layer node) empty_outbox in
@@ -206,18 +211,18 @@ module _ (node : NodeState) (g : Good node) (agents : List Agent) (is : AreOf ag
       let s = (reset_by (true, layer) (scene node empty_outbox)).1 in
       let size : length s.node.desks ≡ 8 = length-map t.node.desks disabled ∙ c.size in
       let at : (k : ℕ) → k < 8 → desk_at s.node k ≡ disabled (desk_at t.node k) = λ k l. disabled_at t.node.desks k (let z = c.size in omega arith) in
-      let later : AllSettled (map cut_agent agents) t.node = cut_all_settled (λ k. true) agents (map cut_agent agents) (cleared_node layer node) t.node (record { size = c.size; logins = c.logins; agent = c.agent; pointer = c.pointer }) (all_terms_cut agents is.size)
+      let later : AllSettled requests (map cut_agent agents) t.node = cut_all_settled (λ k. true) agents (map cut_agent agents) (cleared_node layer node) t.node (record { size = c.size; logins = c.logins; agent = c.agent; pointer = c.pointer; kept = c.kept }) (all_terms_cut agents is.size)
       (unmoved_settled agents node (cleared_node layer node) (same_desks node (cleared_node layer node) refl) (settled_of agents node g is)) in
       idle_behind o (map cut_agent agents) s (held_entries 8 0 t.node.logins.places t.outbox (quiet_entries _ (cuts_all g.lives (cleared_node layer node) cuts.Reset None begun begun_calm).quiet))
-      (unmoved_settled (map cut_agent agents) t.node s.node (record { agent = λ k l. ap (λ (d : Desk). d.agent) (at k l); pointer = λ k l. ap (λ (d : Desk). d.pointer) (at k l) }) later)
+      (unmoved_settled (map cut_agent agents) t.node s.node (record { agent = λ k l. ap (λ (d : Desk). d.agent) (at k l); pointer = λ k l. ap (λ (d : Desk). d.pointer) (at k l); kept = λ k l. subst (λ (d : Desk). IsKept (desk_at t.node k) d) (sym (at k l)) (record { main = refl; ahead = refl }) }) later)
 
-  pub sight_behind : (generation id : ℕ) → From g.lives (seeing_step node.layer generation id).1 → Behind o (seen (seeing_step node.layer generation id).0 agents) (target_seen generation id (scene node empty_outbox)).1
+  pub sight_behind : (generation id : ℕ) → From g.lives (seeing_step node.layer generation id).1 → Behind requests o (seen (seeing_step node.layer generation id).0 agents) (target_seen generation id (scene node empty_outbox)).1
   unfolding target_seen
   sight_behind generation id f = sight_by (seeing_step node.layer generation id) f
 
-  pub second_behind : Behind o agents (target_ticked (scene node empty_outbox))
+  pub second_behind : Behind requests o agents (target_ticked (scene node empty_outbox))
   unfolding target_ticked
   second_behind = still_behind (target_ticked (scene node empty_outbox)) refl (expired_entries (length (expired_ids node.logins.places)) 0 (expired_ids node.logins.places) empty_outbox tt)
 
-  pub call_behind : (s : Scene) → s.node.desks ≡ node.desks → AreNoEntries s.outbox.sides → Behind o agents s
+  pub call_behind : (s : Scene) → s.node.desks ≡ node.desks → AreNoEntries s.outbox.sides → Behind requests o agents s
   call_behind s e none = still_behind s e none

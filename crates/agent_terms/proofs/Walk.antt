@@ -28,11 +28,12 @@ use Rattle.sbp_target.specs.declared.purpose.Purpose.{Purpose}
 use Rattle.sbp_target.specs.declared.purpose.Purpose.TheVariants as purposes
 use Rattle.sbp_target.specs.Agents.{agent_body, ask_main, dropped_by, main_asked, main_sent, noted, promoted_by, without_ahead}
 use Rattle.sbp_target.specs.Desks.{new_desk}
-use Rattle.sbp_target.specs.Nodes.{NodeState, Scene, desk_at}
+use Rattle.sbp_target.specs.Nodes.{NodeState, Scene, desk_at, with_desk}
 use Rattle.sbp_target.specs.Sending.{request_step, sent_by, with_packet, with_side}
 use Rattle.sbp_target.specs.Telling.{orb_of, tell_dead, tell_ended, tell_ran, tell_step}
 use Rattle.target_laws.proofs.Stepped.{Carries, is_asked}
-use Rattle.agent_terms.specs.Crews.{by_packet, by_packets, by_side, by_sides}
+use Rattle.agent_terms.specs.Crews.{AreOne, Request, by_packet, by_packets, by_side, by_sides, with_requests}
+use Rattle.agent_terms.proofs.Serials.{Paired, Turning, more_has, number_after, one_more, sent_within}
 use Rattle.agent_terms.proofs.Writes.{HasBody, asked_writes, has_body, no_body}
 use Rattle.target_terms.proofs.Requests.{writes_body}
 
@@ -55,6 +56,13 @@ pub record Holds (q : ℕ) (before : NodeState) (m : Machine) (node : NodeState)
   pub pointer : (p : ℕ) → (desk_at node p).pointer ≡ (desk_at before p).pointer
   pub enabled : (p : ℕ) → (desk_at node p).is_enabled ≡ (desk_at before p).is_enabled
   pub others : (p : ℕ) → p ≢ q → (desk_at node p).agent ≡ (desk_at before p).agent
+  pub kept : (p : ℕ) → p ≢ q → ((desk_at node p).main ≡ (desk_at before p).main) × ((desk_at node p).ahead ≡ (desk_at before p).ahead)
+
+-- the desk that is set
+pub desk_set : (q : ℕ) (node later : NodeState) (d : Desk) → q < 8 → length node.desks ≡ 8 → later.desks ≡ slice_set node.desks q d → desk_at later q ≡ d
+desk_set q node later d b size e =
+    let inside : q < length node.desks = omega arith in
+    ap (λ ds. slice_index_or ds q new_desk) e ∙ set_at node.desks q q d new_desk inside ∙ ap (λ (x : Bool). cond x d (desk_at node q)) (same_id q)
 
 pub holds_set : (q : ℕ) (before : NodeState) (m now : Machine) (node later : NodeState) (d : Desk) → q < 8 → Holds q before m node → later.desks ≡ slice_set node.desks q d → d.agent ≡ now → d.pointer ≡ (desk_at node q).pointer → d.is_enabled ≡ (desk_at node q).is_enabled → Holds q before now later
 holds_set q before m now node later d b h e a p n =
@@ -69,6 +77,7 @@ holds_set q before m now node later d b h e a p n =
       pointer = λ k. ap (λ (x : Desk). x.pointer) (at k) ∙ pointer_by (nat_eq k q) k refl ∙ h.pointer k;
       enabled = λ k. ap (λ (x : Desk). x.is_enabled) (at k) ∙ enabled_by (nat_eq k q) k refl ∙ h.enabled k;
       others = λ k f. ap (λ (x : Desk). x.agent) (off k f) ∙ h.others k f;
+      kept = λ k f. (ap (λ (x : Desk). x.main) (off k f) ∙ (h.kept k f).0, ap (λ (x : Desk). x.ahead) (off k f) ∙ (h.kept k f).1);
     }
   where
     place_is : (k : ℕ) → nat_eq k q ≡ true → k ≡ q
@@ -92,6 +101,7 @@ holds_still q before m node later h e =
       pointer = λ k. ap (λ (x : Desk). x.pointer) (at k) ∙ h.pointer k;
       enabled = λ k. ap (λ (x : Desk). x.is_enabled) (at k) ∙ h.enabled k;
       others = λ k f. ap (λ (x : Desk). x.agent) (at k) ∙ h.others k f;
+      kept = λ k f. (ap (λ (x : Desk). x.main) (at k) ∙ (h.kept k f).0, ap (λ (x : Desk). x.ahead) (at k) ∙ (h.kept k f).1);
     }
 
 -- ---- what was told and sent
@@ -99,9 +109,6 @@ holds_still q before m node later h e =
 pub sides_more : (told : List Side) (side : Side) (a : Agent) → by_sides (told ++ side ∷ []) a ≡ by_side side (by_sides told a)
 sides_more [] side a = refl
 sides_more (first ∷ told) side a = sides_more told side (by_side first a)
-
-abbrev pub number_after : (last : ℕ) → List Outgoing → ℕ
-number_after last packets = last + length packets + 1
 
 pub packets_more : (last : ℕ) (packets : List Outgoing) (packet : Outgoing) (a : Agent) → by_packets last (packets ++ packet ∷ []) a ≡ by_packet packet.label (is_write packet.bytes) (number_after last packets) (by_packets last packets a)
 packets_more last [] packet a = let same : last + 1 ≡ last + 0 + 1 = omega arith in ap (λ n. by_packet packet.label (is_write packet.bytes) n a) same
@@ -193,7 +200,7 @@ step_told first a place m step o t =
     let y = tell_dead place step.dead x in
     ended_told first (dead_on step.dead a) place m step.ended y (dead_told first a place step.dead x (ran_told first a place m step.ran o t))
 
-module _ (q : ℕ) (b : q < 8) (before : NodeState) (first : Agent) where
+module _ (requests : List Request) (q : ℕ) (b : q < 8) (before : NodeState) (first : Agent) where
   dropped : (m : Machine) (dead : Option FailCause) (node : NodeState) → Holds q before m node → Holds q before m (dropped_by dead q node)
   unfolding without_ahead
   dropped m None node h = h
@@ -207,6 +214,26 @@ module _ (q : ℕ) (b : q < 8) (before : NodeState) (first : Agent) where
   unfolding noted
   notes_hold m step s h = promotes m step.promoted (dropped_by step.dead q s.node) (dropped m step.dead s.node h)
 
+  -- a read ahead is dropped, or becomes the main transaction
+  drops : (a : Agent) (turned : Bool) (m : Machine) (dead : Option FailCause) (node : NodeState) → Holds q before m node → Turning requests turned (desk_at node q) a → Turning requests turned (desk_at (dropped_by dead q node) q) a
+  unfolding without_ahead
+  drops a turned m None node h p = p
+  drops a turned m (Some cause) node h p =
+      subst (λ (d : Desk). Turning requests turned d a) (sym (desk_set q node (without_ahead q node) (record (desk_at node q) { ahead = None }) b h.size refl)) (record { main = by turned p.main; ahead = tt })
+    where
+      by : (x : Bool) → AreOne requests (cond x (desk_at node q).ahead (desk_at node q).main) a.main → AreOne requests (cond x None (desk_at node q).main) a.main
+      by true w = tt
+      by false w = w
+
+  turns : (a : Agent) (turned : Bool) (m : Machine) (node : NodeState) → Holds q before m node → Turning requests turned (desk_at node q) a → Paired requests (desk_at (promoted_by turned q node) q) a
+  turns a false m node h p = record { main = p.main; ahead = p.ahead }
+  turns a true m node h p =
+      subst (λ (d : Desk). Paired requests d a) (sym (desk_set q node (promoted_by true q node) (record (desk_at node q) { main = (desk_at node q).ahead; ahead = None }) b h.size refl)) (record { main = p.main; ahead = tt })
+
+  pub notes_pair : (a : Agent) (m : Machine) (step : AgentStep) (s : Scene) → Holds q before m s.node → Turning requests step.promoted (desk_at s.node q) a → Paired requests (desk_at (noted q step s).node q) a
+  unfolding noted
+  notes_pair a m step s h p = turns a step.promoted m (dropped_by step.dead q s.node) (dropped m step.dead s.node h) (drops a step.promoted m step.dead s.node h p)
+
   pub notes_told : (a : Agent) (step : AgentStep) (s : Scene) → Told first a s.outbox → Told first (dead_on step.dead a) (noted q step s).outbox
   unfolding noted
   notes_told a step s t = step_told first a q (desk_at s.node q).agent step s.outbox t
@@ -217,6 +244,7 @@ module _ (q : ℕ) (b : q < 8) (before : NodeState) (first : Agent) where
     pub serial : ℕ → ℕ
     pub out : Out first (λ last. record a { main = Some (serial last); asks = Nothing }) s.outbox
     pub holds : Holds q before m s.node
+    pub paired : (last : ℕ) → Paired (with_requests last s.outbox.packets requests) (desk_at s.node q) (record a { main = Some (serial last); asks = Nothing })
 
   pub record Stuck (m : Machine) (a : Agent) (s : Scene) : Type 0 where
     pub told : Told first a s.outbox
@@ -231,31 +259,39 @@ module _ (q : ℕ) (b : q < 8) (before : NodeState) (first : Agent) where
       ap (λ y. sends_of y serial a) e
       ∙ ap (λ (y : Bool). cond y (record a { main = Some serial; asks = Nothing }) (cond (wants a.asks_ahead w) (record a { ahead = Some serial; asks_ahead = Nothing }) a)) f
 
-  main_by : (m : Machine) (a : Agent) (login : Login) (body : Body) (s : Scene) (r : Option Asked × Layer Purpose) → asking_step s.node.layer login.node body (purposes.Agent q) ≡ r → wants a.asks (writes_body body) ≡ true → Told first a s.outbox → Holds q before m s.node → Left m a (main_sent q login.node s.node (sent_by r s.outbox login.node))
-  main_by m a login body s (None, layer) e w t h = record { told = t; holds = holds_still q before m s.node (record s.node { layer = layer }) h refl }
-  main_by m a login body s (Some asked, layer) e w t h =
+  main_by : (m : Machine) (a : Agent) (login : Login) (body : Body) (s : Scene) (r : Option Asked × Layer Purpose) → asking_step s.node.layer login.node body (purposes.Agent q) ≡ r → wants a.asks (writes_body body) ≡ true → Told first a s.outbox → Holds q before m s.node → Paired requests (desk_at s.node q) a → Left m a (main_sent q login.node s.node (sent_by r s.outbox login.node))
+  main_by m a login body s (None, layer) e w t h p = record { told = t; holds = holds_still q before m s.node (record s.node { layer = layer }) h refl }
+  main_by m a login body s (Some asked, layer) e w t h p =
       let packet : Outgoing = record { to = login.node; label = Some asked.label; bytes = asked.bytes } in
       let serial : ℕ → ℕ = λ last. number_after last s.outbox.packets in
       let writes = asked_writes s.node.layer layer login.node body (purposes.Agent q) asked e in
+      let d : Desk = record (desk_at s.node q) { main = Some (record { peer = login.node; label = asked.label }) } in
+      let later = with_desk (record s.node { layer = layer }) q d in
       record {
         serial = serial;
         out = out_as first _ (λ last. record a { main = Some (serial last); asks = Nothing }) (with_packet s.outbox packet) (λ last. sends_main a (serial last) (writes_body body) (is_write asked.bytes) writes w) (out_more first (λ last. a) s.outbox packet (told_out first a s.outbox t));
-        holds = holds_set q before m m s.node _ (record (desk_at s.node q) { main = Some (record { peer = login.node; label = asked.label }) }) b h refl h.agent refl refl;
+        holds = holds_set q before m m s.node later d b h refl h.agent refl refl;
+        paired = λ last.
+            let now = with_requests last (with_packet s.outbox packet).packets requests in
+            subst (λ (x : Desk). Paired now x (record a { main = Some (serial last); asks = Nothing })) (sym (desk_set q s.node later d b h.size refl)) (record {
+              main = more_has last s.outbox.packets login.node asked.label asked.bytes requests;
+              ahead = one_more requests now (sent_within last s.outbox.packets packet requests) (desk_at s.node q).ahead a.ahead p.ahead;
+            });
       }
 
-  main_in : (m : Machine) (a : Agent) (login : Login) (ask : Ask) (body : Option Body) (s : Scene) → HasBody ask body → a.asks ≡ ask → Told first a s.outbox → Holds q before m s.node → Left m a (main_asked body q login s)
+  main_in : (m : Machine) (a : Agent) (login : Login) (ask : Ask) (body : Option Body) (s : Scene) → HasBody ask body → a.asks ≡ ask → Told first a s.outbox → Holds q before m s.node → Paired requests (desk_at s.node q) a → Left m a (main_asked body q login s)
   unfolding request_step
-  main_in m a login ask None s hb e t h = absurd (let no : None ≡ Some hb.body = hb.is in cc)
-  main_in m a login ask (Some body) s hb e t h =
+  main_in m a login ask None s hb e t h p = absurd (let no : None ≡ Some hb.body = hb.is in cc)
+  main_in m a login ask (Some body) s hb e t h p =
       let same : body ≡ hb.body = let f : Some body ≡ Some hb.body = hb.is in cc in
-      main_by m a login body s (asking_step s.node.layer login.node body (purposes.Agent q)) refl (ap (λ x. wants x (writes_body body)) e ∙ ap (λ x. wants ask (writes_body x)) same ∙ hb.wanted) t h
+      main_by m a login body s (asking_step s.node.layer login.node body (purposes.Agent q)) refl (ap (λ x. wants x (writes_body body)) e ∙ ap (λ x. wants ask (writes_body x)) same ∙ hb.wanted) t h p
 
-  pub main_leaves : (m : Machine) (a : Agent) (login : Login) (step : AgentStep) (s : Scene) → is_asked step.ask ≡ true → Carries step.ask m.outgoing → a.asks ≡ step.ask → Told first a s.outbox → Holds q before m s.node → Left m a (ask_main q login step s)
+  pub main_leaves : (m : Machine) (a : Agent) (login : Login) (step : AgentStep) (s : Scene) → is_asked step.ask ≡ true → Carries step.ask m.outgoing → a.asks ≡ step.ask → Told first a s.outbox → Holds q before m s.node → Paired requests (desk_at s.node q) a → Left m a (ask_main q login step s)
   unfolding ask_main
-  main_leaves m a login step s x c e t h =
+  main_leaves m a login step s x c e t h p =
       let outgoing = (desk_at s.node q).agent.outgoing in
       let carried = subst (λ (n : Machine). Carries step.ask n.outgoing) (sym h.agent) c in
-      main_in m a login step.ask (agent_body step.ask (is_some step.ended) login.fifo outgoing) s (has_body step.ask (is_some step.ended) login.fifo outgoing carried x) e t h
+      main_in m a login step.ask (agent_body step.ask (is_some step.ended) login.fifo outgoing) s (has_body step.ask (is_some step.ended) login.fifo outgoing carried x) e t h p
 
   none_asked : (login : Login) (body : Option Body) (s : Scene) → body ≡ None → main_asked body q login s ≡ (true, s)
   none_asked login None s e = refl

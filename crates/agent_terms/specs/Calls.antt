@@ -1,5 +1,6 @@
 -- Each call of a target changes its agents as its notes do: the agents of the terms that are a node's before a call are that node's after it, once the
--- first note of the turn, the sides that the call told and the packets that it gave were taken in, and the turn is over.
+-- first note of the turn, the sides that the call told and the packets that it gave were taken in, and the turn is over. What an agent waits for then is,
+-- by its serial, the request that the node sent for it: one of before, or one that left in this call, under the label that the desk keeps.
 use Rattle.std.specs.Prelude.{◌≡◌, ℕ, ◌<◌, Bool, true, false, List, [], length, map, slice_set, Option, Some, None, Result, Ok}
 use Rattle.async_packet.specs.Labels.{LabelParts}
 use Rattle.async_packet.specs.Packet.{Packet, header_in}
@@ -32,12 +33,12 @@ use Rattle.sbp_target.specs.Calls.{Call, after, alone, lets_expire, sees, sets_k
 use Rattle.target_terms.specs.Offices.{Office}
 use Rattle.target_terms.specs.Offices as office
 use Rattle.target_terms.specs.Calls as management
-use Rattle.agent_terms.specs.Crews.{IsOf, ToldAlike, agent_in, answered, crew_over, crew_packets, crew_sides, pointed}
+use Rattle.agent_terms.specs.Crews.{IsOf, Request, ToldAlike, agent_in, answered, crew_over, crew_packets, crew_sides, pointed, with_requests}
 
--- the agents are those of a node
-pub record AreOf (agents : List Agent) (node : NodeState) : Type 0 where
+-- the agents are those of a node that has sent these requests
+pub record AreOf (requests : List Request) (agents : List Agent) (node : NodeState) : Type 0 where
   pub size : length agents ≡ 8
-  pub each : (place : ℕ) → place < 8 → IsOf (agent_in agents place) (desk_at node place)
+  pub each : (place : ℕ) → place < 8 → IsOf requests (agent_in agents place) (desk_at node place)
 
 -- ---- what the first note of a turn does
 
@@ -96,17 +97,18 @@ seen true agents = map cut_agent agents
 seen false agents = agents
 
 -- the agents that were of a node are of the node of a scene, behind what was told and sent
-abbrev pub Follow : Office → List Agent → Scene → Type 0
-Follow o agents s = (last : ℕ) → AreOf (crew_over (crew_packets last s.outbox.packets (crew_sides s.outbox.sides o agents))) s.node
+abbrev pub Follow : List Request → Office → List Agent → Scene → Type 0
+Follow requests o agents s =
+    (last : ℕ) → AreOf (with_requests last s.outbox.packets requests) (crew_over (crew_packets last s.outbox.packets (crew_sides s.outbox.sides o agents))) s.node
 
 -- ---- after every list of calls of a target that has a unit
-pub record AgentsKeep (node : NodeState) (o : Office) (agents : List Agent) : Type 0 where
-  pub deliveries : (term_told told : Option Told) (untold : Bool) (disks : List Disk) (generation : ℕ) (bytes before now : List ℕ) → ToldAlike untold term_told told → (let found = judging_step node.layer generation bytes in TellsIn told found.0 (with_layer found.1 (whole (scene node empty_outbox) disks)) before now → (let w = (received told generation bytes (whole (scene node empty_outbox) disks)).1 in Follow (management.delivered found.0 node o) (delivered term_told untold found.0 node disks o agents) (scene w.node w.outbox)))
-  pub expiries : (peer : ℕ) (label : LabelParts) → (let r = (expiring_step node.layer peer label).0 in Follow (management.lapsed r o) (lapsed r peer label node o agents) (alone (lets_expire peer label) node))
-  pub sights : (generation id : ℕ) → (let later = (seeing_step node.layer generation id).0 in Follow (management.seen later o) (seen later agents) (alone (sees generation id) node))
-  pub seconds : Follow (office.ticked o) agents (alone ticks node)
-  pub keys : (unit : ℕ) (key : List ℕ) → Follow (office.with_key unit key o) agents (alone (sets_key unit key) node)
+pub record AgentsKeep (node : NodeState) (requests : List Request) (o : Office) (agents : List Agent) : Type 0 where
+  pub deliveries : (term_told told : Option Told) (untold : Bool) (disks : List Disk) (generation : ℕ) (bytes before now : List ℕ) → ToldAlike untold term_told told → (let found = judging_step node.layer generation bytes in TellsIn told found.0 (with_layer found.1 (whole (scene node empty_outbox) disks)) before now → (let w = (received told generation bytes (whole (scene node empty_outbox) disks)).1 in Follow requests (management.delivered found.0 node o) (delivered term_told untold found.0 node disks o agents) (scene w.node w.outbox)))
+  pub expiries : (peer : ℕ) (label : LabelParts) → (let r = (expiring_step node.layer peer label).0 in Follow requests (management.lapsed r o) (lapsed r peer label node o agents) (alone (lets_expire peer label) node))
+  pub sights : (generation id : ℕ) → (let later = (seeing_step node.layer generation id).0 in Follow requests (management.seen later o) (seen later agents) (alone (sees generation id) node))
+  pub seconds : Follow requests (office.ticked o) agents (alone ticks node)
+  pub keys : (unit : ℕ) (key : List ℕ) → Follow requests (office.with_key unit key o) agents (alone (sets_key unit key) node)
 
 abbrev pub AgentsLaw : Type 0
 AgentsLaw =
-    (units ready : ℕ) (calls : List Call) (o : Office) (agents : List Agent) → 0 < units → office.Agrees o (after units ready calls) → AreOf agents (after units ready calls) → AgentsKeep (after units ready calls) o agents
+    (units ready : ℕ) (calls : List Call) (requests : List Request) (o : Office) (agents : List Agent) → 0 < units → office.Agrees o (after units ready calls) → AreOf requests agents (after units ready calls) → AgentsKeep (after units ready calls) requests o agents

@@ -1,6 +1,6 @@
 -- What a turn makes of the agents of the terms (NCITS 325-1998, command block agents): what is told beside its packets, and then its packets, one
 -- after the other; then it is over.
-use Rattle.std.specs.Prelude.{◌≡◌, ℕ, ◌+◌, Bool, if◌then◌else◌, List, [], ◌∷◌, map, position, is_none, is_some, slice_set, slice_index_or, Option, Some, None}
+use Rattle.std.specs.Prelude.{◌≡◌, ◌⊎◌, ℕ, ◌+◌, Bool, if◌then◌else◌, List, [], ◌∷◌, map, position, is_none, is_some, slice_set, slice_index_or, Option, Some, None}
 use Rattle.async_packet.specs.Labels.{LabelParts}
 use Rattle.label_table.specs.Requests.{is_write}
 use Rattle.orb_layout.specs.declared.ask.Ask.TheVariants.{Nothing}
@@ -20,6 +20,7 @@ use Rattle.sbp_journal.specs.declared.side.Side.{Side}
 use Rattle.sbp_journal.specs.declared.side.Side.TheVariants as sides
 use Rattle.sbp_laws.specs.Targets.{Agent, Decided, agent_over, closed, main_lost, moved, new_agent, pointed_by, sends_of, wants_it}
 use Rattle.sbp_target.specs.declared.desk.Desk.{Desk}
+use Rattle.sbp_target.specs.declared.purpose.Sent.{Sent}
 use Rattle.target_terms.specs.Offices.{Office}
 use Rattle.target_terms.specs.Offices as office
 use Rattle.agent_terms.specs.Alike.{Alike, TellsAlike}
@@ -89,15 +90,42 @@ crew_packets last (packet ∷ later) agents = crew_packets (last + 1) later (cre
 abbrev pub crew_over : List Agent → List Agent
 crew_over agents = map agent_over agents
 
+-- ---- the requests that a target has sent, the latest one first
+
+-- to the node of an ID, under a label, with a serial
+pub record Request : Type 0 where
+  pub to : ℕ
+  pub label : LabelParts
+  pub serial : ℕ
+
+abbrev pub Has : List Request → Request → Type 0
+Has [] request = ⊥
+Has (latest ∷ before) request = (latest ≡ request) ⊎ Has before request
+
+abbrev pub with_request : (to : ℕ) → Option LabelParts → (serial : ℕ) → List Request → List Request
+with_request to None serial requests = requests
+with_request to (Some label) serial requests = record { to = to; label = label; serial = serial } ∷ requests
+
+abbrev pub with_requests : (last : ℕ) → List Outgoing → List Request → List Request
+with_requests last [] requests = requests
+with_requests last (packet ∷ later) requests = with_requests (last + 1) later (with_request packet.to packet.label (last + 1) requests)
+
+-- what a desk keeps of a transaction and what the terms have of it are of one of them
+abbrev pub AreOne : List Request → Option Sent → Option ℕ → Type 0
+AreOne requests (Some sent) (Some serial) = Has requests (record { to = sent.peer; label = sent.label; serial = serial })
+AreOne requests sent serial = Unit {0}
+
 -- ---- the agents are those of a node
 
 -- Nothing is asked for; the machine is the desk's but for what its phase reads no more; it has the desk's pointer, and a transaction under way
--- exactly where the desk has one.
-pub record IsOf (a : Agent) (desk : Desk) : Type 0 where
+-- exactly where the desk has one: the serial is that of the request that was sent for it.
+pub record IsOf (requests : List Request) (a : Agent) (desk : Desk) : Type 0 where
   pub machine : Alike a.untold a.machine desk.agent
   pub pointer : a.pointer ≡ desk.pointer
   pub main : is_some a.main ≡ is_some desk.main
   pub ahead : is_some a.ahead ≡ is_some desk.ahead
+  pub main_is : AreOne requests desk.main a.main
+  pub ahead_is : AreOne requests desk.ahead a.ahead
   pub asks : a.asks ≡ Nothing
   pub asks_ahead : a.asks_ahead ≡ Nothing
 

@@ -2,3 +2,10 @@ pub mod Alike
 pub mod Crews
 pub mod Calls
 pub mod Notes
+pub mod Demands
+pub mod Hands
+pub mod Asides
+pub mod Leaving
+pub mod Fresh
+pub mod Purposes
+pub mod Serials

@@ -1,7 +1,7 @@
 -- What the notes of a history make of the agents of its terms: a note behind the first of a turn, a request that the target sends, a reply that waits for
 -- the next note, and the end of a turn; a reply to the management operation, a reset that is seen, and the registers of an agent, which begin one. No reply
 -- waits between turns; and the terms of a new target are a new node's.
-use Rattle.std.specs.Prelude.{◌≡◌, ℕ, ◌<◌, Bool, true, List, length, map, position, Some, None}
+use Rattle.std.specs.Prelude.{◌≡◌, ℕ, ◌<◌, Bool, true, List, [], length, map, position, Some, None}
 use Rattle.orb_layout.specs.declared.ask.FailCause.TheVariants as causes
 use Rattle.orb_layout.specs.Pointers.{pointer_at}
 use Rattle.orb_layout.specs.Replies.{Answer}
@@ -38,7 +38,7 @@ by_note (notes.Managed i word subject status login) o agents = hired word login 
 by_note note o agents = agents
 
 pub record NotesLaw : Type 0 where
-  pub begins : (start : List Disk) (units ready : ℕ) → AreOf (new_target start).agents (new_node units ready)
+  pub begins : (start : List Disk) (units ready : ℕ) → AreOf [] (new_target start).agents (new_node units ready)
   pub behind : (note : Note) (past : List Moment) (wire : Terms) (t : Target) → t.reply ≡ None → IsBehind note → ((target_by note past wire t).agents ≡ by_note note (office_of t) t.agents) × ((target_by note past wire t).reply ≡ None)
   pub sent : (serial generation to : ℕ) (bytes : List ℕ) (label : ℕ) (kind : Kind) (past : List Moment) (wire : Terms) (t : Target) → t.reply ≡ None → part_of bytes ≡ request label kind → (let writes = is_write_access (access_in_bytes bytes) in (target_by (notes.Sent serial generation 0 to bytes) past wire t).agents ≡ sent_among (position (wants_it writes) t.agents) writes serial t.agents)
   pub replies : (note : Note) (t : Target) (reply : Reply) → t.reply ≡ Some reply → length t.agents ≡ 8 → reply.place < 8 → (let plain = plain_for t reply in (going_on note t).agents ≡ changed reply.place (λ a. answered (told_by note plain) (untold_by note plain a.untold) reply.place plain reply.which reply.answer a) t.agents)

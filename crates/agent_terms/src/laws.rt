@@ -1,7 +1,14 @@
 //! The terms of the agents and the target.
 ghost use Rattle.agent_terms.specs.Alike.{AlikeLaw};
+ghost use Rattle.agent_terms.specs.Asides.{AsidesLaw};
 ghost use Rattle.agent_terms.specs.Calls.{AgentsLaw};
+ghost use Rattle.agent_terms.specs.Demands.{DemandsLaw};
+ghost use Rattle.agent_terms.specs.Fresh.{LabelsBetweenLaw, LabelsLaw};
+ghost use Rattle.agent_terms.specs.Hands.{HandsLaw};
+ghost use Rattle.agent_terms.specs.Leaving.{LeavingBetweenLaw, LeavingLaw};
 ghost use Rattle.agent_terms.specs.Notes.{NotesLaw};
+ghost use Rattle.agent_terms.specs.Purposes.{BetweenLaw, PurposesLaw};
+ghost use Rattle.agent_terms.specs.Serials.{HandedBetweenLaw, HandedLaw};
 
 /// Two agents that differ in nothing that their phase reads any more answer each call alike, and stay so.
 #[tactic(auto, using(crate::proofs::Steps::alike_law))]
@@ -11,7 +18,8 @@ pub fn alike_agents_step_alike()
 
 /// Each call of a target changes its agents as its notes and packets tell: the first note of its turn,
 /// then what the call tells, then its packets, one after the other; and what was asked for and did not
-/// leave is lost when the turn is over.
+/// leave is lost when the turn is over. The serial of a transaction that an agent waits for is that of
+/// the request that left for it, under the label that the target keeps.
 pub fn calls_change_the_agents()
     ensures { AgentsLaw }
 {}
@@ -21,4 +29,79 @@ pub fn calls_change_the_agents()
 #[tactic(auto, using(crate::proofs::Notes::notes_law))]
 pub fn notes_change_the_agents()
     ensures { NotesLaw }
+{}
+
+/// A request that the target got makes of the agents and of the enabled registers of the terms what the
+/// target is asked for by its address.
+#[tactic(auto, using(crate::proofs::Demands::demands_law))]
+pub fn requests_ask_of_the_agents()
+    ensures { DemandsLaw }
+{}
+
+/// What the target hands out behind the first note of a turn changes the agents of the terms as what it
+/// tells and its packets do, in this order; a reply that waits takes its agent on before.
+#[tactic(auto, using(crate::proofs::Hands::hands_law))]
+pub fn hand_outs_change_the_agents()
+    ensures { HandsLaw }
+{}
+
+/// The notes of initiators and of the bus, and what other nodes send, get, see and wait for in vain leave
+/// the agents of the terms alone.
+#[tactic(auto, using(crate::proofs::Asides::asides_law))]
+pub fn other_notes_leave_the_agents()
+    ensures { AsidesLaw }
+{}
+
+/// After every line of every run of a machine with a unit, each transaction that an agent waits for has one request
+/// that waits on the wire, and each request of the target that waits there is for an agent, as its main transaction or
+/// its read ahead, for the management operation, as the terms have it, for an unsolicited status, or for nobody.
+#[tactic(auto, using(crate::proofs::Runs::purposes_law))]
+pub fn requests_have_purposes()
+    ensures { PurposesLaw }
+{}
+
+/// And behind each delivery of a line that may follow, as the packets in flight are delivered one after the other.
+#[tactic(auto, using(crate::proofs::Runs::between_law))]
+pub fn deliveries_keep_the_purposes()
+    ensures { BetweenLaw }
+{}
+
+/// After every line of every run where the agents of the terms are the target's, a response to a request that
+/// waits and its time-out are handed, by the terms, to the agent or to the operation that the target has the
+/// transaction under way for, or to nobody.
+#[tactic(auto, using(crate::proofs::Runs::handed_law))]
+pub fn serials_have_purposes()
+    ensures { HandedLaw }
+{}
+
+/// And behind each delivery of a line that may follow.
+#[tactic(auto, using(crate::proofs::Runs::handed_between_law))]
+pub fn deliveries_keep_what_serials_are_for()
+    ensures { HandedBetweenLaw }
+{}
+
+/// After every line of every run each packet that the target hands out leaves, whatever is delivered to it and
+/// whatever times out: it goes to a node of the bus, and is a request where it has a label.
+#[tactic(auto, using(crate::proofs::Runs::leaving_law))]
+pub fn packets_of_the_target_leave()
+    ensures { LeavingLaw }
+{}
+
+/// And behind each delivery of a line that may follow.
+#[tactic(auto, using(crate::proofs::Runs::leaving_between_law))]
+pub fn deliveries_keep_packets_leaving()
+    ensures { LeavingBetweenLaw }
+{}
+
+/// After every line of every run the requests that the target hands out have labels of their own, whatever is
+/// delivered to it and whatever times out: no two go to one node under one label, and none has the label of a
+/// transaction that an agent waits for.
+#[tactic(auto, using(crate::proofs::Runs::labels_law))]
+pub fn labels_of_requests_are_new()
+    ensures { LabelsLaw }
+{}
+
+/// And behind each delivery of a line that may follow.
+pub fn deliveries_keep_labels_new()
+    ensures { LabelsBetweenLaw }
 {}

@@ -1,6 +1,6 @@
 -- What a request of the operation is on the wire: a request under its label, that the terms take for the operation's.
 use Rattle.std.proofs.Common.{arith, ◌≡◌, ◌∙◌, refl, sym, ap, subst, ℕ, ◌^◌, ◌<◌, ◌==◌, nat_le, Bool, true, false, cond, List, [], length, Option, Some, None, Result, Ok}
-use Rattle.async_packet.specs.Canon.{canon}
+use Rattle.async_packet.specs.Canon.{IsValid, canon}
 use Rattle.async_packet.specs.Fields.{largest}
 use Rattle.async_packet.specs.Packet.{Packet}
 use Rattle.async_packet.specs.Reading.{reading}
@@ -94,17 +94,19 @@ body_writes node peer n (block_write offset payload) = refl
 body_writes node peer n (quadlet_read offset) = refl
 body_writes node peer n (block_read offset asked) = refl
 
-pub asks_as : (node peer : ℕ) (body : Body) (asked : Asked) → node < 2 ^ 16 → peer < 2 ^ 16 → FitsRequest body → IsLabelled (canon (request_with (header_to node peer 0) body)) asked → IsRequestFor asked.label.number body asked.bytes
-asks_as node peer body asked a b fits l =
+pub asks_valid : (node peer : ℕ) (body : Body) (asked : Asked) → IsValid (request_with (header_to node peer 0) body) → IsLabelled (canon (request_with (header_to node peer 0) body)) asked → IsRequestFor asked.label.number body asked.bytes
+asks_valid node peer body asked v l =
     let p : Packet = request_with (header_to node peer 0) body in
     let n = asked.label.number in
-    let v = request_fits node peer body a b fits in
     let spelled : asked.bytes ≡ canon (relabelled n p) = l.bytes_are ∙ writes_labels.canonical p n v l.small in
     let read : reading asked.bytes ≡ Ok (relabelled n p) = ap reading spelled ∙ reading_spelled (canon (relabelled n p)) (relabelled n p) (canon_spells (relabelled n p) (writes_labels.valid p n v l.small)) in
     record {
       part = part_read asked.bytes (relabelled n p) read ∙ body_part node peer n body;
       writes = ap (λ (r : Result Packet PacketFault). is_write_access (access_in (spelled_by r))) read ∙ body_writes node peer n body;
     }
+
+pub asks_as : (node peer : ℕ) (body : Body) (asked : Asked) → node < 2 ^ 16 → peer < 2 ^ 16 → FitsRequest body → IsLabelled (canon (request_with (header_to node peer 0) body)) asked → IsRequestFor asked.label.number body asked.bytes
+asks_as node peer body asked a b fits l = asks_valid node peer body asked (request_fits node peer body a b fits) l
 
 pub no_lock_for : (body : Body) → is_same_kind (kind_for body) locking ≡ false
 no_lock_for (quadlet_write offset value) = refl

@@ -20,10 +20,10 @@ use Rattle.target_terms.proofs.Holding.{Holding}
 use Rattle.target_terms.proofs.Lines.{all_heard, line_holds, opens}
 use Rattle.target_terms.proofs.Still.{hist}
 
-record HoldsAfter (line : ℕ) (run : Run) (entries : List Entry) (w : WorldState) : Type 0 where
-  past : List Moment
-  holds : Holding run.units (ready_logins run.initiators run.ready) run.start.disks past (length entries) w
-  is : hist past w ≡ moments_behind line run entries
+pub record HoldsAfter (line : ℕ) (run : Run) (entries : List Entry) (w : WorldState) : Type 0 where
+  pub past : List Moment
+  pub holds : Holding run.units (ready_logins run.initiators run.ready) run.start.disks past (length entries) w
+  pub is : hist past w ≡ moments_behind line run entries
 
 holds_first : (line : ℕ) (run : Run) → run.initiators ≤ 4 → run.units ≤ 4 → length run.start.disks ≡ run.units → HoldsAfter line run [] (beginning run).world
 unfolding new_world
@@ -33,7 +33,7 @@ holds_first line run few small size = record {
   is = refl;
 }
 
-holds_after : (line : ℕ) (run : Run) (entries : List Entry) → run.initiators ≤ 4 → 0 < run.units → run.units ≤ 4 → length run.start.disks ≡ run.units → length entries + 2 < 2 ^ 32 → AreEntries (beginning run) entries → AreLines run entries → HoldsAfter line run entries (after (beginning run) entries).world
+pub holds_after : (line : ℕ) (run : Run) (entries : List Entry) → run.initiators ≤ 4 → 0 < run.units → run.units ≤ 4 → length run.start.disks ≡ run.units → length entries + 2 < 2 ^ 32 → AreEntries (beginning run) entries → AreLines run entries → HoldsAfter line run entries (after (beginning run) entries).world
 holds_after line run [] few has small size short all fit = holds_first line run few small size
 holds_after line run (e ∷ before) few has small size short all fit =
     let b = holds_after line run before few has small size (omega arith) all.1 fit.1 in
@@ -52,7 +52,7 @@ terms_law line run few has small size short all fit =
     subst (λ ms. IsManagementAt run.start.disks ms (after (beginning run) run.entries).world.target) r.is r.holds.at
 
 -- ---- between two deliveries of a line
-not_reset : (event : Event) → DeliversMore event → is_reset event ≡ false
+pub not_reset : (event : Event) → DeliversMore event → is_reset event ≡ false
 not_reset (events.Step count) d = refl
 not_reset events.Settle d = refl
 not_reset (events.Begin initiators ready) d = absurd d
@@ -67,7 +67,7 @@ not_reset events.Tick d = absurd d
 not_reset (events.Inject initiator bytes) d = absurd d
 not_reset (events.Key unit key) d = absurd d
 
-no_repeats : (event : Event) (ms : List Moment) (next : ℕ) → DeliversMore event → (terms (asked next event ∷ ms)).repeats ≡ false
+pub no_repeats : (event : Event) (ms : List Moment) (next : ℕ) → DeliversMore event → (terms (asked next event ∷ ms)).repeats ≡ false
 no_repeats (events.Step count) ms next d = refl
 no_repeats events.Settle ms next d = refl
 no_repeats (events.Begin initiators ready) ms next d = absurd d
@@ -82,7 +82,7 @@ no_repeats events.Tick ms next d = absurd d
 no_repeats (events.Inject initiator bytes) ms next d = absurd d
 no_repeats (events.Key unit key) ms next d = absurd d
 
-are_told : (told : List (Option Told)) (s : Scene) → MayAll told (begun s) → AreTold told
+pub are_told : (told : List (Option Told)) (s : Scene) → MayAll told (begun s) → AreTold told
 unfolding MayHappen
 are_told told s m = happened_fits (events.Step (length told)) told s (record { few = omega arith; all = λ l. absurd (omega (arith, l)); may = m })
 
