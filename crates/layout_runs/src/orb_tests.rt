@@ -85,7 +85,7 @@ const QUERY_RESPONSE: [u8; 28] = [
     2,
 ];
 
-/// Whether a query response of two logins is written so.
+/// Whether a query response of two logins is written so, and they are counted in more bytes.
 fn has_query_response() -> bool {
     let logins = [
         QueryEntry {
@@ -100,7 +100,9 @@ fn has_query_response() -> bool {
         },
     ];
     let mut out = [0u8; 100];
-    QueryResponse::write_into(&logins, &mut out) == 28 && out[..28] == QUERY_RESPONSE[..]
+    QueryResponse::write_into(&logins, &mut out) == 28
+        && out[..28] == QUERY_RESPONSE[..]
+        && QueryResponse::count(&out) == Some(2)
 }
 
 /// Whether its logins are counted, of the whole and cut short, and lengths that are none are not.
