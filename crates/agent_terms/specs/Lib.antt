@@ -6,6 +6,7 @@ pub mod Demands
 pub mod Hands
 pub mod Asides
 pub mod Leaving
+pub mod Holders
 pub mod Fresh
 pub mod Purposes
 pub mod Serials
