@@ -1,14 +1,13 @@
 -- In each call of the target who has a place changes as its logins do.
-use Rattle.std.proofs.Common.{arith, ◌≡◌, ◌≢◌, ◌∙◌, refl, sym, ap, subst, ℕ, zero, suc, ◌+◌, nat_eq, nat_lt, is_some, Bool, true, false, cond, List, [], ◌∷◌, ◌++◌, length, map, Option, Some, None, Result, Ok, Err}
+use Rattle.std.proofs.Common.{◌≡◌, ◌∙◌, refl, sym, ap, subst, ℕ, zero, suc, ◌+◌, nat_eq, is_some, Bool, true, false, cond, List, [], length, map, Option, Some, None, Result, Ok, Err}
 use Rattle.std.specs.Prelude.{slice_index_or}
 use Rattle.std.proofs.Math.ListN.{get_or-map}
 use Rattle.async_packet.specs.Labels.{LabelParts}
 use Rattle.async_packet.specs.Packet.{Packet, header_in}
-use Rattle.label_table.specs.declared.reply.ReplyKind.{ReplyKind}
 use Rattle.label_table.specs.declared.reply.Stale.{Stale}
 use Rattle.label_table.specs.History as wire
 use Rattle.label_table.specs.History.{under_way}
-use Rattle.label_table.specs.Layer.{Finding, Layer, expiring_step, judging_step, of_again, of_generation, of_grammar, of_label, of_request, of_response, seeing_step}
+use Rattle.label_table.specs.Layer.{Finding, Layer, expiring_step, judging_step, of_again, of_generation, of_grammar, of_label, of_request, of_response}
 use Rattle.label_table.specs.Requests.{reply_kind}
 use Rattle.login_table.specs.declared.login.Login.{Login}
 use Rattle.login_table.specs.Table.{Table, held, is_live, place_at, tick_step}
@@ -23,7 +22,6 @@ use Rattle.sbp_journal.specs.declared.cause.CutCause.TheVariants as cuts
 use Rattle.sbp_journal.specs.declared.cause.Judged.{Judged}
 use Rattle.sbp_journal.specs.declared.cause.Judged.TheVariants as judgements
 use Rattle.sbp_journal.specs.declared.cause.Cause.TheVariants as ignored
-use Rattle.sbp_journal.specs.declared.side.Side.{Side}
 use Rattle.sbp_journal.specs.declared.side.Side.TheVariants as sides
 use Rattle.sbp_journal.specs.Outgoings.{OutboxState, empty_outbox}
 use Rattle.sbp_laws.specs.Targets.{at_id, second_gone}
@@ -32,11 +30,11 @@ use Rattle.target_base.specs.declared.address.Demand.TheVariants as demands
 use Rattle.target_base.specs.Addresses.{demand_of}
 use Rattle.sbp_target.specs.declared.purpose.Purpose.{Purpose}
 use Rattle.sbp_target.specs.declared.purpose.Purpose.TheVariants as purposes
-use Rattle.sbp_target.specs.Calls.{after, alone, lets_expire, sees, sets_key, ticks}
+use Rattle.sbp_target.specs.Calls.{alone, lets_expire, ticks}
 use Rattle.sbp_target.specs.Management.{manage, managed_in}
 use Rattle.sbp_target.specs.Nodes.{NodeState, Scene, scene}
-use Rattle.sbp_target.specs.Receiving.{answer_in, cleared_node, concluded, expire_agent, expired, expired_from, expired_in, held_from, judged_scene, received, received_as, reset_by, seen as target_seen, tell_held, ticked as target_ticked, timed_out, with_layer}
-use Rattle.sbp_target.specs.Replies.{Whole, replied_to, whole}
+use Rattle.sbp_target.specs.Receiving.{answer_in, cleared_node, concluded, expired, expired_from, expired_in, held_from, judged_scene, received, received_as, reset_by, tell_held, ticked as target_ticked, timed_out, with_layer}
+use Rattle.sbp_target.specs.Replies.{Whole, whole}
 use Rattle.sbp_target.specs.Sending.{with_side}
 use Rattle.sbp_target.specs.Serving.{answered, is_barred, request_step, serve, served_as, start, started_by as target_started}
 use Rattle.sbp_target.specs.Units.{cut_all}
@@ -46,9 +44,9 @@ use Rattle.target_laws.proofs.Calling.{Good}
 use Rattle.target_laws.proofs.Found.{IsFound, found}
 use Rattle.target_laws.proofs.Primitives.{Known, closing_known, expiring_known, live_on}
 use Rattle.target_laws.proofs.Seats.{Lives}
-use Rattle.target_terms.specs.Calls.{Follows, delivered, demanded, lapsed, requested}
-use Rattle.target_terms.specs.Offices.{Agrees, Office, by_side, by_sides, replied, started, started_by, ticked}
-use Rattle.target_terms.proofs.Calls.{barred_same, forgets_if}
+use Rattle.target_terms.specs.Calls.{delivered, demanded, lapsed, requested}
+use Rattle.target_terms.specs.Offices.{Agrees, Office, by_sides, replied, started, started_by, ticked}
+use Rattle.target_terms.proofs.Calls.{barred_same}
 use Rattle.target_terms.proofs.Calm.{Calm, From, accesses_by, answers, cuts_all, expires_agent, replies}
 use Rattle.target_terms.proofs.Managing.{quiet_says}
 use Rattle.target_terms.proofs.Places.{AreApart, sound_apart}

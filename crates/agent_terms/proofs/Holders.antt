@@ -1,5 +1,5 @@
 -- Who has a place of the target's logins, in every run.
-use Rattle.std.proofs.Common.{arith, ◌≡◌, ◌≢◌, ◌∙◌, refl, sym, ap, subst, ℕ, zero, suc, ◌+◌, ◌^◌, ◌<◌, ◌≤◌, ◌&&◌, nat_eq, Bool, true, false, cond, List, [], ◌∷◌, ◌++◌, length, map, replicate, Option, Some, None}
+use Rattle.std.proofs.Common.{arith, ◌≡◌, ◌≢◌, ◌∙◌, refl, sym, ap, subst, ℕ, zero, suc, ◌+◌, ◌^◌, ◌<◌, ◌≤◌, ◌&&◌, nat_eq, Bool, true, false, cond, List, [], ◌∷◌, ◌++◌, length, map, Option, Some, None}
 use Rattle.std.specs.Prelude.{unwrap_or}
 use Rattle.std.proofs.lemmas.Bool.Decides.{nat_tests}
 use Rattle.std.proofs.lemmas.List.{get_or-replicate}
@@ -9,10 +9,7 @@ use Rattle.login_table.specs.Table.{Table, find, is_live, is_of_node, place_at}
 use Rattle.login_table.proofs.Searching.{found as login_found, not_found}
 use Rattle.mgmt_agent.specs.declared.operation.Operation.{Operation}
 use Rattle.mgmt_agent.specs.Machine.{source_in}
-use Rattle.packet_store.specs.declared.sent.Sent.{Sent}
-use Rattle.packet_store.specs.Kept.{found_sent}
 use Rattle.rbc_disk.specs.Disk.{Disk}
-use Rattle.rbc_disk.specs.Runs.{Told}
 use Rattle.sbp_bus.specs.declared.generations.Topology.{Topology}
 use Rattle.sbp_bus.specs.declared.places.Holder.{Holder}
 use Rattle.sbp_bus.specs.Generations.{first_ids, first_topology, id_of, no_topology, topology_at}
@@ -20,14 +17,13 @@ use Rattle.sbp_bus.specs.Places.{holder_of, new_places, place_in}
 use Rattle.sbp_bus.proofs.Making.{ids_size}
 use Rattle.sbp_journal.specs.Run.{Moment, asked, said}
 use Rattle.sbp_journal.specs.Wire.{Terms, local_id, terms}
-use Rattle.sbp_journal.specs.declared.event.Event.{Event}
-use Rattle.sbp_laws.specs.Agents.{initiator_at, initiator_from, initiator_with, node_in}
+use Rattle.sbp_laws.specs.Agents.{initiator_from, initiator_with, node_in}
 use Rattle.sbp_laws.specs.Packets.{id_for}
 use Rattle.sbp_laws.specs.Targets.{Target, first_login, first_table, place_on, target_at}
 use Rattle.sbp_world.specs.FitTarget.{FitsOperation, Holds}
 use Rattle.sbp_world.specs.Making.{new_world, ready_logins}
 use Rattle.sbp_world.specs.Runs.{AreEntries, Entry, Run, after, beginning}
-use Rattle.sbp_world.specs.Settling.{MayAll, after_all}
+use Rattle.sbp_world.specs.Settling.{after_all}
 use Rattle.sbp_world.specs.Telling.{initiator_of}
 use Rattle.sbp_world.specs.Wire.Lines.{AreLines}
 use Rattle.sbp_world.specs.Wire.Wires.{Stands}
@@ -36,13 +32,11 @@ use Rattle.sbp_world.proofs.FitTarget.Law.{fitting_law}
 use Rattle.sbp_world.proofs.Wire.Found.{known_has}
 use Rattle.sbp_world.proofs.Wire.Starts.{first_id}
 use Rattle.sbp_world.proofs.Wire.ToldBytes.{happened_fits}
-use Rattle.target_laws.proofs.Calling.{Good}
-use Rattle.target_terms.proofs.Begins.{first_holds, first_past}
+use Rattle.target_terms.proofs.Begins.{first_holds}
 use Rattle.target_terms.proofs.Holding.{Holding, good_of, known_id, same_id}
 use Rattle.target_terms.proofs.Lines.{all_heard, opens}
 use Rattle.target_terms.proofs.Runs.{are_told, holds_after, no_repeats, not_reset}
 use Rattle.target_terms.proofs.Still.{hist}
-use Rattle.target_terms.specs.Offices.{Office, office_of}
 use Rattle.agent_terms.specs.Holders.{AreHeldAt, HoldersBetweenLaw, HoldersLaw, IsHeld, IsLiveOf, IsOf}
 use Rattle.agent_terms.proofs.Peers.{Peer, found_leaves, is_peer, peer_of}
 use Rattle.agent_terms.proofs.Placed.{Has, IsHolder, Placed}

@@ -32,4 +32,7 @@ pub mod Calling
 pub mod Seats
 pub mod Seating
 pub mod Holders
+pub mod Enabled
+pub mod Sparing
+pub mod Enabling
 pub mod Runs

@@ -1,5 +1,5 @@
 -- The logins of a table, and who has their places: what each change makes of both.
-use Rattle.std.proofs.Common.{arith, ◌≡◌, ◌≢◌, ◌∙◌, refl, sym, ap, subst, ℕ, ◌<◌, nat_eq, Bool, true, false, cond, List, [], ◌∷◌, length, map, set, get_or, get_or-set_other, Option, Some, None}
+use Rattle.std.proofs.Common.{arith, ◌≡◌, ◌≢◌, ◌∙◌, refl, sym, ap, subst, ℕ, ◌<◌, nat_eq, Bool, true, false, List, length, map, set, get_or, get_or-set_other, Option, Some, None}
 use Rattle.std.specs.Prelude.{is_none, position}
 use Rattle.std.proofs.Math.ListN.{get_or-map, length-set}
 use Rattle.std.proofs.lemmas.Bool.Decides.{nat_tests}

@@ -1,8 +1,7 @@
 -- After each line of a world, and behind each delivery of one, who has a place is known.
-use Rattle.std.proofs.Common.{arith, ◌≡◌, ◌∙◌, refl, sym, ap, subst, ℕ, zero, suc, ◌+◌, ◌-◌, ◌<◌, ◌≤◌, ◌||◌, not, nat_eq, nat_lt, Bool, true, false, cond, List, [], ◌∷◌, length, Option, Some, None}
+use Rattle.std.proofs.Common.{arith, ◌≡◌, ◌∙◌, refl, sym, ap, subst, ℕ, zero, suc, ◌+◌, ◌-◌, ◌<◌, ◌≤◌, nat_eq, nat_lt, Bool, true, false, cond, List, [], ◌∷◌, length, Option, Some, None}
 use Rattle.std.specs.Prelude.{if◌then◌else◌, slice_index_or, slice_set}
 use Rattle.std.proofs.lemmas.List.{get_or-set_other}
-use Rattle.bus_transactions.specs.May.{is_reset}
 use Rattle.packet_store.specs.declared.sent.Sent.{Sent}
 use Rattle.packet_store.specs.Kept.{found_sent}
 use Rattle.rbc_disk.specs.Disk.{Disk}
@@ -21,7 +20,7 @@ use Rattle.sbp_journal.specs.declared.event.Event.{Event}
 use Rattle.sbp_journal.specs.declared.event.Event.TheVariants as events
 use Rattle.sbp_journal.specs.declared.note.Note.TheVariants as notes
 use Rattle.sbp_journal.specs.Outgoings.{OutboxState, empty_outbox}
-use Rattle.sbp_journal.specs.Run.{Moment, asked}
+use Rattle.sbp_journal.specs.Run.{Moment}
 use Rattle.sbp_journal.specs.Wire.{terms}
 use Rattle.sbp_target.specs.Nodes.{scene}
 use Rattle.sbp_target.specs.Receiving.{expired, received}
@@ -43,8 +42,6 @@ use Rattle.sbp_world.proofs.Wire.ToldBytes.{AreTold}
 use Rattle.target_terms.proofs.Holding.{Holding}
 use Rattle.target_terms.proofs.InitiatorTells as own
 use Rattle.target_terms.proofs.Lines.{all_heard, opens}
-use Rattle.target_terms.proofs.Owned.{AreOwn}
-use Rattle.target_terms.proofs.Still.{hist}
 use Rattle.agent_terms.proofs.Peers.{injects_on, lost_kept, marked_kept}
 use Rattle.agent_terms.proofs.Seats.{Seats, delivery_seats, key_seats, lapse_seats, marked_same, own_hands, sight_seats, tick_seats}
 

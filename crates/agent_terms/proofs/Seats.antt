@@ -1,9 +1,6 @@
 -- After each turn of a world who has a place is known, and the target's peers are initiators.
-use Rattle.std.proofs.Common.{arith, ◌≡◌, ◌∙◌, refl, sym, ap, subst, ℕ, zero, suc, ◌+◌, ◌-◌, ◌^◌, ◌<◌, ◌≤◌, ◌||◌, not, nat_eq, nat_lt, Bool, true, false, cond, List, [], ◌∷◌, length, Option, Some, None, Result, Ok, Err}
-use Rattle.std.specs.Prelude.{if◌then◌else◌, slice_index_or, slice_set}
-use Rattle.std.proofs.lemmas.Bool.Decides.{nat_tests}
+use Rattle.std.proofs.Common.{arith, ◌≡◌, ◌∙◌, refl, sym, ap, subst, ℕ, zero, suc, ◌-◌, ◌^◌, ◌<◌, ◌≤◌, ◌||◌, not, nat_lt, Bool, true, false, cond, List, [], ◌∷◌, length, Option, Some, None, Result, Ok, Err}
 use Rattle.std.proofs.lemmas.Grind.{get_or-set_at}
-use Rattle.std.proofs.lemmas.List.{get_or-set_other}
 use Rattle.async_packet.specs.Packet.{Packet, header_in}
 use Rattle.async_packet.specs.Reading.{reading}
 use Rattle.bus_transactions.specs.Wire.{Node}
@@ -26,7 +23,6 @@ use Rattle.sbp_bus.specs.Generations.{GenerationsState, id_of, no_topology, node
 use Rattle.sbp_bus.specs.Packets.{judged_note}
 use Rattle.sbp_bus.specs.Telling.{initiator_by}
 use Rattle.sbp_journal.specs.declared.cause.Judged.{Judged}
-use Rattle.sbp_journal.specs.declared.note.Note.{Note}
 use Rattle.sbp_journal.specs.declared.note.Note.TheVariants as notes
 use Rattle.sbp_journal.specs.declared.side.Side.{Side}
 use Rattle.sbp_journal.specs.declared.side.Side.TheVariants as sides
@@ -34,12 +30,11 @@ use Rattle.sbp_journal.specs.Outgoings.{OutboxState, empty_outbox}
 use Rattle.sbp_journal.specs.Run.{Moment}
 use Rattle.sbp_journal.specs.Wire.{terms}
 use Rattle.sbp_target.specs.declared.purpose.Purpose.{Purpose}
-use Rattle.sbp_target.specs.Calls.{after, alone, lets_expire, sees, sets_key, ticks}
+use Rattle.sbp_target.specs.Calls.{after, alone, lets_expire, sees, ticks}
 use Rattle.sbp_target.specs.Nodes.{NodeState, Scene as TargetScene, scene}
-use Rattle.sbp_target.specs.Receiving.{expired, received, reset_by, seen, ticked, with_key}
+use Rattle.sbp_target.specs.Receiving.{expired, received, reset_by, seen, with_key}
 use Rattle.sbp_target.specs.Replies.{Whole}
-use Rattle.sbp_world.specs.declared.parts.delivering.Arrival.{Arrival}
-use Rattle.sbp_world.specs.Delivering.{arrived, at_target, delivered, delivered_by, initiator_received, marked, target_received, whole_of}
+use Rattle.sbp_world.specs.Delivering.{marked, whole_of}
 use Rattle.sbp_world.specs.FitTarget.{BytesTold, FitsOperation, Holds}
 use Rattle.sbp_world.specs.Handing.{handed_out}
 use Rattle.sbp_world.specs.Lines.{keyed, no_unit}
@@ -47,23 +42,19 @@ use Rattle.sbp_world.specs.Nodes.{see_line, target_sees, target_ticks, tick_line
 use Rattle.sbp_world.specs.Nodes as nodes
 use Rattle.sbp_world.specs.Packets.{refused, target_left, timed_out}
 use Rattle.sbp_world.specs.Packets as packets
-use Rattle.sbp_world.specs.Sending.{sent_all}
 use Rattle.sbp_world.specs.Telling.{initiator_of, told, told_all}
 use Rattle.sbp_world.specs.Worlds.{Scene, WorldState, with_note, with_target}
 use Rattle.sbp_world.specs.Wire.Wires.{Stands}
 use Rattle.sbp_world.proofs.FitTarget.Law.{fitting_law}
 use Rattle.sbp_world.proofs.Wire.Alike.{told_alike}
 use Rattle.sbp_world.proofs.Wire.Bus.{aged, holds}
-use Rattle.sbp_world.proofs.Wire.Comes.{received_is, to_zero}
 use Rattle.sbp_world.proofs.Wire.Forgets.{seen_stays, ticked_stays}
 use Rattle.sbp_world.proofs.Wire.Found.{has_known, known_has, node_found}
 use Rattle.sbp_world.proofs.Wire.Holding.{known_small, latest_small}
 use Rattle.sbp_world.proofs.Wire.Nodes.{handed_alike, marked_alike}
 use Rattle.target_laws.proofs.Calling.{Good}
-use Rattle.target_laws.proofs.Seats.{Lives}
-use Rattle.target_terms.specs.Calls.{CallsKeep, Follows}
-use Rattle.target_terms.specs.Calls as calls
-use Rattle.target_terms.specs.Offices.{Agrees, Office, by_sides}
+use Rattle.target_terms.specs.Calls.{CallsKeep}
+use Rattle.target_terms.specs.Offices.{Agrees, Office}
 use Rattle.target_terms.proofs.Calls.{forgets_if, management_law}
 use Rattle.target_terms.proofs.Calm.{From}
 use Rattle.target_terms.proofs.Holding.{Holding, good_of, is_of, known_id, ours, same_id, target_generation}
@@ -73,7 +64,7 @@ use Rattle.agent_terms.proofs.Calling.{IsOwned, delivery_told, lapse_told, secon
 use Rattle.agent_terms.proofs.Leaving.{source_known}
 use Rattle.agent_terms.proofs.Peers.{AllTo, AreNoLoops, Peer, all_sent_places, all_told_store, delivery_to, expiry_to, found_leaves, is_peer, marked_kept, none_to, own_sent, peer_known, peer_of, peer_other, target_sent}
 use Rattle.agent_terms.proofs.Placed.{Placed, placed_for}
-use Rattle.agent_terms.proofs.Telling.{IsTold, Of}
+use Rattle.agent_terms.proofs.Telling.{Of}
 
 -- what the target knows of the nodes
 abbrev pub seen_by : WorldState → Topology

@@ -1,42 +1,28 @@
 -- What the target tells in a call changes who has a place as it changes its logins.
-use Rattle.std.proofs.Common.{arith, ◌≡◌, ◌∙◌, refl, sym, ap, subst, ℕ, suc, ◌<◌, ◌%◌, nat_eq, is_some, Bool, true, false, cond, List, [], ◌∷◌, ◌++◌, length, map, Option, Some, None, Result, Ok, Err}
+use Rattle.std.proofs.Common.{arith, ◌≡◌, ◌∙◌, refl, sym, ap, subst, ℕ, suc, ◌<◌, ◌%◌, nat_eq, Bool, true, false, cond, List, [], ◌∷◌, ◌++◌, length, Option, Some, None}
 use Rattle.std.specs.Prelude.{is_none, position}
-use Rattle.async_packet.specs.Labels.{LabelParts}
-use Rattle.async_packet.specs.Packet.{Packet, header_in}
 use Rattle.label_table.specs.declared.judgement.Asked.{Asked}
-use Rattle.label_table.specs.declared.reply.ReplyKind.{ReplyKind}
-use Rattle.label_table.specs.declared.reply.Stale.{Stale}
 use Rattle.label_table.specs.Bodies.{Body}
-use Rattle.label_table.specs.History as wire
-use Rattle.label_table.specs.History.{under_way}
-use Rattle.label_table.specs.Layer.{Finding, Layer, asking_step, expiring_step, judging_step, of_again, of_generation, of_grammar, of_label, of_request, of_response}
-use Rattle.label_table.specs.Requests.{reply_kind}
+use Rattle.label_table.specs.Layer.{Layer, asking_step}
 use Rattle.login_table.specs.declared.login.Login.{Login}
-use Rattle.login_table.specs.Table.{Table, entered, place_at}
+use Rattle.login_table.specs.Table.{Table, entered}
 use Rattle.mgmt_agent.specs.declared.decision.Decision.{Decision}
 use Rattle.mgmt_agent.specs.declared.decision.Effect.{Effect}
 use Rattle.mgmt_agent.specs.declared.decision.Effect.TheVariants as effects
 use Rattle.mgmt_agent.specs.declared.decision.ManagerStep.{ManagerStep}
-use Rattle.mgmt_agent.specs.declared.operation.Busy.{Busy}
-use Rattle.mgmt_agent.specs.declared.operation.Operation.{Operation}
 use Rattle.mgmt_agent.specs.Decisions.{asked_by}
 use Rattle.mgmt_agent.specs.Machine as management
 use Rattle.orb_layout.specs.declared.ask.Ask.{Ask}
 use Rattle.orb_layout.specs.declared.ask.FailCause.{FailCause}
-use Rattle.orb_layout.specs.Replies.{Answer, Expired}
-use Rattle.rbc_disk.specs.Disk.{Disk}
-use Rattle.rbc_disk.specs.Runs.{Told as RunTold}
+use Rattle.orb_layout.specs.Replies.{Answer}
 use Rattle.sbp_bus.specs.declared.generations.Topology.{Topology}
 use Rattle.sbp_bus.specs.declared.places.Holder.{Holder}
 use Rattle.sbp_bus.specs.Generations.{GenerationsState, id_of}
-use Rattle.sbp_bus.specs.Places.{back_step, enter_step, holder_of, is_free, place_in as holder_in, put_at}
+use Rattle.sbp_bus.specs.Places.{back_step, enter_step, holder_of, put_at}
 use Rattle.sbp_bus.specs.Telling as bus
 use Rattle.sbp_bus.specs.Telling.{decided_places, managed_places}
 use Rattle.sbp_bus.specs.Words.{function_word, login_if}
 use Rattle.sbp_journal.specs.declared.cause.CutCause.TheVariants as cuts
-use Rattle.sbp_journal.specs.declared.cause.Judged.{Judged}
-use Rattle.sbp_journal.specs.declared.cause.Judged.TheVariants as judgements
-use Rattle.sbp_journal.specs.declared.cause.Cause.TheVariants as ignored
 use Rattle.sbp_journal.specs.declared.note.Note.TheVariants as notes
 use Rattle.sbp_journal.specs.declared.operation.FunctionWord.{FunctionWord}
 use Rattle.sbp_journal.specs.declared.operation.FunctionWord.TheVariants as words
@@ -46,7 +32,7 @@ use Rattle.sbp_journal.specs.Outgoings.{OutboxState, empty_outbox}
 use Rattle.sbp_laws.specs.Targets.{Decided, decided_by as laws_decided, keep_decided, source_in}
 use Rattle.sbp_target.specs.declared.purpose.Purpose.{Purpose}
 use Rattle.sbp_target.specs.declared.purpose.Purpose.TheVariants as purposes
-use Rattle.sbp_target.specs.Management.{ask_manager, cut_placed, decided_by, effect_by, failed_by, lose_operation, lost_in, manage, managed_in, managed_with, manager_asked, manager_body, manager_lost, manager_sent, place_in, tell_failed, with_manager}
+use Rattle.sbp_target.specs.Management.{ask_manager, decided_by, effect_by, failed_by, lose_operation, lost_in, managed_with, manager_asked, manager_body, manager_lost, manager_sent, place_in, tell_failed, with_manager}
 use Rattle.sbp_target.specs.Nodes.{NodeState, Scene, scene}
 use Rattle.sbp_target.specs.Sending.{request_step as asks_step, sent_by}
 use Rattle.sbp_target.specs.Units.{cut_all}
@@ -60,7 +46,7 @@ use Rattle.target_terms.proofs.Places.{AreApart}
 use Rattle.target_terms.proofs.Sides.{sides_more}
 use Rattle.target_terms.specs.Offices.{Agrees, Office, by_managed, by_note, by_side, by_sides, placed, placed_by, replied, stepped}
 use Rattle.agent_terms.proofs.Granting.{Grants, IsBack, StepBrings, reply_brings}
-use Rattle.agent_terms.proofs.Placed.{Has, IsHolder, Placed, back_placed, entered_placed, first_free, left_placed, opened_placed}
+use Rattle.agent_terms.proofs.Placed.{IsHolder, Placed, back_placed, entered_placed, first_free, left_placed, opened_placed}
 
 -- which initiator's node has an ID
 abbrev pub Of : Topology → (initiator id : ℕ) → Type 0

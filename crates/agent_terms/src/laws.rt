@@ -3,6 +3,7 @@ ghost use Rattle.agent_terms.specs.Alike.{AlikeLaw};
 ghost use Rattle.agent_terms.specs.Asides.{AsidesLaw};
 ghost use Rattle.agent_terms.specs.Calls.{AgentsLaw};
 ghost use Rattle.agent_terms.specs.Demands.{DemandsLaw};
+ghost use Rattle.agent_terms.specs.Enabled.{EnabledBetweenLaw, EnabledLaw};
 ghost use Rattle.agent_terms.specs.Fresh.{LabelsBetweenLaw, LabelsLaw};
 ghost use Rattle.agent_terms.specs.Hands.{HandsLaw};
 ghost use Rattle.agent_terms.specs.Holders.{HoldersBetweenLaw, HoldersLaw};
@@ -119,4 +120,14 @@ pub fn places_have_their_initiators()
 /// And behind each delivery of a line that may follow.
 pub fn deliveries_keep_who_has_places()
     ensures { HoldersBetweenLaw }
+{}
+
+/// After every line of every run a place whose register for unsolicited status is enabled has a live login.
+pub fn enabled_registers_have_live_logins()
+    ensures { EnabledLaw }
+{}
+
+/// And behind each delivery of a line that may follow.
+pub fn deliveries_keep_enabled_registers_live()
+    ensures { EnabledBetweenLaw }
 {}
