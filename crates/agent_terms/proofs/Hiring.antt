@@ -72,7 +72,7 @@ decides_if : (b : Bool) (word : FunctionWord) (t : Table) (x y : Outcome × Tabl
 decides_if true word t x y p q = p
 decides_if false word t x y p q = q
 
-not_old : (asked : LoginRequest) (own : Login) → is_old asked own ≡ true → is_live own ≡ false
+pub not_old : (asked : LoginRequest) (own : Login) → is_old asked own ≡ true → is_live own ≡ false
 not_old asked own e = by (is_live own) (own.unit == asked.unit) (own.eui == asked.eui) e
   where
     by : (a b c : Bool) → (not a && b && c) ≡ true → a ≡ false

@@ -24,4 +24,15 @@ pub mod Handed
 pub mod Demands
 pub mod Hands
 pub mod Asides
+pub mod Peers
+pub mod Placed
+pub mod Granting
+pub mod Telling
+pub mod Calling
+pub mod Seats
+pub mod Seating
+pub mod Holders
+pub mod Enabled
+pub mod Sparing
+pub mod Enabling
 pub mod Runs

@@ -6,6 +6,8 @@ pub mod Demands
 pub mod Hands
 pub mod Asides
 pub mod Leaving
+pub mod Holders
+pub mod Enabled
 pub mod Fresh
 pub mod Purposes
 pub mod Serials

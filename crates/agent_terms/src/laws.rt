@@ -3,8 +3,10 @@ ghost use Rattle.agent_terms.specs.Alike.{AlikeLaw};
 ghost use Rattle.agent_terms.specs.Asides.{AsidesLaw};
 ghost use Rattle.agent_terms.specs.Calls.{AgentsLaw};
 ghost use Rattle.agent_terms.specs.Demands.{DemandsLaw};
+ghost use Rattle.agent_terms.specs.Enabled.{EnabledBetweenLaw, EnabledLaw};
 ghost use Rattle.agent_terms.specs.Fresh.{LabelsBetweenLaw, LabelsLaw};
 ghost use Rattle.agent_terms.specs.Hands.{HandsLaw};
+ghost use Rattle.agent_terms.specs.Holders.{HoldersBetweenLaw, HoldersLaw};
 ghost use Rattle.agent_terms.specs.Leaving.{LeavingBetweenLaw, LeavingLaw};
 ghost use Rattle.agent_terms.specs.Notes.{NotesLaw};
 ghost use Rattle.agent_terms.specs.Purposes.{BetweenLaw, PurposesLaw};
@@ -104,4 +106,28 @@ pub fn labels_of_requests_are_new()
 /// And behind each delivery of a line that may follow.
 pub fn deliveries_keep_labels_new()
     ensures { LabelsBetweenLaw }
+{}
+
+/// After every line of every run each login of the target has the place that the bus has for it, with its unit and its ID,
+/// and no other place is taken. A live login is of the initiator that the bus has there and that the laws read off the
+/// history: its node is that initiator's ID in the generation that the target knows, and the terms find its place by its
+/// unit and that ID. The source of the management operation is an initiator's ID too, and no packet goes from the target
+/// to itself.
+pub fn places_have_their_initiators()
+    ensures { HoldersLaw }
+{}
+
+/// And behind each delivery of a line that may follow.
+pub fn deliveries_keep_who_has_places()
+    ensures { HoldersBetweenLaw }
+{}
+
+/// After every line of every run a place whose register for unsolicited status is enabled has a live login.
+pub fn enabled_registers_have_live_logins()
+    ensures { EnabledLaw }
+{}
+
+/// And behind each delivery of a line that may follow.
+pub fn deliveries_keep_enabled_registers_live()
+    ensures { EnabledBetweenLaw }
 {}
