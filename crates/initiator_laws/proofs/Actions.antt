@@ -7,6 +7,7 @@ use Rattle.bus_memory.specs.Memory.{Memory, empty_place, patch, place_at, with_b
 use Rattle.orb_layout.specs.ManagementOrbs.{management_bytes}
 use Rattle.orb_list.specs.Layout.{behind, data_in_segments, data_written, written}
 use Rattle.orb_layout.specs.declared.management.ManagementOrb.{ManagementOrb}
+use Rattle.label_table.specs.Layer.{Layer}
 use Rattle.orb_list.specs.declared.fault.ListFault.{ListFault}
 use Rattle.orb_list.specs.declared.fault.ListFault.TheVariants as list_faults
 use Rattle.orb_list.specs.declared.list.Link.{Link}
@@ -761,6 +762,21 @@ pub record Allowed (action : Action) (s : InitiatorState) : Type 0 where
   pub session : fits_session action (session_of s.seat) ≡ true
   pub closes : ends_list (operation_of action) ≡ true → points s.seat ≡ false
   pub steps : is_list_step action ≡ true → ends_list (operation_in s.operation) ≡ false
+
+free_layer : (begins : Option Operation) (s : InitiatorState) (layer : Layer Purpose) → IsFree begins s → IsFree begins (record s { layer = layer })
+free_layer None s layer f = tt
+free_layer (Some operation) s layer f = f
+
+-- no row reads the layer
+pub allowed_layer : (action : Action) (s : InitiatorState) (layer : Layer Purpose) → Allowed action s → Allowed action (record s { layer = layer })
+allowed_layer action s layer a = record {
+  free = free_layer (operation_of action) s layer a.free;
+  prepares = a.prepares;
+  rings = a.rings;
+  session = a.session;
+  closes = a.closes;
+  steps = a.steps;
+}
 
 free_as : (begins : Option Operation) (s : InitiatorState) → (is_some begins && is_some (operation_in s.operation)) ≡ false → IsFree begins s
 free_as None s e = tt

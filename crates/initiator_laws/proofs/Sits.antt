@@ -9,7 +9,6 @@ use Rattle.label_table.specs.History.{not_begun, under_way}
 use Rattle.label_table.specs.Layer.{Layer, Finding, of_generation, of_grammar, of_label, of_response, of_again, of_request, expiring_step, judging_step, seeing_step, seen_in_generation}
 use Rattle.sbp_session.specs.Seats.{points}
 use Rattle.sbp_journal.specs.declared.event.Action.{Action}
-use Rattle.sbp_journal.specs.declared.operation.Operation.{Operation}
 use Rattle.sbp_journal.specs.Outgoings.{OutboxState}
 use Rattle.sbp_initiator.specs.declared.purpose.Demand.{Demand}
 use Rattle.sbp_initiator.specs.declared.purpose.Ending.{Ending}
@@ -20,15 +19,14 @@ use Rattle.sbp_initiator.specs.Acting.{act_step, asked_as, asked_for, demand_of,
 use Rattle.sbp_initiator.specs.Effects.{Turn, ended_for, ended_step}
 use Rattle.sbp_initiator.specs.Initiators.{first_seat, new_state}
 use Rattle.sbp_initiator.specs.Receiving.{called, expire_step, expired_as, receive_step, received}
-use Rattle.sbp_initiator.specs.Refusals.{operation_of, refusal}
+use Rattle.sbp_initiator.specs.Refusals.{refusal}
 use Rattle.sbp_initiator.specs.Seeing.{interrupted, resets_told, see_step, seen_as}
 use Rattle.sbp_initiator.specs.States.{ending_of, is_answered, wanted_body}
 use Rattle.sbp_initiator.proofs.Asked.{none_asked}
-use Rattle.initiator_laws.specs.Begins.{IsFree}
 use Rattle.initiator_laws.specs.Laws.{Call, acts, receives, lets_expire, done, after}
 use Rattle.initiator_laws.specs.Laws as laws
 use Rattle.initiator_laws.specs.Marks.{counted_by}
-use Rattle.initiator_laws.proofs.Actions.{Allowed, allowed, done_does}
+use Rattle.initiator_laws.proofs.Actions.{Allowed, allowed, allowed_layer, done_does}
 use Rattle.initiator_laws.proofs.Acts.{counted_act, demand_same}
 use Rattle.initiator_laws.proofs.Busy.{Alone, Busy, idle, answer_alone, ask_alone, busy_found, busy_of, busy_out, busy_past, busy_with, closes_busy, expire_alone, expires_busy, is_busy, judge_alone, see_alone}
 use Rattle.initiator_laws.proofs.Effects.{Asking, Fits, Wired, ended_does, list_drops}
@@ -85,11 +83,6 @@ ended_alone node busy (Some purpose) ending o s f k =
 
 abbrev seeing_as : Bool → Layer Purpose → Layer Purpose → Bool × Layer Purpose
 seeing_as c new old = cond c (true, new) (false, old)
-
--- nothing is under way for an operation, whatever the layer
-free_with : (begins : Option Operation) (layer : Layer Purpose) (s : InitiatorState) → IsFree begins s → IsFree begins (record s { layer = layer })
-free_with None layer s f = tt
-free_with (Some operation) layer s f = f
 
 module _ (node : ℕ) (held : Past) (counted : ℕ → Option ℕ) (busy : Busy) (o : OutboxState) (s : InitiatorState) (k : Sound node held counted (o, s)) (x : Sits node busy counted s) where
   abbrev P : Purpose → Type 0
@@ -165,9 +158,6 @@ module _ (node : ℕ) (held : Past) (counted : ℕ → Option ℕ) (busy : Busy)
 
   -- ---- an action
 
-  layered : (action : Action) (layer : Layer Purpose) → Allowed action s → Allowed action (record s { layer = layer })
-  layered action layer a = record { free = free_with (operation_of action) layer s a.free; prepares = a.prepares; rings = a.rings; session = a.session; closes = a.closes; steps = a.steps }
-
   sent_sits : (action : Action) (demand : Demand) (asked : Asked) (layer : Layer Purpose) → Allowed action s → demand_of action s ≡ Some demand → asked_for demand s ≡ (Some asked, layer) → Sits node (busy_with demand.purpose busy) (counted_act None action s counted) (asked_as (Some asked, layer) action o s).1.1
   sent_sits action demand asked layer a e f =
       let u = record s { layer = layer } in
@@ -176,7 +166,7 @@ module _ (node : ℕ) (held : Past) (counted : ℕ → Option ℕ) (busy : Busy)
         alone = subst (λ (l : Layer Purpose). Alone node (busy_with demand.purpose busy) l) (sym d.layer)
             (ask_alone s.target (wanted_body demand.wanted) demand.purpose asked layer f (demand_free busy counted action s demand a x.stand e) x.alone);
         stand = subst (λ (y : Option Demand). Stand (busy_after y busy) (counted_act None action s counted) (done_step action o u).1) (demand_same action s layer ∙ e)
-            (done_stands busy counted action o u (layered action layer a) k.marks.marks k.marks.pointed.list x.stand);
+            (done_stands busy counted action o u (allowed_layer action s layer a) k.marks.marks k.marks.pointed.list x.stand);
       }
 
   asked_sits : (r : Option Asked × Layer Purpose) (action : Action) (demand : Demand) → Allowed action s → demand_of action s ≡ Some demand → asked_for demand s ≡ r → (let t = asked_as r action o s in Sits node (busy_done t.0 (Some demand) busy) (counted_act t.0 action s counted) t.1.1)
