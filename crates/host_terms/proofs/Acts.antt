@@ -29,13 +29,12 @@ use Rattle.sbp_initiator.specs.declared.purpose.Purpose.{Purpose}
 use Rattle.sbp_initiator.specs.declared.state.InitiatorState.{InitiatorState}
 use Rattle.orb_list.specs.Lists.{ListState, dummy_lists, high_lists, low_lists, manage_lists, pin_lists, stepped, with_slots}
 use Rattle.sbp_initiator.specs.Commands.{asked_by, prepared_as, put_lists}
-use Rattle.sbp_initiator.specs.Refusals.{operation_of, refusal, rows_of}
+use Rattle.sbp_initiator.specs.Refusals.{refusal, rows_of}
 use Rattle.sbp_initiator.specs.States.{is_unwritten, last_linked}
 use Rattle.sbp_initiator.specs.Effects.{Turn, told}
 use Rattle.sbp_initiator.specs.Acting.{act_step, append_step, asked_as, asked_for, begun, demand_of, demanded_as, done_step, dummy_for, facts_with, judged_as, link_as, link_step, login_id, login_orb, low_as, low_step, manage_start, managed_by, orb_by, pinned_for, put_as, put_step, ring_for, ring_step}
 use Rattle.sbp_journal.specs.Rows.{Refusals, refusal_of}
-use Rattle.initiator_laws.specs.Begins.{IsFree}
-use Rattle.initiator_laws.proofs.Actions.{Allowed, allowed}
+use Rattle.initiator_laws.proofs.Actions.{Allowed, allowed, allowed_layer}
 use Rattle.host_terms.specs.Fits.{AreRows}
 use Rattle.host_terms.proofs.Appends.{append_rows}
 use Rattle.host_terms.proofs.Beside.{beside_rests}
@@ -356,13 +355,9 @@ left_layer actions.TargetReset past o s layer t l = l
 -- no row reads the layer
 pub goes_layer : (action : Action) (s : InitiatorState) (layer : Layer Purpose) → Goes action s → Goes action (record s { layer = layer })
 goes_layer action s layer g = record {
-  allowed = record { free = free_same (operation_of action) g.allowed.free; prepares = g.allowed.prepares; rings = g.allowed.rings };
+  allowed = allowed_layer action s layer g.allowed;
   rows = record { stuck = g.rows.stuck; wrong_state = g.rows.wrong_state; no_rom = g.rows.no_rom; waiting = g.rows.waiting; mid_link = g.rows.mid_link; not_linking = g.rows.not_linking; dead_seen = g.rows.dead_seen; no_orb = g.rows.no_orb; no_slot = g.rows.no_slot };
 }
-  where
-    free_same : (begins : Option Operation) → IsFree begins s → IsFree begins (record s { layer = layer })
-    free_same None f = tt
-    free_same (Some operation) f = f
 
 asked_left : (past : List Moment) (action : Action) (o : OutboxState) (s : InitiatorState) (r : Option Label × Layer Purpose) → (asked_as r action o s).0 ≡ None → Goes action s → Listed past (o, s) → Left action past o s (asked_as r action o s).1
 asked_left past action o s (None, layer) e g h = absurd (some_none 10 e)

@@ -7,6 +7,7 @@ use Rattle.bus_memory.specs.Memory.{Memory, empty_place, patch, place_at, with_b
 use Rattle.orb_layout.specs.ManagementOrbs.{management_bytes}
 use Rattle.orb_list.specs.Layout.{behind, data_in_segments, data_written, written}
 use Rattle.orb_layout.specs.declared.management.ManagementOrb.{ManagementOrb}
+use Rattle.label_table.specs.Layer.{Layer}
 use Rattle.orb_list.specs.declared.fault.ListFault.{ListFault}
 use Rattle.orb_list.specs.declared.fault.ListFault.TheVariants as list_faults
 use Rattle.orb_list.specs.declared.list.Link.{Link}
@@ -16,6 +17,7 @@ use Rattle.orb_list.specs.Tickets.{TicketParts}
 use Rattle.orb_list.specs.Requests.{Asked}
 use Rattle.orb_list.specs.Table.{SlotTable, checked, closed, dummy_at, dummy_step, extended, find_in, free_slot, high_for, high_step, is_mid_link, link_set, list_number, lists_begun, low_for, low_step as slot_low, lowest, may_prepare, next_ticket, orb_number, pin_at, pin_step, prepare_at, prepare_step, waits_high, waits_low}
 use Rattle.sbp_session.specs.Moves.{pointing, goes}
+use Rattle.sbp_session.specs.Seats.{points}
 use Rattle.sbp_journal.specs.declared.event.Action.{Action}
 use Rattle.sbp_journal.specs.declared.event.Action.TheVariants as actions
 use Rattle.sbp_journal.specs.declared.event.Cmd.{Cmd}
@@ -35,10 +37,10 @@ use Rattle.sbp_initiator.specs.declared.purpose.Running.{Running}
 use Rattle.sbp_initiator.specs.declared.state.InitiatorState.{InitiatorState}
 use Rattle.sbp_initiator.specs.declared.purpose.ListMarks.{ListMarks}
 use Rattle.sbp_initiator.specs.declared.state.Counts.{Counts}
-use Rattle.sbp_initiator.specs.Refusals.{ActionFacts, ends_list, is_list_step, lacks_orb, operation_of, prepares, refusal, rows_of}
+use Rattle.sbp_initiator.specs.Refusals.{ActionFacts, ends_list, fits_session, is_list_step, lacks_orb, operation_of, prepares, refusal, rows_of}
 use Rattle.orb_list.specs.Lists.{ListState, dummy_lists, high_lists, low_lists, manage_lists, pin_lists, stepped}
 use Rattle.sbp_initiator.specs.Commands.{asked_by, prepared_as, put_lists}
-use Rattle.sbp_initiator.specs.States.{is_list, is_unwritten, last_linked, no_marks, operation_in, place_of}
+use Rattle.sbp_initiator.specs.States.{is_list, is_unwritten, last_linked, no_marks, operation_in, place_of, session_of}
 use Rattle.sbp_initiator.specs.Effects.{Turn, told}
 use Rattle.sbp_initiator.specs.Acting.{demand_of, facts_with, dummy_for, done_step, link_as, link_step, login_id, login_orb, low_as, low_step, manage_start, managed_by, orb_by, pinned_for, put_as, put_step, register_start, ring_demand, ring_for, ring_step, append_step, with_running}
 use Rattle.initiator_laws.specs.Begins.{AreSteps, begun_as, after_by, IsFree}
@@ -66,25 +68,27 @@ steps_append [] ys a b = b
 steps_append (x ∷ xs) ys a b = (a.0, steps_append xs ys a.1 b)
 
 -- a step of a list: what it tells, and what it leaves as it was
-record Steps (o : OutboxState) (s : InitiatorState) (t : Turn) : Type 0 where
-  news : List Note
-  sides : t.0.sides ≡ o.sides ++ own news
-  steps : AreSteps news
-  operation : t.1.operation ≡ s.operation
-  layer : t.1.layer ≡ s.layer
-  packets : t.0.packets ≡ o.packets
-  counts : t.1.counts ≡ s.counts
-  number : t.1.number ≡ s.number
-  target : t.1.target ≡ s.target
-  unwritten : is_unwritten t.1.marks.pointing ≡ is_unwritten s.marks.pointing
-  present : (n : ℕ) → is_list s.lists.slots.present n ≡ true → is_list t.1.lists.slots.present n ≡ true
-  marks : KeepsMarks s t.1
+pub record Steps (o : OutboxState) (s : InitiatorState) (t : Turn) : Type 0 where
+  pub news : List Note
+  pub sides : t.0.sides ≡ o.sides ++ own news
+  pub steps : AreSteps news
+  pub seat : t.1.seat ≡ s.seat
+  pub operation : t.1.operation ≡ s.operation
+  pub layer : t.1.layer ≡ s.layer
+  pub packets : t.0.packets ≡ o.packets
+  pub counts : t.1.counts ≡ s.counts
+  pub number : t.1.number ≡ s.number
+  pub target : t.1.target ≡ s.target
+  pub unwritten : is_unwritten t.1.marks.pointing ≡ is_unwritten s.marks.pointing
+  pub present : (n : ℕ) → is_list s.lists.slots.present n ≡ true → is_list t.1.lists.slots.present n ≡ true
+  pub marks : KeepsMarks s t.1
 
-step_then : (o : OutboxState) (s : InitiatorState) (t u : Turn) → Steps o s t → Steps t.0 t.1 u → Steps o s u
+pub step_then : (o : OutboxState) (s : InitiatorState) (t u : Turn) → Steps o s t → Steps t.0 t.1 u → Steps o s u
 step_then o s t u a b = record {
   news = a.news ++ b.news;
   sides = told_twice o.sides t.0.sides u.0.sides a.news b.news a.sides b.sides;
   steps = steps_append a.news b.news a.steps b.steps;
+  seat = b.seat ∙ a.seat;
   operation = b.operation ∙ a.operation;
   layer = b.layer ∙ a.layer;
   packets = b.packets ∙ a.packets;
@@ -122,6 +126,7 @@ first_as true note first o s lists w p q k f = record {
   news = note ∷ [];
   sides = refl;
   steps = (w, tt);
+  seat = refl;
   operation = refl;
   layer = refl;
   packets = refl;
@@ -143,6 +148,7 @@ first_as false note first o s lists w p q k f = record {
   news = note ∷ [];
   sides = refl;
   steps = (w, tt);
+  seat = refl;
   operation = refl;
   layer = refl;
   packets = refl;
@@ -167,17 +173,17 @@ written_places : (m : Memory) (slot : ℕ) (asked : Asked) → (written m slot a
 written_places m slot asked = data_places _ slot asked.segments asked.payload
 
 -- the ORB that is prepared is of the present list, or begins the next one
-tail_is : (present : Option PresentList) (t : TicketParts) → (extended present t).tail ≡ t
+pub tail_is : (present : Option PresentList) (t : TicketParts) → (extended present t).tail ≡ t
 tail_is None t = refl
 tail_is (Some list) t = refl
 
 own_list : (n : ℕ) → nat_eq n n ≡ true
 own_list n = grind arith
 
-list_same : (m n : ℕ) → nat_eq m n ≡ true → m ≡ n
+pub list_same : (m n : ℕ) → nat_eq m n ≡ true → m ≡ n
 list_same m n e = grind arith
 
-below_more : (n lists : ℕ) → n < lists → n < lists + 1
+pub below_more : (n lists : ℕ) → n < lists → n < lists + 1
 below_more n lists h = omega arith
 
 below_own : (n lists : ℕ) → n ≡ lists → n < lists + 1
@@ -223,7 +229,7 @@ put_as_does (Ok slot) cmd o s e h =
     (prepared_as (prepare_at (Ok slot) s.lists.slots s.lists.memory (asked_by cmd s.layer.node (login_id s))) s.lists cmd).1
     refl refl (λ n. put_lists_same s.lists.slots.present s.lists.slots.lists t n refl) (put_keeps slot cmd s) (first_unwritten s.lists.slots.present s.marks.pointing h)
 
-put_does : (cmd : Cmd) (o : OutboxState) (s : InitiatorState) → is_ok (may_prepare s.lists.slots) ≡ true → HasMarks s.lists.slots.present s.marks.pointing → Steps o s (put_step cmd o s)
+pub put_does : (cmd : Cmd) (o : OutboxState) (s : InitiatorState) → is_ok (may_prepare s.lists.slots) ≡ true → HasMarks s.lists.slots.present s.marks.pointing → Steps o s (put_step cmd o s)
 unfolding put_lists prepare_step
 put_does cmd o s e h = put_as_does (may_prepare s.lists.slots) cmd o s e h
 
@@ -233,7 +239,7 @@ link_set_marks : (present : Option PresentList) (link : Link) (x : Pointing) →
 link_set_marks None link x h = h
 link_set_marks (Some list) link x h = tt
 
-link_set_list : (present : Option PresentList) (link : Link) (n : ℕ) → is_list present n ≡ true → is_list (link_set present link) n ≡ true
+pub link_set_list : (present : Option PresentList) (link : Link) (n : ℕ) → is_list present n ≡ true → is_list (link_set present link) n ≡ true
 link_set_list None link n e = e
 link_set_list (Some list) link n e = e
 
@@ -247,6 +253,7 @@ still o s = record {
   news = [];
   sides = sym (append-nil o.sides);
   steps = tt;
+  seat = refl;
   operation = refl;
   layer = refl;
   packets = refl;
@@ -264,6 +271,7 @@ noted note o s lists w p k = record {
   news = note ∷ [];
   sides = refl;
   steps = (w, tt);
+  seat = refl;
   operation = refl;
   layer = refl;
   packets = refl;
@@ -281,7 +289,7 @@ low_for_does (Some linking) o s =
     noted (notes.Low s.number linking.tail.list linking.tail.number) o s (stepped (low_for (Some linking) s.lists.slots s.lists.memory) s.lists).1 refl
     (link_set_list s.lists.slots.present _) (λ x h. record { marks = link_set_marks s.lists.slots.present _ s.marks.pointing h.marks; orbs = h.orbs; places = h.places; pointed = link_set_begun x.pointed s.lists.slots.present _ s.lists.slots.lists s.marks.pointing h.pointed })
 
-low_does : (o : OutboxState) (s : InitiatorState) → Steps o s (low_step o s)
+pub low_does : (o : OutboxState) (s : InitiatorState) → Steps o s (low_step o s)
 unfolding low_lists slot_low
 low_does o s = low_for_does (waits_low s.lists.slots.present) o s
 
@@ -292,7 +300,7 @@ high_for_does (Some linking) o s =
     noted (notes.Linked s.number linking.tail.list linking.tail.number) o s (stepped (high_for (Some linking) s.lists.slots s.lists.memory) s.lists).1 refl
     (link_set_list s.lists.slots.present _) (λ x h. record { marks = link_set_marks s.lists.slots.present _ s.marks.pointing h.marks; orbs = h.orbs; places = h.places; pointed = link_set_begun x.pointed s.lists.slots.present _ s.lists.slots.lists s.marks.pointing h.pointed })
 
-link_does : (o : OutboxState) (s : InitiatorState) → Steps o s (link_step o s)
+pub link_does : (o : OutboxState) (s : InitiatorState) → Steps o s (link_step o s)
 unfolding high_lists high_step
 link_does o s = high_for_does (waits_high s.lists.slots.present) o s
 
@@ -355,7 +363,7 @@ step_done o s t a = record {
 }
 
 -- what a ring is for
-abbrev ring_purpose : Bool → ℕ → Purpose
+abbrev pub ring_purpose : Bool → ℕ → Purpose
 ring_purpose true list = purposes.Pointer list
 ring_purpose false list = purposes.Doorbell
 
@@ -418,7 +426,7 @@ ring_number : (c : Bool) (x y : Demand) (n : ℕ) → x.purpose ≡ purposes.Poi
 ring_number true x y n e f = e
 ring_number false x y n e f = f
 
-demand_number : (s : InitiatorState) → (ring_demand s).purpose ≡ ring_purpose (is_unwritten s.marks.pointing) (list_number s.lists.slots.present s.lists.slots.lists)
+pub demand_number : (s : InitiatorState) → (ring_demand s).purpose ≡ ring_purpose (is_unwritten s.marks.pointing) (list_number s.lists.slots.present s.lists.slots.lists)
 demand_number s =
     ring_number (is_unwritten s.marks.pointing) _ _ (list_number s.lists.slots.present s.lists.slots.lists) refl refl
 
@@ -488,7 +496,7 @@ dummied_present : (r : Result (Unit {0}) ListFault) (slots : SlotTable) (m : Mem
 dummied_present (Err fault) slots m t = refl
 dummied_present (Ok done) slots m t = refl
 
-dummy_present : (lists : ListState) (t : TicketParts) → (dummy_lists lists t).slots.present ≡ lists.slots.present
+pub dummy_present : (lists : ListState) (t : TicketParts) → (dummy_lists lists t).slots.present ≡ lists.slots.present
 unfolding dummy_lists dummy_step
 dummy_present lists t = dummied_present (checked lists.slots t) lists.slots lists.memory t
 
@@ -496,7 +504,7 @@ dummied_count : (r : Result (Unit {0}) ListFault) (slots : SlotTable) (m : Memor
 dummied_count (Err fault) slots m t = refl
 dummied_count (Ok done) slots m t = refl
 
-dummy_count : (lists : ListState) (t : TicketParts) → (dummy_lists lists t).slots.lists ≡ lists.slots.lists
+pub dummy_count : (lists : ListState) (t : TicketParts) → (dummy_lists lists t).slots.lists ≡ lists.slots.lists
 unfolding dummy_lists dummy_step
 dummy_count lists t = dummied_count (checked lists.slots t) lists.slots lists.memory t
 
@@ -534,7 +542,7 @@ pick_present : (c : Bool) (k l : ListState) → l.slots.present ≡ k.slots.pres
 pick_present true k l e = refl
 pick_present false k l e = e
 
-pins_present : (lists : ListState) (t : TicketParts) → (pin_lists lists t).slots.present ≡ lists.slots.present
+pub pins_present : (lists : ListState) (t : TicketParts) → (pin_lists lists t).slots.present ≡ lists.slots.present
 unfolding pin_lists
 pins_present lists t = pick_present (is_some lists.slots.pinned) lists (record lists { slots = (pin_step lists.slots t).1 }) (pin_present lists.slots t)
 
@@ -550,11 +558,11 @@ pick_count : (c : Bool) (k l : ListState) → l.slots.lists ≡ k.slots.lists �
 pick_count true k l e = refl
 pick_count false k l e = e
 
-pins_count : (lists : ListState) (t : TicketParts) → (pin_lists lists t).slots.lists ≡ lists.slots.lists
+pub pins_count : (lists : ListState) (t : TicketParts) → (pin_lists lists t).slots.lists ≡ lists.slots.lists
 unfolding pin_lists
 pins_count lists t = pick_count (is_some lists.slots.pinned) lists (record lists { slots = (pin_step lists.slots t).1 }) (pin_count lists.slots t)
 
-manage_slots : (lists : ListState) (place : ℕ) (orb : ManagementOrb) → (manage_lists lists place orb).slots ≡ lists.slots
+pub manage_slots : (lists : ListState) (place : ℕ) (orb : ManagementOrb) → (manage_lists lists place orb).slots ≡ lists.slots
 unfolding manage_lists
 manage_slots lists place orb = refl
 
@@ -751,6 +759,24 @@ pub record Allowed (action : Action) (s : InitiatorState) : Type 0 where
   pub free : IsFree (operation_of action) s
   pub prepares : prepares action ≡ true → is_ok (may_prepare s.lists.slots) ≡ true
   pub rings : is_ring action ≡ true → is_some s.lists.slots.present ≡ true
+  pub session : fits_session action (session_of s.seat) ≡ true
+  pub closes : ends_list (operation_of action) ≡ true → points s.seat ≡ false
+  pub steps : is_list_step action ≡ true → ends_list (operation_in s.operation) ≡ false
+
+free_layer : (begins : Option Operation) (s : InitiatorState) (layer : Layer Purpose) → IsFree begins s → IsFree begins (record s { layer = layer })
+free_layer None s layer f = tt
+free_layer (Some operation) s layer f = f
+
+-- no row reads the layer
+pub allowed_layer : (action : Action) (s : InitiatorState) (layer : Layer Purpose) → Allowed action s → Allowed action (record s { layer = layer })
+allowed_layer action s layer a = record {
+  free = free_layer (operation_of action) s layer a.free;
+  prepares = a.prepares;
+  rings = a.rings;
+  session = a.session;
+  closes = a.closes;
+  steps = a.steps;
+}
 
 free_as : (begins : Option Operation) (s : InitiatorState) → (is_some begins && is_some (operation_in s.operation)) ≡ false → IsFree begins s
 free_as None s e = tt
@@ -793,6 +819,7 @@ from_1 r = cond r.stuck (Some 1) (from_2 r)
 
 -- no row holds
 record NoRow (r : Refusals) : Type 0 where
+  right : r.wrong_state ≡ false
   waits : r.waiting ≡ false
   mid : r.mid_link ≡ false
   orb : r.no_orb ≡ false
@@ -801,7 +828,8 @@ record NoRow (r : Refusals) : Type 0 where
 no_row : (r : Refusals) → refusal_of r ≡ None → NoRow r
 no_row r e =
     let e2 : from_2 r ≡ None = (row_free r.stuck 1 (from_2 r) e).1 in
-    let e3 : from_3 r ≡ None = (row_free r.wrong_state 2 (from_3 r) e2).1 in
+    let state = row_free r.wrong_state 2 (from_3 r) e2 in
+    let e3 : from_3 r ≡ None = state.1 in
     let e4 : from_4 r ≡ None = (row_free r.no_rom 3 (from_4 r) e3).1 in
     let w = row_free r.waiting 4 (from_5 r) e4 in
     let m = row_free r.mid_link 5 (from_6 r) w.1 in
@@ -809,16 +837,20 @@ no_row r e =
     let e8 : from_8 r ≡ None = (row_free r.dead_seen 7 (from_8 r) e7).1 in
     let o = row_free r.no_orb 8 (from_9 r) e8 in
     let s = row_free r.no_slot 9 (from_10 r) o.1 in
-    record { waits = w.0; mid = m.0; orb = o.0; slot = s.0 }
+    record { right = state.0; waits = w.0; mid = m.0; orb = o.0; slot = s.0 }
 
 pub allowed : (action : Action) (s : InitiatorState) → refusal action (facts_with true s action) ≡ None → Allowed action s
 unfolding refusal
 allowed action s e =
     let facts = facts_with true s action in
     let n = no_row (rows_of action facts) e in
-    let own_wait : (is_some (operation_of action) && is_some facts.under_way) || (ends_list (operation_of action) && facts.is_pointing) ≡ false = (or_free ((is_some (operation_of action) && is_some facts.under_way) || (ends_list (operation_of action) && facts.is_pointing)) (is_list_step action && ends_list facts.under_way) n.waits).0 in
+    let waits = or_free ((is_some (operation_of action) && is_some facts.under_way) || (ends_list (operation_of action) && facts.is_pointing)) (is_list_step action && ends_list facts.under_way) n.waits in
+    let own_wait = or_free (is_some (operation_of action) && is_some facts.under_way) (ends_list (operation_of action) && facts.is_pointing) waits.0 in
     record {
-      free = free_as (operation_of action) s (or_free (is_some (operation_of action) && is_some facts.under_way) (ends_list (operation_of action) && facts.is_pointing) own_wait).0;
+      free = free_as (operation_of action) s own_wait.0;
       prepares = λ p. prepare_free (is_mid_link s.lists.slots.present) (lowest s.lists.slots.slots) (and_free (prepares action) (is_mid_link s.lists.slots.present) n.mid p) (not_free (is_some (lowest s.lists.slots.slots)) (and_free (prepares action) (not (is_some (lowest s.lists.slots.slots))) n.slot p));
       rings = λ r. not_free (is_some s.lists.slots.present) (sym (ring_row action facts r) ∙ n.orb);
+      session = not_free (fits_session action facts.session) n.right;
+      closes = λ c. and_free (ends_list (operation_of action)) facts.is_pointing own_wait.1 c;
+      steps = λ c. and_free (is_list_step action) (ends_list facts.under_way) waits.1 c;
     }

@@ -64,7 +64,7 @@ ring_same : (s : InitiatorState) (layer : Layer Purpose) → Some (ring_demand (
 ring_same s layer = ap (λ (first : ℕ). ring_with first s) (first_same s.lists.slots.present s layer)
 
 -- it does not read the transaction layer
-demand_same : (action : Action) (s : InitiatorState) (layer : Layer Purpose) → demand_of action (record s { layer = layer }) ≡ demand_of action s
+pub demand_same : (action : Action) (s : InitiatorState) (layer : Layer Purpose) → demand_of action (record s { layer = layer }) ≡ demand_of action s
 demand_same actions.Rom s layer = refl
 demand_same (actions.Login unit reconnect exclusive password) s layer = refl
 demand_same (actions.Query unit) s layer = refl

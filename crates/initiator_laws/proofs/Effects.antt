@@ -42,6 +42,7 @@ use Rattle.sbp_initiator.specs.Effects.{Turn, told, stick_step, dropped_as, drop
 use Rattle.sbp_initiator.proofs.Asked.{none_asked}
 use Rattle.initiator_laws.specs.Drops.{IfGone, present_list, drop_if, state_drops, ends_the_list}
 use Rattle.initiator_laws.specs.Numbers.{is_numbered}
+use Rattle.initiator_laws.proofs.Busy.{busy_of, is_busy}
 use Rattle.initiator_laws.proofs.Lives.{read_act}
 use Rattle.initiator_laws.specs.Ends.{own, OpEnd, drops, notes_of, is_managed, is_word_of, read_ends, state_word, is_failed, is_managed_failed, fails_write, sticks_by, OpMove}
 
@@ -60,7 +61,7 @@ pub nil_join : (xs ys : List Note) → (xs ++ []) ++ ys ≡ xs ++ ys
 nil_join xs ys = ap (λ (l : List Note). l ++ ys) (append-nil xs)
 
 -- numbers that are equal
-nat_is : (m n : ℕ) → nat_eq m n ≡ true → m ≡ n
+pub nat_is : (m n : ℕ) → nat_eq m n ≡ true → m ≡ n
 nat_is m n e = grind arith
 
 -- ---- what a step does
@@ -173,7 +174,7 @@ unpin_for_present : (t : Option TicketParts) (slots : SlotTable) (m : Memory) �
 unpin_for_present None slots m = refl
 unpin_for_present (Some t) slots m = refl
 
-unpin_present : (lists : ListState) → (unpin_lists lists).slots.present ≡ lists.slots.present
+pub unpin_present : (lists : ListState) → (unpin_lists lists).slots.present ≡ lists.slots.present
 unfolding unpin_lists unpin_step
 unpin_present lists = unpin_for_present lists.slots.pinned lists.slots lists.memory
 
@@ -181,7 +182,7 @@ unpin_for_count : (t : Option TicketParts) (slots : SlotTable) (m : Memory) → 
 unpin_for_count None slots m = refl
 unpin_for_count (Some t) slots m = refl
 
-unpin_count : (lists : ListState) → (unpin_lists lists).slots.lists ≡ lists.slots.lists
+pub unpin_count : (lists : ListState) → (unpin_lists lists).slots.lists ≡ lists.slots.lists
 unfolding unpin_lists unpin_step
 unpin_count lists = unpin_for_count lists.slots.pinned lists.slots lists.memory
 
@@ -477,6 +478,7 @@ pub record Ends (purpose : Purpose) (o : OutboxState) (s : InitiatorState) (drop
   pub same : (a : Asking) → asking ≡ Some a → a.purpose ≡ purpose
   pub plain : (a : Asking) → asking ≡ Some a → is_numbered a.purpose ≡ false
   pub unread : (a : Asking) → asking ≡ Some a → read_act a.purpose ≡ None
+  pub calm : (a : Asking) → asking ≡ Some a → is_busy (busy_of a.purpose) ≡ false
   pub does : Does o s drop state stuck asking t
 
 none_some : {A B : Type 0} {a : A} → None ≡ Some a → B
@@ -486,7 +488,7 @@ none_some e = absurd (differ e)
     differ e = cc
 
 ends_plainly : (purpose : Purpose) (o : OutboxState) (s : InitiatorState) (drop : Option ℕ) (state : Option OpWord) (stuck : Bool) (t : Turn) → Does o s drop state stuck None t → Ends purpose o s drop state stuck t
-ends_plainly purpose o s drop state stuck t d = record { asking = None; same = λ a e. none_some e; plain = λ a e. none_some e; unread = λ a e. none_some e; does = d }
+ends_plainly purpose o s drop state stuck t d = record { asking = None; same = λ a e. none_some e; plain = λ a e. none_some e; unread = λ a e. none_some e; calm = λ a e. none_some e; does = d }
 
 some_is : {A : Type 0} (a b : A) → Some a ≡ Some b → a ≡ b
 some_is a b e = cc
@@ -502,6 +504,7 @@ asked_does (Some asked, layer) act o s t e f op same_layer counts number target 
       same = λ b g. ap (λ (x : Asking). x.purpose) (sym (some_is a b g));
       plain = λ b g. ap (λ (x : Asking). is_numbered x.purpose) (sym (some_is a b g));
       unread = λ b g. ap (λ (x : Asking). read_act x.purpose) (sym (some_is a b g));
+      calm = λ b g. ap (λ (x : Asking). is_busy (busy_of x.purpose)) (sym (some_is a b g));
       does = record {
         op = None;
         sides = sym (append-nil o.sides);

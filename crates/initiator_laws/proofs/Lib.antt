@@ -21,3 +21,9 @@ pub mod Did
 pub mod Known
 pub mod Lives
 pub mod Pointers
+pub mod Busy
+pub mod Stands
+pub mod StandHears
+pub mod StandActs
+pub mod Sits
+pub mod Pointing

@@ -157,11 +157,11 @@ forgotten_not over kind act list e = cc
 -- ---- names of transactions
 
 -- two names of one transaction
-record Same (p : ℕ) (l : LabelParts) (q : ℕ) (m : LabelParts) : Type 0 where
-  peer : p ≡ q
-  number : l.number ≡ m.number
-  generation : l.generation ≡ m.generation
-  serial : l.serial ≡ m.serial
+pub record Same (p : ℕ) (l : LabelParts) (q : ℕ) (m : LabelParts) : Type 0 where
+  pub peer : p ≡ q
+  pub number : l.number ≡ m.number
+  pub generation : l.generation ≡ m.generation
+  pub serial : l.serial ≡ m.serial
 
 nat_is : (m n : ℕ) → nat_eq m n ≡ true → m ≡ n
 nat_is m n e = grind arith
@@ -177,7 +177,7 @@ and_true : (a b : Bool) → a ≡ true → b ≡ true → (a && b) ≡ true
 and_true true b e f = f
 and_true false b e f = untrue e
 
-same_of : (p : ℕ) (l : LabelParts) (q : ℕ) (m : LabelParts) → is_same p l q m ≡ true → Same p l q m
+pub same_of : (p : ℕ) (l : LabelParts) (q : ℕ) (m : LabelParts) → is_same p l q m ≡ true → Same p l q m
 unfolding is_same
 same_of p l q m e =
     let x = both (nat_eq p q && nat_eq l.number m.number) (nat_eq l.generation m.generation && nat_eq l.serial m.serial) e in
@@ -185,7 +185,7 @@ same_of p l q m e =
     let z = both (nat_eq l.generation m.generation) (nat_eq l.serial m.serial) x.1 in
     record { peer = nat_is p q y.0; number = nat_is l.number m.number y.1; generation = nat_is l.generation m.generation z.0; serial = nat_is l.serial m.serial z.1 }
 
-of_same : (p : ℕ) (l : LabelParts) (q : ℕ) (m : LabelParts) → Same p l q m → is_same p l q m ≡ true
+pub of_same : (p : ℕ) (l : LabelParts) (q : ℕ) (m : LabelParts) → Same p l q m → is_same p l q m ≡ true
 unfolding is_same
 of_same p l q m s =
     and_true (nat_eq p q && nat_eq l.number m.number) (nat_eq l.generation m.generation && nat_eq l.serial m.serial)

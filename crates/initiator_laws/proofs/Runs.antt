@@ -195,11 +195,11 @@ ended_heard node held counted old u (Some purpose) ending k op number seat acts 
 
 -- ---- a delivery
 
-judged_for : (node : ℕ) (P : Purpose → Type 0) (reads : List ℕ) (running : ℕ) (layer : Layer Purpose) (packets : List Outgoing) (generation : ℕ) (bytes : List ℕ) (p : Packet) (label : LabelParts) (purpose : Option Purpose) → Wire P reads node running layer packets → (judging_step layer generation bytes).0 ≡ of_response p label purpose → IfFor P purpose
+pub judged_for : (node : ℕ) (P : Purpose → Type 0) (reads : List ℕ) (running : ℕ) (layer : Layer Purpose) (packets : List Outgoing) (generation : ℕ) (bytes : List ℕ) (p : Packet) (label : LabelParts) (purpose : Option Purpose) → Wire P reads node running layer packets → (judging_step layer generation bytes).0 ≡ of_response p label purpose → IfFor P purpose
 judged_for node P reads running layer packets generation bytes p label purpose w e =
     closes_asked P node w.calls generation bytes p label purpose w.asks (ap (λ (l : Layer Purpose). (judging_step l generation bytes).0) w.layer_is ∙ e)
 
-expired_for : (node : ℕ) (P : Purpose → Type 0) (reads : List ℕ) (running : ℕ) (layer : Layer Purpose) (packets : List Outgoing) (peer : ℕ) (label : LabelParts) (purpose : Option Purpose) → Wire P reads node running layer packets → (expiring_step layer peer label).0 ≡ Ok purpose → IfFor P purpose
+pub expired_for : (node : ℕ) (P : Purpose → Type 0) (reads : List ℕ) (running : ℕ) (layer : Layer Purpose) (packets : List Outgoing) (peer : ℕ) (label : LabelParts) (purpose : Option Purpose) → Wire P reads node running layer packets → (expiring_step layer peer label).0 ≡ Ok purpose → IfFor P purpose
 expired_for node P reads running layer packets peer label purpose w e =
     expires_asked P node w.calls peer label purpose w.asks (ap (λ (l : Layer Purpose). (expiring_step l peer label).0) w.layer_is ∙ e)
 

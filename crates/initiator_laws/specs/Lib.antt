@@ -11,3 +11,4 @@ pub mod Served
 pub mod Slots
 pub mod Marks
 pub mod Pointers
+pub mod Pointing

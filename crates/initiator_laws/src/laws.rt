@@ -3,6 +3,7 @@ ghost use Rattle.initiator_laws.specs.Laws.{CountLaw, SessionLaw, WireLaw};
 ghost use Rattle.initiator_laws.specs.Marks.{MarkLaw};
 ghost use Rattle.initiator_laws.specs.Numbers.{NumberLaw};
 ghost use Rattle.initiator_laws.specs.Pointers.{PointerLaw};
+ghost use Rattle.initiator_laws.specs.Pointing.{PointingLaw};
 ghost use Rattle.initiator_laws.specs.Served.{ReadsLaw};
 ghost use Rattle.initiator_laws.specs.Slots.{SlotLaw};
 ghost use Rattle.initiator_laws.specs.Tells.{TakesLaw, TellsLaw};
@@ -89,4 +90,12 @@ pub fn lists_are_known()
 #[tactic(auto, using(crate::proofs::Pointers::pointer_law))]
 pub fn pointers_are_written()
     ensures { PointerLaw }
+{}
+
+/// The law that over every list of calls the session, unless it is Stuck, counts as pointing exactly while a write of
+/// ORB_POINTER is under way; and that this write is the only one, of the present list, unanswered, and beside no
+/// operation that ends lists.
+#[tactic(auto, using(crate::proofs::Pointing::pointing_law))]
+pub fn pointing_is_a_write_under_way()
+    ensures { PointingLaw }
 {}
