@@ -1,8 +1,9 @@
 #!/usr/bin/env bash
 # What a run over the bus costs, in instructions as valgrind counts them: a script of 10,000 lines, the drills of
 # 1,000 and 10,000 lines with their ratio, and a line at the beginning and at the end of a long script, beside few
-# packets in flight and beside 60,000 (a script has at most 65,536 lines; bench/store.sh goes to 100,000). And the
-# peak of the heap, by massif, of five nodes with WRITEs of 16 KiB that wait.
+# packets in flight and beside 60,000 (a script has at most 65,536 lines; bench/store.sh goes to 100,000), which are
+# requests, or responses of one transaction. And the peak of the heap, by massif, of five nodes with WRITEs of 16 KiB
+# that wait.
 # First build the program: cd crates/sbp2 && rt run -- run < stdin
 cd "$(dirname "$0")/.." || exit 1
 program=${1:-crates/sbp2/out/sbp2}
@@ -23,8 +24,7 @@ appends() {
 
 # so many packets in flight, injected, and then so many pairs of lines that send one more and lose it
 flights() {
-    awk -v flying="$1" -v n="$2" 'BEGIN {
-        packet = "inject 0 FFC00140FFC1FFFFF0000400"
+    awk -v packet="inject 0 $1" -v flying="$2" -v n="$3" 'BEGIN {
         print "begin 1 ready"
         for (i = 1; i <= flying; i++) print packet
         for (i = flying + 1; i <= flying + n; i++) { print packet; print "lose " i }
@@ -48,9 +48,12 @@ early=$(($(appends 3200 | count run) - $(appends 1600 | count run)))
 late=$(($(appends 64000 | count run) - $(appends 62400 | count run)))
 awk -v a="$early" -v b="$late" 'BEGIN { printf "a line: %d at the beginning, %d behind 62,400 lines, ratio %.2f\n", a / 1600, b / 1600, b / a }'
 
-few=$(($(flights 10 2000 | count run) - $(flights 10 1000 | count run)))
-many=$(($(flights 60000 2000 | count run) - $(flights 60000 1000 | count run)))
-awk -v a="$few" -v b="$many" 'BEGIN { printf "two lines: %d beside 10 packets in flight, %d beside 60,000, ratio %.2f\n", a / 1000, b / 1000, b / a }'
+request=FFC00140FFC1FFFFF0000400 response=FFC00120FFC1000000000000
+for packet in $request $response; do
+    few=$(($(flights $packet 10 2000 | count run) - $(flights $packet 10 1000 | count run)))
+    many=$(($(flights $packet 60000 2000 | count run) - $(flights $packet 60000 1000 | count run)))
+    awk -v p=$packet -v a="$few" -v b="$many" 'BEGIN { printf "two lines (%s): %d beside 10 packets in flight, %d beside 60,000, ratio %.2f\n", p, a / 1000, b / 1000, b / a }'
+done
 
 writes > "$work/writes"
 valgrind --tool=massif --massif-out-file="$work/massif" "$program" run < "$work/writes" > "$work/out" 2> "$work/log"

@@ -1,16 +1,10 @@
 -- What a ring has under each serial, after a change of one slot or of the older packets.
 use Rattle.std.proofs.Common.{◌≡◌, ◌∙◌, refl, sym, subst, ap, ℕ, zero, suc, ◌<◌, ◌≤◌, Bool, true, false, List, [], ◌∷◌, ◌++◌, length, None, Some, cond, arith}
 use Rattle.std.specs.Prelude.{◌≢◌, ◌==◌, Option, slice_set, slice_index_or}
-use Rattle.std.specs.BTreeMap.{is_at}
-use Rattle.std.specs.Ordering.{nat_cmp}
-use Rattle.std.specs.Cmp.{unsigned_ties}
 use Rattle.std.proofs.lemmas.Bool.Decides.{nat_tests}
 use Rattle.std.proofs.lemmas.List.{get_or-set_same, get_or-set_other, get_or_read}
 use Rattle.packet_store.specs.declared.sent.Kept.{Kept}
 use Rattle.packet_store.specs.Rings.{slot_of, slot, is_of, pick, older, Placed, marked}
-
-at_serial : (s q : ℕ) → is_at (nat_cmp s) q ≡ (s == q)
-at_serial s q = sym (unsigned_ties s q)
 
 differs : (s q : ℕ) → s ≢ q → (s == q) ≡ false
 differs s q ne = grind (arith, nat_tests)
@@ -32,10 +26,10 @@ in_range (x ∷ slots) (suc at) k e = let r = in_range slots at k e in omega ari
 
 -- what the older ones have once one more is among them, or one is not any more
 pub record Changes (before after : List (ℕ × Kept)) (s : ℕ) (w : Option Kept) : Type 0 where
-  pub updates : (q : ℕ) → older after q ≡ cond (is_at (nat_cmp s) q) w (older before q)
+  pub updates : (q : ℕ) → older after q ≡ cond (s == q) w (older before q)
 
 changed : (before after : List (ℕ × Kept)) (s q : ℕ) (w : Option Kept) → Changes before after s w → older after q ≡ cond (s == q) w (older before q)
-changed before after s q w c = c.updates q ∙ ap (λ b. cond b w (older before q)) (at_serial s q)
+changed before after s q w c = c.updates q
 
 unchanged : (before after : List (ℕ × Kept)) (s q : ℕ) (w : Option Kept) → Changes before after s w → (s == q) ≡ false → older after q ≡ older before q
 unchanged before after s q w c e = changed before after s q w c ∙ ap (λ b. cond b w (older before q)) e

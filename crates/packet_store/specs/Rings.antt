@@ -1,8 +1,6 @@
 -- The packets of a ring as a function: what it has under a serial.
-use Rattle.std.specs.Prelude.{◌≡◌, ℕ, ◌==◌, ◌%◌, Bool, false, if◌then◌else◌, List, Option, Some, None, slice_index_or}
+use Rattle.std.specs.Prelude.{◌≡◌, ℕ, ◌==◌, ◌%◌, nat_eq, Bool, false, if◌then◌else◌, List, Option, Some, None, slice_index_or}
 use Rattle.std.specs.Map.{lookup}
-use Rattle.std.specs.BTreeMap.{is_at}
-use Rattle.std.specs.Ordering.{nat_cmp}
 use Rattle.packet_store.specs.declared.sent.Kept.{Kept}
 use Rattle.packet_store.specs.declared.ring.Ring.{Ring}
 
@@ -26,7 +24,7 @@ pick serial (Some k) older = if k.serial == serial then Some k else older
 
 -- what the older ones have
 abbrev pub older : List (ℕ × Kept) → ℕ → Option Kept
-older entries serial = lookup (is_at (nat_cmp serial)) entries
+older entries serial = lookup (nat_eq serial) entries
 
 -- the ring has this under a serial
 unfoldable pub holds : Ring → ℕ → Option Kept

@@ -7,7 +7,7 @@ ghost use Rattle.packet_store.specs.Rings.{slot_of, slot, is_of, holds, older, P
 use crate::sent::Kept;
 use sbp_base::NoMemory;
 use std::alloc::Global;
-use std::collections::BTreeMap;
+use std::collections::HashMap;
 
 /// The slots of a ring.
 const SLOTS: u64 = 2048;
@@ -17,7 +17,7 @@ const SLOTS: u64 = 2048;
 #[derive(Drop)]
 pub(crate) struct Ring {
     pub(crate) slots: Vec<Option<Kept>>,
-    pub(crate) older: BTreeMap<u64, Kept>,
+    pub(crate) older: HashMap<u64, Kept>,
 }
 
 /// The slot of a serial.
@@ -48,7 +48,7 @@ impl Ring {
     {
         Ring {
             slots: Vec::new(alloc),
-            older: BTreeMap::new(alloc),
+            older: HashMap::new(alloc),
         }
     }
 
