@@ -1,5 +1,5 @@
 -- An ORB is prepared, and its append is told.
-use Rattle.std.proofs.Common.{arith, ◌≡◌, refl, sym, ap, subst, ◌∙◌, ℕ, zero, suc, ◌+◌, ◌<◌, ◌≤◌, ◌==◌, ◌&&◌, nat_eq, nat_lt, Bool, true, false, cond, List, [], ◌∷◌, Option, Some, None, Result, Ok, Err}
+use Rattle.std.proofs.Common.{arith, ◌≡◌, refl, sym, ap, subst, ◌∙◌, ℕ, zero, suc, ◌+◌, ◌<◌, ◌≤◌, ◌==◌, nat_eq, nat_lt, Bool, true, false, cond, List, ◌∷◌, Option, Some, None, Ok}
 use Rattle.std.proofs.lemmas.Bool.Decides.{nat_tests}
 use Rattle.bus_memory.specs.declared.window.Window.TheVariants as windows
 use Rattle.bus_memory.specs.Windows.{start}
@@ -25,7 +25,7 @@ use Rattle.sbp_laws.specs.Turns.{event_of}
 use Rattle.host_terms.specs.Fits.{AreRows, IfLast, IfList, LastFits, linked_by, terms_at}
 use Rattle.host_terms.specs.Orbs.{request_of}
 use Rattle.host_terms.proofs.Chains.{Same, chained_run}
-use Rattle.host_terms.proofs.OrbFits.{AllFit, IfFits, NoneYet, OrbFits, next_in}
+use Rattle.host_terms.proofs.OrbFits.{AllFit, IfFits, NoneYet, OrbFits}
 use Rattle.host_terms.proofs.OrbTerms.{OrbTerms, append_first, append_next, first_linked, orb_terms, with_append}
 use Rattle.host_terms.proofs.Prepares.{itself}
 

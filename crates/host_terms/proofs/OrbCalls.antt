@@ -1,5 +1,5 @@
 -- The calls of an initiator's slots that prepare, link and dummy no ORB.
-use Rattle.std.proofs.Common.{ℕ, zero, suc, ◌≡◌, nat_lt, is_some, Bool, true, false, cond, List, [], ◌∷◌, ◌++◌, Option, Some, None}
+use Rattle.std.proofs.Common.{ℕ, zero, suc, nat_lt, Bool, true, false, cond, List, [], ◌∷◌, Option, Some, None}
 use Rattle.byteorder.specs.Endian.{big_bytes}
 use Rattle.async_packet.specs.Labels.{LabelParts}
 use Rattle.async_packet.specs.Packet.{Packet, lock, lock_response, read_block, read_block_response, read_quadlet, read_quadlet_response, write_block, write_quadlet, write_response}
@@ -17,7 +17,7 @@ use Rattle.sbp_initiator.specs.declared.purpose.Purpose.{Purpose}
 use Rattle.sbp_initiator.specs.declared.state.InitiatorState.{InitiatorState}
 use Rattle.sbp_initiator.specs.Effects.{Turn}
 use Rattle.sbp_initiator.specs.Receiving.{fifo_of, is_foreign}
-use Rattle.initiator_laws.specs.Laws.{Call, done, lets_expire, receives, sees}
+use Rattle.initiator_laws.specs.Laws.{done, lets_expire, receives, sees}
 use Rattle.initiator_laws.specs.Slots.{block_calls, block_writes, drop_calls, has_ended, heard_calls, orb_calls, pin_calls, quad_calls, quadlet_writes, request_calls, slot_calls, status_calls, unpin_calls, write_calls, written_by}
 use Rattle.initiator_laws.specs.Taking.{Brought, brought, finding_drops, nothing, status, unsolicited}
 use Rattle.host_terms.proofs.OrbFits.{AreQuiet, quiet_append}

@@ -1,5 +1,5 @@
 -- An ORB is linked, or becomes a dummy, and that is told.
-use Rattle.std.proofs.Common.{arith, ◌≡◌, refl, sym, ap, subst, ◌∙◌, ℕ, suc, ◌+◌, ◌<◌, ◌≤◌, ◌==◌, nat_eq, nat_lt, Bool, true, false, cond, List, [], ◌∷◌, length, Option, Some, None, Result, Ok, Err}
+use Rattle.std.proofs.Common.{arith, ◌≡◌, refl, sym, ap, subst, ◌∙◌, ℕ, suc, ◌<◌, ◌==◌, nat_eq, nat_lt, Bool, true, false, cond, List, ◌∷◌, length, Option, Some, None}
 use Rattle.std.proofs.lemmas.Bool.Decides.{nat_tests}
 use Rattle.bus_memory.specs.declared.window.Window.TheVariants as windows
 use Rattle.bus_memory.specs.Windows.{start}
@@ -19,12 +19,12 @@ use Rattle.orb_list.proofs.Steps.{held_law}
 use Rattle.orb_list.proofs.Tied.{waits_last}
 use Rattle.sbp_journal.specs.Run.{Moment, said}
 use Rattle.sbp_journal.specs.declared.note.Note.TheVariants as notes
-use Rattle.host_terms.specs.Fits.{AreRows, IfList, LastFits, ListFits, linked_by, terms_at}
+use Rattle.host_terms.specs.Fits.{AreRows, IfList, ListFits, linked_by, terms_at}
 use Rattle.host_terms.proofs.Beside.{find_waits, found_checked, found_here, found_list, found_small, no_fault}
 use Rattle.host_terms.proofs.Chains.{Same, chained_run}
 use Rattle.host_terms.proofs.Over.{last_at}
 use Rattle.host_terms.proofs.OrbAppends.{kept_last}
-use Rattle.host_terms.proofs.OrbFits.{AllFit, IfFits, NoneYet, OrbFits, next_in}
+use Rattle.host_terms.proofs.OrbFits.{AllFit, IfFits, NoneYet, OrbFits}
 use Rattle.host_terms.proofs.OrbTerms.{OrbTerms, dummy_said, link_said, orb_terms, with_dummy, with_link}
 
 abbrev pointer_to : ℕ → OrbPointer

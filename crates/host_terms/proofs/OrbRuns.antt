@@ -1,11 +1,10 @@
 -- The ORBs of an initiator's slots fit the history of a run, behind each of its lines and deliveries.
-use Rattle.std.proofs.Common.{◌≡◌, refl, sym, ap, subst, ◌∙◌, ℕ, suc, ◌+◌, ◌<◌, ◌==◌, not, Bool, true, false, List, [], ◌∷◌, ◌++◌, length, map, Option, Some, None}
+use Rattle.std.proofs.Common.{◌≡◌, refl, sym, ap, subst, ◌∙◌, ℕ, suc, ◌<◌, ◌==◌, Bool, true, false, List, [], ◌∷◌, ◌++◌, map, Option, Some, None}
 use Rattle.async_packet.specs.Labels.{LabelParts}
 use Rattle.label_table.specs.declared.judgement.Asked.{Asked as Label}
-use Rattle.label_table.specs.Layer.{Layer, seeing_step}
+use Rattle.label_table.specs.Layer.{Layer}
 use Rattle.orb_list.specs.Runs as slot_runs
 use Rattle.orb_list.specs.Runs.{run}
-use Rattle.orb_list.specs.Table.{SlotTable}
 use Rattle.rbc_disk.specs.Runs.{Told}
 use Rattle.sbp_initiator.specs.declared.purpose.Demand.{Demand}
 use Rattle.sbp_initiator.specs.declared.purpose.Purpose.{Purpose}
@@ -23,7 +22,6 @@ use Rattle.sbp_journal.specs.declared.event.Action.{Action}
 use Rattle.sbp_journal.specs.declared.event.Event.TheVariants as events
 use Rattle.sbp_journal.specs.declared.note.Note.{Note}
 use Rattle.sbp_journal.specs.declared.note.Note.TheVariants as notes
-use Rattle.sbp_journal.specs.declared.side.Side.{Side}
 use Rattle.sbp_laws.specs.Actions.{action_notes}
 use Rattle.sbp_laws.specs.Turns.{event_of}
 use Rattle.sbp_world.specs.Histories.{history_of}
@@ -38,7 +36,6 @@ use Rattle.host_terms.specs.Calls.{behind}
 use Rattle.host_terms.specs.Fits.{AreRows}
 use Rattle.host_terms.specs.Refusing.{initiator_of}
 use Rattle.host_terms.specs.Runs.{IsRun, more_deliveries}
-use Rattle.host_terms.specs.Worlds.{IsHost}
 use Rattle.host_terms.proofs.Acts.{Goes, goes_on}
 use Rattle.host_terms.proofs.Alone.{call_same}
 use Rattle.host_terms.proofs.Carried.{Knows, between_runs, of_runs}
@@ -48,7 +45,7 @@ use Rattle.host_terms.proofs.OrbActs.{Done, act_done}
 use Rattle.host_terms.proofs.OrbCalls.{expires_quiet, receives_quiet, sees_quiet}
 use Rattle.host_terms.proofs.OrbFits.{AllFit, AreQuiet, NoneYet, quiet_calls}
 use Rattle.host_terms.proofs.OrbTells as tell
-use Rattle.host_terms.proofs.OrbTerms.{AreStill, OrbTerms, orb_terms, orbs_apart, orbs_left, still_left}
+use Rattle.host_terms.proofs.OrbTerms.{AreStill, orb_terms, orbs_apart, orbs_left, still_left}
 use Rattle.host_terms.proofs.Passes.{judged_apart}
 use Rattle.host_terms.proofs.Runs.{are_after}
 use Rattle.host_terms.proofs.Telling.{action_law}

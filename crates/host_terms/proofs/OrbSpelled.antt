@@ -12,10 +12,9 @@ use Rattle.orb_layout.specs.Pointers.{bit, flag, node_at, offset_at, pointer_at,
 use Rattle.orb_list.specs.Kept.{HoldsOrb, Kept, orb_now}
 use Rattle.orb_list.specs.Layout.{data_size, data_start, orb_of}
 use Rattle.orb_list.specs.Requests.{Asked, IsRequest}
-use Rattle.sbp_initiator.specs.Commands.{IsCommand, asked_by}
+use Rattle.sbp_initiator.specs.Commands.{asked_by}
 use Rattle.sbp_journal.specs.Buffers.{buffer_of, in_buffer, out_buffer}
 use Rattle.sbp_journal.specs.declared.event.Cmd.{Cmd}
-use Rattle.sbp_journal.specs.declared.note.NoteBuffer.{NoteBuffer}
 use Rattle.sbp_journal.specs.declared.note.NoteBuffer.TheVariants.{In, Nothing}
 use Rattle.sbp_laws.specs.Terms.{plan_of}
 use Rattle.host_terms.specs.Orbs.{orb_for}

@@ -1,5 +1,5 @@
 -- In every run an initiator's memory holds its ORBs as they were appended and linked.
-use Rattle.std.proofs.Common.{arith, ◌≡◌, refl, sym, ap, subst, ◌∙◌, ℕ, ◌*◌, ◌<◌, Bool, List, ◌∷◌, ◌++◌, length, map, take, slice_index_or, Option, Some, None}
+use Rattle.std.proofs.Common.{arith, ◌≡◌, refl, sym, ap, subst, ◌∙◌, ℕ, ◌*◌, ◌<◌, Bool, List, length, take, slice_index_or, Option, Some, None}
 use Rattle.std.proofs.lemmas.List.{get_or-map, take_all}
 use Rattle.bus_memory.specs.Access.{read_step}
 use Rattle.bus_memory.specs.Laws.{IsWhole}
@@ -9,7 +9,6 @@ use Rattle.bus_memory.specs.Windows.{start}
 use Rattle.orb_layout.specs.Pointers.{node_at}
 use Rattle.orb_layout.specs.CommandOrbs.{command_orb}
 use Rattle.orb_layout.specs.declared.command.CommandOrb.{CommandOrb}
-use Rattle.orb_list.specs.declared.slot.Slot.{Slot}
 use Rattle.orb_list.specs.declared.slot.SlotState.{SlotState}
 use Rattle.orb_list.specs.declared.slot.SlotState.TheVariants as states
 use Rattle.orb_list.specs.Kept.{HoldsOrb, IfHoldsOrb, Kept, kept_in}
