@@ -56,4 +56,5 @@ pub mod OrbLinks
 pub mod OrbActs
 pub mod OrbRuns
 pub mod OrbSpelled
+pub mod OrbTables
 pub mod Orbs

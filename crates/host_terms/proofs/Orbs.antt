@@ -23,6 +23,7 @@ use Rattle.sbp_initiator.specs.Effects.{Turn}
 use Rattle.sbp_initiator.specs.Initiators.{own_rom}
 use Rattle.sbp_initiator.specs.declared.state.InitiatorState.{InitiatorState}
 use Rattle.sbp_journal.specs.Run.{Moment}
+use Rattle.sbp_laws.specs.CarriedBytes.{buffer_in}
 use Rattle.sbp_laws.specs.Lists as terms
 use Rattle.sbp_laws.specs.Lists.{Orb, SlotState as Row, prepared_in, slots, used, vacant}
 use Rattle.initiator_laws.specs.Laws.{after}
@@ -38,6 +39,7 @@ use Rattle.host_terms.proofs.OrbAppends.{kept_last}
 use Rattle.host_terms.proofs.OrbFits.{IfFits, OrbFits, format_in, next_in}
 use Rattle.host_terms.proofs.OrbRuns.{Orbs, orbs_between, orbs_of_runs}
 use Rattle.host_terms.proofs.OrbSpelled.{reads_orb, same_bytes, same_direction}
+use Rattle.host_terms.proofs.OrbTables.{laid_as, read_table, whole_bytes}
 use Rattle.host_terms.proofs.OrbTerms.{orb_terms}
 use Rattle.host_terms.proofs.Runs.{run_law}
 
@@ -116,7 +118,10 @@ module _ (ready : Bool) (past : List Moment) (i : ℕ) (s : InitiatorState) (row
       let l : LastFits (run calls (own_rom i)).table.lists (orb_terms past i).appended (orb_terms past i).place k o.ticket = kept_last past i calls (own_rom i) rows_of k o b e in
       let m = slot_at memory k in
       let size : length m.orb ≡ 32 = whole.sizes (windows.Orb k) in
-      let orb = reads_orb (orb_terms past i) o f (subst (λ x. x < 32) (sym l.slot) b) m g in
+      let spells : command_orb m.orb ≡ orb_for f.cmd (node_at m.orb 8) k (next_in (orb_terms past i) o.ticket.list o.ticket.number) (format_in (orb_terms past i) o.ticket.list o.ticket.number) = subst (λ x. command_orb m.orb ≡ orb_for f.cmd (node_at m.orb 8) x (next_in (orb_terms past i) o.ticket.list o.ticket.number) (format_in (orb_terms past i) o.ticket.list o.ticket.number)) l.slot
+      (reads_orb (orb_terms past i) o f (subst (λ x. x < 32) (sym l.slot) b) m g) in
+      let table : take (8 * length f.cmd.segments) m.table ≡ table_bytes k 0 f.cmd.segments = subst (λ x. take (8 * length f.cmd.segments) m.table ≡ table_bytes x 0 f.cmd.segments) l.slot
+      (subst (λ (x : Asked). take (8 * length x.segments) m.table ≡ table_bytes o.ticket.slot 0 x.segments) f.asked g.table) in
       record {
         place = l.at;
         cmd = f.cmd;
@@ -125,9 +130,14 @@ module _ (ready : Bool) (past : List Moment) (i : ℕ) (s : InitiatorState) (row
         fits = f.fits;
         fills = same_bytes f.cmd;
         node = node_at m.orb 8;
-        orb = subst (λ x. command_orb m.orb ≡ orb_for f.cmd (node_at m.orb 8) x (next_in (orb_terms past i) o.ticket.list o.ticket.number) (format_in (orb_terms past i) o.ticket.list o.ticket.number)) l.slot orb;
-        as_appended = record { command = ap (λ (x : CommandOrb). x.cdb) orb; direction = ap (λ (x : CommandOrb). x.to_initiator) orb ∙ same_direction f.cmd };
-        table = subst (λ x. take (8 * length f.cmd.segments) m.table ≡ table_bytes x 0 f.cmd.segments) l.slot (subst (λ (x : Asked). take (8 * length x.segments) m.table ≡ table_bytes o.ticket.slot 0 x.segments) f.asked g.table);
+        orb = spells;
+        as_appended = record { command = ap (λ (x : CommandOrb). x.cdb) spells; direction = ap (λ (x : CommandOrb). x.to_initiator) spells ∙ same_direction f.cmd };
+        table = table;
+        reads_table = λ out long zero.
+            read_table memory k out b zero
+            ∙ (ap (λ n. take n m.table) long ∙ table);
+        laid = λ moved read. ap (λ (x : CommandOrb). buffer_in x moved) spells ∙ laid_as f.cmd k b moved f.fits (node_at m.orb 8) (next_in (orb_terms past i) o.ticket.list o.ticket.number) (format_in (orb_terms past i) o.ticket.list o.ticket.number) read;
+        whole = whole_bytes k f.cmd;
         size = size;
         read = λ out long zero.
             subst (λ x. (read_step memory (start (windows.Orb x)) out).0 ≡ 0 → (read_step memory (start (windows.Orb x)) out).1 ≡ m.orb) (sym l.at)

@@ -2,22 +2,25 @@
 -- that an ORB was prepared in last spells it: its command, its direction, its buffer and its page table are those of its append; its next
 -- pointer is null until the ORB behind it is linked, and then that ORB's address; its format is 3 exactly where it was made a dummy. A read of its
 -- 32 bytes that is served gives these bytes. And an ORB that uses a slot is the one that was prepared last there.
-use Rattle.std.specs.Prelude.{◌≡◌, ◌<◌, ℕ, suc, ◌*◌, nat_lt, false, if◌then◌else◌, List, ◌∷◌, ◌++◌, length, map, slice_index_or, take, Option, Some}
+use Rattle.std.specs.Prelude.{◌≡◌, ◌<◌, ℕ, suc, ◌*◌, nat_lt, true, false, if◌then◌else◌, List, ◌∷◌, ◌++◌, length, map, slice_index_or, sum, take, Option, Some}
 use Rattle.bus_memory.specs.Access.{read_step}
 use Rattle.bus_memory.specs.Memory.{Memory}
 use Rattle.bus_memory.specs.Memory as memories
+use Rattle.bus_memory.specs.declared.window.Window.TheVariants as windows
+use Rattle.bus_memory.specs.Windows.{start}
 use Rattle.orb_layout.specs.declared.command.CommandOrb.{CommandOrb}
 use Rattle.orb_layout.specs.declared.pointer.OrbPointer.{OrbPointer}
 use Rattle.orb_layout.specs.declared.pointer.OrbPointer.TheVariants.{Null, At}
 use Rattle.orb_layout.specs.CommandOrbs.{command_orb}
-use Rattle.orb_list.specs.Layout.{orb_of, table_bytes}
+use Rattle.orb_list.specs.Layout.{has_table, orb_of, table_bytes}
+use Rattle.page_table.specs.Buffer.{bytes_of}
 use Rattle.rbc_disk.specs.Runs.{Told}
 use Rattle.sbp_journal.specs.Buffers.{buffer_of}
 use Rattle.sbp_journal.specs.Run.{Moment, asked, said}
 use Rattle.sbp_journal.specs.declared.event.Cmd.{Cmd}
 use Rattle.sbp_initiator.specs.Commands.{IsCommand, asked_by}
 use Rattle.sbp_initiator.specs.declared.state.InitiatorState.{InitiatorState}
-use Rattle.sbp_laws.specs.CarriedBytes.{address_of}
+use Rattle.sbp_laws.specs.CarriedBytes.{Moved, address_of, buffer_in, laid_out, read_at}
 use Rattle.sbp_laws.specs.CarriedLaw.{IsAsAppended}
 use Rattle.sbp_laws.specs.Lists.{Orb, command_at, is_dummy, linked, prepared_in, slot_at, slots, used, vacant}
 use Rattle.sbp_laws.specs.Terms.{Request, plan_of, request_at}
@@ -56,6 +59,11 @@ pub record StandsIn (past : List Moment) (i : ℕ) (memory : Memory) (slot : ℕ
   pub orb : command_orb (memories.slot_at memory slot).orb ≡ orb_for cmd node slot (next_of past i one.list one.number) (format_of past i one.list one.number)
   pub as_appended : IsAsAppended (command_orb (memories.slot_at memory slot).orb) (request_of cmd)
   pub table : take (8 * length cmd.segments) (memories.slot_at memory slot).table ≡ table_bytes slot 0 cmd.segments
+  -- a read of the page table that is served gives it; by it, where there is one, the buffer is the one that is laid out for the command, whose
+  -- length is that of the segments
+  pub reads_table : (out : List ℕ) → length out ≡ 8 * length cmd.segments → (read_step memory (start (windows.Table slot)) out).0 ≡ 0 → (read_step memory (start (windows.Table slot)) out).1 ≡ table_bytes slot 0 cmd.segments
+  pub laid : (moved : List Moved) → (has_table cmd.segments ≡ true → read_at (start (windows.Table slot)) moved ≡ table_bytes slot 0 cmd.segments) → buffer_in (command_orb (memories.slot_at memory slot).orb) moved ≡ laid_out slot cmd cmd.segments
+  pub whole : (has_table cmd.segments ≡ true → sum cmd.segments ≡ cmd.length) → bytes_of (laid_out slot cmd cmd.segments) ≡ cmd.length
   pub size : length (memories.slot_at memory slot).orb ≡ 32
   pub read : (out : List ℕ) → length out ≡ 32 → (read_step memory (address_of past i one.list one.number) out).0 ≡ 0 → (read_step memory (address_of past i one.list one.number) out).1 ≡ (memories.slot_at memory slot).orb
 
