@@ -27,7 +27,7 @@ use Rattle.host_terms.proofs.Carries.{Are, Carries, Does, asking_hands, note_car
 use Rattle.host_terms.proofs.Liners.{own_notes}
 use Rattle.host_terms.proofs.Requested.{AreRequests, act_sends, all_told_bus}
 
-module _ (P : List Moment → ℕ → InitiatorState → Type 0) (law : Carries P) (past : List Moment) (line i : ℕ) (action : Action) (w : WorldState) (inside : i < length w.initiators) (h : Are P past w) where
+module _ {Q : List Moment → ℕ → InitiatorState → Type 0} (P : List Moment → ℕ → InitiatorState → Type 0) (law : Carries Q P) (past : List Moment) (line i : ℕ) (action : Action) (w : WorldState) (inside : i < length w.initiators) (h : Are P past w) where
   abbrev old : InitiatorState
   old = initiator_at w i
 
@@ -40,7 +40,7 @@ module _ (P : List Moment → ℕ → InitiatorState → Type 0) (law : Carries 
       (subst (λ (x : InitiatorState). Are P past (with_initiator i x w)) (sym kept)
       (subst (λ (xs : List InitiatorState). Are P past (record w { initiators = xs })) (sym (set-get_or w.initiators i (new_state 0 false))) h))
 
-  module _ (under : event_of (history w past) ≡ Some (events.Act i action)) (fit : IsAction action) (to : ℕ) (there : node_of w.generations (i + 1) old.target ≡ Some to) (fresh : (terms (history w past)).injected (w.store.last + 1) ≡ false) (asks : (d : Demand) → demand_of action old ≡ Some d → IfRequest (asked_for d old).0) where
+  module _ (under : event_of (history w past) ≡ Some (events.Act i action)) (known : Q (history w past) i old) (fit : IsAction action) (to : ℕ) (there : node_of w.generations (i + 1) old.target ≡ Some to) (fresh : (terms (history w past)).injected (w.store.last + 1) ≡ false) (asks : (d : Demand) → demand_of action old ≡ Some d → IfRequest (asked_for d old).0) where
     hands_by : (t : Turn) → AreNotes t.0.sides → Does P (history w past) i t → (packets : List Outgoing) → t.0.packets ≡ packets → AreRequests old.target packets → Are P past (handed_out (i + 1) (weight_in action) t.0 (with_initiator i t.1 w))
     hands_by t own does [] e r = quiet_hands P law past w i t inside own does (λ j b f. h j b) (weight_in action) e
     hands_by t own does (packet ∷ []) e r =
@@ -58,7 +58,7 @@ module _ (P : List Moment → ℕ → InitiatorState → Type 0) (law : Carries 
         let turn : (act_step action empty_outbox old).1 ≡ t = ap (λ (x : Option ℕ × Turn). x.1) e in
         hands_by t
         (subst (λ (x : Turn). AreNotes x.0.sides) turn (own_notes (act_step action empty_outbox old).1.0.sides (initiators.acts action empty_outbox old tt)))
-        (subst (Does P (history w past) i) turn (law.acts action (history w past) i old under fit is_done (h i inside)))
+        (subst (Does P (history w past) i) turn (law.acts action (history w past) i old under fit is_done known (h i inside)))
         t.0.packets refl
         (subst (λ (x : Turn). AreRequests old.target x.0.packets) turn (act_sends action old asks))
 

@@ -101,10 +101,10 @@ module _ {t : ListTerms} (s : SlotTable) (f : Fits t s) (u : TicketParts) (w : (
   at_slot : u.slot ≡ w.0
   at_slot = (last_at t s f w.0 u at_number (waits_last (slot_in s.slots w.0) u w.1.1)).slot
 
-  found_small : u.slot < 32
+  pub found_small : u.slot < 32
   found_small = subst (λ k. k < 32) (sym at_slot) at_number
 
-  found_here : waiting (slot_in s.slots u.slot) ≡ Some u
+  pub found_here : waiting (slot_in s.slots u.slot) ≡ Some u
   found_here = ap (λ k. waiting (slot_in s.slots k)) at_slot ∙ w.1.1
 
   pub found_list : IsOf s.present u
@@ -121,10 +121,10 @@ present_of : (present : Option PresentList) (u : TicketParts) → IsOf present u
 present_of None u h = absurd h
 present_of (Some list) u h = ap (λ x. Some x) h
 
-abbrev no_fault : Result (Unit {0}) ListFault
+abbrev pub no_fault : Result (Unit {0}) ListFault
 no_fault = Ok tt
 
-found_checked : (s : SlotTable) (u : TicketParts) → IsOf s.present u → waiting (slot_in s.slots u.slot) ≡ Some u → table.checked s u ≡ no_fault
+pub found_checked : (s : SlotTable) (u : TicketParts) → IsOf s.present u → waiting (slot_in s.slots u.slot) ≡ Some u → table.checked s u ≡ no_fault
 unfolding table.checked
 found_checked s u of w = checked_by (table.is_present s.present u) (table.is_the (waiting (slot_in s.slots u.slot)) u) (is_here s.present of) (ap (λ x. table.is_the x u) w ∙ ticket_itself u)
   where

@@ -8,7 +8,7 @@ use Rattle.initiator_laws.specs.Laws.{Call, IsCall, acts, after, done, lets_expi
 use Rattle.host_terms.specs.Calling.{CallsLaw, IsCalled}
 use Rattle.host_terms.proofs.Alone.{call_same}
 use Rattle.host_terms.proofs.Carried.{of_runs}
-use Rattle.host_terms.proofs.Carries.{Carries}
+use Rattle.host_terms.proofs.Carries.{Carries, Nothing}
 use Rattle.host_terms.proofs.Liners.{number_call}
 
 pub called_first : (ready : Bool) (i : ℕ) → IsCalled ready i (new_state i ready)
@@ -39,8 +39,9 @@ own_first ready i = record { number = refl; called = called_first ready i }
 abbrev Owns : Bool → List Moment → ℕ → InitiatorState → Type 0
 Owns ready past i s = IsOwn ready i s
 
-own_carried : (ready : Bool) → Carries (Owns ready)
+own_carried : (ready : Bool) → Carries Nothing (Owns ready)
 own_carried ready = record {
+  known = λ line event past i s h. tt;
   number = λ past i s h. h.number;
   asked = λ line event past i s h. h;
   apart = λ note past i s e h. h;
@@ -49,8 +50,8 @@ own_carried ready = record {
   expires = λ serial label past i s h. record { own = own_on ready i s (lets_expire label) tt h; others = λ j x e g. g };
   stale = λ label past i s e h. own_on ready i s (lets_expire label) tt h;
   sees = λ generation id target past i s e h. record { own = own_on ready i s (sees generation id target) tt h; others = λ j x f g. g };
-  acts = λ action past i s e fit d h. record { others = λ j x f g. g; quiet = λ n. own_on ready i s (acts action) fit h; asking = λ packet one serial generation to f q. own_on ready i s (acts action) fit h };
+  acts = λ action past i s e fit d known h. record { others = λ j x f g. g; quiet = λ n. own_on ready i s (acts action) fit h; asking = λ packet one serial generation to f q. own_on ready i s (acts action) fit h };
 }
 
 pub calls_law : CallsLaw
-calls_law run r i b = (of_runs (Owns run.ready) (own_carried run.ready) 0 run (λ j c. own_first run.ready j) r i b).called
+calls_law run r i b = (of_runs (Owns run.ready) (own_carried run.ready) 0 run (λ entries few short all fit j c. tt) (λ j c. own_first run.ready j) r i b).called

@@ -79,16 +79,24 @@ record Heard (P : List Moment → ℕ → InitiatorState → Type 0) (past : Lis
   sound : Sound past lines w
   all : Are P past w
 
-module _ (P : List Moment → ℕ → InitiatorState → Type 0) (law : Carries P) where
+-- what holds of the initiators of a world, by a history
+abbrev pub AreAt : (List Moment → ℕ → InitiatorState → Type 0) → List Moment → WorldState → Type 0
+AreAt P ms w = (i : ℕ) → i < length w.initiators → P ms i (initiator_at w i)
+
+-- what is known behind each line of a run
+abbrev pub Knows : (List Moment → ℕ → InitiatorState → Type 0) → ℕ → Run → Type 0
+Knows Q line run = (entries : List Entry) → run.initiators ≤ 4 → length entries + 2 < 2 ^ 32 → AreEntries (beginning run) entries → AreLines run entries → AreAt Q (moments_behind line run entries) (after (beginning run) entries).world
+
+module _ {Q : List Moment → ℕ → InitiatorState → Type 0} (P : List Moment → ℕ → InitiatorState → Type 0) (law : Carries Q P) where
   opened : (past : List Moment) (line : ℕ) (event : Event) (w : WorldState) → Are P past w → Are P (asked line event ∷ history w past) (without_notes w)
   opened past line event w h i b = law.asked line event (history w past) i (initiator_at w i) (h i b)
 
   -- ---- an action
 
-  acts_line : {past : List Moment} {lines : ℕ} (line i : ℕ) (w : WorldState) → i < length w.initiators → lines + 1 < 2 ^ 32 → Sound past lines w → Are P past w → (action : Action) → IsAction action → Are P (asked line (events.Act i action) ∷ history w past) (acted line i action (without_notes w))
-  acts_line {past} line i w inside few sound h action fit =
+  acts_line : {past : List Moment} {lines : ℕ} (line i : ℕ) (w : WorldState) → i < length w.initiators → lines + 1 < 2 ^ 32 → Sound past lines w → Are Q past w → Are P past w → (action : Action) → IsAction action → Are P (asked line (events.Act i action) ∷ history w past) (acted line i action (without_notes w))
+  acts_line {past} line i w inside few sound known h action fit =
       let event = events.Act i action in
-      acts P law (asked line event ∷ history w past) line i action (without_notes w) inside (opened past line event w h) refl fit 0
+      acts P law (asked line event ∷ history w past) line i action (without_notes w) inside (opened past line event w h) refl (law.known line event (history w past) i (initiator_at w i) (known i inside)) fit 0
       (ap (λ n. node_of w.generations n (initiator_at w i).target) (let e : i + 1 ≡ suc i = omega arith in e) ∙ target_there w sound.stands i inside sound.nodes)
       (fresh w sound.stands) (λ d e. own_request w i inside few sound action d e)
 
@@ -142,71 +150,69 @@ module _ (P : List Moment → ℕ → InitiatorState → Type 0) (law : Carries 
 
   -- ---- every line
 
-  line_keeps : {past : List Moment} {lines : ℕ} (line : ℕ) (event : Event) (told : List (Option Told)) (s : Scene) → lines + 1 < 2 ^ 32 → IsLine event (length s.world.initiators) → AreTold told → MayHappen event told s → Sound past lines s.world → Are P past s.world → Are P (asked line event ∷ history s.world past) (happens line event told s).world
+  line_keeps : {past : List Moment} {lines : ℕ} (line : ℕ) (event : Event) (told : List (Option Told)) (s : Scene) → lines + 1 < 2 ^ 32 → IsLine event (length s.world.initiators) → AreTold told → MayHappen event told s → Sound past lines s.world → Are Q past s.world → Are P past s.world → Are P (asked line event ∷ history s.world past) (happens line event told s).world
   unfolding happens MayHappen reset_line lose_line inject_line keyed
-  line_keeps line (events.Begin initiators ready) told s few q t m sound h = absurd q
-  line_keeps line (events.Act i action) told s few q t m sound h = acts_line line i s.world q.0 few sound h action q.2
-  line_keeps {past} line (events.Reset physical) told s few q t m sound h =
+  line_keeps line (events.Begin initiators ready) told s few q t m sound known h = absurd q
+  line_keeps line (events.Act i action) told s few q t m sound known h = acts_line line i s.world q.0 few sound known h action q.2
+  line_keeps {past} line (events.Reset physical) told s few q t m sound known h =
       let w = s.world in
       let v = record (without_notes w) { generations = reset_step physical w.generations } in
       note_carried P law (asked line (events.Reset physical) ∷ history w past) v (notes.Reset v.generations.latest.generation) (λ i. refl) (opened past line (events.Reset physical) w h)
-  line_keeps {past} line (events.See node) told s few q t m sound h =
+  line_keeps {past} line (events.See node) told s few q t m sound known h =
       let event = events.See node in
       let o = opens line event s.world refl sound in
       line_sees P law (asked line event ∷ history s.world past) node (without_notes s.world) (λ i. tt) (opened past line event s.world h)
       (λ i e. let l : node ≤ length s.world.initiators = q in omega arith)
       (λ i e. may_see (without_notes s.world) o.stands i (let l : node ≤ length s.world.initiators = q in omega arith))
-  line_keeps {past} {lines} line (events.Deliver serial) told s few q t m sound h =
+  line_keeps {past} {lines} line (events.Deliver serial) told s few q t m sound known h =
       let event = events.Deliver serial in
       one_heard (history s.world past) lines line event (λ i. tt) serial false (is_in_flight serial (begun s).world) told (begun s) m (opened past line event s.world h)
-  line_keeps {past} {lines} line (events.Repeat serial) told s few q t m sound h =
+  line_keeps {past} {lines} line (events.Repeat serial) told s few q t m sound known h =
       let event = events.Repeat serial in
       one_heard (history s.world past) lines line event (λ i. tt) serial true (may_repeat serial (begun s).world) told (begun s) m (opened past line event s.world h)
-  line_keeps {past} line (events.Lose serial) told s few q t m sound h =
+  line_keeps {past} line (events.Lose serial) told s few q t m sound known h =
       let event = events.Lose serial in
       loses (asked line event ∷ history s.world past) line serial (without_notes s.world) (is_in_flight serial (without_notes s.world)) (opened past line event s.world h)
-  line_keeps {past} line (events.Timeout serial) told s few q t m sound h =
+  line_keeps {past} line (events.Timeout serial) told s few q t m sound known h =
       let event = events.Timeout serial in
       line_expires P law (asked line event ∷ history s.world past) line serial (without_notes s.world) (λ i. tt) (opened past line event s.world h)
-  line_keeps {past} {lines} line (events.Step count) told s few q t m sound h =
+  line_keeps {past} {lines} line (events.Step count) told s few q t m sound known h =
       let event = events.Step count in
       (all_told (history s.world past) lines line event (λ i. tt) told t (begun s) m.may (record { sound = opens line event s.world refl sound; all = opened past line event s.world h }) refl).all
-  line_keeps {past} {lines} line events.Settle told s few q t m sound h =
+  line_keeps {past} {lines} line events.Settle told s few q t m sound known h =
       let all = all_told (history s.world past) lines line events.Settle (λ i. tt) told t (begun s) m.may (record { sound = opens line events.Settle s.world refl sound; all = opened past line events.Settle s.world h }) refl in
       let w = (after_all told (begun s)).world in
       ends (asked line events.Settle ∷ history s.world past) w (is_settled w) all.all
-  line_keeps {past} line events.Tick told s few q t m sound h =
+  line_keeps {past} line events.Tick told s few q t m sound known h =
       ticks P law (asked line events.Tick ∷ history s.world past) (without_notes s.world) (λ i. tt) (opened past line events.Tick s.world h)
-  line_keeps {past} line (events.Inject initiator bytes) told s few q t m sound h =
+  line_keeps {past} line (events.Inject initiator bytes) told s few q t m sound known h =
       let event = events.Inject initiator bytes in
       injects (asked line event ∷ history s.world past) line (initiator + 1) bytes (without_notes s.world) (injected_to (initiator + 1) bytes (without_notes s.world)) (λ i. tt) (opened past line event s.world h)
-  line_keeps {past} line (events.Key unit key) told s few q t m sound h =
+  line_keeps {past} line (events.Key unit key) told s few q t m sound known h =
       let event = events.Key unit key in
       keys (asked line event ∷ history s.world past) line unit key (without_notes s.world) (nat_lt unit (length s.world.target.units)) (opened past line event s.world h)
 
   -- ---- a run
 
-  abbrev AreAt : List Moment → WorldState → Type 0
-  AreAt ms w = (i : ℕ) → i < length w.initiators → P ms i (initiator_at w i)
-
-  module _ (line : ℕ) (run : Run) (first : (i : ℕ) → i < run.initiators → P (moments_behind line run []) i (new_state i run.ready)) where
-    first_are : AreAt (moments_behind line run []) (beginning run).world
+  module _ (line : ℕ) (run : Run) (known : Knows Q line run) (first : (i : ℕ) → i < run.initiators → P (moments_behind line run []) i (new_state i run.ready)) where
+    first_are : AreAt P (moments_behind line run []) (beginning run).world
     unfolding new_world
     first_are i b =
         let there : i < run.initiators = subst (λ n. i < n) (initiators_size run.initiators run.ready) b in
         subst (P (moments_behind line run []) i) (sym (states_at run.initiators i run.ready (new_state 0 false) there)) (first i there)
 
-    are_after : (entries : List Entry) → run.initiators ≤ 4 → length entries + 2 < 2 ^ 32 → AreEntries (beginning run) entries → AreLines run entries → AreAt (moments_behind line run entries) (after (beginning run) entries).world
+    are_after : (entries : List Entry) → run.initiators ≤ 4 → length entries + 2 < 2 ^ 32 → AreEntries (beginning run) entries → AreLines run entries → AreAt P (moments_behind line run entries) (after (beginning run) entries).world
     are_after [] few short all fit = first_are
     are_after (e ∷ before) few short all fit =
         let b = sound_after fitting_law own_fitting_law line run before few (omega arith) all.1 fit.1 in
         let s = after (beginning run) before in
-        let so_far : Are P b.past s.world = subst (λ ms. AreAt ms s.world) (sym b.is) (are_after before few (omega arith) all.1 fit.1) in
+        let so_far : Are P b.past s.world = subst (λ ms. AreAt P ms s.world) (sym b.is) (are_after before few (omega arith) all.1 fit.1) in
+        let before_it : Are Q b.past s.world = subst (λ ms. AreAt Q ms s.world) (sym b.is) (known before few (omega arith) all.1 fit.1) in
         let now = (happens e.line e.event e.told s).world in
-        subst (λ ms. AreAt ms now)
+        subst (λ ms. AreAt P ms now)
         (ap (λ ns. map said ns ++ asked e.line e.event ∷ (map said s.world.fresh ++ b.past)) (sym all.0.notes_are)
         ∙ ap (λ ms. map said e.notes ++ asked e.line e.event ∷ ms) b.is)
-        (line_keeps e.line e.event e.told s (omega arith) fit.0 (happened_fits e.event e.told s all.0.may) all.0.may b.sound so_far)
+        (line_keeps e.line e.event e.told s (omega arith) fit.0 (happened_fits e.event e.told s all.0.may) all.0.may b.sound before_it so_far)
 
     pub of_runs : IsRun run → (i : ℕ) → i < run.initiators → P (moments_behind line run run.entries) i (initiator_at (after (beginning run) run.entries).world i)
     of_runs r i b = are_after run.entries r.few r.short r.entries r.lines i (subst (λ n. i < n) (sym (count_after run run.entries)) b)
@@ -217,7 +223,7 @@ module _ (P : List Moment → ℕ → InitiatorState → Type 0) (law : Carries 
     between_by r next event e n repeats told m i b =
         let before = sound_after fitting_law own_fitting_law line run run.entries r.few r.short r.entries r.lines in
         let s = after (beginning run) run.entries in
-        let so_far : Are P before.past s.world = subst (λ ms. AreAt ms s.world) (sym before.is) (are_after run.entries r.few r.short r.entries r.lines) in
+        let so_far : Are P before.past s.world = subst (λ ms. AreAt P ms s.world) (sym before.is) (are_after run.entries r.few r.short r.entries r.lines) in
         let all = all_told (history s.world before.past) (length run.entries) next event n told (are_told told s m) (begun s) m
         (record { sound = opens next event s.world e before.sound; all = opened before.past next event s.world so_far }) (repeats (history s.world before.past)) in
         let w = (after_all told (begun s)).world in

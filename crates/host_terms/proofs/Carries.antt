@@ -44,6 +44,7 @@ is_apart i (notes.Begin initiators ready) = false
 is_apart i (notes.Append j n k cdb buffer) = not (i == j)
 is_apart i (notes.Low j n k) = not (i == j)
 is_apart i (notes.Linked j n k) = not (i == j)
+is_apart i (notes.Dummied j n k) = not (i == j)
 is_apart i (notes.Taken j n k status answer) = not (i == j)
 is_apart i (notes.Drop j n) = not (i == j)
 is_apart i (notes.Op j operation word) = not (i == j)
@@ -68,7 +69,9 @@ pub record Does (P : List Moment → ℕ → InitiatorState → Type 0) (past : 
   pub quiet : t.0.packets ≡ [] → P (behind t.0.sides past) i t.1
   pub asking : (packet : Outgoing) → t.0.packets ≡ packet ∷ [] → (serial generation to : ℕ) → (terms past).injected serial ≡ false → IsRequest packet.bytes → P (said (notes.Sent serial generation (suc i) to packet.bytes) ∷ behind t.0.sides past) i t.1
 
-pub record Carries (P : List Moment → ℕ → InitiatorState → Type 0) : Type 0 where
+-- Q is what is known of an initiator as a line begins: an action that is done may ask for it.
+pub record Carries (Q P : List Moment → ℕ → InitiatorState → Type 0) : Type 0 where
+  pub known : (line : ℕ) (event : Event) (past : List Moment) (i : ℕ) (s : InitiatorState) → Q past i s → Q (asks line event ∷ past) i s
   pub number : (past : List Moment) (i : ℕ) (s : InitiatorState) → P past i s → s.number ≡ i
   pub asked : (line : ℕ) (event : Event) (past : List Moment) (i : ℕ) (s : InitiatorState) → P past i s → P (asks line event ∷ past) i s
   pub apart : (note : Note) (past : List Moment) (i : ℕ) (s : InitiatorState) → is_apart i note ≡ true → P past i s → P (said note ∷ past) i s
@@ -77,7 +80,11 @@ pub record Carries (P : List Moment → ℕ → InitiatorState → Type 0) : Typ
   pub expires : (serial : ℕ) (label : LabelParts) (past : List Moment) (i : ℕ) (s : InitiatorState) → P past i s → Tells P (said (notes.TimedOut serial) ∷ past) i (expire_step label empty_outbox s).1
   pub stale : (label : LabelParts) (past : List Moment) (i : ℕ) (s : InitiatorState) → (expire_step label empty_outbox s).0 ≡ false → P past i s → P past i (expire_step label empty_outbox s).1.1
   pub sees : (generation id target : ℕ) (past : List Moment) (i : ℕ) (s : InitiatorState) → (seeing_step s.layer generation id).0 ≡ not (generation == (terms past).generation (suc i)) → P past i s → Tells P (said (notes.Seen (suc i) generation) ∷ past) i (see_step generation id target empty_outbox s)
-  pub acts : (action : Action) (past : List Moment) (i : ℕ) (s : InitiatorState) → event_of past ≡ Some (events.Act i action) → IsAction action → (act_step action empty_outbox s).0 ≡ None → P past i s → Does P past i (act_step action empty_outbox s).1
+  pub acts : (action : Action) (past : List Moment) (i : ℕ) (s : InitiatorState) → event_of past ≡ Some (events.Act i action) → IsAction action → (act_step action empty_outbox s).0 ≡ None → Q past i s → P past i s → Does P past i (act_step action empty_outbox s).1
+
+-- nothing is known
+abbrev pub Nothing : List Moment → ℕ → InitiatorState → Type 0
+Nothing past i s = Unit {0}
 
 -- what holds of all initiators of a world, of all but one, and that its line is no action
 abbrev pub Are : (List Moment → ℕ → InitiatorState → Type 0) → List Moment → WorldState → Type 0
@@ -101,7 +108,7 @@ pub record Still (P : List Moment → ℕ → InitiatorState → Type 0) (past :
   pub line : IsNoAct i (event_of (history w past))
   pub kept : P (history w past) i s
 
-module _ (P : List Moment → ℕ → InitiatorState → Type 0) (law : Carries P) where
+module _ {Q : List Moment → ℕ → InitiatorState → Type 0} (P : List Moment → ℕ → InitiatorState → Type 0) (law : Carries Q P) where
   -- ---- what the target tells
 
   module _ (past : List Moment) (weight i : ℕ) (s : InitiatorState) where

@@ -49,7 +49,7 @@ use Rattle.host_terms.specs.Refusing.{initiator_of}
 use Rattle.host_terms.specs.Runs.{IsRun}
 use Rattle.host_terms.proofs.Calling.{IsOwn, own_first, own_on}
 use Rattle.host_terms.proofs.Carried.{between_runs, of_runs}
-use Rattle.host_terms.proofs.Carries.{Carries, Does, Tells}
+use Rattle.host_terms.proofs.Carries.{Carries, Does, Nothing, Tells}
 use Rattle.host_terms.proofs.Cores.{apart_core, sent_core, untrue}
 use Rattle.host_terms.proofs.KnowActs.{act_acted, asked_known}
 use Rattle.host_terms.proofs.KnowEnds.{Points}
@@ -193,8 +193,9 @@ module _ (ready : Bool) where
         };
       }
 
-  cored_carried : Carries (Cored ready)
+  cored_carried : Carries Nothing (Cored ready)
   cored_carried = record {
+    known = λ line event past i s h. tt;
     number = λ past i s h. h.own.number;
     asked = λ line event past i s h. record { own = h.own; core = h.core; sits = h.sits };
     apart = λ note past i s e h. noted note past i s (apart_core note past i e) h;
@@ -203,7 +204,7 @@ module _ (ready : Bool) where
     expires = expires_told;
     stale = stale_cored;
     sees = sees_told;
-    acts = acts_told;
+    acts = λ action past i s under fit done known h. acts_told action past i s under fit done h;
   }
 
 -- ---- the beginning
@@ -221,7 +222,7 @@ first_cored : (line i initiators : ℕ) (ready : Bool) → i < initiators → Co
 first_cored line i initiators ready b = record { own = own_first ready i; core = begun_core i initiators ready b; sits = first_sits i ready }
 
 core_of_runs : (line : ℕ) (run : Run) → IsRun run → (i : ℕ) → i < run.initiators → host_core (host_at (history_of line run) i) ≡ own_core (initiator_of run i)
-core_of_runs line run r i b = (of_runs (Cored run.ready) (cored_carried run.ready) line run (λ j c. first_cored line j run.initiators run.ready c) r i b).core
+core_of_runs line run r i b = (of_runs (Cored run.ready) (cored_carried run.ready) line run (λ entries few short all fit j c. tt) (λ j c. first_cored line j run.initiators run.ready c) r i b).core
 
 -- ---- the rows of a refusal that read the session
 
@@ -446,7 +447,7 @@ first_row line run i action o h d =
 pub host_law : HostLaw
 host_law = record {
   core = core_of_runs;
-  between = λ line run r next most told m i b. (between_runs (Cored run.ready) (cored_carried run.ready) line run (λ j c. first_cored line j run.initiators run.ready c) r next most told m i b).core;
+  between = λ line run r next most told m i b. (between_runs (Cored run.ready) (cored_carried run.ready) line run (λ entries few short all fit j c. tt) (λ j c. first_cored line j run.initiators run.ready c) r next most told m i b).core;
   first = λ line run r i b action o d. first_row line run i action o (session_rows line run i action (finds_label action (initiator_of run i)) (core_of_runs line run r i b)) d;
   rows = λ line run r i b action has_label. session_rows line run i action has_label (core_of_runs line run r i b);
 }

@@ -47,3 +47,14 @@ pub mod KnowActs
 pub mod Hosted
 pub mod Deciding
 pub mod Labels
+pub mod OrbTerms
+pub mod OrbFits
+pub mod OrbTells
+pub mod OrbCalls
+pub mod OrbAppends
+pub mod OrbLinks
+pub mod OrbActs
+pub mod OrbRuns
+pub mod OrbSpelled
+pub mod OrbTables
+pub mod Orbs

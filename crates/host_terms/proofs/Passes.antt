@@ -49,7 +49,7 @@ pub judged_apart : (serial : ℕ) (judged : Judged) (i : ℕ) → is_apart i (ju
 judged_apart serial judgements.Got i = refl
 judged_apart serial (judgements.Ignored cause) i = refl
 
-module _ (P : List Moment → ℕ → InitiatorState → Type 0) (law : Carries P) (past : List Moment) where
+module _ {Q : List Moment → ℕ → InitiatorState → Type 0} (P : List Moment → ℕ → InitiatorState → Type 0) (law : Carries Q P) (past : List Moment) where
   all_but : (i : ℕ) (w : WorldState) → Are P past w → AreBut P past i w
   all_but i w h j b e = h j b
 

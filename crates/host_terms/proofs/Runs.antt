@@ -194,7 +194,7 @@ line_keeps {past} line (events.Key unit key) told s q t m sound h =
 -- ---- a run
 
 -- the initiators of a world, by a history
-abbrev AreAt : List Moment → WorldState → Type 0
+abbrev pub AreAt : List Moment → WorldState → Type 0
 AreAt ms w = (i : ℕ) → i < length w.initiators → IsHost ms i (initiator_at w i)
 
 first_host : (line i initiators : ℕ) (ready : Bool) → IsHost (said (notes.Begin initiators ready) ∷ asked line (events.Begin initiators ready) ∷ []) i (new_state i ready)
@@ -207,7 +207,7 @@ first_are line run i b =
     let there : i < run.initiators = subst (λ n. i < n) (initiators_size run.initiators run.ready) b in
     subst (IsHost (moments_behind line run []) i) (sym (states_at run.initiators i run.ready (new_state 0 false) there)) (first_host line i run.initiators run.ready)
 
-are_after : (line : ℕ) (run : Run) (entries : List Entry) → run.initiators ≤ 4 → length entries + 2 < 2 ^ 32 → AreEntries (beginning run) entries → AreLines run entries → AreAt (moments_behind line run entries) (after (beginning run) entries).world
+pub are_after : (line : ℕ) (run : Run) (entries : List Entry) → run.initiators ≤ 4 → length entries + 2 < 2 ^ 32 → AreEntries (beginning run) entries → AreLines run entries → AreAt (moments_behind line run entries) (after (beginning run) entries).world
 are_after line run [] few short all fit = first_are line run
 are_after line run (e ∷ before) few short all fit =
     let b = sound_after fitting_law own_fitting_law line run before few (omega arith) all.1 fit.1 in

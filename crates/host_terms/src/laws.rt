@@ -8,6 +8,7 @@ ghost use Rattle.host_terms.specs.Handing.{HandLaw};
 ghost use Rattle.host_terms.specs.Keeping.{KeepingLaw};
 ghost use Rattle.host_terms.specs.Labels.{RunLabelLaw};
 ghost use Rattle.host_terms.specs.Lines.{LineLaw};
+ghost use Rattle.host_terms.specs.Orbs.{OrbsLaw};
 ghost use Rattle.host_terms.specs.Reading.{ReadLaw};
 ghost use Rattle.host_terms.specs.Refusing.{RunActionLaw};
 ghost use Rattle.host_terms.specs.Runs.{RunLaw};
@@ -114,4 +115,13 @@ pub fn runs_refuse_by_their_rows()
 #[tactic(auto, using(crate::proofs::Labels::run_label_law))]
 pub fn runs_find_labels()
     ensures { RunLabelLaw }
+{}
+
+/// The law that in every run the slot in which an ORB of an initiator was prepared last spells it: the command, the
+/// direction, the buffer and the page table of its append, a next pointer that is null until the ORB behind it is linked
+/// and then that ORB's address, and format 3 exactly where it was made a dummy; that a read of its 32 bytes that is served
+/// gives them; and that an ORB that uses a slot is the one that was prepared last there.
+#[tactic(auto, using(crate::proofs::Orbs::orbs_law))]
+pub fn orbs_stand_in_memory()
+    ensures { OrbsLaw }
 {}

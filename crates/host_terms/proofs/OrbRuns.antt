@@ -1,0 +1,244 @@
+-- The ORBs of an initiator's slots fit the history of a run, behind each of its lines and deliveries.
+use Rattle.std.proofs.Common.{◌≡◌, refl, sym, ap, subst, ◌∙◌, ℕ, suc, ◌<◌, ◌==◌, Bool, true, false, List, [], ◌∷◌, ◌++◌, map, Option, Some, None}
+use Rattle.async_packet.specs.Labels.{LabelParts}
+use Rattle.label_table.specs.declared.judgement.Asked.{Asked as Label}
+use Rattle.label_table.specs.Layer.{Layer}
+use Rattle.orb_list.specs.Runs as slot_runs
+use Rattle.orb_list.specs.Runs.{run}
+use Rattle.rbc_disk.specs.Runs.{Told}
+use Rattle.sbp_initiator.specs.declared.purpose.Demand.{Demand}
+use Rattle.sbp_initiator.specs.declared.purpose.Purpose.{Purpose}
+use Rattle.sbp_initiator.specs.declared.state.InitiatorState.{InitiatorState}
+use Rattle.sbp_initiator.specs.Acting.{IsAction, act_step, asked_as, asked_for, demand_of, demanded_as, facts_with, judged_as}
+use Rattle.sbp_initiator.specs.Effects.{Turn}
+use Rattle.sbp_initiator.specs.Initiators.{new_state, own_rom}
+use Rattle.sbp_initiator.specs.Receiving.{expire_step, receive_step}
+use Rattle.sbp_initiator.specs.Refusals.{refusal}
+use Rattle.sbp_initiator.specs.Seeing.{see_step}
+use Rattle.sbp_bus.specs.Packets.{judged_note}
+use Rattle.sbp_journal.specs.Run.{Moment, asked, said}
+use Rattle.sbp_journal.specs.Outgoings.{OutboxState, empty_outbox}
+use Rattle.sbp_journal.specs.declared.event.Action.{Action}
+use Rattle.sbp_journal.specs.declared.event.Event.TheVariants as events
+use Rattle.sbp_journal.specs.declared.note.Note.{Note}
+use Rattle.sbp_journal.specs.declared.note.Note.TheVariants as notes
+use Rattle.sbp_laws.specs.Actions.{action_notes}
+use Rattle.sbp_laws.specs.Turns.{event_of}
+use Rattle.sbp_world.specs.Histories.{history_of}
+use Rattle.sbp_world.specs.Runs.{Run, after as world_after, beginning}
+use Rattle.sbp_world.specs.Settling.{MayAll, after_all}
+use Rattle.sbp_world.specs.Worlds.{begun, initiator_at}
+use Rattle.initiator_laws.specs.Ends.{own}
+use Rattle.initiator_laws.specs.Laws.{AreCalls, Call, IsCall, acts, after, done, lets_expire, receives, sees}
+use Rattle.initiator_laws.specs.Slots.{action_calls, calls_if, slot_calls, slot_calls_after}
+use Rattle.initiator_laws.proofs.Slotted.{slot_law}
+use Rattle.host_terms.specs.Calls.{behind}
+use Rattle.host_terms.specs.Fits.{AreRows}
+use Rattle.host_terms.specs.Refusing.{initiator_of}
+use Rattle.host_terms.specs.Runs.{IsRun, more_deliveries}
+use Rattle.host_terms.proofs.Acts.{Goes, goes_on}
+use Rattle.host_terms.proofs.Alone.{call_same}
+use Rattle.host_terms.proofs.Carried.{Knows, between_runs, of_runs}
+use Rattle.host_terms.proofs.Carries.{Carries, Does, Tells, is_apart}
+use Rattle.host_terms.proofs.Liners.{number_call}
+use Rattle.host_terms.proofs.OrbActs.{Done, act_done}
+use Rattle.host_terms.proofs.OrbCalls.{expires_quiet, receives_quiet, sees_quiet}
+use Rattle.host_terms.proofs.OrbFits.{AllFit, AreQuiet, NoneYet, quiet_calls}
+use Rattle.host_terms.proofs.OrbTells as tell
+use Rattle.host_terms.proofs.OrbTerms.{AreStill, orb_terms, orbs_apart, orbs_left, still_left}
+use Rattle.host_terms.proofs.Passes.{judged_apart}
+use Rattle.host_terms.proofs.Runs.{are_after}
+use Rattle.host_terms.proofs.Telling.{action_law}
+
+-- what the slots noted
+abbrev pub slot_notes : Bool → ℕ → List Call → List slot_runs.Note
+slot_notes ready i calls = (run (slot_calls_after i ready calls) (own_rom i)).notes
+
+-- An initiator is what its calls make of a new one, and the ORBs of its slots fit the history.
+pub record Orbs (ready : Bool) (past : List Moment) (i : ℕ) (s : InitiatorState) : Type 0 where
+  pub number : s.number ≡ i
+  pub calls : List Call
+  pub called : AreCalls calls
+  pub is : (after i ready calls).1 ≡ s
+  pub kept : AllFit (orb_terms past i) (slot_notes ready i calls)
+  pub none : NoneYet (orb_terms past i)
+
+-- its rows, as a line begins
+abbrev pub Rowed : List Moment → ℕ → InitiatorState → Type 0
+Rowed past i s = AreRows past i s.lists.slots
+
+module _ (ready : Bool) where
+  -- another history that says the same of its ORBs
+  said_still : (past now : List Moment) (i : ℕ) (s : InitiatorState) → orb_terms now i ≡ orb_terms past i → Orbs ready past i s → Orbs ready now i s
+  said_still past now i s e h = record {
+    number = h.number;
+    calls = h.calls;
+    called = h.called;
+    is = h.is;
+    kept = subst (λ x. AllFit x (slot_notes ready i h.calls)) (sym e) h.kept;
+    none = subst NoneYet (sym e) h.none;
+  }
+
+  -- one more call
+  module _ (past : List Moment) (i : ℕ) (s : InitiatorState) (h : Orbs ready past i s) where
+    abbrev turn : Turn
+    turn = after i ready h.calls
+
+    call_on : (now : List Moment) (call : Call) → IsCall call → AllFit (orb_terms now i) (slot_notes ready i (call ∷ h.calls)) → NoneYet (orb_terms now i) → Orbs ready now i (done call (empty_outbox, s)).1
+    call_on now call fit kept none = record {
+      number = number_call call (empty_outbox, s) fit ∙ h.number;
+      calls = call ∷ h.calls;
+      called = (fit, h.called);
+      is = call_same call turn.0 empty_outbox turn.1 ∙ ap (λ (x : InitiatorState). (done call (empty_outbox, x)).1) h.is;
+      kept = kept;
+      none = none;
+    }
+
+    -- one that leaves its ORBs
+    still_on : (call : Call) → IsCall call → AreQuiet (slot_calls call turn) → Orbs ready past i (done call (empty_outbox, s)).1
+    still_on call fit q =
+        call_on past call fit (quiet_calls (orb_terms past i) (slot_calls call turn) (slot_calls_after i ready h.calls) (own_rom i) q h.kept) h.none
+
+  still_tells : (past : List Moment) (i : ℕ) (t : Turn) → AreStill t.0.sides → Orbs ready past i t.1 → Tells (Orbs ready) past i t
+  still_tells past i t q h = record {
+    own = said_still past (behind t.0.sides past) i t.1 (still_left t.0.sides past i q) h;
+    others = λ j x e k. said_still past (behind t.0.sides past) j x (still_left t.0.sides past j q) k;
+  }
+
+  apart_still : (note : Note) (past : List Moment) (i : ℕ) (s : InitiatorState) → is_apart i note ≡ true → Orbs ready past i s → Orbs ready (said note ∷ past) i s
+  apart_still note past i s e h = said_still past (said note ∷ past) i s (orbs_apart note past i e) h
+
+  seen_still : (generation : ℕ) (past : List Moment) (i j : ℕ) (s : InitiatorState) → Orbs ready past i s → Orbs ready (said (notes.Seen j generation) ∷ past) i s
+  seen_still generation past i j s h = said_still past (said (notes.Seen j generation) ∷ past) i s (orbs_left (notes.Seen j generation) past i refl) h
+
+  sent_still : (serial generation from to : ℕ) (bytes : List ℕ) (past : List Moment) (i : ℕ) (s : InitiatorState) → Orbs ready past i s → Orbs ready (said (notes.Sent serial generation from to bytes) ∷ past) i s
+  sent_still serial generation from to bytes past i s h =
+      said_still past (said (notes.Sent serial generation from to bytes) ∷ past) i s (orbs_left (notes.Sent serial generation from to bytes) past i refl) h
+
+  hears_still : (serial generation : ℕ) (bytes : List ℕ) (past : List Moment) (i : ℕ) (s : InitiatorState) → Orbs ready past i s → Tells (Orbs ready) (said (judged_note serial (receive_step generation bytes empty_outbox s).0) ∷ past) i (receive_step generation bytes empty_outbox s).1
+  hears_still serial generation bytes past i s h =
+      let judged = (receive_step generation bytes empty_outbox s).0 in
+      let now = said (judged_note serial judged) ∷ past in
+      let k = apart_still (judged_note serial judged) past i s (judged_apart serial judged i) h in
+      still_tells now i (receive_step generation bytes empty_outbox s).1 (tell.receives generation bytes empty_outbox s tt)
+      (still_on now i s k (receives generation bytes) tt (receives_quiet generation bytes (after i ready k.calls)))
+
+  expires_still : (serial : ℕ) (label : LabelParts) (past : List Moment) (i : ℕ) (s : InitiatorState) → Orbs ready past i s → Tells (Orbs ready) (said (notes.TimedOut serial) ∷ past) i (expire_step label empty_outbox s).1
+  expires_still serial label past i s h =
+      let now = said (notes.TimedOut serial) ∷ past in
+      let k = apart_still (notes.TimedOut serial) past i s refl h in
+      still_tells now i (expire_step label empty_outbox s).1 (tell.expires label empty_outbox s tt)
+      (still_on now i s k (lets_expire label) tt (expires_quiet label (after i ready k.calls)))
+
+  sees_still : (generation id target : ℕ) (past : List Moment) (i : ℕ) (s : InitiatorState) → Orbs ready past i s → Tells (Orbs ready) (said (notes.Seen (suc i) generation) ∷ past) i (see_step generation id target empty_outbox s)
+  sees_still generation id target past i s h =
+      let now = said (notes.Seen (suc i) generation) ∷ past in
+      let k = seen_still generation past i (suc i) s h in
+      still_tells now i (see_step generation id target empty_outbox s) (tell.sees generation id target empty_outbox s tt)
+      (still_on now i s k (sees generation id target) tt (sees_quiet generation id target (after i ready k.calls)))
+
+-- ---- an action
+
+-- whether an action is refused is no matter of what was told before
+module _ (action : Action) (o p : OutboxState) (s : InitiatorState) where
+  asked_same : (r : Option Label × Layer Purpose) → (asked_as r action o s).0 ≡ (asked_as r action p s).0
+  asked_same (None, layer) = refl
+  asked_same (Some label, layer) = refl
+
+  demanded_same : (demand : Option Demand) → (demanded_as demand action o s).0 ≡ (demanded_as demand action p s).0
+  demanded_same None = refl
+  demanded_same (Some demand) = asked_same (asked_for demand s)
+
+  judged_same : (refused : Option ℕ) → (judged_as refused action o s).0 ≡ (judged_as refused action p s).0
+  judged_same (Some number) = refl
+  judged_same None = demanded_same (demand_of action s)
+
+  refused_same : (act_step action o s).0 ≡ (act_step action p s).0
+  unfolding act_step
+  refused_same = judged_same (refusal action (facts_with true s action))
+
+goes_by : (action : Action) (o : OutboxState) (s : InitiatorState) (refused : Option ℕ) → refusal action (facts_with true s action) ≡ refused → (judged_as refused action o s).0 ≡ None → Goes action s
+goes_by action o s (Some number) r e = absurd (differ e)
+  where
+    differ : Some number ≡ None → ⊥
+    differ e = cc
+goes_by action o s None r e = goes_on action s r
+
+goes : (action : Action) (o : OutboxState) (s : InitiatorState) → (act_step action o s).0 ≡ None → Goes action s
+unfolding act_step
+goes action o s e = goes_by action o s (refusal action (facts_with true s action)) refl e
+
+module _ (ready : Bool) (action : Action) (past : List Moment) (i : ℕ) (s : InitiatorState) (line : event_of past ≡ Some (events.Act i action)) (fit : IsAction action) (no_refusal : (act_step action empty_outbox s).0 ≡ None) (rows : AreRows past i s.lists.slots) (h : Orbs ready past i s) where
+  abbrev t : Turn
+  t = (act_step action empty_outbox s).1
+
+  abbrev slots_before : List slot_runs.Call
+  slots_before = slot_calls_after i ready h.calls
+
+  -- its slots are those that its calls made
+  table_same : (run slots_before (own_rom i)).table ≡ s.lists.slots
+  table_same = (slot_law i ready h.calls h.called).table ∙ ap (λ (x : InitiatorState). x.lists.slots) h.is
+
+  does : Done past i slots_before (own_rom i) (action_notes action past i) (action_calls action s)
+  does =
+      act_done past i slots_before (own_rom i) (subst (AreRows past i) (sym table_same) rows) h.kept h.none s table_same action (goes action empty_outbox s no_refusal) fit line
+
+  sides_are : t.0.sides ≡ own (action_notes action past i)
+  sides_are =
+      action_law.notes past s action empty_outbox (subst (λ j. AreRows past j s.lists.slots) (sym h.number) rows) no_refusal
+      ∙ ap (λ j. own (action_notes action past j)) h.number
+
+  -- what its slots did
+  calls_are : slot_calls (acts action) (after i ready h.calls) ≡ action_calls action s
+  calls_are =
+      let turn = after i ready h.calls in
+      ap (λ (x : InitiatorState). calls_if (act_step action turn.0 x).0 action x) h.is
+      ∙ ap (λ x. calls_if x action s) (refused_same action turn.0 empty_outbox s ∙ no_refusal)
+
+  own_acts : Orbs ready (behind t.0.sides past) i t.1
+  own_acts =
+      subst (λ told. Orbs ready (behind told past) i t.1) (sym sides_are)
+      (call_on ready past i s h (behind (own (action_notes action past i)) past) (acts action) fit
+      (subst (λ xs. AllFit (orb_terms (behind (own (action_notes action past i)) past) i) (run (xs ++ slots_before) (own_rom i)).notes) (sym calls_are) does.fits) does.none)
+
+  others_act : (j : ℕ) (x : InitiatorState) → (j == i) ≡ false → Orbs ready past j x → Orbs ready (behind t.0.sides past) j x
+  others_act j x e k =
+      said_still ready past (behind t.0.sides past) j x (ap (λ told. orb_terms (behind told past) j) sides_are ∙ does.others j e) k
+
+  acts_does : Does (Orbs ready) past i t
+  acts_does = record {
+    others = others_act;
+    quiet = λ silent. own_acts;
+    asking = λ packet one serial generation to f q. sent_still ready serial generation (suc i) to packet.bytes (behind t.0.sides past) i t.1 own_acts;
+  }
+
+-- ---- a run
+
+orbs_carried : (ready : Bool) → Carries Rowed (Orbs ready)
+orbs_carried ready = record {
+  known = λ line event past i s r. r;
+  number = λ past i s h. h.number;
+  asked = λ line event past i s h. said_still ready past (asked line event ∷ past) i s refl h;
+  apart = λ note past i s e h. apart_still ready note past i s e h;
+  sent = λ serial generation from to bytes past i s n h. sent_still ready serial generation from to bytes past i s h;
+  hears = hears_still ready;
+  expires = expires_still ready;
+  stale = λ label past i s e h. still_on ready past i s h (lets_expire label) tt (expires_quiet label (after i ready h.calls));
+  sees = λ generation id target past i s e h. sees_still ready generation id target past i s h;
+  acts = λ action past i s line fit d rows h. acts_does ready action past i s line fit d rows h;
+}
+
+rows_known : (line : ℕ) (run : Run) → Knows Rowed line run
+rows_known line run entries few short all fit i b = (are_after line run entries few short all fit i b).rows
+
+first_orbs : (line i initiators : ℕ) (ready : Bool) → Orbs ready (said (notes.Begin initiators ready) ∷ asked line (events.Begin initiators ready) ∷ []) i (new_state i ready)
+unfolding new_state
+first_orbs line i initiators ready = record { number = refl; calls = []; called = tt; is = refl; kept = λ k b. tt; none = λ n k b. refl }
+
+pub orbs_of_runs : (line : ℕ) (run : Run) → IsRun run → (i : ℕ) → i < run.initiators → Orbs run.ready (history_of line run) i (initiator_of run i)
+orbs_of_runs line run r i b =
+    of_runs (Orbs run.ready) (orbs_carried run.ready) line run (rows_known line run) (λ j c. first_orbs line j run.initiators run.ready) r i b
+
+pub orbs_between : (line : ℕ) (run : Run) → IsRun run → (next : ℕ) (most : Option ℕ) (told : List (Option Told)) → MayAll told (begun (world_after (beginning run) run.entries)) → (i : ℕ) → i < run.initiators → (let w = (after_all told (begun (world_after (beginning run) run.entries))).world in Orbs run.ready (map said w.fresh ++ asked next (more_deliveries most) ∷ history_of line run) i (initiator_at w i))
+orbs_between line run r next most told m i b =
+    between_runs (Orbs run.ready) (orbs_carried run.ready) line run (rows_known line run) (λ j c. first_orbs line j run.initiators run.ready) r next most told m i b
