@@ -35,4 +35,17 @@ pub mod Holders
 pub mod Enabled
 pub mod Sparing
 pub mod Enabling
+pub mod CrewLocks
+pub mod CrewTurns
+pub mod CrewSeats
+pub mod CrewFirsts
+pub mod CrewDelivery
+pub mod CrewEndings
+pub mod CrewTells
+pub mod CrewLapse
+pub mod CrewSights
+pub mod CrewOthers
+pub mod CrewPass
+pub mod CrewLines
+pub mod CrewRuns
 pub mod Runs
