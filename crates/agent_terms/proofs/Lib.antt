@@ -21,6 +21,8 @@ pub mod Leaving
 pub mod Fresh
 pub mod Purposes
 pub mod Handed
+pub mod Entries
+pub mod Known
 pub mod Demands
 pub mod Hands
 pub mod Asides

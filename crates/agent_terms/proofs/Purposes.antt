@@ -62,7 +62,7 @@ module _ {P : Type 0} where
       ap (λ (vacant : PeerPlace (Unit {0})). (place_at (slice_index_or (map bare_place peers) k vacant).table number).state) (sym (peer_bare P))
       ∙ ap (λ (place : PeerPlace (Unit {0})). (place_at place.table number).state) (get_or-map bare_place peers k no_peer)
 
-  state_bare : (layer : Layer P) (peer number : ℕ) → state_for (bare layer).peers peer number ≡ state_for layer.peers peer number
+  pub state_bare : (layer : Layer P) (peer number : ℕ) → state_for (bare layer).peers peer number ≡ state_for layer.peers peer number
   state_bare layer peer number =
       ap (λ k. shown_in (λ (place : PeerPlace (Unit {0})). (place_at place.table number).state) no_peer states.Free k (map bare_place layer.peers)) (owned_bare peer layer.peers)
       ∙ state_at_bare number layer.peers (owned_place peer_of peer layer.peers)
