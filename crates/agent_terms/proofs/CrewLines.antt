@@ -8,7 +8,6 @@ use Rattle.packet_store.specs.Stored.{deliver_step}
 use Rattle.rbc_disk.specs.Disk.{Disk}
 use Rattle.rbc_disk.specs.Runs.{Told}
 use Rattle.sbp_bus.specs.Packets.{end_note, judged_note, no_packet}
-use Rattle.sbp_bus.specs.Requests.{RequestsState}
 use Rattle.sbp_initiator.specs.Initiators.{new_state}
 use Rattle.sbp_initiator.specs.Receiving.{receive_step}
 use Rattle.sbp_initiator.specs.declared.state.InitiatorState.{InitiatorState}
@@ -24,7 +23,6 @@ use Rattle.sbp_laws.specs.Packets.{receiver_in}
 use Rattle.sbp_laws.specs.Targets.{Target, is_serial, over, target_at}
 use Rattle.sbp_target.specs.declared.purpose.Purpose.{Purpose}
 use Rattle.sbp_target.specs.declared.purpose.Purpose.TheVariants as purposes
-use Rattle.sbp_target.specs.Nodes.{NodeState}
 use Rattle.sbp_target.specs.Receiving.{TellsIn, received, with_layer}
 use Rattle.sbp_target.specs.Replies.{Whole}
 use Rattle.sbp_world.specs.declared.parts.delivering.Arrival.{Arrival}
@@ -48,13 +46,14 @@ use Rattle.target_terms.proofs.Lines.{all_heard, line_holds, opens}
 use Rattle.target_terms.proofs.Still.{hist}
 use Rattle.target_terms.proofs.Told.{term_in}
 use Rattle.agent_terms.specs.Calls.{AreOf}
-use Rattle.agent_terms.specs.Crews.{Request, with_requests}
+use Rattle.agent_terms.specs.Crews.{with_requests}
 use Rattle.agent_terms.proofs.Asides.{asides_law}
 use Rattle.agent_terms.proofs.CrewDelivery.{delivered_crew}
 use Rattle.agent_terms.proofs.CrewFirsts.{AgentTells}
 use Rattle.agent_terms.proofs.CrewOthers.{got_out, settled_ends, stopped_ends}
-use Rattle.agent_terms.proofs.CrewPass.{AllUnits, Crewed, KeepsKnown, UnitsAre, acts, injects, keys_line, loses, not_zero, own_crew, refuses, resets, same_crew, sights, ticks_line, times_out}
+use Rattle.agent_terms.proofs.CrewPass.{AllUnits, Crewed, UnitsAre, acts, injects, keys_line, loses, not_zero, own_crew, refuses, resets, same_crew, sights, ticks_line, times_out}
 use Rattle.agent_terms.proofs.CrewTells.{tells_as}
+use Rattle.agent_terms.proofs.Known.{known_over_delivery}
 use Rattle.agent_terms.proofs.Purposes.{g}
 
 -- what a line tells of runs, as its deliveries begin
@@ -79,9 +78,9 @@ run_tells run serial sent s found zero_to may =
     let z : nat_eq sent.to 0 ≡ true = grind arith in
     subst (λ b. MayTold b run sent s) z (subst (λ o. MayAt run o s) found may)
 
-module _ (units ready : ℕ) (has : 0 < units) (start : List Disk) (Kept : List Request → NodeState → RequestsState → Type 0) (keeps : KeepsKnown units ready start Kept) where
+module _ (units ready : ℕ) (has : 0 < units) (start : List Disk) where
   abbrev C : List Moment → WorldState → Type 0
-  C past w = Crewed Kept start past w
+  C past w = Crewed start past w
 
   abbrev H : List Moment → ℕ → WorldState → Type 0
   H past lines w = Holding units ready start past lines w
@@ -104,7 +103,7 @@ module _ (units ready : ℕ) (has : 0 < units) (start : List Disk) (Kept : List 
         left = judging_step w.target.layer sent.generation sent.bytes
 
         abbrev Answers : Finding Purpose → Layer Purpose → Type 0
-        Answers f layer = AgentTells units ready has start w h serial again sent found zero_to c.requests c.are (keeps.known c.requests w.target w.requests c.kept) run s.media u.each f layer
+        Answers f layer = AgentTells units ready has start w h serial again sent found zero_to c.requests c.are c.sent.known run s.media u.each f layer
 
         answers : (f : Finding Purpose) (layer : Layer Purpose) → judging_step w.target.layer sent.generation sent.bytes ≡ (f, layer) → (faults now : List ℕ) → TellsIn run f (with_layer layer (whole_of w.target s.media)) faults now → Answers f layer
         answers of_generation layer e faults now t = tt
@@ -120,7 +119,7 @@ module _ (units ready : ℕ) (has : 0 < units) (start : List Disk) (Kept : List 
 
         are_now : (faults now : List ℕ) → TellsIn run left.0 (with_layer left.1 (whole_of w.target s.media)) faults now → Sound past lines (handed_out 0 0 r.1.outbox v) → AreOf (with_requests v.store.last r.1.outbox.packets c.requests) (over (term_in start past (handed_out 0 0 r.1.outbox v))).agents r.1.node
         are_now faults now t sound =
-            delivered_crew units ready has start w h serial again sent found zero_to c.requests c.are (keeps.known c.requests w.target w.requests c.kept) run s.media u.each bytes faults now t (answers left.0 left.1 refl faults now t) sound
+            delivered_crew units ready has start w h serial again sent found zero_to c.requests c.are c.sent.known run s.media u.each bytes faults now t (answers left.0 left.1 refl faults now t) sound
 
         are_left : MayTell run sent w.target s.media → Sound past lines (handed_out 0 0 r.1.outbox v) → AreOf (with_requests v.store.last r.1.outbox.packets c.requests) (over (term_in start past (handed_out 0 0 r.1.outbox v))).agents r.1.node
         unfolding MayTell
@@ -133,7 +132,7 @@ module _ (units ready : ℕ) (has : 0 < units) (start : List Disk) (Kept : List 
             record {
               requests = with_requests v.store.last r.1.outbox.packets c.requests;
               are = subst (λ n. AreOf (with_requests v.store.last r.1.outbox.packets c.requests) (over (term_in start past now)).agents n) (sym target_is) (are_left (run_tells run serial sent s found zero_to may) sound);
-              kept = keeps.deliveries w h c.requests c.kept serial sent found zero_to again run bytes s.media past sound.stands;
+              sent = known_over_delivery units ready has start w h c.requests c.sent serial sent found zero_to again run bytes s.media past sound.stands;
             }
 
         heard_target : Sound past lines (delivered serial again run s).world → C past (delivered serial again run s).world
@@ -171,7 +170,7 @@ module _ (units ready : ℕ) (has : 0 < units) (start : List Disk) (Kept : List 
           ap (λ (x : Option Arrival × (OutboxState × Scene)). (delivered_by serial again x).world) (to_own run serial i s sent found to_is ∙ own_inside sent i s inside)
           ∙ ap (λ n. handed_out n 0 r.1.0 v) to_is in
           subst (C past) (sym last_is)
-          (own_crew units ready has start Kept keeps w h i 0 r.1.0 v (own.receives sent.generation sent.bytes empty_outbox (slice_index_or w.initiators i (new_state 0 false)) tt)
+          (own_crew units ready has start w h i 0 r.1.0 v (own.receives sent.generation sent.bytes empty_outbox (slice_index_or w.initiators i (new_state 0 false)) tt)
           (ap (λ (x : Target). x.reply) is_over ∙ (over_idle t).reply) (ap (λ (x : Target). (over x).agents) is_over ∙ asides_law.twice t)
           (marked_alike (with_initiators states w) serial again).target (marked_requests serial again (with_initiators states w)) (subst (Sound past lines) last_is sound) c)
 
@@ -200,7 +199,7 @@ module _ (units ready : ℕ) (has : 0 < units) (start : List Disk) (Kept : List 
   delivers_if true line serial again [] s t m u h idle c sound = absurd m
   delivers_if true line serial again (run ∷ []) s t m u h idle c sound = heard s h c serial again run t.0 m u sound
   delivers_if true line serial again (run ∷ (other ∷ more)) s t m u h idle c sound = absurd m
-  delivers_if false line serial again told s t m u h idle c sound = refuses units ready has start Kept keeps s.world h idle c line no_packet
+  delivers_if false line serial again told s t m u h idle c sound = refuses units ready has start s.world h idle c line no_packet
 
   next_heard : {past : List Moment} {lines : ℕ} (run : Option Told) → BytesTold run → (s : Scene) → H past lines s.world → C past s.world → UnitsAre start past s → (o : Option ℕ) → settling.MayAt o run s → Sound past lines (delivered_at o run s).world → C past (delivered_at o run s).world
   next_heard run t s h c u None m sound = absurd m
@@ -214,13 +213,13 @@ module _ (units ready : ℕ) (has : 0 < units) (start : List Disk) (Kept : List 
       (all_heard units ready has start (run ∷ before) t s h r).sound
 
   ends : {past : List Moment} (w : WorldState) (b : Bool) → C past w → C past (with_note (end_note b) w)
-  ends {past} w true c = same_crew units ready has start Kept keeps w (with_note notes.Settled w) (settled_ends (term_in start past w)) refl refl c
-  ends {past} w false c = same_crew units ready has start Kept keeps w (with_note notes.Stopped w) (stopped_ends (term_in start past w)) refl refl c
+  ends {past} w true c = same_crew units ready has start w (with_note notes.Settled w) (settled_ends (term_in start past w)) refl refl c
+  ends {past} w false c = same_crew units ready has start w (with_note notes.Stopped w) (stopped_ends (term_in start past w)) refl refl c
 
   -- ---- a line
   module _ (line : ℕ) (event : Event) (w : WorldState) (past : List Moment) where
     pub opened : C past w → C (asked line event ∷ hist past w) (without_notes w)
-    opened c = same_crew units ready has start Kept keeps w (without_notes w) (asides_law.twice (term_in start past w)) refl refl c
+    opened c = same_crew units ready has start w (without_notes w) (asides_law.twice (term_in start past w)) refl refl c
 
     opened_idle : (term_in start (asked line event ∷ hist past w) (without_notes w)).reply ≡ None
     opened_idle = (over_idle (term_in start past w)).reply
@@ -230,13 +229,13 @@ module _ (units ready : ℕ) (has : 0 < units) (start : List Disk) (Kept : List 
   goes line (events.Begin initiators is_ready) told s l t m u h c sound = absurd l
   goes {past} line (events.Act initiator action) told s l t m u h c sound =
       let e = events.Act initiator action in
-      acts units ready has start Kept keeps (without_notes s.world) (opens units ready has start line e s.world refl h) (opened_idle line e s.world past) (opened line e s.world past c) line initiator action sound
+      acts units ready has start (without_notes s.world) (opens units ready has start line e s.world refl h) (opened_idle line e s.world past) (opened line e s.world past c) line initiator action sound
   goes {past} line (events.Reset physical) told s l t m u h c sound =
       let e = events.Reset physical in
-      resets units ready has start Kept keeps (without_notes s.world) (opened_idle line e s.world past) (opened line e s.world past c) physical
+      resets units ready has start (without_notes s.world) (opened_idle line e s.world past) (opened line e s.world past c) physical
   goes {past} line (events.See node) told s l t m u h c sound =
       let e = events.See node in
-      sights units ready has start Kept keeps (without_notes s.world) (opens units ready has start line e s.world refl h) (opened_idle line e s.world past) (opened line e s.world past c) node sound
+      sights units ready has start (without_notes s.world) (opens units ready has start line e s.world refl h) (opened_idle line e s.world past) (opened line e s.world past c) node sound
   goes {past} line (events.Deliver serial) told s l t m u h c sound =
       let e = events.Deliver serial in
       delivers_if (is_in_flight serial (begun s).world) line serial false told (begun s) t m u (opens units ready has start line e s.world refl h) (opened_idle line e s.world past) (opened line e s.world past c) sound
@@ -245,10 +244,10 @@ module _ (units ready : ℕ) (has : 0 < units) (start : List Disk) (Kept : List 
       delivers_if (may_repeat serial (begun s).world) line serial true told (begun s) t m u (opens units ready has start line e s.world refl h) (opened_idle line e s.world past) (opened line e s.world past c) sound
   goes {past} line (events.Lose serial) told s l t m u h c sound =
       let e = events.Lose serial in
-      loses units ready has start Kept keeps (without_notes s.world) (opens units ready has start line e s.world refl h) (opened_idle line e s.world past) (opened line e s.world past c) line serial
+      loses units ready has start (without_notes s.world) (opens units ready has start line e s.world refl h) (opened_idle line e s.world past) (opened line e s.world past c) line serial
   goes {past} line (events.Timeout serial) told s l t m u h c sound =
       let e = events.Timeout serial in
-      times_out units ready has start Kept keeps (without_notes s.world) (opens units ready has start line e s.world refl h) (opened_idle line e s.world past) (opened line e s.world past c) line serial sound
+      times_out units ready has start (without_notes s.world) (opens units ready has start line e s.world refl h) (opened_idle line e s.world past) (opened line e s.world past c) line serial sound
   goes {past} line (events.Step count) told s l t m u h c sound =
       let e = events.Step count in
       all_crew told t (begun s) m.may u (opens units ready has start line e s.world refl h) (opened line e s.world past c) refl
@@ -258,13 +257,13 @@ module _ (units ready : ℕ) (has : 0 < units) (start : List Disk) (Kept : List 
       (all_crew told t (begun s) m.may u (opens units ready has start line e s.world refl h) (opened line e s.world past c) refl)
   goes {past} line events.Tick told s l t m u h c sound =
       let e = events.Tick in
-      ticks_line units ready has start Kept keeps (without_notes s.world) (opens units ready has start line e s.world refl h) (opened_idle line e s.world past) (opened line e s.world past c)
+      ticks_line units ready has start (without_notes s.world) (opens units ready has start line e s.world refl h) (opened_idle line e s.world past) (opened line e s.world past c)
   goes {past} line (events.Inject initiator bytes) told s l t m u h c sound =
       let e = events.Inject initiator bytes in
-      injects units ready has start Kept keeps (without_notes s.world) (opens units ready has start line e s.world refl h) (opened_idle line e s.world past) (opened line e s.world past c) line initiator bytes
+      injects units ready has start (without_notes s.world) (opens units ready has start line e s.world refl h) (opened_idle line e s.world past) (opened line e s.world past c) line initiator bytes
   goes {past} line (events.Key unit key) told s l t m u h c sound =
       let e = events.Key unit key in
-      keys_line units ready has start Kept keeps (without_notes s.world) (opens units ready has start line e s.world refl h) (opened_idle line e s.world past) (opened line e s.world past c) line unit key
+      keys_line units ready has start (without_notes s.world) (opens units ready has start line e s.world refl h) (opened_idle line e s.world past) (opened line e s.world past c) line unit key
 
   pub line_crew : {past : List Moment} {lines : ℕ} (line : ℕ) (event : Event) (told : List (Option Told)) (s : Scene) → IsLine event (length s.world.initiators) → AreTold told → MayHappen event told s → LineUnits event start (asked line event ∷ hist past s.world) told (begun s) → lines + 1 < 2 ^ 32 → H past lines s.world → C past s.world → C (asked line event ∷ hist past s.world) (happens line event told s).world
   line_crew line event told s l t m u few h c = goes line event told s l t m u h c (line_holds units ready has start line event told s l t few h).sound

@@ -3,14 +3,11 @@ use Rattle.std.proofs.Common.{arith, ◌≡◌, ◌∙◌, refl, sym, ap, subst,
 use Rattle.std.specs.Prelude.{if◌then◌else◌}
 use Rattle.label_table.specs.declared.reply.Stale.{Stale}
 use Rattle.label_table.specs.Layer.{Layer, expiring_step}
-use Rattle.packet_store.specs.declared.sent.Sent.{Sent}
-use Rattle.packet_store.specs.Kept.{found_sent}
 use Rattle.rbc_disk.specs.Disk.{Disk}
-use Rattle.rbc_disk.specs.Held.{Held}
 use Rattle.rbc_disk.specs.Runs.{Told}
 use Rattle.sbp_bus.specs.Generations.{id_of}
-use Rattle.sbp_bus.specs.Packets.{judged_note, no_node, no_packet}
-use Rattle.sbp_bus.specs.Requests.{RequestsState, find}
+use Rattle.sbp_bus.specs.Packets.{no_node, no_packet}
+use Rattle.sbp_bus.specs.Requests.{find}
 use Rattle.sbp_bus.specs.declared.requests.Request.{Request as BusRequest}
 use Rattle.sbp_initiator.specs.Acting.{act_step}
 use Rattle.sbp_initiator.specs.Effects.{Turn}
@@ -28,11 +25,9 @@ use Rattle.sbp_laws.specs.Targets.{Target, is_serial, key_by, known_at, over}
 use Rattle.sbp_laws.specs.Turns.{event_of}
 use Rattle.sbp_target.specs.declared.purpose.Purpose.{Purpose}
 use Rattle.sbp_target.specs.Calls.{alone, lets_expire, sees, ticks}
-use Rattle.sbp_target.specs.Nodes.{NodeState, Scene as TargetScene, scene}
-use Rattle.sbp_target.specs.Receiving.{expired, expired_in, new_node, received, with_key}
+use Rattle.sbp_target.specs.Nodes.{Scene as TargetScene, scene}
+use Rattle.sbp_target.specs.Receiving.{expired, expired_in, with_key}
 use Rattle.sbp_target.specs.Replies.{plain_in}
-use Rattle.sbp_world.specs.Delivering.{marked, whole_of}
-use Rattle.sbp_world.specs.FitTarget.{BytesTold}
 use Rattle.sbp_world.specs.Handing.{handed_out}
 use Rattle.sbp_world.specs.Lines.{acted, acted_by, keyed, no_unit, weight_in}
 use Rattle.sbp_world.specs.Nodes as nodes
@@ -42,7 +37,6 @@ use Rattle.sbp_world.specs.Packets.{at_initiator, expires, initiator_expires, in
 use Rattle.sbp_world.specs.Sending.{posted}
 use Rattle.sbp_world.specs.Settling.{after_all}
 use Rattle.sbp_world.specs.Worlds.{Scene, WorldState, initiator_at, with_initiator, with_note, with_target}
-use Rattle.sbp_world.specs.Wire.Wires.{Stands}
 use Rattle.sbp_world.proofs.Wire.Holding.{Sound}
 use Rattle.sbp_world.proofs.Wire.Nodes.{handed_alike}
 use Rattle.target_terms.proofs.Holding.{Holding}
@@ -55,26 +49,13 @@ use Rattle.target_terms.proofs.Told.{term_in}
 use Rattle.agent_terms.specs.Asides.{MayGoOn}
 use Rattle.agent_terms.specs.Calls.{AreOf}
 use Rattle.agent_terms.specs.Crews.{Request, with_requests}
-use Rattle.agent_terms.specs.Serials.{AreKnown}
 use Rattle.agent_terms.proofs.Asides.{asides_law}
 use Rattle.agent_terms.proofs.CrewLapse.{lapsed_crew}
 use Rattle.agent_terms.proofs.CrewOthers as others
 use Rattle.agent_terms.proofs.CrewOthers.{going_still, lapsed_out, posts_still, seen_out}
 use Rattle.agent_terms.proofs.CrewSights.{key_crew, second_crew, sight_crew}
+use Rattle.agent_terms.proofs.Known.{AreSent, known_over_key, known_over_lapse, known_over_own, known_over_second, known_over_sight}
 use Rattle.agent_terms.proofs.Purposes.{g, law}
-
--- ---- what is taken from elsewhere
-
--- What is kept of the requests that the target has sent, over each turn: with it the bus knows them.
-pub record KeepsKnown (units ready : ℕ) (start : List Disk) (Kept : List Request → NodeState → RequestsState → Type 0) : Type 0 where
-  pub known : (requests : List Request) (node : NodeState) (bus : RequestsState) → Kept requests node bus → AreKnown requests node bus
-  pub first : (bus : RequestsState) → Kept [] (new_node units ready) bus
-  pub deliveries : {past : List Moment} {lines : ℕ} (w : WorldState) (h : Holding units ready start past lines w) (requests : List Request) → Kept requests w.target w.requests → (serial : ℕ) (sent : Sent) → found_sent serial w.store.kept ≡ Some sent → sent.to ≡ 0 → (again : Bool) (run : Option Told) → BytesTold run → (media : Held) → (later : List Moment) → (let r = received run sent.generation sent.bytes (whole_of w.target media) in let v = with_note (judged_note serial r.0) (marked serial again (with_target r.1.node w)) in let now = handed_out 0 0 r.1.outbox v in Stands later now → Kept (with_requests v.store.last r.1.outbox.packets requests) now.target now.requests)
-  pub lapses : {past : List Moment} {lines : ℕ} (w : WorldState) (h : Holding units ready start past lines w) (requests : List Request) → Kept requests w.target w.requests → (serial : ℕ) (request : BusRequest) → find w.requests serial ≡ Some request → request.node ≡ 0 → (later : List Moment) → (let x = alone (lets_expire request.peer request.label) w.target in let v = with_note (notes.TimedOut serial) (with_target x.node w) in let now = handed_out 0 0 x.outbox v in Stands later now → Kept (with_requests v.store.last x.outbox.packets requests) now.target now.requests)
-  pub sights : {past : List Moment} {lines : ℕ} (w : WorldState) (h : Holding units ready start past lines w) (requests : List Request) → Kept requests w.target w.requests → (let x = alone (sees w.generations.latest.generation (id_of w.generations.latest 0)) w.target in let v = with_target x.node (with_seen 0 (told_seen 0 w)) in let now = handed_out 0 0 x.outbox v in Kept (with_requests v.store.last x.outbox.packets requests) now.target now.requests)
-  pub seconds : {past : List Moment} {lines : ℕ} (w : WorldState) (h : Holding units ready start past lines w) (requests : List Request) → Kept requests w.target w.requests → (let x = alone ticks w.target in let v = with_target x.node (with_note notes.Tick w) in let now = handed_out 0 0 x.outbox v in Kept (with_requests v.store.last x.outbox.packets requests) now.target now.requests)
-  pub keys : {past : List Moment} {lines : ℕ} (w : WorldState) (h : Holding units ready start past lines w) (requests : List Request) → Kept requests w.target w.requests → (unit : ℕ) (key : List ℕ) → Kept requests (with_key unit key w.target) w.requests
-  pub owns : {past : List Moment} {lines : ℕ} (w : WorldState) (h : Holding units ready start past lines w) (requests : List Request) → Kept requests w.target w.requests → (i weight : ℕ) (outbox : OutboxState) (v : WorldState) → v.target ≡ w.target → v.requests ≡ w.requests → (later : List Moment) → (let now = handed_out (suc i) weight outbox v in Stands later now → Kept requests now.target now.requests)
 
 -- the units of the terms are those of the target and the media
 pub record UnitsAre (start : List Disk) (past : List Moment) (s : Scene) : Type 0 where
@@ -86,18 +67,18 @@ AllUnits start past [] s = Unit {0}
 AllUnits start past (told ∷ before) s = UnitsAre start past (after_all before s) × AllUnits start past before s
 
 -- ---- what is kept
-pub record Crewed (Kept : List Request → NodeState → RequestsState → Type 0) (start : List Disk) (past : List Moment) (w : WorldState) : Type 0 where
+pub record Crewed (start : List Disk) (past : List Moment) (w : WorldState) : Type 0 where
   pub requests : List Request
   pub are : AreOf requests (over (term_in start past w)).agents w.target
-  pub kept : Kept requests w.target w.requests
+  pub sent : AreSent requests w.target w.requests
 
 -- a packet of another node's
 pub not_zero : (n i : ℕ) → n ≡ suc i → nat_eq n 0 ≡ false
 not_zero n i e = grind arith
 
-module _ (units ready : ℕ) (has : 0 < units) (start : List Disk) (Kept : List Request → NodeState → RequestsState → Type 0) (keeps : KeepsKnown units ready start Kept) where
+module _ (units ready : ℕ) (has : 0 < units) (start : List Disk) where
   abbrev C : List Moment → WorldState → Type 0
-  C past w = Crewed Kept start past w
+  C past w = Crewed start past w
 
   abbrev H : List Moment → ℕ → WorldState → Type 0
   H past lines w = Holding units ready start past lines w
@@ -107,7 +88,7 @@ module _ (units ready : ℕ) (has : 0 < units) (start : List Disk) (Kept : List 
   same_crew {past} w v agents target requests c = record {
     requests = c.requests;
     are = subst (λ xs. AreOf c.requests xs v.target) (sym agents) (subst (λ n. AreOf c.requests (over (term_in start past w)).agents n) (sym target) c.are);
-    kept = subst (λ n. Kept c.requests n v.requests) (sym target) (subst (λ b. Kept c.requests w.target b) (sym requests) c.kept);
+    sent = subst (λ n. AreSent c.requests n v.requests) (sym target) (subst (λ b. AreSent c.requests w.target b) (sym requests) c.sent);
   }
 
   -- ---- an initiator has a turn
@@ -118,7 +99,7 @@ module _ (units ready : ℕ) (has : 0 < units) (start : List Disk) (Kept : List 
         requests = c.requests;
         are = subst (λ xs. AreOf c.requests xs now.target) (sym (ap (λ (t : Target). (over t).agents) (others.own_hands start later i weight outbox v own none) ∙ agents))
             (subst (λ n. AreOf c.requests (over (term_in start past w)).agents n) (sym ((handed_alike (suc i) weight outbox v).target ∙ target)) c.are);
-        kept = keeps.owns w h c.requests c.kept i weight outbox v target requests later sound.stands;
+        sent = known_over_own units ready has start w h c.requests c.sent i weight outbox v target requests later sound.stands;
       }
 
   -- ---- the bus is reset
@@ -225,8 +206,8 @@ module _ (units ready : ℕ) (has : 0 < units) (start : List Disk) (Kept : List 
           lapse_crew purpose new e sound = record {
             requests = with_requests v.store.last x.outbox.packets c.requests;
             are = subst (λ n. AreOf (with_requests v.store.last x.outbox.packets c.requests) (over (term_in start past (handed_out 0 0 x.outbox v))).agents n) (sym (handed_alike 0 0 x.outbox v).target)
-                (lapsed_crew units ready has start w h serial request found zero_is purpose new e c.requests c.are (keeps.known c.requests w.target w.requests c.kept));
-            kept = keeps.lapses w h c.requests c.kept serial request found zero_is past sound.stands;
+                (lapsed_crew units ready has start w h serial request found zero_is purpose new e c.requests c.are (c.sent.known));
+            sent = known_over_lapse units ready has start w h c.requests c.sent serial request found zero_is past sound.stands;
           }
 
           abbrev Found : Type 0
@@ -284,7 +265,7 @@ module _ (units ready : ℕ) (has : 0 < units) (start : List Disk) (Kept : List 
           requests = with_requests v.store.last x.outbox.packets c.requests;
           are = subst (λ n. AreOf (with_requests v.store.last x.outbox.packets c.requests) (over (term_in start past (handed_out 0 0 x.outbox v))).agents n) (sym (handed_alike 0 0 x.outbox v).target)
               (second_crew units ready has start w h c.requests c.are);
-          kept = keeps.seconds w h c.requests c.kept;
+          sent = known_over_second units ready has start w h c.requests c.sent;
         }
 
     sees_target : C past (see_line 0 w)
@@ -296,7 +277,7 @@ module _ (units ready : ℕ) (has : 0 < units) (start : List Disk) (Kept : List 
           requests = with_requests v.store.last x.outbox.packets c.requests;
           are = subst (λ n. AreOf (with_requests v.store.last x.outbox.packets c.requests) (over (term_in start past (handed_out 0 0 x.outbox v))).agents n) (sym (handed_alike 0 0 x.outbox v).target)
               (sight_crew units ready has start w h c.requests c.are);
-          kept = keeps.sights w h c.requests c.kept;
+          sent = known_over_sight units ready has start w h c.requests c.sent;
         }
 
     pub sights : {more : ℕ} (node : ℕ) → Sound past more (see_line node w) → C past (see_line node w)
@@ -314,6 +295,6 @@ module _ (units ready : ℕ) (has : 0 < units) (start : List Disk) (Kept : List 
         by true = record {
           requests = c.requests;
           are = key_crew units ready has start w h c.requests unit key (over (key_by (event_of (hist past w)) unit t)).agents agents_are c.are;
-          kept = keeps.keys w h c.requests c.kept unit key;
+          sent = known_over_key units ready has start w h c.requests c.sent unit key;
         }
         by false = refuses line no_unit

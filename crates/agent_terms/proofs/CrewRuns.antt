@@ -2,11 +2,9 @@
 use Rattle.std.proofs.Common.{arith, ◌≡◌, ◌∙◌, sym, ap, subst, refl, ℕ, suc, ◌+◌, ◌^◌, ◌<◌, ◌≤◌, Bool, List, [], ◌∷◌, ◌++◌, map, length, Option}
 use Rattle.rbc_disk.specs.Disk.{Disk}
 use Rattle.rbc_disk.specs.Runs.{Told}
-use Rattle.sbp_bus.specs.Requests.{RequestsState}
 use Rattle.sbp_journal.specs.Run.{Moment, asked, said}
 use Rattle.sbp_journal.specs.declared.event.Event.{Event}
 use Rattle.sbp_journal.specs.declared.event.Event.TheVariants as events
-use Rattle.sbp_target.specs.Nodes.{NodeState}
 use Rattle.sbp_world.specs.Histories.{history_of, moments_behind}
 use Rattle.sbp_world.specs.Lines.{MayHappen, happens}
 use Rattle.sbp_world.specs.Making.{new_world, ready_logins}
@@ -22,9 +20,9 @@ use Rattle.target_terms.proofs.Lines.{line_holds, opens}
 use Rattle.target_terms.proofs.Runs.{are_told, no_repeats, not_reset}
 use Rattle.target_terms.proofs.Still.{hist}
 use Rattle.agent_terms.specs.Agents.{AgentsBetweenLaw, AgentsRunLaw, AreAgentsAt, ArePurposedAt, SerialsBetweenLaw, SerialsLaw}
-use Rattle.agent_terms.specs.Crews.{Request}
 use Rattle.agent_terms.proofs.CrewLines.{LineUnits, all_crew, line_crew, opened}
-use Rattle.agent_terms.proofs.CrewPass.{AllUnits, Crewed, KeepsKnown, UnitsAre}
+use Rattle.agent_terms.proofs.CrewPass.{AllUnits, Crewed, UnitsAre}
+use Rattle.agent_terms.proofs.Known.{sent_first}
 use Rattle.agent_terms.proofs.Notes.{notes_law}
 use Rattle.agent_terms.specs.Serials.{AreHandedAt}
 use Rattle.agent_terms.proofs.Runs.{handed_between_law, handed_law}
@@ -34,14 +32,14 @@ abbrev pub UnitsBetween : Type 0
 UnitsBetween =
     (line : ℕ) (run : Run) → run.initiators ≤ 4 → 0 < run.units → run.units ≤ 4 → length run.start.disks ≡ run.units → length run.entries + 2 < 2 ^ 32 → AreEntries (beginning run) run.entries → AreLines run run.entries → (next : ℕ) (event : Event) → DeliversMore event → (told : List (Option Told)) → MayAll told (begun (after (beginning run) run.entries)) → UnitsAre run.start.disks (asked next event ∷ history_of line run) (after_all told (begun (after (beginning run) run.entries)))
 
-module _ (Kept : List Request → NodeState → RequestsState → Type 0) (keeps : (units ready : ℕ) → 0 < units → (start : List Disk) → KeepsKnown units ready start Kept) (units_are : UnitsBetween) where
+module _ (units_are : UnitsBetween) where
   -- ---- a new world
-  first_crew : (line n : ℕ) (ready : Bool) (units : ℕ) → 0 < units → (start : List Disk) → Crewed Kept start (first_past line n ready) (new_world n ready units)
+  first_crew : (line n : ℕ) (ready : Bool) (units : ℕ) (start : List Disk) → Crewed start (first_past line n ready) (new_world n ready units)
   unfolding new_world
-  first_crew line n ready units has start = record {
+  first_crew line n ready units start = record {
     requests = [];
     are = notes_law.begins start units (ready_logins n ready);
-    kept = (keeps units (ready_logins n ready) has start).first _;
+    sent = sent_first units (ready_logins n ready) _;
   }
 
   -- ---- the units, as each delivery of a line begins
@@ -83,7 +81,7 @@ module _ (Kept : List Request → NodeState → RequestsState → Type 0) (keeps
     past : List Moment
     holds : Holding run.units (ready_logins run.initiators run.ready) run.start.disks past (length entries) w
     is : hist past w ≡ moments_behind line run entries
-    crew : Crewed Kept run.start.disks past w
+    crew : Crewed run.start.disks past w
 
   crew_first : (line : ℕ) (run : Run) → run.initiators ≤ 4 → 0 < run.units → run.units ≤ 4 → length run.start.disks ≡ run.units → CrewAfter line run [] (beginning run).world
   unfolding new_world
@@ -91,7 +89,7 @@ module _ (Kept : List Request → NodeState → RequestsState → Type 0) (keeps
     past = first_past line run.initiators run.ready;
     holds = first_holds run.initiators run.ready run.units line run.start.disks few small size;
     is = refl;
-    crew = first_crew line run.initiators run.ready run.units has run.start.disks;
+    crew = first_crew line run.initiators run.ready run.units run.start.disks;
   }
 
   module _ (line : ℕ) (run : Run) (few : run.initiators ≤ 4) (has : 0 < run.units) (small : run.units ≤ 4) (size : length run.start.disks ≡ run.units) where
@@ -114,19 +112,19 @@ module _ (Kept : List Request → NodeState → RequestsState → Type 0) (keeps
               (line_holds run.units logins has run.start.disks e.line e.event e.told s fit.0 t (omega arith) b.holds);
           is = ap (λ ns. map said ns ++ asked e.line e.event ∷ hist b.past s.world) (sym all.0.notes_are)
               ∙ ap (λ ms. map said e.notes ++ asked e.line e.event ∷ ms) b.is;
-          crew = line_crew run.units logins has run.start.disks Kept (keeps run.units logins has run.start.disks) e.line e.event e.told s fit.0 t all.0.may
+          crew = line_crew run.units logins has run.start.disks e.line e.event e.told s fit.0 t all.0.may
               (line_units run.start.disks (hist b.past s.world) e.line e.event e.told s all.0.may (λ next other d told may. units_behind before (omega arith) all.1 fit.1 b next other d told may))
               (omega arith) b.holds b.crew;
         }
 
-  crew_at : (units ready : ℕ) (has : 0 < units) (start : List Disk) (past : List Moment) (w : WorldState) → Crewed Kept start past w → AreAgentsAt start (hist past w) w
-  crew_at units ready has start past w c = record { requests = c.requests; are = c.are; known = (keeps units ready has start).known c.requests w.target w.requests c.kept }
+  crew_at : (start : List Disk) (past : List Moment) (w : WorldState) → Crewed start past w → AreAgentsAt start (hist past w) w
+  crew_at start past w c = record { requests = c.requests; are = c.are; known = c.sent.known }
 
   pub agents_run_law : AgentsRunLaw
   agents_run_law line run few has small size short all fit =
       let r = crew_after line run few has small size run.entries short all fit in
       let w = (after (beginning run) run.entries).world in
-      subst (λ ms. AreAgentsAt run.start.disks ms w) r.is (crew_at run.units (ready_logins run.initiators run.ready) has run.start.disks r.past w r.crew)
+      subst (λ ms. AreAgentsAt run.start.disks ms w) r.is (crew_at run.start.disks r.past w r.crew)
 
   pub agents_between_law : AgentsBetweenLaw
   agents_between_law line run few has small size short all fit next event d told may =
@@ -135,13 +133,12 @@ module _ (Kept : List Request → NodeState → RequestsState → Type 0) (keeps
       let logins = ready_logins run.initiators run.ready in
       let start = run.start.disks in
       let past = asked next event ∷ hist r.past s.world in
-      let keep = keeps run.units logins has start in
       let begins = opens run.units logins has start next event s.world (not_reset event d) r.holds in
-      let first = opened run.units logins has start Kept keep next event s.world r.past r.crew in
+      let first = opened run.units logins has start next event s.world r.past r.crew in
       let u = all_units start past (begun s) (λ run_told m. units_behind line run few has small size run.entries short all fit r next event d run_told m) told may in
-      let c = all_crew run.units logins has start Kept keep told (are_told told s may) (begun s) may u begins first (no_repeats event (hist r.past s.world) next d) in
+      let c = all_crew run.units logins has start told (are_told told s may) (begun s) may u begins first (no_repeats event (hist r.past s.world) next d) in
       let w = (after_all told (begun s)).world in
-      subst (λ ms. AreAgentsAt start (map said w.fresh ++ asked next event ∷ ms) w) r.is (crew_at run.units logins has start past w c)
+      subst (λ ms. AreAgentsAt start (map said w.fresh ++ asked next event ∷ ms) w) r.is (crew_at start past w c)
 
   -- what a serial is for
   purposed : (start : List Disk) (past : List Moment) (w : WorldState) → AreHandedAt start past w → AreAgentsAt start past w → ArePurposedAt start past w

@@ -49,6 +49,5 @@ pub mod CrewSights
 pub mod CrewOthers
 pub mod CrewPass
 pub mod CrewLines
-pub mod CrewKnown
 pub mod CrewRuns
 pub mod Runs
