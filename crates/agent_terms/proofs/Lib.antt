@@ -36,3 +36,11 @@ pub mod Enabled
 pub mod Sparing
 pub mod Enabling
 pub mod Runs
+pub mod UnitsTold
+pub mod UnitsKept
+pub mod UnitsMarked
+pub mod UnitsRun
+pub mod UnitsCleared
+pub mod UnitsTurns
+pub mod UnitsLines
+pub mod Units

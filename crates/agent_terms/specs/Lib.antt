@@ -11,3 +11,4 @@ pub mod Enabled
 pub mod Fresh
 pub mod Purposes
 pub mod Serials
+pub mod Units
