@@ -44,3 +44,4 @@ pub mod UnitsCleared
 pub mod UnitsTurns
 pub mod UnitsLines
 pub mod Units
+pub mod ToldAlike
