@@ -44,7 +44,7 @@ first_match start count e =
     record { count = first_count start ∙ e ∙ sym size; media = e ∙ sym size; each = λ unit. first_each start count unit e }
 
 -- the units of the terms behind a history are the target's
-abbrev AreThe : List Disk → List Moment → WorldState → List Disk → Type 0
+abbrev pub AreThe : List Disk → List Moment → WorldState → List Disk → Type 0
 AreThe start ms w disks = Match (target_at start ms).units w.target.units disks
 
 first_are : (line : ℕ) (run : Run) → length run.start.disks ≡ run.units → AreThe run.start.disks (moments_behind line run []) (beginning run).world run.start.disks
@@ -52,7 +52,7 @@ unfolding new_world
 first_are line run size = first_match run.start.disks run.units size
 
 -- ---- runs
-units_after : (line : ℕ) (run : Run) (entries : List Entry) → run.initiators ≤ 4 → 0 < run.units → run.units ≤ 4 → length run.start.disks ≡ run.units → length entries + 2 < 2 ^ 32 → AreEntries (beginning run) entries → AreLines run entries → (let s = after (beginning run) entries in AreThe run.start.disks (moments_behind line run entries) s.world s.media.disks)
+pub units_after : (line : ℕ) (run : Run) (entries : List Entry) → run.initiators ≤ 4 → 0 < run.units → run.units ≤ 4 → length run.start.disks ≡ run.units → length entries + 2 < 2 ^ 32 → AreEntries (beginning run) entries → AreLines run entries → (let s = after (beginning run) entries in AreThe run.start.disks (moments_behind line run entries) s.world s.media.disks)
 units_after line run [] few has small size short all fit = first_are line run size
 units_after line run (e ∷ before) few has small size short all fit =
     let b = holds_after line run before few has small size (omega arith) all.1 fit.1 in
