@@ -37,6 +37,15 @@ pub mod Holders
 pub mod Enabled
 pub mod Sparing
 pub mod Enabling
+pub mod UnitsTold
+pub mod UnitsKept
+pub mod UnitsMarked
+pub mod UnitsRun
+pub mod UnitsCleared
+pub mod UnitsTurns
+pub mod UnitsLines
+pub mod Units
+pub mod ToldAlike
 pub mod CrewLocks
 pub mod CrewTurns
 pub mod CrewSeats

@@ -11,6 +11,7 @@ ghost use Rattle.agent_terms.specs.Leaving.{LeavingBetweenLaw, LeavingLaw};
 ghost use Rattle.agent_terms.specs.Notes.{NotesLaw};
 ghost use Rattle.agent_terms.specs.Purposes.{BetweenLaw, PurposesLaw};
 ghost use Rattle.agent_terms.specs.Serials.{HandedBetweenLaw, HandedLaw};
+ghost use Rattle.agent_terms.specs.Units.{UnitsBetweenLaw, UnitsLaw};
 
 /// Two agents that differ in nothing that their phase reads any more answer each call alike, and stay so.
 #[tactic(auto, using(crate::proofs::Steps::alike_law))]
@@ -130,4 +131,16 @@ pub fn enabled_registers_have_live_logins()
 /// And behind each delivery of a line that may follow.
 pub fn deliveries_keep_enabled_registers_live()
     ensures { EnabledBetweenLaw }
+{}
+
+/// After every line of every run the terms have as many units as the target, and each is the target's with what its
+/// medium holds: it is started or not, its removal is prevented or not, and the same places are to be told of a reset
+/// and of a changed medium.
+pub fn units_are_the_targets()
+    ensures { UnitsLaw }
+{}
+
+/// And behind each delivery of a line that may follow.
+pub fn deliveries_keep_the_units()
+    ensures { UnitsBetweenLaw }
 {}
