@@ -49,7 +49,7 @@ use Rattle.sbp_target.specs.declared.purpose.Purpose.TheVariants as purposes
 use Rattle.sbp_target.specs.Agents.{sent_to}
 use Rattle.sbp_target.specs.Desks.{which_in}
 use Rattle.sbp_target.specs.Nodes.{NodeState, Scene as TargetScene, desk_at, login_at, scene}
-use Rattle.sbp_target.specs.Receiving.{TellsIn, answer_in, judged_scene, received_as, with_layer}
+use Rattle.sbp_target.specs.Receiving.{answer_in, judged_scene, received_as, with_layer}
 use Rattle.sbp_target.specs.Replies.{Whole, plain_in, served_login}
 use Rattle.sbp_target.specs.Serving.{answered, is_barred, request_step, serve}
 use Rattle.sbp_world.specs.Delivering.{marked, whole_of}
@@ -80,12 +80,13 @@ use Rattle.agent_terms.specs.Hands.{run_told, run_untold}
 use Rattle.agent_terms.specs.Serials.{AreKnown, IsForAgent, IsHanded}
 use Rattle.agent_terms.proofs.CrewLocks.{is_lock, lockless, none_locks}
 use Rattle.agent_terms.proofs.CrewSeats.{IsServing, serves_it, state_of}
-use Rattle.agent_terms.proofs.CrewTurns.{Begins, Tells, quiet_begins}
+use Rattle.agent_terms.proofs.CrewTurns.{Begins, quiet_begins}
 use Rattle.agent_terms.proofs.Demands.{demands_law}
 use Rattle.agent_terms.proofs.Handed.{are_handed}
 use Rattle.agent_terms.proofs.Keeping.{agents_law}
 use Rattle.agent_terms.proofs.Notes.{notes_law}
 use Rattle.agent_terms.proofs.Purposes.{g, labels, law}
+use Rattle.agent_terms.proofs.ToldAlike.{IsToldOf, ToldBy, ToldFor}
 
 -- ---- what a request asks for
 record AccessIs (p : Packet) : Type 0 where
@@ -172,13 +173,13 @@ module _ (units ready : ℕ) (has : 0 < units) (start : List Disk) {past : List 
       (agents_law units ready h.calls requests o T.agents has (subst (Agrees o) (sym h.made) agrees) (subst (AreOf requests T.agents) (sym h.made) are))
 
   -- ---- a reply to an agent waits for the next note
-  module _ (disks : List Disk) (units_are : (unit : ℕ) → unit < length w.target.units → unit_at before.units unit ≡ plain_in w.target.units disks unit) where
-    plain_there : (place : ℕ) (login : Login) → login_at w.target place ≡ Some login → login.unit < length w.target.units → unit_at T.units (unit_in (place_at T.table.places place)) ≡ plain_in w.target.units disks login.unit
-    plain_there place login e small =
+  module _ (disks : List Disk) (units_are : (unit : ℕ) → unit_at before.units unit ≡ plain_in w.target.units disks unit) where
+    plain_there : (place : ℕ) (login : Login) → login_at w.target place ≡ Some login → unit_at T.units (unit_in (place_at T.table.places place)) ≡ plain_in w.target.units disks login.unit
+    plain_there place login e =
         ap (λ us. unit_at us (unit_in (place_at T.table.places place))) (over_units before.reply before refl)
         ∙ ap (λ (x : Table). unit_at before.units (unit_in (place_at x.places place))) agrees.table
         ∙ ap (λ l. unit_at before.units (unit_in l)) e
-        ∙ units_are login.unit small
+        ∙ units_are login.unit
 
     module _ (place : ℕ) (which : Which) (answer : Answer) (login : Login) where
       abbrev plain : PlainDisk
@@ -190,12 +191,12 @@ module _ (units ready : ℕ) (has : 0 < units) (start : List Disk) {past : List 
       abbrev pub answers_it : List Side → List Agent
       answers_it told = changed place (term_answered (run_told told plain) (run_untold told plain (agent_in T.agents place).untold) place plain which answer) T.agents
 
-      pub reply_begins : (told : List Side) (run : Option Told) → length T.agents ≡ 8 → place < 8 → login_at w.target place ≡ Some login → login.unit < length w.target.units → Tells told plain run → Begins o (answers_it told) told waiting
-      reply_begins told run size b e small tells = record {
+      pub reply_begins : (told : List Side) (run : Option Told) → length T.agents ≡ 8 → place < 8 → login_at w.target place ≡ Some login → IsToldOf told plain run → Begins o (answers_it told) told waiting
+      reply_begins told run size b e tells = record {
         office = refl;
-        may = (size, b, tells.step);
+        may = (size, b, tells.of_step);
         resumes =
-            ap (λ (x : PlainDisk). changed place (λ a. term_answered (run_told told x) (run_untold told x a.untold) place x which answer a) T.agents) (plain_there place login e small);
+            ap (λ (x : PlainDisk). changed place (λ a. term_answered (run_told told x) (run_untold told x a.untold) place x which answer a) T.agents) (plain_there place login e);
       }
 
   -- ---- a packet is delivered to the target
@@ -317,10 +318,10 @@ module _ (units ready : ℕ) (has : 0 < units) (start : List Disk) {past : List 
                 (record { kind = closing.kind; life = closing.life ∙ ap (λ x. under_way closing.kind x) mine })
                 (record { sent = k.sent; is = k.is; peer_is = k.peer_is ∙ sym source_is; number_is = k.number_is ∙ sym number_is })
 
-            pub agent_begins : (disks : List Disk) (units_are : (unit : ℕ) → unit < length w.target.units → unit_at before.units unit ≡ plain_in w.target.units disks unit) (now : NodeState) (told : List Side) (run : Option Told) → Tells told (plain_in w.target.units disks serving_it.login.unit) run → Begins o (answers_it disks units_are place for_it.which (answer_in p) serving_it.login told) told (term_in start past (noted judgements.Got now))
+            pub agent_begins : (disks : List Disk) (units_are : (unit : ℕ) → unit_at before.units unit ≡ plain_in w.target.units disks unit) (now : NodeState) (told : List Side) (run : Option Told) → IsToldOf told (plain_in w.target.units disks serving_it.login.unit) run → Begins o (answers_it disks units_are place for_it.which (answer_in p) serving_it.login told) told (term_in start past (noted judgements.Got now))
             agent_begins disks units_are now told run tells =
                 term_begins judgements.Got now o (answers_it disks units_are place for_it.which (answer_in p) serving_it.login told) told (waiting disks units_are place for_it.which (answer_in p) serving_it.login) (got_for now (for_agent place for_it.which) for_it.is)
-                (reply_begins disks units_are place for_it.which (answer_in p) serving_it.login told run are.size small serving_it.login_is serving_it.on_unit tells)
+                (reply_begins disks units_are place for_it.which (answer_in p) serving_it.login told run are.size small serving_it.login_is tells)
 
     -- ---- a request
     module _ (p : Packet) (read : reading sent.bytes ≡ Ok p) (none : reply_kind p ≡ None) where
@@ -391,7 +392,7 @@ module _ (units ready : ℕ) (has : 0 < units) (start : List Disk) {past : List 
             subst (λ b. Asked (is_barred w.target p) (judged_scene (given b) before_whole)) (sym barred) (asked_by (is_barred w.target p))
 
     -- ---- whatever it is found to be
-    module _ (requests : List Request) (are : AreOf requests T.agents w.target) (known : AreKnown requests w.target w.requests) (run : Option Told) (media : Held) (units_are : (unit : ℕ) → unit < length w.target.units → unit_at before.units unit ≡ plain_in w.target.units media.disks unit) where
+    module _ (requests : List Request) (are : AreOf requests T.agents w.target) (known : AreKnown requests w.target w.requests) (run : Option Told) (media : Held) (units_are : (unit : ℕ) → unit_at before.units unit ≡ plain_in w.target.units media.disks unit) where
       pub record Lands (f : Finding Purpose) (judged : Judged) (x : Whole) : Type 0 where
         pub term_told : Option Told
         pub untold : Bool
@@ -404,11 +405,9 @@ module _ (units ready : ℕ) (has : 0 < units) (start : List Disk) {past : List 
       abbrev given_of : Finding Purpose → Layer Purpose → Judged × Whole
       given_of f layer = received_as run sent.bytes f (with_layer layer (whole_of w.target media))
 
-      -- what an agent tells of a reply
-      abbrev pub AgentTells : Finding Purpose → Layer Purpose → Type 0
-      AgentTells (of_response p label (Some (purposes.Agent place))) layer =
-          (login : Login) → served_login w.target place ≡ Some login → Tells (given_of (of_response p label (Some (purposes.Agent place))) layer).1.outbox.sides (plain_in w.target.units media.disks login.unit) run
-      AgentTells f layer = Unit {0}
+      -- what is told of it
+      abbrev pub IsToldFor : Finding Purpose → Layer Purpose → Type 0
+      IsToldFor f layer = ToldFor f w.target media.disks (given_of f layer).1.outbox.sides run
 
       abbrev LandsAs : Finding Purpose → Judged × Whole → Type 0
       LandsAs f (judged, x) = AreJudged (hist past (noted judged x.node)) → Lands f judged x
@@ -476,13 +475,13 @@ module _ (units ready : ℕ) (has : 0 < units) (start : List Disk) {past : List 
             Replied login which =
                 Begins o (replied (run_told left.outbox.sides its_plain) (run_untold left.outbox.sides its_plain (agent_in T.agents place).untold) place (answer_in p) w.target media.disks login which T.agents) left.outbox.sides (term_in start past (noted judgements.Got left.node))
 
-            its_begins : Tells left.outbox.sides its_plain run → Replied (served_login w.target place) (which_in (desk_at w.target place) (header_in p).source label)
+            its_begins : IsToldOf left.outbox.sides its_plain run → Replied (served_login w.target place) (which_in (desk_at w.target place) (header_in p).source label)
             its_begins tells =
                 subst (λ l. Replied l (which_in (desk_at w.target place) (header_in p).source label)) (sym its.served_is)
                 (subst (λ k. Replied (Some its.login) k) (sym its.which_is)
                 (agent_begins p read some label (Some (purposes.Agent place)) layer e a requests are known place refl media.disks units_are left.node left.outbox.sides run tells))
 
-            its_lands : Tells left.outbox.sides its_plain run → Lands Mine judgements.Got left
+            its_lands : IsToldOf left.outbox.sides its_plain run → Lands Mine judgements.Got left
             its_lands tells = record {
               term_told = run_told left.outbox.sides its_plain;
               untold = run_untold left.outbox.sides its_plain (agent_in T.agents place).untold;
@@ -490,19 +489,25 @@ module _ (units ready : ℕ) (has : 0 < units) (start : List Disk) {past : List 
               begins = its_begins tells;
             }
 
-          agent_lands : AgentTells Mine layer → LandsAs Mine (given_of Mine layer)
-          agent_lands tells j =
-              let a = answer_for p read some label (Some (purposes.Agent place)) layer e left.node j in its_lands a (tells (its a).login (its a).served_is)
+          abbrev Tells : Option Login → Option Which → Type 0
+          Tells login which = ToldBy login which w.target media.disks left.outbox.sides run
 
-      pub found_lands : (f : Finding Purpose) (layer : Layer Purpose) → judging_step w.target.layer sent.generation sent.bytes ≡ (f, layer) → IsFound f w.target.layer layer sent.bytes → (faults now : List ℕ) → TellsIn run f (with_layer layer (whole_of w.target media)) faults now → AgentTells f layer → LandsAs f (given_of f layer)
-      found_lands of_generation layer e f faults now n a j = record { term_told = None; untold = false; alike = none_alike n.0; begins = ignored_begins causes.Generation _ _ }
-      found_lands of_grammar layer e f faults now n a j = record { term_told = None; untold = false; alike = none_alike n.0; begins = ignored_begins causes.Grammar _ _ }
-      found_lands of_label layer e f faults now n a j = record { term_told = None; untold = false; alike = none_alike n.0; begins = ignored_begins causes.Label _ _ }
-      found_lands (of_response p label None) layer e f faults now n a j = none_lands p label layer f.read f.kind e n.0 j
-      found_lands (of_response p label (Some (purposes.Agent place))) layer e f faults now n a j = agent_lands p label layer f.read f.kind place e a j
-      found_lands (of_response p label (Some purposes.Management)) layer e f faults now n a j = manager_lands p label layer f.read f.kind e n.0 j
-      found_lands (of_response p label (Some purposes.Unsolicited)) layer e f faults now n a j = unsolicited_lands p label layer f.read f.kind e n.0 j
-      found_lands (of_again p rcode) layer e f faults now n a j = record { term_told = None; untold = false; alike = none_alike n.0; begins = ignored_begins causes.Again _ _ }
-      found_lands (of_request p) layer e f faults now n a j =
-          request_lands p f.1.read (no_reply (reply_kind p) f.1.kind) layer f.0 (given_of (of_request p) layer) n.0
+          agent_lands : IsToldFor Mine layer → LandsAs Mine (given_of Mine layer)
+          agent_lands tells j =
+              let a = answer_for p read some label (Some (purposes.Agent place)) layer e left.node j in
+              let s = its a in
+              its_lands a
+              (subst (λ k. Tells (Some s.login) k) s.which_is (subst (λ l. Tells l (which_in (desk_at w.target place) (header_in p).source label)) s.served_is tells))
+
+      pub found_lands : (f : Finding Purpose) (layer : Layer Purpose) → judging_step w.target.layer sent.generation sent.bytes ≡ (f, layer) → IsFound f w.target.layer layer sent.bytes → IsToldFor f layer → LandsAs f (given_of f layer)
+      found_lands of_generation layer e f n j = record { term_told = None; untold = false; alike = none_alike n; begins = ignored_begins causes.Generation _ _ }
+      found_lands of_grammar layer e f n j = record { term_told = None; untold = false; alike = none_alike n; begins = ignored_begins causes.Grammar _ _ }
+      found_lands of_label layer e f n j = record { term_told = None; untold = false; alike = none_alike n; begins = ignored_begins causes.Label _ _ }
+      found_lands (of_response p label None) layer e f n j = none_lands p label layer f.read f.kind e n j
+      found_lands (of_response p label (Some (purposes.Agent place))) layer e f n j = agent_lands p label layer f.read f.kind place e n j
+      found_lands (of_response p label (Some purposes.Management)) layer e f n j = manager_lands p label layer f.read f.kind e n j
+      found_lands (of_response p label (Some purposes.Unsolicited)) layer e f n j = unsolicited_lands p label layer f.read f.kind e n j
+      found_lands (of_again p rcode) layer e f n j = record { term_told = None; untold = false; alike = none_alike n; begins = ignored_begins causes.Again _ _ }
+      found_lands (of_request p) layer e f n j =
+          request_lands p f.1.read (no_reply (reply_kind p) f.1.kind) layer f.0 (given_of (of_request p) layer) n
           (request_begins p f.1.read (no_reply (reply_kind p) f.1.kind) media layer f.0) j

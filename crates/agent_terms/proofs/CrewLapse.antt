@@ -1,5 +1,5 @@
 -- A transaction of the target times out: behind the turn the agents of the terms are the target's.
-use Rattle.std.proofs.Common.{arith, ◌≡◌, ◌∙◌, refl, sym, ap, subst, ℕ, ◌<◌, Bool, false, List, [], Option, Some, None, Result, Ok}
+use Rattle.std.proofs.Common.{arith, ◌≡◌, ◌∙◌, refl, sym, ap, subst, ℕ, ◌<◌, is_some, Bool, true, false, List, [], Option, Some, None, Result, Ok}
 use Rattle.std.specs.Prelude.{slice_set}
 use Rattle.bus_transactions.specs.Bare.{bare, bare_after, bare_purpose, bare_result}
 use Rattle.bus_transactions.specs.Rows.{shape}
@@ -23,7 +23,6 @@ use Rattle.rbc_disk.specs.Runs.{Told}
 use Rattle.rbc_disk.specs.Units.{PlainDisk}
 use Rattle.sbp_bus.specs.Requests.{find}
 use Rattle.sbp_bus.specs.declared.requests.Request.{Request as BusRequest}
-use Rattle.sbp_journal.specs.Outgoings.{empty_outbox}
 use Rattle.sbp_journal.specs.Run.{Moment}
 use Rattle.sbp_journal.specs.Transactions.{Transaction}
 use Rattle.sbp_journal.specs.Wire.{Terms, terms, waits}
@@ -35,8 +34,7 @@ use Rattle.sbp_target.specs.declared.purpose.Purpose.TheVariants as purposes
 use Rattle.sbp_target.specs.Agents.{sent_to}
 use Rattle.sbp_target.specs.Calls.{alone, lets_expire}
 use Rattle.sbp_target.specs.Desks.{which_in}
-use Rattle.sbp_target.specs.Nodes.{NodeState, Scene as TargetScene, desk_at, login_at, scene}
-use Rattle.sbp_target.specs.Receiving.{expired, expired_in, timed_out}
+use Rattle.sbp_target.specs.Nodes.{NodeState, Scene as TargetScene, desk_at, login_at}
 use Rattle.sbp_target.specs.Replies.{plain_in}
 use Rattle.sbp_world.specs.Handing.{handed_out}
 use Rattle.sbp_world.specs.Worlds.{WorldState, with_note, with_target}
@@ -60,15 +58,15 @@ use Rattle.target_terms.proofs.Still.{hist}
 use Rattle.target_terms.proofs.Told.{term_in}
 use Rattle.agent_terms.specs.Calls.{AreOf, Follow, changed, lapsed, managed, replied}
 use Rattle.agent_terms.specs.Crews.{Request, agent_in, answered as term_answered, with_requests}
-use Rattle.agent_terms.specs.Hands.{resumed, run_untold}
+use Rattle.agent_terms.specs.Hands.{resumed, run_told, run_untold}
 use Rattle.agent_terms.specs.Serials.{AreKnown, IsForAgent, IsHanded}
-use Rattle.agent_terms.proofs.CrewEndings.{AreEndings, endings_none, endings_tell, lapse_endings}
 use Rattle.agent_terms.proofs.CrewFirsts.{T, agrees, before, crew_keeps, none_waits, o}
 use Rattle.agent_terms.proofs.CrewSeats.{IsServing, serves_it, state_of}
 use Rattle.agent_terms.proofs.CrewTurns.{Begins, doing_behind, quiet_begins, turned_crew}
 use Rattle.agent_terms.proofs.Handed.{are_handed}
 use Rattle.agent_terms.proofs.Leaving.{packets_leave}
 use Rattle.agent_terms.proofs.Notes.{notes_law}
+use Rattle.agent_terms.proofs.ToldAlike.{IsToldOf, told_alike_expired}
 use Rattle.agent_terms.proofs.Purposes.{Waits, g, held_waits, labels, law}
 
 -- a time-out is a loss, whatever the unit
@@ -77,12 +75,16 @@ lapse_same place which one two u v a =
     ap (λ (r : AgentStep × Machine). moved r (closed which a))
     (reply_lost a.machine place one None which Expired causes.Timeout refl ∙ sym (reply_lost a.machine place two None which Expired causes.Timeout refl))
 
+none_there : (x : Option Told) → is_some x ≡ false → x ≡ None
+none_there None e = refl
+none_there (Some told) e = absurd (let no : true ≡ false = e in cc)
+
 -- a reply that waits, where nothing is told of a run
-lapse_resumes : (told : List Side) → AreEndings told → (place : ℕ) (which : Which) (t : Target) (plain : PlainDisk) → resumed (Some (record { place = place; which = which; answer = Expired })) told t ≡ changed place (term_answered None false place plain which Expired) t.agents
-lapse_resumes told e place which t plain =
+lapse_resumes : (told : List Side) → ((plain : PlainDisk) → IsToldOf told plain None) → (place : ℕ) (which : Which) (t : Target) (plain : PlainDisk) → resumed (Some (record { place = place; which = which; answer = Expired })) told t ≡ changed place (term_answered None false place plain which Expired) t.agents
+lapse_resumes told tells place which t plain =
     let own = plain_for t (record { place = place; which = which; answer = Expired }) in
     let a = agent_in t.agents place in
-    ap (λ (run : Option Told). slice_set t.agents place (term_answered run (run_untold told own a.untold) place own which Expired a)) (endings_none told own e)
+    ap (λ (run : Option Told). slice_set t.agents place (term_answered run (run_untold told own a.untold) place own which Expired a)) (none_there (run_told told own) ((tells own).alike a.untold).both)
     ∙ ap (λ x. slice_set t.agents place x) (lapse_same place which own plain (run_untold told own a.untold) false a)
 
 module _ (units ready : ℕ) (has : 0 < units) (start : List Disk) {past : List Moment} {lines : ℕ} (w : WorldState) (h : Holding units ready start past lines w) (serial : ℕ) (request : BusRequest) (found : find w.requests serial ≡ Some request) (zero_is : request.node ≡ 0) where
@@ -218,22 +220,18 @@ module _ (units ready : ℕ) (has : 0 < units) (start : List Disk) {past : List 
         abbrev Replied : List Side → Option Login → Option Which → NodeState → Type 0
         Replied told login which now = Begins own_office (replied None false place Expired w.target [] login which own_terms.agents) told (term_in start past (lapsed_world now))
 
-        agent_begins : (now : NodeState) (told : List Side) → AreEndings told → Replied told (login_at w.target place) (which_in (desk_at w.target place) request.peer request.label) now
-        agent_begins now told ends =
+        agent_begins : (now : NodeState) (told : List Side) → ((plain : PlainDisk) → IsToldOf told plain None) → Replied told (login_at w.target place) (which_in (desk_at w.target place) request.peer request.label) now
+        agent_begins now told tells =
             let s = serving_it in
             let plain = plain_in w.target.units [] s.login.unit in
             subst (λ l. Replied told l (which_in (desk_at w.target place) request.peer request.label) now) (sym s.login_is)
             (subst (λ k. Replied told (Some s.login) k now) (sym s.which_is)
             (subst (Begins own_office (changed place (term_answered None false place plain for_it.which Expired) own_terms.agents) told) (sym (lapsed_for now (for_agent place for_it.which) for_it.is))
-            (record { office = refl; may = (are.size, small, (endings_tell told plain ends).step); resumes = lapse_resumes told ends place for_it.which late plain })))
+            (record { office = refl; may = (are.size, small, (tells plain).of_step); resumes = lapse_resumes told tells place for_it.which late plain })))
 
-      -- what is left of it
-      agent_endings : (place : ℕ) → purpose ≡ Some (purposes.Agent place) → AreEndings x.outbox.sides
-      unfolding expired
-      agent_endings place own =
-          let s = scene (record w.target { layer = new }) empty_outbox in
-          subst (λ (f : Result (Option Purpose) Stale × Layer Purpose). AreEndings (expired_in f request.peer request.label (scene w.target empty_outbox)).1.outbox.sides) (sym e)
-          (subst (λ (p : Option Purpose). AreEndings (timed_out p request.peer request.label s).outbox.sides) (sym own) (lapse_endings place request.peer request.label s tt))
+      agent_tells : (place : ℕ) → purpose ≡ Some (purposes.Agent place) → (plain : PlainDisk) → IsToldOf x.outbox.sides plain None
+      agent_tells place own plain =
+          told_alike_expired w.target request.peer request.label place plain (ap (λ (f : Result (Option Purpose) Stale × Layer Purpose). f.0) e ∙ ap Ok own)
 
       abbrev BeginsFor : Option Purpose → Type 0
       BeginsFor p =
@@ -241,7 +239,7 @@ module _ (units ready : ℕ) (has : 0 < units) (start : List Disk) {past : List 
 
       begins_for : (p : Option Purpose) → purpose ≡ p → BeginsFor p
       begins_for None own = nobody_begins x.node x.outbox.sides (handed.nobody own)
-      begins_for (Some (purposes.Agent place)) own = agent_begins place own x.node x.outbox.sides (agent_endings place own)
+      begins_for (Some (purposes.Agent place)) own = agent_begins place own x.node x.outbox.sides (agent_tells place own)
       begins_for (Some purposes.Management) own = manager_begins x.node x.outbox.sides (handed.operation own)
       begins_for (Some purposes.Unsolicited) own = nobody_begins x.node x.outbox.sides (handed.unsolicited own)
 

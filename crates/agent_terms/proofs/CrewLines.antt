@@ -1,7 +1,7 @@
 -- After each line of a world, and behind each delivery of one, the agents of the terms are the target's.
 use Rattle.std.proofs.Common.{arith, ◌≡◌, ◌∙◌, refl, sym, ap, subst, ℕ, zero, suc, ◌+◌, ◌^◌, ◌<◌, ◌≤◌, ◌||◌, not, nat_eq, nat_lt, Bool, true, false, cond, List, [], ◌∷◌, length, Option, Some, None}
 use Rattle.std.specs.Prelude.{slice_index_or, slice_set}
-use Rattle.label_table.specs.Layer.{Finding, Layer, judging_step, of_again, of_generation, of_grammar, of_label, of_request, of_response}
+use Rattle.label_table.specs.Layer.{judging_step}
 use Rattle.packet_store.specs.declared.sent.Sent.{Sent}
 use Rattle.packet_store.specs.Kept.{found_sent, is_flying}
 use Rattle.packet_store.specs.Stored.{deliver_step}
@@ -21,8 +21,6 @@ use Rattle.sbp_journal.specs.declared.event.Event.TheVariants as events
 use Rattle.sbp_journal.specs.declared.note.Note.TheVariants as notes
 use Rattle.sbp_laws.specs.Packets.{receiver_in}
 use Rattle.sbp_laws.specs.Targets.{Target, is_serial, over, target_at}
-use Rattle.sbp_target.specs.declared.purpose.Purpose.{Purpose}
-use Rattle.sbp_target.specs.declared.purpose.Purpose.TheVariants as purposes
 use Rattle.sbp_target.specs.Receiving.{TellsIn, received, with_layer}
 use Rattle.sbp_target.specs.Replies.{Whole}
 use Rattle.sbp_world.specs.declared.parts.delivering.Arrival.{Arrival}
@@ -49,12 +47,9 @@ use Rattle.agent_terms.specs.Calls.{AreOf}
 use Rattle.agent_terms.specs.Crews.{with_requests}
 use Rattle.agent_terms.proofs.Asides.{asides_law}
 use Rattle.agent_terms.proofs.CrewDelivery.{delivered_crew}
-use Rattle.agent_terms.proofs.CrewFirsts.{AgentTells}
 use Rattle.agent_terms.proofs.CrewOthers.{got_out, settled_ends, stopped_ends}
 use Rattle.agent_terms.proofs.CrewPass.{AllUnits, Crewed, UnitsAre, acts, injects, keys_line, loses, not_zero, own_crew, refuses, resets, same_crew, sights, ticks_line, times_out}
-use Rattle.agent_terms.proofs.CrewTells.{tells_as}
 use Rattle.agent_terms.proofs.Known.{known_over_delivery}
-use Rattle.agent_terms.proofs.Purposes.{g}
 
 -- what a line tells of runs, as its deliveries begin
 abbrev pub LineUnits : Event → List Disk → List Moment → List (Option Told) → Scene → Type 0
@@ -99,27 +94,9 @@ module _ (units ready : ℕ) (has : 0 < units) (start : List Disk) where
         abbrev v : WorldState
         v = with_note (judged_note serial r.0) (marked serial again (with_target r.1.node w))
 
-        abbrev left : Finding Purpose × Layer Purpose
-        left = judging_step w.target.layer sent.generation sent.bytes
-
-        abbrev Answers : Finding Purpose → Layer Purpose → Type 0
-        Answers f layer = AgentTells units ready has start w h serial again sent found zero_to c.requests c.are c.sent.known run s.media u.each f layer
-
-        answers : (f : Finding Purpose) (layer : Layer Purpose) → judging_step w.target.layer sent.generation sent.bytes ≡ (f, layer) → (faults now : List ℕ) → TellsIn run f (with_layer layer (whole_of w.target s.media)) faults now → Answers f layer
-        answers of_generation layer e faults now t = tt
-        answers of_grammar layer e faults now t = tt
-        answers of_label layer e faults now t = tt
-        answers (of_response p label None) layer e faults now t = tt
-        answers (of_response p label (Some (purposes.Agent place))) layer e faults now t = λ login is.
-            tells_as w.target (g units ready has start w h) run s.media.disks sent.generation sent.bytes p label place layer e faults now t login is
-        answers (of_response p label (Some purposes.Management)) layer e faults now t = tt
-        answers (of_response p label (Some purposes.Unsolicited)) layer e faults now t = tt
-        answers (of_again p rcode) layer e faults now t = tt
-        answers (of_request p) layer e faults now t = tt
-
-        are_now : (faults now : List ℕ) → TellsIn run left.0 (with_layer left.1 (whole_of w.target s.media)) faults now → Sound past lines (handed_out 0 0 r.1.outbox v) → AreOf (with_requests v.store.last r.1.outbox.packets c.requests) (over (term_in start past (handed_out 0 0 r.1.outbox v))).agents r.1.node
+        are_now : (faults now : List ℕ) → TellsIn run (judging_step w.target.layer sent.generation sent.bytes).0 (with_layer (judging_step w.target.layer sent.generation sent.bytes).1 (whole_of w.target s.media)) faults now → Sound past lines (handed_out 0 0 r.1.outbox v) → AreOf (with_requests v.store.last r.1.outbox.packets c.requests) (over (term_in start past (handed_out 0 0 r.1.outbox v))).agents r.1.node
         are_now faults now t sound =
-            delivered_crew units ready has start w h serial again sent found zero_to c.requests c.are c.sent.known run s.media u.each bytes faults now t (answers left.0 left.1 refl faults now t) sound
+            delivered_crew units ready has start w h serial again sent found zero_to c.requests c.are c.sent.known run s.media u.each bytes faults now t sound
 
         are_left : MayTell run sent w.target s.media → Sound past lines (handed_out 0 0 r.1.outbox v) → AreOf (with_requests v.store.last r.1.outbox.packets c.requests) (over (term_in start past (handed_out 0 0 r.1.outbox v))).agents r.1.node
         unfolding MayTell

@@ -19,7 +19,6 @@ use Rattle.sbp_journal.specs.Transactions.{Sending}
 use Rattle.sbp_journal.specs.Wire.{terms}
 use Rattle.sbp_journal.specs.declared.event.Action.{Action}
 use Rattle.sbp_journal.specs.declared.note.Note.TheVariants as notes
-use Rattle.sbp_laws.specs.DiskFold.{unit_at}
 use Rattle.sbp_laws.specs.Packets.{sender_in}
 use Rattle.sbp_laws.specs.Targets.{Target, is_serial, key_by, known_at, over}
 use Rattle.sbp_laws.specs.Turns.{event_of}
@@ -27,7 +26,6 @@ use Rattle.sbp_target.specs.declared.purpose.Purpose.{Purpose}
 use Rattle.sbp_target.specs.Calls.{alone, lets_expire, sees, ticks}
 use Rattle.sbp_target.specs.Nodes.{Scene as TargetScene, scene}
 use Rattle.sbp_target.specs.Receiving.{expired, expired_in, with_key}
-use Rattle.sbp_target.specs.Replies.{plain_in}
 use Rattle.sbp_world.specs.Handing.{handed_out}
 use Rattle.sbp_world.specs.Lines.{acted, acted_by, keyed, no_unit, weight_in}
 use Rattle.sbp_world.specs.Nodes as nodes
@@ -49,6 +47,7 @@ use Rattle.target_terms.proofs.Told.{term_in}
 use Rattle.agent_terms.specs.Asides.{MayGoOn}
 use Rattle.agent_terms.specs.Calls.{AreOf}
 use Rattle.agent_terms.specs.Crews.{Request, with_requests}
+use Rattle.agent_terms.specs.Units.{AreUnitsAt}
 use Rattle.agent_terms.proofs.Asides.{asides_law}
 use Rattle.agent_terms.proofs.CrewLapse.{lapsed_crew}
 use Rattle.agent_terms.proofs.CrewOthers as others
@@ -57,9 +56,9 @@ use Rattle.agent_terms.proofs.CrewSights.{key_crew, second_crew, sight_crew}
 use Rattle.agent_terms.proofs.Known.{AreSent, known_over_key, known_over_lapse, known_over_own, known_over_second, known_over_sight}
 use Rattle.agent_terms.proofs.Purposes.{g, law}
 
--- the units of the terms are those of the target and the media
-pub record UnitsAre (start : List Disk) (past : List Moment) (s : Scene) : Type 0 where
-  pub each : (unit : ℕ) → unit < length s.world.target.units → unit_at (term_in start past s.world).units unit ≡ plain_in s.world.target.units s.media.disks unit
+-- the units of the terms are those of the target, with its media
+abbrev pub UnitsAre : List Disk → List Moment → Scene → Type 0
+UnitsAre start past s = AreUnitsAt start (hist past s.world) s.world.target s.media.disks
 
 -- as each of these deliveries begins
 abbrev pub AllUnits : List Disk → List Moment → List (Option Told) → Scene → Type 0

@@ -61,10 +61,9 @@ pub record IsServing (node : NodeState) (place : ℕ) (x : Sent) (which : Which)
   pub login : Login
   pub login_is : login_at node place ≡ Some login
   pub served_is : served_login node place ≡ Some login
-  pub on_unit : login.unit < length node.units
 
 serving : (node : NodeState) (place : ℕ) (x : Sent) (which : Which) → which_in (desk_at node place) x.peer x.label ≡ Some which → IsServed node place → IsServing node place x which
-serving node place x which w i = record { which_is = w; login = i.login; login_is = i.is; served_is = served_there node place i; on_unit = i.on_unit }
+serving node place x which w i = record { which_is = w; login = i.login; login_is = i.is; served_is = served_there node place i }
 
 module _ (units ready : ℕ) (has : 0 < units) (start : List Disk) {past : List Moment} {lines : ℕ} (w : WorldState) (h : Holding units ready start past lines w) (place : ℕ) (b : place < 8) where
   abbrev G : Good w.target

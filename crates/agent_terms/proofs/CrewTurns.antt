@@ -1,8 +1,6 @@
 -- A turn of the target: where its first note makes of the terms what the call makes of the agents, they are its agents again behind the turn.
-use Rattle.std.proofs.Common.{◌≡◌, ◌∙◌, sym, ap, subst, ℕ, Bool, List, [], ◌∷◌, Option, None}
+use Rattle.std.proofs.Common.{◌≡◌, ◌∙◌, sym, ap, subst, ℕ, List, [], ◌∷◌, Option, None}
 use Rattle.rbc_disk.specs.Disk.{Disk}
-use Rattle.rbc_disk.specs.Runs.{Told}
-use Rattle.rbc_disk.specs.Units.{PlainDisk}
 use Rattle.sbp_journal.specs.Run.{Moment}
 use Rattle.sbp_journal.specs.declared.outbox.Outgoing.{Outgoing}
 use Rattle.sbp_journal.specs.declared.side.Side.{Side}
@@ -18,8 +16,8 @@ use Rattle.target_terms.proofs.Managing.{quiet_says}
 use Rattle.target_terms.proofs.Sides.{AllBehind}
 use Rattle.target_terms.proofs.Told.{term_in}
 use Rattle.agent_terms.specs.Calls.{AreOf, Follow}
-use Rattle.agent_terms.specs.Crews.{Request, ToldAlike, crew_over, crew_packets, crew_sides, with_requests}
-use Rattle.agent_terms.specs.Hands.{AllLeave, AreTold, IsOfStep, MayResume, resumed, run_told, run_untold}
+use Rattle.agent_terms.specs.Crews.{Request, crew_over, crew_packets, crew_sides, with_requests}
+use Rattle.agent_terms.specs.Hands.{AllLeave, AreTold, MayResume, resumed}
 use Rattle.agent_terms.proofs.Hands.{hands_law}
 
 -- ---- a target tells no note of its own
@@ -46,11 +44,6 @@ doing_behind {Quiet} {May} {node} {lives} {o} {first} s (calmly q e c) = (quiet_
 doing_behind s (managing source before old may none turned r) = turned.says.behind
 
 -- ---- what the first note of a turn makes of the terms, over what the turn tells
-
--- What a step of an agent tells, over its unit, is what the node was told of a run.
-pub record Tells (told : List Side) (plain : PlainDisk) (run : Option Told) : Type 0 where
-  pub step : IsOfStep told
-  pub alike : (before : Bool) → ToldAlike (run_untold told plain before) (run_told told plain) run
 
 pub record Begins (first : Office) (agents : List Agent) (told : List Side) (t : Target) : Type 0 where
   pub office : office_of t ≡ first

@@ -51,8 +51,6 @@ pub mod CrewTurns
 pub mod CrewSeats
 pub mod CrewFirsts
 pub mod CrewDelivery
-pub mod CrewEndings
-pub mod CrewTells
 pub mod CrewLapse
 pub mod CrewSights
 pub mod CrewOthers

@@ -1,4 +1,5 @@
 //! The terms of the agents and the target.
+ghost use Rattle.agent_terms.specs.Agents.{AgentsBetweenLaw, AgentsRunLaw, SerialsBetweenLaw, SerialsLaw};
 ghost use Rattle.agent_terms.specs.Alike.{AlikeLaw};
 ghost use Rattle.agent_terms.specs.Asides.{AsidesLaw};
 ghost use Rattle.agent_terms.specs.Calls.{AgentsLaw};
@@ -143,4 +144,27 @@ pub fn units_are_the_targets()
 /// And behind each delivery of a line that may follow.
 pub fn deliveries_keep_the_units()
     ensures { UnitsBetweenLaw }
+{}
+
+/// After every line of every run the agents of the terms are the target's, once a turn is over: each has the machine of
+/// its desk, but for what its phase reads no more, its pointer, and its transactions by the serials of the requests that
+/// left for them, which the bus knows.
+pub fn agents_are_the_targets()
+    ensures { AgentsRunLaw }
+{}
+
+/// And behind each delivery of a line that may follow.
+pub fn deliveries_keep_the_agents()
+    ensures { AgentsBetweenLaw }
+{}
+
+/// After every line of every run a response to a request that waits and its time-out are handed, by the terms, to the
+/// agent or to the operation that the target has the transaction under way for, or to nobody.
+pub fn serials_are_for_what_is_under_way()
+    ensures { SerialsLaw }
+{}
+
+/// And behind each delivery of a line that may follow.
+pub fn deliveries_keep_serials_for_what_is_under_way()
+    ensures { SerialsBetweenLaw }
 {}
