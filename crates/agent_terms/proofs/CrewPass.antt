@@ -1,4 +1,4 @@
--- After each line of a world, and behind each delivery of one, the agents of the terms are the target's.
+-- Each turn of a world but a delivery leaves the agents of the terms the target's.
 use Rattle.std.proofs.Common.{arith, ◌≡◌, ◌∙◌, refl, sym, ap, subst, ℕ, zero, suc, ◌+◌, ◌-◌, ◌<◌, nat_eq, nat_lt, Bool, true, false, cond, List, [], ◌∷◌, length, Option, Some, None, Result, Ok, Err}
 use Rattle.std.specs.Prelude.{if◌then◌else◌}
 use Rattle.label_table.specs.declared.reply.Stale.{Stale}

@@ -72,11 +72,11 @@ lines_same : (run : Run) (all entries : List Entry) → AreLines run entries →
 lines_same run all [] l = tt
 lines_same run all (e ∷ before) l = (l.0, lines_same run all before l.1)
 
-record CrewAfter (line : ℕ) (run : Run) (entries : List Entry) (w : WorldState) : Type 0 where
-  past : List Moment
-  holds : Holding run.units (ready_logins run.initiators run.ready) run.start.disks past (length entries) w
-  is : hist past w ≡ moments_behind line run entries
-  crew : Crewed run.start.disks past w
+pub record CrewAfter (line : ℕ) (run : Run) (entries : List Entry) (w : WorldState) : Type 0 where
+  pub past : List Moment
+  pub holds : Holding run.units (ready_logins run.initiators run.ready) run.start.disks past (length entries) w
+  pub is : hist past w ≡ moments_behind line run entries
+  pub crew : Crewed run.start.disks past w
 
 crew_first : (line : ℕ) (run : Run) → run.initiators ≤ 4 → 0 < run.units → run.units ≤ 4 → length run.start.disks ≡ run.units → CrewAfter line run [] (beginning run).world
 unfolding new_world
@@ -94,7 +94,7 @@ module _ (line : ℕ) (run : Run) (few : run.initiators ≤ 4) (has : 0 < run.un
       subst (λ ms. UnitsAre run.start.disks (asked next event ∷ ms) (after_all told (begun (after (beginning run) entries)))) (moments_same line run entries entries ∙ sym c.is)
       (units_between_law line (record run { entries = entries }) few has small size short all (lines_same run entries entries fit) next event d told may)
 
-  crew_after : (entries : List Entry) → length entries + 2 < 2 ^ 32 → AreEntries (beginning run) entries → AreLines run entries → CrewAfter line run entries (after (beginning run) entries).world
+  pub crew_after : (entries : List Entry) → length entries + 2 < 2 ^ 32 → AreEntries (beginning run) entries → AreLines run entries → CrewAfter line run entries (after (beginning run) entries).world
   crew_after [] short all fit = crew_first line run few has small size
   crew_after (e ∷ before) short all fit =
       let logins = ready_logins run.initiators run.ready in
