@@ -37,4 +37,10 @@ pub mod Holders
 pub mod Enabled
 pub mod Sparing
 pub mod Enabling
+pub mod Heeding
+pub mod Disabling
+pub mod Using
+pub mod Ceasing
+pub mod Agreeing
+pub mod Registering
 pub mod Runs
