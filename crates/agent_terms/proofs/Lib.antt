@@ -57,4 +57,10 @@ pub mod CrewOthers
 pub mod CrewPass
 pub mod CrewLines
 pub mod CrewRuns
+pub mod Heeding
+pub mod Disabling
+pub mod Using
+pub mod Ceasing
+pub mod Agreeing
+pub mod Registering
 pub mod Runs

@@ -4,7 +4,7 @@ ghost use Rattle.agent_terms.specs.Alike.{AlikeLaw};
 ghost use Rattle.agent_terms.specs.Asides.{AsidesLaw};
 ghost use Rattle.agent_terms.specs.Calls.{AgentsLaw};
 ghost use Rattle.agent_terms.specs.Demands.{DemandsLaw};
-ghost use Rattle.agent_terms.specs.Enabled.{EnabledBetweenLaw, EnabledLaw};
+ghost use Rattle.agent_terms.specs.Enabled.{EnabledBetweenLaw, EnabledLaw, EnabledTermsBetweenLaw, EnabledTermsLaw};
 ghost use Rattle.agent_terms.specs.Fresh.{LabelsBetweenLaw, LabelsLaw};
 ghost use Rattle.agent_terms.specs.Hands.{HandsLaw};
 ghost use Rattle.agent_terms.specs.Holders.{HoldersBetweenLaw, HoldersLaw};
@@ -167,4 +167,16 @@ pub fn serials_are_for_what_is_under_way()
 /// And behind each delivery of a line that may follow.
 pub fn deliveries_keep_serials_for_what_is_under_way()
     ensures { SerialsBetweenLaw }
+{}
+
+/// After every line of every run the registers for unsolicited status that the laws have enabled are those of the target's
+/// desks: each is enabled by a write that the target serves, and disabled as it is used up, as its login leaves, and as the
+/// target sees a later generation.
+pub fn enabled_registers_are_the_targets()
+    ensures { EnabledTermsLaw }
+{}
+
+/// And behind each delivery of a line that may follow.
+pub fn deliveries_keep_the_enabled_registers()
+    ensures { EnabledTermsBetweenLaw }
 {}
