@@ -140,7 +140,7 @@ note_leaves (notes.Unsent i) past wire t h m = absurd h
 note_leaves (notes.Told i) past wire t h m = goes (notes.Told i) t (record { told = λ p. refl; untold = λ p b. refl }) m
 
 -- ---- other nodes
-settled_over : (t : Target) → (over (taken_on None t.reply t)).agents ≡ (over t).agents
+pub settled_over : (t : Target) → (over (taken_on None t.reply t)).agents ≡ (over t).agents
 settled_over t = taken_as t (taken_on None t.reply t) refl (no_reply t.reply t refl)
 
 sends : (serial generation from to : ℕ) (bytes : List ℕ) (past : List Moment) (wire : Terms) (t : Target) → 0 < from → (over (target_by (notes.Sent serial generation from to bytes) past wire t)).agents ≡ (over t).agents

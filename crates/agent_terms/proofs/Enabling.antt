@@ -110,7 +110,7 @@ unfolding asks_step
 asked_logins None source s = refl
 asked_logins (Some body) source s = sent_logins s.node s.outbox source (asking_step s.node.layer source body purposes.Management)
 
-ask_logins : (source : ℕ) (ask : Ask) (s : Scene) → (ask_manager source ask s).node.logins ≡ s.node.logins
+pub ask_logins : (source : ℕ) (ask : Ask) (s : Scene) → (ask_manager source ask s).node.logins ≡ s.node.logins
 unfolding ask_manager
 ask_logins source ask s = asked_logins (manager_body ask s.node.manager.outgoing) source s
 
@@ -162,11 +162,11 @@ module _ (old t : Table) where
   effect_keeps : (effect : Effect) (subject : ℕ) (s : Scene) → Spares effect old t → Enabled (HasLive old.places) s.node → Enabled (HasLive t.places) (effect_by effect subject s).node
   effect_keeps effects.Nothing subject s f h = widen s.node f h
   effect_keeps (effects.Entered place replaced) subject s f h =
-      set_enabled (HasLive t.places) s.node place (record (desk_at s.node place) { pointer = None; is_enabled = false }) (λ g. absurd (no g)) (widen s.node f h)
+      set_enabled (HasLive t.places) s.node place (record (desk_at s.node place) { pointer = None; is_enabled = false }) (λ g. absurd (no g)) (widen s.node f.0 h)
   effect_keeps (effects.Back place) subject s f h = widen s.node f h
   effect_keeps (effects.Left place) subject s f h =
       let c = cut_placed (place_in place) cuts.Logout s in
-      off c.node place f (cuts_placed (HasLive old.places) (place_in place) cuts.Logout s h)
+      off c.node place f.0 (cuts_placed (HasLive old.places) (place_in place) cuts.Logout s h)
   effect_keeps (effects.Abort place orb) subject s f h =
       let w = widen s.node f h in
       set_enabled (HasLive t.places) s.node place (record (desk_at s.node place) { agent = abort_step (desk_at s.node place).agent orb }) (λ g. w place g) w

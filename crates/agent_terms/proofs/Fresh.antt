@@ -9,9 +9,10 @@ use Rattle.label_table.specs.declared.reply.ReplyKind.{ReplyKind}
 use Rattle.label_table.specs.declared.reply.Stale.{Stale}
 use Rattle.label_table.specs.Bodies.{Body}
 use Rattle.label_table.specs.History as wire
-use Rattle.label_table.specs.History.{Life, and_before, began, closed, disowned, ended, expired, for_nobody, forgotten, is_same, lived, not_begun, over, told_by_asking, under_way, unknown, was_stale}
+use Rattle.label_table.specs.History.{AreTold, IsTold, Life, and_before, began, closed, disowned, ended, expired, for_nobody, forgotten, is_same, lived, not_begun, over, told_by_asking, under_way, unknown, was_stale}
 use Rattle.label_table.specs.Layer.{Finding, Layer, answering_step, asking_step, expiring_step, judging_step, of_again, of_generation, of_grammar, of_label, of_request, of_response, unlabelled}
 use Rattle.label_table.specs.Requests.{kind_of}
+use Rattle.label_table.proofs.Calls.{told_law}
 use Rattle.packet_store.specs.declared.sent.Sent.{Sent as StoredSent}
 use Rattle.packet_store.specs.Kept.{found_sent}
 use Rattle.rbc_disk.specs.Disk.{Disk}
@@ -32,7 +33,7 @@ use Rattle.sbp_world.proofs.FitTarget.Law.{fitting_law}
 use Rattle.sbp_world.proofs.Wire.Holding.{KnownTo, known_small, target_has}
 use Rattle.target_laws.proofs.Calling.{Good}
 use Rattle.target_laws.proofs.Primitives.{Known, asks_known}
-use Rattle.target_laws.proofs.Seats.{same_self}
+use Rattle.target_laws.proofs.Seats.{same_is, same_self}
 use Rattle.target_terms.proofs.Holding.{Holding, ours}
 use Rattle.agent_terms.specs.Crews.{Has, Request, with_requests}
 use Rattle.agent_terms.specs.Fresh.{AreNew, LabelsAreNew}
@@ -40,7 +41,7 @@ use Rattle.agent_terms.proofs.Leaving.{good, led_to, source_known}
 use Rattle.agent_terms.proofs.Serials.{number_after, requests_more}
 
 -- ---- a transaction that began has begun from then on
-abbrev Started : Life Purpose → Type 0
+abbrev pub Started : Life Purpose → Type 0
 Started not_begun = ⊥
 Started _ = Unit {0}
 
@@ -71,15 +72,78 @@ noted_started : (note : Option (wire.Told Purpose)) (notes : List (wire.Told Pur
 noted_started None notes peer label s = s
 noted_started (Some note) notes peer label s = lived_started note peer label (wire.life peer label notes) s
 
-abbrev lives_of : List (wire.Call Purpose) → ℕ → LabelParts → Life Purpose
+abbrev pub lives_of : List (wire.Call Purpose) → ℕ → LabelParts → Life Purpose
 lives_of calls peer label = wire.life peer label (wire.history 0xffc0 calls)
 
-one_started : (call : wire.Call Purpose) (calls : List (wire.Call Purpose)) (peer : ℕ) (label : LabelParts) → Started (lives_of calls peer label) → Started (lives_of (call ∷ calls) peer label)
+pub one_started : (call : wire.Call Purpose) (calls : List (wire.Call Purpose)) (peer : ℕ) (label : LabelParts) → Started (lives_of calls peer label) → Started (lives_of (call ∷ calls) peer label)
 one_started call calls peer label s = noted_started (wire.told call (wire.after 0xffc0 calls)) (wire.history 0xffc0 calls) peer label s
 
-steps_started : (steps made : List (wire.Call Purpose)) (peer : ℕ) (label : LabelParts) → Started (lives_of made peer label) → Started (lives_of (steps ++ made) peer label)
+pub steps_started : (steps made : List (wire.Call Purpose)) (peer : ℕ) (label : LabelParts) → Started (lives_of made peer label) → Started (lives_of (steps ++ made) peer label)
 steps_started [] made peer label s = s
 steps_started (step ∷ steps) made peer label s = one_started step (steps ++ made) peer label (steps_started steps made peer label s)
+
+-- ---- and is under way only where it was before
+ended_waits : (life : Life Purpose) → wire.IsUnderWay (ended life) → wire.IsUnderWay life
+ended_waits not_begun u = u
+ended_waits (under_way kind purpose) u = tt
+ended_waits over u = u
+
+nobody_waits : (life : Life Purpose) → wire.IsUnderWay (for_nobody life) → wire.IsUnderWay life
+nobody_waits not_begun u = u
+nobody_waits (under_way kind purpose) u = tt
+nobody_waits over u = u
+
+either_waits : (b : Bool) (x y : Life Purpose) → (b ≡ true → wire.IsUnderWay x → wire.IsUnderWay y) → wire.IsUnderWay (cond b x y) → wire.IsUnderWay y
+either_waits true x y f u = f refl u
+either_waits false x y f u = u
+
+-- one that begins did not begin before
+clashes : (notes : List (wire.Told Purpose)) (p : ℕ) (l : LabelParts) (peer : ℕ) (label : LabelParts) → wire.life p l notes ≡ not_begun → Started (wire.life peer label notes) → is_same p l peer label ≡ true → ⊥
+clashes notes p l peer label fresh s e =
+    let same = same_is p l peer label e in
+    let none : wire.life peer label notes ≡ not_begun = ap (λ q. wire.life q label notes) (sym same.peer) ∙ ap (λ (m : LabelParts). wire.life p m notes) (sym same.label) ∙ fresh in
+    subst Started none s
+
+lived_waited : (note : wire.Told Purpose) (notes : List (wire.Told Purpose)) → IsTold note notes → (peer : ℕ) (label : LabelParts) → Started (wire.life peer label notes) → wire.IsUnderWay (lived note peer label (wire.life peer label notes)) → wire.IsUnderWay (wire.life peer label notes)
+lived_waited (began p l kind purpose) notes t peer label s u =
+    either_waits (is_same p l peer label) (under_way kind (Some purpose)) (wire.life peer label notes) (λ e x. absurd (clashes notes p l peer label t.0 s e)) u
+lived_waited (closed p l kind purpose) notes t peer label s u =
+    either_waits (is_same p l peer label) (ended (wire.life peer label notes)) (wire.life peer label notes) (λ e x. ended_waits (wire.life peer label notes) x) u
+lived_waited (expired p l purpose) notes t peer label s u =
+    either_waits (is_same p l peer label) (ended (wire.life peer label notes)) (wire.life peer label notes) (λ e x. ended_waits (wire.life peer label notes) x) u
+lived_waited (disowned p l) notes t peer label s u =
+    either_waits (is_same p l peer label) (for_nobody (wire.life peer label notes)) (wire.life peer label notes) (λ e x. nobody_waits (wire.life peer label notes) x) u
+lived_waited (was_stale p l) notes t peer label s u = u
+lived_waited (unknown p number kind) notes t peer label s u = u
+lived_waited forgotten notes t peer label s u = ended_waits (wire.life peer label notes) u
+
+noted_waited : (note : Option (wire.Told Purpose)) (notes : List (wire.Told Purpose)) → AreTold (and_before note notes) → (peer : ℕ) (label : LabelParts) → Started (wire.life peer label notes) → wire.IsUnderWay (wire.life peer label (and_before note notes)) → wire.IsUnderWay (wire.life peer label notes)
+noted_waited None notes t peer label s u = u
+noted_waited (Some note) notes t peer label s u = lived_waited note notes t.0 peer label s u
+
+pub one_waited : (call : wire.Call Purpose) (calls : List (wire.Call Purpose)) (peer : ℕ) (label : LabelParts) → Started (lives_of calls peer label) → wire.IsUnderWay (lives_of (call ∷ calls) peer label) → wire.IsUnderWay (lives_of calls peer label)
+one_waited call calls peer label s u =
+    noted_waited (wire.told call (wire.after 0xffc0 calls)) (wire.history 0xffc0 calls) (told_law Purpose 0xffc0 (call ∷ calls)) peer label s u
+
+steps_waited : (steps made : List (wire.Call Purpose)) (peer : ℕ) (label : LabelParts) → Started (lives_of made peer label) → wire.IsUnderWay (lives_of (steps ++ made) peer label) → wire.IsUnderWay (lives_of made peer label)
+steps_waited [] made peer label s u = u
+steps_waited (step ∷ steps) made peer label s u =
+    steps_waited steps made peer label s (one_waited step (steps ++ made) peer label (steps_started steps made peer label s) u)
+
+-- ---- packets that a layer gave, from these calls of it on
+pub record Apart (made : List (wire.Call Purpose)) (now : Layer Purpose) (packets : List Outgoing) : Type 0 where
+  pub all : List (wire.Call Purpose)
+  pub leads : wire.after 0xffc0 all ≡ now
+  pub longer : (peer : ℕ) (label : LabelParts) → Started (lives_of made peer label) → Started (lives_of all peer label)
+  pub waited : (peer : ℕ) (label : LabelParts) → Started (lives_of made peer label) → wire.IsUnderWay (lives_of all peer label) → wire.IsUnderWay (lives_of made peer label)
+  pub started : (last : ℕ) (r : Request) → Has (with_requests last packets []) r → Started (lives_of all r.to r.label)
+  pub fresh : (last : ℕ) (r : Request) → Has (with_requests last packets []) r → Started (lives_of made r.to r.label) → ⊥
+  pub unique : (last : ℕ) (one two : Request) → Has (with_requests last packets []) one → Has (with_requests last packets []) two → one.to ≡ two.to → one.label ≡ two.label → one.serial ≡ two.serial
+
+none_apart : (made : List (wire.Call Purpose)) (now : Layer Purpose) (packets : List Outgoing) → wire.after 0xffc0 made ≡ now → packets ≡ [] → Apart made now packets
+none_apart made now packets e none =
+    subst (λ (ps : List Outgoing). Apart made now ps) (sym none)
+    (record { all = made; leads = e; longer = λ p l s. s; waited = λ p l s u. u; started = λ last r h. absurd h; fresh = λ last r h s. h; unique = λ last one two h k f g. absurd h })
 
 -- ---- asks, from a layer that steps led to
 module _ (known : ℕ → Type 0) (before : Layer Purpose) (made : List (wire.Call Purpose)) (made_is : wire.after 0xffc0 made ≡ before) where
@@ -151,25 +215,71 @@ module _ (known : ℕ → Type 0) (before : Layer Purpose) (made : List (wire.Ca
   asks_new (wire.lets_expire peer label ∷ steps) m = absurd m
   asks_new (wire.sees generation node ∷ steps) m = absurd m
 
-  -- of such packets
-  record Apart (packets : List Outgoing) : Type 0 where
-    fresh : (last : ℕ) (r : Request) → Has (with_requests last packets []) r → Started (lives_of made r.to r.label) → ⊥
-    unique : (last : ℕ) (one two : Request) → Has (with_requests last packets []) one → Has (with_requests last packets []) two → one.to ≡ two.to → one.label ≡ two.label → one.serial ≡ two.serial
-
-  asking_apart : (now : Layer Purpose) (packets : List Outgoing) → IsAsking known before now packets → Apart packets
+  asking_apart : (now : Layer Purpose) (packets : List Outgoing) → IsAsking known before now packets → Apart made now packets
   asking_apart now packets a =
       let n = asks_new a.steps a.may in
-      subst (λ (ps : List Outgoing). Apart ps) a.packets_are (record { fresh = n.fresh; unique = n.unique })
+      subst (λ (ps : List Outgoing). Apart made now ps) a.packets_are (record {
+        all = a.steps ++ made;
+        leads = led_to before made made_is a.steps ∙ a.layer_is;
+        longer = λ p l s. steps_started a.steps made p l s;
+        waited = λ p l s u. steps_waited a.steps made p l s u;
+        started = n.started;
+        fresh = n.fresh;
+        unique = n.unique;
+      })
 
-answering_apart : (known : ℕ → Type 0) (reply : Reply) (p : Packet) (bytes : List ℕ) (before now : Layer Purpose) (packets : List Outgoing) (made : List (wire.Call Purpose)) (e : wire.after 0xffc0 made ≡ before) → IsAnswering known reply p bytes before now packets → Apart known before made e packets
+answering_apart : (known : ℕ → Type 0) (reply : Reply) (p : Packet) (bytes : List ℕ) (before now : Layer Purpose) (packets : List Outgoing) (made : List (wire.Call Purpose)) → wire.after 0xffc0 made ≡ before → IsAnswering known reply p bytes before now packets → Apart made now packets
 answering_apart known reply p bytes before now packets made e a =
     let middle = layer_after before a.left in
     let step : wire.Call Purpose = wire.answers p bytes a.rcode a.given in
-    let more = asking_apart known (answering_step middle p bytes a.rcode a.given).1 (step ∷ (a.left ++ made)) (ap (wire.done step) (led_to before made e a.left)) now a.more a.asks in
-    subst (λ (ps : List Outgoing). Apart known before made e ps) a.packets_are (record {
-      fresh = λ last r h s. more.fresh (last + 1) r h (one_started step (a.left ++ made) r.to r.label (steps_started a.left made r.to r.label s));
+    let steps = a.left ++ made in
+    let more = asking_apart known (answering_step middle p bytes a.rcode a.given).1 (step ∷ steps) (ap (wire.done step) (led_to before made e a.left)) now a.more a.asks in
+    let begun : (peer : ℕ) (label : LabelParts) → Started (lives_of made peer label) → Started (lives_of (step ∷ steps) peer label) = λ peer label s. one_started step steps peer label (steps_started a.left made peer label s) in
+    subst (λ (ps : List Outgoing). Apart made now ps) a.packets_are (record {
+      all = more.all;
+      leads = more.leads;
+      longer = λ peer label s. more.longer peer label (begun peer label s);
+      waited = λ peer label s u.
+          steps_waited a.left made peer label s (one_waited step steps peer label (steps_started a.left made peer label s) (more.waited peer label (begun peer label s) u));
+      started = λ last r h. more.started (last + 1) r h;
+      fresh = λ last r h s. more.fresh (last + 1) r h (begun r.to r.label s);
       unique = λ last one two h k f g. more.unique (last + 1) one two h k f g;
     })
+
+-- ---- a delivery and a time-out, from calls that led to the layer
+module _ (known : ℕ → Type 0) (layer : Layer Purpose) (calls : List (wire.Call Purpose)) (calls_are : wire.after 0xffc0 calls ≡ layer) where
+  pub delivery_apart : (generation : ℕ) (bytes : List ℕ) (f : Finding Purpose) (verdict : Judged) (now : Layer Purpose) (packets : List Outgoing) → IsDelivery known f verdict bytes (judging_step layer generation bytes).1 now packets → Apart (wire.judges generation bytes ∷ calls) now packets
+  delivery_apart generation bytes f verdict now packets = by f
+    where
+      call : wire.Call Purpose
+      call = wire.judges generation bytes
+
+      before : Layer Purpose
+      before = (judging_step layer generation bytes).1
+
+      led : wire.after 0xffc0 (call ∷ calls) ≡ before
+      led = ap (wire.done call) calls_are
+
+      by : (f : Finding Purpose) → IsDelivery known f verdict bytes before now packets → Apart (call ∷ calls) now packets
+      by of_generation d = none_apart (call ∷ calls) now packets (led ∙ sym d.layer_is) d.packets_are
+      by of_grammar d = none_apart (call ∷ calls) now packets (led ∙ sym d.layer_is) d.packets_are
+      by of_label d = none_apart (call ∷ calls) now packets (led ∙ sym d.layer_is) d.packets_are
+      by (of_response p label purpose) d = asking_apart known before (call ∷ calls) led now packets d.asks
+      by (of_again p rcode) d = answering_apart known _ p bytes before now packets (call ∷ calls) led d.answers
+      by (of_request p) d = answering_apart known _ p bytes before now packets (call ∷ calls) led d.answers
+
+  pub expiry_apart : (peer : ℕ) (label : LabelParts) (r : Result (Option Purpose) Stale) (now : Layer Purpose) (packets : List Outgoing) → IsExpiry known r (expiring_step layer peer label).1 now packets → Apart (wire.lets_expire peer label ∷ calls) now packets
+  expiry_apart peer label r now packets = by r
+    where
+      call : wire.Call Purpose
+      call = wire.lets_expire peer label
+
+      led : wire.after 0xffc0 (call ∷ calls) ≡ (expiring_step layer peer label).1
+      led = ap (wire.done call) calls_are
+
+      by : (r : Result (Option Purpose) Stale) → IsExpiry known r (expiring_step layer peer label).1 now packets → Apart (call ∷ calls) now packets
+      by (Ok purpose) a = asking_apart known (expiring_step layer peer label).1 (call ∷ calls) led now packets a
+      by (Err stale) a = none_apart (call ∷ calls) now packets (led ∙ sym a.0) a.1
 
 -- ---- in a run
 module _ (units ready : ℕ) (has : 0 < units) (start : List Disk) {past : List Moment} {lines : ℕ} (w : WorldState) (h : Holding units ready start past lines w) where
@@ -187,52 +297,28 @@ module _ (units ready : ℕ) (has : 0 < units) (start : List Disk) {past : List 
   kept_started place b sent (inr e) = let f = ((G.mid.seats place b).ahead_for sent e).0 in subst Started (sym f.life ∙ G.mid.known.lives_are sent.peer sent.label) tt
 
   -- behind one call of the layer
-  apart_new : (call : wire.Call Purpose) (before : Layer Purpose) (e : wire.after 0xffc0 (call ∷ G.mid.known.steps) ≡ before) (packets : List Outgoing) → Apart K before (call ∷ G.mid.known.steps) e packets → AreNew w.target packets
-  apart_new call before e packets a = record {
+  apart_new : (call : wire.Call Purpose) (now : Layer Purpose) (packets : List Outgoing) → Apart (call ∷ G.mid.known.steps) now packets → AreNew w.target packets
+  apart_new call now packets a = record {
     unique = a.unique;
     fresh = λ last r m place b sent kept to_is label_is.
         a.fresh last r m (subst (λ (l : LabelParts). Started (lives_of (call ∷ G.mid.known.steps) r.to l)) label_is
         (subst (λ p. Started (lives_of (call ∷ G.mid.known.steps) p sent.label)) to_is (one_started call G.mid.known.steps sent.peer sent.label (kept_started place b sent kept))));
   }
 
-  none_new : (packets : List Outgoing) → packets ≡ [] → AreNew w.target packets
-  none_new packets e = subst (λ (ps : List Outgoing). AreNew w.target ps) (sym e) (record { unique = λ last one two m k f g. absurd m; fresh = λ last r m place b sent kept f g. m })
-
-  module _ (sent : StoredSent) where
-    abbrev judged : wire.Call Purpose
-    judged = wire.judges sent.generation sent.bytes
-
-    abbrev before : Layer Purpose
-    before = (judging_step layer sent.generation sent.bytes).1
-
-    judged_is : wire.after 0xffc0 (judged ∷ G.mid.known.steps) ≡ before
-    judged_is = ap (wire.done judged) G.mid.known.layer_is
-
-    found_new : (f : Finding Purpose) (verdict : Judged) (now : Layer Purpose) (packets : List Outgoing) → IsDelivery K f verdict sent.bytes before now packets → AreNew w.target packets
-    found_new of_generation verdict now packets d = none_new packets d.packets_are
-    found_new of_grammar verdict now packets d = none_new packets d.packets_are
-    found_new of_label verdict now packets d = none_new packets d.packets_are
-    found_new (of_response p label purpose) verdict now packets d = apart_new judged before judged_is packets (asking_apart K before (judged ∷ G.mid.known.steps) judged_is now packets d.asks)
-    found_new (of_again p rcode) verdict now packets d = apart_new judged before judged_is packets (answering_apart K _ p sent.bytes before now packets (judged ∷ G.mid.known.steps) judged_is d.answers)
-    found_new (of_request p) verdict now packets d = apart_new judged before judged_is packets (answering_apart K _ p sent.bytes before now packets (judged ∷ G.mid.known.steps) judged_is d.answers)
-
   delivery_new : (serial : ℕ) (sent : StoredSent) (found : found_sent serial w.store.kept ≡ Some sent) (told : Option Told) (media : Held) → BytesTold told → AreNew w.target (received told sent.generation sent.bytes (whole_of w.target media)).1.outbox.packets
   delivery_new serial sent found told media t =
       let d = (fitting_law (target_has w.generations.seen) (target_has w.generations.seen)).deliveries told media.disks sent.generation sent.bytes w.target (known_small w.generations.seen) h.sound.nodes.target_holds
       (record { bytes_fit = (ours w h.sound.stands serial sent found).bytes; source = source_known units ready has start w h serial sent found; told_fits = t }) in
-      found_new sent (judging_step layer sent.generation sent.bytes).0 _ _ _ d.delivers
+      let r = received told sent.generation sent.bytes (whole_of w.target media) in
+      apart_new (wire.judges sent.generation sent.bytes) r.1.node.layer r.1.outbox.packets
+      (delivery_apart K layer G.mid.known.steps G.mid.known.layer_is sent.generation sent.bytes (judging_step layer sent.generation sent.bytes).0 r.0 r.1.node.layer r.1.outbox.packets d.delivers)
 
   lapse_new : (peer : ℕ) (label : LabelParts) → AreNew w.target (alone (lets_expire peer label) w.target).outbox.packets
   lapse_new peer label =
       let e = (fitting_law (target_has w.generations.seen) (target_has w.generations.seen)).expiries peer label w.target (known_small w.generations.seen) h.sound.nodes.target_holds in
-      by_result (expiring_step layer peer label).0 _ _ e.expires
-    where
-      expired_is : wire.after 0xffc0 (wire.lets_expire peer label ∷ G.mid.known.steps) ≡ (expiring_step layer peer label).1
-      expired_is = ap (wire.done (wire.lets_expire peer label)) G.mid.known.layer_is
-
-      by_result : (r : Result (Option Purpose) Stale) (now : Layer Purpose) (packets : List Outgoing) → IsExpiry K r (expiring_step layer peer label).1 now packets → AreNew w.target packets
-      by_result (Ok purpose) now packets a = apart_new (wire.lets_expire peer label) (expiring_step layer peer label).1 expired_is packets (asking_apart K (expiring_step layer peer label).1 (wire.lets_expire peer label ∷ G.mid.known.steps) expired_is now packets a)
-      by_result (Err stale) now packets a = none_new packets a.1
+      let x = alone (lets_expire peer label) w.target in
+      apart_new (wire.lets_expire peer label) x.node.layer x.outbox.packets
+      (expiry_apart K layer G.mid.known.steps G.mid.known.layer_is peer label (expiring_step layer peer label).0 x.node.layer x.outbox.packets e.expires)
 
   pub labels_new : LabelsAreNew w
   labels_new = record {

@@ -264,7 +264,7 @@ module _ (n : ℕ) (is_ready : Bool) (units : ℕ) (few : n ≤ 4) where
       }
 
 -- ---- runs
-seats_after : (line : ℕ) (run : Run) (entries : List Entry) → run.initiators ≤ 4 → 0 < run.units → run.units ≤ 4 → length run.start.disks ≡ run.units → length entries + 2 < 2 ^ 32 → AreEntries (beginning run) entries → AreLines run entries → Seats (after (beginning run) entries).world
+pub seats_after : (line : ℕ) (run : Run) (entries : List Entry) → run.initiators ≤ 4 → 0 < run.units → run.units ≤ 4 → length run.start.disks ≡ run.units → length entries + 2 < 2 ^ 32 → AreEntries (beginning run) entries → AreLines run entries → Seats (after (beginning run) entries).world
 seats_after line run [] few has small size short all fit = first_seats run.initiators run.ready run.units few line run.start.disks small size
 seats_after line run (e ∷ before) few has small size short all fit =
     let b = holds_after line run before few has small size (omega arith) all.1 fit.1 in

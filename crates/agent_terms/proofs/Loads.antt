@@ -17,7 +17,7 @@ use Rattle.command_agent.specs.Machine.{Machine}
 use Rattle.command_agent.specs.Runs.{MayTell}
 use Rattle.sbp_target.specs.Replies.{came}
 
-came_not : (d : Disk) → came d d ≡ true → ⊥
+pub came_not : (d : Disk) → came d d ≡ true → ⊥
 came_not d e = by d.is_present e
   where
     by : (b : Bool) → (not b && b) ≡ true → ⊥

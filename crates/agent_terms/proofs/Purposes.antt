@@ -62,18 +62,18 @@ module _ {P : Type 0} where
       ap (λ (vacant : PeerPlace (Unit {0})). (place_at (slice_index_or (map bare_place peers) k vacant).table number).state) (sym (peer_bare P))
       ∙ ap (λ (place : PeerPlace (Unit {0})). (place_at place.table number).state) (get_or-map bare_place peers k no_peer)
 
-  state_bare : (layer : Layer P) (peer number : ℕ) → state_for (bare layer).peers peer number ≡ state_for layer.peers peer number
+  pub state_bare : (layer : Layer P) (peer number : ℕ) → state_for (bare layer).peers peer number ≡ state_for layer.peers peer number
   state_bare layer peer number =
       ap (λ k. shown_in (λ (place : PeerPlace (Unit {0})). (place_at place.table number).state) no_peer states.Free k (map bare_place layer.peers)) (owned_bare peer layer.peers)
       ∙ state_at_bare number layer.peers (owned_place peer_of peer layer.peers)
 
 -- ---- a label that waits, at its table and on the wire
-record Waits (held : Held) : Type 0 where
-  kind : Kind
-  serial : ℕ
-  is : held ≡ waits kind serial
+pub record Waits (held : Held) : Type 0 where
+  pub kind : Kind
+  pub serial : ℕ
+  pub is : held ≡ waits kind serial
 
-held_waits : (held : Held) (kind : ReplyKind) → awaits kind ≡ shape_of held → Waits held
+pub held_waits : (held : Held) (kind : ReplyKind) → awaits kind ≡ shape_of held → Waits held
 held_waits free kind e = cc
 held_waits rests kind e = cc
 held_waits (waits k s) kind e = record { kind = k; serial = s; is = refl }
@@ -110,7 +110,7 @@ module _ (units ready : ℕ) (has : 0 < units) (start : List Disk) {past : List 
   layer_is = stands.is.layers_are 0 (omega arith)
 
   -- the labels of the target are those of the wire
-  labels : (peer number : ℕ) → shape (state_for layer.peers (ids peer) number) ≡ shape_of (t.held (transaction (t.generation 0) 0 peer number))
+  pub labels : (peer number : ℕ) → shape (state_for layer.peers (ids peer) number) ≡ shape_of (t.held (transaction (t.generation 0) 0 peer number))
   labels peer number =
       subst (λ (x : Terms). shape (state_for layer.peers (x.ids (x.generation 0) peer) number) ≡ shape_of (x.held (transaction (x.generation 0) 0 peer number))) (past_terms w stands)
       (let x : Terms = terms stands.wire.past in

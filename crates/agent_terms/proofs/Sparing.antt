@@ -1,5 +1,5 @@
 -- A decision of the management agent leaves the live logins live, but for the one of a logout.
-use Rattle.std.proofs.Common.{arith, ◌≡◌, ◌≢◌, ◌∙◌, refl, sym, ap, ℕ, ◌+◌, ◌*◌, ◌^◌, ◌<◌, ◌==◌, not, nat_eq, Bool, true, false, cond, List, length, set, get_or-set_other, Option, Some, None, Result, Ok, Err}
+use Rattle.std.proofs.Common.{arith, ◌≡◌, ◌≢◌, ◌∙◌, refl, sym, ap, subst, ℕ, ◌+◌, ◌*◌, ◌^◌, ◌<◌, ◌==◌, not, nat_eq, Bool, true, false, cond, List, length, set, get_or-set_other, Option, Some, None, Result, Ok, Err}
 use Rattle.std.specs.Prelude.{is_none, position}
 use Rattle.std.proofs.lemmas.Bool.Decides.{nat_tests}
 use Rattle.std.proofs.lemmas.Grind.{get_or-set_at}
@@ -11,7 +11,7 @@ use Rattle.login_table.specs.declared.login.LoginRefusal.{LoginRefusal}
 use Rattle.login_table.specs.declared.login.LoginRefusal.TheVariants as refusals
 use Rattle.login_table.specs.Requests.{LoginRequest}
 use Rattle.login_table.specs.Table as table
-use Rattle.login_table.specs.Table.{Table, back_step, enter_step, entered, find, id_at, is_held, is_live, is_live_of, is_old, leave_step, left_for, place_at, revived}
+use Rattle.login_table.specs.Table.{Table, back_step, enter_step, entered, find, id_at, id_of, is_held, is_live, is_live_of, is_old, leave_step, left_for, place_at, revived}
 use Rattle.login_table.proofs.Searching.{found}
 use Rattle.orb_layout.specs.declared.ask.FailCause.{FailCause}
 use Rattle.orb_layout.specs.declared.management.ManagementOrb.{ManagementOrb}
@@ -37,8 +37,27 @@ use Rattle.agent_terms.proofs.Hiring.{not_old}
 no : false ≡ true → ⊥
 no e = cc
 
+-- a login that another one replaces is not live
+pub record IsReplaced (places : List (Option Login)) (id : ℕ) : Type 0 where
+  pub place : ℕ
+  pub login : Login
+  pub is : place_at places place ≡ Some login
+  pub id_is : login.login ≡ id
+  pub old : is_live login ≡ false
+
+abbrev pub IsOld : Option ℕ → List (Option Login) → Type 0
+IsOld None places = Unit {0}
+IsOld (Some id) places = IsReplaced places id
+
+-- a login leaves its place, which is empty then
+pub record Empties (before now : List (Option Login)) (place : ℕ) : Type 0 where
+  pub login : Login
+  pub was : place_at before place ≡ Some login
+  pub empty : place_at now place ≡ None
+
 abbrev pub Spares : Effect → Table → Table → Type 0
-Spares (effects.Left place) t now = (p : ℕ) → p ≢ place → HasLive t.places p → HasLive now.places p
+Spares (effects.Left place) t now = ((p : ℕ) → p ≢ place → HasLive t.places p → HasLive now.places p) × Empties t.places now.places place
+Spares (effects.Entered place replaced) t now = ((p : ℕ) → HasLive t.places p → HasLive now.places p) × IsOld replaced t.places
 Spares effect t now = (p : ℕ) → HasLive t.places p → HasLive now.places p
 
 -- one place has another login
@@ -64,6 +83,12 @@ without_spares (Some k) asked places e p h =
     let is : Some h.login ≡ Some f.login = sym h.is ∙ ap (place_at places) same ∙ f.stands in
     let own : h.login ≡ f.login = cc in
     absurd (no (sym (not_old asked f.login f.passes) ∙ sym (ap is_live own) ∙ h.live))) h
+
+replaced_old : (k : Option ℕ) (asked : LoginRequest) (places : List (Option Login)) → find (is_old asked) places ≡ k → IsOld (id_at k places) places
+replaced_old None asked places e = tt
+replaced_old (Some k) asked places e =
+    let f = found (is_old asked) places k e in
+    subst (λ (x : Option Login). IsOld (id_of x) places) (sym f.stands) (record { place = k; login = f.login; is = f.stands; id_is = refl; old = not_old asked f.login f.passes })
 
 module _ (orb : ManagementOrb) (source eui : ℕ) (t : Table) (keys : List (List ℕ)) where
   abbrev Now : Outcome × Table → Type 0
@@ -93,7 +118,7 @@ module _ (orb : ManagementOrb) (source eui : ℕ) (t : Table) (keys : List (List
       let left = table.without k t.places in
       let at = position-Some is_none left place None f in
       let id = table.fresh_id 8 (table.next_id t.last) left in
-      λ p h. set_spares left place (Some (entered asked place id)) at.0 p (live_set left place (entered asked place id) at.0 refl p) (without_spares k asked t.places e p h)
+      ((λ p h. set_spares left place (Some (entered asked place id)) at.0 p (live_set left place (entered asked place id) at.0 refl p) (without_spares k asked t.places e p h)), replaced_old k asked t.places e)
 
   logs_in : Now (decide_function (Some functions.Login) orb source eui t keys)
   unfolding enter_step left_for
@@ -130,7 +155,9 @@ module _ (orb : ManagementOrb) (source eui : ℕ) (t : Table) (keys : List (List
 
   leaves_at : (k : Option ℕ) → find (is_live_of orb.subject source) t.places ≡ k → (let r = table.leave_at k t in Now (left_decided r.0, r.1))
   leaves_at None e = refused refusals.Unknown
-  leaves_at (Some k) e = λ p d h. set_spares t.places k None (found (is_live_of orb.subject source) t.places k e).below p (λ same. absurd (d same)) h
+  leaves_at (Some k) e =
+      let f = found (is_live_of orb.subject source) t.places k e in
+      ((λ p d h. set_spares t.places k None f.below p (λ same. absurd (d same)) h), record { login = f.login; was = f.stands; empty = get_or-set_at t.places k k None None refl f.below })
 
   leaves : (let r = leave_step t orb.subject source in Now (left_decided r.0, r.1))
   unfolding leave_step

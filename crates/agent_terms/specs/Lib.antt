@@ -11,3 +11,5 @@ pub mod Enabled
 pub mod Fresh
 pub mod Purposes
 pub mod Serials
+pub mod Units
+pub mod Agents

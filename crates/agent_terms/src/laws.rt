@@ -1,9 +1,10 @@
 //! The terms of the agents and the target.
+ghost use Rattle.agent_terms.specs.Agents.{AgentsBetweenLaw, AgentsRunLaw, SerialsBetweenLaw, SerialsLaw};
 ghost use Rattle.agent_terms.specs.Alike.{AlikeLaw};
 ghost use Rattle.agent_terms.specs.Asides.{AsidesLaw};
 ghost use Rattle.agent_terms.specs.Calls.{AgentsLaw};
 ghost use Rattle.agent_terms.specs.Demands.{DemandsLaw};
-ghost use Rattle.agent_terms.specs.Enabled.{EnabledBetweenLaw, EnabledLaw};
+ghost use Rattle.agent_terms.specs.Enabled.{EnabledBetweenLaw, EnabledLaw, EnabledTermsBetweenLaw, EnabledTermsLaw};
 ghost use Rattle.agent_terms.specs.Fresh.{LabelsBetweenLaw, LabelsLaw};
 ghost use Rattle.agent_terms.specs.Hands.{HandsLaw};
 ghost use Rattle.agent_terms.specs.Holders.{HoldersBetweenLaw, HoldersLaw};
@@ -11,6 +12,7 @@ ghost use Rattle.agent_terms.specs.Leaving.{LeavingBetweenLaw, LeavingLaw};
 ghost use Rattle.agent_terms.specs.Notes.{NotesLaw};
 ghost use Rattle.agent_terms.specs.Purposes.{BetweenLaw, PurposesLaw};
 ghost use Rattle.agent_terms.specs.Serials.{HandedBetweenLaw, HandedLaw};
+ghost use Rattle.agent_terms.specs.Units.{UnitsBetweenLaw, UnitsLaw};
 
 /// Two agents that differ in nothing that their phase reads any more answer each call alike, and stay so.
 #[tactic(auto, using(crate::proofs::Steps::alike_law))]
@@ -130,4 +132,51 @@ pub fn enabled_registers_have_live_logins()
 /// And behind each delivery of a line that may follow.
 pub fn deliveries_keep_enabled_registers_live()
     ensures { EnabledBetweenLaw }
+{}
+
+/// After every line of every run the terms have as many units as the target, and each is the target's with what its
+/// medium holds: it is started or not, its removal is prevented or not, and the same places are to be told of a reset
+/// and of a changed medium.
+pub fn units_are_the_targets()
+    ensures { UnitsLaw }
+{}
+
+/// And behind each delivery of a line that may follow.
+pub fn deliveries_keep_the_units()
+    ensures { UnitsBetweenLaw }
+{}
+
+/// After every line of every run the agents of the terms are the target's, once a turn is over: each has the machine of
+/// its desk, but for what its phase reads no more, its pointer, and its transactions by the serials of the requests that
+/// left for them, which the bus knows.
+pub fn agents_are_the_targets()
+    ensures { AgentsRunLaw }
+{}
+
+/// And behind each delivery of a line that may follow.
+pub fn deliveries_keep_the_agents()
+    ensures { AgentsBetweenLaw }
+{}
+
+/// After every line of every run a response to a request that waits and its time-out are handed, by the terms, to the
+/// agent or to the operation that the target has the transaction under way for, or to nobody.
+pub fn serials_are_for_what_is_under_way()
+    ensures { SerialsLaw }
+{}
+
+/// And behind each delivery of a line that may follow.
+pub fn deliveries_keep_serials_for_what_is_under_way()
+    ensures { SerialsBetweenLaw }
+{}
+
+/// After every line of every run the registers for unsolicited status that the laws have enabled are those of the target's
+/// desks: each is enabled by a write that the target serves, and disabled as it is used up, as its login leaves, and as the
+/// target sees a later generation.
+pub fn enabled_registers_are_the_targets()
+    ensures { EnabledTermsLaw }
+{}
+
+/// And behind each delivery of a line that may follow.
+pub fn deliveries_keep_the_enabled_registers()
+    ensures { EnabledTermsBetweenLaw }
 {}
