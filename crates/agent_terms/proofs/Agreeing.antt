@@ -1,6 +1,6 @@
 -- After each turn of the target the terms have its registers enabled.
-use Rattle.std.proofs.Common.{arith, ◌≡◌, ◌∙◌, refl, sym, ap, subst, ℕ, suc, ◌+◌, ◌<◌, ◌≤◌, ◌||◌, not, nat_eq, nat_lt, is_some, Bool, true, false, cond, List, [], ◌∷◌, ◌++◌, length, map, replicate, Option, Some, None, Result, Ok, Err}
-use Rattle.std.specs.Prelude.{position, slice_index_or, slice_set, unwrap_or}
+use Rattle.std.proofs.Common.{arith, ◌≡◌, ◌∙◌, refl, sym, ap, subst, ℕ, ◌+◌, ◌<◌, ◌≤◌, not, nat_eq, nat_lt, is_some, Bool, true, false, cond, List, [], ◌∷◌, length, map, replicate, Option, Some, None, Result, Ok, Err}
+use Rattle.std.specs.Prelude.{slice_index_or, slice_set, unwrap_or}
 use Rattle.std.proofs.Math.ListN.{get_or-map}
 use Rattle.std.proofs.lemmas.Bool.Decides.{nat_tests}
 use Rattle.std.proofs.lemmas.Grind.{common_steps}
@@ -12,12 +12,11 @@ use Rattle.bus_transactions.specs.Wire.{Node, as_sending}
 use Rattle.bus_transactions.proofs.PacketParts.{PartOf, asks, part_case, part_read, replies}
 use Rattle.label_table.specs.declared.reply.ReplyKind.{ReplyKind}
 use Rattle.label_table.specs.declared.reply.Stale.{Stale}
-use Rattle.label_table.specs.History as wire
 use Rattle.label_table.specs.Layer.{Finding, Layer, expiring_step, judging_step, of_again, of_generation, of_grammar, of_label, of_request, of_response, seeing_step, seen_in_generation}
 use Rattle.label_table.specs.Requests.{reply_kind}
 use Rattle.label_table.proofs.Owned.{set_at}
 use Rattle.login_table.specs.declared.login.Login.{Login}
-use Rattle.login_table.specs.Table.{Table, find, is_live, is_of_node, place_at, tick_step}
+use Rattle.login_table.specs.Table.{Table, find, is_of_node, place_at, tick_step}
 use Rattle.packet_store.specs.declared.sent.Sent.{Sent}
 use Rattle.packet_store.specs.Kept.{found_sent}
 use Rattle.rbc_disk.specs.Disk.{Disk}
@@ -33,11 +32,11 @@ use Rattle.orb_layout.specs.Replies.{Answer, Expired}
 use Rattle.sbp_bus.specs.declared.places.Holder.{Holder}
 use Rattle.sbp_bus.specs.Generations.{id_of}
 use Rattle.sbp_bus.specs.Packets.{judged_note}
-use Rattle.sbp_bus.specs.Places.{holder_at, or_nobody, place_in}
+use Rattle.sbp_bus.specs.Places.{holder_at, or_nobody}
 use Rattle.sbp_bus.specs.Words.{function_word}
 use Rattle.sbp_journal.specs.Addresses.{Access, access_of}
 use Rattle.sbp_journal.specs.Run.{Moment, said}
-use Rattle.sbp_journal.specs.Transactions.{Kind, Sending, part_in, part_of, request}
+use Rattle.sbp_journal.specs.Transactions.{Kind, part_of, request}
 use Rattle.sbp_journal.specs.Wire.{Terms, begun_in, gets, ignores_that, terms, times_out}
 use Rattle.sbp_journal.specs.declared.cause.Cause.{Cause}
 use Rattle.sbp_journal.specs.declared.cause.Cause.TheVariants as ignored
@@ -46,7 +45,7 @@ use Rattle.sbp_journal.specs.declared.cause.Judged.TheVariants as judgements
 use Rattle.sbp_journal.specs.declared.cause.CutCause.TheVariants as cuts
 use Rattle.sbp_journal.specs.declared.note.Note.TheVariants as notes
 use Rattle.sbp_journal.specs.declared.operation.FunctionWord.{FunctionWord}
-use Rattle.sbp_journal.specs.Outgoings.{OutboxState, empty_outbox}
+use Rattle.sbp_journal.specs.Outgoings.{empty_outbox}
 use Rattle.sbp_laws.specs.Packets as laws
 use Rattle.sbp_laws.specs.Packets.{access_at, answered_at, id_for}
 use Rattle.sbp_laws.specs.Targets.{Target, got_by, known_at, over, is_serial, place_on, replied as laws_replied, request_got, reset_seen, target_at}
@@ -89,7 +88,7 @@ use Rattle.agent_terms.proofs.Ceasing.{AreExpiring, AreMute, IsFree, cuts_all, e
 use Rattle.agent_terms.proofs.Demands.{demands_law}
 use Rattle.agent_terms.proofs.Disabling.{AreDisabling, Keeps, all_behind, all_length, all_disabled, all_still, enabled_in, over_same, reply_keeps, request_table, sides_disabled, wire_in}
 use Rattle.agent_terms.proofs.Enabling.{all_live}
-use Rattle.agent_terms.proofs.Heeding.{Heeds, Hears, IsOther, accesses_by, all_off, answers, begins, enables, lapses, replies as agent_replies, same_registers}
+use Rattle.agent_terms.proofs.Heeding.{Heeds, Hears, accesses_by, all_off, answers, begins, enables, lapses, replies as agent_replies, same_registers}
 use Rattle.agent_terms.proofs.Hiring.{HiresIn, reply_hires}
 use Rattle.agent_terms.proofs.Holders.{are_held}
 use Rattle.agent_terms.proofs.Seats.{Seats, marked_same}
@@ -209,9 +208,6 @@ module _ (units ready : ℕ) (has : 0 < units) (start : List Disk) {past : List 
       ∙ ap (at T.table unit) (f.ids ((holder v place).initiator + 1) ∙ ap (λ n. id_for t 0 (n + 1)) initiator_is)
       ∙ ap (λ u. at T.table u (id_for t 0 (l.holder.initiator + 1))) (sym i.unit_is)
       ∙ of.place_is
-
-  unit_at : ℕ → ℕ
-  unit_at place = (holder w place).unit
 
   its_unit : (place : ℕ) (login : Login) → login_at w.target place ≡ Some login → login.unit ≡ (holder w place).unit
   its_unit place login e =

@@ -1,5 +1,5 @@
 -- What notes make of the enabled registers of the terms: a request enables one, an unsolicited status uses one up, and a login that leaves disables its own.
-use Rattle.std.proofs.Common.{arith, ◌≡◌, ◌∙◌, refl, sym, ap, subst, ℕ, suc, ◌+◌, ◌<◌, ◌≤◌, ◌==◌, nat_eq, nat_lt, Bool, true, false, cond, List, [], ◌∷◌, ◌++◌, length, map, Option, Some, None, Result, Ok, Err}
+use Rattle.std.proofs.Common.{◌≡◌, ◌∙◌, refl, ap, ℕ, ◌+◌, ◌==◌, Bool, true, false, cond, List, [], ◌∷◌, ◌++◌, length, map, Option, Some, None, Result, Ok, Err}
 use Rattle.std.specs.Prelude.{is_none, position}
 use Rattle.std.proofs.lemmas.List.{length-set}
 use Rattle.async_packet.specs.Labels.{LabelParts}
@@ -32,12 +32,12 @@ use Rattle.sbp_journal.specs.declared.outbox.Outgoing.{Outgoing}
 use Rattle.sbp_journal.specs.declared.side.Side.{Side}
 use Rattle.sbp_journal.specs.declared.side.Side.TheVariants as sides
 use Rattle.sbp_laws.specs.Packets.{access_in_bytes}
-use Rattle.sbp_laws.specs.Targets.{Decided, Purpose, Reply, Target, disabled_at, effect_on, enters_in, entered_by, for_agent, for_manager, for_nobody, going_on, has_id, is_write_access, key_by, known_at, managed_by, manager_step, over, purpose_of, register_got, replied, replied_to, request_got, sent_as, sent_for, start_got, started_by, taken_on, target_at, target_by, told_in, wants, wants_it, with_untold}
+use Rattle.sbp_laws.specs.Targets.{Decided, Purpose, Reply, Target, disabled_at, effect_on, enters_in, entered_by, for_agent, for_manager, for_nobody, going_on, has_id, is_write_access, key_by, known_at, managed_by, manager_step, over, purpose_of, register_got, replied, replied_to, request_got, sent_as, sent_for, start_got, started_by, taken_on, target_by, told_in, wants, wants_it, with_untold}
 use Rattle.sbp_laws.specs.Turns.{event_of}
 use Rattle.sbp_world.specs.Sending.{asked, posted, sent, sent_all, sent_to}
 use Rattle.sbp_world.specs.Telling.{holder, initiator_of, told, told_all}
 use Rattle.sbp_world.specs.Worlds.{WorldState, with_note}
-use Rattle.target_terms.specs.Offices.{Office, by_side, office_of}
+use Rattle.target_terms.specs.Offices.{Office, by_side}
 use Rattle.target_terms.proofs.Sides.{AllBehind, TellsBehind}
 use Rattle.target_terms.proofs.Told.{office_in, one_side, term_in}
 
@@ -83,13 +83,13 @@ managed_keeps (step, (m, table)) answer t =
     let k = effect_keeps step.effect (record t { manager = m; manages = None; manager_asks = step.ask; decided = _ }) in
     record { enabled = k.enabled; table = k.table }
 
-replied_keeps_to : (purpose : Purpose) (answer : Answer) (t : Target) → Keeps t (replied_to purpose answer t)
-replied_keeps_to (for_agent place which) answer t = record { enabled = refl; table = refl }
-replied_keeps_to for_manager answer t = managed_keeps (manager_step t answer) answer t
-replied_keeps_to for_nobody answer t = keeps_self t
+replied_keeps : (purpose : Purpose) (answer : Answer) (t : Target) → Keeps t (replied_to purpose answer t)
+replied_keeps (for_agent place which) answer t = record { enabled = refl; table = refl }
+replied_keeps for_manager answer t = managed_keeps (manager_step t answer) answer t
+replied_keeps for_nobody answer t = keeps_self t
 
 pub reply_keeps : (serial : ℕ) (answer : Answer) (t : Target) → Keeps t (replied serial answer t)
-reply_keeps serial answer t = replied_keeps_to (purpose_of t serial) answer t
+reply_keeps serial answer t = replied_keeps (purpose_of t serial) answer t
 
 -- a request leaves the table
 register_table : (name : Register) (place : ℕ) (access : Access) (t : Target) → (register_got name place access t).table ≡ t.table

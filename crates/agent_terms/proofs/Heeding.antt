@@ -12,15 +12,14 @@ use Rattle.label_table.specs.Bodies.{Body, block_write}
 use Rattle.label_table.specs.Layer.{Layer, asking_step, answering_step, free_labels}
 use Rattle.label_table.proofs.Owned.{set_at}
 use Rattle.login_table.specs.declared.login.Login.{Login}
-use Rattle.login_table.specs.Table.{Table, is_live, place_at}
+use Rattle.login_table.specs.Table.{is_live, place_at}
 use Rattle.media_bay.specs.Unsolicited.{block}
 use Rattle.orb_layout.specs.declared.ask.Ask.{Ask}
 use Rattle.orb_layout.specs.declared.ask.FailCause.{FailCause}
 use Rattle.orb_layout.specs.declared.ask.FailCause.TheVariants as causes
-use Rattle.orb_layout.specs.declared.pointer.OrbPointer.{OrbPointer}
 use Rattle.orb_layout.specs.declared.status.StatusKind.{StatusKind}
 use Rattle.orb_layout.specs.Replies.{Answer}
-use Rattle.rbc_disk.specs.Disk.{Disk, disk_at}
+use Rattle.rbc_disk.specs.Disk.{disk_at}
 use Rattle.rbc_disk.specs.Runs.{Told, left_by}
 use Rattle.rbc_disk.specs.Units.{PlainDisk}
 use Rattle.rbc_disk.specs.declared.command.Outcome.{Outcome}
@@ -41,7 +40,7 @@ use Rattle.target_base.specs.Logins.{if_served}
 use Rattle.sbp_target.specs.declared.desk.Desk.{Desk}
 use Rattle.sbp_target.specs.declared.purpose.Purpose.{Purpose}
 use Rattle.sbp_target.specs.declared.purpose.Purpose.TheVariants as purposes
-use Rattle.sbp_target.specs.Agents.{after_ahead, after_loss, after_main, agent_body, ahead_asked, ahead_sent, ask_main, cut, cut_node, dropped_by, follow, lose, lose_main, lost_by, main_asked, main_sent, noted, promoted_by, send_ahead, sent_to, told_cut, without_ahead}
+use Rattle.sbp_target.specs.Agents.{after_ahead, after_loss, after_main, agent_body, ahead_asked, ahead_sent, ask_main, cut, dropped_by, follow, lose, lose_main, lost_by, main_asked, main_sent, noted, promoted_by, send_ahead, sent_to, told_cut, without_ahead}
 use Rattle.sbp_target.specs.Desks.{expired_desk, new_desk, point_desk, pointed_desk, promoted_desk, reset_desk, taken, which_in}
 use Rattle.sbp_target.specs.Management.{clear_one, cut_placed}
 use Rattle.sbp_target.specs.Nodes.{NodeState, Scene, desk_at, login_at, scene, with_agent, with_desk}
@@ -50,7 +49,7 @@ use Rattle.sbp_target.specs.Replies.{Stage, Whole, advance, advanced_with, annou
 use Rattle.sbp_target.specs.Sending.{answer_step, answered_by, request_step, sent_by, with_side}
 use Rattle.sbp_target.specs.Serving.{accessed_by, answered, asked_in, enabled, point, pointed_by, ring, rung_by}
 use Rattle.sbp_target.specs.Telling.{orb_of, tell_dead, tell_ended, tell_ran, tell_step}
-use Rattle.sbp_target.specs.Units.{announce_at, announce_from, announce_in, announce_to, clear_from, clear_unit, cut_all, cut_at, cut_from, hears, is_cut, is_pending, unsolicited_by, unsolicited_from}
+use Rattle.sbp_target.specs.Units.{announce_at, announce_from, announce_in, announce_to, clear_from, clear_unit, cut_all, cut_at, cut_from, hears, is_cut, is_pending, unsolicited_by}
 use Rattle.agent_terms.proofs.Loads.{came_not, came_there}
 
 no : false ≡ true → ⊥

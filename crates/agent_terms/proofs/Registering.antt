@@ -29,7 +29,7 @@ use Rattle.sbp_journal.specs.declared.side.Side.{Side}
 use Rattle.sbp_journal.specs.declared.side.Side.TheVariants as sides
 use Rattle.sbp_journal.specs.Outgoings.{OutboxState, empty_outbox}
 use Rattle.sbp_journal.specs.Run.{Moment, asked, said}
-use Rattle.sbp_journal.specs.Wire.{Terms, terms}
+use Rattle.sbp_journal.specs.Wire.{terms}
 use Rattle.sbp_laws.specs.Packets as laws
 use Rattle.sbp_laws.specs.Targets.{Target, is_serial, known_at, over, replied as laws_replied, reset_seen, target_at}
 use Rattle.sbp_target.specs.Calls.{alone, lets_expire}
@@ -57,7 +57,7 @@ use Rattle.sbp_world.specs.Wire.Lines.{AreLines, IsLine}
 use Rattle.sbp_world.proofs.Wire.Comes.{own_inside, own_outside, received_is, to_own, to_zero}
 use Rattle.sbp_world.proofs.Wire.Nodes.{handed_alike, marked_alike}
 use Rattle.sbp_world.proofs.Wire.ToldBytes.{AreTold, happened_fits}
-use Rattle.target_terms.proofs.Firsts.{got_there, wire_is}
+use Rattle.target_terms.proofs.Firsts.{got_there}
 use Rattle.target_terms.proofs.Holding.{Holding, marked_hist, was_sent}
 use Rattle.target_terms.proofs.InitiatorTells as own
 use Rattle.target_terms.proofs.Lines.{all_heard, line_holds, opens}
