@@ -209,9 +209,6 @@ module _ (units ready : ℕ) (has : 0 < units) (start : List Disk) {past : List 
       ∙ ap (λ u. at T.table u (id_for t 0 (l.holder.initiator + 1))) (sym i.unit_is)
       ∙ of.place_is
 
-  unit_at : ℕ → ℕ
-  unit_at place = (holder w place).unit
-
   its_unit : (place : ℕ) (login : Login) → login_at w.target place ≡ Some login → login.unit ≡ (holder w place).unit
   its_unit place login e =
       let l = held.held place login e in

@@ -64,7 +64,6 @@ abbrev pub IsMute : Side → Type 0
 IsMute (sides.Cut place cause) = Unit {0}
 IsMute (sides.Cleared unit) = Unit {0}
 IsMute (sides.ManageFailed node cause) = Unit {0}
-IsMute (sides.Held login) = ⊥
 IsMute side = ⊥
 
 abbrev pub AreMute : List Side → Type 0
@@ -464,14 +463,9 @@ module _ (node : NodeState) (live : AreLive node) (apart : AreApart node.logins.
   abbrev Ends : List Side → NodeState → Type 0
   Ends told now = (place : ℕ) → place < 8 → slice_index_or (all_disabled told o E) place false ≡ (desk_at now place).is_enabled
 
-  -- a decision, with the logins behind it
-  record Effected (effect : Effect) (told : List Side) (now : NodeState) (t : Table) : Type 0 where
-    ends : Ends told now
-
-  quietly : (effect : Effect) (s : Scene) (t : Table) → Cuts before t s → Effected effect s.outbox.sides s.node t
-  quietly effect s t c =
-      let m = muted s.outbox.sides o E c.mute in
-      record { ends = λ place small. ap (λ xs. slice_index_or xs place false) m.registers ∙ first place small ∙ sym (c.registers place) }
+  quietly : (s : Scene) (t : Table) → Cuts before t s → Ends s.outbox.sides s.node
+  quietly s t c place small =
+      ap (λ xs. slice_index_or xs place false) (muted s.outbox.sides o E c.mute).registers ∙ first place small ∙ sym (c.registers place)
 
   -- ---- a login is entered
   module _ (place : ℕ) (free : (own : Login) → place_at node.logins.places place ≡ Some own → is_live own ≡ false) where
@@ -513,18 +507,14 @@ module _ (node : NodeState) (live : AreLive node) (apart : AreApart node.logins.
     abbrev fresh : Desk
     fresh = record (desk_at node place) { pointer = None; is_enabled = false }
 
-    entered_ends : (replaced : Option ℕ) (begun : NodeState) (subject : ℕ) (t : Table) → begun.desks ≡ node.desks → IsOld replaced node.logins.places → (let x = effect_by (effects.Entered place replaced) subject (scene begun empty_outbox) in Effected (effects.Entered place replaced) x.outbox.sides x.node t)
-    entered_ends None begun subject t d i = record {
-      ends = λ other small.
-          entered_off other small E (λ f. first other small ∙ f) (λ f l. first other small ∙ f)
-          ∙ sym (register_off begun place (record (desk_at begun place) { pointer = None; is_enabled = false }) refl other ∙ ap (λ b. cond (nat_eq other place) false b) ((same_registers node begun d).each other));
-    }
-    entered_ends (Some id) begun subject t d i = record {
-      ends = λ other small.
-          ap (λ (y : Table). slice_index_or (disabled_at (position (has_id id) y.places) E) other false) same
-          ∙ disabled_by id i other small (position (has_id id) node.logins.places) refl
-          ∙ sym (register_off begun place (record (desk_at begun place) { pointer = None; is_enabled = false }) refl other ∙ ap (λ b. cond (nat_eq other place) false b) ((same_registers node begun d).each other));
-    }
+    entered_ends : (replaced : Option ℕ) (begun : NodeState) (subject : ℕ) → begun.desks ≡ node.desks → IsOld replaced node.logins.places → (let x = effect_by (effects.Entered place replaced) subject (scene begun empty_outbox) in Ends x.outbox.sides x.node)
+    entered_ends None begun subject d i other small =
+        entered_off other small E (λ f. first other small ∙ f) (λ f l. first other small ∙ f)
+        ∙ sym (register_off begun place (record (desk_at begun place) { pointer = None; is_enabled = false }) refl other ∙ ap (λ b. cond (nat_eq other place) false b) ((same_registers node begun d).each other))
+    entered_ends (Some id) begun subject d i other small =
+        ap (λ (y : Table). slice_index_or (disabled_at (position (has_id id) y.places) E) other false) same
+        ∙ disabled_by id i other small (position (has_id id) node.logins.places) refl
+        ∙ sym (register_off begun place (record (desk_at begun place) { pointer = None; is_enabled = false }) refl other ∙ ap (λ b. cond (nat_eq other place) false b) ((same_registers node begun d).each other))
 
   -- ---- a login leaves
   module _ (place subject : ℕ) (own : Login) (was : place_at node.logins.places place ≡ Some own) (id_is : own.login ≡ subject) where
@@ -587,8 +577,8 @@ module _ (node : NodeState) (live : AreLive node) (apart : AreApart node.logins.
     starts : Cuts before t (scene begun empty_outbox)
     starts = record { registers = λ place. (same_registers node begun desks).each place; mute = tt; logins_are = logins }
 
-    leaves : (place : ℕ) (s : Scene) → Cuts before t s → Empties node.logins.places t.places place → (by_side managed (by_sides (s.outbox.sides ++ sides.Left d.subject ∷ []) o)).table ≡ t → Effected (effects.Left place) (s.outbox.sides ++ sides.Left d.subject ∷ []) (with_desk s.node place (record (desk_at s.node place) { is_enabled = false })) t
-    leaves place s c x final =
+    leaves : (place : ℕ) (s : Scene) → Cuts before t s → Empties node.logins.places t.places place → (by_side managed (by_sides (s.outbox.sides ++ sides.Left d.subject ∷ []) o)).table ≡ t → Ends (s.outbox.sides ++ sides.Left d.subject ∷ []) (with_desk s.node place (record (desk_at s.node place) { is_enabled = false }))
+    leaves place s c x final other small =
         let told = s.outbox.sides in
         let m = muted told o E c.mute in
         let left = by_side (sides.Left d.subject) (by_sides told o) in
@@ -598,15 +588,12 @@ module _ (node : NodeState) (live : AreLive node) (apart : AreApart node.logins.
         let none : place_at left.table.places place ≡ None = managed_none (function_word d.function) (login_if (function_word d.function) d.status d.login) left place empty in
         let id_is = gone x.login d.subject
         (ap (at_id d.subject (λ own. None)) (sym x.was) ∙ sym (get_or-map (at_id d.subject (λ own. None)) node.logins.places place None) ∙ sym (ap (λ ps. place_at ps place) table_is) ∙ none) in
-        record {
-          ends = λ other small.
-              ap (λ xs. slice_index_or xs other false)
-              (disabled_append told (sides.Left d.subject ∷ []) o E
-              ∙ ap (λ (y : Table). disabled_at (position (has_id d.subject) y.places) (all_disabled told o E)) (m.table ∙ same)
-              ∙ ap (disabled_at (position (has_id d.subject) node.logins.places)) m.registers)
-              ∙ left_off place d.subject x.login x.was id_is other small (position (has_id d.subject) node.logins.places) refl
-              ∙ sym (register_off s.node place (record (desk_at s.node place) { is_enabled = false }) refl other ∙ ap (λ b. cond (nat_eq other place) false b) (c.registers other));
-        }
+        ap (λ xs. slice_index_or xs other false)
+        (disabled_append told (sides.Left d.subject ∷ []) o E
+        ∙ ap (λ (y : Table). disabled_at (position (has_id d.subject) y.places) (all_disabled told o E)) (m.table ∙ same)
+        ∙ ap (disabled_at (position (has_id d.subject) node.logins.places)) m.registers)
+        ∙ left_off place d.subject x.login x.was id_is other small (position (has_id d.subject) node.logins.places) refl
+        ∙ sym (register_off s.node place (record (desk_at s.node place) { is_enabled = false }) refl other ∙ ap (λ b. cond (nat_eq other place) false b) (c.registers other))
 
     -- what it tells, and the logins
     record Tells (told : List Side) (now : NodeState) : Type 0 where
@@ -641,28 +628,23 @@ module _ (node : NodeState) (live : AreLive node) (apart : AreApart node.logins.
         let c = cuts_tell (clear_from (length s.node.units) 0 s) (clears_from before t (length s.node.units) 0 s (cuts_all before t cuts.TargetReset None (scene begun empty_outbox) starts)) in
         record { disabling = c.disabling; logins_are = c.logins_are }
 
-    effect_ends : (effect : Effect) → Spares effect node.logins t → IsFree node.logins.places effect → (let x = effect_by effect d.subject (scene begun empty_outbox) in (by_side managed (by_sides x.outbox.sides o)).table ≡ t → Effected effect x.outbox.sides x.node t)
-    effect_ends effects.Nothing spares free final = quietly effects.Nothing (scene begun empty_outbox) t starts
-    effect_ends (effects.Entered place replaced) spares free final = entered_ends place free replaced begun d.subject t desks spares.1
-    effect_ends (effects.Back place) spares free final = record { ends = λ other small. first other small ∙ sym (starts.registers other) }
+    effect_ends : (effect : Effect) → Spares effect node.logins t → IsFree node.logins.places effect → (let x = effect_by effect d.subject (scene begun empty_outbox) in (by_side managed (by_sides x.outbox.sides o)).table ≡ t → Ends x.outbox.sides x.node)
+    effect_ends effects.Nothing spares free final = quietly (scene begun empty_outbox) t starts
+    effect_ends (effects.Entered place replaced) spares free final = entered_ends place free replaced begun d.subject desks spares.1
+    effect_ends (effects.Back place) spares free final = λ other small. first other small ∙ sym (starts.registers other)
     effect_ends (effects.Left place) spares free final =
-        let e = leaves place (cut_placed (place_in place) cuts.Logout (scene begun empty_outbox)) (cuts_placed before t (place_in place) cuts.Logout (scene begun empty_outbox) starts) spares.1 final in
-        record { ends = e.ends }
+        leaves place (cut_placed (place_in place) cuts.Logout (scene begun empty_outbox)) (cuts_placed before t (place_in place) cuts.Logout (scene begun empty_outbox) starts) spares.1 final
     effect_ends (effects.Abort place orb) spares free final =
-        let e = quietly (effects.Abort place orb) (scene (with_desk begun place (record (desk_at begun place) { agent = abort_step (desk_at begun place).agent orb })) empty_outbox) t
-        (record { registers = λ other. (desk_same begun place (record (desk_at begun place) { agent = abort_step (desk_at begun place).agent orb }) refl).each other ∙ starts.registers other; mute = tt; logins_are = logins }) in
-        record { ends = e.ends }
+        quietly (scene (with_desk begun place (record (desk_at begun place) { agent = abort_step (desk_at begun place).agent orb })) empty_outbox) t
+        (record { registers = λ other. (desk_same begun place (record (desk_at begun place) { agent = abort_step (desk_at begun place).agent orb }) refl).each other ∙ starts.registers other; mute = tt; logins_are = logins })
     effect_ends (effects.AbortSet place) spares free final =
-        let e = quietly (effects.AbortSet place) (cut_placed (place_in place) cuts.AbortSet (scene begun empty_outbox)) t (cuts_placed before t (place_in place) cuts.AbortSet (scene begun empty_outbox) starts) in
-        record { ends = e.ends }
+        quietly (cut_placed (place_in place) cuts.AbortSet (scene begun empty_outbox)) t (cuts_placed before t (place_in place) cuts.AbortSet (scene begun empty_outbox) starts)
     effect_ends (effects.UnitReset unit) spares free final =
         let c = cut_all cuts.UnitReset (Some unit) (scene begun empty_outbox) in
-        let e = quietly (effects.UnitReset unit) (clear_one unit c) t (clears_one before t unit c (cuts_all before t cuts.UnitReset (Some unit) (scene begun empty_outbox) starts)) in
-        record { ends = e.ends }
+        quietly (clear_one unit c) t (clears_one before t unit c (cuts_all before t cuts.UnitReset (Some unit) (scene begun empty_outbox) starts))
     effect_ends effects.TargetReset spares free final =
         let c = cut_all cuts.TargetReset None (scene begun empty_outbox) in
-        let e = quietly effects.TargetReset (clear_from (length c.node.units) 0 c) t (clears_from before t (length c.node.units) 0 c (cuts_all before t cuts.TargetReset None (scene begun empty_outbox) starts)) in
-        record { ends = e.ends }
+        quietly (clear_from (length c.node.units) 0 c) t (clears_from before t (length c.node.units) 0 c (cuts_all before t cuts.TargetReset None (scene begun empty_outbox) starts))
 
   -- ---- the decision, and what follows it
   module _ (layer : Layer Purpose) (source : ℕ) (step : ManagerStep) (m : management.Machine) (t : Table) (spares : Spares step.effect node.logins t) (free : (d : Decision) → step.decided ≡ Some d → IsFree node.logins.places step.effect) where
@@ -727,7 +709,7 @@ module _ (node : NodeState) (live : AreLive node) (apart : AreApart node.logins.
           disabling = disabling_append x.outbox.sides (side ∷ []) told.disabling (tt, tt);
           ends = λ final place small.
               let f = effect_ends d source begun t refl refl step.effect spares (free d e) (ap (λ (y : Office). y.table) (sym (sides_append x.outbox.sides (side ∷ []) o)) ∙ final) in
-              ap (λ xs. slice_index_or xs place false) (disabled_append x.outbox.sides (side ∷ []) o E) ∙ f.ends place small;
+              ap (λ xs. slice_index_or xs place false) (disabled_append x.outbox.sides (side ∷ []) o E) ∙ f place small;
         }
 
     abbrev first_told : Base

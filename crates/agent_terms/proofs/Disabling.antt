@@ -83,13 +83,13 @@ managed_keeps (step, (m, table)) answer t =
     let k = effect_keeps step.effect (record t { manager = m; manages = None; manager_asks = step.ask; decided = _ }) in
     record { enabled = k.enabled; table = k.table }
 
-replied_keeps_to : (purpose : Purpose) (answer : Answer) (t : Target) → Keeps t (replied_to purpose answer t)
-replied_keeps_to (for_agent place which) answer t = record { enabled = refl; table = refl }
-replied_keeps_to for_manager answer t = managed_keeps (manager_step t answer) answer t
-replied_keeps_to for_nobody answer t = keeps_self t
+replied_keeps : (purpose : Purpose) (answer : Answer) (t : Target) → Keeps t (replied_to purpose answer t)
+replied_keeps (for_agent place which) answer t = record { enabled = refl; table = refl }
+replied_keeps for_manager answer t = managed_keeps (manager_step t answer) answer t
+replied_keeps for_nobody answer t = keeps_self t
 
 pub reply_keeps : (serial : ℕ) (answer : Answer) (t : Target) → Keeps t (replied serial answer t)
-reply_keeps serial answer t = replied_keeps_to (purpose_of t serial) answer t
+reply_keeps serial answer t = replied_keeps (purpose_of t serial) answer t
 
 -- a request leaves the table
 register_table : (name : Register) (place : ℕ) (access : Access) (t : Target) → (register_got name place access t).table ≡ t.table
