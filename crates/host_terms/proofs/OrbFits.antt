@@ -11,7 +11,6 @@ use Rattle.orb_list.specs.Kept.{Kept, kept_in}
 use Rattle.orb_list.specs.Runs.{Call, Prepare, LinkLow, LinkHigh, MakeDummy, TakeStatus, DropList, FreeAll, Pin, Unpin, TryWrite, Fill, SetQuad, Note, Taken, Dropped, Pinned, Unpinned, if_ok, if_some, noted_by, run}
 use Rattle.orb_list.specs.Table as table
 use Rattle.orb_list.specs.Table.{SlotTable}
-use Rattle.orb_list.specs.Tickets.{TicketParts}
 use Rattle.sbp_initiator.specs.Commands.{IsCommand, asked_by}
 use Rattle.sbp_journal.specs.declared.event.Cmd.{Cmd}
 use Rattle.host_terms.specs.Orbs.{request_of}

@@ -15,3 +15,4 @@ pub mod Core
 pub mod Deciding
 pub mod Labels
 pub mod Orbs
+pub mod Reads

@@ -10,6 +10,7 @@ ghost use Rattle.host_terms.specs.Labels.{RunLabelLaw};
 ghost use Rattle.host_terms.specs.Lines.{LineLaw};
 ghost use Rattle.host_terms.specs.Orbs.{OrbsLaw};
 ghost use Rattle.host_terms.specs.Reading.{ReadLaw};
+ghost use Rattle.host_terms.specs.Reads.{MemoryLaw};
 ghost use Rattle.host_terms.specs.Refusing.{RunActionLaw};
 ghost use Rattle.host_terms.specs.Runs.{RunLaw};
 ghost use Rattle.host_terms.specs.Steps.{StepLaw};
@@ -124,4 +125,14 @@ pub fn runs_find_labels()
 #[tactic(auto, using(crate::proofs::Orbs::orbs_law))]
 pub fn orbs_stand_in_memory()
     ensures { OrbsLaw }
+{}
+
+/// The law that in every run an initiator's memory is what the run terms say: a slot is armed exactly where they have an
+/// ORB in it or let it rest; the slot that an ORB was prepared in last has its 32 bytes, with the quadlets of its next
+/// pointer that were written, the node ID of its append and its format, and its page table; the ROM is that of the node; a
+/// read or a write has the rcode of the run terms; and a read of the ROM, of an ORB, or inside a page table that is
+/// complete gives the bytes that they say.
+#[tactic(auto, using(crate::proofs::MemoryReads::memory_law))]
+pub fn memory_is_read_by_the_run()
+    ensures { MemoryLaw }
 {}
