@@ -62,3 +62,4 @@ pub mod MemoryRcodes
 pub mod MemoryOrbs
 pub mod Orbs
 pub mod MemoryReads
+pub mod Answering
