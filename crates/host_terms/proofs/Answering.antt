@@ -141,7 +141,7 @@ request_of layer generation bytes p e =
 
 -- ---- what a FIFO takes
 
-no_fifo : (logins : ℕ) (out : Bool) (offset : ℕ) → fifo_at logins out offset ≡ None → is_fifo offset ≡ false
+pub no_fifo : (logins : ℕ) (out : Bool) (offset : ℕ) → fifo_at logins out offset ≡ None → is_fifo offset ≡ false
 unfolding fifo_at is_fifo
 no_fifo logins out offset e = by_tests (offset == place_fifo 0) (offset == place_fifo 1) (is_open_login logins out offset) (is_login_fifo offset) refl refl refl e
   where
@@ -155,7 +155,7 @@ no_fifo logins out offset e = by_tests (offset == place_fifo 0) (offset == place
     by_tests false false false true f g l e = absurd (none_found fifos.Closed e)
     by_tests false false false false f g l e = grind (arith, nat_tests)
 
-some_fifo : (logins : ℕ) (out : Bool) (offset : ℕ) (f : Fifo) → logins ≤ 2 ^ 32 → fifo_at logins out offset ≡ Some f → is_fifo offset ≡ true
+pub some_fifo : (logins : ℕ) (out : Bool) (offset : ℕ) (f : Fifo) → logins ≤ 2 ^ 32 → fifo_at logins out offset ≡ Some f → is_fifo offset ≡ true
 unfolding fifo_at is_fifo
 some_fifo logins out offset f few e = by_tests (offset == place_fifo 0) (offset == place_fifo 1) (is_open_login logins out offset) (is_login_fifo offset) refl refl refl refl e
   where
@@ -177,7 +177,7 @@ some_fifo logins out offset f few e = by_tests (offset == place_fifo 0) (offset 
 
 -- ---- a request is served from the memory
 
-none_is : {access : Access} → None ≡ Some access → ⊥
+pub none_is : {access : Access} → None ≡ Some access → ⊥
 none_is e = cc
 
 reads_as : (r : ℕ × List ℕ) (p : Packet) (bytes : List ℕ) (o : OutboxState) (s : InitiatorState) → (read_as r p bytes o s).1.0.packets ≡ o.packets ++ answer s.layer.node p r.0 r.1 ∷ []
@@ -191,16 +191,16 @@ unfolding write_lists
 written_code lists offset bytes = refl
 
 -- what is asked of each request's packet
-abbrev asks_quadlet : (is_write : Bool) → ℕ → Access
+abbrev pub asks_quadlet : (is_write : Bool) → ℕ → Access
 asks_quadlet is_write offset = record { is_lock = false; is_write = is_write; is_block = false; offset = offset; count = 4; payload = [] }
 
-abbrev asks_block : ℕ → ℕ → Access
+abbrev pub asks_block : ℕ → ℕ → Access
 asks_block offset count = record { is_lock = false; is_write = false; is_block = true; offset = offset; count = count; payload = [] }
 
-abbrev writes_block : ℕ → List ℕ → Access
+abbrev pub writes_block : ℕ → List ℕ → Access
 writes_block offset payload = record { is_lock = false; is_write = true; is_block = true; offset = offset; count = length payload; payload = payload }
 
-abbrev locks : ℕ → ℕ → Access
+abbrev pub locks : ℕ → ℕ → Access
 locks offset count = record { is_lock = true; is_write = false; is_block = true; offset = offset; count = count; payload = [] }
 
 module _ (past : List Moment) (i : ℕ) (s : InitiatorState) (known : IsReadBy past i s) where
@@ -230,7 +230,7 @@ module _ (past : List Moment) (i : ℕ) (s : InitiatorState) (known : IsReadBy p
       writes_as step p bytes empty_outbox s
       ∙ ap (λ x. x ∷ []) (ap (λ (x : Packet). record { to = (header_in p).source; label = None; bytes = canon x }) (same step.0 [] (reply access).given) ∙ ap (λ n. answer s.layer.node p n (reply access).given) code)
 
-  serves : (p : Packet) (access : Access) (bytes : List ℕ) → access_of p ≡ Some access → is_fifo_write access ≡ false → IsTold access → Answered p access (serve_step p bytes empty_outbox s).1.0.packets
+  pub serves : (p : Packet) (access : Access) (bytes : List ℕ) → access_of p ≡ Some access → is_fifo_write access ≡ false → IsTold access → Answered p access (serve_step p bytes empty_outbox s).1.0.packets
   serves (read_quadlet header offset) access bytes e none told =
       let g : asks_quadlet false offset ≡ access = cc in
       subst (λ a. IsTold a → Answered (read_quadlet header offset) a (serve_step (read_quadlet header offset) bytes empty_outbox s).1.0.packets) g

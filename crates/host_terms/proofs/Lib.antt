@@ -63,3 +63,4 @@ pub mod MemoryOrbs
 pub mod Orbs
 pub mod MemoryReads
 pub mod Answering
+pub mod AnsweringBlocks
