@@ -1,5 +1,5 @@
 -- What an initiator answers to a request that it gets.
-use Rattle.std.proofs.Common.{arith, ◌≡◌, refl, sym, ap, subst, ◌∙◌, ℕ, suc, ◌+◌, ◌*◌, ◌-◌, ◌^◌, ◌%◌, ◌<◌, ◌≤◌, ◌==◌, ◌&&◌, ◌||◌, not, nat_le, nat_lt, Bool, true, false, cond, List, [], ◌∷◌, ◌++◌, length, replicate, Option, Some, None, Result, Ok, Err}
+use Rattle.std.proofs.Common.{arith, ◌≡◌, refl, sym, ap, subst, ◌∙◌, ℕ, suc, ◌+◌, ◌*◌, ◌-◌, ◌^◌, ◌%◌, ◌<◌, ◌≤◌, ◌==◌, ◌&&◌, ◌||◌, Bool, true, false, cond, List, [], ◌∷◌, ◌++◌, length, replicate, Option, Some, None, Result, Ok, Err}
 use Rattle.std.proofs.lemmas.List.{length-replicate}
 use Rattle.std.proofs.lemmas.Bool.Decides.{nat_tests}
 use Rattle.byteorder.specs.Endian.{big_bytes}
@@ -18,7 +18,7 @@ use Rattle.label_table.specs.Bodies.{header_to, response_to}
 use Rattle.async_packet.specs.Labels.{LabelParts}
 use Rattle.label_table.specs.Filter.{judge_step}
 use Rattle.label_table.specs.Requests.{reply_kind}
-use Rattle.label_table.specs.Judging.{Facts, Row, by_again, by_generation, by_grammar, by_label, by_request, by_response, row_of}
+use Rattle.label_table.specs.Judging.{Row, by_again, by_generation, by_grammar, by_label, by_request, by_response, row_of}
 use Rattle.label_table.specs.Layer.{Finding, Layer, answering_step, closed_by, facts_in, facts_of, judged_by, judging_step, rcode_in, of_again, of_generation, of_grammar, of_label, of_request, of_response, responded}
 use Rattle.orb_list.specs.Lists.{ListState, write_lists}
 use Rattle.sbp_journal.specs.Rows.{window_rcode}
@@ -30,7 +30,7 @@ use Rattle.sbp_journal.specs.declared.outbox.Outgoing.{Outgoing}
 use Rattle.sbp_initiator.specs.declared.purpose.Purpose.{Purpose}
 use Rattle.sbp_initiator.specs.declared.state.InitiatorState.{InitiatorState}
 use Rattle.sbp_initiator.specs.Effects.{Turn}
-use Rattle.sbp_initiator.specs.Receiving.{called, read_as, receive_step, received, request_step, respond_step, responded_as, serve_step, written_as}
+use Rattle.sbp_initiator.specs.Receiving.{called, read_as, respond_step, serve_step, written_as}
 use Rattle.sbp_laws.specs.Served.{Reply, host_reply, is_fifo_write, window_facts}
 use Rattle.host_terms.specs.Reads.{IsReadBy, IsReadOf, IsSaid, IsWriteOf}
 

@@ -64,3 +64,4 @@ pub mod Orbs
 pub mod MemoryReads
 pub mod Answering
 pub mod AnsweringBlocks
+pub mod AnsweringRuns

@@ -252,7 +252,7 @@ known_asked line events.Tick past i s r = record { rows = r.rows; is_id = r.is_i
 known_asked line (events.Inject initiator bytes) past i s r = record { rows = r.rows; is_id = r.is_id; aged = r.aged }
 known_asked line (events.Key unit key) past i s r = record { rows = r.rows; is_id = r.is_id; aged = r.aged }
 
-orbs_carried : (ready : Bool) → Carries Rowed (Orbs ready)
+pub orbs_carried : (ready : Bool) → Carries Rowed (Orbs ready)
 orbs_carried ready = record {
   known = λ line event past i s r. known_asked line event past i s r;
   number = λ past i s h. h.number;
@@ -267,11 +267,11 @@ orbs_carried ready = record {
 }
 
 -- what the wire tells of its node ID
-record IdKnown (past : List Moment) (i : ℕ) (s : InitiatorState) : Type 0 where
-  is_id : s.layer.node ≡ id_of (terms past) (suc i)
-  aged : (terms past).generation (suc i) ≤ (terms past).bus
+pub record IdKnown (past : List Moment) (i : ℕ) (s : InitiatorState) : Type 0 where
+  pub is_id : s.layer.node ≡ id_of (terms past) (suc i)
+  pub aged : (terms past).generation (suc i) ≤ (terms past).bus
 
-id_known : {past : List Moment} (w : WorldState) → Stands past w → (i : ℕ) → suc i ≤ length w.initiators → IdKnown (history w past) i (initiator_at w i)
+pub id_known : {past : List Moment} (w : WorldState) → Stands past w → (i : ℕ) → suc i ≤ length w.initiators → IdKnown (history w past) i (initiator_at w i)
 id_known {past} w h i l =
     let k = (holds h.wire h.reached).nodes (suc i) in
     let same : terms h.wire.past ≡ terms (history w past) = ap terms h.is.past_is in

@@ -16,3 +16,4 @@ pub mod Deciding
 pub mod Labels
 pub mod Orbs
 pub mod Reads
+pub mod Answering

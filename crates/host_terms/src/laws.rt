@@ -1,5 +1,6 @@
 //! The laws of the terms of a run: what they say of an initiator is what it holds.
 ghost use Rattle.host_terms.specs.Acting.{ActionLaw};
+ghost use Rattle.host_terms.specs.Answering.{AnsweringLaw};
 ghost use Rattle.host_terms.specs.Calling.{CallsLaw};
 ghost use Rattle.host_terms.specs.Calls.{CallLaw};
 ghost use Rattle.host_terms.specs.Core.{HostLaw};
@@ -135,4 +136,12 @@ pub fn orbs_stand_in_memory()
 #[tactic(auto, using(crate::proofs::MemoryReads::memory_law))]
 pub fn memory_is_read_by_the_run()
     ensures { MemoryLaw }
+{}
+
+/// The law that in every run, in a delivery at which an initiator gets a request, the first packet that is told is the
+/// response of the sent law: with the rcode and the bytes that the run terms have as the request is got. Of a read that
+/// is complete this is said where it is of the ROM, of an ORB or inside a page table.
+#[tactic(auto, using(crate::proofs::AnsweringRuns::answering_law))]
+pub fn requests_are_answered_by_the_run()
+    ensures { AnsweringLaw }
 {}
