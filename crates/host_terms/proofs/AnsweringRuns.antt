@@ -36,9 +36,9 @@ use Rattle.sbp_bus.specs.Generations.{GenerationsState, node_of, topology_at}
 use Rattle.sbp_bus.specs.Packets.{judged_note}
 use Rattle.sbp_laws.specs.JudgementLaw.{answer_packet}
 use Rattle.sbp_laws.specs.Packets.{access_in, id_of, packet_in, spelled_by}
-use Rattle.sbp_laws.specs.SentAnswers.{answers_to, is_answered, reply_in, reply_packet}
+use Rattle.sbp_laws.specs.SentAnswers.{Begins, answers_to, is_answered, reply_in, reply_packet}
 use Rattle.sbp_laws.specs.Served.{Reply, host_reply}
-use Rattle.sbp_laws.specs.Turns.{is_sent, turn}
+use Rattle.sbp_laws.specs.Turns.{is_sent, sends_of, turn}
 use Rattle.sbp_world.specs.declared.parts.delivering.Arrival.{Arrival}
 use Rattle.sbp_world.specs.Delivering.{arrived, at_initiator, at_none, at_target, delivered, delivered_by, initiator_received, initiators_received, listed, received_by, received_step, target_received}
 use Rattle.sbp_world.specs.Handing.{handed_out}
@@ -58,7 +58,7 @@ use Rattle.sbp_world.proofs.Wire.Holding.{Sound, own_has, target_small}
 use Rattle.sbp_world.proofs.Wire.Runs.{SoundAfter, sound_after}
 use Rattle.sbp_world.proofs.Wire.Sound.{next_heard, opens}
 use Rattle.sbp_world.proofs.Wire.ToldBytes.{AreTold}
-use Rattle.host_terms.specs.Answering.{AnsweringLaw, GetsRequest, IsAnswered, IsDelivering}
+use Rattle.host_terms.specs.Answering.{AnsweringLaw, GetsRequest, IsAnswered, IsDelivering, in_order}
 use Rattle.host_terms.specs.Calls.{behind}
 use Rattle.host_terms.specs.Handing.{AreNotes, history}
 use Rattle.host_terms.specs.Reads.{IsReadBy}
@@ -99,6 +99,11 @@ none_on : (told : List Side) (ns : List Note) → ArePlainSides told → AllByRe
 none_on [] ns a n = n
 none_on (sides.Own note ∷ later) ns a n = none_on later (note ∷ ns) a.1 (plain_none note a.0, n)
 none_on (side ∷ later) ns a n = none_on later ns a.1 n
+
+-- behind notes that are no packets the packets are those that follow
+sends_last : (ns rest : List Note) → AllByRecursion (λ note. is_sent note ≡ false) ns → sends_of (in_order ns rest) ≡ sends_of rest
+sends_last [] rest n = refl
+sends_last (note ∷ earlier) rest n = sends_last earlier (note ∷ rest) n.1 ∙ ap (λ b. cond b (note ∷ sends_of rest) (sends_of rest)) n.0
 
 -- ---- a request's part
 
@@ -214,8 +219,8 @@ module _ {past : List Moment} {lines : ℕ} (s : Scene) (sound : Sound past line
   response = response_as t.count (t.generation (suc i)) (suc i) (id_of t (suc i))
 
   -- that of the sent law
-  law : (disks : List Disk) (rest : List Note) → answers_to disks (turn H (said (notes.Got serial)) rest) (t.sent serial) ≡ response ∷ []
-  law disks rest =
+  due : (disks : List Disk) (rest : List Note) → answers_to disks (turn H (said (notes.Got serial)) rest) (t.sent serial) ≡ response ∷ []
+  due disks rest =
       let T = turn H (said (notes.Got serial)) rest in
       let asks : is_answered (part_of g.sent.bytes) ≡ true = ap is_answered (part_read g.sent.bytes p request.read) ∙ asks_part p g.access g.asks_for in
       let spelled : packet_in (Some q) ≡ Some p = ap spelled_by request.read in
@@ -282,7 +287,13 @@ module _ {past : List Moment} {lines : ℕ} (s : Scene) (sound : Sound past line
     none_sent = none_on r.1.0.sides [] plain tt;
     response = response;
     is = shows;
-    law = law;
+    due = due;
+    law = λ wild disks. record {
+      begins = λ e.
+          let rest = in_order (response ∷ effects) [] in
+          subst (λ xs. Begins xs (sends_of rest)) (sym (due disks rest))
+          (subst (Begins (response ∷ [])) (sym (sends_last effects (response ∷ []) (none_on r.1.0.sides [] plain tt))) (refl, tt));
+    };
   }
 
 -- ---- a run

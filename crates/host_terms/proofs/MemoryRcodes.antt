@@ -127,6 +127,30 @@ module _ (past : List Moment) (i rom : ℕ) (m : Memory) (access : Access) where
       open_out out ((length out == 0) || is_fifo access.offset) (window_at access.offset)
       (subst (λ n. (read_at m out (cond ((length out == 0) || is_fifo access.offset) (Err TypeError) (judged_at m Read (spot_in m access.offset n (window_at access.offset))))).0 ≡ 0) r.size z) window e
 
+  -- and of one that the target reads
+  read_out_of : (out : List ℕ) (refused : Bool) (found : Option Window) → (read_at m out (cond refused (Err TypeError) (judged_at m Read (spot_in m access.offset access.count found)))).0 ≡ 0 → (window : Window) → found ≡ Some window → memory_takes m window ≡ false
+  read_out_of out true found z window e = absurd (omega arith)
+  read_out_of out false None z window e = absurd (differ e)
+    where
+      differ : None ≡ Some window → ⊥
+      differ e = cc
+  read_out_of out false (Some other) z window e = by_room (room other) z
+    where
+      by_serve : (b : Bool) → memory_takes m other ≡ b → (read_at m out (cond (not (memory_takes m other)) (Ok (spot other)) (Err TypeError))).0 ≡ 0 → memory_takes m window ≡ false
+      by_serve true g z =
+          let wrong : ◌≡◌ {A = ℕ} 6 0 = sym (ap (λ b. (read_at m out (cond (not b) (Ok (spot other)) (Err TypeError))).0) g) ∙ z in absurd (omega arith)
+      by_serve false g z = let same : other ≡ window = cc in subst (λ x. memory_takes m x ≡ false) same g
+
+      by_room : (b : Bool) → (read_at m out (judged_at m Read (cond b (Some (spot other)) None))).0 ≡ 0 → memory_takes m window ≡ false
+      by_room false z = absurd (omega arith)
+      by_room true z = by_serve (memory_takes m other) refl z
+
+  pub read_direction : (out : List ℕ) → IsReadOf access out → (read_step m access.offset out).0 ≡ 0 → (window : Window) → window_at access.offset ≡ Some window → memory_takes m window ≡ false
+  unfolding judged spot_of
+  read_direction out r z window e =
+      read_out_of out ((length out == 0) || is_fifo access.offset) (window_at access.offset)
+      (subst (λ n. (read_at m out (cond ((length out == 0) || is_fifo access.offset) (Err TypeError) (judged_at m Read (spot_in m access.offset n (window_at access.offset))))).0 ≡ 0) r.size z) window e
+
   -- ---- a write
 
   module _ (bytes : List ℕ) (is_write : access.is_write ≡ true) where

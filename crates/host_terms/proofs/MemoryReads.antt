@@ -32,7 +32,7 @@ use Rattle.host_terms.specs.Reads.{IsHeld, IsReadBy, IsReadOf, IsSaid, MemoryLaw
 use Rattle.host_terms.specs.Rows.{name, name_in, row, row_by}
 use Rattle.host_terms.proofs.Chains.{chained_run}
 use Rattle.host_terms.proofs.MemoryOrbs.{cut_front, orb_is, table_size}
-use Rattle.host_terms.proofs.MemoryRcodes.{Agrees, IfAgrees, read_bytes, read_code, read_open, write_code}
+use Rattle.host_terms.proofs.MemoryRcodes.{Agrees, IfAgrees, read_bytes, read_code, read_direction, read_open, write_code}
 use Rattle.host_terms.proofs.OrbAppends.{kept_last}
 use Rattle.host_terms.proofs.OrbFits.{IfFits}
 use Rattle.host_terms.proofs.OrbRuns.{Orbs, orbs_between, orbs_of_runs}
@@ -179,7 +179,11 @@ module _ (ready : Bool) (past : List Moment) (i : ℕ) (s : InitiatorState) (row
         ∙ cut_front (access.offset - start (windows.Table slot)) access.count (table_in_slot past i slot (prepared_in past i slot)) (slot_at m slot).table (held_here slot one.0 w.0 one.1).table q
     gives_in (Some (windows.Buffer slot)) e w q = absurd q
     gives_in (Some (windows.Management place)) e w q = absurd q
-    gives_in (Some (windows.Response place)) e w q = absurd q
+    gives_in (Some (windows.Response place)) e w q =
+        absurd (differ (read_direction past i (rom_size (suc i) 0) m access out is_read complete (windows.Response place) e))
+      where
+        differ : true ≡ false → ⊥
+        differ e = cc
 
   pub memory_read : IsReadBy past i s
   memory_read = record {

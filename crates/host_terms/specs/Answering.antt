@@ -20,7 +20,7 @@ use Rattle.sbp_journal.specs.declared.event.Event.TheVariants as events
 use Rattle.sbp_journal.specs.declared.note.Note.{Note}
 use Rattle.sbp_journal.specs.declared.note.Note.TheVariants as notes
 use Rattle.sbp_initiator.specs.Receiving.{receive_step}
-use Rattle.sbp_laws.specs.SentAnswers.{answers_to}
+use Rattle.sbp_laws.specs.SentAnswers.{AnswersLaw, answers_to}
 use Rattle.sbp_laws.specs.Served.{host_reply}
 use Rattle.sbp_laws.specs.Turns.{is_sent, turn}
 use Rattle.sbp_world.specs.Delivering.{delivered}
@@ -45,14 +45,20 @@ pub record GetsRequest (past : List Moment) (w : WorldState) (i serial : ℕ) : 
   pub is_said : access.is_write ≡ false → (host_reply past i access).rcode ≡ 0 → IsSaid past i access (window_at access.offset)
   pub few : access.is_write && access.is_block ≡ true → (initiator_at w i).counts.logins ≤ 2 ^ 32
 
--- Behind the history and the note that it was got stand what the initiator told, which is no packet, and the response of the sent law, that of
--- the turn of this note, whatever the media are and whatever the notes of the turn.
+-- the notes of a turn in the order of time, where the latest are told first
+abbrev pub in_order : List Note → List Note → List Note
+in_order [] rest = rest
+in_order (note ∷ earlier) rest = in_order earlier (note ∷ rest)
+
+-- Behind the history and the note that it was got stand what the initiator told, which is no packet, and the response that is due by the sent law
+-- in the turn of this note, whatever the media are. So that turn is as the law of answers says.
 pub record IsAnswered (past : List Moment) (serial : ℕ) (now : List Moment) : Type 0 where
   pub effects : List Note
   pub none_sent : AllByRecursion (λ note. is_sent note ≡ false) effects
   pub response : Note
   pub is : now ≡ said response ∷ (map said effects ++ said (notes.Got serial) ∷ past)
-  pub law : (disks : List Disk) (rest : List Note) → answers_to disks (turn past (said (notes.Got serial)) rest) ((terms past).sent serial) ≡ response ∷ []
+  pub due : (disks : List Disk) (rest : List Note) → answers_to disks (turn past (said (notes.Got serial)) rest) ((terms past).sent serial) ≡ response ∷ []
+  pub law : (wild : ℕ → Bool) (disks : List Disk) → AnswersLaw wild disks (turn past (said (notes.Got serial)) (in_order (response ∷ effects) []))
 
 -- the lines that deliver packets, behind some of their deliveries
 abbrev pub IsDelivering : Event → List (Option Told) → Type 0

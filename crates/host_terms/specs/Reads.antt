@@ -31,11 +31,12 @@ pub record IsHeld (past : List Moment) (i : ℕ) (memory : Memory) (slot : ℕ) 
   pub table : take (length (table_in_slot past i slot (prepared_in past i slot))) (memories.slot_at memory slot).table ≡ table_in_slot past i slot (prepared_in past i slot)
   pub direction : is_written (memories.slot_at memory slot) ≡ direction_of past i (prepared_in past i slot)
 
--- the windows whose bytes are said here: the ROM, ORBs, and page tables as far as they go
+-- the windows whose bytes are said here: the ROM, ORBs, page tables as far as they go, and responses, of which no read is complete
 abbrev pub IsSaid : List Moment → ℕ → Access → Option Window → Type 0
 IsSaid past i access (Some windows.Rom) = Unit {0}
 IsSaid past i access (Some (windows.Orb slot)) = Unit {0}
 IsSaid past i access (Some (windows.Table slot)) = access.offset - start (windows.Table slot) + access.count ≤ length (table_in_slot past i slot (prepared_in past i slot))
+IsSaid past i access (Some (windows.Response place)) = Unit {0}
 IsSaid past i access _ = ⊥
 
 -- a read, and a write, of so many bytes
