@@ -1,5 +1,5 @@
 -- In every run an initiator answers each request that it gets as the run terms say.
-use Rattle.std.proofs.Common.{arith, ◌≡◌, refl, sym, ap, subst, ◌∙◌, ℕ, suc, ◌+◌, ◌-◌, ◌<◌, ◌≤◌, ◌==◌, ◌||◌, not, nat_lt, Bool, true, false, cond, List, [], ◌∷◌, ◌++◌, length, map, slice_set, Option, Some, None}
+use Rattle.std.proofs.Common.{arith, ◌≡◌, refl, sym, ap, subst, ◌∙◌, ℕ, suc, ◌+◌, ◌-◌, ◌^◌, ◌<◌, ◌≤◌, ◌≤◌, ◌==◌, ◌||◌, not, nat_lt, Bool, true, false, cond, List, [], ◌∷◌, ◌++◌, length, map, slice_set, Option, Some, None}
 use Rattle.std.proofs.lemmas.Bool.Decides.{nat_tests}
 use Rattle.std.specs.List.{AllByRecursion}
 use Rattle.async_packet.specs.Canon.{canon}
@@ -58,6 +58,7 @@ use Rattle.sbp_world.proofs.Wire.Holding.{Sound, own_has, target_small}
 use Rattle.sbp_world.proofs.Wire.Runs.{SoundAfter, sound_after}
 use Rattle.sbp_world.proofs.Wire.Sound.{next_heard, opens}
 use Rattle.sbp_world.proofs.Wire.ToldBytes.{AreTold}
+use Rattle.initiator_laws.specs.Laws.{Call, after as laws_after}
 use Rattle.host_terms.specs.Answering.{AnsweringLaw, GetsRequest, IsAnswered, IsDelivering, in_order}
 use Rattle.host_terms.specs.Calls.{behind}
 use Rattle.host_terms.specs.Handing.{AreNotes, history}
@@ -69,8 +70,9 @@ use Rattle.host_terms.proofs.AnsweringBlocks.{answers}
 use Rattle.host_terms.proofs.Hands.{all_own}
 use Rattle.host_terms.proofs.Knows.{was_sent}
 use Rattle.host_terms.proofs.Liners.{own_notes}
+use Rattle.host_terms.proofs.LoginCounts.{logins_few}
 use Rattle.host_terms.proofs.MemoryReads.{memory_law, memory_read}
-use Rattle.host_terms.proofs.OrbRuns.{id_known, orbs_carried, orbs_of_runs}
+use Rattle.host_terms.proofs.OrbRuns.{id_known, orbs_between, orbs_carried, orbs_of_runs}
 use Rattle.host_terms.proofs.Requested.{all_told_bus}
 use Rattle.host_terms.proofs.Runs.{are_told, count_after, count_between, run_law}
 
@@ -126,7 +128,7 @@ one_sent past x node to own rcode p given there = ap (λ found. history (sent_to
 
 -- ---- a delivery
 
-module _ {past : List Moment} {lines : ℕ} (s : Scene) (sound : Sound past lines s.world) (i : ℕ) (inside : i < length s.world.initiators) (known : IsReadBy (history s.world past) i (initiator_at s.world i)) (serial : ℕ) (again : Bool) (told : Option Told) (g : GetsRequest (history s.world past) s.world i serial) where
+module _ {past : List Moment} {lines : ℕ} (s : Scene) (sound : Sound past lines s.world) (i : ℕ) (inside : i < length s.world.initiators) (known : IsReadBy (history s.world past) i (initiator_at s.world i)) (few : (initiator_at s.world i).counts.logins ≤ 2 ^ 32) (serial : ℕ) (again : Bool) (told : Option Told) (g : GetsRequest (history s.world past) s.world i serial) where
   abbrev w : WorldState
   w = s.world
 
@@ -164,7 +166,7 @@ module _ {past : List Moment} {lines : ℕ} (s : Scene) (sound : Sound past line
   request = request_of old.layer g.sent.generation g.sent.bytes p g.request
 
   packets_are : r.1.0.packets ≡ answer old.layer.node p own_reply.rcode own_reply.given ∷ []
-  packets_are = answers H i old known g.sent.generation g.sent.bytes p g.access g.request g.asks_for g.is_said g.few g.got
+  packets_are = answers H i old known g.sent.generation g.sent.bytes p g.access g.request g.asks_for g.is_said (λ e. few) g.got
 
   was : t.sent serial ≡ Some q
   was = was_sent w stands serial g.sent g.found
@@ -305,10 +307,10 @@ all_sound (told ∷ before) t s sound r =
     next_heard fitting_law own_fitting_law told t.0 (after_all before s) (all_sound before t.1 s sound r) r (lowest (after_all before s).world) refl
 
 -- a scene of a line, with the history of its run in other words
-at_scene : {lines : ℕ} (next : ℕ) (event : Event) (s : Scene) (ms others : List Moment) → ms ≡ others → Sound (asked next event ∷ ms) lines s.world → (i : ℕ) → i < length s.world.initiators → (serial : ℕ) (again : Bool) (one : Option Told) → IsReadBy (map said s.world.fresh ++ asked next event ∷ others) i (initiator_at s.world i) → GetsRequest (map said s.world.fresh ++ asked next event ∷ others) s.world i serial → IsAnswered (map said s.world.fresh ++ asked next event ∷ others) serial (map said (delivered serial again one s).world.fresh ++ asked next event ∷ others)
-at_scene next event s ms others e sound i inside serial again one =
+at_scene : {lines : ℕ} (next : ℕ) (event : Event) (s : Scene) (ms others : List Moment) → ms ≡ others → Sound (asked next event ∷ ms) lines s.world → (i : ℕ) → i < length s.world.initiators → (serial : ℕ) (again : Bool) (one : Option Told) → (initiator_at s.world i).counts.logins ≤ 2 ^ 32 → IsReadBy (map said s.world.fresh ++ asked next event ∷ others) i (initiator_at s.world i) → GetsRequest (map said s.world.fresh ++ asked next event ∷ others) s.world i serial → IsAnswered (map said s.world.fresh ++ asked next event ∷ others) serial (map said (delivered serial again one s).world.fresh ++ asked next event ∷ others)
+at_scene next event s ms others e sound i inside serial again one few =
     subst (λ x. IsReadBy (map said s.world.fresh ++ asked next event ∷ x) i (initiator_at s.world i) → GetsRequest (map said s.world.fresh ++ asked next event ∷ x) s.world i serial → IsAnswered (map said s.world.fresh ++ asked next event ∷ x) serial (map said (delivered serial again one s).world.fresh ++ asked next event ∷ x)) e
-    (λ known g. is_answered_here s sound i inside known serial again one g)
+    (λ known g. is_answered_here s sound i inside known few serial again one g)
 
 module _ (line : ℕ) (run : Run) (q : IsRun run) (next : ℕ) (i : ℕ) (b : i < run.initiators) (serial : ℕ) (again : Bool) (one : Option Told) where
   abbrev start : Scene
@@ -326,22 +328,33 @@ module _ (line : ℕ) (run : Run) (q : IsRun run) (next : ℕ) (i : ℕ) (b : i 
       memory_read run.ready (asked next event ∷ history_of line run) i (initiator_of run i) (run_law.rows line run q i b).rows
       ((orbs_carried run.ready).asked next event (history_of line run) i (initiator_of run i) (orbs_of_runs line run q i b))
 
+  -- the login numbers that it used
+  few_of : (s : InitiatorState) (calls : List Call) → (laws_after i run.ready calls).1 ≡ s → s.counts.acts ≤ length run.entries → s.counts.logins ≤ 2 ^ 32
+  few_of s calls is acts =
+      let short = q.short in
+      let f : s.counts.logins ≤ s.counts.acts + 1 = subst (λ (x : InitiatorState). x.counts.logins ≤ x.counts.acts + 1) is (logins_few i run.ready calls) in
+      omega arith
+
+  few_first : (initiator_of run i).counts.logins ≤ 2 ^ 32
+  few_first = let o = orbs_of_runs line run q i b in few_of (initiator_of run i) o.calls o.is (before.sound.nodes.own.counts i inside_start)
+
   abbrev Answers : Event → List (Option Told) → Type 0
   Answers event told = (let s = after_all told (begun start) in GetsRequest (map said s.world.fresh ++ asked next event ∷ history_of line run) s.world i serial → IsAnswered (map said s.world.fresh ++ asked next event ∷ history_of line run) serial (map said (delivered serial again one s).world.fresh ++ asked next event ∷ history_of line run))
 
   first_answers : (event : Event) → is_reset event ≡ false → Answers event []
   first_answers event e =
-      at_scene next event (begun start) (history start.world before.past) (history_of line run) before.is (opens next event start.world e before.sound) i inside_start serial again one (known_first event)
+      at_scene next event (begun start) (history start.world before.past) (history_of line run) before.is (opens next event start.world e before.sound) i inside_start serial again one few_first (known_first event)
 
-  more_answers : (event : Event) → is_reset event ≡ false → ((ms : List Moment) → (terms (asked next event ∷ ms)).repeats ≡ false) → (told : List (Option Told)) → MayAll told (begun start) → IsReadBy (map said (after_all told (begun start)).world.fresh ++ asked next event ∷ history_of line run) i (initiator_at (after_all told (begun start)).world i) → Answers event told
-  more_answers event e repeats told m known =
-      at_scene next event (after_all told (begun start)) (history start.world before.past) (history_of line run) before.is
-      (all_sound told (are_told told start m) (begun start) (opens next event start.world e before.sound) (repeats (history start.world before.past)))
-      i (subst (λ n. i < n) (sym (count_between told start)) inside_start) serial again one known
+  more_answers : (event : Event) → is_reset event ≡ false → ((ms : List Moment) → (terms (asked next event ∷ ms)).repeats ≡ false) → (told : List (Option Told)) → MayAll told (begun start) → (calls : List Call) → (laws_after i run.ready calls).1 ≡ initiator_at (after_all told (begun start)).world i → IsReadBy (map said (after_all told (begun start)).world.fresh ++ asked next event ∷ history_of line run) i (initiator_at (after_all told (begun start)).world i) → Answers event told
+  more_answers event e repeats told m calls is known =
+      let sound = all_sound told (are_told told start m) (begun start) (opens next event start.world e before.sound) (repeats (history start.world before.past)) in
+      let inside = subst (λ n. i < n) (sym (count_between told start)) inside_start in
+      at_scene next event (after_all told (begun start)) (history start.world before.past) (history_of line run) before.is sound
+      i inside serial again one (few_of (initiator_at (after_all told (begun start)).world i) calls is (sound.nodes.own.counts i inside)) known
 
   run_answers : (event : Event) (told : List (Option Told)) → IsDelivering event told → MayAll told (begun start) → Answers event told
-  run_answers (events.Step count) told d m = more_answers (events.Step count) refl (λ ms. refl) told m (memory_law.between line run q next (Some count) told m i b)
-  run_answers events.Settle told d m = more_answers events.Settle refl (λ ms. refl) told m (memory_law.between line run q next None told m i b)
+  run_answers (events.Step count) told d m = let o = orbs_between line run q next (Some count) told m i b in more_answers (events.Step count) refl (λ ms. refl) told m o.calls o.is (memory_law.between line run q next (Some count) told m i b)
+  run_answers events.Settle told d m = let o = orbs_between line run q next None told m i b in more_answers events.Settle refl (λ ms. refl) told m o.calls o.is (memory_law.between line run q next None told m i b)
   run_answers (events.Deliver n) told d m = subst (Answers (events.Deliver n)) (sym d) (first_answers (events.Deliver n) refl)
   run_answers (events.Repeat n) told d m = subst (Answers (events.Repeat n)) (sym d) (first_answers (events.Repeat n) refl)
   run_answers (events.Begin initiators ready) told d m = absurd d

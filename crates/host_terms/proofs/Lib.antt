@@ -62,6 +62,7 @@ pub mod MemoryRcodes
 pub mod MemoryOrbs
 pub mod Orbs
 pub mod MemoryReads
+pub mod LoginCounts
 pub mod Answering
 pub mod AnsweringBlocks
 pub mod AnsweringRuns

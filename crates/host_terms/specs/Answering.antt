@@ -1,7 +1,7 @@
 -- What an initiator answers, in every run (IEEE 1394-1995, response codes; NCITS 325-1998, ORBs and page tables in an initiator's memory): in a
 -- delivery at which it gets a request, the first packet that is told is the response that the sent law says, from what the run terms have as
 -- the request is got. So the response to a read of the 32 bytes of a slot's ORB carries the ORB that was prepared last there.
-use Rattle.std.specs.Prelude.{◌≡◌, ◌<◌, ◌≤◌, ◌^◌, ℕ, suc, ◌&&◌, Bool, true, false, List, [], ◌∷◌, ◌++◌, map, Option, Some}
+use Rattle.std.specs.Prelude.{◌≡◌, ◌<◌, ℕ, suc, Bool, false, List, [], ◌∷◌, ◌++◌, map, Option, Some}
 use Rattle.std.specs.List.{AllByRecursion}
 use Rattle.async_packet.specs.Packet.{Packet}
 use Rattle.bus_memory.specs.Windows.{window_at}
@@ -32,7 +32,6 @@ use Rattle.host_terms.specs.Reads.{IsSaid}
 use Rattle.host_terms.specs.Runs.{IsRun}
 
 -- The packet of a serial is a request that an initiator gets. Where it is a read that is complete, it is of a window whose bytes are said (`IsSaid`).
--- Where it is a write of a block, it is asked that the login numbers that the initiator used have 32 bits.
 pub record GetsRequest (past : List Moment) (w : WorldState) (i serial : ℕ) : Type 0 where
   pub sent : Sent
   pub found : found_sent serial w.store.kept ≡ Some sent
@@ -43,7 +42,6 @@ pub record GetsRequest (past : List Moment) (w : WorldState) (i serial : ℕ) : 
   pub asks_for : access_of packet ≡ Some access
   pub got : (receive_step sent.generation sent.bytes empty_outbox (initiator_at w i)).0 ≡ judgements.Got
   pub is_said : access.is_write ≡ false → (host_reply past i access).rcode ≡ 0 → IsSaid past i access (window_at access.offset)
-  pub few : access.is_write && access.is_block ≡ true → (initiator_at w i).counts.logins ≤ 2 ^ 32
 
 -- the notes of a turn in the order of time, where the latest are told first
 abbrev pub in_order : List Note → List Note → List Note
