@@ -1,6 +1,6 @@
 -- What an initiator's memory gives and refuses is as the run terms say, in every run.
 use Rattle.std.proofs.Common.{arith, ◌≡◌, refl, sym, ap, subst, ◌∙◌, ℕ, suc, ◌+◌, ◌-◌, ◌*◌, ◌<◌, not, Bool, true, false, List, length, take, drop, slice_index_or, Option, Some, None}
-use Rattle.std.proofs.lemmas.List.{get_or-map}
+use Rattle.std.proofs.lemmas.List.{get_or-map, take_all}
 use Rattle.bus_memory.specs.Access.{is_open as memory_open, read_step}
 use Rattle.bus_memory.specs.Laws.{IsWhole}
 use Rattle.bus_memory.specs.Memory.{Memory, bytes_in, is_written, slot_at}
@@ -8,7 +8,7 @@ use Rattle.bus_memory.specs.Memory as memories
 use Rattle.bus_memory.specs.Windows.{IfShare, IsWindow, start, window_at}
 use Rattle.bus_memory.specs.declared.window.Window.{Window}
 use Rattle.bus_memory.specs.declared.window.Window.TheVariants as windows
-use Rattle.bus_memory.proofs.Found.{window_share}
+use Rattle.bus_memory.proofs.Found.{window_here, window_share}
 use Rattle.config_rom.specs.Make.{made}
 use Rattle.orb_layout.specs.declared.command.CommandOrb.{CommandOrb}
 use Rattle.orb_list.specs.declared.slot.SlotState.{SlotState}
@@ -185,6 +185,17 @@ module _ (ready : Bool) (past : List Moment) (i : ℕ) (s : InitiatorState) (row
         differ : true ≡ false → ⊥
         differ e = cc
 
+  -- a whole ORB
+  carries : (access : Access) (k : ℕ) (one : Orb) → k < 32 → prepared_in past i k ≡ Some one → access.offset ≡ start (windows.Orb k) → access.count ≡ 32 → window_gives past i access (window_at access.offset) ≡ orb_in_slot past i k (prepared_in past i k)
+  carries access k one b e at count =
+      let held = orb_in_slot past i k (prepared_in past i k) in
+      let window : window_at access.offset ≡ Some (windows.Orb k) = ap window_at at ∙ window_here m (start (windows.Orb k)) (windows.Orb k) b (omega arith) (omega arith) in
+      let zero : access.offset - start (windows.Orb k) ≡ 0 = omega arith in
+      let size : length held ≡ 32 = ap length (sym (orb_here k one b e)) ∙ whole_here.sizes (windows.Orb k) in
+      ap (window_gives past i access) window
+      ∙ (ap (λ n. take n (drop (access.offset - start (windows.Orb k)) held)) count
+      ∙ (ap (λ n. take 32 (drop n held)) zero ∙ take_all 32 held (omega arith)))
+
   pub memory_read : IsReadBy past i s
   memory_read = record {
     armed = armed;
@@ -194,6 +205,7 @@ module _ (ready : Bool) (past : List Moment) (i : ℕ) (s : InitiatorState) (row
     read_rcode = λ access out r. read_code past i (rom_size (suc i) 0) m access out r (if_agrees access.offset (window_at access.offset) (window_share access.offset));
     write_rcode = λ access bytes r. write_code past i (rom_size (suc i) 0) m access bytes r (if_agrees access.offset (window_at access.offset) (window_share access.offset));
     gives = λ access out r q z. gives_in access out r z (window_at access.offset) refl (window_share access.offset) q;
+    carries = carries;
   }
 
 pub memory_law : MemoryLaw

@@ -58,6 +58,8 @@ pub record IsReadBy (past : List Moment) (i : ℕ) (s : InitiatorState) : Type 0
   pub read_rcode : (access : Access) (out : List ℕ) → IsReadOf access out → (read_step s.lists.memory access.offset out).0 ≡ window_rcode (window_facts past i (rom_size (suc i) 0) access)
   pub write_rcode : (access : Access) (bytes : List ℕ) → IsWriteOf access bytes → (write_step s.lists.memory access.offset bytes).0 ≡ window_rcode (window_facts past i (rom_size (suc i) 0) access)
   pub gives : (access : Access) (out : List ℕ) → IsReadOf access out → IsSaid past i access (window_at access.offset) → (read_step s.lists.memory access.offset out).0 ≡ 0 → (read_step s.lists.memory access.offset out).1 ≡ window_gives past i access (window_at access.offset)
+  -- what is given to a read of the 32 bytes of an ORB is the ORB
+  pub carries : (access : Access) (k : ℕ) (one : Orb) → k < 32 → prepared_in past i k ≡ Some one → access.offset ≡ start (windows.Orb k) → access.count ≡ 32 → window_gives past i access (window_at access.offset) ≡ orb_in_slot past i k (prepared_in past i k)
 
 -- After each line of a run, and behind each delivery of a line that delivers one packet after the other.
 pub record MemoryLaw : Type 0 where
