@@ -57,4 +57,12 @@ pub mod OrbActs
 pub mod OrbRuns
 pub mod OrbSpelled
 pub mod OrbTables
+pub mod OrbSlots
+pub mod MemoryRcodes
+pub mod MemoryOrbs
 pub mod Orbs
+pub mod MemoryReads
+pub mod LoginCounts
+pub mod Answering
+pub mod AnsweringBlocks
+pub mod AnsweringRuns

@@ -15,6 +15,7 @@ use Rattle.sbp_initiator.specs.Acting.{IsAction, login_id, orb_by}
 use Rattle.sbp_initiator.specs.States.{place_of}
 use Rattle.sbp_journal.specs.Buffers.{buffer_of}
 use Rattle.sbp_journal.specs.Run.{Moment, said}
+use Rattle.sbp_journal.specs.Wire.{terms}
 use Rattle.sbp_journal.specs.declared.event.Action.{Action}
 use Rattle.sbp_journal.specs.declared.event.Action.TheVariants as actions
 use Rattle.sbp_journal.specs.declared.event.Cmd.{Cmd}
@@ -23,6 +24,7 @@ use Rattle.sbp_journal.specs.declared.note.Note.{Note}
 use Rattle.sbp_journal.specs.declared.note.Note.TheVariants as notes
 use Rattle.sbp_laws.specs.Actions.{action_notes, append_notes, new_list, new_number}
 use Rattle.sbp_laws.specs.Lists.{cmd_of}
+use Rattle.sbp_laws.specs.Packets.{id_of}
 use Rattle.sbp_laws.specs.Turns.{event_of}
 use Rattle.initiator_laws.specs.Ends.{own}
 use Rattle.initiator_laws.specs.Slots.{action_calls, dummy_calls, orb_calls, pin_calls}
@@ -35,7 +37,7 @@ use Rattle.host_terms.proofs.Beside.{find_waits, found_list}
 use Rattle.host_terms.proofs.OrbAppends.{append_fits, append_none, prepared_table}
 use Rattle.host_terms.proofs.OrbCalls.{orb_quiet, pin_quiet}
 use Rattle.host_terms.proofs.OrbFits.{AllFit, AreQuiet, NoneYet, quiet_append, quiet_calls}
-use Rattle.host_terms.proofs.OrbLinks.{dummy_fits, dummy_none, link_fits, link_none, waits_for}
+use Rattle.host_terms.proofs.OrbLinks.{dummy_fits, dummy_none, link_fits, link_none, low_fits, low_none as low_none_yet, waits_for, waits_for_low}
 use Rattle.host_terms.proofs.OrbTerms.{AreLeft, OrbTerms, orb_terms, told_left}
 use Rattle.host_terms.proofs.Readings.{read_as}
 use Rattle.host_terms.proofs.StepLaws.{step_law}
@@ -64,7 +66,7 @@ module _ (past : List Moment) (i : ℕ) (calls : List slot_runs.Call) (quads : L
 
     -- ---- an ORB is prepared
 
-    module _ (cmd : Cmd) (node login slot : ℕ) (fit : IsCommand cmd) (line : cmd_of (event_of past) ≡ Some cmd) (e : may_prepare s ≡ Ok slot) where
+    module _ (cmd : Cmd) (node login slot : ℕ) (fit : IsCommand cmd) (is_id : node ≡ id_of (terms past) (suc i)) (line : cmd_of (event_of past) ≡ Some cmd) (e : may_prepare s ≡ Ok slot) where
       abbrev u : TicketParts
       u = next_ticket s slot login
 
@@ -75,13 +77,13 @@ module _ (past : List Moment) (i : ℕ) (calls : List slot_runs.Call) (quads : L
       append n k = notes.Append i n k cmd.cdb (buffer_of cmd)
 
       prepared_fits : AllFit (orb_terms (said (append u.list u.number) ∷ past) i) (run (prepares ∷ calls) quads).notes
-      prepared_fits = append_fits past i calls quads rows cmd node login slot fit line e h none
+      prepared_fits = append_fits past i calls quads rows cmd node login slot fit is_id line e h none
 
       prepared_none : NoneYet (orb_terms (said (append u.list u.number) ∷ past) i)
-      prepared_none = append_none past i calls quads rows cmd node login slot fit line e h none
+      prepared_none = append_none past i calls quads rows cmd node login slot fit is_id line e h none
 
       table_now : (run (prepares ∷ calls) quads).table ≡ table.added s u
-      table_now = prepared_table past i calls quads rows cmd node login slot fit line e h none
+      table_now = prepared_table past i calls quads rows cmd node login slot fit is_id line e h none
 
       put_named : (n k : ℕ) → u.list ≡ n → u.number ≡ k → Done (append n k ∷ []) (prepares ∷ [])
       put_named n k a b = record {
@@ -117,8 +119,9 @@ module _ (past : List Moment) (i : ℕ) (calls : List slot_runs.Call) (quads : L
         first_fits =
             let r = run (slot_runs.LinkLow ∷ prepares ∷ calls) quads in
             let now = orb_terms (said (append u.list u.number) ∷ past) i in
+            let put = run (prepares ∷ calls) quads in
             subst (AllFit now) (sym (ap (λ x. if_some (λ (linking : Linking). slot_runs.Linked linking.before linking.tail) x r.notes) high_none))
-            (quiet_calls now (slot_runs.LinkLow ∷ []) (prepares ∷ calls) quads (tt, tt) prepared_fits)
+            (subst (AllFit now) (sym (ap (λ x. if_some (λ (linking : Linking). slot_runs.LowWritten linking.before linking.tail) x put.notes) low_none)) prepared_fits)
 
         first_done : Done (append_notes i u.list 0 cmd) (slot_runs.LinkHigh ∷ slot_runs.LinkLow ∷ prepares ∷ [])
         first_done = record {
@@ -160,15 +163,21 @@ module _ (past : List Moment) (i : ℕ) (calls : List slot_runs.Call) (quads : L
             ap (λ x. waits_high (table.low_for x r.table r.memory).1.0.present) waits_put
             ∙ ap (λ x. waits_high (table.link_set x (links.High list.tail.slot))) present_put
 
+        low_written : AllFit (orb_terms behind_low i) (run (slot_runs.LinkLow ∷ prepares ∷ calls) quads).notes
+        low_written = low_fits behind_put i (prepares ∷ calls) quads rows_put prepared_fits linking waits_put
+
+        none_low : NoneYet (orb_terms behind_low i)
+        none_low = low_none_yet behind_put i (prepares ∷ calls) quads rows_put prepared_fits linking prepared_none
+
         linked_fits : AllFit (orb_terms (said (notes.Linked i u.list u.number) ∷ behind_low) i) (run (slot_runs.LinkHigh ∷ slot_runs.LinkLow ∷ prepares ∷ calls) quads).notes
         linked_fits =
             link_fits behind_low i (slot_runs.LinkLow ∷ prepares ∷ calls) quads rows_low
-            (quiet_calls (orb_terms behind_low i) (slot_runs.LinkLow ∷ []) (prepares ∷ calls) quads (tt, tt) prepared_fits) linking waits_link
+            low_written linking waits_link
 
         linked_none : NoneYet (orb_terms (said (notes.Linked i u.list u.number) ∷ behind_low) i)
         linked_none =
             link_none behind_low i (slot_runs.LinkLow ∷ prepares ∷ calls) quads rows_low
-            (quiet_calls (orb_terms behind_low i) (slot_runs.LinkLow ∷ []) (prepares ∷ calls) quads (tt, tt) prepared_fits) linking prepared_none
+            low_written linking none_low
 
         numbered : u.number ≡ suc list.tail.number
         numbered = ap orb_number p ∙ (let f : list.tail.number + 1 ≡ suc list.tail.number = omega arith in f)
@@ -180,7 +189,7 @@ module _ (past : List Moment) (i : ℕ) (calls : List slot_runs.Call) (quads : L
         next_done = record {
           fits = subst (λ x. AllFit (linked_as x) (run (slot_runs.LinkHigh ∷ slot_runs.LinkLow ∷ prepares ∷ calls) quads).notes) numbered linked_fits;
           none = subst (λ x. NoneYet (linked_as x)) numbered linked_none;
-          others = λ j f. told_left (append_notes i u.list (suc list.tail.number) cmd) past j (ap not f, (refl, (ap not f, (refl, tt))));
+          others = λ j f. told_left (append_notes i u.list (suc list.tail.number) cmd) past j (ap not f, (ap not f, (ap not f, (refl, tt))));
         }
 
       append_done : Done (action_notes (actions.Append cmd) past i) (slot_runs.LinkHigh ∷ slot_runs.LinkLow ∷ prepares ∷ [])
@@ -228,6 +237,25 @@ module _ (past : List Moment) (i : ℕ) (calls : List slot_runs.Call) (quads : L
     list_of None t e = absurd e
     list_of (Some list) t e = sym e
 
+    low_named : (linking : Linking) → waits_low s.present ≡ Some linking → (n k : ℕ) → linking.tail.list ≡ n → linking.tail.number ≡ k → Done (notes.Low i n k ∷ []) (slot_runs.LinkLow ∷ [])
+    low_named linking w n k a b = record {
+      fits = subst (λ x. AllFit (orb_terms (said (notes.Low i x k) ∷ past) i) (run (slot_runs.LinkLow ∷ calls) quads).notes) a
+          (subst (λ x. AllFit (orb_terms (said (notes.Low i linking.tail.list x) ∷ past) i) (run (slot_runs.LinkLow ∷ calls) quads).notes) b (low_fits past i calls quads rows h linking w));
+      none = subst (λ x. NoneYet (orb_terms (said (notes.Low i x k) ∷ past) i)) a
+          (subst (λ x. NoneYet (orb_terms (said (notes.Low i linking.tail.list x) ∷ past) i)) b (low_none_yet past i calls quads rows h linking none));
+      others = λ j f. told_left (notes.Low i n k ∷ []) past j (ap not f, tt);
+    }
+
+    low_done : is_some (waits_low s.present) ≡ true → Done (action_notes actions.Low past i) (slot_runs.LinkLow ∷ [])
+    low_done e =
+        let f = some_linking (waits_low s.present) e in
+        let q = waits_for_low s.present f.0 f.1 in
+        low_named f.0 f.1 (new_list past i) (new_number past i - 1)
+        (ap (λ (x : TicketParts). x.list) (sym q.tail) ∙ (sym (ap (λ x. list_number x s.lists) q.is) ∙ sym read.list))
+        (ap (λ (x : TicketParts). x.number) (sym q.tail)
+        ∙ ((let g : q.list.tail.number ≡ q.list.tail.number + 1 - 1 = omega arith in g)
+        ∙ (sym (ap (λ x. orb_number x - 1) q.is) ∙ sym (ap (λ x. x - 1) read.number))))
+
     dummy_named : (number : ℕ) (u : TicketParts) → find_in s.slots number ≡ Some u → (n k : ℕ) → u.list ≡ n → u.number ≡ k → Done (notes.Dummied i n k ∷ []) (slot_runs.MakeDummy u ∷ [])
     dummy_named number u found n k a b = record {
       fits = subst (λ x. AllFit (orb_terms (said (notes.Dummied i x k) ∷ past) i) (run (slot_runs.MakeDummy u ∷ calls) quads).notes) a
@@ -254,10 +282,7 @@ module _ (past : List Moment) (i : ℕ) (calls : List slot_runs.Call) (quads : L
     not_off true e = refl
     not_off false e = cc
 
-    module _ (state : InitiatorState) (same : s ≡ state.lists.slots) where
-      low_done : Done (action_notes actions.Low past i) (slot_runs.LinkLow ∷ [])
-      low_done = quiet_done (action_notes actions.Low past i) (slot_runs.LinkLow ∷ []) (λ j. (refl, tt)) (tt, tt)
-
+    module _ (state : InitiatorState) (same : s ≡ state.lists.slots) (is_id : state.layer.node ≡ id_of (terms past) (suc i)) where
       silent : (later : List slot_runs.Call) → AreQuiet later → Done [] later
       silent later q = quiet_done [] later (λ j. tt) q
 
@@ -265,9 +290,9 @@ module _ (past : List Moment) (i : ℕ) (calls : List slot_runs.Call) (quads : L
       slot_for e = is_ok_slot (may_prepare s) (ap (λ x. is_ok (may_prepare x)) same ∙ e)
 
       pub act_done : (action : Action) → Goes action state → IsAction action → event_of past ≡ Some (events.Act i action) → Done (action_notes action past i) (action_calls action state)
-      act_done (actions.Put cmd) g fit line = let f = slot_for (g.allowed.prepares refl) in put_done cmd state.layer.node (login_id state) f.0 fit (ap cmd_of line) f.1
-      act_done (actions.Append cmd) g fit line = let f = slot_for (g.allowed.prepares refl) in append_done cmd state.layer.node (login_id state) f.0 fit (ap cmd_of line) f.1
-      act_done actions.Low g fit line = low_done
+      act_done (actions.Put cmd) g fit line = let f = slot_for (g.allowed.prepares refl) in put_done cmd state.layer.node (login_id state) f.0 fit is_id (ap cmd_of line) f.1
+      act_done (actions.Append cmd) g fit line = let f = slot_for (g.allowed.prepares refl) in append_done cmd state.layer.node (login_id state) f.0 fit is_id (ap cmd_of line) f.1
+      act_done actions.Low g fit line = low_done (ap (λ (x : SlotTable). is_some (waits_low x.present)) same ∙ not_off (is_some (waits_low state.lists.slots.present)) g.rows.not_linking)
       act_done actions.Link g fit line = link_done (ap (λ (x : SlotTable). is_some (waits_high x.present)) same ∙ not_off (is_some (waits_high state.lists.slots.present)) g.rows.not_linking)
       act_done actions.Ring g fit line = quiet_done (action_notes actions.Ring past i) [] (λ j. (refl, tt)) tt
       act_done (actions.Dummy k) g fit line =

@@ -1,17 +1,16 @@
 -- The ORBs of the slots, and what the history says of them; and the calls of the slots that leave that.
-use Rattle.std.proofs.Common.{◌≡◌, refl, sym, subst, ℕ, suc, ◌<◌, ◌≤◌, ◌==◌, nat_lt, Bool, true, false, cond, List, [], ◌∷◌, ◌++◌, Option, Some, None, Result, Ok, Err}
+use Rattle.std.proofs.Common.{◌≡◌, refl, sym, subst, ℕ, suc, ◌<◌, ◌≤◌, nat_le, nat_lt, false, cond, List, [], ◌∷◌, ◌++◌, Option, Some, None, Result, Ok, Err}
 use Rattle.bus_memory.specs.Memory.{Memory}
 use Rattle.bus_memory.specs.declared.window.Window.TheVariants as windows
 use Rattle.bus_memory.specs.Windows.{start}
 use Rattle.orb_layout.specs.declared.pointer.OrbPointer.{OrbPointer}
 use Rattle.orb_layout.specs.declared.pointer.OrbPointer.TheVariants.{Null, At}
+use Rattle.orb_layout.specs.Pointers.{pointer_low}
 use Rattle.orb_list.specs.declared.fault.ListFault.{ListFault}
-use Rattle.orb_list.specs.declared.list.Linking.{Linking}
-use Rattle.orb_list.specs.Kept.{Kept, in_slot, kept_in, low_is}
-use Rattle.orb_list.specs.Runs.{Call, Prepare, LinkLow, LinkHigh, MakeDummy, TakeStatus, DropList, FreeAll, Pin, Unpin, TryWrite, Fill, SetQuad, Note, LowWritten, Taken, Dropped, Pinned, Unpinned, if_ok, if_some, noted_by, run}
+use Rattle.orb_list.specs.Kept.{Kept, kept_in}
+use Rattle.orb_list.specs.Runs.{Call, Prepare, LinkLow, LinkHigh, MakeDummy, TakeStatus, DropList, FreeAll, Pin, Unpin, TryWrite, Fill, SetQuad, Note, Taken, Dropped, Pinned, Unpinned, if_ok, if_some, noted_by, run}
 use Rattle.orb_list.specs.Table as table
-use Rattle.orb_list.specs.Table.{SlotTable, waits_low}
-use Rattle.orb_list.specs.Tickets.{TicketParts}
+use Rattle.orb_list.specs.Table.{SlotTable}
 use Rattle.sbp_initiator.specs.Commands.{IsCommand, asked_by}
 use Rattle.sbp_journal.specs.declared.event.Cmd.{Cmd}
 use Rattle.host_terms.specs.Orbs.{request_of}
@@ -24,15 +23,24 @@ next_in t n k = cond (nat_lt (suc k) (t.linked n)) (At (start (windows.Orb (t.pl
 abbrev pub format_in : OrbTerms → (n k : ℕ) → ℕ
 format_in t n k = cond (t.dummy n k) 3 0
 
+-- the low quadlet of the ORB behind one, where that was written
+abbrev pub low_to : ℕ → ℕ
+low_to slot = pointer_low (At (start (windows.Orb slot)))
+
+abbrev pub low_in : OrbTerms → (n k : ℕ) → ℕ
+low_in t n k = cond (nat_le (suc k) (t.lowered n)) (low_to (t.place n (suc k))) 0
+
 pub record OrbFits (t : OrbTerms) (o : Kept) : Type 0 where
   pub cmd : Cmd
   pub node : ℕ
   pub login : ℕ
+  pub at : node ≡ t.id o.ticket.list o.ticket.number
   pub fits : IsCommand cmd
   pub asked : o.asked ≡ asked_by cmd node login
   pub command : t.command o.ticket.list o.ticket.number ≡ Some cmd
   pub request : t.request o.ticket.list o.ticket.number ≡ Some (request_of cmd)
   pub next : o.next ≡ next_in t o.ticket.list o.ticket.number
+  pub low : o.low ≡ low_in t o.ticket.list o.ticket.number
   pub format : o.format ≡ format_in t o.ticket.list o.ticket.number
 
 abbrev pub IfFits : OrbTerms → Option Kept → Type 0
@@ -50,6 +58,7 @@ NoneYet t = (n k : ℕ) → t.appended n ≤ k → t.dummy n k ≡ false
 
 abbrev pub IsQuiet : Call → Type 0
 IsQuiet (Prepare asked) = ⊥
+IsQuiet LinkLow = ⊥
 IsQuiet LinkHigh = ⊥
 IsQuiet (MakeDummy t) = ⊥
 IsQuiet _ = Unit {0}
@@ -74,31 +83,9 @@ module _ (t : OrbTerms) (ns : List Note) (h : AllFit t ns) where
   quiet_some note (Some x) e = same_fit (note x ∷ ns) (e x)
   quiet_some note None e = h
 
-  low_if : (tail : TicketParts) (b : Bool) (o : Kept) → OrbFits t o → OrbFits t (cond b (low_is tail o) o)
-  low_if tail false o f = f
-  low_if tail true o f = record {
-    cmd = f.cmd;
-    node = f.node;
-    login = f.login;
-    fits = f.fits;
-    asked = f.asked;
-    command = f.command;
-    request = f.request;
-    next = f.next;
-    format = f.format;
-  }
-
-  low_fits : (before : ℕ) (tail : TicketParts) (k : ℕ) (found : Option Kept) → IfFits t found → IfFits t (in_slot before k (low_is tail) found)
-  low_fits before tail k None f = tt
-  low_fits before tail k (Some o) f = low_if tail (k == before) o f
-
-  quiet_low : (found : Option Linking) → AllFit t (if_some (λ (linking : Linking). LowWritten linking.before linking.tail) found ns)
-  quiet_low None = h
-  quiet_low (Some linking) = λ k b. low_fits linking.before linking.tail k (kept_in ns k) (h k b)
-
   quiet_call : (call : Call) (s : SlotTable) (m : Memory) → IsQuiet call → AllFit t (noted_by call s m ns)
   quiet_call (Prepare asked) s m q = absurd q
-  quiet_call LinkLow s m q = quiet_low (waits_low s.present)
+  quiet_call LinkLow s m q = absurd q
   quiet_call LinkHigh s m q = absurd q
   quiet_call (MakeDummy u) s m q = absurd q
   quiet_call (TakeStatus block) s m q = quiet_ok (λ u. Taken u block) (table.status_step s m block).0 (λ x k. refl)

@@ -1,5 +1,5 @@
 -- The ORBs of an initiator's slots fit the history of a run, behind each of its lines and deliveries.
-use Rattle.std.proofs.Common.{◌≡◌, refl, sym, ap, subst, ◌∙◌, ℕ, suc, ◌<◌, ◌==◌, Bool, true, false, List, [], ◌∷◌, ◌++◌, map, Option, Some, None}
+use Rattle.std.proofs.Common.{arith, ◌+◌, ◌≤◌, nat_eq, cond, length, ◌≡◌, refl, sym, ap, subst, ◌∙◌, ℕ, suc, ◌<◌, ◌==◌, Bool, true, false, List, [], ◌∷◌, ◌++◌, map, Option, Some, None}
 use Rattle.async_packet.specs.Labels.{LabelParts}
 use Rattle.label_table.specs.declared.judgement.Asked.{Asked as Label}
 use Rattle.label_table.specs.Layer.{Layer}
@@ -18,16 +18,27 @@ use Rattle.sbp_initiator.specs.Seeing.{see_step}
 use Rattle.sbp_bus.specs.Packets.{judged_note}
 use Rattle.sbp_journal.specs.Run.{Moment, asked, said}
 use Rattle.sbp_journal.specs.Outgoings.{OutboxState, empty_outbox}
+use Rattle.sbp_journal.specs.Wire.{Terms, ids_of, terms}
 use Rattle.sbp_journal.specs.declared.event.Action.{Action}
+use Rattle.sbp_journal.specs.declared.event.Event.{Event}
 use Rattle.sbp_journal.specs.declared.event.Event.TheVariants as events
 use Rattle.sbp_journal.specs.declared.note.Note.{Note}
 use Rattle.sbp_journal.specs.declared.note.Note.TheVariants as notes
 use Rattle.sbp_laws.specs.Actions.{action_notes}
+use Rattle.sbp_laws.specs.Packets.{id_of}
 use Rattle.sbp_laws.specs.Turns.{event_of}
 use Rattle.sbp_world.specs.Histories.{history_of}
 use Rattle.sbp_world.specs.Runs.{Run, after as world_after, beginning}
 use Rattle.sbp_world.specs.Settling.{MayAll, after_all}
-use Rattle.sbp_world.specs.Worlds.{begun, initiator_at}
+use Rattle.sbp_world.specs.Worlds.{WorldState, begun, initiator_at}
+use Rattle.sbp_world.specs.Wire.Wires.{Stands}
+use Rattle.sbp_world.proofs.FitInitiator.Law.{fitting_law as own_fitting_law}
+use Rattle.sbp_world.proofs.FitTarget.Law.{fitting_law}
+use Rattle.sbp_world.proofs.Wire.Bus.{aged, holds}
+use Rattle.sbp_world.proofs.Wire.Runs.{sound_after}
+use Rattle.bus_transactions.specs.Wire.{Node}
+use Rattle.std.proofs.lemmas.Bool.Decides.{nat_tests}
+use Rattle.host_terms.specs.Handing.{history}
 use Rattle.initiator_laws.specs.Ends.{own}
 use Rattle.initiator_laws.specs.Laws.{AreCalls, Call, IsCall, acts, after, done, lets_expire, receives, sees}
 use Rattle.initiator_laws.specs.Slots.{action_calls, calls_if, slot_calls, slot_calls_after}
@@ -63,9 +74,12 @@ pub record Orbs (ready : Bool) (past : List Moment) (i : ℕ) (s : InitiatorStat
   pub kept : AllFit (orb_terms past i) (slot_notes ready i calls)
   pub none : NoneYet (orb_terms past i)
 
--- its rows, as a line begins
-abbrev pub Rowed : List Moment → ℕ → InitiatorState → Type 0
-Rowed past i s = AreRows past i s.lists.slots
+-- its rows, and its node ID, as a line begins
+pub record Rowed (past : List Moment) (i : ℕ) (s : InitiatorState) : Type 0 where
+  pub rows : AreRows past i s.lists.slots
+  pub is_id : s.layer.node ≡ id_of (terms past) (suc i)
+  -- its generation is no later one than the latest
+  pub aged : (terms past).generation (suc i) ≤ (terms past).bus
 
 module _ (ready : Bool) where
   -- another history that says the same of its ORBs
@@ -168,7 +182,7 @@ goes : (action : Action) (o : OutboxState) (s : InitiatorState) → (act_step ac
 unfolding act_step
 goes action o s e = goes_by action o s (refusal action (facts_with true s action)) refl e
 
-module _ (ready : Bool) (action : Action) (past : List Moment) (i : ℕ) (s : InitiatorState) (line : event_of past ≡ Some (events.Act i action)) (fit : IsAction action) (no_refusal : (act_step action empty_outbox s).0 ≡ None) (rows : AreRows past i s.lists.slots) (h : Orbs ready past i s) where
+module _ (ready : Bool) (action : Action) (past : List Moment) (i : ℕ) (s : InitiatorState) (line : event_of past ≡ Some (events.Act i action)) (fit : IsAction action) (no_refusal : (act_step action empty_outbox s).0 ≡ None) (known : Rowed past i s) (h : Orbs ready past i s) where
   abbrev t : Turn
   t = (act_step action empty_outbox s).1
 
@@ -181,11 +195,11 @@ module _ (ready : Bool) (action : Action) (past : List Moment) (i : ℕ) (s : In
 
   does : Done past i slots_before (own_rom i) (action_notes action past i) (action_calls action s)
   does =
-      act_done past i slots_before (own_rom i) (subst (AreRows past i) (sym table_same) rows) h.kept h.none s table_same action (goes action empty_outbox s no_refusal) fit line
+      act_done past i slots_before (own_rom i) (subst (AreRows past i) (sym table_same) known.rows) h.kept h.none s table_same known.is_id action (goes action empty_outbox s no_refusal) fit line
 
   sides_are : t.0.sides ≡ own (action_notes action past i)
   sides_are =
-      action_law.notes past s action empty_outbox (subst (λ j. AreRows past j s.lists.slots) (sym h.number) rows) no_refusal
+      action_law.notes past s action empty_outbox (subst (λ j. AreRows past j s.lists.slots) (sym h.number) known.rows) no_refusal
       ∙ ap (λ j. own (action_notes action past j)) h.number
 
   -- what its slots did
@@ -214,9 +228,33 @@ module _ (ready : Bool) (action : Action) (past : List Moment) (i : ℕ) (s : In
 
 -- ---- a run
 
-orbs_carried : (ready : Bool) → Carries Rowed (Orbs ready)
+-- a reset tells the IDs of the generation that it begins
+other_generation : (generation bus : ℕ) (first other : ℕ → ℕ) (node : ℕ) → generation ≤ bus → cond (nat_eq generation (bus + 1)) first other node ≡ other node
+other_generation generation bus first other node h =
+    let e : nat_eq generation (bus + 1) ≡ false = grind (arith, nat_tests) in ap (λ b. cond b first other node) e
+
+known_asked : (line : ℕ) (event : Event) (past : List Moment) (i : ℕ) (s : InitiatorState) → Rowed past i s → Rowed (asked line event ∷ past) i s
+known_asked line (events.Reset physical) past i s r = record {
+  rows = r.rows;
+  is_id = r.is_id ∙ sym (other_generation ((terms past).generation (suc i)) (terms past).bus (ids_of physical) ((terms past).ids ((terms past).generation (suc i))) (suc i) r.aged);
+  aged = r.aged;
+}
+known_asked line (events.Begin initiators ready) past i s r = record { rows = r.rows; is_id = r.is_id; aged = r.aged }
+known_asked line (events.Act j action) past i s r = record { rows = r.rows; is_id = r.is_id; aged = r.aged }
+known_asked line (events.See node) past i s r = record { rows = r.rows; is_id = r.is_id; aged = r.aged }
+known_asked line (events.Deliver serial) past i s r = record { rows = r.rows; is_id = r.is_id; aged = r.aged }
+known_asked line (events.Repeat serial) past i s r = record { rows = r.rows; is_id = r.is_id; aged = r.aged }
+known_asked line (events.Lose serial) past i s r = record { rows = r.rows; is_id = r.is_id; aged = r.aged }
+known_asked line (events.Timeout serial) past i s r = record { rows = r.rows; is_id = r.is_id; aged = r.aged }
+known_asked line (events.Step count) past i s r = record { rows = r.rows; is_id = r.is_id; aged = r.aged }
+known_asked line events.Settle past i s r = record { rows = r.rows; is_id = r.is_id; aged = r.aged }
+known_asked line events.Tick past i s r = record { rows = r.rows; is_id = r.is_id; aged = r.aged }
+known_asked line (events.Inject initiator bytes) past i s r = record { rows = r.rows; is_id = r.is_id; aged = r.aged }
+known_asked line (events.Key unit key) past i s r = record { rows = r.rows; is_id = r.is_id; aged = r.aged }
+
+pub orbs_carried : (ready : Bool) → Carries Rowed (Orbs ready)
 orbs_carried ready = record {
-  known = λ line event past i s r. r;
+  known = λ line event past i s r. known_asked line event past i s r;
   number = λ past i s h. h.number;
   asked = λ line event past i s h. said_still ready past (asked line event ∷ past) i s refl h;
   apart = λ note past i s e h. apart_still ready note past i s e h;
@@ -225,11 +263,32 @@ orbs_carried ready = record {
   expires = expires_still ready;
   stale = λ label past i s e h. still_on ready past i s h (lets_expire label) tt (expires_quiet label (after i ready h.calls));
   sees = λ generation id target past i s e h. sees_still ready generation id target past i s h;
-  acts = λ action past i s line fit d rows h. acts_does ready action past i s line fit d rows h;
+  acts = λ action past i s line fit d known h. acts_does ready action past i s line fit d known h;
 }
 
+-- what the wire tells of its node ID
+pub record IdKnown (past : List Moment) (i : ℕ) (s : InitiatorState) : Type 0 where
+  pub is_id : s.layer.node ≡ id_of (terms past) (suc i)
+  pub aged : (terms past).generation (suc i) ≤ (terms past).bus
+
+pub id_known : {past : List Moment} (w : WorldState) → Stands past w → (i : ℕ) → suc i ≤ length w.initiators → IdKnown (history w past) i (initiator_at w i)
+id_known {past} w h i l =
+    let k = (holds h.wire h.reached).nodes (suc i) in
+    let same : terms h.wire.past ≡ terms (history w past) = ap terms h.is.past_is in
+    let layer : (h.wire.layer (suc i)).generation ≡ (terms h.wire.past).generation (suc i) = k.generation in
+    let old : (h.wire.layer (suc i)).generation ≤ (terms h.wire.past).bus = aged h.wire (suc i) h.reached in
+    record {
+      is_id = sym (ap (λ (n : Node). n.node) (h.is.layers_are (suc i) l)) ∙ (k.id ∙ ap (λ (t : Terms). id_of t (suc i)) same);
+      aged = subst (λ (t : Terms). t.generation (suc i) ≤ t.bus) same (omega arith);
+    }
+
 rows_known : (line : ℕ) (run : Run) → Knows Rowed line run
-rows_known line run entries few short all fit i b = (are_after line run entries few short all fit i b).rows
+rows_known line run entries few short all fit i b =
+    let sound = sound_after fitting_law own_fitting_law line run entries few short all fit in
+    let w = (world_after (beginning run) entries).world in
+    let k : IdKnown (history w sound.past) i (initiator_at w i) = id_known w sound.sound.stands i (omega arith) in
+    let now = subst (λ ms. IdKnown ms i (initiator_at w i)) sound.is k in
+    record { rows = (are_after line run entries few short all fit i b).rows; is_id = now.is_id; aged = now.aged }
 
 first_orbs : (line i initiators : ℕ) (ready : Bool) → Orbs ready (said (notes.Begin initiators ready) ∷ asked line (events.Begin initiators ready) ∷ []) i (new_state i ready)
 unfolding new_state

@@ -1,14 +1,18 @@
 -- What the history says of the ORBs of an initiator, and the notes that leave it.
-use Rattle.std.proofs.Common.{◌≡◌, refl, ◌∙◌, ap, ℕ, zero, suc, ◌==◌, nat_eq, not, Bool, true, false, cond, List, [], ◌∷◌, Option, Some}
+use Rattle.std.proofs.Common.{arith, ◌≡◌, refl, ◌∙◌, ap, ℕ, zero, suc, ◌==◌, ◌&&◌, nat_eq, not, Bool, true, false, cond, List, [], ◌∷◌, Option, Some}
+use Rattle.std.proofs.lemmas.Bool.Decides.{nat_tests}
 use Rattle.std.specs.List.{AllByRecursion}
 use Rattle.sbp_journal.specs.Run.{Moment, said}
+use Rattle.sbp_journal.specs.Wire.{terms}
 use Rattle.sbp_journal.specs.declared.event.Cmd.{Cmd}
 use Rattle.sbp_journal.specs.declared.note.Note.{Note}
 use Rattle.sbp_journal.specs.declared.note.Note.TheVariants as notes
 use Rattle.sbp_journal.specs.declared.note.NoteBuffer.{NoteBuffer}
 use Rattle.sbp_journal.specs.declared.side.Side.{Side}
 use Rattle.sbp_journal.specs.declared.side.Side.TheVariants as sides
-use Rattle.sbp_laws.specs.Lists.{cmd_of, command_at, is_dummy, linked, lowest_vacant, slot_at, slots}
+use Rattle.sbp_laws.specs.Lists.{cmd_of, command_at, is_dummy, linked, lowered, lowest_vacant, slot_at, slots}
+use Rattle.sbp_laws.specs.Packets.{id_of}
+use Rattle.sbp_laws.specs.Served.{id_as_prepared}
 use Rattle.sbp_laws.specs.Terms.{Request, appends, request_at}
 use Rattle.sbp_laws.specs.Turns.{event_of}
 use Rattle.initiator_laws.specs.Ends.{own}
@@ -21,8 +25,11 @@ pub record OrbTerms : Type 0 where
   pub command : ℕ → ℕ → Option Cmd
   pub appended : ℕ → ℕ
   pub linked : ℕ → ℕ
+  pub lowered : ℕ → ℕ
   pub place : ℕ → ℕ → ℕ
   pub dummy : ℕ → ℕ → Bool
+  -- the node ID that its initiator had at its append
+  pub id : ℕ → ℕ → ℕ
 
 abbrev pub orb_terms : List Moment → ℕ → OrbTerms
 orb_terms past i = record {
@@ -30,20 +37,24 @@ orb_terms past i = record {
   command = command_at past i;
   appended = appends past i;
   linked = linked past i;
+  lowered = lowered past i;
   place = slot_at past i;
   dummy = is_dummy past i;
+  id = id_as_prepared past i;
 }
 
 -- ---- what a note of an initiator says, and what it says of another one
 
-abbrev pub with_append : Bool → (n k : ℕ) → Option Request → Option Cmd → (more slot : ℕ) → (ℕ → ℕ) → OrbTerms → OrbTerms
-with_append b n k request command more slot linked t = record {
+abbrev pub with_append : (b same : Bool) → (n k : ℕ) → Option Request → Option Cmd → (more slot node : ℕ) → (ℕ → ℕ) → OrbTerms → OrbTerms
+with_append b same n k request command more slot node linked t = record {
   request = λ m l. cond b (cond (nat_eq m n) (cond (nat_eq l k) request (t.request m l)) (t.request m l)) (t.request m l);
   command = λ m l. cond b (cond (nat_eq m n) (cond (nat_eq l k) command (t.command m l)) (t.command m l)) (t.command m l);
   appended = λ m. cond b (cond (nat_eq m n) more (t.appended m)) (t.appended m);
   linked = linked;
+  lowered = t.lowered;
   place = λ m l. cond b (cond (nat_eq m n) (cond (nat_eq l k) slot (t.place m l)) (t.place m l)) (t.place m l);
   dummy = t.dummy;
+  id = λ m l. cond (same && nat_eq n m && nat_eq k l) node (t.id m l);
 }
 
 -- the first ORB of a list is linked at once
@@ -53,20 +64,26 @@ first_linked b n t = λ m. cond b (cond (nat_eq m n) 1 (t.linked m)) (t.linked m
 abbrev pub with_link : Bool → (n k : ℕ) → OrbTerms → OrbTerms
 with_link b n k t = record t { linked = λ m. cond b (cond (nat_eq m n) (suc k) (t.linked m)) (t.linked m) }
 
+abbrev pub with_low : Bool → (n k : ℕ) → OrbTerms → OrbTerms
+with_low b n k t = record t { lowered = λ m. cond b (cond (nat_eq m n) k (t.lowered m)) (t.lowered m) }
+
 abbrev pub with_dummy : Bool → (n k : ℕ) → OrbTerms → OrbTerms
 with_dummy b n k t = record t { dummy = λ m l. cond b (cond (nat_eq m n) (cond (nat_eq l k) true (t.dummy m l)) (t.dummy m l)) (t.dummy m l) }
 
 module _ (past : List Moment) (i : ℕ) where
-  pub append_first : (n : ℕ) (cdb : List ℕ) (buffer : NoteBuffer) → orb_terms (said (notes.Append i n zero cdb buffer) ∷ past) i ≡ with_append true n 0 (Some (record { cdb = cdb; buffer = buffer })) (cmd_of (event_of past)) (suc (appends past i n)) (lowest_vacant (slots past i)) (first_linked true n (orb_terms past i)) (orb_terms past i)
+  pub append_first : (n : ℕ) (cdb : List ℕ) (buffer : NoteBuffer) → orb_terms (said (notes.Append i n zero cdb buffer) ∷ past) i ≡ with_append true true n 0 (Some (record { cdb = cdb; buffer = buffer })) (cmd_of (event_of past)) (suc (appends past i n)) (lowest_vacant (slots past i)) (id_of (terms past) (suc i)) (first_linked true n (orb_terms past i)) (orb_terms past i)
   append_first n cdb buffer =
-      ap (λ b. with_append b n 0 (Some (record { cdb = cdb; buffer = buffer })) (cmd_of (event_of past)) (suc (appends past i n)) (lowest_vacant (slots past i)) (first_linked b n (orb_terms past i)) (orb_terms past i)) (itself i)
+      ap (λ b. with_append b b n 0 (Some (record { cdb = cdb; buffer = buffer })) (cmd_of (event_of past)) (suc (appends past i n)) (lowest_vacant (slots past i)) (id_of (terms past) (suc i)) (first_linked b n (orb_terms past i)) (orb_terms past i)) (itself i)
 
-  pub append_next : (n k : ℕ) (cdb : List ℕ) (buffer : NoteBuffer) → orb_terms (said (notes.Append i n (suc k) cdb buffer) ∷ past) i ≡ with_append true n (suc k) (Some (record { cdb = cdb; buffer = buffer })) (cmd_of (event_of past)) (suc (appends past i n)) (lowest_vacant (slots past i)) (linked past i) (orb_terms past i)
+  pub append_next : (n k : ℕ) (cdb : List ℕ) (buffer : NoteBuffer) → orb_terms (said (notes.Append i n (suc k) cdb buffer) ∷ past) i ≡ with_append true true n (suc k) (Some (record { cdb = cdb; buffer = buffer })) (cmd_of (event_of past)) (suc (appends past i n)) (lowest_vacant (slots past i)) (id_of (terms past) (suc i)) (linked past i) (orb_terms past i)
   append_next n k cdb buffer =
-      ap (λ b. with_append b n (suc k) (Some (record { cdb = cdb; buffer = buffer })) (cmd_of (event_of past)) (suc (appends past i n)) (lowest_vacant (slots past i)) (linked past i) (orb_terms past i)) (itself i)
+      ap (λ b. with_append b b n (suc k) (Some (record { cdb = cdb; buffer = buffer })) (cmd_of (event_of past)) (suc (appends past i n)) (lowest_vacant (slots past i)) (id_of (terms past) (suc i)) (linked past i) (orb_terms past i)) (itself i)
 
   pub link_said : (n k : ℕ) → orb_terms (said (notes.Linked i n k) ∷ past) i ≡ with_link true n k (orb_terms past i)
   link_said n k = ap (λ b. with_link b n k (orb_terms past i)) (itself i)
+
+  pub low_said : (n k : ℕ) → orb_terms (said (notes.Low i n k) ∷ past) i ≡ with_low true n k (orb_terms past i)
+  low_said n k = ap (λ b. with_low b n k (orb_terms past i)) (itself i)
 
   pub dummy_said : (n k : ℕ) → orb_terms (said (notes.Dummied i n k) ∷ past) i ≡ with_dummy true n k (orb_terms past i)
   dummy_said n k = ap (λ b. with_dummy b n k (orb_terms past i)) (itself i)
@@ -75,6 +92,7 @@ module _ (past : List Moment) (i : ℕ) where
 
 abbrev pub is_left : ℕ → Note → Bool
 is_left i (notes.Append j n k cdb buffer) = not (i == j)
+is_left i (notes.Low j n k) = not (i == j)
 is_left i (notes.Linked j n k) = not (i == j)
 is_left i (notes.Dummied j n k) = not (i == j)
 is_left i _ = true
@@ -83,14 +101,19 @@ not_here : (b : Bool) → not b ≡ true → b ≡ false
 not_here true e = cc
 not_here false e = refl
 
+other_way : (i j : ℕ) → nat_eq i j ≡ false → nat_eq j i ≡ false
+other_way i j e = grind (arith, nat_tests)
+
 pub orbs_left : (note : Note) (past : List Moment) (i : ℕ) → is_left i note ≡ true → orb_terms (said note ∷ past) i ≡ orb_terms past i
 orbs_left (notes.Append j n zero cdb buffer) past i e =
-    ap (λ b. with_append b n 0 (Some (record { cdb = cdb; buffer = buffer })) (cmd_of (event_of past)) (suc (appends past j n)) (lowest_vacant (slots past j)) (first_linked b n (orb_terms past i)) (orb_terms past i)) (not_here (nat_eq i j) e)
+    ap (λ b. with_append b (nat_eq j i) n 0 (Some (record { cdb = cdb; buffer = buffer })) (cmd_of (event_of past)) (suc (appends past j n)) (lowest_vacant (slots past j)) (id_of (terms past) (suc i)) (first_linked b n (orb_terms past i)) (orb_terms past i)) (not_here (nat_eq i j) e)
+    ∙ ap (λ b. with_append false b n 0 (Some (record { cdb = cdb; buffer = buffer })) (cmd_of (event_of past)) (suc (appends past j n)) (lowest_vacant (slots past j)) (id_of (terms past) (suc i)) (first_linked false n (orb_terms past i)) (orb_terms past i)) (other_way i j (not_here (nat_eq i j) e))
 orbs_left (notes.Append j n (suc k) cdb buffer) past i e =
-    ap (λ b. with_append b n (suc k) (Some (record { cdb = cdb; buffer = buffer })) (cmd_of (event_of past)) (suc (appends past j n)) (lowest_vacant (slots past j)) (linked past i) (orb_terms past i)) (not_here (nat_eq i j) e)
+    ap (λ b. with_append b (nat_eq j i) n (suc k) (Some (record { cdb = cdb; buffer = buffer })) (cmd_of (event_of past)) (suc (appends past j n)) (lowest_vacant (slots past j)) (id_of (terms past) (suc i)) (linked past i) (orb_terms past i)) (not_here (nat_eq i j) e)
+    ∙ ap (λ b. with_append false b n (suc k) (Some (record { cdb = cdb; buffer = buffer })) (cmd_of (event_of past)) (suc (appends past j n)) (lowest_vacant (slots past j)) (id_of (terms past) (suc i)) (linked past i) (orb_terms past i)) (other_way i j (not_here (nat_eq i j) e))
 orbs_left (notes.Linked j n k) past i e = ap (λ b. with_link b n k (orb_terms past i)) (not_here (nat_eq i j) e)
 orbs_left (notes.Dummied j n k) past i e = ap (λ b. with_dummy b n k (orb_terms past i)) (not_here (nat_eq i j) e)
-orbs_left (notes.Low j n k) past i e = refl
+orbs_left (notes.Low j n k) past i e = ap (λ b. with_low b n k (orb_terms past i)) (not_here (nat_eq i j) e)
 orbs_left (notes.Taken j n k status answer) past i e = refl
 orbs_left (notes.Drop j n) past i e = refl
 orbs_left (notes.Op j operation word) past i e = refl
@@ -129,7 +152,7 @@ apart_left : (note : Note) (i : ℕ) → is_apart i note ≡ true → is_left i 
 apart_left (notes.Append j n k cdb buffer) i e = e
 apart_left (notes.Linked j n k) i e = e
 apart_left (notes.Dummied j n k) i e = e
-apart_left (notes.Low j n k) i e = refl
+apart_left (notes.Low j n k) i e = e
 apart_left (notes.Taken j n k status answer) i e = refl
 apart_left (notes.Drop j n) i e = refl
 apart_left (notes.Op j operation word) i e = refl

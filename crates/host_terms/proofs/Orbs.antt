@@ -46,7 +46,7 @@ use Rattle.host_terms.proofs.Runs.{run_law}
 -- ---- which ORB was prepared last in a slot
 
 -- the ORB of a slot has the name that the history says
-found_kept : (last : Option TicketParts) (found : Option Kept) (one : Orb) → Same last found → name_in last ≡ Some one → (o : Kept) × ((found ≡ Some o) × (name o.ticket ≡ one))
+pub found_kept : (last : Option TicketParts) (found : Option Kept) (one : Orb) → Same last found → name_in last ≡ Some one → (o : Kept) × ((found ≡ Some o) × (name o.ticket ≡ one))
 found_kept None found one h e = absurd (differ e)
   where
     differ : None ≡ Some one → ⊥
@@ -85,35 +85,35 @@ in_use_last past i s r k one b e =
 -- ---- an ORB stands in its slot
 
 module _ (ready : Bool) (past : List Moment) (i : ℕ) (s : InitiatorState) (rows : AreRows past i s.lists.slots) (h : Orbs ready past i s) where
-  abbrev calls : List slot_runs.Call
+  abbrev pub calls : List slot_runs.Call
   calls = slot_calls_after i ready h.calls
 
-  abbrev memory : Memory
+  abbrev pub memory : Memory
   memory = s.lists.memory
 
-  slots_of : AreSlotsOf (own_rom i) calls s.lists
+  pub slots_of : AreSlotsOf (own_rom i) calls s.lists
   slots_of = subst (λ (x : InitiatorState). AreSlotsOf (own_rom i) calls x.lists) h.is (slot_law i ready h.calls h.called)
 
-  rows_of : AreRows past i (run calls (own_rom i)).table
+  pub rows_of : AreRows past i (run calls (own_rom i)).table
   rows_of = subst (AreRows past i) (sym slots_of.table) rows
 
-  whole : IsWhole memory
+  pub whole : IsWhole memory
   whole = subst IsWhole slots_of.memory (held_law.run_held calls (own_rom i) slots_of.proper).whole
 
   abbrev turn : Turn
   turn = after i ready h.calls
 
-  reads : ReadsAfter i calls (held_after i ready h.calls) turn
+  pub reads : ReadsAfter i calls (held_after i ready h.calls) turn
   reads = reads_law.reads i ready h.calls h.called
 
-  holds : (k : ℕ) → k < 32 → IfHoldsOrb (kept_in (run calls (own_rom i)).notes k) (slot_at memory k)
+  pub holds : (k : ℕ) → k < 32 → IfHoldsOrb (kept_in (run calls (own_rom i)).notes k) (slot_at memory k)
   holds k b = subst (λ (x : InitiatorState). IfHoldsOrb (kept_in (run calls (own_rom i)).notes k) (slot_at x.lists.memory k)) h.is (reads.orb k b)
 
   read_gives : (k : ℕ) (out : List ℕ) → k < 32 → (read_step memory (start (windows.Orb k)) out).0 ≡ 0 → (read_step memory (start (windows.Orb k)) out).1 ≡ take (length out) (slot_at memory k).orb
   read_gives k out b =
       subst (λ (x : InitiatorState). (read_step x.lists.memory (start (windows.Orb k)) out).0 ≡ 0 → (read_step x.lists.memory (start (windows.Orb k)) out).1 ≡ take (length out) (slot_at x.lists.memory k).orb) h.is (reads.read k out b)
 
-  kept_stands : (k : ℕ) (o : Kept) → k < 32 → kept_in (run calls (own_rom i)).notes k ≡ Some o → OrbFits (orb_terms past i) o → HoldsOrb o (slot_at memory k) → StandsIn past i memory k (name o.ticket)
+  pub kept_stands : (k : ℕ) (o : Kept) → k < 32 → kept_in (run calls (own_rom i)).notes k ≡ Some o → OrbFits (orb_terms past i) o → HoldsOrb o (slot_at memory k) → StandsIn past i memory k (name o.ticket)
   kept_stands k o b e f g =
       let l : LastFits (run calls (own_rom i)).table.lists (orb_terms past i).appended (orb_terms past i).place k o.ticket = kept_last past i calls (own_rom i) rows_of k o b e in
       let m = slot_at memory k in
@@ -153,7 +153,7 @@ module _ (ready : Bool) (past : List Moment) (i : ℕ) (s : InitiatorState) (row
       let same : p ≡ o = cc in
       subst (StandsIn past i memory k) (ap (λ (x : Kept). name x.ticket) same ∙ n) (kept_stands k p b e f g)
 
-  stands : (k : ℕ) (one : Orb) → k < 32 → prepared_in past i k ≡ Some one → StandsIn past i memory k one
+  pub stands : (k : ℕ) (one : Orb) → k < 32 → prepared_in past i k ≡ Some one → StandsIn past i memory k one
   stands k one b e =
       let table = (run calls (own_rom i)).table in
       let found = kept_in (run calls (own_rom i)).notes k in

@@ -15,3 +15,5 @@ pub mod Core
 pub mod Deciding
 pub mod Labels
 pub mod Orbs
+pub mod Reads
+pub mod Answering

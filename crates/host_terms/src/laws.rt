@@ -1,5 +1,6 @@
 //! The laws of the terms of a run: what they say of an initiator is what it holds.
 ghost use Rattle.host_terms.specs.Acting.{ActionLaw};
+ghost use Rattle.host_terms.specs.Answering.{AnsweringLaw};
 ghost use Rattle.host_terms.specs.Calling.{CallsLaw};
 ghost use Rattle.host_terms.specs.Calls.{CallLaw};
 ghost use Rattle.host_terms.specs.Core.{HostLaw};
@@ -10,6 +11,7 @@ ghost use Rattle.host_terms.specs.Labels.{RunLabelLaw};
 ghost use Rattle.host_terms.specs.Lines.{LineLaw};
 ghost use Rattle.host_terms.specs.Orbs.{OrbsLaw};
 ghost use Rattle.host_terms.specs.Reading.{ReadLaw};
+ghost use Rattle.host_terms.specs.Reads.{MemoryLaw};
 ghost use Rattle.host_terms.specs.Refusing.{RunActionLaw};
 ghost use Rattle.host_terms.specs.Runs.{RunLaw};
 ghost use Rattle.host_terms.specs.Steps.{StepLaw};
@@ -124,4 +126,22 @@ pub fn runs_find_labels()
 #[tactic(auto, using(crate::proofs::Orbs::orbs_law))]
 pub fn orbs_stand_in_memory()
     ensures { OrbsLaw }
+{}
+
+/// The law that in every run an initiator's memory is what the run terms say: a slot is armed exactly where they have an
+/// ORB in it or let it rest; the slot that an ORB was prepared in last has its 32 bytes, with the quadlets of its next
+/// pointer that were written, the node ID of its append and its format, and its page table; the ROM is that of the node; a
+/// read or a write has the rcode of the run terms; and a read of the ROM, of an ORB, or inside a page table that is
+/// complete gives the bytes that they say.
+#[tactic(auto, using(crate::proofs::MemoryReads::memory_law))]
+pub fn memory_is_read_by_the_run()
+    ensures { MemoryLaw }
+{}
+
+/// The law that in every run, in a delivery at which an initiator gets a request, the first packet that is told is the
+/// response of the sent law: with the rcode and the bytes that the run terms have as the request is got. Of a read that
+/// is complete this is said where it is of the ROM, of an ORB or inside a page table.
+#[tactic(auto, using(crate::proofs::AnsweringRuns::answering_law))]
+pub fn requests_are_answered_by_the_run()
+    ensures { AnsweringLaw }
 {}
