@@ -1,0 +1,5 @@
+mod Sessions
+mod Caught
+mod Turns
+mod Lines
+mod Runs
