@@ -1,11 +1,13 @@
 -- A node that has caught up with the target: it has an ID, as the target knows the nodes, and is in the target's generation or in a later one. What is kept
--- of a world is that the target knows such nodes alone, and that a session which is live or is being left is of a generation that the target has seen.
-use Rattle.std.proofs.Common.{arith, ◌≡◌, ◌∙◌, refl, sym, ap, subst, ℕ, suc, ◌<◌, ◌≤◌, ◌&&◌, nat_eq, nat_lt, nat_le, Bool, true, false, List, length, Option, Some, None}
+-- of a world is that the target knows such nodes alone, and that an initiator whose session is live or is being left, or that has a list, is in a generation that
+-- the target has seen.
+use Rattle.std.proofs.Common.{is_some, arith, ◌≡◌, ◌∙◌, refl, sym, ap, subst, ℕ, suc, ◌<◌, ◌≤◌, ◌&&◌, nat_eq, nat_lt, nat_le, Bool, true, false, List, length, Option, Some, None}
 use Rattle.std.specs.Prelude.{slice_index_or}
 use Rattle.std.proofs.lemmas.Bool.Decides.{nat_tests}
 use Rattle.std.proofs.lemmas.List.{get_or-set_other, set_past}
 use Rattle.std.proofs.lemmas.Grind.{get_or-set_at}
 use Rattle.orb_layout.specs.declared.login.LoginResponse.{LoginResponse}
+use Rattle.orb_list.specs.Lists.{ListState}
 use Rattle.sbp_bus.specs.Generations.{GenerationsState, node_of, topology_at}
 use Rattle.sbp_initiator.specs.declared.state.InitiatorState.{InitiatorState}
 use Rattle.sbp_initiator.specs.Initiators.{new_state}
@@ -22,6 +24,7 @@ use Rattle.sbp_world.specs.Worlds.{WorldState, initiator_at, with_initiator}
 use Rattle.sbp_world.proofs.Wire.Alike.{IsAlike, alike_then}
 use Rattle.sbp_world.proofs.Wire.Found.{has_id}
 use Rattle.sbp_world.proofs.Wire.Nodes.{handed_alike}
+use Rattle.session_terms.proofs.Presents.{Fewer}
 use Rattle.session_terms.proofs.Sessions.{is_plain}
 
 no : false ≡ true → ⊥
@@ -71,8 +74,19 @@ is_in (seats.Live live) = true
 is_in (seats.Leaving response) = true
 is_in _ = false
 
-abbrev pub Sits : Type 0 → Seat → Type 0
-Sits Seen seat = is_in seat ≡ true → Seen
+-- where a session is so, or a list is present, something is the case
+pub record Sits (Case : Type 0) (seat : Seat) (lists : ListState) : Type 0 where
+  pub joined : is_in seat ≡ true → Case
+  pub listed : is_some lists.slots.present ≡ true → Case
+
+pub sits_any : (Case : Type 0) (seat : Seat) (lists : ListState) → Case → Sits Case seat lists
+sits_any Case seat lists c = record { joined = λ e. c; listed = λ e. c }
+
+pub sits_to : (A B : Type 0) (seat : Seat) (lists : ListState) → (A → B) → Sits A seat lists → Sits B seat lists
+sits_to A B seat lists f h = record { joined = λ e. f (h.joined e); listed = λ e. f (h.listed e) }
+
+pub sits_relist : (Case : Type 0) (seat : Seat) (old new : ListState) → Fewer old new → Sits Case seat old → Sits Case seat new
+sits_relist Case seat old new f h = record { joined = h.joined; listed = λ e. h.listed (f e) }
 
 out_stays : (event : Event) → is_in (from_out event) ≡ false
 out_stays sent = refl
@@ -137,26 +151,32 @@ stuck_stays pointed origin = refl
 stuck_stays reset origin = unstuck origin
 stuck_stays failed origin = refl
 
-pub sits_plain : (Seen : Type 0) (event : Event) (seat : Seat) → is_plain event ≡ true → Sits Seen seat → Sits Seen (goes event seat)
+plain_in : (Case : Type 0) (event : Event) (seat : Seat) → is_plain event ≡ true → (is_in seat ≡ true → Case) → is_in (goes event seat) ≡ true → Case
 unfolding goes
-sits_plain Seen event (seats.Out out) p h e = absurd (no (sym (out_stays event) ∙ e))
-sits_plain Seen event (seats.Entering entering) p h e = absurd (no (sym (entering_stays event p) ∙ e))
-sits_plain Seen event (seats.Live live) p h e = h refl
-sits_plain Seen event (seats.Held response) p h e = absurd (no (sym (held_stays event response) ∙ e))
-sits_plain Seen event (seats.Returning response) p h e = absurd (no (sym (returning_stays event response p) ∙ e))
-sits_plain Seen event (seats.Leaving response) p h e = h refl
-sits_plain Seen event (seats.Stuck origin) p h e = absurd (no (sym (stuck_stays event origin) ∙ e))
+plain_in Case event (seats.Out out) p h e = absurd (no (sym (out_stays event) ∙ e))
+plain_in Case event (seats.Entering entering) p h e = absurd (no (sym (entering_stays event p) ∙ e))
+plain_in Case event (seats.Live live) p h e = h refl
+plain_in Case event (seats.Held response) p h e = absurd (no (sym (held_stays event response) ∙ e))
+plain_in Case event (seats.Returning response) p h e = absurd (no (sym (returning_stays event response p) ∙ e))
+plain_in Case event (seats.Leaving response) p h e = h refl
+plain_in Case event (seats.Stuck origin) p h e = absurd (no (sym (stuck_stays event origin) ∙ e))
+
+pub sits_plain : (Case : Type 0) (event : Event) (seat : Seat) (lists : ListState) → is_plain event ≡ true → Sits Case seat lists → Sits Case (goes event seat) lists
+sits_plain Case event seat lists p h = record { joined = plain_in Case event seat p h.joined; listed = h.listed }
 
 -- a generation that is seen leaves none
-pub sits_reset : (Seen : Type 0) (seat : Seat) → Sits Seen (goes reset seat)
+reset_out : (seat : Seat) → is_in (goes reset seat) ≡ false
 unfolding goes
-sits_reset Seen (seats.Out out) e = absurd (no e)
-sits_reset Seen (seats.Entering entering) e = absurd (no e)
-sits_reset Seen (seats.Live live) e = absurd (no e)
-sits_reset Seen (seats.Held response) e = absurd (no e)
-sits_reset Seen (seats.Returning response) e = absurd (no e)
-sits_reset Seen (seats.Leaving response) e = absurd (no e)
-sits_reset Seen (seats.Stuck origin) e = absurd (no (sym (unstuck origin) ∙ e))
+reset_out (seats.Out out) = refl
+reset_out (seats.Entering entering) = refl
+reset_out (seats.Live live) = refl
+reset_out (seats.Held response) = refl
+reset_out (seats.Returning response) = refl
+reset_out (seats.Leaving response) = refl
+reset_out (seats.Stuck origin) = unstuck origin
+
+pub sits_cleared : (Case : Type 0) (seat : Seat) (lists : ListState) → is_some lists.slots.present ≡ false → Sits Case (goes reset seat) lists
+sits_cleared Case seat lists f = record { joined = λ e. absurd (no (sym (reset_out seat) ∙ e)); listed = λ e. absurd (no (sym f ∙ e)) }
 
 -- ---- a world
 abbrev pub Seen : GenerationsState → ℕ → Type 0
@@ -164,10 +184,10 @@ Seen g i = (topology_at g (suc i)).generation ≤ (topology_at g 0).generation
 
 pub record Met (w : WorldState) : Type 0 where
   pub up : Holds (Up w.generations) w.target
-  pub sits : (i : ℕ) → Sits (Seen w.generations i) (initiator_at w i).seat
+  pub sits : (i : ℕ) → Sits (Seen w.generations i) (initiator_at w i).seat (initiator_at w i).lists
 
 abbrev Sit : GenerationsState → List InitiatorState → Type 0
-Sit g initiators = (i : ℕ) → Sits (Seen g i) (slice_index_or initiators i (new_state 0 false)).seat
+Sit g initiators = (i : ℕ) → Sits (Seen g i) (slice_index_or initiators i (new_state 0 false)).seat (slice_index_or initiators i (new_state 0 false)).lists
 
 pub met_alike : (w v : WorldState) → IsAlike w v → Met w → Met v
 met_alike w v a m = record {
@@ -176,36 +196,36 @@ met_alike w v a m = record {
 }
 
 -- an initiator has another state
-pub met_own : (w : WorldState) (i : ℕ) (state : InitiatorState) → Sits (Seen w.generations i) state.seat → Met w → Met (with_initiator i state w)
+pub met_own : (w : WorldState) (i : ℕ) (state : InitiatorState) → Sits (Seen w.generations i) state.seat state.lists → Met w → Met (with_initiator i state w)
 met_own w i state s m = record { up = m.up; sits = λ j. by j (nat_eq j i) refl (nat_lt i (length w.initiators)) refl }
   where
-    by : (j : ℕ) (b : Bool) → nat_eq j i ≡ b → (c : Bool) → nat_lt i (length w.initiators) ≡ c → Sits (Seen w.generations j) (initiator_at (with_initiator i state w) j).seat
+    by : (j : ℕ) (b : Bool) → nat_eq j i ≡ b → (c : Bool) → nat_lt i (length w.initiators) ≡ c → Sits (Seen w.generations j) (initiator_at (with_initiator i state w) j).seat (initiator_at (with_initiator i state w) j).lists
     by j true e true l =
         let same : j ≡ i = grind (arith, nat_tests) in
-        subst (λ (x : InitiatorState). Sits (Seen w.generations j) x.seat) (sym (get_or-set_at w.initiators i j state (new_state 0 false) same (grind (arith, nat_tests))))
-        (subst (λ k. Sits (Seen w.generations k) state.seat) (sym same) s)
+        subst (λ (x : InitiatorState). Sits (Seen w.generations j) x.seat x.lists) (sym (get_or-set_at w.initiators i j state (new_state 0 false) same (grind (arith, nat_tests))))
+        (subst (λ k. Sits (Seen w.generations k) state.seat state.lists) (sym same) s)
     by j true e false l =
         let beyond : length w.initiators ≤ i = grind (arith, nat_tests) in
-        subst (λ xs. Sits (Seen w.generations j) (slice_index_or xs j (new_state 0 false)).seat) (sym (set_past w.initiators i state beyond)) (m.sits j)
+        subst (λ xs. Sits (Seen w.generations j) (slice_index_or xs j (new_state 0 false)).seat (slice_index_or xs j (new_state 0 false)).lists) (sym (set_past w.initiators i state beyond)) (m.sits j)
     by j false e c l =
-        subst (λ (x : InitiatorState). Sits (Seen w.generations j) x.seat)
+        subst (λ (x : InitiatorState). Sits (Seen w.generations j) x.seat x.lists)
         (sym (get_or-set_other w.initiators i j state (new_state 0 false) (λ x. let y : nat_eq j i ≡ true = grind (arith, nat_tests) in no (sym e ∙ y)))) (m.sits j)
 
 -- the same, where the others are known to be so
-pub met_but : (w : WorldState) (i : ℕ) (state : InitiatorState) → i < length w.initiators → Holds (Up w.generations) w.target → Sits (Seen w.generations i) state.seat → ((j : ℕ) → nat_eq j i ≡ false → Sits (Seen w.generations j) (initiator_at w j).seat) → Met (with_initiator i state w)
+pub met_but : (w : WorldState) (i : ℕ) (state : InitiatorState) → i < length w.initiators → Holds (Up w.generations) w.target → Sits (Seen w.generations i) state.seat state.lists → ((j : ℕ) → nat_eq j i ≡ false → Sits (Seen w.generations j) (initiator_at w j).seat (initiator_at w j).lists) → Met (with_initiator i state w)
 met_but w i state inside u s others = record { up = u; sits = λ j. by j (nat_eq j i) refl }
   where
-    by : (j : ℕ) (b : Bool) → nat_eq j i ≡ b → Sits (Seen w.generations j) (initiator_at (with_initiator i state w) j).seat
+    by : (j : ℕ) (b : Bool) → nat_eq j i ≡ b → Sits (Seen w.generations j) (initiator_at (with_initiator i state w) j).seat (initiator_at (with_initiator i state w) j).lists
     by j true e =
         let same : j ≡ i = grind (arith, nat_tests) in
-        subst (λ (x : InitiatorState). Sits (Seen w.generations j) x.seat) (sym (get_or-set_at w.initiators i j state (new_state 0 false) same inside))
-        (subst (λ k. Sits (Seen w.generations k) state.seat) (sym same) s)
+        subst (λ (x : InitiatorState). Sits (Seen w.generations j) x.seat x.lists) (sym (get_or-set_at w.initiators i j state (new_state 0 false) same inside))
+        (subst (λ k. Sits (Seen w.generations k) state.seat state.lists) (sym same) s)
     by j false e =
-        subst (λ (x : InitiatorState). Sits (Seen w.generations j) x.seat)
+        subst (λ (x : InitiatorState). Sits (Seen w.generations j) x.seat x.lists)
         (sym (get_or-set_other w.initiators i j state (new_state 0 false) (λ x. let y : nat_eq j i ≡ true = grind (arith, nat_tests) in no (sym e ∙ y)))) (others j e)
 
 -- it has a turn
-pub own_hands : (i weight : ℕ) (outbox : OutboxState) (state : InitiatorState) (w v : WorldState) → IsAlike (with_initiator i state w) v → Sits (Seen w.generations i) state.seat → Met w → Met (handed_out (suc i) weight outbox v)
+pub own_hands : (i weight : ℕ) (outbox : OutboxState) (state : InitiatorState) (w v : WorldState) → IsAlike (with_initiator i state w) v → Sits (Seen w.generations i) state.seat state.lists → Met w → Met (handed_out (suc i) weight outbox v)
 own_hands i weight outbox state w v a s m =
     met_alike (with_initiator i state w) (handed_out (suc i) weight outbox v) (alike_then (with_initiator i state w) v (handed_out (suc i) weight outbox v) a (handed_alike (suc i) weight outbox v)) (met_own w i state s m)
 

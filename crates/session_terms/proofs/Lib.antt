@@ -1,3 +1,4 @@
+mod Presents
 mod Sessions
 mod Caught
 mod Turns

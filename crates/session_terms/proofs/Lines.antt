@@ -1,5 +1,5 @@
 -- After each line of a world, and behind each delivery of one, the target knows caught up nodes alone, and live sessions are of generations that it has seen.
-use Rattle.std.proofs.Common.{arith, ◌≡◌, ◌∙◌, refl, sym, ap, subst, ℕ, zero, suc, ◌+◌, ◌-◌, ◌<◌, ◌≤◌, nat_eq, nat_lt, Bool, true, false, cond, List, [], ◌∷◌, length, Option, Some, None}
+use Rattle.std.proofs.Common.{arith, ◌≡◌, ◌∙◌, refl, sym, ap, subst, ℕ, zero, suc, ◌+◌, ◌-◌, ◌<◌, ◌≤◌, nat_eq, nat_lt, Bool, true, false, cond, List, [], ◌∷◌, length, Option, Some, None, not}
 use Rattle.std.specs.Prelude.{if◌then◌else◌, slice_index_or, slice_set}
 use Rattle.packet_store.specs.declared.sent.Sent.{Sent}
 use Rattle.packet_store.specs.Kept.{found_sent}
@@ -8,11 +8,18 @@ use Rattle.rbc_disk.specs.Runs.{Told}
 use Rattle.sbp_bus.specs.declared.requests.Request.{Request}
 use Rattle.sbp_bus.specs.Packets.{end_note, judged_note, no_node, no_packet}
 use Rattle.sbp_bus.specs.Requests.{find}
+use Rattle.host_terms.proofs.Acts.{Goes, goes_on}
 use Rattle.sbp_initiator.specs.Acting.{act_step}
+use Rattle.sbp_initiator.specs.declared.state.InitiatorState.{InitiatorState}
+use Rattle.sbp_initiator.specs.Refusals.{is_in_live, prepares}
+use Rattle.sbp_initiator.specs.States.{session_of}
+use Rattle.sbp_session.specs.declared.seat.Seat.{Seat}
+use Rattle.sbp_session.specs.declared.seat.Seat.TheVariants as seats
 use Rattle.sbp_initiator.specs.Effects.{Turn}
 use Rattle.sbp_initiator.specs.Initiators.{new_state}
 use Rattle.sbp_initiator.specs.Receiving.{expire_step, receive_step}
 use Rattle.sbp_journal.specs.declared.event.Action.{Action}
+use Rattle.sbp_journal.specs.declared.event.Action.TheVariants as actions
 use Rattle.sbp_journal.specs.declared.event.Event.{Event}
 use Rattle.sbp_journal.specs.declared.event.Event.TheVariants as events
 use Rattle.sbp_journal.specs.declared.note.Note.TheVariants as notes
@@ -37,7 +44,7 @@ use Rattle.sbp_world.proofs.Wire.Comes.{own_inside, own_outside, received_is, to
 use Rattle.sbp_world.proofs.Wire.ToldBytes.{AreTold}
 use Rattle.target_terms.proofs.Holding.{Holding}
 use Rattle.target_terms.proofs.Lines.{all_heard, opens}
-use Rattle.session_terms.proofs.Caught.{Met, Seen, Sits, met_own, own_hands, sits_plain}
+use Rattle.session_terms.proofs.Caught.{Met, Seen, Sits, met_own, is_in, own_hands, sits_any, sits_plain, sits_relist}
 use Rattle.session_terms.proofs.Sessions.{acts as session_acts, expires as session_expires}
 use Rattle.session_terms.proofs.Turns.{delivery_met, key_met, lapse_met, own_delivery_met, own_sight_met, sight_met, tick_met}
 
@@ -48,9 +55,46 @@ first_bytes : (told : List (Option Told)) → AreTold told → BytesTold (first_
 first_bytes [] t = tt
 first_bytes (told ∷ before) t = t.0
 
+-- an ORB is prepared in a live session alone
+in_by : (seat : Seat) → is_in_live (session_of seat) ≡ true → is_in seat ≡ true
+in_by (seats.Out out) e = e
+in_by (seats.Entering entering) e = e
+in_by (seats.Live live) e = refl
+in_by (seats.Held response) e = e
+in_by (seats.Returning response) e = e
+in_by (seats.Leaving response) e = refl
+in_by (seats.Stuck origin) e = e
+
+not_not : (b : Bool) → not b ≡ false → b ≡ true
+not_not true e = refl
+not_not false e = absurd (let x : true ≡ false = e in cc)
+
+unprepared : {A : Type 0} → false ≡ true → A
+unprepared e = absurd (let x : false ≡ true = e in cc)
+
+prepared : (action : Action) (s : InitiatorState) → prepares action ≡ true → Goes action s → is_in_live (session_of s.seat) ≡ true
+prepared (actions.Put cmd) s p g = not_not (is_in_live (session_of s.seat)) g.rows.wrong_state
+prepared (actions.Append cmd) s p g = not_not (is_in_live (session_of s.seat)) g.rows.wrong_state
+prepared actions.Low s p g = unprepared p
+prepared actions.Link s p g = unprepared p
+prepared actions.Ring s p g = unprepared p
+prepared (actions.Dummy orb) s p g = unprepared p
+prepared actions.Rom s p g = unprepared p
+prepared actions.AgentReset s p g = unprepared p
+prepared actions.State s p g = unprepared p
+prepared actions.Enable s p g = unprepared p
+prepared (actions.Login unit reconnect exclusive password) s p g = unprepared p
+prepared (actions.Query unit) s p g = unprepared p
+prepared actions.Reconnect s p g = unprepared p
+prepared actions.Logout s p g = unprepared p
+prepared (actions.Abort orb) s p g = unprepared p
+prepared actions.AbortSet s p g = unprepared p
+prepared actions.UnitReset s p g = unprepared p
+prepared actions.TargetReset s p g = unprepared p
+
 module _ (units ready : ℕ) (has : 0 < units) (start : List Disk) where
   -- ---- an initiator acts
-  acts_by : (w : WorldState) (line i : ℕ) (action : Action) (r : Option ℕ × Turn) → Sits (Seen w.generations i) r.1.1.seat → Met w → Met (acted_by r line i action w)
+  acts_by : (w : WorldState) (line i : ℕ) (action : Action) (r : Option ℕ × Turn) → Sits (Seen w.generations i) r.1.1.seat r.1.1.lists → Met w → Met (acted_by r line i action w)
   acts_by w line i action (Some number, turn) s m = let n = met_own w i turn.1 s m in record { up = n.up; sits = n.sits }
   acts_by w line i action (None, turn) s m =
       subst (λ n. Met (handed_out n (weight_in action) turn.0 (with_initiator i turn.1 w))) (let e : suc i ≡ i + 1 = omega arith in e)
@@ -60,7 +104,8 @@ module _ (units ready : ℕ) (has : 0 < units) (start : List Disk) where
   unfolding acted
   acts w line i action m =
       acts_by w line i action (act_step action empty_outbox (initiator_at w i))
-      (session_acts (Sits (Seen w.generations i)) (sits_plain (Seen w.generations i)) action empty_outbox (initiator_at w i) (m.sits i)) m
+      (session_acts (Sits (Seen w.generations i)) (sits_plain (Seen w.generations i)) (sits_relist (Seen w.generations i)) action empty_outbox (initiator_at w i)
+      (λ e p seat lists. sits_any (Seen w.generations i) seat lists ((m.sits i).joined (in_by (initiator_at w i).seat (prepared action (initiator_at w i) p (goes_on action (initiator_at w i) e))))) (m.sits i)) m
 
   -- ---- a packet is lost, or injected
   loses : (w : WorldState) (line serial : ℕ) → Met w → Met (lose_line line serial w)
@@ -82,7 +127,7 @@ module _ (units ready : ℕ) (has : 0 < units) (start : List Disk) where
 
   -- ---- a transaction times out
   module _ {past : List Moment} {lines : ℕ} (w : WorldState) (h : Holding units ready start past lines w) (m : Met w) (line serial : ℕ) where
-    lapses_own : (request : Request) (i j : ℕ) → request.node ≡ suc i → j ≡ i → (r : Bool × Turn) → Sits (Seen w.generations j) r.1.1.seat → Met (timed_out line serial request.node (at_initiator j r w))
+    lapses_own : (request : Request) (i j : ℕ) → request.node ≡ suc i → j ≡ i → (r : Bool × Turn) → Sits (Seen w.generations j) r.1.1.seat r.1.1.lists → Met (timed_out line serial request.node (at_initiator j r w))
     lapses_own request i j e same (true, turn) s =
         subst (λ n. Met (handed_out n 0 turn.0 (with_note (notes.TimedOut serial) (with_initiator j turn.1 w)))) (ap suc same ∙ sym e)
         (own_hands j 0 turn.0 turn.1 w (with_note (notes.TimedOut serial) (with_initiator j turn.1 w)) (record { generations = refl; target = refl; initiators = refl }) s m)
@@ -91,7 +136,7 @@ module _ (units ready : ℕ) (has : 0 < units) (start : List Disk) where
     own_if : (request : Request) (i j : ℕ) → request.node ≡ suc i → j ≡ i → (b : Bool) → Met (timed_out line serial request.node (if b then at_initiator j (expire_step request.label empty_outbox (initiator_at w j)) w else (false, (empty_outbox, w))))
     own_if request i j e same true =
         lapses_own request i j e same (expire_step request.label empty_outbox (initiator_at w j))
-        (session_expires (Sits (Seen w.generations j)) (sits_plain (Seen w.generations j)) request.label empty_outbox (initiator_at w j) (m.sits j))
+        (session_expires (Sits (Seen w.generations j)) (sits_plain (Seen w.generations j)) (sits_relist (Seen w.generations j)) request.label empty_outbox (initiator_at w j) (m.sits j))
     own_if request i j e same false = record { up = m.up; sits = m.sits }
 
     lapses_at : (request : Request) (node : ℕ) → request.node ≡ node → Met (timed_out line serial request.node (expires request w))

@@ -1,6 +1,6 @@
 -- In every run the target knows caught up nodes alone, and live sessions are of generations that it has seen.
-use Rattle.std.proofs.Common.{arith, ◌≡◌, ◌∙◌, refl, sym, ap, subst, ℕ, suc, ◌+◌, ◌^◌, ◌<◌, ◌≤◌, nat_lt, Bool, true, false, List, [], ◌∷◌, ◌++◌, length, map, replicate, Option, Some, None}
-use Rattle.std.specs.Prelude.{slice_index_or}
+use Rattle.std.proofs.Common.{is_some, not, arith, ◌≡◌, ◌∙◌, refl, sym, ap, subst, ℕ, suc, ◌+◌, ◌^◌, ◌<◌, ◌≤◌, nat_lt, Bool, true, false, List, [], ◌∷◌, ◌++◌, length, map, replicate, Option, Some, None}
+use Rattle.std.specs.Prelude.{is_none, slice_index_or}
 use Rattle.std.proofs.lemmas.Bool.Decides.{nat_tests}
 use Rattle.std.proofs.lemmas.Grind.{common_steps}
 use Rattle.std.proofs.lemmas.List.{get_or-replicate, length-replicate}
@@ -14,7 +14,10 @@ use Rattle.command_agent.specs.Steps.{is_reset}
 use Rattle.host_terms.specs.Core.{Core, session_in}
 use Rattle.host_terms.specs.Runs.{IsRun}
 use Rattle.host_terms.proofs.Hosted.{host_law}
-use Rattle.host_terms.proofs.Runs.{count_after, count_between}
+use Rattle.host_terms.proofs.Readings.{read_law}
+use Rattle.host_terms.proofs.Runs.{count_after, count_between, run_law}
+use Rattle.host_terms.specs.Reading.{ReadAs}
+use Rattle.host_terms.specs.Worlds.{IsHost}
 use Rattle.login_table.specs.declared.login.Login.{Login}
 use Rattle.login_table.specs.Table.{is_live}
 use Rattle.mgmt_agent.specs.declared.operation.Operation.{Operation}
@@ -30,6 +33,7 @@ use Rattle.sbp_journal.specs.declared.event.Event.{Event}
 use Rattle.sbp_journal.specs.declared.event.Event.TheVariants as events
 use Rattle.sbp_laws.specs.Agents.{initiator_at as initiator_in}
 use Rattle.sbp_laws.specs.Hosts.{host_at}
+use Rattle.sbp_laws.specs.Lists.{present_list}
 use Rattle.sbp_laws.specs.Targets.{agent_at, over, target_at}
 use Rattle.sbp_session.specs.declared.seat.Seat.{Seat}
 use Rattle.sbp_session.specs.declared.seat.Seat.TheVariants as seats
@@ -55,8 +59,8 @@ use Rattle.target_terms.proofs.Lines.{all_heard, opens}
 use Rattle.target_terms.proofs.Runs.{are_told, holds_after, no_repeats, not_reset}
 use Rattle.target_terms.proofs.Still.{hist}
 use Rattle.session_terms.specs.Caught.{CaughtBetweenLaw, CaughtLaw, HasCaught, HaveCaught}
-use Rattle.session_terms.specs.Joined.{JoinedBetweenLaw, JoinedLaw, is_joined}
-use Rattle.session_terms.proofs.Caught.{Met, Up, is_in, is_up, up_later, up_of}
+use Rattle.session_terms.specs.Joined.{IsJoined, JoinedBetweenLaw, JoinedLaw, is_joined}
+use Rattle.session_terms.proofs.Caught.{Met, Seen, Up, is_in, is_up, sits_any, up_later, up_of}
 use Rattle.session_terms.proofs.Lines.{all_met, line_met, opened}
 use Rattle.session_terms.proofs.Turns.{wire_generation}
 
@@ -112,7 +116,7 @@ module _ (n : ℕ) (is_ready : Bool) (units : ℕ) (few : n ≤ 4) (line : ℕ) 
   first_target = (fitting_law (is_up w.generations) (is_up w.generations)).begins units (ready_logins n is_ready) (λ i l. first_up i (ready_few is_ready i l))
 
   first_met : Met w
-  first_met = record { up = first_target; sits = λ i e. let a = zero_seen (suc i) in let b = zero_seen 0 in omega arith }
+  first_met = record { up = first_target; sits = λ i. sits_any (Seen w.generations i) _ _ (let a = zero_seen (suc i) in let b = zero_seen 0 in omega arith) }
 
 -- ---- runs
 met_after : (line : ℕ) (run : Run) (entries : List Entry) → run.initiators ≤ 4 → 0 < run.units → run.units ≤ 4 → length run.start.disks ≡ run.units → length entries + 2 < 2 ^ 32 → AreEntries (beginning run) entries → AreLines run entries → Met (after (beginning run) entries).world
@@ -178,14 +182,28 @@ module _ (units ready : ℕ) (has : 0 < units) (start : List Disk) {past : List 
   is_session (seats.Leaving response) e = e
   is_session (seats.Stuck origin) e = e
 
-  joined : (i : ℕ) → i < length w.initiators → is_joined (session_in (initiator_at w i).seat) ≡ true → t.generation (i + 1) ≤ t.generation 0
-  joined i inside e =
+  seen_by : (i : ℕ) → i < length w.initiators → Seen w.generations i → t.generation (i + 1) ≤ t.generation 0
+  seen_by i inside seen =
       let there : i + 1 ≤ length w.initiators = omega arith in
       let next : i + 1 ≡ suc i = omega arith in
-      let seen = m.sits i (is_session (initiator_at w i).seat e) in
       let a = wire_generation w stands 0 (omega arith) in
       let b : t.generation (i + 1) ≡ (topology_at w.generations (suc i)).generation = wire_generation w stands (i + 1) there ∙ ap (λ k. (topology_at w.generations k).generation) next in
       omega arith
+
+  is_listed : (a b : Bool) → not a ≡ not b → a ≡ true → b ≡ true
+  is_listed true true e f = refl
+  is_listed true false e f = absurd (let x : false ≡ true = e in cc)
+  is_listed false b e f = absurd (no f)
+
+  some_none : (o : Option ℕ) → is_none o ≡ not (is_some o)
+  some_none None = refl
+  some_none (Some n) = refl
+
+  joined : (i : ℕ) → i < length w.initiators → (host_at (hist past w) i).session ≡ session_in (initiator_at w i).seat → ReadAs (hist past w) i (initiator_at w i).lists.slots → IsJoined (hist past w) i
+  joined i inside session read = record {
+    session = λ e. seen_by i inside ((m.sits i).joined (is_session (initiator_at w i).seat (ap is_joined (sym session) ∙ e)));
+    list = λ e. seen_by i inside ((m.sits i).listed (is_listed (is_some (present_list (hist past w) i)) (is_some (initiator_at w i).lists.slots.present) (sym (some_none (present_list (hist past w) i)) ∙ read.none) e));
+  }
 
 pub caught_law : CaughtLaw
 caught_law line run few has small size short all fit =
@@ -214,13 +232,13 @@ is_run : (run : Run) → run.initiators ≤ 4 → length run.entries + 2 < 2 ^ 3
 is_run run few short all fit = record { few = few; short = short; entries = all; lines = fit }
 
 pub joined_law : JoinedLaw
-joined_law line run few has small size short all fit i b e =
+joined_law line run few has small size short all fit i b =
     let r = holds_after line run run.entries few has small size short all fit in
     let w = (after (beginning run) run.entries).world in
-    let core = host_law.core line run (is_run run few short all fit) i b in
-    subst (λ ms. (terms ms).generation (i + 1) ≤ (terms ms).generation 0) r.is
-    (joined run.units (ready_logins run.initiators run.ready) has run.start.disks w r.holds (met_after line run run.entries few has small size short all fit) i (subst (λ n. i < n) (sym (count_after run run.entries)) b)
-    (ap (λ (c : Core). is_joined c.session) (sym core) ∙ e))
+    let is = is_run run few short all fit in
+    subst (λ ms. (host_at ms i).session ≡ session_in (initiator_at w i).seat → ReadAs ms i (initiator_at w i).lists.slots → IsJoined ms i) r.is
+    (joined run.units (ready_logins run.initiators run.ready) has run.start.disks w r.holds (met_after line run run.entries few has small size short all fit) i (subst (λ n. i < n) (sym (count_after run run.entries)) b))
+    (ap (λ (c : Core). c.session) (host_law.core line run is i b)) (run_law.reads line run is i b)
 
 session_between : (line : ℕ) (run : Run) → IsRun run → (next : ℕ) (event : Event) → DeliversMore event → (told : List (Option Told)) → MayAll told (begun (after (beginning run) run.entries)) → (i : ℕ) → i < run.initiators → (let w = (after_all told (begun (after (beginning run) run.entries))).world in (host_at (map said w.fresh ++ asked next event ∷ history_of line run) i).session ≡ session_in (initiator_at w i).seat)
 session_between line run is next (events.Step count) d told may i b = ap (λ (c : Core). c.session) (host_law.between line run is next (Some count) told may i b)
@@ -237,8 +255,23 @@ session_between line run is next events.Tick d told may i b = absurd d
 session_between line run is next (events.Inject initiator bytes) d told may i b = absurd d
 session_between line run is next (events.Key unit key) d told may i b = absurd d
 
+rows_between : (line : ℕ) (run : Run) → IsRun run → (next : ℕ) (event : Event) → DeliversMore event → (told : List (Option Told)) → MayAll told (begun (after (beginning run) run.entries)) → (i : ℕ) → i < run.initiators → (let w = (after_all told (begun (after (beginning run) run.entries))).world in IsHost (map said w.fresh ++ asked next event ∷ history_of line run) i (initiator_at w i))
+rows_between line run is next (events.Step count) d told may i b = run_law.between line run is next (Some count) told may i b
+rows_between line run is next events.Settle d told may i b = run_law.between line run is next None told may i b
+rows_between line run is next (events.Begin initiators ready) d told may i b = absurd d
+rows_between line run is next (events.Act initiator action) d told may i b = absurd d
+rows_between line run is next (events.Reset physical) d told may i b = absurd d
+rows_between line run is next (events.See node) d told may i b = absurd d
+rows_between line run is next (events.Deliver serial) d told may i b = absurd d
+rows_between line run is next (events.Repeat serial) d told may i b = absurd d
+rows_between line run is next (events.Lose serial) d told may i b = absurd d
+rows_between line run is next (events.Timeout serial) d told may i b = absurd d
+rows_between line run is next events.Tick d told may i b = absurd d
+rows_between line run is next (events.Inject initiator bytes) d told may i b = absurd d
+rows_between line run is next (events.Key unit key) d told may i b = absurd d
+
 pub joined_between_law : JoinedBetweenLaw
-joined_between_law line run few has small size short all fit next event d told may i b e =
+joined_between_law line run few has small size short all fit next event d told may i b =
     let r = holds_after line run run.entries few has small size short all fit in
     let s = after (beginning run) run.entries in
     let logins = ready_logins run.initiators run.ready in
@@ -247,6 +280,8 @@ joined_between_law line run few has small size short all fit next event d told m
     let h = all_heard run.units logins has run.start.disks told (are_told told s may) (begun s) begins repeats in
     let m = all_met run.units logins has run.start.disks told (are_told told s may) (begun s) begins (opened run.units logins has run.start.disks s.world (met_after line run run.entries few has small size short all fit)) repeats in
     let w = (after_all told (begun s)).world in
-    subst (λ ms. (terms (map said w.fresh ++ asked next event ∷ ms)).generation (i + 1) ≤ (terms (map said w.fresh ++ asked next event ∷ ms)).generation 0) r.is
-    (joined run.units logins has run.start.disks w h m i (subst (λ n. i < n) (sym (count_between told s ∙ count_after run run.entries)) b)
-    (ap is_joined (sym (session_between line run (is_run run few short all fit) next event d told may i b)) ∙ e))
+    let is = is_run run few short all fit in
+    let ms = map said w.fresh ++ asked next event ∷ history_of line run in
+    subst (λ past. (host_at (map said w.fresh ++ asked next event ∷ past) i).session ≡ session_in (initiator_at w i).seat → ReadAs (map said w.fresh ++ asked next event ∷ past) i (initiator_at w i).lists.slots → IsJoined (map said w.fresh ++ asked next event ∷ past) i) r.is
+    (joined run.units logins has run.start.disks w h m i (subst (λ n. i < n) (sym (count_between told s ∙ count_after run run.entries)) b))
+    (session_between line run is next event d told may i b) (read_law ms i (initiator_at w i).lists.slots (rows_between line run is next event d told may i b).rows)

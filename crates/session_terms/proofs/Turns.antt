@@ -53,7 +53,7 @@ use Rattle.sbp_world.proofs.Wire.Nodes.{handed_alike, marked_alike}
 use Rattle.target_terms.proofs.Holding.{Holding, is_of, known_id, ours, past_terms, target_generation, was_sent}
 use Rattle.target_terms.proofs.Still.{hist}
 use Rattle.agent_terms.proofs.Leaving.{source_known}
-use Rattle.session_terms.proofs.Caught.{Met, met_alike, met_but, Seen, Sits, Up, is_up, own_hands, sits_plain, sits_reset, target_hands, up_by, up_flag, up_known, up_later, up_of}
+use Rattle.session_terms.proofs.Caught.{Met, met_alike, met_but, Seen, Sits, Up, is_up, own_hands, sits_any, sits_cleared, sits_plain, sits_relist, sits_to, target_hands, up_by, up_flag, up_known, up_later, up_of}
 use Rattle.session_terms.proofs.Sessions.{IfAsked, receives, sees as session_sees}
 
 no : false ≡ true → ⊥
@@ -287,12 +287,14 @@ module _ (units ready : ℕ) (has : 0 < units) (start : List Disk) {past : List 
       (fitting_law (is_up G) (is_up later)).widens sight.node (widens_same w here e)
       ((fitting_law (is_up G) (is_up G)).old_sights G.latest.generation own_id w.target e m.up)
 
-  sight_sits : (i : ℕ) → Sits (Seen later i) (initiator_at w i).seat
-  sight_sits i e =
-      let before = m.sits i e in
+  sight_seen : (i : ℕ) → Seen G i → Seen later i
+  sight_seen i before =
       let after = rises w here 0 0 zero_there in
       let own = ap (λ (t : Topology). t.generation) (other_same w 0 (suc i) (grind (arith, nat_tests))) in
       omega arith
+
+  sight_sits : (i : ℕ) → Sits (Seen later i) (initiator_at w i).seat (initiator_at w i).lists
+  sight_sits i = sits_to (Seen G i) (Seen later i) (initiator_at w i).seat (initiator_at w i).lists (sight_seen i) (m.sits i)
 
   pub sight_met : Met (see_line 0 w)
   unfolding see_line nodes.sees target_sees
@@ -328,20 +330,24 @@ module _ (units ready : ℕ) (has : 0 < units) (start : List Disk) {past : List 
         by true e = rw e refl
         by false e = rw e refl
 
-    stays_seen : (seeing_step (initiator_at w i).layer G.latest.generation (id_of G.latest (suc i))).0 ≡ false → Sits (Seen own_later i) (initiator_at w i).seat
-    stays_seen f e =
-        let before = m.sits i e in
+    stays_in : (seeing_step (initiator_at w i).layer G.latest.generation (id_of G.latest (suc i))).0 ≡ false → Seen G i → Seen own_later i
+    stays_in f before =
         let own = not_new (sym flag_is ∙ f) in
         let z = ap (λ (t : Topology). t.generation) zero_same in
         omega arith
 
-    others_seen : (j : ℕ) → nat_eq j i ≡ false → Sits (Seen own_later j) (initiator_at w j).seat
-    others_seen j d e =
-        let before = m.sits j e in
+    stays_seen : (seeing_step (initiator_at w i).layer G.latest.generation (id_of G.latest (suc i))).0 ≡ false → Sits (Seen own_later i) (initiator_at w i).seat (initiator_at w i).lists
+    stays_seen f = sits_to (Seen G i) (Seen own_later i) (initiator_at w i).seat (initiator_at w i).lists (stays_in f) (m.sits i)
+
+    others_in : (j : ℕ) → nat_eq j i ≡ false → Seen G j → Seen own_later j
+    others_in j d before =
         let z = ap (λ (t : Topology). t.generation) zero_same in
         let apart : nat_eq (suc j) (suc i) ≡ false = grind (arith, nat_tests) in
         let own = ap (λ (t : Topology). t.generation) (other_same w (suc i) (suc j) apart) in
         omega arith
+
+    others_seen : (j : ℕ) → nat_eq j i ≡ false → Sits (Seen own_later j) (initiator_at w j).seat (initiator_at w j).lists
+    others_seen j d = sits_to (Seen G j) (Seen own_later j) (initiator_at w j).seat (initiator_at w j).lists (others_in j d) (m.sits j)
 
     own_turn : ℕ → Turn
     own_turn j = see_step G.latest.generation (id_of G.latest (suc i)) (id_of G.latest 0) empty_outbox (initiator_at own_base j)
@@ -353,10 +359,10 @@ module _ (units ready : ℕ) (has : 0 < units) (start : List Disk) {past : List 
         state : InitiatorState
         state = initiator_at w i
 
-        sits_now : Sits (Seen own_later i) (own_turn i).1.seat
+        sits_now : Sits (Seen own_later i) (own_turn i).1.seat (own_turn i).1.lists
         sits_now =
-            session_sees (Sits (Seen own_later i)) (sits_plain (Seen own_later i)) G.latest.generation (id_of G.latest (suc i)) (id_of G.latest 0) empty_outbox state
-            (sits_reset (Seen own_later i) state.seat) stays_seen
+            session_sees (Sits (Seen own_later i)) (sits_plain (Seen own_later i)) (sits_relist (Seen own_later i)) G.latest.generation (id_of G.latest (suc i)) (id_of G.latest 0) empty_outbox state
+            (sits_cleared (Seen own_later i) state.seat) stays_seen
 
         up_now : Holds (Up own_later) w.target
         up_now = (fitting_law (is_up G) (is_up own_later)).widens w.target (widens_own w here i inside) m.up
@@ -399,19 +405,19 @@ module _ (units ready : ℕ) (has : 0 < units) (start : List Disk) {past : List 
         let seen_it = subst (λ n. sent.generation ≤ (topology_at G n).generation) zero_from (sent_seen w here serial sent found) in
         omega arith
 
-    given : (f : Finding OwnPurpose) → IsFoundAs own.layer sent.generation sent.bytes f → IfAsked (Sits (Seen G i)) (sits_plain (Seen G i)) own.target f
+    given : (f : Finding OwnPurpose) → IsFoundAs own.layer sent.generation sent.bytes f → IfAsked (Sits (Seen G i)) (sits_plain (Seen G i)) (sits_relist (Seen G i)) own.target f
     given of_generation k = tt
     given of_grammar k = tt
     given of_label k = tt
     given (of_response p label purpose) k = tt
     given (of_again p rcode) k = tt
-    given (of_request p) k = λ of seat e. of_target k.current p k.read of
+    given (of_request p) k = λ of seat lists. sits_any (Seen G i) seat lists (of_target k.current p k.read of)
 
     pub own_delivery_met : (again : Bool) → (let r = receive_step sent.generation sent.bytes empty_outbox own in Met (handed_out (suc i) 0 r.1.0 (with_note (judged_note serial r.0) (marked serial again (with_initiators (slice_set w.initiators i r.1.1) w)))))
     own_delivery_met again =
         let r = receive_step sent.generation sent.bytes empty_outbox own in
         let a = marked_alike (with_initiators (slice_set w.initiators i r.1.1) w) serial again in
         own_hands i 0 r.1.0 r.1.1 w _ (record { generations = a.generations; target = a.target; initiators = a.initiators })
-        (receives (Sits (Seen G i)) (sits_plain (Seen G i)) sent.generation sent.bytes empty_outbox own
+        (receives (Sits (Seen G i)) (sits_plain (Seen G i)) (sits_relist (Seen G i)) sent.generation sent.bytes empty_outbox own
         (given (judging_step own.layer sent.generation sent.bytes).0 (found_as own.layer sent.generation sent.bytes (h.sound.nodes.own.holds i inside).layer.filter))
         (m.sits i)) m

@@ -16,14 +16,14 @@ pub fn deliveries_keep_nodes_caught_up()
 {}
 
 /// After every line of every run the target is in the generation of each initiator whose session is live or is being left, or
-/// in a later one.
+/// that has a list, or in a later one.
 #[tactic(auto, using(crate::proofs::Runs::joined_law))]
-pub fn live_sessions_are_of_seen_generations()
+pub fn sessions_and_lists_are_of_seen_generations()
     ensures { JoinedLaw }
 {}
 
 /// And behind each delivery of a line that may follow.
 #[tactic(auto, using(crate::proofs::Runs::joined_between_law))]
-pub fn deliveries_keep_sessions_joined()
+pub fn deliveries_keep_sessions_and_lists_seen()
     ensures { JoinedBetweenLaw }
 {}
