@@ -3,4 +3,7 @@ mod Sessions
 mod Caught
 mod Turns
 mod Lines
+mod Logins
+mod Standing
+mod Starting
 mod Runs

@@ -1,2 +1,4 @@
 pub mod Caught
 pub mod Joined
+pub mod Standing
+pub mod Starting
