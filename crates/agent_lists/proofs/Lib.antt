@@ -1,0 +1,9 @@
+pub mod Records
+pub mod Ends
+pub mod Runs
+pub mod Checks
+pub mod Reading
+pub mod Turns
+pub mod Replies
+pub mod Writes
+pub mod Growing

@@ -1,0 +1,68 @@
+-- The pointer, a doorbell, the function abort and an AGENT_RESET; and a list that grows.
+use Rattle.std.proofs.Common.{◌≡◌, refl, ap, sym, subst, ◌∙◌, ℕ, suc, ◌<◌, ◌≤◌, ◌==◌, ◌||◌, ◌&&◌, Bool, true, false, Option, Some, None, Result, Ok, Err, arith}
+use Rattle.orb_layout.specs.declared.ask.Ask.{Ask}
+use Rattle.orb_layout.specs.declared.ask.Ask.TheVariants.{Read, Nothing}
+use Rattle.orb_layout.specs.declared.pointer.OrbPointer.{OrbPointer}
+use Rattle.orb_layout.specs.declared.pointer.OrbPointer.TheVariants.{Null, At}
+use Rattle.command_agent.specs.declared.phase.Phase.{Phase}
+use Rattle.command_agent.specs.declared.phase.Phase.TheVariants as phases
+use Rattle.command_agent.specs.declared.phase.ReadAhead.{ReadAhead}
+use Rattle.command_agent.specs.declared.phase.ReadAhead.TheVariants as aheads
+use Rattle.command_agent.specs.Machine.{Machine, aligned, named, awaits_run}
+use Rattle.command_agent.specs.Steps.{pointed, point_step, doorbell_step, reset_step, abort_step}
+use Rattle.agent_lists.specs.Lists.{OrbList, IsLaid}
+use Rattle.agent_lists.specs.Along.{Progress, at_start, Along}
+use Rattle.agent_lists.specs.Requests.{ahead_ask}
+use Rattle.agent_lists.specs.Steps.{PointerBrings, Points, Stays, Rings, Aborts, Resets, KeepsAlong}
+use Rattle.agent_lists.proofs.Records.{still, still_asks}
+use Rattle.agent_lists.proofs.Replies.{replies, loses}
+
+-- ---- the pointer
+pointed_keeps : (pointer : OrbPointer) (l : OrbList) (p : Progress) (m : Machine) → IsLaid l → named pointer ≡ Some (l.address 0) → 0 < l.linked → PointerBrings l p m (pointed m pointer)
+pointed_keeps Null l p m laid e n = refl
+pointed_keeps (At next) l p m laid e n =
+    let place : aligned next ≡ l.address 0 = cc in
+    record {
+      along = record { main = record { turn = record { place = place; linked = n; all = refl }; unrun = refl; unread = refl; part = laid.empty 0 }; ahead = refl };
+      asks = ap (λ (at : ℕ). Read at 32) place;
+      main_is = refl;
+      ahead_is = refl;
+    }
+
+point_keeps : (phase : Phase) (l : OrbList) (p : Progress) (m : Machine) (pointer : OrbPointer) → IsLaid l → named pointer ≡ Some (l.address 0) → 0 < l.linked → PointerBrings l p (record m { phase = phase }) (point_step (record m { phase = phase }) pointer)
+unfolding point_step
+point_keeps phases.Reset l p m pointer laid e n = pointed_keeps pointer l p (record m { phase = phases.Reset }) laid e n
+point_keeps phases.Suspended l p m pointer laid e n = pointed_keeps pointer l p (record m { phase = phases.Suspended }) laid e n
+point_keeps _ l p m pointer laid e n = refl
+
+points : (l : OrbList) → Points l
+points l p m pointer laid e n = point_keeps m.phase l p m pointer laid e n
+
+-- ---- a doorbell
+ring_keeps : (phase : Phase) (l : OrbList) (p : Progress) (m : Machine) → Along l p (record m { phase = phase }) → Stays l p (record m { phase = phase }) (doorbell_step (record m { phase = phase })).0 (doorbell_step (record m { phase = phase })).1
+unfolding doorbell_step
+ring_keeps phases.Reset l p m a = record { along = a; main_is = refl; ahead_is = refl }
+ring_keeps phases.Dead l p m a = record { along = a; main_is = refl; ahead_is = refl }
+ring_keeps phases.WritingLastStatus l p m a = record { along = a; main_is = refl; ahead_is = refl }
+ring_keeps phases.Suspended l p m a = record { along = record { main = a.main; ahead = a.ahead }; main_is = refl; ahead_is = refl }
+ring_keeps _ l p m a = record { along = record { main = a.main; ahead = a.ahead }; main_is = refl; ahead_is = refl }
+
+rings : (l : OrbList) → Rings l
+rings l p m a = ring_keeps m.phase l p m a
+
+-- ---- the function abort
+aborts : (l : OrbList) → Aborts l
+unfolding abort_step
+aborts l p m orb a = record {
+  along = record { main = still m.phase l p m m.ahead m.doorbell (m.aborted || (awaits_run m.phase && (m.present == aligned orb))) a.main; ahead = a.ahead };
+  main_is = still_asks m.phase m m.ahead m.doorbell (m.aborted || (awaits_run m.phase && (m.present == aligned orb)));
+  ahead_is = refl;
+}
+
+-- ---- AGENT_RESET
+resets : (l : OrbList) → Resets l
+unfolding reset_step
+resets l p m = record { along = record { main = tt; ahead = tt }; main_is = refl; ahead_is = refl }
+
+pub keeps_along : (l : OrbList) → KeepsAlong l
+keeps_along l = record { replies = replies l; loses = loses l; points = points l; rings = rings l; aborts = aborts l; resets = resets l }

@@ -1,0 +1,4 @@
+pub mod Lists
+pub mod Along
+pub mod Requests
+pub mod Steps

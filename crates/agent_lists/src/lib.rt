@@ -1,0 +1,2 @@
+//! What a command agent does along a list of an initiator.
+#![tactic(auto)]
