@@ -25,7 +25,7 @@ use Rattle.agent_laws.specs.Wire.{EndsBy}
 use Rattle.agent_lists.specs.Lists.{OrbList, Leads, IsLaid}
 use Rattle.agent_lists.specs.Along.{Progress, Awaits, IsNamed, KnowsAhead}
 use Rattle.agent_lists.specs.Requests.{ahead_ask}
-use Rattle.agent_lists.specs.Steps.{progress_by, WasRead, Keeps}
+use Rattle.agent_lists.specs.Steps.{progress_by, IsWhole, WasRead, Keeps}
 use Rattle.agent_lists.proofs.Records.{Fresh, still, still_asks}
 use Rattle.agent_lists.proofs.Ends.{end_keeps}
 use Rattle.agent_lists.proofs.Runs.{judge_keeps, table_keeps}
@@ -59,15 +59,19 @@ verdict_ends l k orb aborted own =
     (λ proper. pick l k orb (not (orb.format == 0)) (Some (kinds.Illegal 0x01)) _ (λ _. (refl, (own, proper)))
     (λ _. pick l k orb aborted (Some kinds.Aborted) _ (λ _. (refl, (own, proper))) (λ _. refusal_ends l k orb own proper)))
 
+whole_unrun : (kind : StatusKind) (p : Progress) → EndsBy kind None → IsWhole kind p
+whole_unrun kinds.Good p e = cc e
+whole_unrun _ p e = tt
+
 checked_keeps : (verdict : Option StatusKind) (l : OrbList) (p : Progress) (m : Machine) (told : Told) (place : ℕ) (plain : PlainDisk) (ahead : Ask) → IsLaid l → EndsSo l p.ended m.orb verdict → Fresh l p m ahead → Keeps l p place plain Nothing ahead (checked m place plain told verdict)
 checked_keeps (Some kind) l p m told place plain ahead laid e f =
-    end_keeps l p m kind (death_by kind) place plain ahead f.turn (subst (λ (o : Option Outcome). EndsBy kind o) (sym f.unrun) e.0) e.1 f.good.leads f.behind
+    end_keeps l p m kind (death_by kind) place plain ahead f.turn (subst (λ (o : Option Outcome). EndsBy kind o) (sym f.unrun) e.0) (whole_unrun kind p e.0) e.1 f.good.leads f.behind
 checked_keeps None l p m told place plain ahead laid e f =
-    let a : Awaits l p m.present m.orb m.payload = record { turn = f.turn; unrun = f.unrun; good = f.good; proper = e; part = f.part } in
+    let a : Awaits l p m.present m.orb = record { turn = f.turn; unrun = f.unrun; good = f.good; proper = e } in
     keeps_test l p place plain Nothing ahead (reads_table m.orb) _ _
-    (λ reads. table_keeps l p m place plain ahead reads (record { awaits = a; behind = f.behind }))
-    (λ unread. judge_keeps l p (record m { segments = unread_buffer m.orb }) told place plain ahead
-    (record { ready = record { awaits = a; behind = record { reads = f.behind.reads; under = f.behind.under } }; buffer = laid.buffer p.ended m.orb f.good.own unread }))
+    (λ reads. table_keeps l p m place plain ahead reads f.empty (record { awaits = a; behind = f.behind }))
+    (λ unread. judge_keeps l p (record m { segments = unread_buffer m.orb }) told place plain ahead laid
+    (record { ready = record { awaits = a; behind = record { reads = f.behind.reads; under = f.behind.under } }; buffer = laid.buffer p.ended m.orb f.good.own unread; empty = f.empty }))
 
 -- ---- the read ahead
 -- behind the checks the present ORB is read no more, and the number of the ORB behind it is this
@@ -80,7 +84,7 @@ IsBehind phases.WritingLastStatus ended k = Unit {0}
 IsBehind _ ended k = ⊥
 
 record Checked (p : Progress) (next : OrbPointer) (s : AgentStep × Machine) : Type 0 where
-  pub behind : IsBehind s.1.phase (progress_by s.0 p).ended (suc p.ended)
+  pub behind : IsBehind s.1.phase (progress_by s p).ended (suc p.ended)
   pub same : s.1.orb.next ≡ next
 
 checked_if : (b : Bool) (p : Progress) (next : OrbPointer) (x y : AgentStep × Machine) → Checked p next x → Checked p next y → Checked p next (cond b x y)
@@ -120,8 +124,8 @@ knows_ahead _ l p k next rung e n = elim e [ ]
 ahead_keeps : (dead : Option FailCause) (next : OrbPointer) (l : OrbList) (p : Progress) (place : ℕ) (plain : PlainDisk) (ahead : Ask) (s : AgentStep × Machine) → Leads l p.ended next → Checked p next s → Keeps l p place plain Nothing ahead s → Keeps l p place plain Nothing ahead (ahead_of dead next s)
 ahead_keeps None (At next) l p place plain ahead s n c k = record {
   along = record {
-    main = still s.1.phase l (progress_by s.0 p) s.1 (aheads.UnderWay s.1.doorbell) false s.1.aborted k.along.main;
-    ahead = knows_ahead s.1.phase l (progress_by s.0 p) (suc p.ended) s.1.orb.next s.1.doorbell c.behind (record { offset = next; named = c.same; place = n.0; linked = n.1 });
+    main = still s.1.phase l (progress_by s p) s.1 (aheads.UnderWay s.1.doorbell) false s.1.aborted k.along.main;
+    ahead = knows_ahead s.1.phase l (progress_by s p) (suc p.ended) s.1.orb.next s.1.doorbell c.behind (record { offset = next; named = c.same; place = n.0; linked = n.1 });
   };
   runs = k.runs;
   ends = k.ends;

@@ -3,6 +3,7 @@ use Rattle.std.proofs.Common.{◌≡◌, ap, ◌∙◌, ℕ, suc, ◌<◌, ◌�
 use Rattle.orb_layout.specs.declared.command.CommandOrb.{CommandOrb}
 use Rattle.orb_layout.specs.declared.pointer.OrbPointer.{OrbPointer}
 use Rattle.orb_layout.specs.declared.pointer.OrbPointer.TheVariants.{Null, At}
+use Rattle.page_table.specs.declared.segment.Segment.{Segment}
 use Rattle.command_agent.specs.declared.phase.Phase.{Phase}
 use Rattle.command_agent.specs.declared.phase.Phase.TheVariants as phases
 use Rattle.command_agent.specs.declared.phase.ReadAhead.{ReadAhead}
@@ -11,7 +12,7 @@ use Rattle.orb_layout.specs.StatusBlocks.{status_bytes}
 use Rattle.command_agent.specs.Machine.{Machine}
 use Rattle.command_agent.specs.Steps.{src_of}
 use Rattle.agent_lists.specs.Lists.{OrbList, Leads, IsGood, Grows}
-use Rattle.agent_lists.specs.Along.{Progress, IsNext, Awaits, IsOver, Writing, AtEnd, Knows, IsNamed, ReadsAhead, KnowsAhead, Along}
+use Rattle.agent_lists.specs.Along.{Progress, IsNext, Awaits, Told, IsOver, Writing, AtEnd, Knows, IsNamed, ReadsAhead, KnowsAhead, Along}
 use Rattle.agent_lists.specs.Steps.{GrowsLaw}
 
 linked_still : (l more : OrbList) (k : ℕ) → Grows l more → k < l.linked → k < more.linked
@@ -27,13 +28,25 @@ good_still l more k orb g n i = record { own = g.orb k n orb i.own; leads = lead
 next_still : (l more : OrbList) (ended answered at : ℕ) → Grows l more → IsNext l ended answered at → IsNext more ended answered at
 next_still l more ended answered at g t = record { place = t.place ∙ g.address ended t.linked; linked = linked_still l more ended g t.linked; all = t.all }
 
-awaits_still : (l more : OrbList) (p : Progress) (at : ℕ) (orb : CommandOrb) (payload : List ℕ) → Grows l more → Awaits l p at orb payload → Awaits more p at orb payload
-awaits_still l more p at orb payload g a = record {
+awaits_still : (l more : OrbList) (p : Progress) (at : ℕ) (orb : CommandOrb) → Grows l more → Awaits l p at orb → Awaits more p at orb
+awaits_still l more p at orb g a = record {
   turn = next_still l more p.ended p.answered at g a.turn;
   unrun = a.unrun;
   good = good_still l more p.ended orb g a.turn.linked a.good;
   proper = a.proper;
-  part = g.part p.ended a.turn.linked payload a.part;
+}
+
+told_still : (l more : OrbList) (p : Progress) (at : ℕ) (orb : CommandOrb) (segments : List Segment) (answer : List ℕ) (written : ℕ) → Grows l more → Told l p at orb segments answer written → Told more p at orb segments answer written
+told_still l more p at orb segments answer written g t = record {
+  turn = next_still l more p.ended p.answered at g t.turn;
+  good = good_still l more p.ended orb g t.turn.linked t.good;
+  proper = t.proper;
+  buffer = g.buffer p.ended t.turn.linked segments t.buffer;
+  ran = t.ran;
+  told = t.told;
+  whole = t.whole;
+  done = t.done;
+  within = t.within;
 }
 
 over_still : (l more : OrbList) (p : Progress) (at : ℕ) (next : OrbPointer) → Grows l more → IsOver l p at next → IsOver more p at next
@@ -56,17 +69,10 @@ writing_still l more p at next outgoing g w = record {
 }
 
 knows_still : (phase : Phase) (l more : OrbList) (p : Progress) (m : Machine) → Grows l more → Knows l p phase m → Knows more p phase m
-knows_still phases.Fetching l more p m g k = record { turn = next_still l more p.ended p.answered m.present g k.turn; unrun = k.unrun; unread = k.unread; part = g.part p.ended k.turn.linked m.payload k.part }
-knows_still phases.ReadingTable l more p m g k = record { awaits = awaits_still l more p m.present m.orb m.payload g k.awaits; reads = k.reads }
-knows_still (phases.ReadingData wanted) l more p m g k = record { awaits = awaits_still l more p m.present m.orb m.payload g k.awaits; buffer = g.buffer p.ended k.awaits.turn.linked m.segments k.buffer; whole = k.whole }
-knows_still phases.Answering l more p m g k = record {
-  turn = next_still l more p.ended p.answered m.present g k.turn;
-  good = good_still l more p.ended m.orb g k.turn.linked k.good;
-  proper = k.proper;
-  part = g.part p.ended k.turn.linked m.payload k.part;
-  buffer = g.buffer p.ended k.turn.linked m.segments k.buffer;
-  ran = k.ran;
-}
+knows_still phases.Fetching l more p m g k = record { turn = next_still l more p.ended p.answered m.present g k.turn; unrun = k.unrun; unread = k.unread; empty = k.empty }
+knows_still phases.ReadingTable l more p m g k = record { awaits = awaits_still l more p m.present m.orb g k.awaits; reads = k.reads; empty = k.empty }
+knows_still (phases.ReadingData wanted) l more p m g k = record { awaits = awaits_still l more p m.present m.orb g k.awaits; part = g.part p.ended k.awaits.turn.linked m.payload k.part; buffer = g.buffer p.ended k.awaits.turn.linked m.segments k.buffer; whole = k.whole }
+knows_still phases.Answering l more p m g k = record { told = told_still l more p m.present m.orb m.segments m.answer m.written g k.told; bytes = k.bytes }
 knows_still phases.WritingStatus l more p m g k = writing_still l more p m.present m.orb.next m.outgoing g k
 knows_still phases.WritingLastStatus l more p m g k = writing_still l more p m.present m.orb.next m.outgoing g k
 knows_still phases.ReadingNext l more p m g k = record { over = over_still l more p m.present m.orb.next g k.over; all = k.all; null = k.null }

@@ -1,8 +1,8 @@
 -- What is known of an agent in the course of a step.
-use Rattle.std.proofs.Common.{◌≡◌, refl, ℕ, suc, ◌==◌, Bool, None}
+use Rattle.std.proofs.Common.{◌≡◌, ◌⊎◌, refl, ℕ, suc, Bool, false, [], length, None}
 use Rattle.orb_layout.specs.declared.ask.Ask.{Ask}
 use Rattle.rbc_disk.specs.Units.{PlainDisk}
-use Rattle.rbc_disk.specs.Runs.{need_of, Feeds}
+use Rattle.rbc_disk.specs.Runs.{need_of, data_length_of, Feeds}
 use Rattle.command_agent.specs.declared.phase.Phase.{Phase}
 use Rattle.command_agent.specs.declared.phase.Phase.TheVariants as phases
 use Rattle.command_agent.specs.declared.phase.ReadAhead.{ReadAhead}
@@ -21,23 +21,26 @@ pub record Fresh (l : OrbList) (p : Progress) (m : Machine) (ahead : Ask) : Type
   pub turn : IsNext l p.ended p.answered m.present
   pub unrun : p.outcome ≡ None
   pub good : IsGood l p.ended m.orb
-  pub part : l.is_data p.ended m.payload
+  pub empty : m.payload ≡ []
   pub behind : Behind l (suc p.ended) m ahead
 
 -- it passed its checks, and waits for its run
 pub record Ready (l : OrbList) (p : Progress) (m : Machine) (ahead : Ask) : Type 0 where
-  pub awaits : Awaits l p m.present m.orb m.payload
+  pub awaits : Awaits l p m.present m.orb
   pub behind : Behind l (suc p.ended) m ahead
 
 -- its buffer is known
 pub record Judgeable (l : OrbList) (p : Progress) (m : Machine) (ahead : Ask) : Type 0 where
   pub ready : Ready l p m ahead
   pub buffer : l.is_buffer p.ended m.segments
+  pub empty : m.payload ≡ []
 
 -- its command may run
 pub record Runnable (l : OrbList) (p : Progress) (m : Machine) (place : ℕ) (plain : PlainDisk) (ahead : Ask) : Type 0 where
   pub ready : Ready l p m ahead
   pub buffer : l.is_buffer p.ended m.segments
+  pub part : l.is_data p.ended m.payload
+  pub whole : (m.payload ≡ []) ⊎ (length m.payload ≡ data_length_of false m.orb.cdb)
   pub fed : Feeds (need_of m.orb.cdb (plan_of m) plain place) m.payload
 
 -- the read ahead, the doorbell's mark and that of an abort are nothing to the main transaction

@@ -20,7 +20,7 @@ use Rattle.command_agent.specs.Steps.{quiet, told_or, advanced, ahead_read, ahea
 use Rattle.agent_lists.specs.Lists.{OrbList, IsGood, IsLaid}
 use Rattle.agent_lists.specs.Along.{Progress, Knows, KnowsAhead, Along}
 use Rattle.agent_lists.specs.Requests.{ahead_ask, main_under, ahead_under}
-use Rattle.agent_lists.specs.Steps.{heard_by, Keeps, MainBrings, AheadBrings, Replies, Loses}
+use Rattle.agent_lists.specs.Steps.{main_heard, Keeps, MainBrings, AheadBrings, Replies, Loses}
 use Rattle.agent_lists.proofs.Records.{still, still_asks}
 use Rattle.agent_lists.proofs.Ends.{fail_keeps, dead_keeps}
 use Rattle.agent_lists.proofs.Reading.{MoveKeeps, moved, idle_behind, unread_leads, orb_keeps, table_read_keeps, data_read_keeps, chunk_keeps}
@@ -28,12 +28,12 @@ use Rattle.agent_lists.proofs.Turns.{status_keeps, next_keeps}
 
 -- ---- the main transaction
 main_keeps : (phase : Phase) (l : OrbList) (p : Progress) (m : Machine) (told : Told) (place : ℕ) (plain : PlainDisk) (answer : Answer) → IsLaid l → Knows l p phase m → KnowsAhead l p phase m.orb.next m.ahead → MainBrings l p phase m answer
-    → MoveKeeps l (heard_by Main phase answer p) told place plain (ahead_under m) (advanced phase (record m { phase = phase }) answer)
+    → MoveKeeps l (main_heard phase m answer p) told place plain (ahead_under m) (advanced phase (record m { phase = phase }) answer)
 main_keeps phases.Fetching l p m told place plain answer laid k h b = orb_keeps (payload_of answer 32) l p (record m { phase = phases.Fetching }) told place plain laid k h b
-main_keeps phases.ReadingTable l p m told place plain answer laid k h b = table_read_keeps (payload_of answer (8 * m.orb.data_size)) l p (record m { phase = phases.ReadingTable }) told place plain k h b
+main_keeps phases.ReadingTable l p m told place plain answer laid k h b = table_read_keeps (payload_of answer (8 * m.orb.data_size)) l p (record m { phase = phases.ReadingTable }) told place plain laid k h b
 main_keeps (phases.ReadingData wanted) l p m told place plain answer laid k h b =
     data_read_keeps (payload_of answer (chunk_of m (length m.payload) wanted).length) l p (record m { phase = phases.ReadingData wanted }) wanted told place plain k h b
-main_keeps phases.Answering l p m told place plain answer laid k h b = chunk_keeps (write_failure answer) l p (record m { phase = phases.Answering }) told place plain k h
+main_keeps phases.Answering l p m told place plain answer laid k h b = chunk_keeps (write_failure answer) l p (record m { phase = phases.Answering }) told place plain k.told h
 main_keeps phases.WritingStatus l p m told place plain answer laid k h b = status_keeps (write_failure answer) l p (record m { phase = phases.WritingStatus }) told place plain laid k h
 main_keeps phases.ReadingNext l p m told place plain answer laid k h b = next_keeps (payload_of answer 8) l p (record m { phase = phases.ReadingNext }) told place plain laid k h b
 main_keeps phases.WritingLastStatus l p m told place plain answer laid k h b = record { keeps = record { along = record { main = tt; ahead = tt }; runs = tt; ends = tt; main_is = refl; ahead_is = refl } }
@@ -93,7 +93,7 @@ main_lost_keeps phases.Fetching l p m cause place plain k h =
 main_lost_keeps phases.ReadingTable l p m cause place plain k h = fail_keeps l p (record m { phase = phases.ReadingTable }) cause place plain (ahead_under m) k.awaits.turn k.awaits.good.leads (record { reads = h; under = refl })
 main_lost_keeps (phases.ReadingData wanted) l p m cause place plain k h =
     fail_keeps l p (record m { phase = phases.ReadingData wanted }) cause place plain (ahead_under m) k.awaits.turn k.awaits.good.leads (record { reads = h; under = refl })
-main_lost_keeps phases.Answering l p m cause place plain k h = fail_keeps l p (record m { phase = phases.Answering }) cause place plain (ahead_under m) k.turn k.good.leads (record { reads = h; under = refl })
+main_lost_keeps phases.Answering l p m cause place plain k h = fail_keeps l p (record m { phase = phases.Answering }) cause place plain (ahead_under m) k.told.turn k.told.good.leads (record { reads = h; under = refl })
 main_lost_keeps phases.WritingStatus l p m cause place plain k h = dead_keeps l p (record m { phase = phases.WritingStatus }) cause place plain (ahead_under m)
 main_lost_keeps phases.ReadingNext l p m cause place plain k h = dead_keeps l p (record m { phase = phases.ReadingNext }) cause place plain (ahead_under m)
 main_lost_keeps phases.WritingLastStatus l p m cause place plain k h = record { along = record { main = tt; ahead = tt }; runs = tt; ends = tt; main_is = refl; ahead_is = refl }

@@ -27,13 +27,13 @@ use Rattle.agent_lists.proofs.Reading.{MoveKeeps, moved, idle_behind, idle_asks}
 turn_keeps : (ahead : ReadAhead) (next : ℕ) (l : OrbList) (p : Progress) (m : Machine) (told : Told) (place : ℕ) (plain : PlainDisk) (under : Ask) → IsLaid l → IsNext l p.ended p.answered (aligned next) → p.outcome ≡ None → ReadsAhead l p.ended (At next) ahead → ahead_ask ahead (At next) ≡ under
     → MoveKeeps l p told place plain under (turn_step m next ahead)
 turn_keeps aheads.Idle next l p m told place plain under laid t u h e = record {
-  keeps = record { along = record { main = record { turn = t; unrun = u; unread = refl; part = laid.empty p.ended }; ahead = refl }; runs = tt; ends = tt; main_is = refl; ahead_is = e };
+  keeps = record { along = record { main = record { turn = t; unrun = u; unread = refl; empty = refl }; ahead = refl }; runs = tt; ends = tt; main_is = refl; ahead_is = e };
 }
 turn_keeps (aheads.UnderWay rung) next l p m told place plain under laid t u h e = record {
-  keeps = record { along = record { main = record { turn = t; unrun = u; unread = refl; part = laid.empty p.ended }; ahead = refl }; runs = tt; ends = tt; main_is = e; ahead_is = refl };
+  keeps = record { along = record { main = record { turn = t; unrun = u; unread = refl; empty = refl }; ahead = refl }; runs = tt; ends = tt; main_is = e; ahead_is = refl };
 }
 turn_keeps (aheads.Kept orb) next l p m told place plain under laid t u h e = record {
-  keeps = check_keeps l p (record (turned m next) { orb = orb }) told place plain under laid (record { turn = t; unrun = u; good = h.1; part = laid.empty p.ended; behind = record { reads = tt; under = e } });
+  keeps = check_keeps l p (record (turned m next) { orb = orb }) told place plain under laid (record { turn = t; unrun = u; good = h.1; empty = refl; behind = record { reads = tt; under = e } });
 }
 
 -- a null pointer names no ORB to be read ahead

@@ -23,7 +23,7 @@ pointed_keeps Null l p m laid e n = refl
 pointed_keeps (At next) l p m laid e n =
     let place : aligned next ≡ l.address 0 = cc in
     record {
-      along = record { main = record { turn = record { place = place; linked = n; all = refl }; unrun = refl; unread = refl; part = laid.empty 0 }; ahead = refl };
+      along = record { main = record { turn = record { place = place; linked = n; all = refl }; unrun = refl; unread = refl; empty = refl }; ahead = refl };
       asks = ap (λ (at : ℕ). Read at 32) place;
       main_is = refl;
       ahead_is = refl;

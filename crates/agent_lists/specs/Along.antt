@@ -1,5 +1,5 @@
 -- Where an agent is on a list, by its phase (NCITS 325-1998, command block agents and ordered execution).
-use Rattle.std.specs.Prelude.{◌≡◌, ℕ, suc, ◌==◌, ◌<◌, Bool, true, false, List, length, Option, None}
+use Rattle.std.specs.Prelude.{◌≡◌, ℕ, suc, ◌==◌, ◌<◌, ◌≤◌, Bool, true, false, List, [], length, take, drop, Option, None}
 use Rattle.orb_layout.specs.declared.command.CommandOrb.{CommandOrb}
 use Rattle.orb_layout.specs.declared.pointer.OrbPointer.{OrbPointer}
 use Rattle.orb_layout.specs.declared.pointer.OrbPointer.TheVariants.{Null, At}
@@ -15,19 +15,22 @@ use Rattle.command_agent.specs.declared.phase.ReadAhead.TheVariants as aheads
 use Rattle.command_agent.specs.Machine.{Machine, aligned}
 use Rattle.command_agent.specs.Checks.{reads_table}
 use Rattle.command_agent.specs.Steps.{src_of}
-use Rattle.agent_laws.specs.Answers.{is_good}
+use Rattle.agent_laws.specs.Answers.{is_good, to_write}
+use Rattle.agent_laws.specs.Buffers.{piece}
 use Rattle.agent_lists.specs.Lists.{OrbList, Leads, IsGood}
 
--- How far a list is: how many of its ORBs have ended, how the command of the one behind these ran, if it did, and of how many the write of the
--- status block was answered.
+-- How far a list is: how many of its ORBs have ended; how the command of the one behind these ran, if it did, the answer that it told, and how many
+-- bytes of this were written; and of how many ORBs the write of the status block was answered.
 pub record Progress : Type 0 where
   pub ended : ℕ
   pub outcome : Option Outcome
+  pub answer : List ℕ
+  pub carried : ℕ
   pub answered : ℕ
 
 -- none of it was begun
 abbrev pub at_start : Progress
-at_start = record { ended = 0; outcome = None; answered = 0 }
+at_start = record { ended = 0; outcome = None; answer = []; carried = 0; answered = 0 }
 
 -- The present ORB is the one behind those that have ended, and the status block of each of these was written.
 pub record IsNext (l : OrbList) (ended answered at : ℕ) : Type 0 where
@@ -40,35 +43,44 @@ pub record Begins (l : OrbList) (p : Progress) (at : ℕ) (next : OrbPointer) (p
   pub turn : IsNext l p.ended p.answered at
   pub unrun : p.outcome ≡ None
   pub unread : next ≡ Null
-  pub part : l.is_data p.ended payload
+  pub empty : payload ≡ []
 
 -- it was read, it is no dummy, and its command has not run:
-pub record Awaits (l : OrbList) (p : Progress) (at : ℕ) (orb : CommandOrb) (payload : List ℕ) : Type 0 where
+pub record Awaits (l : OrbList) (p : Progress) (at : ℕ) (orb : CommandOrb) : Type 0 where
   pub turn : IsNext l p.ended p.answered at
   pub unrun : p.outcome ≡ None
   pub good : IsGood l p.ended orb
   pub proper : (orb.format == 3) ≡ false
-  pub part : l.is_data p.ended payload
 
 -- its page table is being read:
 pub record Tabling (l : OrbList) (p : Progress) (at : ℕ) (orb : CommandOrb) (payload : List ℕ) : Type 0 where
-  pub awaits : Awaits l p at orb payload
+  pub awaits : Awaits l p at orb
   pub reads : reads_table orb ≡ true
+  pub empty : payload ≡ []
 
 -- its data are being read:
 pub record Filling (l : OrbList) (p : Progress) (at : ℕ) (orb : CommandOrb) (payload : List ℕ) (segments : List Segment) (wanted : ℕ) : Type 0 where
-  pub awaits : Awaits l p at orb payload
+  pub awaits : Awaits l p at orb
+  pub part : l.is_data p.ended payload
   pub buffer : l.is_buffer p.ended segments
   pub whole : wanted ≡ data_length_of false orb.cdb
 
--- its command has run, and its answer is being written:
-pub record Answers (l : OrbList) (p : Progress) (at : ℕ) (orb : CommandOrb) (payload : List ℕ) (segments : List Segment) : Type 0 where
+-- its command has run good, and told an answer, of which so many bytes were written:
+pub record Told (l : OrbList) (p : Progress) (at : ℕ) (orb : CommandOrb) (segments : List Segment) (answer : List ℕ) (written : ℕ) : Type 0 where
   pub turn : IsNext l p.ended p.answered at
   pub good : IsGood l p.ended orb
   pub proper : (orb.format == 3) ≡ false
-  pub part : l.is_data p.ended payload
   pub buffer : l.is_buffer p.ended segments
   pub ran : is_good p.outcome ≡ true
+  pub told : answer ≡ p.answer
+  pub whole : to_write p.outcome p.answer ≡ p.answer
+  pub done : written ≡ p.carried
+  pub within : written ≤ length answer
+
+-- and the next bytes of it are being written, as many as the chunk of its buffer has:
+pub record Answers (l : OrbList) (p : Progress) (at : ℕ) (orb : CommandOrb) (segments : List Segment) (answer : List ℕ) (written : ℕ) (outgoing : List ℕ) : Type 0 where
+  pub told : Told l p at orb segments answer written
+  pub bytes : outgoing ≡ take (piece orb segments written (length answer)).length (drop written answer)
 
 -- it has ended:
 pub record IsOver (l : OrbList) (p : Progress) (at : ℕ) (next : OrbPointer) : Type 0 where
@@ -97,7 +109,7 @@ abbrev pub Knows : OrbList → Progress → Phase → Machine → Type 0
 Knows l p phases.Fetching m = Begins l p m.present m.orb.next m.payload
 Knows l p phases.ReadingTable m = Tabling l p m.present m.orb m.payload
 Knows l p (phases.ReadingData wanted) m = Filling l p m.present m.orb m.payload m.segments wanted
-Knows l p phases.Answering m = Answers l p m.present m.orb m.payload m.segments
+Knows l p phases.Answering m = Answers l p m.present m.orb m.segments m.answer m.written m.outgoing
 Knows l p phases.WritingStatus m = Writing l p m.present m.orb.next m.outgoing
 Knows l p phases.WritingLastStatus m = Writing l p m.present m.orb.next m.outgoing
 Knows l p phases.ReadingNext m = AtEnd l p m.present m.orb.next

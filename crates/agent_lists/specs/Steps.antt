@@ -1,5 +1,5 @@
 -- What each call of an agent does along a list (NCITS 325-1998, command block agents, ordered execution and status block).
-use Rattle.std.specs.Prelude.{◌≡◌, ℕ, suc, ◌*◌, ◌==◌, ◌<◌, IfSome, Bool, true, false, List, ◌++◌, length, Option, Some, None, Result, Ok, Err}
+use Rattle.std.specs.Prelude.{◌≡◌, ◌⊎◌, ℕ, suc, ◌+◌, ◌*◌, ◌==◌, ◌<◌, IfSome, Bool, true, false, List, [], ◌++◌, length, Option, Some, None, Result, Ok, Err}
 use Rattle.orb_layout.specs.declared.ask.Ask.{Ask}
 use Rattle.orb_layout.specs.declared.ask.Ask.TheVariants.{Read, Write, Nothing}
 use Rattle.orb_layout.specs.declared.ask.FailCause.{FailCause}
@@ -15,7 +15,7 @@ use Rattle.page_table.specs.declared.segment.Segment.{Segment}
 use Rattle.page_table.specs.Elements.{elements_of}
 use Rattle.rbc_disk.specs.declared.command.Outcome.{Outcome}
 use Rattle.rbc_disk.specs.Units.{PlainDisk}
-use Rattle.rbc_disk.specs.Runs.{need_of, Feeds, Told}
+use Rattle.rbc_disk.specs.Runs.{need_of, data_length_of, Feeds, Told}
 use Rattle.command_agent.specs.declared.phase.Phase.{Phase}
 use Rattle.command_agent.specs.declared.phase.Phase.TheVariants as phases
 use Rattle.command_agent.specs.declared.step.AgentStep.{AgentStep}
@@ -23,7 +23,8 @@ use Rattle.command_agent.specs.declared.step.PointRefusal.{PointRefusal}
 use Rattle.command_agent.specs.declared.step.Which.{Which}
 use Rattle.command_agent.specs.declared.step.Which.TheVariants.{Main, Ahead}
 use Rattle.command_agent.specs.Machine.{Machine, chunk_of, named}
-use Rattle.command_agent.specs.Steps.{src_of, point_step, doorbell_step, reset_step, abort_step, reply_step, lost_step}
+use Rattle.command_agent.specs.Steps.{src_of, answer_chunk, point_step, doorbell_step, reset_step, abort_step, reply_step, lost_step}
+use Rattle.agent_laws.specs.Answers.{to_write}
 use Rattle.agent_laws.specs.Buffers.{plan_for}
 use Rattle.agent_laws.specs.Wire.{EndsBy}
 use Rattle.agent_lists.specs.Lists.{OrbList, Leads, IsGood, IsLaid, Grows}
@@ -31,29 +32,39 @@ use Rattle.agent_lists.specs.Along.{Progress, at_start, IsNext, Along}
 use Rattle.agent_lists.specs.Requests.{main_under, ahead_under, main_by, ahead_by, forgets, main_beside, ahead_beside}
 
 -- ---- how far the list is behind a step
-abbrev pub run_by : Option Outcome → Progress → Progress
-run_by None p = p
-run_by (Some outcome) p = record p { outcome = Some outcome }
+abbrev pub run_by : Option Outcome → (answer : List ℕ) → Progress → Progress
+run_by None answer p = p
+run_by (Some outcome) answer p = record p { outcome = Some outcome; answer = answer; carried = 0 }
 
 abbrev pub end_by : Option StatusKind → Progress → Progress
 end_by None p = p
-end_by (Some kind) p = record p { ended = suc p.ended; outcome = None }
+end_by (Some kind) p = record p { ended = suc p.ended; outcome = None; answer = []; carried = 0 }
 
-abbrev pub progress_by : AgentStep → Progress → Progress
-progress_by step p = end_by step.ended (run_by step.ran p)
+abbrev pub progress_by : AgentStep × Machine → Progress → Progress
+progress_by (step, m) p = end_by step.ended (run_by step.ran m.answer p)
 
 -- the write of a status block was answered, or it failed
 abbrev pub status_by : Option FailCause → Progress → Progress
 status_by None p = record p { answered = suc p.answered }
 status_by (Some cause) p = p
 
-abbrev pub heard_by : Which → Phase → Answer → Progress → Progress
-heard_by Main phases.WritingStatus answer p = status_by (write_failure answer) p
-heard_by _ _ answer p = p
+-- the write of so many bytes of an answer
+abbrev pub chunk_by : Option FailCause → ℕ → Progress → Progress
+chunk_by None size p = record p { carried = p.carried + size }
+chunk_by (Some cause) size p = p
+
+abbrev pub main_heard : Phase → Machine → Answer → Progress → Progress
+main_heard phases.Answering m answer p = chunk_by (write_failure answer) (answer_chunk m) p
+main_heard phases.WritingStatus m answer p = status_by (write_failure answer) p
+main_heard _ m answer p = p
+
+abbrev pub heard_by : Which → Machine → Answer → Progress → Progress
+heard_by Main m answer p = main_heard m.phase m answer p
+heard_by Ahead m answer p = p
 
 -- ---- what a step tells
 -- A run is that of the ORB behind those that have ended, for the first time, with its bytes, which are no dummy's, its buffer and its data, all of
--- them or none.
+-- them or none, and all where the command needs them.
 pub record IsRun (l : OrbList) (p : Progress) (place : ℕ) (plain : PlainDisk) (at : ℕ) (orb : CommandOrb) (segments : List Segment) (payload : List ℕ) : Type 0 where
   pub turn : IsNext l p.ended p.answered at
   pub once : p.outcome ≡ None
@@ -61,6 +72,7 @@ pub record IsRun (l : OrbList) (p : Progress) (place : ℕ) (plain : PlainDisk) 
   pub proper : (orb.format == 3) ≡ false
   pub buffer : l.is_buffer p.ended segments
   pub part : l.is_data p.ended payload
+  pub whole : (payload ≡ []) ⊎ (length payload ≡ data_length_of false orb.cdb)
   pub fed : Feeds (need_of orb.cdb (plan_for orb segments) plain place) payload
 
 -- But where it failed, an ORB that ends was read, and as a dummy exactly where it ends as one.
@@ -69,11 +81,17 @@ WasRead kinds.Failed l k orb = Unit {0}
 WasRead kinds.Dummy l k orb = l.is_orb k orb × ((orb.format == 3) ≡ true)
 WasRead _ l k orb = l.is_orb k orb × ((orb.format == 3) ≡ false)
 
+-- Where it ends good, all of what its run told is written.
+abbrev pub IsWhole : StatusKind → Progress → Type 0
+IsWhole kinds.Good p = p.carried ≡ length (to_write p.outcome p.answer)
+IsWhole _ p = Unit {0}
+
 -- The ORB that ends is the one behind those that have ended; good or with a check behind its run with that outcome alone, as dummy, aborted or
 -- illegal without one. Its status block is asked for, of this kind and with its address, and with src by its next pointer.
 pub record IsEnd (l : OrbList) (p : Progress) (kind : StatusKind) (at : ℕ) (orb : CommandOrb) (outgoing : List ℕ) (ask : Ask) : Type 0 where
   pub turn : IsNext l p.ended p.answered at
   pub by : EndsBy kind p.outcome
+  pub whole : IsWhole kind p
   pub read : WasRead kind l p.ended orb
   pub leads : Leads l p.ended orb.next
   pub block : outgoing ≡ status_bytes (record { src = src_of orb.next; kind = kind; orb = l.address p.ended })
@@ -82,9 +100,9 @@ pub record IsEnd (l : OrbList) (p : Progress) (kind : StatusKind) (at : ℕ) (or
 -- A step, with what is under way beside it: the agent is along the list, further by what the step tells; what it tells is of the ORB behind those
 -- that have ended; and what is under way is what was asked for.
 pub record Keeps (l : OrbList) (p : Progress) (place : ℕ) (plain : PlainDisk) (main ahead : Ask) (s : AgentStep × Machine) : Type 0 where
-  pub along : Along l (progress_by s.0 p) s.1
+  pub along : Along l (progress_by s p) s.1
   pub runs : IfSome s.0.ran (λ outcome. IsRun l p place plain s.1.present s.1.orb s.1.segments s.1.payload)
-  pub ends : IfSome s.0.ended (λ kind. IsEnd l (run_by s.0.ran p) kind s.1.present s.1.orb s.1.outgoing s.0.ask)
+  pub ends : IfSome s.0.ended (λ kind. IsEnd l (run_by s.0.ran s.1.answer p) kind s.1.present s.1.orb s.1.outgoing s.0.ask)
   pub main_is : main_under s.1 ≡ main_by s.0.promoted s.0.ask main ahead
   pub ahead_is : ahead_under s.1 ≡ ahead_by (forgets s.0) s.0.ahead ahead
 
@@ -117,7 +135,7 @@ Brings l p m Ahead answer = AheadBrings l p m.phase answer
 abbrev pub Replies : OrbList → Type 0
 Replies l =
     (p : Progress) (m : Machine) (place : ℕ) (plain : PlainDisk) (told : Option Told) (which : Which) (answer : Answer) → IsLaid l → Along l p m → Brings l p m which answer
-    → Keeps l (heard_by which m.phase answer p) place plain (main_beside which m) (ahead_beside which m) (reply_step m place plain told which answer)
+    → Keeps l (heard_by which m answer p) place plain (main_beside which m) (ahead_beside which m) (reply_step m place plain told which answer)
 
 abbrev pub Loses : OrbList → Type 0
 Loses l =
