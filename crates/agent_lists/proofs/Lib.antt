@@ -7,3 +7,5 @@ pub mod Turns
 pub mod Replies
 pub mod Writes
 pub mod Growing
+pub mod Telling
+pub mod Tested

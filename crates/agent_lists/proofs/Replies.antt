@@ -27,7 +27,7 @@ use Rattle.agent_lists.proofs.Reading.{MoveKeeps, moved, idle_behind, unread_lea
 use Rattle.agent_lists.proofs.Turns.{status_keeps, next_keeps}
 
 -- ---- the main transaction
-main_keeps : (phase : Phase) (l : OrbList) (p : Progress) (m : Machine) (told : Told) (place : ℕ) (plain : PlainDisk) (answer : Answer) → IsLaid l → Knows l p phase m → KnowsAhead l p phase m.orb.next m.ahead → MainBrings l p phase m answer
+main_keeps : (phase : Phase) (l : OrbList) (p : Progress) (m : Machine) (told : Told) (place : ℕ) (plain : PlainDisk) (answer : Answer) → IsLaid l → Knows l p phase m → KnowsAhead l p phase m.orb.next m.ahead → MainBrings l p.ended phase m answer
     → MoveKeeps l (main_heard phase m answer p) told place plain (ahead_under m) (advanced phase (record m { phase = phase }) answer)
 main_keeps phases.Fetching l p m told place plain answer laid k h b = orb_keeps (payload_of answer 32) l p (record m { phase = phases.Fetching }) told place plain laid k h b
 main_keeps phases.ReadingTable l p m told place plain answer laid k h b = table_read_keeps (payload_of answer (8 * m.orb.data_size)) l p (record m { phase = phases.ReadingTable }) told place plain laid k h b
@@ -50,7 +50,7 @@ no_ahead phases.Suspended l p next = refl
 no_ahead _ l p next = tt
 
 -- its bytes are kept
-kept_ahead : (phase : Phase) (l : OrbList) (p : Progress) (next : OrbPointer) (rung : Bool) (bytes : List ℕ) (answer : Answer) → KnowsAhead l p phase next (aheads.UnderWay rung) → payload_of answer 32 ≡ Ok bytes → AheadBrings l p phase answer → KnowsAhead l p phase next (aheads.Kept (command_orb bytes))
+kept_ahead : (phase : Phase) (l : OrbList) (p : Progress) (next : OrbPointer) (rung : Bool) (bytes : List ℕ) (answer : Answer) → KnowsAhead l p phase next (aheads.UnderWay rung) → payload_of answer 32 ≡ Ok bytes → AheadBrings l p.ended phase answer → KnowsAhead l p phase next (aheads.Kept (command_orb bytes))
 kept_ahead phases.ReadingTable l p next rung bytes answer n e b = (n, b bytes e)
 kept_ahead (phases.ReadingData wanted) l p next rung bytes answer n e b = (n, b bytes e)
 kept_ahead phases.Answering l p next rung bytes answer n e b = (n, b bytes e)
@@ -73,7 +73,7 @@ read_keeps : (r : Result (List ℕ) FailCause) (l : OrbList) (p : Progress) (m :
 read_keeps (Ok bytes) l p m place plain a h = over_keeps l p m (aheads.Kept (command_orb bytes)) m.doorbell place plain a (h bytes refl) refl
 read_keeps (Err cause) l p m place plain a h = over_keeps l p m aheads.Idle _ place plain a (no_ahead m.phase l p m.orb.next) refl
 
-ahead_keeps : (ahead : ReadAhead) (l : OrbList) (p : Progress) (m : Machine) (place : ℕ) (plain : PlainDisk) (answer : Answer) → Along l p (record m { ahead = ahead }) → AheadBrings l p m.phase answer
+ahead_keeps : (ahead : ReadAhead) (l : OrbList) (p : Progress) (m : Machine) (place : ℕ) (plain : PlainDisk) (answer : Answer) → Along l p (record m { ahead = ahead }) → AheadBrings l p.ended m.phase answer
     → Keeps l p place plain (main_under (record m { ahead = ahead })) Nothing (cond (is_ahead ahead) (ahead_step (record m { ahead = ahead }) answer) (quiet, record m { ahead = ahead }))
 ahead_keeps (aheads.UnderWay rung) l p m place plain answer a b =
     read_keeps (payload_of answer 32) l p (record m { ahead = aheads.UnderWay rung }) place plain a (λ bytes e. kept_ahead m.phase l p m.orb.next rung bytes answer a.ahead e b)

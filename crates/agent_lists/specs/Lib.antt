@@ -2,3 +2,5 @@ pub mod Lists
 pub mod Along
 pub mod Requests
 pub mod Steps
+pub mod Calls
+pub mod Laws

@@ -107,34 +107,34 @@ pub record Keeps (l : OrbList) (p : Progress) (place : ℕ) (plain : PlainDisk) 
   pub ahead_is : ahead_under s.1 ≡ ahead_by (forgets s.0) s.0.ahead ahead
 
 -- ---- what the answer to a read is to bring
--- of the present ORB its bytes, its page table, or the next bytes of its data; of the last one its next pointer
-abbrev pub MainBrings : OrbList → Progress → Phase → Machine → Answer → Type 0
-MainBrings l p phases.Fetching m answer = (bytes : List ℕ) → payload_of answer 32 ≡ Ok bytes → IsGood l p.ended (command_orb bytes)
-MainBrings l p phases.ReadingTable m answer = (bytes : List ℕ) → payload_of answer (8 * m.orb.data_size) ≡ Ok bytes → l.is_buffer p.ended (elements_of bytes)
-MainBrings l p (phases.ReadingData wanted) m answer = (bytes : List ℕ) → payload_of answer (chunk_of m (length m.payload) wanted).length ≡ Ok bytes → l.is_data p.ended (m.payload ++ bytes)
-MainBrings l p phases.ReadingNext m answer = (bytes : List ℕ) (last : ℕ) → p.ended ≡ suc last → payload_of answer 8 ≡ Ok bytes → Leads l last (pointer_at bytes 0)
-MainBrings l p _ m answer = Unit {0}
-
 -- the bytes of the ORB of this number
 abbrev pub BringsOrb : OrbList → ℕ → Answer → Type 0
 BringsOrb l k answer = (bytes : List ℕ) → payload_of answer 32 ≡ Ok bytes → IsGood l k (command_orb bytes)
 
--- of the ORB behind the present one, or behind the last one
-abbrev pub AheadBrings : OrbList → Progress → Phase → Answer → Type 0
-AheadBrings l p phases.ReadingTable answer = BringsOrb l (suc p.ended) answer
-AheadBrings l p (phases.ReadingData wanted) answer = BringsOrb l (suc p.ended) answer
-AheadBrings l p phases.Answering answer = BringsOrb l (suc p.ended) answer
-AheadBrings l p phases.WritingStatus answer = BringsOrb l p.ended answer
-AheadBrings l p _ answer = Unit {0}
+-- of the present ORB its bytes, its page table, or the next bytes of its data; of the last one its next pointer
+abbrev pub MainBrings : OrbList → (ended : ℕ) → Phase → Machine → Answer → Type 0
+MainBrings l ended phases.Fetching m answer = BringsOrb l ended answer
+MainBrings l ended phases.ReadingTable m answer = (bytes : List ℕ) → payload_of answer (8 * m.orb.data_size) ≡ Ok bytes → l.is_buffer ended (elements_of bytes)
+MainBrings l ended (phases.ReadingData wanted) m answer = (bytes : List ℕ) → payload_of answer (chunk_of m (length m.payload) wanted).length ≡ Ok bytes → l.is_data ended (m.payload ++ bytes)
+MainBrings l ended phases.ReadingNext m answer = (bytes : List ℕ) (last : ℕ) → ended ≡ suc last → payload_of answer 8 ≡ Ok bytes → Leads l last (pointer_at bytes 0)
+MainBrings l ended _ m answer = Unit {0}
 
-abbrev pub Brings : OrbList → Progress → Machine → Which → Answer → Type 0
-Brings l p m Main answer = MainBrings l p m.phase m answer
-Brings l p m Ahead answer = AheadBrings l p m.phase answer
+-- of the ORB behind the present one, or behind the last one
+abbrev pub AheadBrings : OrbList → (ended : ℕ) → Phase → Answer → Type 0
+AheadBrings l ended phases.ReadingTable answer = BringsOrb l (suc ended) answer
+AheadBrings l ended (phases.ReadingData wanted) answer = BringsOrb l (suc ended) answer
+AheadBrings l ended phases.Answering answer = BringsOrb l (suc ended) answer
+AheadBrings l ended phases.WritingStatus answer = BringsOrb l ended answer
+AheadBrings l ended _ answer = Unit {0}
+
+abbrev pub Brings : OrbList → (ended : ℕ) → Machine → Which → Answer → Type 0
+Brings l ended m Main answer = MainBrings l ended m.phase m answer
+Brings l ended m Ahead answer = AheadBrings l ended m.phase answer
 
 -- ---- the laws of the calls
 abbrev pub Replies : OrbList → Type 0
 Replies l =
-    (p : Progress) (m : Machine) (place : ℕ) (plain : PlainDisk) (told : Option Told) (which : Which) (answer : Answer) → IsLaid l → Along l p m → Brings l p m which answer
+    (p : Progress) (m : Machine) (place : ℕ) (plain : PlainDisk) (told : Option Told) (which : Which) (answer : Answer) → IsLaid l → Along l p m → Brings l p.ended m which answer
     → Keeps l (heard_by which m answer p) place plain (main_beside which m) (ahead_beside which m) (reply_step m place plain told which answer)
 
 abbrev pub Loses : OrbList → Type 0

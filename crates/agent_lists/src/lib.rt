@@ -1,2 +1,6 @@
 //! What a command agent does along a list of an initiator.
 #![tactic(auto)]
+
+mod laws;
+
+pub use laws::{agents_stay_along_growing_lists, calls_keep_agents_along, lists_go_in_order};
