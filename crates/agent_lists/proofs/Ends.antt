@@ -24,7 +24,7 @@ pub end_keeps : (l : OrbList) (p : Progress) (m : Machine) (kind : StatusKind) (
     → Keeps l p place plain Nothing ahead (end_step m kind dead)
 end_keeps l p m kind None place plain ahead t b f w n h = record {
   along = record {
-    main = record { over = record { last = p.ended; ended = refl; place = t.place; linked = t.linked; leads = n; unrun = refl }; others = ap suc (sym t.all); kind = kind; block = block_is l p m kind t };
+    main = record { over = record { last = p.ended; ended = refl; place = t.place; linked = t.linked; leads = n; unrun = refl }; others = ap suc (sym t.all); src = refl; kind = kind; block = block_is l p m kind t };
     ahead = h.reads;
   };
   runs = tt;
@@ -34,7 +34,7 @@ end_keeps l p m kind None place plain ahead t b f w n h = record {
 }
 end_keeps l p m kind (Some cause) place plain ahead t b f w n h = record {
   along = record {
-    main = record { over = record { last = p.ended; ended = refl; place = t.place; linked = t.linked; leads = n; unrun = refl }; others = ap suc (sym t.all); kind = kind; block = block_is l p m kind t };
+    main = record { over = record { last = p.ended; ended = refl; place = t.place; linked = t.linked; leads = n; unrun = refl }; others = ap suc (sym t.all); src = refl; kind = kind; block = block_is l p m kind t };
     ahead = tt;
   };
   runs = tt;

@@ -41,7 +41,7 @@ told_still l more p at orb segments answer written g t = record {
   turn = next_still l more p.ended p.answered at g t.turn;
   good = good_still l more p.ended orb g t.turn.linked t.good;
   proper = t.proper;
-  buffer = g.buffer p.ended t.turn.linked segments t.buffer;
+  buffer = g.buffer p.ended t.turn.linked orb segments t.buffer;
   ran = t.ran;
   told = t.told;
   whole = t.whole;
@@ -64,6 +64,7 @@ unfolding over_still
 writing_still l more p at next outgoing g w = record {
   over = over_still l more p at next g w.over;
   others = w.others;
+  src = w.src;
   kind = w.kind;
   block = w.block ∙ ap (λ (place : ℕ). status_bytes (record { src = src_of next; kind = w.kind; orb = place })) (g.address w.over.last w.over.linked);
 }
@@ -71,12 +72,12 @@ writing_still l more p at next outgoing g w = record {
 knows_still : (phase : Phase) (l more : OrbList) (p : Progress) (m : Machine) → Grows l more → Knows l p phase m → Knows more p phase m
 knows_still phases.Fetching l more p m g k = record { turn = next_still l more p.ended p.answered m.present g k.turn; unrun = k.unrun; unread = k.unread; empty = k.empty }
 knows_still phases.ReadingTable l more p m g k = record { awaits = awaits_still l more p m.present m.orb g k.awaits; reads = k.reads; empty = k.empty }
-knows_still (phases.ReadingData wanted) l more p m g k = record { awaits = awaits_still l more p m.present m.orb g k.awaits; part = g.part p.ended k.awaits.turn.linked m.payload k.part; buffer = g.buffer p.ended k.awaits.turn.linked m.segments k.buffer; whole = k.whole }
+knows_still (phases.ReadingData wanted) l more p m g k = record { awaits = awaits_still l more p m.present m.orb g k.awaits; part = g.part p.ended k.awaits.turn.linked m.orb m.segments m.payload k.part; buffer = g.buffer p.ended k.awaits.turn.linked m.orb m.segments k.buffer; whole = k.whole }
 knows_still phases.Answering l more p m g k = record { told = told_still l more p m.present m.orb m.segments m.answer m.written g k.told; bytes = k.bytes }
 knows_still phases.WritingStatus l more p m g k = writing_still l more p m.present m.orb.next m.outgoing g k
 knows_still phases.WritingLastStatus l more p m g k = writing_still l more p m.present m.orb.next m.outgoing g k
-knows_still phases.ReadingNext l more p m g k = record { over = over_still l more p m.present m.orb.next g k.over; all = k.all; null = k.null }
-knows_still phases.Suspended l more p m g k = record { over = over_still l more p m.present m.orb.next g k.over; all = k.all; null = k.null }
+knows_still phases.ReadingNext l more p m g k = record { over = over_still l more p m.present m.orb.next g k.over; all = k.all; null = k.null; src = k.src }
+knows_still phases.Suspended l more p m g k = record { over = over_still l more p m.present m.orb.next g k.over; all = k.all; null = k.null; src = k.src }
 knows_still _ l more p m g k = tt
 
 named_still : (l more : OrbList) (k : ℕ) (next : OrbPointer) → Grows l more → IsNamed l k next → IsNamed more k next

@@ -78,7 +78,7 @@ abort_keeps l p m told place plain a h =
     moved l p told place plain (ahead_under m) _ (end_keeps l p m kinds.Aborted None place plain (ahead_under m) a.turn a.unrun tt (a.good.own, a.proper) a.good.leads (record { reads = h; under = refl }))
 
 -- its page table
-elements_keeps : (fault : Option PageFault) (l : OrbList) (p : Progress) (m : Machine) (bytes : List ℕ) (told : disk.Told) (place : ℕ) (plain : PlainDisk) → IsLaid l → Awaits l p m.present m.orb → m.payload ≡ [] → ReadsAhead l (suc p.ended) m.orb.next m.ahead → l.is_buffer p.ended (elements_of bytes)
+elements_keeps : (fault : Option PageFault) (l : OrbList) (p : Progress) (m : Machine) (bytes : List ℕ) (told : disk.Told) (place : ℕ) (plain : PlainDisk) → IsLaid l → Awaits l p m.present m.orb → m.payload ≡ [] → ReadsAhead l (suc p.ended) m.orb.next m.ahead → l.is_buffer p.ended m.orb (elements_of bytes)
     → MoveKeeps l p told place plain (ahead_under m) (elements_read m bytes fault)
 elements_keeps (Some fault) l p m bytes told place plain laid a empty h buffer =
     moved l p told place plain (ahead_under m) _ (end_keeps l p m (kinds.Illegal 0xff) (Some causes.Grammar) place plain (ahead_under m) a.turn a.unrun tt (a.good.own, a.proper) a.good.leads (record { reads = h; under = refl }))
@@ -86,7 +86,7 @@ elements_keeps None l p m bytes told place plain laid a empty h buffer = record 
   keeps = judge_keeps l p (record m { segments = elements_of bytes }) told place plain (ahead_under m) laid (record { ready = record { awaits = a; behind = record { reads = h; under = refl } }; buffer = buffer; empty = empty });
 }
 
-pub table_read_keeps : (r : Result (List ℕ) FailCause) (l : OrbList) (p : Progress) (m : Machine) (told : disk.Told) (place : ℕ) (plain : PlainDisk) → IsLaid l → Tabling l p m.present m.orb m.payload → ReadsAhead l (suc p.ended) m.orb.next m.ahead → ((bytes : List ℕ) → r ≡ Ok bytes → l.is_buffer p.ended (elements_of bytes))
+pub table_read_keeps : (r : Result (List ℕ) FailCause) (l : OrbList) (p : Progress) (m : Machine) (told : disk.Told) (place : ℕ) (plain : PlainDisk) → IsLaid l → Tabling l p m.present m.orb m.payload → ReadsAhead l (suc p.ended) m.orb.next m.ahead → ((bytes : List ℕ) → r ≡ Ok bytes → l.is_buffer p.ended m.orb (elements_of bytes))
     → MoveKeeps l p told place plain (ahead_under m) (table_read m r)
 table_read_keeps (Err cause) l p m told place plain laid t h brings =
     moved l p told place plain (ahead_under m) _ (fail_keeps l p m cause place plain (ahead_under m) t.awaits.turn t.awaits.good.leads (record { reads = h; under = refl }))
@@ -109,7 +109,7 @@ grown_keeps l p m wanted told place plain f h =
     })
     (λ _. moved l p told place plain (ahead_under m) _ (data_keeps l p m wanted place plain (ahead_under m) f (record { reads = h; under = refl })))
 
-pub data_read_keeps : (r : Result (List ℕ) FailCause) (l : OrbList) (p : Progress) (m : Machine) (wanted : ℕ) (told : disk.Told) (place : ℕ) (plain : PlainDisk) → Filling l p m.present m.orb m.payload m.segments wanted → ReadsAhead l (suc p.ended) m.orb.next m.ahead → ((bytes : List ℕ) → r ≡ Ok bytes → l.is_data p.ended (m.payload ++ bytes))
+pub data_read_keeps : (r : Result (List ℕ) FailCause) (l : OrbList) (p : Progress) (m : Machine) (wanted : ℕ) (told : disk.Told) (place : ℕ) (plain : PlainDisk) → Filling l p m.present m.orb m.payload m.segments wanted → ReadsAhead l (suc p.ended) m.orb.next m.ahead → ((bytes : List ℕ) → r ≡ Ok bytes → l.is_data p.ended m.orb m.segments (m.payload ++ bytes))
     → MoveKeeps l p told place plain (ahead_under m) (data_read m wanted r)
 data_read_keeps (Err cause) l p m wanted told place plain f h brings =
     moved l p told place plain (ahead_under m) _ (fail_keeps l p m cause place plain (ahead_under m) f.awaits.turn f.awaits.good.leads (record { reads = h; under = refl }))

@@ -32,14 +32,14 @@ pub record Ready (l : OrbList) (p : Progress) (m : Machine) (ahead : Ask) : Type
 -- its buffer is known
 pub record Judgeable (l : OrbList) (p : Progress) (m : Machine) (ahead : Ask) : Type 0 where
   pub ready : Ready l p m ahead
-  pub buffer : l.is_buffer p.ended m.segments
+  pub buffer : l.is_buffer p.ended m.orb m.segments
   pub empty : m.payload ≡ []
 
 -- its command may run
 pub record Runnable (l : OrbList) (p : Progress) (m : Machine) (place : ℕ) (plain : PlainDisk) (ahead : Ask) : Type 0 where
   pub ready : Ready l p m ahead
-  pub buffer : l.is_buffer p.ended m.segments
-  pub part : l.is_data p.ended m.payload
+  pub buffer : l.is_buffer p.ended m.orb m.segments
+  pub part : l.is_data p.ended m.orb m.segments m.payload
   pub whole : (m.payload ≡ []) ⊎ (length m.payload ≡ data_length_of false m.orb.cdb)
   pub fed : Feeds (need_of m.orb.cdb (plan_of m) plain place) m.payload
 

@@ -69,14 +69,14 @@ pub data_keeps : (l : OrbList) (p : Progress) (m : Machine) (wanted : ℕ) (plac
 data_keeps l p m wanted place plain ahead f h = record { along = record { main = f; ahead = h.reads }; runs = tt; ends = tt; main_is = refl; ahead_is = h.under }
 
 -- it is judged
-none_of : (l : OrbList) (p : Progress) (m : Machine) → IsLaid l → m.payload ≡ [] → l.is_data p.ended m.payload
-none_of l p m laid e = subst (λ (bytes : List ℕ). l.is_data p.ended bytes) (sym e) (laid.empty p.ended)
+none_of : (l : OrbList) (p : Progress) (m : Machine) (ahead : Ask) → IsLaid l → Judgeable l p m ahead → l.is_data p.ended m.orb m.segments m.payload
+none_of l p m ahead laid j = subst (λ (bytes : List ℕ). l.is_data p.ended m.orb m.segments bytes) (sym j.empty) (laid.empty p.ended m.orb m.segments j.ready.awaits.good.own j.buffer)
 
 judged_keeps : (need : Need) (l : OrbList) (p : Progress) (m : Machine) (told : disk.Told) (place : ℕ) (plain : PlainDisk) (ahead : Ask) → IsLaid l → need ≡ need_of m.orb.cdb (plan_of m) plain place → Judgeable l p m ahead → Keeps l p place plain Nothing ahead (judged m told need)
 judged_keeps needs.RunNow l p m told place plain ahead laid e j =
-    run_keeps l p m told place plain ahead (record { ready = j.ready; buffer = j.buffer; part = none_of l p m laid j.empty; whole = inl j.empty; fed = feeds_none (need_of m.orb.cdb (plan_of m) plain place) m.payload (sym e) })
+    run_keeps l p m told place plain ahead (record { ready = j.ready; buffer = j.buffer; part = none_of l p m ahead laid j; whole = inl j.empty; fed = feeds_none (need_of m.orb.cdb (plan_of m) plain place) m.payload (sym e) })
 judged_keeps (needs.Payload len) l p m told place plain ahead laid e j =
-    data_keeps l p m len place plain ahead (record { awaits = j.ready.awaits; part = none_of l p m laid j.empty; buffer = j.buffer; whole = data_needed m.orb.cdb (plan_of m) plain place len (sym e) }) j.ready.behind
+    data_keeps l p m len place plain ahead (record { awaits = j.ready.awaits; part = none_of l p m ahead laid j; buffer = j.buffer; whole = data_needed m.orb.cdb (plan_of m) plain place len (sym e) }) j.ready.behind
 
 pub judge_keeps : (l : OrbList) (p : Progress) (m : Machine) (told : disk.Told) (place : ℕ) (plain : PlainDisk) (ahead : Ask) → IsLaid l → Judgeable l p m ahead → Keeps l p place plain Nothing ahead (judge_step m place plain told)
 judge_keeps l p m told place plain ahead laid j = judged_keeps (need_of m.orb.cdb (plan_of m) plain place) l p m told place plain ahead laid refl j

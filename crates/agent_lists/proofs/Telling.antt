@@ -15,7 +15,7 @@ use Rattle.command_agent.specs.declared.step.PointRefusal.{PointRefusal}
 use Rattle.command_agent.specs.declared.step.Which.{Which}
 use Rattle.command_agent.specs.declared.step.Which.TheVariants.{Main, Ahead}
 use Rattle.command_agent.specs.Machine.{Machine}
-use Rattle.command_agent.specs.Steps.{quiet, answer_chunk, point_step, doorbell_step, abort_step, reset_step, reply_step, lost_step}
+use Rattle.command_agent.specs.Steps.{src_of, quiet, answer_chunk, point_step, doorbell_step, abort_step, reset_step, reply_step, lost_step}
 use Rattle.agent_laws.specs.Wire.{EndsBy}
 use Rattle.agent_lists.specs.Lists.{OrbList, IsLaid}
 use Rattle.agent_lists.specs.Along.{Progress, at_start, Along}
@@ -47,13 +47,14 @@ ran_agrees (Some outcome) l p m place plain ts r a = record {
       turn = record { place = r.turn.place ∙ ap l.address a.ended; linked = subst (λ (k : ℕ). k < l.linked) a.ended r.turn.linked };
       once = sym a.outcome ∙ r.once;
       own = subst (λ (k : ℕ). l.is_orb k m.orb) a.ended r.good.own;
-      part = subst (λ (k : ℕ). l.is_data k m.payload) a.ended r.part;
+      buffer = subst (λ (k : ℕ). l.is_buffer k m.orb m.segments) a.ended r.buffer;
+      part = subst (λ (k : ℕ). l.is_data k m.orb m.segments m.payload) a.ended r.part;
     },
     a.turns,
   );
 }
 
-end_agrees : (kind : Option StatusKind) (l : OrbList) (p : Progress) (m : Machine) (ask : Ask) (ts : List Tale) → IfSome kind (λ kind. IsEnd l p kind m.present m.orb m.outgoing ask) → Agrees l p ts → Agrees l (end_by kind p) (end_tales kind m ts)
+end_agrees : (kind : Option StatusKind) (l : OrbList) (p : Progress) (m : Machine) (ask : Ask) (ts : List Tale) → IfSome kind (λ kind. IsEnd l p kind m.present m.orb m.outgoing ask) → Agrees l p ts → Agrees l (end_by kind (src_of m.orb.next) p) (end_tales kind m ts)
 end_agrees None l p m ask ts e a = a
 end_agrees (Some kind) l p m ask ts e a = record {
   ended = ap suc a.ended;
@@ -70,7 +71,7 @@ end_agrees (Some kind) l p m ask ts e a = record {
 step_stands : (l : OrbList) (p : Progress) (place : ℕ) (plain : PlainDisk) (main ahead : Ask) (s : AgentStep × Machine) (ts : List Tale) → Keeps l p place plain main ahead s → Agrees l p ts → Stands l s.1 (tales_of s ts)
 step_stands l p place plain main ahead s ts k a =
     let q : Progress = run_by s.0.ran s.1.answer p in
-    let now : Agrees l (end_by s.0.ended q) (end_tales s.0.ended s.1 (run_tales s.0.ran s.1 ts)) =
+    let now : Agrees l (end_by s.0.ended (src_of s.1.orb.next) q) (end_tales s.0.ended s.1 (run_tales s.0.ran s.1 ts)) =
           end_agrees s.0.ended l q s.1 s.0.ask (run_tales s.0.ran s.1 ts) k.ends (ran_agrees s.0.ran l p s.1 place plain ts k.runs a) in
     record { progress = progress_by s p; along = k.along; ended = now.ended; outcome = now.outcome; turns = now.turns }
 
@@ -130,7 +131,7 @@ calls_stand (call ∷ calls) l start laid a b = call_stands call l start calls l
 -- ---- in the order of the list
 in_order : (ts : List Tale) (l : OrbList) → InTurn l ts → ended ts ≡ first_ones l (ends ts)
 in_order [] l i = refl
-in_order (Ran at orb payload outcome ∷ ts) l i = in_order ts l i.1
+in_order (Ran at orb segments payload outcome ∷ ts) l i = in_order ts l i.1
 in_order (Ended at kind ∷ ts) l i = ap (λ (orbs : List ℕ). at ∷ orbs) (in_order ts l i.1) ∙ ap (λ (place : ℕ). place ∷ first_ones l (ends ts)) i.0.turn.place
 
 begun : (l : OrbList) (p : Progress) (m : Machine) (ask : Ask) (s : Result Ask PointRefusal × Machine) → s.0 ≡ Ok ask → PointerBrings l p m s → Along l at_start s.1

@@ -13,7 +13,7 @@ use Rattle.command_agent.specs.declared.phase.Phase.TheVariants as phases
 use Rattle.command_agent.specs.declared.phase.ReadAhead.{ReadAhead}
 use Rattle.command_agent.specs.declared.phase.ReadAhead.TheVariants as aheads
 use Rattle.command_agent.specs.Machine.{Machine, aligned}
-use Rattle.command_agent.specs.Steps.{quiet, turned, turn_step, reread_step, wait_step, follow_step, status_written, next_read}
+use Rattle.command_agent.specs.Steps.{quiet, src_of, turned, turn_step, reread_step, wait_step, follow_step, status_written, next_read}
 use Rattle.agent_lists.specs.Lists.{OrbList, Leads, IsLaid}
 use Rattle.agent_lists.specs.Along.{Progress, IsNext, IsOver, Writing, AtEnd, ReadsAhead}
 use Rattle.agent_lists.specs.Requests.{ahead_ask, ahead_under}
@@ -46,14 +46,15 @@ null_idle (aheads.Kept orb) l k next e h = let named : next ≡ At h.0.offset = 
 record Last (l : OrbList) (p : Progress) (m : Machine) (under : Ask) : Type 0 where
   pub over : IsOver l p m.present m.orb.next
   pub all : p.answered ≡ p.ended
+  pub src : m.orb.next ≡ Null → p.src ≡ 1
   pub behind : Behind l p.ended m under
 
 wait_keeps : (l : OrbList) (p : Progress) (m : Machine) (place : ℕ) (plain : PlainDisk) (under : Ask) → m.orb.next ≡ Null → Last l p m under → Keeps l p place plain Nothing under (wait_step m)
 wait_keeps l p m place plain under e w =
     let idle : m.ahead ≡ aheads.Idle = null_idle m.ahead l p.ended m.orb.next e w.behind.reads in
     keeps_test l p place plain Nothing under m.doorbell (reread_step m) (quiet, record m { phase = phases.Suspended })
-    (λ _. record { along = record { main = record { over = w.over; all = w.all; null = e }; ahead = idle }; runs = tt; ends = tt; main_is = refl; ahead_is = w.behind.under })
-    (λ _. record { along = record { main = record { over = w.over; all = w.all; null = e }; ahead = idle }; runs = tt; ends = tt; main_is = refl; ahead_is = w.behind.under })
+    (λ _. record { along = record { main = record { over = w.over; all = w.all; null = e; src = w.src e }; ahead = idle }; runs = tt; ends = tt; main_is = refl; ahead_is = w.behind.under })
+    (λ _. record { along = record { main = record { over = w.over; all = w.all; null = e; src = w.src e }; ahead = idle }; runs = tt; ends = tt; main_is = refl; ahead_is = w.behind.under })
 
 next_is : (l : OrbList) (p : Progress) (at next : ℕ) (pointer : OrbPointer) → pointer ≡ At next → p.answered ≡ p.ended → IsOver l p at pointer → IsNext l p.ended p.answered (aligned next)
 next_is l p at next pointer e all o =
@@ -79,6 +80,7 @@ status_keeps None l p m told place plain laid w h =
     (record {
       over = record { last = w.over.last; ended = w.over.ended; place = w.over.place; linked = w.over.linked; leads = w.over.leads; unrun = w.over.unrun };
       all = sym w.others;
+      src = λ e. w.src ∙ ap src_of e;
       behind = record { reads = h; under = refl };
     })
 
@@ -91,5 +93,6 @@ next_keeps (Ok bytes) l p m told place plain laid a idle brings =
     (record {
       over = record { last = a.over.last; ended = a.over.ended; place = a.over.place; linked = a.over.linked; leads = brings bytes a.over.last a.over.ended refl; unrun = a.over.unrun };
       all = a.all;
+      src = λ _. a.src;
       behind = record { reads = idle_behind l p.ended m.ahead (pointer_at bytes 0) idle; under = idle_asks m.ahead m.orb.next (pointer_at bytes 0) idle };
     })

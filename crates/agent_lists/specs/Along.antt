@@ -20,17 +20,18 @@ use Rattle.agent_laws.specs.Buffers.{piece}
 use Rattle.agent_lists.specs.Lists.{OrbList, Leads, IsGood}
 
 -- How far a list is: how many of its ORBs have ended; how the command of the one behind these ran, if it did, the answer that it told, and how many
--- bytes of this were written; and of how many ORBs the write of the status block was answered.
+-- bytes of this were written; src of the status block of the last one that ended; and of how many ORBs the write of the status block was answered.
 pub record Progress : Type 0 where
   pub ended : ℕ
   pub outcome : Option Outcome
   pub answer : List ℕ
   pub carried : ℕ
+  pub src : ℕ
   pub answered : ℕ
 
 -- none of it was begun
 abbrev pub at_start : Progress
-at_start = record { ended = 0; outcome = None; answer = []; carried = 0; answered = 0 }
+at_start = record { ended = 0; outcome = None; answer = []; carried = 0; src = 0; answered = 0 }
 
 -- The present ORB is the one behind those that have ended, and the status block of each of these was written.
 pub record IsNext (l : OrbList) (ended answered at : ℕ) : Type 0 where
@@ -61,8 +62,8 @@ pub record Tabling (l : OrbList) (p : Progress) (at : ℕ) (orb : CommandOrb) (p
 -- its data are being read:
 pub record Filling (l : OrbList) (p : Progress) (at : ℕ) (orb : CommandOrb) (payload : List ℕ) (segments : List Segment) (wanted : ℕ) : Type 0 where
   pub awaits : Awaits l p at orb
-  pub part : l.is_data p.ended payload
-  pub buffer : l.is_buffer p.ended segments
+  pub part : l.is_data p.ended orb segments payload
+  pub buffer : l.is_buffer p.ended orb segments
   pub whole : wanted ≡ data_length_of false orb.cdb
 
 -- its command has run good, and told an answer, of which so many bytes were written:
@@ -70,7 +71,7 @@ pub record Told (l : OrbList) (p : Progress) (at : ℕ) (orb : CommandOrb) (segm
   pub turn : IsNext l p.ended p.answered at
   pub good : IsGood l p.ended orb
   pub proper : (orb.format == 3) ≡ false
-  pub buffer : l.is_buffer p.ended segments
+  pub buffer : l.is_buffer p.ended orb segments
   pub ran : is_good p.outcome ≡ true
   pub told : answer ≡ p.answer
   pub whole : to_write p.outcome p.answer ≡ p.answer
@@ -95,14 +96,16 @@ pub record IsOver (l : OrbList) (p : Progress) (at : ℕ) (next : OrbPointer) : 
 pub record Writing (l : OrbList) (p : Progress) (at : ℕ) (next : OrbPointer) (outgoing : List ℕ) : Type 0 where
   pub over : IsOver l p at next
   pub others : p.ended ≡ suc p.answered
+  pub src : p.src ≡ src_of next
   pub kind : StatusKind
   pub block : outgoing ≡ status_bytes (record { src = src_of next; kind = kind; orb = l.address over.last })
 
--- and its status block was written, and its next pointer, which was null, is read again, or not until a doorbell:
+-- and its status block was written, with src 1, and its next pointer, which was null, is read again, or not until a doorbell:
 pub record AtEnd (l : OrbList) (p : Progress) (at : ℕ) (next : OrbPointer) : Type 0 where
   pub over : IsOver l p at next
   pub all : p.answered ≡ p.ended
   pub null : next ≡ Null
+  pub src : p.src ≡ 1
 
 -- what is known of the present or last ORB in a phase; without a list, and of a dead agent but for its last status block, nothing
 abbrev pub Knows : OrbList → Progress → Phase → Machine → Type 0

@@ -7,6 +7,7 @@ use Rattle.orb_layout.specs.declared.command.CommandOrb.{CommandOrb}
 use Rattle.orb_layout.specs.declared.pointer.OrbPointer.{OrbPointer}
 use Rattle.orb_layout.specs.declared.status.StatusKind.{StatusKind}
 use Rattle.orb_layout.specs.Replies.{Answer}
+use Rattle.page_table.specs.declared.segment.Segment.{Segment}
 use Rattle.rbc_disk.specs.declared.command.Outcome.{Outcome}
 use Rattle.rbc_disk.specs.Units.{PlainDisk}
 use Rattle.rbc_disk.specs.Runs.{Told}
@@ -38,14 +39,14 @@ abbrev pub behind : Machine → List Call → Machine
 behind start [] = start
 behind start (call ∷ calls) = (step_of call (behind start calls)).1
 
--- What they tell, the latest first: an ORB, named by its address, ran as it was read, with these data and this outcome; or it ended.
+-- What they tell, the latest first: an ORB, named by its address, ran as it was read, with this buffer, these data and this outcome; or it ended.
 pub data Tale : Type 0 where
-  Ran : (at : ℕ) (orb : CommandOrb) (payload : List ℕ) (outcome : Outcome) → Tale
+  Ran : (at : ℕ) (orb : CommandOrb) (segments : List Segment) (payload : List ℕ) (outcome : Outcome) → Tale
   Ended : (at : ℕ) (kind : StatusKind) → Tale
 
 abbrev pub run_tales : Option Outcome → Machine → List Tale → List Tale
 run_tales None m ts = ts
-run_tales (Some outcome) m ts = Ran m.present m.orb m.payload outcome ∷ ts
+run_tales (Some outcome) m ts = Ran m.present m.orb m.segments m.payload outcome ∷ ts
 
 abbrev pub end_tales : Option StatusKind → Machine → List Tale → List Tale
 end_tales None m ts = ts
@@ -67,7 +68,7 @@ ends (tale ∷ ts) = ends ts
 -- how the last run since then came out
 abbrev pub outcome_in : List Tale → Option Outcome
 outcome_in [] = None
-outcome_in (Ran at orb payload outcome ∷ ts) = Some outcome
+outcome_in (Ran at orb segments payload outcome ∷ ts) = Some outcome
 outcome_in (Ended at kind ∷ ts) = None
 
 -- each read that is answered brings what it is to bring of the ORB of its number
@@ -81,12 +82,13 @@ pub record IsInTurn (l : OrbList) (ts : List Tale) (at : ℕ) : Type 0 where
   pub place : at ≡ l.address (ends ts)
   pub linked : ends ts < l.linked
 
--- It runs for the first time, as it was read, with its data.
-pub record RunsInTurn (l : OrbList) (ts : List Tale) (at : ℕ) (orb : CommandOrb) (payload : List ℕ) : Type 0 where
+-- It runs for the first time, as it was read, with its buffer and its data.
+pub record RunsInTurn (l : OrbList) (ts : List Tale) (at : ℕ) (orb : CommandOrb) (segments : List Segment) (payload : List ℕ) : Type 0 where
   pub turn : IsInTurn l ts at
   pub once : outcome_in ts ≡ None
   pub own : l.is_orb (ends ts) orb
-  pub part : l.is_data (ends ts) payload
+  pub buffer : l.is_buffer (ends ts) orb segments
+  pub part : l.is_data (ends ts) orb segments payload
 
 -- It ends good or with a check behind its run with that outcome alone, and as dummy, aborted or illegal without one.
 pub record EndsInTurn (l : OrbList) (ts : List Tale) (at : ℕ) (kind : StatusKind) : Type 0 where
@@ -95,7 +97,7 @@ pub record EndsInTurn (l : OrbList) (ts : List Tale) (at : ℕ) (kind : StatusKi
 
 abbrev pub InTurn : OrbList → List Tale → Type 0
 InTurn l [] = Unit {0}
-InTurn l (Ran at orb payload outcome ∷ ts) = RunsInTurn l ts at orb payload × InTurn l ts
+InTurn l (Ran at orb segments payload outcome ∷ ts) = RunsInTurn l ts at orb segments payload × InTurn l ts
 InTurn l (Ended at kind ∷ ts) = EndsInTurn l ts at kind × InTurn l ts
 
 -- the addresses of the ORBs that ended, and of the first ones of a list, the last of them first

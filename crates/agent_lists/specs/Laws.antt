@@ -12,16 +12,16 @@ pub record TestedList : Type 0 where
   pub address : ℕ → ℕ
   pub linked : ℕ
   pub is_orb : ℕ → CommandOrb → Bool
-  pub is_buffer : ℕ → List Segment → Bool
-  pub is_data : ℕ → List ℕ → Bool
+  pub is_buffer : ℕ → CommandOrb → List Segment → Bool
+  pub is_data : ℕ → CommandOrb → List Segment → List ℕ → Bool
 
 abbrev pub list_by : TestedList → OrbList
 list_by t = record {
   address = t.address;
   linked = t.linked;
   is_orb = λ k orb. t.is_orb k orb ≡ true;
-  is_buffer = λ k segments. t.is_buffer k segments ≡ true;
-  is_data = λ k bytes. t.is_data k bytes ≡ true;
+  is_buffer = λ k orb segments. t.is_buffer k orb segments ≡ true;
+  is_data = λ k orb segments bytes. t.is_data k orb segments bytes ≡ true;
 }
 
 -- Each call of an agent keeps it along a list, and tells of the ORB behind those that have ended.

@@ -9,13 +9,13 @@ use Rattle.command_agent.specs.Checks.{reads_table}
 use Rattle.command_agent.specs.Steps.{unread_buffer}
 
 -- The ORBs of a list by their numbers: the address of each; how many are linked, the others are not yet named by a next pointer; and what may be
--- read of each, its bytes but for the next pointer, its buffer, and the first bytes of its data.
+-- read of each: its bytes but for the next pointer; with these, its buffer; and with both, the first bytes of its data.
 pub record OrbList : Type 1 where
   pub address : ℕ → ℕ
   pub linked : ℕ
   pub is_orb : ℕ → CommandOrb → Type 0
-  pub is_buffer : ℕ → List Segment → Type 0
-  pub is_data : ℕ → List ℕ → Type 0
+  pub is_buffer : ℕ → CommandOrb → List Segment → Type 0
+  pub is_data : ℕ → CommandOrb → List Segment → List ℕ → Type 0
 
 -- the next pointer of an ORB is null, or names the one behind it, which is linked
 abbrev pub Leads : OrbList → ℕ → OrbPointer → Type 0
@@ -29,13 +29,13 @@ pub record IsGood (l : OrbList) (k : ℕ) (orb : CommandOrb) : Type 0 where
 
 -- An ORB without elements of a page table names its buffer, and no bytes are the first of any data.
 pub record IsLaid (l : OrbList) : Type 0 where
-  pub buffer : (k : ℕ) (orb : CommandOrb) → l.is_orb k orb → reads_table orb ≡ false → l.is_buffer k (unread_buffer orb)
-  pub empty : (k : ℕ) → l.is_data k []
+  pub buffer : (k : ℕ) (orb : CommandOrb) → l.is_orb k orb → reads_table orb ≡ false → l.is_buffer k orb (unread_buffer orb)
+  pub empty : (k : ℕ) (orb : CommandOrb) (segments : List Segment) → l.is_orb k orb → l.is_buffer k orb segments → l.is_data k orb segments []
 
 -- A list grows: more ORBs are linked, and those that were linked stay as they are.
 pub record Grows (l more : OrbList) : Type 0 where
   pub linked : l.linked ≤ more.linked
   pub address : (k : ℕ) → k < l.linked → l.address k ≡ more.address k
   pub orb : (k : ℕ) → k < l.linked → (orb : CommandOrb) → l.is_orb k orb → more.is_orb k orb
-  pub buffer : (k : ℕ) → k < l.linked → (segments : List Segment) → l.is_buffer k segments → more.is_buffer k segments
-  pub part : (k : ℕ) → k < l.linked → (bytes : List ℕ) → l.is_data k bytes → more.is_data k bytes
+  pub buffer : (k : ℕ) → k < l.linked → (orb : CommandOrb) (segments : List Segment) → l.is_buffer k orb segments → more.is_buffer k orb segments
+  pub part : (k : ℕ) → k < l.linked → (orb : CommandOrb) (segments : List Segment) (bytes : List ℕ) → l.is_data k orb segments bytes → more.is_data k orb segments bytes

@@ -36,12 +36,12 @@ abbrev pub run_by : Option Outcome → (answer : List ℕ) → Progress → Prog
 run_by None answer p = p
 run_by (Some outcome) answer p = record p { outcome = Some outcome; answer = answer; carried = 0 }
 
-abbrev pub end_by : Option StatusKind → Progress → Progress
-end_by None p = p
-end_by (Some kind) p = record p { ended = suc p.ended; outcome = None; answer = []; carried = 0 }
+abbrev pub end_by : Option StatusKind → (src : ℕ) → Progress → Progress
+end_by None src p = p
+end_by (Some kind) src p = record p { ended = suc p.ended; outcome = None; answer = []; carried = 0; src = src }
 
 abbrev pub progress_by : AgentStep × Machine → Progress → Progress
-progress_by (step, m) p = end_by step.ended (run_by step.ran m.answer p)
+progress_by (step, m) p = end_by step.ended (src_of m.orb.next) (run_by step.ran m.answer p)
 
 -- the write of a status block was answered, or it failed
 abbrev pub status_by : Option FailCause → Progress → Progress
@@ -70,8 +70,8 @@ pub record IsRun (l : OrbList) (p : Progress) (place : ℕ) (plain : PlainDisk) 
   pub once : p.outcome ≡ None
   pub good : IsGood l p.ended orb
   pub proper : (orb.format == 3) ≡ false
-  pub buffer : l.is_buffer p.ended segments
-  pub part : l.is_data p.ended payload
+  pub buffer : l.is_buffer p.ended orb segments
+  pub part : l.is_data p.ended orb segments payload
   pub whole : (payload ≡ []) ⊎ (length payload ≡ data_length_of false orb.cdb)
   pub fed : Feeds (need_of orb.cdb (plan_for orb segments) plain place) payload
 
@@ -114,8 +114,8 @@ BringsOrb l k answer = (bytes : List ℕ) → payload_of answer 32 ≡ Ok bytes 
 -- of the present ORB its bytes, its page table, or the next bytes of its data; of the last one its next pointer
 abbrev pub MainBrings : OrbList → (ended : ℕ) → Phase → Machine → Answer → Type 0
 MainBrings l ended phases.Fetching m answer = BringsOrb l ended answer
-MainBrings l ended phases.ReadingTable m answer = (bytes : List ℕ) → payload_of answer (8 * m.orb.data_size) ≡ Ok bytes → l.is_buffer ended (elements_of bytes)
-MainBrings l ended (phases.ReadingData wanted) m answer = (bytes : List ℕ) → payload_of answer (chunk_of m (length m.payload) wanted).length ≡ Ok bytes → l.is_data ended (m.payload ++ bytes)
+MainBrings l ended phases.ReadingTable m answer = (bytes : List ℕ) → payload_of answer (8 * m.orb.data_size) ≡ Ok bytes → l.is_buffer ended m.orb (elements_of bytes)
+MainBrings l ended (phases.ReadingData wanted) m answer = (bytes : List ℕ) → payload_of answer (chunk_of m (length m.payload) wanted).length ≡ Ok bytes → l.is_data ended m.orb m.segments (m.payload ++ bytes)
 MainBrings l ended phases.ReadingNext m answer = (bytes : List ℕ) (last : ℕ) → ended ≡ suc last → payload_of answer 8 ≡ Ok bytes → Leads l last (pointer_at bytes 0)
 MainBrings l ended _ m answer = Unit {0}
 
