@@ -1,7 +1,7 @@
 -- It is checked, and behind it the next ORB is read ahead.
-use Rattle.std.proofs.Common.{◌≡◌, refl, ap, sym, subst, ◌∙◌, nat_lt, ℕ, suc, ◌+◌, ◌*◌, ◌==◌, ◌^◌, Bool, true, false, cond, not, ◌&&◌, Option, Some, None}
+use Rattle.std.proofs.Common.{◌≡◌, refl, ap, sym, subst, ◌∙◌, nat_lt, ℕ, suc, ◌+◌, ◌==◌, ◌^◌, Bool, true, false, cond, not, ◌&&◌, Option, Some, None}
 use Rattle.orb_layout.specs.declared.ask.Ask.{Ask}
-use Rattle.orb_layout.specs.declared.ask.Ask.TheVariants.{Read, Nothing}
+use Rattle.orb_layout.specs.declared.ask.Ask.TheVariants.{Nothing}
 use Rattle.orb_layout.specs.declared.ask.FailCause.{FailCause}
 use Rattle.orb_layout.specs.declared.command.CommandOrb.{CommandOrb}
 use Rattle.orb_layout.specs.declared.pointer.OrbPointer.{OrbPointer}
@@ -18,9 +18,9 @@ use Rattle.command_agent.specs.declared.phase.Phase.{Phase}
 use Rattle.command_agent.specs.declared.phase.Phase.TheVariants as phases
 use Rattle.command_agent.specs.declared.phase.ReadAhead.TheVariants as aheads
 use Rattle.command_agent.specs.declared.step.AgentStep.{AgentStep}
-use Rattle.command_agent.specs.Machine.{Machine, aligned, plan_of}
+use Rattle.command_agent.specs.Machine.{Machine, plan_of}
 use Rattle.command_agent.specs.Checks.{verdict, refusal, death_by, reads_table}
-use Rattle.command_agent.specs.Steps.{end_step, answer_step, with_outcome, ran_as, run_step, judged, checked, check_step, ahead_of, with_ahead, unread_buffer}
+use Rattle.command_agent.specs.Steps.{end_step, answer_step, with_outcome, ran_as, judged, checked, check_step, ahead_of, with_ahead, unread_buffer}
 use Rattle.agent_laws.specs.Wire.{EndsBy}
 use Rattle.agent_lists.specs.Lists.{OrbList, Leads, IsLaid}
 use Rattle.agent_lists.specs.Along.{Progress, Awaits, IsNamed, KnowsAhead}

@@ -1,5 +1,5 @@
 -- A list that grows keeps an agent along it.
-use Rattle.std.proofs.Common.{◌≡◌, ap, ◌∙◌, ℕ, suc, ◌<◌, ◌≤◌, List, arith}
+use Rattle.std.proofs.Common.{ap, ◌∙◌, ℕ, suc, ◌<◌, ◌≤◌, List, arith}
 use Rattle.orb_layout.specs.declared.command.CommandOrb.{CommandOrb}
 use Rattle.orb_layout.specs.declared.pointer.OrbPointer.{OrbPointer}
 use Rattle.orb_layout.specs.declared.pointer.OrbPointer.TheVariants.{Null, At}
@@ -12,7 +12,7 @@ use Rattle.orb_layout.specs.StatusBlocks.{status_bytes}
 use Rattle.command_agent.specs.Machine.{Machine}
 use Rattle.command_agent.specs.Steps.{src_of}
 use Rattle.agent_lists.specs.Lists.{OrbList, Leads, IsGood, Grows}
-use Rattle.agent_lists.specs.Along.{Progress, IsNext, Awaits, Told, IsOver, Writing, AtEnd, Knows, IsNamed, ReadsAhead, KnowsAhead, Along}
+use Rattle.agent_lists.specs.Along.{Progress, IsNext, Awaits, Told, IsOver, Writing, Knows, IsNamed, ReadsAhead, KnowsAhead}
 use Rattle.agent_lists.specs.Steps.{GrowsLaw}
 
 linked_still : (l more : OrbList) (k : ℕ) → Grows l more → k < l.linked → k < more.linked

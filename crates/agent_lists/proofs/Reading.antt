@@ -14,7 +14,6 @@ use Rattle.page_table.specs.declared.segment.Chunk.{Chunk}
 use Rattle.page_table.specs.declared.segment.Segment.{Segment}
 use Rattle.page_table.specs.Elements.{elements_of, first_fault}
 use Rattle.rbc_disk.specs.Units.{PlainDisk}
-use Rattle.rbc_disk.specs.declared.command.Outcome.{Outcome}
 use Rattle.rbc_disk.specs.Runs.{data_length_of}
 use Rattle.rbc_disk.specs.Runs as disk
 use Rattle.command_agent.specs.declared.phase.ReadAhead.{ReadAhead}
@@ -29,7 +28,6 @@ use Rattle.agent_lists.specs.Lists.{OrbList, Leads, IsGood, IsLaid}
 use Rattle.agent_lists.specs.Along.{Progress, Begins, Awaits, Tabling, Filling, Told, ReadsAhead}
 use Rattle.agent_lists.specs.Requests.{ahead_ask, ahead_under}
 use Rattle.agent_lists.specs.Steps.{chunk_by, Keeps}
-use Rattle.agent_lists.proofs.Records.{Behind, Ready}
 use Rattle.agent_lists.proofs.Ends.{end_keeps, fail_keeps}
 use Rattle.agent_lists.proofs.Runs.{answer_keeps, run_keeps, data_keeps, judge_keeps}
 use Rattle.agent_lists.proofs.Checks.{keeps_test, check_keeps}

@@ -1,6 +1,5 @@
 -- The replies and losses, by phase.
-use Rattle.std.proofs.Common.{◌≡◌, refl, ap, ◌∙◌, ℕ, suc, ◌*◌, Bool, true, false, cond, List, length, Option, Some, None, Result, Ok, Err}
-use Rattle.orb_layout.specs.declared.ask.Ask.{Ask}
+use Rattle.std.proofs.Common.{◌≡◌, refl, ℕ, suc, ◌*◌, Bool, cond, List, length, Result, Ok, Err}
 use Rattle.orb_layout.specs.declared.ask.Ask.TheVariants.{Nothing}
 use Rattle.orb_layout.specs.declared.ask.FailCause.{FailCause}
 use Rattle.orb_layout.specs.declared.pointer.OrbPointer.{OrbPointer}
@@ -12,18 +11,16 @@ use Rattle.command_agent.specs.declared.phase.Phase.{Phase}
 use Rattle.command_agent.specs.declared.phase.Phase.TheVariants as phases
 use Rattle.command_agent.specs.declared.phase.ReadAhead.{ReadAhead}
 use Rattle.command_agent.specs.declared.phase.ReadAhead.TheVariants as aheads
-use Rattle.command_agent.specs.declared.step.AgentStep.{AgentStep}
-use Rattle.command_agent.specs.declared.step.Which.{Which}
 use Rattle.command_agent.specs.declared.step.Which.TheVariants.{Main, Ahead}
 use Rattle.command_agent.specs.Machine.{Machine, is_ahead, chunk_of}
 use Rattle.command_agent.specs.Steps.{quiet, told_or, advanced, ahead_read, ahead_step, ahead_lost, main_lost, reply_step, lost_step}
-use Rattle.agent_lists.specs.Lists.{OrbList, IsGood, IsLaid}
+use Rattle.agent_lists.specs.Lists.{OrbList, IsLaid}
 use Rattle.agent_lists.specs.Along.{Progress, Knows, KnowsAhead, Along}
 use Rattle.agent_lists.specs.Requests.{ahead_ask, main_under, ahead_under}
 use Rattle.agent_lists.specs.Steps.{main_heard, Keeps, MainBrings, AheadBrings, Replies, Loses}
 use Rattle.agent_lists.proofs.Records.{still, still_asks}
 use Rattle.agent_lists.proofs.Ends.{fail_keeps, dead_keeps}
-use Rattle.agent_lists.proofs.Reading.{MoveKeeps, moved, idle_behind, unread_leads, orb_keeps, table_read_keeps, data_read_keeps, chunk_keeps}
+use Rattle.agent_lists.proofs.Reading.{MoveKeeps, idle_behind, unread_leads, orb_keeps, table_read_keeps, data_read_keeps, chunk_keeps}
 use Rattle.agent_lists.proofs.Turns.{status_keeps, next_keeps}
 
 -- ---- the main transaction

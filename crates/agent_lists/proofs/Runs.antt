@@ -1,5 +1,5 @@
 -- Its command runs, and is judged.
-use Rattle.std.proofs.Common.{◌≡◌, refl, ap, sym, subst, inl, ℕ, suc, ◌*◌, ◌==◌, ◌≤◌, Bool, true, false, cond, List, [], length, Some, None, arith}
+use Rattle.std.proofs.Common.{◌≡◌, refl, ap, sym, subst, inl, ℕ, suc, ◌*◌, ◌==◌, Bool, true, false, cond, List, [], length, Some, None, arith}
 use Rattle.orb_layout.specs.declared.ask.Ask.{Ask}
 use Rattle.orb_layout.specs.declared.ask.Ask.TheVariants.{Read, Nothing}
 use Rattle.orb_layout.specs.declared.status.StatusKind.TheVariants as kinds
@@ -39,15 +39,15 @@ good_keeps true len l p m place plain ahead e z r =
     let a = r.ready.awaits in
     let q : Progress = ran p m (outcomes.Good len) in
     let k : Keeps l q place plain Nothing ahead (end_step m kinds.Good None) =
-          end_keeps l q m kinds.Good None place plain ahead a.turn refl (sym (ap (λ (b : Bool). length (cond b [] m.answer)) e)) (a.good.own, a.proper) a.good.leads r.ready.behind in
+    end_keeps l q m kinds.Good None place plain ahead a.turn refl (sym (ap (λ (b : Bool). length (cond b [] m.answer)) e)) (a.good.own, a.proper) a.good.leads r.ready.behind in
     record { along = k.along; runs = is_run l p m place plain ahead r; ends = k.ends; main_is = k.main_is; ahead_is = k.ahead_is }
 good_keeps false len l p m place plain ahead e z r =
     let a = r.ready.awaits in
     let q : Progress = ran p m (outcomes.Good len) in
     let k : Keeps l q place plain Nothing ahead (answer_step m) =
-          answer_keeps l q m place plain ahead
-          (record { turn = a.turn; good = a.good; proper = a.proper; buffer = r.buffer; ran = refl; told = refl; whole = ap (λ (b : Bool). cond b [] m.answer) e; done = z; within = omega arith })
-          r.ready.behind in
+    answer_keeps l q m place plain ahead
+    (record { turn = a.turn; good = a.good; proper = a.proper; buffer = r.buffer; ran = refl; told = refl; whole = ap (λ (b : Bool). cond b [] m.answer) e; done = z; within = omega arith })
+    r.ready.behind in
     record { along = k.along; runs = is_run l p m place plain ahead r; ends = k.ends; main_is = k.main_is; ahead_is = k.ahead_is }
 
 ran_keeps : (outcome : Outcome) (l : OrbList) (p : Progress) (m : Machine) (place : ℕ) (plain : PlainDisk) (ahead : Ask) → m.written ≡ 0 → Runnable l p m place plain ahead → Keeps l p place plain Nothing ahead (with_outcome outcome (ran_as m outcome))
@@ -56,7 +56,7 @@ ran_keeps (outcomes.Check sense) l p m place plain ahead z r =
     let a = r.ready.awaits in
     let q : Progress = ran p m (outcomes.Check sense) in
     let k : Keeps l q place plain Nothing ahead (end_step m (kinds.Check sense) None) =
-          end_keeps l q m (kinds.Check sense) None place plain ahead a.turn refl tt (a.good.own, a.proper) a.good.leads r.ready.behind in
+    end_keeps l q m (kinds.Check sense) None place plain ahead a.turn refl tt (a.good.own, a.proper) a.good.leads r.ready.behind in
     record { along = k.along; runs = is_run l p m place plain ahead r; ends = k.ends; main_is = k.main_is; ahead_is = k.ahead_is }
 
 pub run_keeps : (l : OrbList) (p : Progress) (m : Machine) (told : disk.Told) (place : ℕ) (plain : PlainDisk) (ahead : Ask) → Runnable l p m place plain ahead → Keeps l p place plain Nothing ahead (run_step m told)

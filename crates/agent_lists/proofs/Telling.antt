@@ -1,9 +1,7 @@
 -- Over every list of calls the ORBs of a list run and end in its order.
-use Rattle.std.proofs.Common.{◌≡◌, refl, ap, sym, subst, ◌∙◌, ℕ, zero, suc, ◌<◌, true, false, List, [], ◌∷◌, Option, Some, None, Result, Ok, Err, IfSome}
+use Rattle.std.proofs.Common.{◌≡◌, refl, ap, sym, subst, ◌∙◌, ℕ, suc, ◌<◌, true, false, List, [], ◌∷◌, Option, Some, None, Result, Ok, Err, IfSome}
 use Rattle.orb_layout.specs.declared.ask.Ask.{Ask}
 use Rattle.orb_layout.specs.declared.ask.FailCause.{FailCause}
-use Rattle.orb_layout.specs.declared.command.CommandOrb.{CommandOrb}
-use Rattle.orb_layout.specs.declared.pointer.OrbPointer.{OrbPointer}
 use Rattle.orb_layout.specs.declared.status.StatusKind.{StatusKind}
 use Rattle.orb_layout.specs.Replies.{Answer, write_failure}
 use Rattle.rbc_disk.specs.declared.command.Outcome.{Outcome}
@@ -15,12 +13,12 @@ use Rattle.command_agent.specs.declared.step.PointRefusal.{PointRefusal}
 use Rattle.command_agent.specs.declared.step.Which.{Which}
 use Rattle.command_agent.specs.declared.step.Which.TheVariants.{Main, Ahead}
 use Rattle.command_agent.specs.Machine.{Machine}
-use Rattle.command_agent.specs.Steps.{src_of, quiet, answer_chunk, point_step, doorbell_step, abort_step, reset_step, reply_step, lost_step}
+use Rattle.command_agent.specs.Steps.{src_of, answer_chunk, point_step, reply_step, lost_step}
 use Rattle.agent_laws.specs.Wire.{EndsBy}
 use Rattle.agent_lists.specs.Lists.{OrbList, IsLaid}
 use Rattle.agent_lists.specs.Along.{Progress, at_start, Along}
-use Rattle.agent_lists.specs.Steps.{run_by, end_by, progress_by, status_by, chunk_by, main_heard, heard_by, IsRun, IsEnd, Keeps, Brings, PointerBrings, IsBegun}
-use Rattle.agent_lists.specs.Calls.{Call, Ring, Abort, Reset, Reply, Lose, step_of, behind, Tale, Ran, Ended, run_tales, end_tales, tales_of, tales, ends, outcome_in, AllBring, IsInTurn, RunsInTurn, EndsInTurn, InTurn, ended, first_ones, TakesList, GoesAlong, GoesAlongLaw}
+use Rattle.agent_lists.specs.Steps.{run_by, end_by, progress_by, status_by, chunk_by, main_heard, heard_by, IsRun, IsEnd, Keeps, Brings, PointerBrings}
+use Rattle.agent_lists.specs.Calls.{Call, Ring, Abort, Reset, Reply, Lose, step_of, behind, Tale, Ran, Ended, run_tales, end_tales, tales_of, tales, ends, outcome_in, AllBring, InTurn, ended, first_ones, GoesAlongLaw}
 use Rattle.agent_lists.proofs.Writes.{keeps_along}
 
 -- the agent is along the list as far as was told
@@ -72,7 +70,7 @@ step_stands : (l : OrbList) (p : Progress) (place : ℕ) (plain : PlainDisk) (ma
 step_stands l p place plain main ahead s ts k a =
     let q : Progress = run_by s.0.ran s.1.answer p in
     let now : Agrees l (end_by s.0.ended (src_of s.1.orb.next) q) (end_tales s.0.ended s.1 (run_tales s.0.ran s.1 ts)) =
-          end_agrees s.0.ended l q s.1 s.0.ask (run_tales s.0.ran s.1 ts) k.ends (ran_agrees s.0.ran l p s.1 place plain ts k.runs a) in
+    end_agrees s.0.ended l q s.1 s.0.ask (run_tales s.0.ran s.1 ts) k.ends (ran_agrees s.0.ran l p s.1 place plain ts k.runs a) in
     record { progress = progress_by s p; along = k.along; ended = now.ended; outcome = now.outcome; turns = now.turns }
 
 -- ---- what is heard first

@@ -1,18 +1,14 @@
 -- The pointer, a doorbell, the function abort and an AGENT_RESET; and a list that grows.
-use Rattle.std.proofs.Common.{◌≡◌, refl, ap, sym, subst, ◌∙◌, ℕ, suc, ◌<◌, ◌≤◌, ◌==◌, ◌||◌, ◌&&◌, Bool, true, false, Option, Some, None, Result, Ok, Err, arith}
-use Rattle.orb_layout.specs.declared.ask.Ask.{Ask}
-use Rattle.orb_layout.specs.declared.ask.Ask.TheVariants.{Read, Nothing}
+use Rattle.std.proofs.Common.{◌≡◌, refl, ap, ℕ, ◌<◌, ◌==◌, ◌||◌, ◌&&◌, Some}
+use Rattle.orb_layout.specs.declared.ask.Ask.TheVariants.{Read}
 use Rattle.orb_layout.specs.declared.pointer.OrbPointer.{OrbPointer}
 use Rattle.orb_layout.specs.declared.pointer.OrbPointer.TheVariants.{Null, At}
 use Rattle.command_agent.specs.declared.phase.Phase.{Phase}
 use Rattle.command_agent.specs.declared.phase.Phase.TheVariants as phases
-use Rattle.command_agent.specs.declared.phase.ReadAhead.{ReadAhead}
-use Rattle.command_agent.specs.declared.phase.ReadAhead.TheVariants as aheads
 use Rattle.command_agent.specs.Machine.{Machine, aligned, named, awaits_run}
 use Rattle.command_agent.specs.Steps.{pointed, point_step, doorbell_step, reset_step, abort_step}
 use Rattle.agent_lists.specs.Lists.{OrbList, IsLaid}
-use Rattle.agent_lists.specs.Along.{Progress, at_start, Along}
-use Rattle.agent_lists.specs.Requests.{ahead_ask}
+use Rattle.agent_lists.specs.Along.{Progress, Along}
 use Rattle.agent_lists.specs.Steps.{PointerBrings, Points, Stays, Rings, Aborts, Resets, KeepsAlong}
 use Rattle.agent_lists.proofs.Records.{still, still_asks}
 use Rattle.agent_lists.proofs.Replies.{replies, loses}

@@ -1,9 +1,9 @@
 -- What an agent has under way: its main transaction and its read ahead, as the requests that they are of.
-use Rattle.std.specs.Prelude.{ℕ, ◌*◌, ◌||◌, is_some, Bool, true, false, length}
+use Rattle.std.specs.Prelude.{◌*◌, ◌||◌, is_some, Bool, true, false, length}
 use Rattle.orb_layout.specs.declared.ask.Ask.{Ask}
 use Rattle.orb_layout.specs.declared.ask.Ask.TheVariants.{Read, Write, Nothing}
 use Rattle.orb_layout.specs.declared.pointer.OrbPointer.{OrbPointer}
-use Rattle.orb_layout.specs.declared.pointer.OrbPointer.TheVariants.{Null, At}
+use Rattle.orb_layout.specs.declared.pointer.OrbPointer.TheVariants.{At}
 use Rattle.command_agent.specs.declared.phase.Phase.{Phase}
 use Rattle.command_agent.specs.declared.phase.Phase.TheVariants as phases
 use Rattle.command_agent.specs.declared.phase.ReadAhead.{ReadAhead}
