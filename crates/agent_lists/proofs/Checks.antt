@@ -80,11 +80,15 @@ IsBehind phases.ReadingTable ended k = suc ended ≡ k
 IsBehind (phases.ReadingData wanted) ended k = suc ended ≡ k
 IsBehind phases.Answering ended k = suc ended ≡ k
 IsBehind phases.WritingStatus ended k = ended ≡ k
-IsBehind phases.WritingLastStatus ended k = Unit {0}
 IsBehind _ ended k = ⊥
 
+-- unless the agent became dead
+abbrev IsBehindBy : Option FailCause → Phase → ℕ → ℕ → Type 0
+IsBehindBy (Some cause) phase ended k = Unit {0}
+IsBehindBy None phase ended k = IsBehind phase ended k
+
 record Checked (p : Progress) (next : OrbPointer) (s : AgentStep × Machine) : Type 0 where
-  pub behind : IsBehind s.1.phase (progress_by s p).ended (suc p.ended)
+  pub behind : IsBehindBy s.0.dead s.1.phase (progress_by s p).ended (suc p.ended)
   pub same : s.1.orb.next ≡ next
 
 checked_if : (b : Bool) (p : Progress) (next : OrbPointer) (x y : AgentStep × Machine) → Checked p next x → Checked p next y → Checked p next (cond b x y)
@@ -118,22 +122,21 @@ knows_ahead phases.ReadingTable l p k next rung e n = subst (λ (j : ℕ). IsNam
 knows_ahead (phases.ReadingData wanted) l p k next rung e n = subst (λ (j : ℕ). IsNamed l j next) (sym e) n
 knows_ahead phases.Answering l p k next rung e n = subst (λ (j : ℕ). IsNamed l j next) (sym e) n
 knows_ahead phases.WritingStatus l p k next rung e n = subst (λ (j : ℕ). IsNamed l j next) (sym e) n
-knows_ahead phases.WritingLastStatus l p k next rung e n = tt
 knows_ahead _ l p k next rung e n = elim e [ ]
 
-ahead_keeps : (dead : Option FailCause) (next : OrbPointer) (l : OrbList) (p : Progress) (place : ℕ) (plain : PlainDisk) (ahead : Ask) (s : AgentStep × Machine) → Leads l p.ended next → Checked p next s → Keeps l p place plain Nothing ahead s → Keeps l p place plain Nothing ahead (ahead_of dead next s)
-ahead_keeps None (At next) l p place plain ahead s n c k = record {
+ahead_keeps : (dead : Option FailCause) (next : OrbPointer) (l : OrbList) (p : Progress) (place : ℕ) (plain : PlainDisk) (ahead : Ask) (s : AgentStep × Machine) → Leads l p.ended next → IsBehindBy dead s.1.phase (progress_by s p).ended (suc p.ended) → s.1.orb.next ≡ next → Keeps l p place plain Nothing ahead s → Keeps l p place plain Nothing ahead (ahead_of dead next s)
+ahead_keeps None (At next) l p place plain ahead s n b c k = record {
   along = record {
     main = still s.1.phase l (progress_by s p) s.1 (aheads.UnderWay s.1.doorbell) false s.1.aborted k.along.main;
-    ahead = knows_ahead s.1.phase l (progress_by s p) (suc p.ended) s.1.orb.next s.1.doorbell c.behind (record { offset = next; named = c.same; place = n.0; linked = n.1 });
+    ahead = knows_ahead s.1.phase l (progress_by s p) (suc p.ended) s.1.orb.next s.1.doorbell b (record { offset = next; named = c; place = n.0; linked = n.1 });
   };
   runs = k.runs;
   ends = k.ends;
   main_is = still_asks s.1.phase s.1 (aheads.UnderWay s.1.doorbell) false s.1.aborted ∙ k.main_is;
-  ahead_is = ap (λ (o : OrbPointer). ahead_ask (aheads.UnderWay s.1.doorbell) o) c.same;
+  ahead_is = ap (λ (o : OrbPointer). ahead_ask (aheads.UnderWay s.1.doorbell) o) c;
 }
-ahead_keeps None Null l p place plain ahead s n c k = k
-ahead_keeps (Some cause) next l p place plain ahead s n c k = k
+ahead_keeps None Null l p place plain ahead s n b c k = k
+ahead_keeps (Some cause) next l p place plain ahead s n b c k = k
 
 pub check_keeps : (l : OrbList) (p : Progress) (m : Machine) (told : Told) (place : ℕ) (plain : PlainDisk) (ahead : Ask) → IsLaid l → Fresh l p m ahead → Keeps l p place plain Nothing ahead (with_ahead (check_step m place plain told))
 check_keeps l p m told place plain ahead laid f =
@@ -142,4 +145,4 @@ check_keeps l p m told place plain ahead laid f =
     let k : Keeps l p place plain Nothing ahead s = checked_keeps (verdict m.orb m.aborted) l p m told place plain ahead laid (verdict_ends l p.ended m.orb m.aborted f.good.own) f in
     ahead_keeps s.0.dead s.1.orb.next l p place plain ahead s
     (subst (λ (o : OrbPointer). Leads l p.ended o) (sym c.same) f.good.leads)
-    (record { behind = c.behind; same = refl }) k
+    c.behind refl k

@@ -35,7 +35,7 @@ end_keeps l p m kind None place plain ahead t b f w n h = record {
 end_keeps l p m kind (Some cause) place plain ahead t b f w n h = record {
   along = record {
     main = record { over = record { last = p.ended; ended = refl; place = t.place; linked = t.linked; leads = n; unrun = refl }; others = ap suc (sym t.all); src = refl; kind = kind; block = block_is l p m kind t };
-    ahead = tt;
+    ahead = refl;
   };
   runs = tt;
   ends = record { turn = t; by = b; whole = f; read = w; leads = n; block = block_is l p m kind t; asks = refl };
@@ -48,4 +48,4 @@ pub fail_keeps : (l : OrbList) (p : Progress) (m : Machine) (cause : FailCause) 
 fail_keeps l p m cause place plain ahead t n h = end_keeps l p m kinds.Failed (Some cause) place plain ahead t tt tt tt n h
 
 pub dead_keeps : (l : OrbList) (p : Progress) (m : Machine) (cause : FailCause) (place : ℕ) (plain : PlainDisk) (ahead : Ask) → Keeps l p place plain Nothing ahead (dead_step m cause)
-dead_keeps l p m cause place plain ahead = record { along = record { main = tt; ahead = tt }; runs = tt; ends = tt; main_is = refl; ahead_is = refl }
+dead_keeps l p m cause place plain ahead = record { along = record { main = tt; ahead = refl }; runs = tt; ends = tt; main_is = refl; ahead_is = refl }

@@ -93,10 +93,7 @@ ahead_still phases.ReadingTable l more p next ahead g h = reads_still ahead l mo
 ahead_still (phases.ReadingData wanted) l more p next ahead g h = reads_still ahead l more (suc p.ended) next g h
 ahead_still phases.Answering l more p next ahead g h = reads_still ahead l more (suc p.ended) next g h
 ahead_still phases.WritingStatus l more p next ahead g h = reads_still ahead l more p.ended next g h
-ahead_still phases.Fetching l more p next ahead g h = h
-ahead_still phases.ReadingNext l more p next ahead g h = h
-ahead_still phases.Suspended l more p next ahead g h = h
-ahead_still _ l more p next ahead g h = tt
+ahead_still _ l more p next ahead g h = h
 
 pub grown : (l more : OrbList) → GrowsLaw l more
 grown l more p m g a = record { main = knows_still m.phase l more p m g a.main; ahead = ahead_still m.phase l more p m.orb.next m.ahead g a.ahead }

@@ -5,7 +5,9 @@ pub mod Checks
 pub mod Reading
 pub mod Turns
 pub mod Replies
+pub mod Asking
 pub mod Writes
 pub mod Growing
 pub mod Telling
 pub mod Tested
+pub mod Worked

@@ -33,18 +33,19 @@ main_keeps (phases.ReadingData wanted) l p m told place plain answer laid k h b 
 main_keeps phases.Answering l p m told place plain answer laid k h b = chunk_keeps (write_failure answer) l p (record m { phase = phases.Answering }) told place plain k.told h
 main_keeps phases.WritingStatus l p m told place plain answer laid k h b = status_keeps (write_failure answer) l p (record m { phase = phases.WritingStatus }) told place plain laid k h
 main_keeps phases.ReadingNext l p m told place plain answer laid k h b = next_keeps (payload_of answer 8) l p (record m { phase = phases.ReadingNext }) told place plain laid k h b
-main_keeps phases.WritingLastStatus l p m told place plain answer laid k h b = record { keeps = record { along = record { main = tt; ahead = tt }; runs = tt; ends = tt; main_is = refl; ahead_is = refl } }
-main_keeps phases.Reset l p m told place plain answer laid k h b = record { keeps = record { along = record { main = tt; ahead = tt }; runs = tt; ends = tt; main_is = refl; ahead_is = refl } }
+main_keeps phases.WritingLastStatus l p m told place plain answer laid k h b = record { keeps = record { along = record { main = tt; ahead = h }; runs = tt; ends = tt; main_is = refl; ahead_is = refl } }
+main_keeps phases.Reset l p m told place plain answer laid k h b = record { keeps = record { along = record { main = tt; ahead = h }; runs = tt; ends = tt; main_is = refl; ahead_is = refl } }
 main_keeps phases.Suspended l p m told place plain answer laid k h b = record { keeps = record { along = record { main = k; ahead = h }; runs = tt; ends = tt; main_is = refl; ahead_is = refl } }
-main_keeps phases.Dead l p m told place plain answer laid k h b = record { keeps = record { along = record { main = tt; ahead = tt }; runs = tt; ends = tt; main_is = refl; ahead_is = refl } }
+main_keeps phases.Dead l p m told place plain answer laid k h b = record { keeps = record { along = record { main = tt; ahead = h }; runs = tt; ends = tt; main_is = refl; ahead_is = refl } }
 
 -- ---- the read ahead
 -- it is over
 no_ahead : (phase : Phase) (l : OrbList) (p : Progress) (next : OrbPointer) → KnowsAhead l p phase next aheads.Idle
-no_ahead phases.Fetching l p next = refl
-no_ahead phases.ReadingNext l p next = refl
-no_ahead phases.Suspended l p next = refl
-no_ahead _ l p next = tt
+no_ahead phases.ReadingTable l p next = tt
+no_ahead (phases.ReadingData wanted) l p next = tt
+no_ahead phases.Answering l p next = tt
+no_ahead phases.WritingStatus l p next = tt
+no_ahead _ l p next = refl
 
 -- its bytes are kept
 kept_ahead : (phase : Phase) (l : OrbList) (p : Progress) (next : OrbPointer) (rung : Bool) (bytes : List ℕ) (answer : Answer) → KnowsAhead l p phase next (aheads.UnderWay rung) → payload_of answer 32 ≡ Ok bytes → AheadBrings l p.ended phase answer → KnowsAhead l p phase next (aheads.Kept (command_orb bytes))
@@ -52,10 +53,7 @@ kept_ahead phases.ReadingTable l p next rung bytes answer n e b = (n, b bytes e)
 kept_ahead (phases.ReadingData wanted) l p next rung bytes answer n e b = (n, b bytes e)
 kept_ahead phases.Answering l p next rung bytes answer n e b = (n, b bytes e)
 kept_ahead phases.WritingStatus l p next rung bytes answer n e b = (n, b bytes e)
-kept_ahead phases.Fetching l p next rung bytes answer n e b = cc n
-kept_ahead phases.ReadingNext l p next rung bytes answer n e b = cc n
-kept_ahead phases.Suspended l p next rung bytes answer n e b = cc n
-kept_ahead _ l p next rung bytes answer n e b = tt
+kept_ahead _ l p next rung bytes answer n e b = cc n
 
 over_keeps : (l : OrbList) (p : Progress) (m : Machine) (ahead : ReadAhead) (doorbell : Bool) (place : ℕ) (plain : PlainDisk) → Along l p m → KnowsAhead l p m.phase m.orb.next ahead → ahead_ask ahead m.orb.next ≡ Nothing → Keeps l p place plain (main_under m) Nothing (quiet, record m { ahead = ahead; doorbell = doorbell })
 over_keeps l p m ahead doorbell place plain a h e = record {
@@ -93,10 +91,10 @@ main_lost_keeps (phases.ReadingData wanted) l p m cause place plain k h =
 main_lost_keeps phases.Answering l p m cause place plain k h = fail_keeps l p (record m { phase = phases.Answering }) cause place plain (ahead_under m) k.told.turn k.told.good.leads (record { reads = h; under = refl })
 main_lost_keeps phases.WritingStatus l p m cause place plain k h = dead_keeps l p (record m { phase = phases.WritingStatus }) cause place plain (ahead_under m)
 main_lost_keeps phases.ReadingNext l p m cause place plain k h = dead_keeps l p (record m { phase = phases.ReadingNext }) cause place plain (ahead_under m)
-main_lost_keeps phases.WritingLastStatus l p m cause place plain k h = record { along = record { main = tt; ahead = tt }; runs = tt; ends = tt; main_is = refl; ahead_is = refl }
-main_lost_keeps phases.Reset l p m cause place plain k h = record { along = record { main = tt; ahead = tt }; runs = tt; ends = tt; main_is = refl; ahead_is = refl }
+main_lost_keeps phases.WritingLastStatus l p m cause place plain k h = record { along = record { main = tt; ahead = h }; runs = tt; ends = tt; main_is = refl; ahead_is = refl }
+main_lost_keeps phases.Reset l p m cause place plain k h = record { along = record { main = tt; ahead = h }; runs = tt; ends = tt; main_is = refl; ahead_is = refl }
 main_lost_keeps phases.Suspended l p m cause place plain k h = record { along = record { main = k; ahead = h }; runs = tt; ends = tt; main_is = refl; ahead_is = refl }
-main_lost_keeps phases.Dead l p m cause place plain k h = record { along = record { main = tt; ahead = tt }; runs = tt; ends = tt; main_is = refl; ahead_is = refl }
+main_lost_keeps phases.Dead l p m cause place plain k h = record { along = record { main = tt; ahead = h }; runs = tt; ends = tt; main_is = refl; ahead_is = refl }
 
 ahead_lost_keeps : (ahead : ReadAhead) (l : OrbList) (p : Progress) (m : Machine) (cause : FailCause) (place : ℕ) (plain : PlainDisk) → Along l p (record m { ahead = ahead })
     → Keeps l p place plain (main_under (record m { ahead = ahead })) Nothing (cond (is_ahead ahead) (ahead_lost (record m { ahead = ahead }) cause) (quiet, record m { ahead = ahead }))

@@ -12,6 +12,7 @@ use Rattle.agent_lists.specs.Along.{Progress, Along}
 use Rattle.agent_lists.specs.Steps.{PointerBrings, Points, Stays, Rings, Aborts, Resets, KeepsAlong}
 use Rattle.agent_lists.proofs.Records.{still, still_asks}
 use Rattle.agent_lists.proofs.Replies.{replies, loses}
+use Rattle.agent_lists.proofs.Asking.{is_of_list}
 
 -- ---- the pointer
 pointed_keeps : (pointer : OrbPointer) (l : OrbList) (p : Progress) (m : Machine) → IsLaid l → named pointer ≡ Some (l.address 0) → 0 < l.linked → PointerBrings l p m (pointed m pointer)
@@ -58,7 +59,7 @@ aborts l p m orb a = record {
 -- ---- AGENT_RESET
 resets : (l : OrbList) → Resets l
 unfolding reset_step
-resets l p m = record { along = record { main = tt; ahead = tt }; main_is = refl; ahead_is = refl }
+resets l p m = record { along = record { main = tt; ahead = refl }; main_is = refl; ahead_is = refl }
 
 pub keeps_along : (l : OrbList) → KeepsAlong l
-keeps_along l = record { replies = replies l; loses = loses l; points = points l; rings = rings l; aborts = aborts l; resets = resets l }
+keeps_along l = record { replies = replies l; loses = loses l; points = points l; rings = rings l; aborts = aborts l; resets = resets l; asks = is_of_list l; begins = λ p. record { main = tt; ahead = refl } }

@@ -132,16 +132,13 @@ ReadsAhead l k next aheads.Idle = Unit {0}
 ReadsAhead l k next (aheads.UnderWay rung) = IsNamed l k next
 ReadsAhead l k next (aheads.Kept orb) = IsNamed l k next × IsGood l k orb
 
--- It is the one behind the present ORB, or behind the last one. While an ORB is read, and at the end of the list, nothing is.
+-- It is the one behind the present ORB, or behind the last one. While an ORB is read, at the end of the list, and without a list, nothing is.
 abbrev pub KnowsAhead : OrbList → Progress → Phase → OrbPointer → ReadAhead → Type 0
 KnowsAhead l p phases.ReadingTable next ahead = ReadsAhead l (suc p.ended) next ahead
 KnowsAhead l p (phases.ReadingData wanted) next ahead = ReadsAhead l (suc p.ended) next ahead
 KnowsAhead l p phases.Answering next ahead = ReadsAhead l (suc p.ended) next ahead
 KnowsAhead l p phases.WritingStatus next ahead = ReadsAhead l p.ended next ahead
-KnowsAhead l p phases.Fetching next ahead = ahead ≡ aheads.Idle
-KnowsAhead l p phases.ReadingNext next ahead = ahead ≡ aheads.Idle
-KnowsAhead l p phases.Suspended next ahead = ahead ≡ aheads.Idle
-KnowsAhead l p _ next ahead = Unit {0}
+KnowsAhead l p _ next ahead = ahead ≡ aheads.Idle
 
 -- An agent is along a list.
 pub record Along (l : OrbList) (p : Progress) (m : Machine) : Type 0 where

@@ -4,3 +4,4 @@ pub mod Requests
 pub mod Steps
 pub mod Calls
 pub mod Laws
+pub mod Tried

@@ -22,7 +22,7 @@ use Rattle.command_agent.specs.declared.step.AgentStep.{AgentStep}
 use Rattle.command_agent.specs.declared.step.PointRefusal.{PointRefusal}
 use Rattle.command_agent.specs.declared.step.Which.{Which}
 use Rattle.command_agent.specs.declared.step.Which.TheVariants.{Main, Ahead}
-use Rattle.command_agent.specs.Machine.{Machine, chunk_of, named}
+use Rattle.command_agent.specs.Machine.{Machine, new_machine, is_ahead, chunk_of, named}
 use Rattle.command_agent.specs.Steps.{src_of, answer_chunk, point_step, doorbell_step, reset_step, abort_step, reply_step, lost_step}
 use Rattle.agent_laws.specs.Answers.{to_write}
 use Rattle.agent_laws.specs.Buffers.{plan_for}
@@ -183,6 +183,26 @@ Resets l = (p : Progress) (m : Machine) → IsCut l p (reset_step m)
 abbrev pub GrowsLaw : OrbList → OrbList → Type 0
 GrowsLaw l more = (p : Progress) (m : Machine) → Grows l more → Along l p m → Along more p m
 
+-- ---- what is under way
+-- the number of the ORB that is read ahead
+abbrev pub number_behind : Phase → (ended : ℕ) → ℕ
+number_behind phases.WritingStatus ended = ended
+number_behind _ ended = suc ended
+
+-- Of an agent along a list the present ORB is read at the address of the one behind those that have ended, the next pointer again at that of the last
+-- one, and what is read ahead is the ORB behind.
+pub record IsOfList (l : OrbList) (p : Progress) (m : Machine) : Type 0 where
+  pub fetched : m.phase ≡ phases.Fetching → main_under m ≡ Read (l.address p.ended) 32
+  pub again : m.phase ≡ phases.ReadingNext → (last : ℕ) → p.ended ≡ suc last → main_under m ≡ Read (l.address last) 8
+  pub behind : is_ahead m.ahead ≡ true → ahead_under m ≡ Read (l.address (number_behind m.phase p.ended)) 32
+
+abbrev pub Asks : OrbList → Type 0
+Asks l = (p : Progress) (m : Machine) → Along l p m → IsOfList l p m
+
+-- a new agent is along any list
+abbrev pub Begins : OrbList → Type 0
+Begins l = (p : Progress) → Along l p new_machine
+
 -- Each call of an agent keeps it along a list.
 pub record KeepsAlong (l : OrbList) : Type 0 where
   pub replies : Replies l
@@ -191,3 +211,5 @@ pub record KeepsAlong (l : OrbList) : Type 0 where
   pub rings : Rings l
   pub aborts : Aborts l
   pub resets : Resets l
+  pub asks : Asks l
+  pub begins : Begins l

@@ -1,4 +1,5 @@
 ghost use Rattle.agent_lists.specs.Laws.{CallsKeepAlong, ListsGoInOrder, ListsMayGrow};
+ghost use Rattle.agent_lists.specs.Tried.{ListTried};
 
 /// Each call keeps an agent along its list: what runs and what ends is the ORB behind those that have
 /// ended, the run is its first, as it was read and with its data, its end follows from its run, its status
@@ -16,4 +17,10 @@ pub fn agents_stay_along_growing_lists()
 /// order, each once and behind its run, over every list of calls whose reads bring what the list holds.
 pub fn lists_go_in_order()
     ensures { ListsGoInOrder }
+{}
+
+/// The law of lists takes in a list of two ORBs: all that it asks for is there, and both run and end, the
+/// second as it was read ahead.
+pub fn a_list_was_tried()
+    ensures { ListTried }
 {}

@@ -3,4 +3,6 @@
 
 mod laws;
 
-pub use laws::{agents_stay_along_growing_lists, calls_keep_agents_along, lists_go_in_order};
+pub use laws::{
+    a_list_was_tried, agents_stay_along_growing_lists, calls_keep_agents_along, lists_go_in_order,
+};
