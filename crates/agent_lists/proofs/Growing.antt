@@ -12,7 +12,7 @@ use Rattle.orb_layout.specs.StatusBlocks.{status_bytes}
 use Rattle.command_agent.specs.Machine.{Machine}
 use Rattle.command_agent.specs.Steps.{src_of}
 use Rattle.agent_lists.specs.Lists.{OrbList, Leads, IsGood, Grows}
-use Rattle.agent_lists.specs.Along.{Progress, IsNext, Awaits, Told, IsOver, Writing, Knows, IsNamed, ReadsAhead, KnowsAhead}
+use Rattle.agent_lists.specs.Along.{Progress, IsNext, Awaits, HasTold, IsOver, Writing, Knows, IsNamed, ReadsAhead, KnowsAhead}
 use Rattle.agent_lists.specs.Steps.{GrowsLaw}
 
 linked_still : (l more : OrbList) (k : ℕ) → Grows l more → k < l.linked → k < more.linked
@@ -36,7 +36,7 @@ awaits_still l more p at orb g a = record {
   proper = a.proper;
 }
 
-told_still : (l more : OrbList) (p : Progress) (at : ℕ) (orb : CommandOrb) (segments : List Segment) (answer : List ℕ) (written : ℕ) → Grows l more → Told l p at orb segments answer written → Told more p at orb segments answer written
+told_still : (l more : OrbList) (p : Progress) (at : ℕ) (orb : CommandOrb) (segments : List Segment) (answer : List ℕ) (written : ℕ) → Grows l more → HasTold l p at orb segments answer written → HasTold more p at orb segments answer written
 told_still l more p at orb segments answer written g t = record {
   turn = next_still l more p.ended p.answered at g t.turn;
   good = good_still l more p.ended orb g t.turn.linked t.good;

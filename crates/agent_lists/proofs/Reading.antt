@@ -14,8 +14,7 @@ use Rattle.page_table.specs.declared.segment.Chunk.{Chunk}
 use Rattle.page_table.specs.declared.segment.Segment.{Segment}
 use Rattle.page_table.specs.Elements.{elements_of, first_fault}
 use Rattle.rbc_disk.specs.Units.{PlainDisk}
-use Rattle.rbc_disk.specs.Runs.{data_length_of}
-use Rattle.rbc_disk.specs.Runs as disk
+use Rattle.rbc_disk.specs.Runs.{data_length_of, Told}
 use Rattle.command_agent.specs.declared.phase.ReadAhead.{ReadAhead}
 use Rattle.command_agent.specs.declared.phase.ReadAhead.TheVariants as aheads
 use Rattle.command_agent.specs.declared.step.AgentStep.{AgentStep}
@@ -25,7 +24,7 @@ use Rattle.command_agent.specs.Steps.{sent, served, end_step, answer_step, orb_r
 use Rattle.command_agent.proofs.Fits.{feeds_all}
 use Rattle.agent_laws.specs.Answers.{to_write}
 use Rattle.agent_lists.specs.Lists.{OrbList, Leads, IsGood, IsLaid}
-use Rattle.agent_lists.specs.Along.{Progress, Begins, Awaits, Tabling, Filling, Told, ReadsAhead}
+use Rattle.agent_lists.specs.Along.{Progress, Begins, Awaits, Tabling, Filling, HasTold, ReadsAhead}
 use Rattle.agent_lists.specs.Requests.{ahead_ask, ahead_under}
 use Rattle.agent_lists.specs.Steps.{chunk_by, Keeps}
 use Rattle.agent_lists.proofs.Ends.{end_keeps, fail_keeps}
@@ -33,14 +32,14 @@ use Rattle.agent_lists.proofs.Runs.{answer_keeps, run_keeps, data_keeps, judge_k
 use Rattle.agent_lists.proofs.Checks.{keeps_test, check_keeps}
 
 -- what follows from a reply to the main transaction
-pub record MoveKeeps (l : OrbList) (p : Progress) (told : disk.Told) (place : ℕ) (plain : PlainDisk) (ahead : Ask) (s : Move × Machine) : Type 0 where
+pub record MoveKeeps (l : OrbList) (p : Progress) (told : Told) (place : ℕ) (plain : PlainDisk) (ahead : Ask) (s : Move × Machine) : Type 0 where
   pub keeps : Keeps l p place plain Nothing ahead (served place plain told s.0 s.1)
 
-pub move_test : (l : OrbList) (p : Progress) (told : disk.Told) (place : ℕ) (plain : PlainDisk) (ahead : Ask) (b : Bool) (x y : Move × Machine) → (b ≡ true → MoveKeeps l p told place plain ahead x) → (b ≡ false → MoveKeeps l p told place plain ahead y) → MoveKeeps l p told place plain ahead (cond b x y)
+pub move_test : (l : OrbList) (p : Progress) (told : Told) (place : ℕ) (plain : PlainDisk) (ahead : Ask) (b : Bool) (x y : Move × Machine) → (b ≡ true → MoveKeeps l p told place plain ahead x) → (b ≡ false → MoveKeeps l p told place plain ahead y) → MoveKeeps l p told place plain ahead (cond b x y)
 move_test l p told place plain ahead true x y f g = f refl
 move_test l p told place plain ahead false x y f g = g refl
 
-pub moved : (l : OrbList) (p : Progress) (told : disk.Told) (place : ℕ) (plain : PlainDisk) (ahead : Ask) (s : AgentStep × Machine) → Keeps l p place plain Nothing ahead s → MoveKeeps l p told place plain ahead (sent s)
+pub moved : (l : OrbList) (p : Progress) (told : Told) (place : ℕ) (plain : PlainDisk) (ahead : Ask) (s : AgentStep × Machine) → Keeps l p place plain Nothing ahead s → MoveKeeps l p told place plain ahead (sent s)
 moved l p told place plain ahead s k = record { keeps = k }
 
 -- nothing is read ahead, whatever the next pointer is
@@ -55,7 +54,7 @@ pub unread_leads : (l : OrbList) (p : Progress) (m : Machine) → Begins l p m.p
 unread_leads l p m b = subst (λ (o : OrbPointer). Leads l p.ended o) (sym b.unread) tt
 
 -- the ORB
-pub orb_keeps : (r : Result (List ℕ) FailCause) (l : OrbList) (p : Progress) (m : Machine) (told : disk.Told) (place : ℕ) (plain : PlainDisk) → IsLaid l → Begins l p m.present m.orb.next m.payload → m.ahead ≡ aheads.Idle → ((bytes : List ℕ) → r ≡ Ok bytes → IsGood l p.ended (command_orb bytes))
+pub orb_keeps : (r : Result (List ℕ) FailCause) (l : OrbList) (p : Progress) (m : Machine) (told : Told) (place : ℕ) (plain : PlainDisk) → IsLaid l → Begins l p m.present m.orb.next m.payload → m.ahead ≡ aheads.Idle → ((bytes : List ℕ) → r ≡ Ok bytes → IsGood l p.ended (command_orb bytes))
     → MoveKeeps l p told place plain (ahead_under m) (orb_read m r)
 orb_keeps (Err cause) l p m told place plain laid b idle brings =
     moved l p told place plain (ahead_under m) _ (fail_keeps l p m cause place plain (ahead_under m) b.turn (unread_leads l p m b) (record { reads = idle_behind l (suc p.ended) m.ahead m.orb.next idle; under = refl }))
@@ -71,12 +70,12 @@ orb_keeps (Ok bytes) l p m told place plain laid b idle brings = record {
 }
 
 -- without a run an ORB that is no dummy ends as aborted or illegal
-abort_keeps : (l : OrbList) (p : Progress) (m : Machine) (told : disk.Told) (place : ℕ) (plain : PlainDisk) → Awaits l p m.present m.orb → ReadsAhead l (suc p.ended) m.orb.next m.ahead → MoveKeeps l p told place plain (ahead_under m) (sent (end_step m kinds.Aborted None))
+abort_keeps : (l : OrbList) (p : Progress) (m : Machine) (told : Told) (place : ℕ) (plain : PlainDisk) → Awaits l p m.present m.orb → ReadsAhead l (suc p.ended) m.orb.next m.ahead → MoveKeeps l p told place plain (ahead_under m) (sent (end_step m kinds.Aborted None))
 abort_keeps l p m told place plain a h =
     moved l p told place plain (ahead_under m) _ (end_keeps l p m kinds.Aborted None place plain (ahead_under m) a.turn a.unrun tt (a.good.own, a.proper) a.good.leads (record { reads = h; under = refl }))
 
 -- its page table
-elements_keeps : (fault : Option PageFault) (l : OrbList) (p : Progress) (m : Machine) (bytes : List ℕ) (told : disk.Told) (place : ℕ) (plain : PlainDisk) → IsLaid l → Awaits l p m.present m.orb → m.payload ≡ [] → ReadsAhead l (suc p.ended) m.orb.next m.ahead → l.is_buffer p.ended m.orb (elements_of bytes)
+elements_keeps : (fault : Option PageFault) (l : OrbList) (p : Progress) (m : Machine) (bytes : List ℕ) (told : Told) (place : ℕ) (plain : PlainDisk) → IsLaid l → Awaits l p m.present m.orb → m.payload ≡ [] → ReadsAhead l (suc p.ended) m.orb.next m.ahead → l.is_buffer p.ended m.orb (elements_of bytes)
     → MoveKeeps l p told place plain (ahead_under m) (elements_read m bytes fault)
 elements_keeps (Some fault) l p m bytes told place plain laid a empty h buffer =
     moved l p told place plain (ahead_under m) _ (end_keeps l p m (kinds.Illegal 0xff) (Some causes.Grammar) place plain (ahead_under m) a.turn a.unrun tt (a.good.own, a.proper) a.good.leads (record { reads = h; under = refl }))
@@ -84,7 +83,7 @@ elements_keeps None l p m bytes told place plain laid a empty h buffer = record 
   keeps = judge_keeps l p (record m { segments = elements_of bytes }) told place plain (ahead_under m) laid (record { ready = record { awaits = a; behind = record { reads = h; under = refl } }; buffer = buffer; empty = empty });
 }
 
-pub table_read_keeps : (r : Result (List ℕ) FailCause) (l : OrbList) (p : Progress) (m : Machine) (told : disk.Told) (place : ℕ) (plain : PlainDisk) → IsLaid l → Tabling l p m.present m.orb m.payload → ReadsAhead l (suc p.ended) m.orb.next m.ahead → ((bytes : List ℕ) → r ≡ Ok bytes → l.is_buffer p.ended m.orb (elements_of bytes))
+pub table_read_keeps : (r : Result (List ℕ) FailCause) (l : OrbList) (p : Progress) (m : Machine) (told : Told) (place : ℕ) (plain : PlainDisk) → IsLaid l → Tabling l p m.present m.orb m.payload → ReadsAhead l (suc p.ended) m.orb.next m.ahead → ((bytes : List ℕ) → r ≡ Ok bytes → l.is_buffer p.ended m.orb (elements_of bytes))
     → MoveKeeps l p told place plain (ahead_under m) (table_read m r)
 table_read_keeps (Err cause) l p m told place plain laid t h brings =
     moved l p told place plain (ahead_under m) _ (fail_keeps l p m cause place plain (ahead_under m) t.awaits.turn t.awaits.good.leads (record { reads = h; under = refl }))
@@ -97,7 +96,7 @@ table_read_keeps (Ok bytes) l p m told place plain laid t h brings =
 pub is_whole : (n wanted : ℕ) → (n == wanted) ≡ true → n ≡ wanted
 is_whole n wanted e = grind (arith, nat_tests)
 
-grown_keeps : (l : OrbList) (p : Progress) (m : Machine) (wanted : ℕ) (told : disk.Told) (place : ℕ) (plain : PlainDisk) → Filling l p m.present m.orb m.payload m.segments wanted → ReadsAhead l (suc p.ended) m.orb.next m.ahead → MoveKeeps l p told place plain (ahead_under m) (data_grown m wanted)
+grown_keeps : (l : OrbList) (p : Progress) (m : Machine) (wanted : ℕ) (told : Told) (place : ℕ) (plain : PlainDisk) → Filling l p m.present m.orb m.payload m.segments wanted → ReadsAhead l (suc p.ended) m.orb.next m.ahead → MoveKeeps l p told place plain (ahead_under m) (data_grown m wanted)
 grown_keeps l p m wanted told place plain f h =
     move_test l p told place plain (ahead_under m) (length m.payload == wanted) _ _
     (λ t.
@@ -107,7 +106,7 @@ grown_keeps l p m wanted told place plain f h =
     })
     (λ _. moved l p told place plain (ahead_under m) _ (data_keeps l p m wanted place plain (ahead_under m) f (record { reads = h; under = refl })))
 
-pub data_read_keeps : (r : Result (List ℕ) FailCause) (l : OrbList) (p : Progress) (m : Machine) (wanted : ℕ) (told : disk.Told) (place : ℕ) (plain : PlainDisk) → Filling l p m.present m.orb m.payload m.segments wanted → ReadsAhead l (suc p.ended) m.orb.next m.ahead → ((bytes : List ℕ) → r ≡ Ok bytes → l.is_data p.ended m.orb m.segments (m.payload ++ bytes))
+pub data_read_keeps : (r : Result (List ℕ) FailCause) (l : OrbList) (p : Progress) (m : Machine) (wanted : ℕ) (told : Told) (place : ℕ) (plain : PlainDisk) → Filling l p m.present m.orb m.payload m.segments wanted → ReadsAhead l (suc p.ended) m.orb.next m.ahead → ((bytes : List ℕ) → r ≡ Ok bytes → l.is_data p.ended m.orb m.segments (m.payload ++ bytes))
     → MoveKeeps l p told place plain (ahead_under m) (data_read m wanted r)
 data_read_keeps (Err cause) l p m wanted told place plain f h brings =
     moved l p told place plain (ahead_under m) _ (fail_keeps l p m cause place plain (ahead_under m) f.awaits.turn f.awaits.good.leads (record { reads = h; under = refl }))
@@ -127,23 +126,23 @@ cut_small : (left : ℕ) (o : Option Chunk) → (cut_to left o).length ≤ left
 cut_small left None = omega arith
 cut_small left (Some taken) = omega arith
 
-told_more : (l : OrbList) (p : Progress) (m : Machine) → Told l p m.present m.orb m.segments m.answer m.written → Told l (record p { carried = p.carried + answer_chunk m }) m.present m.orb m.segments m.answer (m.written + answer_chunk m)
+told_more : (l : OrbList) (p : Progress) (m : Machine) → HasTold l p m.present m.orb m.segments m.answer m.written → HasTold l (record p { carried = p.carried + answer_chunk m }) m.present m.orb m.segments m.answer (m.written + answer_chunk m)
 told_more l p m t =
     let far : answer_chunk m ≤ length m.answer - m.written = cut_small (length m.answer - m.written) _ in
     let had : m.written ≤ length m.answer = t.within in
     record { turn = t.turn; good = t.good; proper = t.proper; buffer = t.buffer; ran = t.ran; told = t.told; whole = t.whole; done = ap (λ (n : ℕ). n + answer_chunk m) t.done; within = omega arith }
 
 -- all of it is written
-told_whole : (l : OrbList) (p : Progress) (at : ℕ) (orb : CommandOrb) (segments : List Segment) (answer : List ℕ) (written : ℕ) → Told l p at orb segments answer written → written ≡ length answer → p.carried ≡ length (to_write p.outcome p.answer)
+told_whole : (l : OrbList) (p : Progress) (at : ℕ) (orb : CommandOrb) (segments : List Segment) (answer : List ℕ) (written : ℕ) → HasTold l p at orb segments answer written → written ≡ length answer → p.carried ≡ length (to_write p.outcome p.answer)
 told_whole l p at orb segments answer written t e = sym t.done ∙ e ∙ ap length (t.told ∙ sym t.whole)
 
-pub chunk_keeps : (failure : Option FailCause) (l : OrbList) (p : Progress) (m : Machine) (told : disk.Told) (place : ℕ) (plain : PlainDisk) → Told l p m.present m.orb m.segments m.answer m.written → ReadsAhead l (suc p.ended) m.orb.next m.ahead → MoveKeeps l (chunk_by failure (answer_chunk m) p) told place plain (ahead_under m) (chunk_written m failure)
+pub chunk_keeps : (failure : Option FailCause) (l : OrbList) (p : Progress) (m : Machine) (told : Told) (place : ℕ) (plain : PlainDisk) → HasTold l p m.present m.orb m.segments m.answer m.written → ReadsAhead l (suc p.ended) m.orb.next m.ahead → MoveKeeps l (chunk_by failure (answer_chunk m) p) told place plain (ahead_under m) (chunk_written m failure)
 chunk_keeps (Some cause) l p m told place plain t h =
     moved l p told place plain (ahead_under m) _ (fail_keeps l p m cause place plain (ahead_under m) t.turn t.good.leads (record { reads = h; under = refl }))
 chunk_keeps None l p m told place plain t h =
     let n : Machine = record m { written = m.written + answer_chunk m } in
     let q : Progress = record p { carried = p.carried + answer_chunk m } in
-    let now : Told l q m.present m.orb m.segments m.answer (m.written + answer_chunk m) = told_more l p m t in
+    let now : HasTold l q m.present m.orb m.segments m.answer (m.written + answer_chunk m) = told_more l p m t in
     moved l q told place plain (ahead_under m) _
     (keeps_test l q place plain Nothing (ahead_under m) (n.written == length n.answer) (end_step n kinds.Good None) (answer_step n)
     (λ e. end_keeps l q n kinds.Good None place plain (ahead_under m) t.turn t.ran (told_whole l q m.present m.orb m.segments m.answer n.written now (is_whole n.written (length n.answer) e)) (t.good.own, t.proper) t.good.leads (record { reads = h; under = refl }))

@@ -8,21 +8,20 @@ use Rattle.rbc_disk.specs.declared.command.Need.TheVariants as needs
 use Rattle.rbc_disk.specs.declared.command.Outcome.{Outcome}
 use Rattle.rbc_disk.specs.declared.command.Outcome.TheVariants as outcomes
 use Rattle.rbc_disk.specs.Units.{PlainDisk}
-use Rattle.rbc_disk.specs.Runs.{need_of}
-use Rattle.rbc_disk.specs.Runs as disk
+use Rattle.rbc_disk.specs.Runs.{need_of, Told}
 use Rattle.command_agent.specs.declared.phase.Phase.TheVariants as phases
 use Rattle.command_agent.specs.Machine.{Machine, plan_of}
 use Rattle.command_agent.specs.Checks.{reads_table}
 use Rattle.command_agent.specs.Steps.{asks, end_step, answer_step, with_outcome, ran_as, run_step, judged, judge_step, data_step}
 use Rattle.command_agent.proofs.Fits.{data_needed, feeds_none}
 use Rattle.agent_lists.specs.Lists.{OrbList, IsLaid}
-use Rattle.agent_lists.specs.Along.{Progress, Filling, Told}
+use Rattle.agent_lists.specs.Along.{Progress, Filling, HasTold}
 use Rattle.agent_lists.specs.Steps.{IsRun, Keeps}
 use Rattle.agent_lists.proofs.Records.{Behind, Ready, Judgeable, Runnable}
 use Rattle.agent_lists.proofs.Ends.{end_keeps}
 
 -- a chunk of its answer is written
-pub answer_keeps : (l : OrbList) (p : Progress) (m : Machine) (place : ℕ) (plain : PlainDisk) (ahead : Ask) → Told l p m.present m.orb m.segments m.answer m.written → Behind l (suc p.ended) m ahead → Keeps l p place plain Nothing ahead (answer_step m)
+pub answer_keeps : (l : OrbList) (p : Progress) (m : Machine) (place : ℕ) (plain : PlainDisk) (ahead : Ask) → HasTold l p m.present m.orb m.segments m.answer m.written → Behind l (suc p.ended) m ahead → Keeps l p place plain Nothing ahead (answer_step m)
 answer_keeps l p m place plain ahead t h = record { along = record { main = record { told = t; bytes = refl }; ahead = h.reads }; runs = tt; ends = tt; main_is = refl; ahead_is = h.under }
 
 -- its command runs
@@ -59,7 +58,7 @@ ran_keeps (outcomes.Check sense) l p m place plain ahead z r =
     end_keeps l q m (kinds.Check sense) None place plain ahead a.turn refl tt (a.good.own, a.proper) a.good.leads r.ready.behind in
     record { along = k.along; runs = is_run l p m place plain ahead r; ends = k.ends; main_is = k.main_is; ahead_is = k.ahead_is }
 
-pub run_keeps : (l : OrbList) (p : Progress) (m : Machine) (told : disk.Told) (place : ℕ) (plain : PlainDisk) (ahead : Ask) → Runnable l p m place plain ahead → Keeps l p place plain Nothing ahead (run_step m told)
+pub run_keeps : (l : OrbList) (p : Progress) (m : Machine) (told : Told) (place : ℕ) (plain : PlainDisk) (ahead : Ask) → Runnable l p m place plain ahead → Keeps l p place plain Nothing ahead (run_step m told)
 run_keeps l p m told place plain ahead r =
     ran_keeps told.outcome l p (record m { answer = told.answer; written = 0 }) place plain ahead refl
     (record { ready = record { awaits = r.ready.awaits; behind = record { reads = r.ready.behind.reads; under = r.ready.behind.under } }; buffer = r.buffer; part = r.part; whole = r.whole; fed = r.fed })
@@ -72,13 +71,13 @@ data_keeps l p m wanted place plain ahead f h = record { along = record { main =
 none_of : (l : OrbList) (p : Progress) (m : Machine) (ahead : Ask) → IsLaid l → Judgeable l p m ahead → l.is_data p.ended m.orb m.segments m.payload
 none_of l p m ahead laid j = subst (λ (bytes : List ℕ). l.is_data p.ended m.orb m.segments bytes) (sym j.empty) (laid.empty p.ended m.orb m.segments j.ready.awaits.good.own j.buffer)
 
-judged_keeps : (need : Need) (l : OrbList) (p : Progress) (m : Machine) (told : disk.Told) (place : ℕ) (plain : PlainDisk) (ahead : Ask) → IsLaid l → need ≡ need_of m.orb.cdb (plan_of m) plain place → Judgeable l p m ahead → Keeps l p place plain Nothing ahead (judged m told need)
+judged_keeps : (need : Need) (l : OrbList) (p : Progress) (m : Machine) (told : Told) (place : ℕ) (plain : PlainDisk) (ahead : Ask) → IsLaid l → need ≡ need_of m.orb.cdb (plan_of m) plain place → Judgeable l p m ahead → Keeps l p place plain Nothing ahead (judged m told need)
 judged_keeps needs.RunNow l p m told place plain ahead laid e j =
     run_keeps l p m told place plain ahead (record { ready = j.ready; buffer = j.buffer; part = none_of l p m ahead laid j; whole = inl j.empty; fed = feeds_none (need_of m.orb.cdb (plan_of m) plain place) m.payload (sym e) })
 judged_keeps (needs.Payload len) l p m told place plain ahead laid e j =
     data_keeps l p m len place plain ahead (record { awaits = j.ready.awaits; part = none_of l p m ahead laid j; buffer = j.buffer; whole = data_needed m.orb.cdb (plan_of m) plain place len (sym e) }) j.ready.behind
 
-pub judge_keeps : (l : OrbList) (p : Progress) (m : Machine) (told : disk.Told) (place : ℕ) (plain : PlainDisk) (ahead : Ask) → IsLaid l → Judgeable l p m ahead → Keeps l p place plain Nothing ahead (judge_step m place plain told)
+pub judge_keeps : (l : OrbList) (p : Progress) (m : Machine) (told : Told) (place : ℕ) (plain : PlainDisk) (ahead : Ask) → IsLaid l → Judgeable l p m ahead → Keeps l p place plain Nothing ahead (judge_step m place plain told)
 judge_keeps l p m told place plain ahead laid j = judged_keeps (need_of m.orb.cdb (plan_of m) plain place) l p m told place plain ahead laid refl j
 
 -- its page table is read

@@ -89,6 +89,7 @@ status_same (Some cause) p = record { ended = refl; outcome = refl }
 main_same : (phase : Phase) (m : Machine) (answer : Answer) (p : Progress) → Same p (main_heard phase m answer p)
 main_same phases.Answering m answer p = chunk_same (write_failure answer) (answer_chunk m) p
 main_same phases.WritingStatus m answer p = status_same (write_failure answer) p
+main_same phases.WritingLastStatus m answer p = status_same (write_failure answer) p
 main_same _ m answer p = record { ended = refl; outcome = refl }
 
 heard_same : (which : Which) (m : Machine) (answer : Answer) (p : Progress) → Same p (heard_by which m answer p)
@@ -132,13 +133,13 @@ in_order [] l i = refl
 in_order (Ran at orb segments payload outcome ∷ ts) l i = in_order ts l i.1
 in_order (Ended at kind ∷ ts) l i = ap (λ (orbs : List ℕ). at ∷ orbs) (in_order ts l i.1) ∙ ap (λ (place : ℕ). place ∷ first_ones l (ends ts)) i.0.turn.place
 
-begun : (l : OrbList) (p : Progress) (m : Machine) (ask : Ask) (s : Result Ask PointRefusal × Machine) → s.0 ≡ Ok ask → PointerBrings l p m s → Along l at_start s.1
-begun l p m ask (Ok other, now) e b = b.along
-begun l p m ask (Err refusal, now) e b = cc e
+begun : (l : OrbList) (m : Machine) (ask : Ask) (s : Result Ask PointRefusal × Machine) → s.0 ≡ Ok ask → PointerBrings l m s → Along l at_start s.1
+begun l m ask (Ok other, now) e b = b.along
+begun l m ask (Err refusal, now) e b = cc e
 
 pub goes_along : (l : OrbList) → GoesAlongLaw l
 goes_along l m pointer laid t calls b =
     let start : Machine = (point_step m pointer).1 in
-    let a : Along l at_start start = begun l at_start m t.ask (point_step m pointer) t.taken ((keeps_along l).points at_start m pointer laid t.first t.linked) in
+    let a : Along l at_start start = begun l m t.ask (point_step m pointer) t.taken ((keeps_along l).points m pointer laid t.first t.linked) in
     let s : Stands l (behind start calls) (tales start calls) = calls_stand calls l start laid a b in
     record { turns = s.turns; order = in_order (tales start calls) l s.turns }

@@ -15,9 +15,9 @@ use Rattle.agent_lists.proofs.Replies.{replies, loses}
 use Rattle.agent_lists.proofs.Asking.{is_of_list}
 
 -- ---- the pointer
-pointed_keeps : (pointer : OrbPointer) (l : OrbList) (p : Progress) (m : Machine) → IsLaid l → named pointer ≡ Some (l.address 0) → 0 < l.linked → PointerBrings l p m (pointed m pointer)
-pointed_keeps Null l p m laid e n = refl
-pointed_keeps (At next) l p m laid e n =
+pointed_keeps : (pointer : OrbPointer) (l : OrbList) (m : Machine) → IsLaid l → named pointer ≡ Some (l.address 0) → 0 < l.linked → PointerBrings l m (pointed m pointer)
+pointed_keeps Null l m laid e n = refl
+pointed_keeps (At next) l m laid e n =
     let place : aligned next ≡ l.address 0 = cc in
     record {
       along = record { main = record { turn = record { place = place; linked = n; all = refl }; unrun = refl; unread = refl; empty = refl }; ahead = refl };
@@ -26,14 +26,14 @@ pointed_keeps (At next) l p m laid e n =
       ahead_is = refl;
     }
 
-point_keeps : (phase : Phase) (l : OrbList) (p : Progress) (m : Machine) (pointer : OrbPointer) → IsLaid l → named pointer ≡ Some (l.address 0) → 0 < l.linked → PointerBrings l p (record m { phase = phase }) (point_step (record m { phase = phase }) pointer)
+point_keeps : (phase : Phase) (l : OrbList) (m : Machine) (pointer : OrbPointer) → IsLaid l → named pointer ≡ Some (l.address 0) → 0 < l.linked → PointerBrings l (record m { phase = phase }) (point_step (record m { phase = phase }) pointer)
 unfolding point_step
-point_keeps phases.Reset l p m pointer laid e n = pointed_keeps pointer l p (record m { phase = phases.Reset }) laid e n
-point_keeps phases.Suspended l p m pointer laid e n = pointed_keeps pointer l p (record m { phase = phases.Suspended }) laid e n
-point_keeps _ l p m pointer laid e n = refl
+point_keeps phases.Reset l m pointer laid e n = pointed_keeps pointer l (record m { phase = phases.Reset }) laid e n
+point_keeps phases.Suspended l m pointer laid e n = pointed_keeps pointer l (record m { phase = phases.Suspended }) laid e n
+point_keeps _ l m pointer laid e n = refl
 
 points : (l : OrbList) → Points l
-points l p m pointer laid e n = point_keeps m.phase l p m pointer laid e n
+points l m pointer laid e n = point_keeps m.phase l m pointer laid e n
 
 -- ---- a doorbell
 ring_keeps : (phase : Phase) (l : OrbList) (p : Progress) (m : Machine) → Along l p (record m { phase = phase }) → Stays l p (record m { phase = phase }) (doorbell_step (record m { phase = phase })).0 (doorbell_step (record m { phase = phase })).1

@@ -67,7 +67,7 @@ pub record Filling (l : OrbList) (p : Progress) (at : ℕ) (orb : CommandOrb) (p
   pub whole : wanted ≡ data_length_of false orb.cdb
 
 -- its command has run good, and told an answer, of which so many bytes were written:
-pub record Told (l : OrbList) (p : Progress) (at : ℕ) (orb : CommandOrb) (segments : List Segment) (answer : List ℕ) (written : ℕ) : Type 0 where
+pub record HasTold (l : OrbList) (p : Progress) (at : ℕ) (orb : CommandOrb) (segments : List Segment) (answer : List ℕ) (written : ℕ) : Type 0 where
   pub turn : IsNext l p.ended p.answered at
   pub good : IsGood l p.ended orb
   pub proper : (orb.format == 3) ≡ false
@@ -80,7 +80,7 @@ pub record Told (l : OrbList) (p : Progress) (at : ℕ) (orb : CommandOrb) (segm
 
 -- and the next bytes of it are being written, as many as the chunk of its buffer has:
 pub record Answers (l : OrbList) (p : Progress) (at : ℕ) (orb : CommandOrb) (segments : List Segment) (answer : List ℕ) (written : ℕ) (outgoing : List ℕ) : Type 0 where
-  pub told : Told l p at orb segments answer written
+  pub told : HasTold l p at orb segments answer written
   pub bytes : outgoing ≡ take (piece orb segments written (length answer)).length (drop written answer)
 
 -- it has ended:

@@ -56,6 +56,7 @@ chunk_by (Some cause) size p = p
 abbrev pub main_heard : Phase → Machine → Answer → Progress → Progress
 main_heard phases.Answering m answer p = chunk_by (write_failure answer) (answer_chunk m) p
 main_heard phases.WritingStatus m answer p = status_by (write_failure answer) p
+main_heard phases.WritingLastStatus m answer p = status_by (write_failure answer) p
 main_heard _ m answer p = p
 
 abbrev pub heard_by : Which → Machine → Answer → Progress → Progress
@@ -150,13 +151,13 @@ pub record IsBegun (l : OrbList) (ask : Ask) (m : Machine) : Type 0 where
   pub ahead_is : ahead_under m ≡ Nothing
 
 -- what a pointer brings, where it is taken and where not
-abbrev pub PointerBrings : OrbList → Progress → Machine → Result Ask PointRefusal × Machine → Type 0
-PointerBrings l p m (Ok ask, now) = IsBegun l ask now
-PointerBrings l p m (Err refusal, now) = now ≡ m
+abbrev pub PointerBrings : OrbList → Machine → Result Ask PointRefusal × Machine → Type 0
+PointerBrings l m (Ok ask, now) = IsBegun l ask now
+PointerBrings l m (Err refusal, now) = now ≡ m
 
 abbrev pub Points : OrbList → Type 0
 Points l =
-    (p : Progress) (m : Machine) (pointer : OrbPointer) → IsLaid l → named pointer ≡ Some (l.address 0) → 0 < l.linked → PointerBrings l p m (point_step m pointer)
+    (m : Machine) (pointer : OrbPointer) → IsLaid l → named pointer ≡ Some (l.address 0) → 0 < l.linked → PointerBrings l m (point_step m pointer)
 
 -- a call that tells nothing
 pub record Stays (l : OrbList) (p : Progress) (m : Machine) (ask : Ask) (now : Machine) : Type 0 where
@@ -200,8 +201,8 @@ abbrev pub Asks : OrbList → Type 0
 Asks l = (p : Progress) (m : Machine) → Along l p m → IsOfList l p m
 
 -- a new agent is along any list
-abbrev pub Begins : OrbList → Type 0
-Begins l = (p : Progress) → Along l p new_machine
+abbrev pub StartsAlong : OrbList → Type 0
+StartsAlong l = (p : Progress) → Along l p new_machine
 
 -- Each call of an agent keeps it along a list.
 pub record KeepsAlong (l : OrbList) : Type 0 where
@@ -212,4 +213,4 @@ pub record KeepsAlong (l : OrbList) : Type 0 where
   pub aborts : Aborts l
   pub resets : Resets l
   pub asks : Asks l
-  pub begins : Begins l
+  pub begins : StartsAlong l
