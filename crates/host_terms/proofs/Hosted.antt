@@ -186,9 +186,9 @@ module _ (ready : Bool) where
           core = ap (λ j. host_core (host_at (behind t.0.sides past) j)) number ∙ k.own ∙ (sym (a.quiet none (own_core a.starts.before)) ∙ a.starts.begun);
           sits = a.starts.sits;
         };
-        asking = λ packet one serial generation to f q. record {
+        asking = λ packet one serial generation f q. record {
           own = own;
-          core = asked_known past action t i serial generation to packet.bytes a.starts own.number under f q;
+          core = asked_known past action t i serial generation 0 packet.bytes a.starts own.number under f q;
           sits = a.starts.sits;
         };
       }
@@ -197,13 +197,13 @@ module _ (ready : Bool) where
   cored_carried = record {
     number = λ past i s h. h.own.number;
     asked = λ line event past i s h. record { own = h.own; core = h.core; sits = h.sits };
-    apart = λ note past i s e h. noted note past i s (apart_core note past i e) h;
+    apart = λ note past i s e f h. noted note past i s (apart_core note past i e) h;
     sent = λ serial generation from to bytes past i s n h. noted (notes.Sent serial generation from to bytes) past i s (sent_core serial generation from to bytes past i n) h;
-    hears = hears_told;
-    expires = expires_told;
+    hears = λ serial generation bytes past i s heard shown after h. hears_told serial generation bytes past i s h;
+    expires = λ serial label past i s shown h. expires_told serial label past i s h;
     stale = stale_cored;
     sees = sees_told;
-    acts = acts_told;
+    acts = λ action past i s under fit done shown h. acts_told action past i s under fit done h;
   }
 
 -- ---- the beginning

@@ -30,7 +30,10 @@ pub mod Knows
 pub mod Brings
 pub mod Runs
 pub mod Alone
+pub mod Held
+pub mod Shown
 pub mod Carries
+pub mod Shows
 pub mod Passes
 pub mod Asked
 pub mod Requested
