@@ -31,6 +31,8 @@ pub mod Brings
 pub mod Runs
 pub mod Alone
 pub mod Held
+pub mod Lives
+pub mod Layered
 pub mod Shown
 pub mod Carries
 pub mod Shows
