@@ -34,7 +34,7 @@ use Rattle.sbp_world.specs.Telling.{holder, initiator_of, ticket_of, told, told_
 use Rattle.sbp_world.specs.Worlds.{WorldState, initiator_at, with_initiator, with_note, with_target}
 use Rattle.host_terms.specs.Calls.{behind}
 use Rattle.host_terms.specs.Handing.{AreNotes, AreOthers, IsOther, history}
-use Rattle.host_terms.proofs.Asked.{IsRequest}
+use Rattle.host_terms.proofs.Asked.{IsRequest, number_in}
 use Rattle.host_terms.proofs.Hands.{all_own}
 use Rattle.host_terms.proofs.Hosting.{hands_keep, line_same, state_here, state_there}
 use Rattle.host_terms.proofs.Shown.{IsElsewhere, IsHeard, IsShown}
@@ -67,7 +67,7 @@ pub record Tells (P : List Moment → ℕ → InitiatorState → Type 0) (past :
 pub record Does (P : List Moment → ℕ → InitiatorState → Type 0) (past : List Moment) (i : ℕ) (t : Turn) : Type 0 where
   pub others : (j : ℕ) (x : InitiatorState) → (j == i) ≡ false → P past j x → P (behind t.0.sides past) j x
   pub quiet : t.0.packets ≡ [] → P (behind t.0.sides past) i t.1
-  pub asking : (packet : Outgoing) → t.0.packets ≡ packet ∷ [] → (serial generation : ℕ) → (terms past).injected serial ≡ false → IsRequest packet.bytes → P (said (notes.Sent serial generation (suc i) 0 packet.bytes) ∷ behind t.0.sides past) i t.1
+  pub asking : (packet : Outgoing) → t.0.packets ≡ packet ∷ [] → (serial generation : ℕ) → (terms past).injected serial ≡ false → IsRequest (number_in packet.label) packet.bytes → P (said (notes.Sent serial generation (suc i) 0 packet.bytes) ∷ behind t.0.sides past) i t.1
 
 pub record Carries (P : List Moment → ℕ → InitiatorState → Type 0) : Type 0 where
   pub number : (past : List Moment) (i : ℕ) (s : InitiatorState) → P past i s → s.number ≡ i
@@ -233,7 +233,7 @@ module _ (P : List Moment → ℕ → InitiatorState → Type 0) (law : Carries 
         ∙ by_label (x.store.last + 1) 0 (i + 1) packet.to packet.label (posted (i + 1) 0 false packet.bytes x)
         ∙ ap (λ n. said (notes.Sent (x.store.last + 1) (topology_at x.generations (i + 1)).generation n 0 packet.bytes) ∷ history x past) (let e : i + 1 ≡ suc i = omega arith in e)
 
-    pub asking_hands : (weight : ℕ) (packet : Outgoing) → t.0.packets ≡ packet ∷ [] → (let x = told_all weight t.0.sides (with_initiator i t.1 w) in node_of x.generations (i + 1) packet.to ≡ Some 0 × ((terms (history w past)).injected (x.store.last + 1) ≡ false)) → IsRequest packet.bytes → Are P past (handed_out (i + 1) weight t.0 (with_initiator i t.1 w))
+    pub asking_hands : (weight : ℕ) (packet : Outgoing) → t.0.packets ≡ packet ∷ [] → (let x = told_all weight t.0.sides (with_initiator i t.1 w) in node_of x.generations (i + 1) packet.to ≡ Some 0 × ((terms (history w past)).injected (x.store.last + 1) ≡ false)) → IsRequest (number_in packet.label) packet.bytes → Are P past (handed_out (i + 1) weight t.0 (with_initiator i t.1 w))
     asking_hands weight packet one k q =
         let v = with_initiator i t.1 w in
         let x = told_all weight t.0.sides v in

@@ -49,6 +49,8 @@ pub mod KnowEnds
 pub mod KnowHears
 pub mod KnowSees
 pub mod KnowActs
+pub mod PointerNotes
+pub mod ActLeft
 pub mod Hosted
 pub mod Deciding
 pub mod Labels

@@ -15,9 +15,9 @@ use Rattle.label_table.specs.History.{Life, Told, and_before, asks, began, close
 use Rattle.label_table.specs.History as wire
 use Rattle.label_table.specs.Peers.{purpose_for, state_for}
 use Rattle.label_table.specs.Requests.{kind_of, reply_kind}
-use Rattle.label_table.proofs.Calls.{after_kept}
+use Rattle.label_table.proofs.Calls.{after_kept, told_law}
 use Rattle.sbp_initiator.specs.declared.purpose.Purpose.{Purpose}
-use Rattle.initiator_laws.proofs.Lives.{same_of}
+use Rattle.initiator_laws.proofs.Lives.{of_same, same_of}
 
 abbrev Notes : Type 0
 Notes = List (Told Purpose)
@@ -139,3 +139,72 @@ ask_at layer to body for asked new peer number purpose c is a =
     (at_life c.node (call ∷ c.calls) peer number purpose b) in
     subst (λ (l : Layer Purpose). AskedAt l to asked for peer number purpose) c.is
     (began_at c.node c.calls to asked for peer name b.kind purpose (is_same to asked.label peer name) kd refl w)
+
+-- a request begins under its label, and leaves what is under way
+same_self : (peer : ℕ) (label : LabelParts) → is_same peer label peer label ≡ true
+same_self peer label = of_same peer label peer label (record { peer = refl; number = refl; generation = refl; serial = refl })
+
+label_same : (l m : LabelParts) → l.number ≡ m.number → l.generation ≡ m.generation → l.serial ≡ m.serial → l ≡ m
+label_same l m a b c =
+    ap (λ (n : ℕ). record l { number = n }) a ∙ ap (λ (n : ℕ). record l { number = m.number; generation = n }) b ∙ ap (λ (n : ℕ). record m { serial = n }) c
+
+life_same : (p : ℕ) (l : LabelParts) (q : ℕ) (m : LabelParts) (notes : Notes) → is_same p l q m ≡ true → life p l notes ≡ life q m notes
+life_same p l q m notes e =
+    let s = same_of p l q m e in
+    ap (λ (n : ℕ). life n l notes) s.peer ∙ ap (λ (x : LabelParts). life q x notes) (label_same l m s.number s.generation s.serial)
+
+not_yet : {A : Type 0} (kind : ReplyKind) (purpose : Option Purpose) → not_begun ≡ under_way kind purpose → A
+not_yet kind purpose e = absurd (differ kind purpose e)
+  where
+    differ : (kind : ReplyKind) (purpose : Option Purpose) → not_begun ≡ under_way kind purpose → ⊥
+    differ kind purpose e = cc
+
+began_here : (c : Bool) (kd : ReplyKind) (for : Purpose) (x : Life Purpose) → c ≡ true → Runs (cond c (under_way kd (Some for)) x) kd (Some for)
+began_here true kd for x e = refl
+began_here false kd for x e = cc
+
+began_there : (c : Bool) (kd : ReplyKind) (for : Purpose) (x : Life Purpose) (kind : ReplyKind) (purpose : Option Purpose) → (c ≡ true → x ≡ not_begun) → Runs x kind purpose → Runs (cond c (under_way kd (Some for)) x) kind purpose
+began_there true kd for x kind purpose f w = not_yet kind purpose (sym (f refl) ∙ w)
+began_there false kd for x kind purpose f w = w
+
+module _ (layer : Layer Purpose) (to : ℕ) (body : Body) (for : Purpose) (asked : Asked) (new : Layer Purpose) (c : Called layer) (is : asking_step layer to body for ≡ (Some asked, new)) where
+  abbrev old : Layer Purpose
+  old = wire.after c.node c.calls
+
+  abbrev calls : List (wire.Call Purpose)
+  calls = asks to body for ∷ c.calls
+
+  abbrev kd : ReplyKind
+  kd = kind_of (unlabelled old to body)
+
+  step : asking_step old to body for ≡ (Some asked, new)
+  step = ap (λ (l : Layer Purpose). asking_step l to body for) c.is ∙ is
+
+  asked_is : (asking_step old to body for).0 ≡ Some asked
+  asked_is = ap (λ (r : Option Asked × Layer Purpose). r.0) step
+
+  new_is : wire.after c.node calls ≡ new
+  new_is = ap (λ (r : Option Asked × Layer Purpose). r.1) step
+
+  -- what holds behind its note
+  behind_it : (peer : ℕ) (label : LabelParts) (kind : ReplyKind) (purpose : Option Purpose) → Runs (life peer label (began to asked.label kd for ∷ wire.history c.node c.calls)) kind purpose → At new peer label.number purpose
+  behind_it peer label kind purpose w =
+      subst (λ (l : Layer Purpose). At l peer label.number purpose) new_is
+      (at_layer c.node calls peer label kind purpose (subst (λ (x : Option Asked). Runs (life peer label (and_before (told_by_asking to kd for x) (wire.history c.node c.calls))) kind purpose) (sym asked_is) w))
+
+  pub ask_begins : At new to asked.label.number (Some for)
+  ask_begins = behind_it to asked.label kd (Some for) (began_here (is_same to asked.label to asked.label) kd for (life to asked.label (wire.history c.node c.calls)) (same_self to asked.label))
+
+  fresh : life to asked.label (wire.history c.node c.calls) ≡ not_begun
+  fresh =
+      let t = told_law Purpose c.node calls in
+      (subst (λ (x : Option Asked). wire.AreTold (and_before (told_by_asking to kd for x) (wire.history c.node c.calls))) asked_is t).0.0
+
+  pub ask_keeps : (peer number : ℕ) (purpose : Option Purpose) → At layer peer number purpose → At new peer number purpose
+  ask_keeps peer number purpose a =
+      let b : At old peer number purpose = subst (λ (l : Layer Purpose). At l peer number purpose) (sym c.is) a in
+      let name = name_of old number b.serial in
+      let w = at_life c.node c.calls peer number purpose b in
+      behind_it peer name b.kind purpose
+      (began_there (is_same to asked.label peer name) kd for (life peer name (wire.history c.node c.calls)) b.kind purpose
+      (λ e. sym (life_same to asked.label peer name (wire.history c.node c.calls) e) ∙ fresh) w)
