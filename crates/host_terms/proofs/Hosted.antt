@@ -111,10 +111,10 @@ module _ (ready : Bool) (i : ℕ) (s : InitiatorState) (h : IsCalled ready i s) 
 
 -- ---- an initiator of a run
 
-record Cored (ready : Bool) (past : List Moment) (i : ℕ) (s : InitiatorState) : Type 0 where
-  own : IsOwn ready i s
-  core : host_core (host_at past i) ≡ own_core s
-  sits : Sits (operation_by (own_core s).work) (own_core s).session
+pub record Cored (ready : Bool) (past : List Moment) (i : ℕ) (s : InitiatorState) : Type 0 where
+  pub own : IsOwn ready i s
+  pub core : host_core (host_at past i) ≡ own_core s
+  pub sits : Sits (operation_by (own_core s).work) (own_core s).session
 
 module _ (ready : Bool) where
   known_of : (past : List Moment) (i : ℕ) (s : InitiatorState) → Cored ready past i s → Known past (empty_outbox, s)
@@ -193,7 +193,7 @@ module _ (ready : Bool) where
         };
       }
 
-  cored_carried : Carries (Cored ready)
+  pub cored_carried : Carries (Cored ready)
   cored_carried = record {
     number = λ past i s h. h.own.number;
     asked = λ line event past i s h. record { own = h.own; core = h.core; sits = h.sits };
@@ -217,7 +217,7 @@ first_sits : (i : ℕ) (ready : Bool) → Sits (operation_by (own_core (new_stat
 unfolding new_state
 first_sits i ready = tt
 
-first_cored : (line i initiators : ℕ) (ready : Bool) → i < initiators → Cored ready (said (notes.Begin initiators ready) ∷ asked line (events.Begin initiators ready) ∷ []) i (new_state i ready)
+pub first_cored : (line i initiators : ℕ) (ready : Bool) → i < initiators → Cored ready (said (notes.Begin initiators ready) ∷ asked line (events.Begin initiators ready) ∷ []) i (new_state i ready)
 first_cored line i initiators ready b = record { own = own_first ready i; core = begun_core i initiators ready b; sits = first_sits i ready }
 
 core_of_runs : (line : ℕ) (run : Run) → IsRun run → (i : ℕ) → i < run.initiators → host_core (host_at (history_of line run) i) ≡ own_core (initiator_of run i)

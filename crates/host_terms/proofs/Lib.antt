@@ -52,5 +52,7 @@ pub mod KnowActs
 pub mod PointerNotes
 pub mod ActLeft
 pub mod Hosted
+pub mod Pointing
+pub mod PointHears
 pub mod Deciding
 pub mod Labels

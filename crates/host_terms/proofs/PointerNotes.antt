@@ -319,14 +319,15 @@ tame_wire (notes.Told j) past e = refl
 pub record Told (past : List Moment) (told : List Side) (i : ℕ) : Type 0 where
   pub fades : (serial : ℕ) → pointer (behind told past) i ≡ Some serial → pointer past i ≡ Some serial
   pub wire : terms (behind told past) ≡ terms past
+  pub line : event_of (behind told past) ≡ event_of past
   pub fit : Fit (behind told past) → Fit past
 
 pub tame_told : (told : List Side) (past : List Moment) (i : ℕ) → AreTame told → Told past told i
-tame_told [] past i h = record { fades = λ s f. f; wire = refl; fit = λ f. f }
+tame_told [] past i h = record { fades = λ s f. f; wire = refl; line = refl; fit = λ f. f }
 tame_told (sides.Own note ∷ later) past i h =
     let a = tame_passes note past i h.0 in
     let b = tame_told later (said note ∷ past) i h.1 in
-    record { fades = λ s f. a.fades s (b.fades s f); wire = b.wire ∙ tame_wire note past h.0; fit = λ f. a.fit (b.fit f) }
+    record { fades = λ s f. a.fades s (b.fades s f); wire = b.wire ∙ tame_wire note past h.0; line = b.line; fit = λ f. a.fit (b.fit f) }
 tame_told ((sides.Opened place orb) ∷ later) past i h = absurd h.0
 tame_told ((sides.Ran place orb cdb payload outcome) ∷ later) past i h = absurd h.0
 tame_told ((sides.Ended place orb status) ∷ later) past i h = absurd h.0
