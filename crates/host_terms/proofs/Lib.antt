@@ -54,5 +54,6 @@ pub mod ActLeft
 pub mod Hosted
 pub mod Pointing
 pub mod PointHears
+pub mod PointActs
 pub mod Deciding
 pub mod Labels
