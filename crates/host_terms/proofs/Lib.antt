@@ -55,5 +55,9 @@ pub mod Hosted
 pub mod Pointing
 pub mod PointHears
 pub mod PointActs
+pub mod PointSees
+pub mod Pointed
+pub mod Aimed
+pub mod PointerRuns
 pub mod Deciding
 pub mod Labels

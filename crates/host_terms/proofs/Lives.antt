@@ -45,7 +45,7 @@ abbrev name_of : (layer : Layer Purpose) → ℕ → ℕ → LabelParts
 name_of layer number serial = record { number = number; generation = layer.generation; serial = serial }
 
 module _ (node : ℕ) (calls : List (wire.Call Purpose)) where
-  at_life : (peer number : ℕ) (purpose : Option Purpose) → (a : At (wire.after node calls) peer number purpose) → Runs (life peer (name_of (wire.after node calls) number a.serial) (wire.history node calls)) a.kind purpose
+  pub at_life : (peer number : ℕ) (purpose : Option Purpose) → (a : At (wire.after node calls) peer number purpose) → Runs (life peer (name_of (wire.after node calls) number a.serial) (wire.history node calls)) a.kind purpose
   at_life peer number purpose a =
       let k = after_kept node calls in
       k.agree.waits peer (name_of (wire.after node calls) number a.serial) a.kind refl a.state ∙ ap (λ (q : Option Purpose). under_way a.kind q) a.is_for

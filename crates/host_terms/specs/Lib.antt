@@ -14,3 +14,4 @@ pub mod Refusing
 pub mod Core
 pub mod Deciding
 pub mod Labels
+pub mod PointerRuns

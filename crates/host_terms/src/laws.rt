@@ -8,6 +8,7 @@ ghost use Rattle.host_terms.specs.Handing.{HandLaw};
 ghost use Rattle.host_terms.specs.Keeping.{KeepingLaw};
 ghost use Rattle.host_terms.specs.Labels.{RunLabelLaw};
 ghost use Rattle.host_terms.specs.Lines.{LineLaw};
+ghost use Rattle.host_terms.specs.PointerRuns.{PointerRunLaw};
 ghost use Rattle.host_terms.specs.Reading.{ReadLaw};
 ghost use Rattle.host_terms.specs.Refusing.{RunActionLaw};
 ghost use Rattle.host_terms.specs.Runs.{RunLaw};
@@ -114,4 +115,11 @@ pub fn runs_refuse_by_their_rows()
 #[tactic(auto, using(crate::proofs::Labels::run_label_law))]
 pub fn runs_find_labels()
     ensures { RunLabelLaw }
+{}
+
+/// The law that in every run a write of ORB_POINTER that is under way in an initiator's layer is the one that the
+/// run names for its present list: its label waits for the answer to that request.
+#[tactic(auto, using(crate::proofs::PointerRuns::pointer_run_law))]
+pub fn runs_point_by_writes()
+    ensures { PointerRunLaw }
 {}
