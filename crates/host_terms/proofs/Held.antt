@@ -1,6 +1,7 @@
 -- What each note of the wire leaves of the labels of a requester, and of the generation that a node is in.
 use Rattle.std.proofs.Common.{arith, ◌≡◌, refl, sym, ◌∙◌, ap, ℕ, ◌+◌, nat_eq, Bool, true, false, cond, List, ◌∷◌, Option, Some, None}
 use Rattle.std.proofs.lemmas.Bool.Decides.{nat_tests}
+use Rattle.sbp_base.specs.Update.{upd}
 use Rattle.async_packet.specs.Fields.{rcode_of}
 use Rattle.bus_transactions.specs.Rows.{Shape, awaits, shape_of}
 use Rattle.bus_transactions.proofs.Facts.{AskedBy, asked_is, begun_asked}
@@ -203,3 +204,25 @@ begins_count (Some u) s packet t = refl
 
 pub sent_count : (s : ℕ) (packet : Sending) (t : Terms) → (sends s packet t).count ≡ t.count + 1
 sent_count s packet t = pays_count t.owes t.sent s packet (begins (begun_by packet) s packet (puts (begun_by packet) s packet t)) ∙ begins_count (begun_by packet) s packet t
+
+gives_sent : (found : Option Transaction) (rcode : ℕ) (t : Terms) → (gives found rcode t).sent ≡ t.sent
+gives_sent None rcode t = refl
+gives_sent (Some u) rcode t = refl
+
+pays_sent : (owed : Option Owed) (sent : ℕ → Option Sending) (s : ℕ) (packet : Sending) (t : Terms) → (pays owed sent s packet t).sent ≡ t.sent
+pays_sent None sent s packet t = refl
+pays_sent (Some owed) sent s packet t = gives_sent (asked_in (sent owed.serial)) (rcode_of packet.bytes) t
+
+begins_sent : (begun : Option Transaction) (s : ℕ) (packet : Sending) (t : Terms) → (begins begun s packet (puts begun s packet t)).sent ≡ upd t.sent s (Some packet)
+begins_sent None s packet t = refl
+begins_sent (Some u) s packet t = refl
+
+sends_sent : (s : ℕ) (packet : Sending) (t : Terms) → (sends s packet t).sent ≡ upd t.sent s (Some packet)
+sends_sent s packet t = pays_sent t.owes t.sent s packet (begins (begun_by packet) s packet (puts (begun_by packet) s packet t)) ∙ begins_sent (begun_by packet) s packet t
+
+-- the packets by their serials: the one that is sent, and those before it
+pub sent_new : (s : ℕ) (packet : Sending) (t : Terms) → (sends s packet t).sent s ≡ Some packet
+sent_new s packet t = ap (λ (f : ℕ → Option Sending). f s) (sends_sent s packet t) ∙ ap (λ b. cond b (Some packet) (t.sent s)) (let e : nat_eq s s ≡ true = grind (arith, nat_tests) in e)
+
+pub sent_old : (s n : ℕ) (packet : Sending) (t : Terms) → nat_eq n s ≡ false → (sends s packet t).sent n ≡ t.sent n
+sent_old s n packet t e = ap (λ (f : ℕ → Option Sending). f n) (sends_sent s packet t) ∙ ap (λ b. cond b (Some packet) (t.sent n)) e

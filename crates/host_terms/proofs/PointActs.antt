@@ -1,5 +1,6 @@
 -- The ORB_POINTER write that an initiator's host names, as the initiator does an action.
 use Rattle.std.proofs.Common.{arith, ◌≡◌, refl, sym, ◌∙◌, ap, subst, ℕ, suc, ◌+◌, ◌≤◌, ◌==◌, is_some, not, Bool, true, false, cond, List, [], ◌∷◌, Option, Some, None}
+use Rattle.std.proofs.lemmas.Bool.Decides.{nat_tests}
 use Rattle.async_packet.specs.Labels.{LabelParts}
 use Rattle.bus_transactions.specs.Rows.{awaits, kind_as, shape, shape_of}
 use Rattle.bus_transactions.specs.Sent.{IsOwn}
@@ -32,11 +33,11 @@ use Rattle.sbp_laws.specs.Turns.{event_of}
 use Rattle.host_terms.specs.Calls.{behind}
 use Rattle.host_terms.proofs.ActLeft.{ActLeft, HasAsked}
 use Rattle.host_terms.proofs.Asked.{IsRequest, number_in}
-use Rattle.host_terms.proofs.Held.{sent_apart, sent_begun, sent_count}
+use Rattle.host_terms.proofs.Held.{sent_apart, sent_begun, sent_count, sent_new, sent_old}
 use Rattle.host_terms.proofs.Hosted.{Cored, marks_of}
 use Rattle.host_terms.proofs.Lives.{At, AskedAt, ask_at, ask_begins, ask_keeps, asked_now, was_asked}
 use Rattle.host_terms.proofs.PointerNotes.{Fit, Told, asked_pointer, pointer, pointer_after, tame_told}
-use Rattle.host_terms.proofs.Pointing.{IsPointer, Points, WaitsFor, asked_generation, called_of, keeps_is, none_of, present_at, sent_waits, under_way_now, waits_before, wrote_at, wrote_is, written_at}
+use Rattle.host_terms.proofs.Pointing.{HasSent, IsPointer, Points, WaitsFor, asked_generation, called_of, keeps_is, none_of, present_at, sent_waits, under_way_now, waits_before, wrote_at, wrote_is, written_at}
 use Rattle.host_terms.proofs.Shown.{IsShown}
 
 untrue : {A : Type 0} → false ≡ true → A
@@ -312,6 +313,17 @@ module _ (ready : Bool) (action : Action) (past : List Moment) (i : ℕ) (s : In
         let c = sent_count serial sending T in
         let d = ap (λ (y : Terms). y.count) told.wire in omega arith
 
+    not_it : (n : ℕ) → n ≤ (terms past).count → (n == serial) ≡ false
+    not_it n l = let f = fresh in grind (arith, nat_tests)
+
+    asks_by : (n : ℕ) → Names (rings action) serial (pointer ms i) n → HasSent now i n
+    asks_by n (as_before f) =
+        let p = told.fades n f in
+        let h = k.asks n p in
+        record { packet = h.packet; sent = sent_old serial n sending T (not_it n (k.below n p)) ∙ ap (λ (y : Terms). y.sent n) told.wire ∙ h.sent; from = h.from; to = h.to; honest = h.honest }
+    asks_by n (as_now r f g) =
+        record { packet = sending; sent = ap (terms now).sent g ∙ sent_new serial sending T; from = refl; to = refl; honest = honest }
+
     older_by : (g m : ℕ) (kind : Kind) (n : ℕ) → (terms now).held (transaction g (suc i) 0 m) ≡ waits kind n → (b : Bool) → (n == serial) ≡ b → n ≤ (terms now).count
     older_by g m kind n h true e =
         let same : n ≡ serial = grind arith in
@@ -330,5 +342,6 @@ module _ (ready : Bool) (action : Action) (past : List Moment) (i : ℕ) (s : In
       waits_for = λ m list a. waits_by m list a (ask_at s.layer s.target (wanted_body x.demand.wanted) x.demand.purpose x.asked t.1.layer s.target m (Some (purposes.Pointer list)) (called_of cored) x.step a);
       named = λ m kind n h p. named_by m kind n (sym (now_own m) ∙ h) p (m == x.asked.label.number) refl;
       below = λ n p. below_by n (names (rings action) serial (pointer ms i) n (sym pointer_now ∙ p));
+      asks = λ n p. asks_by n (names (rings action) serial (pointer ms i) n (sym pointer_now ∙ p));
       older = λ g m kind n h. older_by g m kind n h (n == serial) refl;
     }

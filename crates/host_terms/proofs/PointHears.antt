@@ -1,6 +1,7 @@
 -- The ORB_POINTER write that an initiator's host names, as others tell and do something, and as the initiator hears a packet, lets a transaction
 -- time out, and sees a generation.
 use Rattle.std.proofs.Common.{arith, ◌≡◌, refl, sym, ◌∙◌, ap, subst, ℕ, suc, ◌+◌, ◌≤◌, ◌==◌, is_some, not, Bool, true, false, List, [], ◌∷◌, Option, Some, None}
+use Rattle.std.proofs.lemmas.Bool.Decides.{nat_tests}
 use Rattle.bus_transactions.specs.Rows.{awaits, kind_as, shape, shape_of}
 use Rattle.bus_transactions.specs.Wire.{transaction}
 use Rattle.label_table.specs.declared.judgement.Asked.{Asked}
@@ -20,17 +21,21 @@ use Rattle.sbp_journal.specs.declared.note.Note.TheVariants as notes
 use Rattle.sbp_laws.specs.Turns.{event_of}
 use Rattle.host_terms.specs.Calls.{behind}
 use Rattle.host_terms.proofs.Carries.{IsNoAct}
-use Rattle.host_terms.proofs.Held.{sent_count}
+use Rattle.host_terms.proofs.Held.{sent_count, sent_old}
 use Rattle.host_terms.proofs.Hosted.{Cored}
 use Rattle.host_terms.proofs.Layered.{LayerLeft, Left, read, same}
 use Rattle.host_terms.proofs.Lives.{At, AskedAt, Called, ask_at, ask_keeps, asked_now, was_asked}
 use Rattle.host_terms.proofs.PointerNotes.{Fit, Told, pointer, sent_fades, tame_told}
-use Rattle.host_terms.proofs.Pointing.{IsPointer, Points, WaitsFor, asked_generation, at_same, called_of, keeps_is, sent_waits, under_way_now, waits_before, wrote_at}
+use Rattle.host_terms.proofs.Pointing.{HasSent, IsPointer, Points, WaitsFor, asked_generation, at_same, called_of, keeps_is, sent_waits, under_way_now, waits_before, wrote_at}
 use Rattle.host_terms.proofs.Shown.{IsShown}
 
 -- ---- what leaves the labels
 
-module _ (past now : List Moment) (i target : ℕ) (layer : Layer Purpose) (fades : (serial : ℕ) → pointer now i ≡ Some serial → pointer past i ≡ Some serial) (held : (g m : ℕ) → (terms now).held (transaction g (suc i) 0 m) ≡ (terms past).held (transaction g (suc i) 0 m)) (count : (terms past).count ≤ (terms now).count) where
+-- a packet that was sent
+sent_still : (past now : List Moment) (i serial : ℕ) → (terms now).sent serial ≡ (terms past).sent serial → HasSent past i serial → HasSent now i serial
+sent_still past now i serial e h = record { packet = h.packet; sent = e ∙ h.sent; from = h.from; to = h.to; honest = h.honest }
+
+module _ (past now : List Moment) (i target : ℕ) (layer : Layer Purpose) (fades : (serial : ℕ) → pointer now i ≡ Some serial → pointer past i ≡ Some serial) (held : (g m : ℕ) → (terms now).held (transaction g (suc i) 0 m) ≡ (terms past).held (transaction g (suc i) 0 m)) (count : (terms past).count ≤ (terms now).count) (sent : (serial : ℕ) → serial ≤ (terms past).count → (terms now).sent serial ≡ (terms past).sent serial) where
   pub still_points : ((number list : ℕ) → At layer target number (Some (purposes.Pointer list)) → is_some (pointer now i) ≡ true) → Points past i target layer → Points now i target layer
   still_points wrote k = record {
     waits_for = λ m list a.
@@ -38,6 +43,7 @@ module _ (past now : List Moment) (i target : ℕ) (layer : Layer Purpose) (fade
         record { kind = w.kind; serial = w.serial; pointer_is = keeps_is (pointer past i) (pointer now i) w.serial fades (wrote m list a) w.pointer_is; held = held layer.generation m ∙ w.held };
     named = λ m kind serial h p. k.named m kind serial (sym (held layer.generation m) ∙ h) (fades serial p);
     below = λ serial p. let b = k.below serial (fades serial p) in omega arith;
+    asks = λ serial p. let q = fades serial p in sent_still past now i serial (sent serial (k.below serial q)) (k.asks serial q);
     older = λ g m kind serial h. let b = k.older g m kind serial (sym (held g m) ∙ h) in omega arith;
   }
 
@@ -56,6 +62,9 @@ module _ (serial generation from to : ℕ) (bytes : List ℕ) (past : List Momen
   fresh : (s : ℕ) → s ≤ t.count → s ≡ serial → ⊥
   fresh s l e = let c : serial ≡ t.count + 1 = fit.serials.0 in omega arith
 
+  not_it : (s : ℕ) → s ≤ t.count → (s == serial) ≡ false
+  not_it s l = let c : serial ≡ t.count + 1 = fit.serials.0 in grind (arith, nat_tests)
+
   pub sent_points : ((number list : ℕ) → At layer target number (Some (purposes.Pointer list)) → is_some (pointer now i) ≡ true) → Points past i target layer → Points now i target layer
   sent_points wrote k =
       let fades = sent_fades serial generation from to bytes past i n in
@@ -73,6 +82,7 @@ module _ (serial generation from to : ℕ) (bytes : List ℕ) (past : List Momen
             let p0 = fades s p in
             k.named m kind s (waits_before t serial packet fit.sent.0 (transaction layer.generation (suc i) 0 m) kind s h (fresh s (k.below s p0))) p0;
         below = λ s p. let b = k.below s (fades s p) in omega arith;
+        asks = λ s p. let q = fades s p in sent_still past now i s (sent_old serial s packet t (not_it s (k.below s q))) (k.asks s q);
         older = λ g m kind s h. older_by k g m kind s h (s == serial) refl;
       }
     where
@@ -104,6 +114,7 @@ pub record Ends (past : List Moment) (note : Note) (i : ℕ) : Type 0 where
   pub fades : (serial : ℕ) → pointer (said note ∷ past) i ≡ Some serial → pointer past i ≡ Some serial
   pub held : (v : Transaction) (kind : ReplyKind) → shape_of ((terms (said note ∷ past)).held v) ≡ awaits kind → (terms (said note ∷ past)).held v ≡ (terms past).held v
   pub count : (terms past).count ≤ (terms (said note ∷ past)).count
+  pub sent : (serial : ℕ) → (terms (said note ∷ past)).sent serial ≡ (terms past).sent serial
 
 module _ (past : List Moment) (note : Note) (i target : ℕ) (old l : Layer Purpose) (e : Ends past note i) (k : Points past i target old) (c : Called l) (generation_is : l.generation ≡ old.generation) (back : (number : ℕ) (purpose : Option Purpose) → At l target number purpose → At old target number purpose) (shown : IsShown (said note ∷ past) i target l) where
   abbrev ended : List Moment
@@ -165,6 +176,7 @@ module _ (past : List Moment) (note : Note) (i target : ℕ) (old l : Layer Purp
               let purpose : purpose_for l.peers target m ≡ Some (purposes.Pointer x.list) = sym b.is_for ∙ x.is in
               record { list = x.list; is = (to_left t.1.layer left.layer m (purpose_for l.peers target m) a).is_for ∙ purpose };
           below = λ s p. let b = k.below s (fades s p) in let c = e.count in let d = ap (λ (x : Terms). x.count) said_now.wire in omega arith;
+          asks = λ s p. let q = fades s p in sent_still past later i s (ap (λ (x : Terms). x.sent s) said_now.wire ∙ e.sent s) (k.asks s q);
           older = λ x m kind s h.
               let v = transaction x (suc i) 0 m in
               let h1 : (terms ended).held v ≡ waits kind s = sym (ap (λ (y : Terms). y.held v) said_now.wire) ∙ h in
@@ -180,6 +192,7 @@ none_points past i target layer none e older = record {
   waits_for = λ m list a. absurd (none m list a);
   named = λ m kind s h p. absurd (untrue (sym e ∙ ap is_some p));
   below = λ s p. absurd (untrue (sym e ∙ ap is_some p));
+  asks = λ s p. absurd (untrue (sym e ∙ ap is_some p));
   older = older;
 }
   where

@@ -20,7 +20,7 @@ use Rattle.sbp_initiator.specs.States.{is_unwritten}
 use Rattle.sbp_bus.specs.Packets.{judged_note}
 use Rattle.sbp_journal.specs.Outgoings.{empty_outbox}
 use Rattle.sbp_journal.specs.Run.{Moment, asked, said}
-use Rattle.sbp_journal.specs.Transactions.{Kind, Transaction}
+use Rattle.sbp_journal.specs.Transactions.{Kind, Sending, Transaction}
 use Rattle.sbp_journal.specs.Wire.{Held, Terms, free, terms, waits}
 use Rattle.sbp_journal.specs.declared.cause.Judged.{Judged}
 use Rattle.sbp_journal.specs.declared.cause.Judged.TheVariants as judgements
@@ -84,10 +84,10 @@ sighted generation i past = said (notes.Seen (suc i) generation) ∷ past
 judged_ends : (serial : ℕ) (judged : Judged) (past : List Moment) (i : ℕ) → Ends past (judged_note serial judged) i
 judged_ends serial judgements.Got past i =
     let t : Terms = terms past in
-    record { fades = got_fades_now serial past i; held = λ v kind e. got_waits (t.sent serial) serial t v kind e; count = least _ _ (got_agrees (t.sent serial) serial t).count }
+    record { fades = got_fades_now serial past i; held = λ v kind e. got_waits (t.sent serial) serial t v kind e; count = least _ _ (got_agrees (t.sent serial) serial t).count; sent = λ n. ap (λ (f : ℕ → Option Sending). f n) (got_agrees (t.sent serial) serial t).sent }
 judged_ends serial (judgements.Ignored cause) past i =
     let t : Terms = terms past in
-    record { fades = λ s f. f; held = λ v kind e. ap (λ (h : Transaction → Held). h v) (ignored_quiet (t.sent serial) cause serial t).held; count = least _ _ (ignored_agrees (t.sent serial) cause serial t).count }
+    record { fades = λ s f. f; held = λ v kind e. ap (λ (h : Transaction → Held). h v) (ignored_quiet (t.sent serial) cause serial t).held; count = least _ _ (ignored_agrees (t.sent serial) cause serial t).count; sent = λ n. ap (λ (f : ℕ → Option Sending). f n) (ignored_agrees (t.sent serial) cause serial t).sent }
 
 judged_fit : (serial : ℕ) (judged : Judged) (past : List Moment) → Fit (said (judged_note serial judged) ∷ past) → Fit past
 judged_fit serial judgements.Got past f = record { serials = f.serials; sent = f.sent }
@@ -96,7 +96,7 @@ judged_fit serial (judgements.Ignored cause) past f = record { serials = f.seria
 timed_ends : (serial : ℕ) (past : List Moment) (i : ℕ) → Ends past (notes.TimedOut serial) i
 timed_ends serial past i =
     let t : Terms = terms past in
-    record { fades = timed_fades_now serial past i; held = λ v kind e. timed_waits (t.sent serial) t v kind e; count = least _ _ (timed_agrees (t.sent serial) t).count }
+    record { fades = timed_fades_now serial past i; held = λ v kind e. timed_waits (t.sent serial) t v kind e; count = least _ _ (timed_agrees (t.sent serial) t).count; sent = λ n. ap (λ (f : ℕ → Option Sending). f n) (timed_agrees (t.sent serial) t).sent }
 
 module _ (ready : Bool) where
   -- a write under way there counts as written
@@ -113,7 +113,7 @@ module _ (ready : Bool) where
       let k = tame_told told past j tame in
       record {
         cored = c;
-        points = λ f. still_points past (behind told past) j x.target x.layer k.fades (λ g m. ap (λ (t : Terms). t.held (transaction g (suc j) 0 m)) k.wire) (least _ _ (ap (λ (t : Terms). t.count) k.wire)) (wrote c) (h.points (k.fit f));
+        points = λ f. still_points past (behind told past) j x.target x.layer k.fades (λ g m. ap (λ (t : Terms). t.held (transaction g (suc j) 0 m)) k.wire) (least _ _ (ap (λ (t : Terms). t.count) k.wire)) (λ n l. ap (λ (t : Terms). t.sent n) k.wire) (wrote c) (h.points (k.fit f));
       }
 
   asked_pointed : (line : ℕ) (event : Event) (past : List Moment) (i : ℕ) (s : InitiatorState) → Pointed ready past i s → Pointed ready (asked line event ∷ past) i s
@@ -122,14 +122,14 @@ module _ (ready : Bool) where
       let o = opens event (terms past) in
       record {
         cored = c;
-        points = λ f. still_points past (asked line event ∷ past) i s.target s.layer (λ n e. e) (λ g m. ap (λ (x : Transaction → Held). x (transaction g (suc i) 0 m)) o.held) (least _ _ o.count) (wrote c) (h.points (record { serials = f.serials; sent = f.sent }));
+        points = λ f. still_points past (asked line event ∷ past) i s.target s.layer (λ n e. e) (λ g m. ap (λ (x : Transaction → Held). x (transaction g (suc i) 0 m)) o.held) (least _ _ o.count) (λ n l. ap (λ (f : ℕ → Option Sending). f n) o.sent) (wrote c) (h.points (record { serials = f.serials; sent = f.sent }));
       }
 
   apart_pointed : (note : Note) (past : List Moment) (i : ℕ) (s : InitiatorState) → is_apart i note ≡ true → IsElsewhere past i note → Pointed ready past i s → Pointed ready (said note ∷ past) i s
   apart_pointed note past i s e w h =
       let c = (cored_carried ready).apart note past i s e w h.cored in
       let x = apart_passes note past i e w in
-      record { cored = c; points = λ f. still_points past (said note ∷ past) i s.target s.layer x.fades x.held x.count (wrote c) (h.points (x.fit f)) }
+      record { cored = c; points = λ f. still_points past (said note ∷ past) i s.target s.layer x.fades x.held x.count (x.sent f) (wrote c) (h.points (x.fit f)) }
 
   sent_pointed : (serial generation from to : ℕ) (bytes : List ℕ) (past : List Moment) (i : ℕ) (s : InitiatorState) → IsNoAct i (event_of past) → Pointed ready past i s → Pointed ready (said (notes.Sent serial generation from to bytes) ∷ past) i s
   sent_pointed serial generation from to bytes past i s n h =
@@ -227,7 +227,7 @@ module _ (ready : Bool) where
           let g = told.fit f in
           let k = h.points (record { serials = g.serials; sent = g.sent }) in
           let k1 = subst (λ (l : Layer Purpose). Points past i t.1.target l) (sym layer) (subst (λ x. Points past i x s.layer) (sym target) k) in
-          still_points past (behind t.0.sides (sighted generation i past)) i t.1.target t.1.layer (λ n p. seen_fades_now generation past i n (told.fades n p)) (λ x m. ap (λ (y : Terms). y.held (transaction x (suc i) 0 m)) told.wire) (least _ _ (ap (λ (y : Terms). y.count) told.wire)) (wrote c) k1
+          still_points past (behind t.0.sides (sighted generation i past)) i t.1.target t.1.layer (λ n p. seen_fades_now generation past i n (told.fades n p)) (λ x m. ap (λ (y : Terms). y.held (transaction x (suc i) 0 m)) told.wire) (least _ _ (ap (λ (y : Terms). y.count) told.wire)) (λ n l. ap (λ (y : Terms). y.sent n) told.wire) (wrote c) k1
 
   -- ---- it acts
 
@@ -243,7 +243,7 @@ module _ (ready : Bool) where
           cored = does.quiet none;
           points = λ f.
               let k = subst (λ (l : Layer Purpose). Points past i t.1.target l) (sym (left.quiet none)) (subst (λ x. Points past i x s.layer) (sym left.target_is) (h.points (told.fit f))) in
-              still_points past (behind t.0.sides past) i t.1.target t.1.layer told.fades (λ g m. ap (λ (y : Terms). y.held (transaction g (suc i) 0 m)) told.wire) (least _ _ (ap (λ (y : Terms). y.count) told.wire)) (wrote (does.quiet none)) k;
+              still_points past (behind t.0.sides past) i t.1.target t.1.layer told.fades (λ g m. ap (λ (y : Terms). y.held (transaction g (suc i) 0 m)) told.wire) (least _ _ (ap (λ (y : Terms). y.count) told.wire)) (λ n l. ap (λ (y : Terms). y.sent n) told.wire) (wrote (does.quiet none)) k;
         };
         asking = λ packet one serial generation injected q. record {
           cored = does.asking packet one serial generation injected q;

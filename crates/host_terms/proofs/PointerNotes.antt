@@ -31,7 +31,7 @@ use Rattle.host_terms.specs.Calls.{behind}
 use Rattle.host_terms.proofs.Asked.{IsRequest}
 use Rattle.host_terms.proofs.Carries.{IsNoAct, is_apart}
 use Rattle.host_terms.proofs.Cores.{wire_is}
-use Rattle.host_terms.proofs.Held.{begun_from, got_apart, ignored_quiet, sent_apart, sent_count, timed_apart}
+use Rattle.host_terms.proofs.Held.{begun_from, got_apart, ignored_quiet, sent_apart, sent_count, sent_old, timed_apart}
 use Rattle.host_terms.proofs.Layered.{AreTame, is_tame}
 use Rattle.host_terms.proofs.Prepares.{itself}
 use Rattle.host_terms.proofs.Shown.{IsElsewhere}
@@ -145,6 +145,7 @@ pub record Passes (past : List Moment) (note : Note) (i : ℕ) : Type 0 where
   pub fades : (serial : ℕ) → pointer (said note ∷ past) i ≡ Some serial → pointer past i ≡ Some serial
   pub held : (g m : ℕ) → (terms (said note ∷ past)).held (transaction g (suc i) 0 m) ≡ (terms past).held (transaction g (suc i) 0 m)
   pub count : (terms past).count ≤ (terms (said note ∷ past)).count
+  pub sent : Fit (said note ∷ past) → (serial : ℕ) → serial ≤ (terms past).count → (terms (said note ∷ past)).sent serial ≡ (terms past).sent serial
   pub fit : Fit (said note ∷ past) → Fit past
 
 least : (n m : ℕ) → m ≡ n → n ≤ m
@@ -162,17 +163,20 @@ and_false : (b c : Bool) → b ≡ false → b && c ≡ false
 and_false true c e = untrue (sym e)
 and_false false c e = refl
 
+older : (n serial count : ℕ) → n ≤ count → serial ≡ count + 1 → nat_eq n serial ≡ false
+older n serial count l e = grind (arith, nat_tests)
+
 turned : (i from requester : ℕ) → requester ≡ from → nat_eq from i ≡ false → nat_eq i requester ≡ false
 turned i from requester e f = grind (arith, nat_tests)
 
 -- one that says nothing of the initiator
 pub apart_passes : (note : Note) (past : List Moment) (i : ℕ) → is_apart i note ≡ true → IsElsewhere past i note → Passes past note i
 apart_passes (notes.Begin initiators ready) past i e w = untrue e
-apart_passes (notes.Append j n k cdb buffer) past i e w = record { fades = pick_fades (nat_eq j i) (list_begins k (host_at past i)) (host_at past i) (begins_fades k (host_at past i)); held = λ g m. refl; count = least _ _ refl; fit = λ f. record { serials = f.serials; sent = f.sent } }
-apart_passes (notes.Low j n k) past i e w = record { fades = λ s f. f; held = λ g m. refl; count = least _ _ refl; fit = λ f. record { serials = f.serials; sent = f.sent } }
-apart_passes (notes.Linked j n k) past i e w = record { fades = λ s f. f; held = λ g m. refl; count = least _ _ refl; fit = λ f. record { serials = f.serials; sent = f.sent } }
-apart_passes (notes.Rung j n k) past i e w = record { fades = λ s f. f; held = λ g m. refl; count = least _ _ refl; fit = λ f. record { serials = f.serials; sent = f.sent } }
-apart_passes (notes.Dummied j n k) past i e w = record { fades = λ s f. f; held = λ g m. refl; count = least _ _ refl; fit = λ f. record { serials = f.serials; sent = f.sent } }
+apart_passes (notes.Append j n k cdb buffer) past i e w = record { fades = pick_fades (nat_eq j i) (list_begins k (host_at past i)) (host_at past i) (begins_fades k (host_at past i)); held = λ g m. refl; count = least _ _ refl; sent = λ f n l. refl; fit = λ f. record { serials = f.serials; sent = f.sent } }
+apart_passes (notes.Low j n k) past i e w = record { fades = λ s f. f; held = λ g m. refl; count = least _ _ refl; sent = λ f n l. refl; fit = λ f. record { serials = f.serials; sent = f.sent } }
+apart_passes (notes.Linked j n k) past i e w = record { fades = λ s f. f; held = λ g m. refl; count = least _ _ refl; sent = λ f n l. refl; fit = λ f. record { serials = f.serials; sent = f.sent } }
+apart_passes (notes.Rung j n k) past i e w = record { fades = λ s f. f; held = λ g m. refl; count = least _ _ refl; sent = λ f n l. refl; fit = λ f. record { serials = f.serials; sent = f.sent } }
+apart_passes (notes.Dummied j n k) past i e w = record { fades = λ s f. f; held = λ g m. refl; count = least _ _ refl; sent = λ f n l. refl; fit = λ f. record { serials = f.serials; sent = f.sent } }
 apart_passes (notes.Sent serial generation from to bytes) past i e w =
     let other = not_so (nat_eq from (suc i)) e in
     let t : Terms = terms past in
@@ -181,15 +185,17 @@ apart_passes (notes.Sent serial generation from to bytes) past i e w =
       fades = none_if ((nat_eq from (suc i)) && not ((known_host past i).wire.injected serial)) _ (host_at past i) (and_false (nat_eq from (suc i)) _ other);
       held = λ g m. sent_apart serial packet t (transaction g (suc i) 0 m) (λ u f. other_requester (transaction g (suc i) 0 m) u (turned (suc i) from u.requester (begun_from packet u f) other));
       count = let c = sent_count serial packet t in omega arith;
+      sent = λ f n l. sent_old serial n packet t (older n serial t.count l f.serials.0);
       fit = λ f. record { serials = f.serials.1; sent = f.sent.1 };
     }
-apart_passes (notes.Injected serial) past i e w = record { fades = λ s f. f; held = λ g m. refl; count = least _ _ refl; fit = λ f. record { serials = f.serials; sent = f.sent } }
+apart_passes (notes.Injected serial) past i e w = record { fades = λ s f. f; held = λ g m. refl; count = least _ _ refl; sent = λ f n l. refl; fit = λ f. record { serials = f.serials; sent = f.sent } }
 apart_passes (notes.Got serial) past i e w =
     let t : Terms = terms past in
     record {
       fades = pick_fades (is_serial (receiver_in ((known_host past i).wire.sent serial)) (suc i)) _ (host_at past i) (got_fades (answered_at (known_host past i).wire serial) (known_host past i).wire serial (present_list past i) (host_at past i));
       held = λ g m. got_apart (t.sent serial) serial t (transaction g (suc i) 0 m) w;
       count = least _ _ (got_agrees (t.sent serial) serial t).count;
+      sent = λ f n l. ap (λ (x : ℕ → Option Sending). x n) (got_agrees (t.sent serial) serial t).sent;
       fit = λ f. record { serials = f.serials; sent = f.sent };
     }
 apart_passes (notes.Ignored serial cause) past i e w =
@@ -198,51 +204,53 @@ apart_passes (notes.Ignored serial cause) past i e w =
       fades = λ s f. f;
       held = λ g m. ap (λ (h : Transaction → Held). h (transaction g (suc i) 0 m)) (ignored_quiet (t.sent serial) cause serial t).held;
       count = least _ _ (ignored_agrees (t.sent serial) cause serial t).count;
+      sent = λ f n l. ap (λ (x : ℕ → Option Sending). x n) (ignored_agrees (t.sent serial) cause serial t).sent;
       fit = λ f. record { serials = f.serials; sent = f.sent };
     }
-apart_passes (notes.Lost serial) past i e w = record { fades = λ s f. f; held = λ g m. refl; count = least _ _ refl; fit = λ f. record { serials = f.serials; sent = f.sent } }
+apart_passes (notes.Lost serial) past i e w = record { fades = λ s f. f; held = λ g m. refl; count = least _ _ refl; sent = λ f n l. refl; fit = λ f. record { serials = f.serials; sent = f.sent } }
 apart_passes (notes.TimedOut serial) past i e w =
     let t : Terms = terms past in
     record {
       fades = pick_fades (is_serial (sender_in ((known_host past i).wire.sent serial)) (suc i)) _ (host_at past i) (λ s f. f);
       held = λ g m. timed_apart (t.sent serial) t (transaction g (suc i) 0 m) w;
       count = least _ _ (timed_agrees (t.sent serial) t).count;
+      sent = λ f n l. ap (λ (x : ℕ → Option Sending). x n) (timed_agrees (t.sent serial) t).sent;
       fit = λ f. record { serials = f.serials; sent = f.sent };
     }
-apart_passes (notes.Ran j n k at cdb bytes check) past i e w = record { fades = λ s f. f; held = λ g m. refl; count = least _ _ refl; fit = λ f. record { serials = f.serials; sent = f.sent } }
-apart_passes (notes.Ended j n k status) past i e w = record { fades = λ s f. f; held = λ g m. refl; count = least _ _ refl; fit = λ f. record { serials = f.serials; sent = f.sent } }
-apart_passes (notes.Taken j n k status answer) past i e w = record { fades = pick_fades (nat_eq j i) _ (host_at past i) (λ s f. f); held = λ g m. refl; count = least _ _ refl; fit = λ f. record { serials = f.serials; sent = f.sent } }
-apart_passes (notes.Cut j n cause) past i e w = record { fades = λ s f. f; held = λ g m. refl; count = least _ _ refl; fit = λ f. record { serials = f.serials; sent = f.sent } }
-apart_passes (notes.Dead j n cause) past i e w = record { fades = λ s f. f; held = λ g m. refl; count = least _ _ refl; fit = λ f. record { serials = f.serials; sent = f.sent } }
-apart_passes (notes.Drop j n) past i e w = record { fades = pick_fades (nat_eq j i) (list_begins zero (host_at past i)) (host_at past i) (begins_fades zero (host_at past i)); held = λ g m. refl; count = least _ _ refl; fit = λ f. record { serials = f.serials; sent = f.sent } }
-apart_passes (notes.Managed j word subject status login) past i e w = record { fades = λ s f. f; held = λ g m. refl; count = least _ _ refl; fit = λ f. record { serials = f.serials; sent = f.sent } }
-apart_passes (notes.ManageFailed j cause) past i e w = record { fades = λ s f. f; held = λ g m. refl; count = least _ _ refl; fit = λ f. record { serials = f.serials; sent = f.sent } }
-apart_passes (notes.Held id) past i e w = record { fades = λ s f. f; held = λ g m. refl; count = least _ _ refl; fit = λ f. record { serials = f.serials; sent = f.sent } }
-apart_passes (notes.Expired id) past i e w = record { fades = λ s f. f; held = λ g m. refl; count = least _ _ refl; fit = λ f. record { serials = f.serials; sent = f.sent } }
-apart_passes (notes.Back id) past i e w = record { fades = λ s f. f; held = λ g m. refl; count = least _ _ refl; fit = λ f. record { serials = f.serials; sent = f.sent } }
-apart_passes (notes.Left id) past i e w = record { fades = λ s f. f; held = λ g m. refl; count = least _ _ refl; fit = λ f. record { serials = f.serials; sent = f.sent } }
-apart_passes (notes.Cleared at) past i e w = record { fades = λ s f. f; held = λ g m. refl; count = least _ _ refl; fit = λ f. record { serials = f.serials; sent = f.sent } }
-apart_passes (notes.Op j operation word) past i e w = record { fades = pick_fades (nat_eq j i) (op_ended operation word (host_at past i)) (host_at past i) (ended_fades operation word (host_at past i)); held = λ g m. refl; count = least _ _ refl; fit = λ f. record { serials = f.serials; sent = f.sent } }
-apart_passes (notes.Stuck j) past i e w = record { fades = pick_fades (nat_eq j i) _ (host_at past i) (λ s f. f); held = λ g m. refl; count = least _ _ refl; fit = λ f. record { serials = f.serials; sent = f.sent } }
-apart_passes (notes.Reset generation) past i e w = record { fades = λ s f. f; held = λ g m. refl; count = least _ _ refl; fit = λ f. record { serials = f.serials; sent = f.sent } }
-apart_passes (notes.Seen node generation) past i e w = record { fades = pick_fades (nat_eq node (suc i)) _ (host_at past i) (reset_fades _ (host_at past i)); held = λ g m. refl; count = least _ _ refl; fit = λ f. record { serials = f.serials; sent = f.sent } }
-apart_passes notes.Tick past i e w = record { fades = λ s f. f; held = λ g m. refl; count = least _ _ refl; fit = λ f. record { serials = f.serials; sent = f.sent } }
-apart_passes (notes.Refused line number) past i e w = record { fades = λ s f. f; held = λ g m. refl; count = least _ _ refl; fit = λ f. record { serials = f.serials; sent = f.sent } }
-apart_passes notes.Settled past i e w = record { fades = λ s f. f; held = λ g m. refl; count = least _ _ refl; fit = λ f. record { serials = f.serials; sent = f.sent } }
-apart_passes notes.Stopped past i e w = record { fades = λ s f. f; held = λ g m. refl; count = least _ _ refl; fit = λ f. record { serials = f.serials; sent = f.sent } }
-apart_passes (notes.Key at) past i e w = record { fades = λ s f. f; held = λ g m. refl; count = least _ _ refl; fit = λ f. record { serials = f.serials; sent = f.sent } }
-apart_passes (notes.Unsolicited j) past i e w = record { fades = λ s f. f; held = λ g m. refl; count = least _ _ refl; fit = λ f. record { serials = f.serials; sent = f.sent } }
-apart_passes (notes.Unsent j) past i e w = record { fades = λ s f. f; held = λ g m. refl; count = least _ _ refl; fit = λ f. record { serials = f.serials; sent = f.sent } }
-apart_passes (notes.Told j) past i e w = record { fades = λ s f. f; held = λ g m. refl; count = least _ _ refl; fit = λ f. record { serials = f.serials; sent = f.sent } }
+apart_passes (notes.Ran j n k at cdb bytes check) past i e w = record { fades = λ s f. f; held = λ g m. refl; count = least _ _ refl; sent = λ f n l. refl; fit = λ f. record { serials = f.serials; sent = f.sent } }
+apart_passes (notes.Ended j n k status) past i e w = record { fades = λ s f. f; held = λ g m. refl; count = least _ _ refl; sent = λ f n l. refl; fit = λ f. record { serials = f.serials; sent = f.sent } }
+apart_passes (notes.Taken j n k status answer) past i e w = record { fades = pick_fades (nat_eq j i) _ (host_at past i) (λ s f. f); held = λ g m. refl; count = least _ _ refl; sent = λ f n l. refl; fit = λ f. record { serials = f.serials; sent = f.sent } }
+apart_passes (notes.Cut j n cause) past i e w = record { fades = λ s f. f; held = λ g m. refl; count = least _ _ refl; sent = λ f n l. refl; fit = λ f. record { serials = f.serials; sent = f.sent } }
+apart_passes (notes.Dead j n cause) past i e w = record { fades = λ s f. f; held = λ g m. refl; count = least _ _ refl; sent = λ f n l. refl; fit = λ f. record { serials = f.serials; sent = f.sent } }
+apart_passes (notes.Drop j n) past i e w = record { fades = pick_fades (nat_eq j i) (list_begins zero (host_at past i)) (host_at past i) (begins_fades zero (host_at past i)); held = λ g m. refl; count = least _ _ refl; sent = λ f n l. refl; fit = λ f. record { serials = f.serials; sent = f.sent } }
+apart_passes (notes.Managed j word subject status login) past i e w = record { fades = λ s f. f; held = λ g m. refl; count = least _ _ refl; sent = λ f n l. refl; fit = λ f. record { serials = f.serials; sent = f.sent } }
+apart_passes (notes.ManageFailed j cause) past i e w = record { fades = λ s f. f; held = λ g m. refl; count = least _ _ refl; sent = λ f n l. refl; fit = λ f. record { serials = f.serials; sent = f.sent } }
+apart_passes (notes.Held id) past i e w = record { fades = λ s f. f; held = λ g m. refl; count = least _ _ refl; sent = λ f n l. refl; fit = λ f. record { serials = f.serials; sent = f.sent } }
+apart_passes (notes.Expired id) past i e w = record { fades = λ s f. f; held = λ g m. refl; count = least _ _ refl; sent = λ f n l. refl; fit = λ f. record { serials = f.serials; sent = f.sent } }
+apart_passes (notes.Back id) past i e w = record { fades = λ s f. f; held = λ g m. refl; count = least _ _ refl; sent = λ f n l. refl; fit = λ f. record { serials = f.serials; sent = f.sent } }
+apart_passes (notes.Left id) past i e w = record { fades = λ s f. f; held = λ g m. refl; count = least _ _ refl; sent = λ f n l. refl; fit = λ f. record { serials = f.serials; sent = f.sent } }
+apart_passes (notes.Cleared at) past i e w = record { fades = λ s f. f; held = λ g m. refl; count = least _ _ refl; sent = λ f n l. refl; fit = λ f. record { serials = f.serials; sent = f.sent } }
+apart_passes (notes.Op j operation word) past i e w = record { fades = pick_fades (nat_eq j i) (op_ended operation word (host_at past i)) (host_at past i) (ended_fades operation word (host_at past i)); held = λ g m. refl; count = least _ _ refl; sent = λ f n l. refl; fit = λ f. record { serials = f.serials; sent = f.sent } }
+apart_passes (notes.Stuck j) past i e w = record { fades = pick_fades (nat_eq j i) _ (host_at past i) (λ s f. f); held = λ g m. refl; count = least _ _ refl; sent = λ f n l. refl; fit = λ f. record { serials = f.serials; sent = f.sent } }
+apart_passes (notes.Reset generation) past i e w = record { fades = λ s f. f; held = λ g m. refl; count = least _ _ refl; sent = λ f n l. refl; fit = λ f. record { serials = f.serials; sent = f.sent } }
+apart_passes (notes.Seen node generation) past i e w = record { fades = pick_fades (nat_eq node (suc i)) _ (host_at past i) (reset_fades _ (host_at past i)); held = λ g m. refl; count = least _ _ refl; sent = λ f n l. refl; fit = λ f. record { serials = f.serials; sent = f.sent } }
+apart_passes notes.Tick past i e w = record { fades = λ s f. f; held = λ g m. refl; count = least _ _ refl; sent = λ f n l. refl; fit = λ f. record { serials = f.serials; sent = f.sent } }
+apart_passes (notes.Refused line number) past i e w = record { fades = λ s f. f; held = λ g m. refl; count = least _ _ refl; sent = λ f n l. refl; fit = λ f. record { serials = f.serials; sent = f.sent } }
+apart_passes notes.Settled past i e w = record { fades = λ s f. f; held = λ g m. refl; count = least _ _ refl; sent = λ f n l. refl; fit = λ f. record { serials = f.serials; sent = f.sent } }
+apart_passes notes.Stopped past i e w = record { fades = λ s f. f; held = λ g m. refl; count = least _ _ refl; sent = λ f n l. refl; fit = λ f. record { serials = f.serials; sent = f.sent } }
+apart_passes (notes.Key at) past i e w = record { fades = λ s f. f; held = λ g m. refl; count = least _ _ refl; sent = λ f n l. refl; fit = λ f. record { serials = f.serials; sent = f.sent } }
+apart_passes (notes.Unsolicited j) past i e w = record { fades = λ s f. f; held = λ g m. refl; count = least _ _ refl; sent = λ f n l. refl; fit = λ f. record { serials = f.serials; sent = f.sent } }
+apart_passes (notes.Unsent j) past i e w = record { fades = λ s f. f; held = λ g m. refl; count = least _ _ refl; sent = λ f n l. refl; fit = λ f. record { serials = f.serials; sent = f.sent } }
+apart_passes (notes.Told j) past i e w = record { fades = λ s f. f; held = λ g m. refl; count = least _ _ refl; sent = λ f n l. refl; fit = λ f. record { serials = f.serials; sent = f.sent } }
 
 -- one that an initiator tells
 tame_passes : (note : Note) (past : List Moment) (i : ℕ) → is_tame note ≡ true → Passes past note i
 tame_passes (notes.Begin initiators ready) past i e = untrue e
-tame_passes (notes.Append j n k cdb buffer) past i e = record { fades = pick_fades (nat_eq j i) (list_begins k (host_at past i)) (host_at past i) (begins_fades k (host_at past i)); held = λ g m. refl; count = least _ _ refl; fit = λ f. record { serials = f.serials; sent = f.sent } }
-tame_passes (notes.Low j n k) past i e = record { fades = λ s f. f; held = λ g m. refl; count = least _ _ refl; fit = λ f. record { serials = f.serials; sent = f.sent } }
-tame_passes (notes.Linked j n k) past i e = record { fades = λ s f. f; held = λ g m. refl; count = least _ _ refl; fit = λ f. record { serials = f.serials; sent = f.sent } }
-tame_passes (notes.Rung j n k) past i e = record { fades = λ s f. f; held = λ g m. refl; count = least _ _ refl; fit = λ f. record { serials = f.serials; sent = f.sent } }
-tame_passes (notes.Dummied j n k) past i e = record { fades = λ s f. f; held = λ g m. refl; count = least _ _ refl; fit = λ f. record { serials = f.serials; sent = f.sent } }
+tame_passes (notes.Append j n k cdb buffer) past i e = record { fades = pick_fades (nat_eq j i) (list_begins k (host_at past i)) (host_at past i) (begins_fades k (host_at past i)); held = λ g m. refl; count = least _ _ refl; sent = λ f n l. refl; fit = λ f. record { serials = f.serials; sent = f.sent } }
+tame_passes (notes.Low j n k) past i e = record { fades = λ s f. f; held = λ g m. refl; count = least _ _ refl; sent = λ f n l. refl; fit = λ f. record { serials = f.serials; sent = f.sent } }
+tame_passes (notes.Linked j n k) past i e = record { fades = λ s f. f; held = λ g m. refl; count = least _ _ refl; sent = λ f n l. refl; fit = λ f. record { serials = f.serials; sent = f.sent } }
+tame_passes (notes.Rung j n k) past i e = record { fades = λ s f. f; held = λ g m. refl; count = least _ _ refl; sent = λ f n l. refl; fit = λ f. record { serials = f.serials; sent = f.sent } }
+tame_passes (notes.Dummied j n k) past i e = record { fades = λ s f. f; held = λ g m. refl; count = least _ _ refl; sent = λ f n l. refl; fit = λ f. record { serials = f.serials; sent = f.sent } }
 tame_passes (notes.Sent serial generation from to bytes) past i e = untrue e
 tame_passes (notes.Injected serial) past i e = untrue e
 tame_passes (notes.Got serial) past i e = untrue e
@@ -251,10 +259,10 @@ tame_passes (notes.Lost serial) past i e = untrue e
 tame_passes (notes.TimedOut serial) past i e = untrue e
 tame_passes (notes.Ran j n k at cdb bytes check) past i e = untrue e
 tame_passes (notes.Ended j n k status) past i e = untrue e
-tame_passes (notes.Taken j n k status answer) past i e = record { fades = pick_fades (nat_eq j i) _ (host_at past i) (λ s f. f); held = λ g m. refl; count = least _ _ refl; fit = λ f. record { serials = f.serials; sent = f.sent } }
+tame_passes (notes.Taken j n k status answer) past i e = record { fades = pick_fades (nat_eq j i) _ (host_at past i) (λ s f. f); held = λ g m. refl; count = least _ _ refl; sent = λ f n l. refl; fit = λ f. record { serials = f.serials; sent = f.sent } }
 tame_passes (notes.Cut j n cause) past i e = untrue e
 tame_passes (notes.Dead j n cause) past i e = untrue e
-tame_passes (notes.Drop j n) past i e = record { fades = pick_fades (nat_eq j i) (list_begins zero (host_at past i)) (host_at past i) (begins_fades zero (host_at past i)); held = λ g m. refl; count = least _ _ refl; fit = λ f. record { serials = f.serials; sent = f.sent } }
+tame_passes (notes.Drop j n) past i e = record { fades = pick_fades (nat_eq j i) (list_begins zero (host_at past i)) (host_at past i) (begins_fades zero (host_at past i)); held = λ g m. refl; count = least _ _ refl; sent = λ f n l. refl; fit = λ f. record { serials = f.serials; sent = f.sent } }
 tame_passes (notes.Managed j word subject status login) past i e = untrue e
 tame_passes (notes.ManageFailed j cause) past i e = untrue e
 tame_passes (notes.Held id) past i e = untrue e
@@ -262,8 +270,8 @@ tame_passes (notes.Expired id) past i e = untrue e
 tame_passes (notes.Back id) past i e = untrue e
 tame_passes (notes.Left id) past i e = untrue e
 tame_passes (notes.Cleared at) past i e = untrue e
-tame_passes (notes.Op j operation word) past i e = record { fades = pick_fades (nat_eq j i) (op_ended operation word (host_at past i)) (host_at past i) (ended_fades operation word (host_at past i)); held = λ g m. refl; count = least _ _ refl; fit = λ f. record { serials = f.serials; sent = f.sent } }
-tame_passes (notes.Stuck j) past i e = record { fades = pick_fades (nat_eq j i) _ (host_at past i) (λ s f. f); held = λ g m. refl; count = least _ _ refl; fit = λ f. record { serials = f.serials; sent = f.sent } }
+tame_passes (notes.Op j operation word) past i e = record { fades = pick_fades (nat_eq j i) (op_ended operation word (host_at past i)) (host_at past i) (ended_fades operation word (host_at past i)); held = λ g m. refl; count = least _ _ refl; sent = λ f n l. refl; fit = λ f. record { serials = f.serials; sent = f.sent } }
+tame_passes (notes.Stuck j) past i e = record { fades = pick_fades (nat_eq j i) _ (host_at past i) (λ s f. f); held = λ g m. refl; count = least _ _ refl; sent = λ f n l. refl; fit = λ f. record { serials = f.serials; sent = f.sent } }
 tame_passes (notes.Reset generation) past i e = untrue e
 tame_passes (notes.Seen node generation) past i e = untrue e
 tame_passes notes.Tick past i e = untrue e
@@ -273,7 +281,7 @@ tame_passes notes.Stopped past i e = untrue e
 tame_passes (notes.Key at) past i e = untrue e
 tame_passes (notes.Unsolicited j) past i e = untrue e
 tame_passes (notes.Unsent j) past i e = untrue e
-tame_passes (notes.Told j) past i e = record { fades = λ s f. f; held = λ g m. refl; count = least _ _ refl; fit = λ f. record { serials = f.serials; sent = f.sent } }
+tame_passes (notes.Told j) past i e = record { fades = λ s f. f; held = λ g m. refl; count = least _ _ refl; sent = λ f n l. refl; fit = λ f. record { serials = f.serials; sent = f.sent } }
 
 -- which leaves the wire and the line
 tame_wire : (note : Note) (past : List Moment) → is_tame note ≡ true → terms (said note ∷ past) ≡ terms past
@@ -362,21 +370,22 @@ seen_fades_now generation past i =
 pub record Opens (t u : Terms) : Type 0 where
   pub held : u.held ≡ t.held
   pub count : u.count ≡ t.count
+  pub sent : u.sent ≡ t.sent
 
 pub opens : (event : Event) (t : Terms) → Opens t (opened event t)
-opens (events.Begin initiators ready) t = record { held = refl; count = refl }
-opens (events.Act i action) t = record { held = refl; count = refl }
-opens (events.Reset physical) t = record { held = refl; count = refl }
-opens (events.See node) t = record { held = refl; count = refl }
-opens (events.Deliver serial) t = record { held = refl; count = refl }
-opens (events.Repeat serial) t = record { held = refl; count = refl }
-opens (events.Lose serial) t = record { held = refl; count = refl }
-opens (events.Timeout serial) t = record { held = refl; count = refl }
-opens (events.Step count) t = record { held = refl; count = refl }
-opens events.Settle t = record { held = refl; count = refl }
-opens events.Tick t = record { held = refl; count = refl }
-opens (events.Inject initiator bytes) t = record { held = refl; count = refl }
-opens (events.Key unit key) t = record { held = refl; count = refl }
+opens (events.Begin initiators ready) t = record { held = refl; count = refl; sent = refl }
+opens (events.Act i action) t = record { held = refl; count = refl; sent = refl }
+opens (events.Reset physical) t = record { held = refl; count = refl; sent = refl }
+opens (events.See node) t = record { held = refl; count = refl; sent = refl }
+opens (events.Deliver serial) t = record { held = refl; count = refl; sent = refl }
+opens (events.Repeat serial) t = record { held = refl; count = refl; sent = refl }
+opens (events.Lose serial) t = record { held = refl; count = refl; sent = refl }
+opens (events.Timeout serial) t = record { held = refl; count = refl; sent = refl }
+opens (events.Step count) t = record { held = refl; count = refl; sent = refl }
+opens events.Settle t = record { held = refl; count = refl; sent = refl }
+opens events.Tick t = record { held = refl; count = refl; sent = refl }
+opens (events.Inject initiator bytes) t = record { held = refl; count = refl; sent = refl }
+opens (events.Key unit key) t = record { held = refl; count = refl; sent = refl }
 
 -- ---- a packet leaves in a line that is no action of the initiator
 

@@ -55,12 +55,21 @@ pub record IsPointer (purpose : Option Purpose) : Type 0 where
   pub list : ℕ
   pub is : purpose ≡ Some (purposes.Pointer list)
 
+-- the request with a serial: the initiator sent it to its target
+pub record HasSent (past : List Moment) (i serial : ℕ) : Type 0 where
+  pub packet : Sending
+  pub sent : (terms past).sent serial ≡ Some packet
+  pub from : packet.from ≡ suc i
+  pub to : packet.to ≡ 0
+  pub honest : packet.injected ≡ false
+
 -- Of a write of ORB_POINTER under way the request is the one that is named; what waits for the one that is named is such a write; and no packet
 -- that is named or waited for is yet to be sent.
 pub record Points (past : List Moment) (i target : ℕ) (layer : Layer Purpose) : Type 0 where
   pub waits_for : (number list : ℕ) → At layer target number (Some (purposes.Pointer list)) → WaitsFor past i layer.generation number
   pub named : (number : ℕ) (kind : Kind) (serial : ℕ) → (terms past).held (transaction layer.generation (suc i) 0 number) ≡ waits kind serial → pointer past i ≡ Some serial → IsPointer (purpose_for layer.peers target number)
   pub below : (serial : ℕ) → pointer past i ≡ Some serial → serial ≤ (terms past).count
+  pub asks : (serial : ℕ) → pointer past i ≡ Some serial → HasSent past i serial
   pub older : (generation number : ℕ) (kind : Kind) (serial : ℕ) → (terms past).held (transaction generation (suc i) 0 number) ≡ waits kind serial → serial ≤ (terms past).count
 
 -- ---- what an initiator of a run is
