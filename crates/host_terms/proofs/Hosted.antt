@@ -37,7 +37,7 @@ use Rattle.initiator_laws.proofs.Over.{counted_now, pointed_now, sound}
 use Rattle.initiator_laws.proofs.Purposes.{IfFor, closes_asked, expires_asked}
 use Rattle.initiator_laws.proofs.Runs.{FitsNow, WasPointed}
 use Rattle.sbp_bus.specs.Packets.{judged_note}
-use Rattle.sbp_laws.specs.Actions.{refusal_at, refusals, cuts_list, is_right_state, is_waiting, running_operation}
+use Rattle.sbp_laws.specs.Actions.{refusal_at, refusals, cuts_list, is_pointing, is_right_state, is_waiting, running_operation}
 use Rattle.sbp_laws.specs.Hosts.{Host, Underway, begun, host_at, is_stuck, new_host, ready_host}
 use Rattle.sbp_laws.specs.Turns.{event_of}
 use Rattle.sbp_world.specs.Histories.{history_of}
@@ -424,6 +424,33 @@ session_rows line run i action has_label e =
       wrong_state = ap (λ x. not (is_right_state action x)) session ∙ ap not (right_row action seat);
       waiting = λ f. waiting_same action (terms (history_of line run)) (host_at (history_of line run) i) (points seat) f ∙ ap (λ x. waits_by action x (points seat)) operation;
     }
+
+-- and where the run says whether an ORB_POINTER write is under way
+pointing_same : (action : Action) (wire : Terms) (host : Host) (pointing : Bool) → is_pointing wire host.pointer ≡ pointing → is_waiting action wire host ≡ waits_by action (running_operation host.operation) pointing
+pointing_same (actions.Put cmd) wire host pointing e = waiting_same (actions.Put cmd) wire host pointing refl
+pointing_same (actions.Append cmd) wire host pointing e = waiting_same (actions.Append cmd) wire host pointing refl
+pointing_same actions.Low wire host pointing e = waiting_same actions.Low wire host pointing refl
+pointing_same actions.Link wire host pointing e = waiting_same actions.Link wire host pointing refl
+pointing_same actions.Ring wire host pointing e = waiting_same actions.Ring wire host pointing refl
+pointing_same (actions.Dummy orb) wire host pointing e = waiting_same (actions.Dummy orb) wire host pointing refl
+pointing_same actions.Rom wire host pointing e = waiting_same actions.Rom wire host pointing refl
+pointing_same actions.AgentReset wire host pointing e = ap (λ b. (b || is_pointing wire host.pointer) || false) (some_running host.operation) ∙ ap (λ b. (is_some (running_operation host.operation) || b) || false) e
+pointing_same actions.State wire host pointing e = waiting_same actions.State wire host pointing refl
+pointing_same actions.Enable wire host pointing e = waiting_same actions.Enable wire host pointing refl
+pointing_same (actions.Login unit reconnect exclusive password) wire host pointing e = waiting_same (actions.Login unit reconnect exclusive password) wire host pointing refl
+pointing_same (actions.Query unit) wire host pointing e = waiting_same (actions.Query unit) wire host pointing refl
+pointing_same actions.Reconnect wire host pointing e = waiting_same actions.Reconnect wire host pointing refl
+pointing_same actions.Logout wire host pointing e = ap (λ b. (b || is_pointing wire host.pointer) || false) (some_running host.operation) ∙ ap (λ b. (is_some (running_operation host.operation) || b) || false) e
+pointing_same (actions.Abort orb) wire host pointing e = waiting_same (actions.Abort orb) wire host pointing refl
+pointing_same actions.AbortSet wire host pointing e = ap (λ b. (b || is_pointing wire host.pointer) || false) (some_running host.operation) ∙ ap (λ b. (is_some (running_operation host.operation) || b) || false) e
+pointing_same actions.UnitReset wire host pointing e = ap (λ b. (b || is_pointing wire host.pointer) || false) (some_running host.operation) ∙ ap (λ b. (is_some (running_operation host.operation) || b) || false) e
+pointing_same actions.TargetReset wire host pointing e = ap (λ b. (b || is_pointing wire host.pointer) || false) (some_running host.operation) ∙ ap (λ b. (is_some (running_operation host.operation) || b) || false) e
+
+pub session_waits : (line : ℕ) (run : Run) (i : ℕ) (action : Action) (has_label : Bool) → host_core (host_at (history_of line run) i) ≡ own_core (initiator_of run i) → is_pointing (terms (history_of line run)) (host_at (history_of line run) i).pointer ≡ points (initiator_of run i).seat → (refusals (history_of line run) i action (host_at (history_of line run) i)).waiting ≡ (rows_of action (facts_with has_label (initiator_of run i) action)).waiting
+session_waits line run i action has_label e f =
+    let seat = (initiator_of run i).seat in
+    let operation : running_operation (host_at (history_of line run) i).operation ≡ operation_in (initiator_of run i).operation = working (host_at (history_of line run) i).operation ∙ ap (λ (c : Core). operation_by c.work) e ∙ sym (worked (initiator_of run i).operation) in
+    pointing_same action (terms (history_of line run)) (host_at (history_of line run) i) (points seat) f ∙ ap (λ x. waits_by action x (points seat)) operation
 
 two_rows : (a b c d : Bool) (x y : Option ℕ) → a ≡ c → b ≡ d → a || b ≡ true → cond a (Some 1) (cond b (Some 2) x) ≡ cond c (Some 1) (cond d (Some 2) y)
 two_rows true b true d x y e f g = refl
