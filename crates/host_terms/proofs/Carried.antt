@@ -89,6 +89,14 @@ record Heard (P : List Moment → ℕ → InitiatorState → Type 0) (past : Lis
   sound : Sound past lines w
   all : Are P past w
 
+-- a world between two deliveries of a run's next line
+pub record StandsBetween (line : ℕ) (run : Run) (next : ℕ) (event : Event) (w : WorldState) : Type 0 where
+  pub past : List Moment
+  pub lines : ℕ
+  pub sound : Sound past lines w
+  pub is : history w past ≡ map said w.fresh ++ asked next event ∷ moments_behind line run run.entries
+  pub size : length w.initiators ≡ run.initiators
+
 module _ (P : List Moment → ℕ → InitiatorState → Type 0) (law : Carries P) where
   opened : (past : List Moment) (line : ℕ) (event : Event) (w : WorldState) → Are P past w → Are P (asked line event ∷ history w past) (without_notes w)
   opened past line event w h i b = law.asked line event (history w past) i (initiator_at w i) (h i b)
@@ -246,6 +254,27 @@ module _ (P : List Moment → ℕ → InitiatorState → Type 0) (law : Carries 
         let w = (after_all told (begun s)).world in
         subst (λ ms. P (map said w.fresh ++ asked next event ∷ ms) i (initiator_at w i)) before.is
         (all.all i (subst (λ k. i < k) (sym (count_between told s ∙ count_after run run.entries)) b))
+
+    -- and how the world stands there
+    between_stands : IsRun run → (next : ℕ) (event : Event) → is_reset event ≡ false → ((i : ℕ) → IsNoAct i (Some event)) → ((ms : List Moment) → (terms (asked next event ∷ ms)).repeats ≡ false) → (told : List (Option Told)) → MayAll told (begun (after (beginning run) run.entries)) → StandsBetween line run next event (after_all told (begun (after (beginning run) run.entries))).world
+    between_stands r next event e n repeats told m =
+        let before = sound_after fitting_law own_fitting_law line run run.entries r.few r.short r.entries r.lines in
+        let s = after (beginning run) run.entries in
+        let so_far : Are P before.past s.world = subst (λ ms. AreAt ms s.world) (sym before.is) (are_after run.entries r.few r.short r.entries r.lines) in
+        let all = all_told (history s.world before.past) (length run.entries) next event n told (are_told told s m) (begun s) m
+        (record { sound = opens next event s.world e before.sound; all = opened before.past next event s.world so_far }) (repeats (history s.world before.past)) in
+        let w = (after_all told (begun s)).world in
+        record {
+          past = asked next event ∷ history s.world before.past;
+          lines = length run.entries;
+          sound = all.sound;
+          is = ap (λ ms. map said w.fresh ++ asked next event ∷ ms) before.is;
+          size = count_between told s ∙ count_after run run.entries;
+        }
+
+    pub stands_between : IsRun run → (next : ℕ) (most : Option ℕ) (told : List (Option Told)) → MayAll told (begun (after (beginning run) run.entries)) → StandsBetween line run next (more_deliveries most) (after_all told (begun (after (beginning run) run.entries))).world
+    stands_between r next (Some count) told m = between_stands r next (events.Step count) refl (λ j. tt) (λ ms. refl) told m
+    stands_between r next None told m = between_stands r next events.Settle refl (λ j. tt) (λ ms. refl) told m
 
     pub between_runs : IsRun run → (next : ℕ) (most : Option ℕ) (told : List (Option Told)) → MayAll told (begun (after (beginning run) run.entries)) → (i : ℕ) → i < run.initiators → (let w = (after_all told (begun (after (beginning run) run.entries))).world in P (map said w.fresh ++ asked next (more_deliveries most) ∷ moments_behind line run run.entries) i (initiator_at w i))
     between_runs r next (Some count) told m i b = between_by r next (events.Step count) refl (λ j. tt) (λ ms. refl) told m i b

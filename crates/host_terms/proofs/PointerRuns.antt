@@ -1,5 +1,5 @@
 -- In every run the write of ORB_POINTER that is under way is the one that the run names.
-use Rattle.std.proofs.Common.{arith, ◌≡◌, refl, sym, ◌∙◌, ap, subst, ℕ, suc, ◌<◌, ◌==◌, ◌&&◌, ◌||◌, nat_eq, not, is_none, Bool, true, false, cond, length, List, Option, Some, None}
+use Rattle.std.proofs.Common.{arith, ◌≡◌, refl, sym, ◌∙◌, ap, subst, ℕ, suc, ◌<◌, ◌==◌, ◌&&◌, ◌||◌, nat_eq, not, is_none, Bool, true, false, cond, length, map, List, ◌∷◌, ◌++◌, Option, Some, None}
 use Rattle.bus_transactions.specs.Reached.{IsAwaited}
 use Rattle.bus_transactions.specs.Rows.{kind_as, shape_of}
 use Rattle.bus_transactions.proofs.Facts.{AskedBy, asked_is, begun_asked}
@@ -26,23 +26,27 @@ use Rattle.host_terms.proofs.Refusing.{run_action_law}
 use Rattle.bus_transactions.specs.Wire.{transaction}
 use Rattle.sbp_initiator.specs.declared.purpose.Purpose.TheVariants as purposes
 use Rattle.sbp_initiator.specs.declared.state.InitiatorState.{InitiatorState}
-use Rattle.sbp_journal.specs.Run.{Moment}
+use Rattle.rbc_disk.specs.Runs.{Told}
+use Rattle.sbp_journal.specs.Run.{Moment, asked, said}
 use Rattle.sbp_journal.specs.Transactions.{Kind, Sending, Transaction, begun_by}
 use Rattle.sbp_journal.specs.Wire.{Held, Terms, free, rests, terms, waits}
-use Rattle.initiator_laws.specs.Pointing.{Pointed as PointedNow}
+use Rattle.initiator_laws.specs.Pointing.{Pointed as PointedNow, PointingAfter}
 use Rattle.sbp_world.specs.Histories.{history_of}
 use Rattle.sbp_world.specs.Runs.{Run, after, beginning}
-use Rattle.sbp_world.specs.Worlds.{WorldState}
+use Rattle.sbp_world.specs.Settling.{MayAll, after_all}
+use Rattle.sbp_world.specs.Worlds.{WorldState, begun, initiator_at}
+use Rattle.sbp_world.specs.Wire.Wires.{Stands}
+use Rattle.host_terms.specs.Handing.{history}
 use Rattle.sbp_world.specs.Wire.History.{IsOfWire}
 use Rattle.sbp_world.proofs.FitInitiator.Law.{fitting_law as own_fitting_law}
 use Rattle.sbp_world.proofs.FitTarget.Law.{fitting_law}
 use Rattle.sbp_world.proofs.Wire.Runs.{SoundAfter, sound_after}
 use Rattle.sbp_world.proofs.Wire.Starts.{laws_of}
-use Rattle.host_terms.specs.PointerRuns.{DecidesByWaiting, IsSentBy, PointerRunLaw, WaitsForPointer}
+use Rattle.host_terms.specs.PointerRuns.{DecidesByWaiting, IsSentBy, PointerRunLaw, PointsByWrites, WaitsForPointer}
 use Rattle.host_terms.specs.Refusing.{initiator_of}
-use Rattle.host_terms.specs.Runs.{IsRun}
-use Rattle.host_terms.proofs.Aimed.{IsAimed, aimed_carried, first_aimed}
-use Rattle.host_terms.proofs.Carried.{of_runs}
+use Rattle.host_terms.specs.Runs.{IsRun, more_deliveries}
+use Rattle.host_terms.proofs.Aimed.{Aims, IsAimed, aimed_carried, first_aimed}
+use Rattle.host_terms.proofs.Carried.{between_runs, of_runs, stands_between}
 use Rattle.host_terms.proofs.Lives.{At}
 use Rattle.host_terms.proofs.Pointed.{Pointed, first_pointed, pointed_carried}
 use Rattle.host_terms.proofs.PointerNotes.{Fit, pointer}
@@ -158,45 +162,14 @@ ends_plain actions.AbortSet past i host has_label s e = record { run_rom = refl;
 ends_plain actions.UnitReset past i host has_label s e = record { run_rom = refl; own_rom = refl; plain = record { no_rom = refl; dead_seen = refl } }
 ends_plain actions.TargetReset past i host has_label s e = record { run_rom = refl; own_rom = refl; plain = record { no_rom = refl; dead_seen = refl } }
 
-module _ (line : ℕ) (run : Run) (r : IsRun run) (i : ℕ) (b : i < run.initiators) where
-  abbrev after_run : SoundAfter line run run.entries (after (beginning run) run.entries).world
-  after_run = sound_after fitting_law own_fitting_law line run run.entries r.few r.short r.entries r.lines
+-- ---- what an initiator is at a moment of a run
 
-  abbrev last : WorldState
-  last = (after (beginning run) run.entries).world
-
-  abbrev past : List Moment
-  past = history_of line run
-
-  abbrev s : InitiatorState
-  s = initiator_of run i
-
-  there : i < length last.initiators
-  there = subst (λ n. i < n) (sym (count_after run run.entries)) b
-
-  of_wire : IsOfWire past
-  of_wire = subst IsOfWire after_run.is (laws_of after_run.past last after_run.sound.stands)
-
-  fits : Fit past
-  fits = record { serials = of_wire.serials; sent = of_wire.sent }
-
-  shown : IsShown past i s.target s.layer
-  shown = subst (λ ms. IsShown ms i s.target s.layer) after_run.is (shown_now last after_run.sound.stands after_run.sound.nodes i there)
-
-  pointed : Pointed run.ready past i s
-  pointed = of_runs (Pointed run.ready) (pointed_carried run.ready) line run (λ j c. first_pointed line j run.initiators run.ready c) r i b
-
-  points : Points past i s.target s.layer
-  points = pointed.points fits
-
-  aimed : IsAimed run.ready i s
-  aimed = of_runs (λ ms j x. IsAimed run.ready j x) (aimed_carried run.ready) line run (λ j c. first_aimed j run.ready) r i b
-
+module _ (past : List Moment) (i : ℕ) (s : InitiatorState) (points : Points past i s.target s.layer) (aims : Aims s.layer s.target) (shown : IsShown past i s.target s.layer) (pointing : PointingAfter s) (awaited : (u : Transaction) (kind : Kind) (serial : ℕ) → (terms past).held u ≡ waits kind serial → IsAwaited (terms past) u kind serial) (session : is_stuck (host_at past i).session ≡ is_stuck_seat s.seat) where
   run_waits : (a : PointedNow s.layer) → WaitsForPointer past i a.write.number
   run_waits a =
       let u = a.write in
       let at : At s.layer u.peer u.number (Some (purposes.Pointer a.list)) = record { kind = u.kind; serial = u.serial; state = u.state; is_for = u.is_for } in
-      let w = points.waits_for u.number a.list (subst (λ p. At s.layer p u.number (Some (purposes.Pointer a.list))) (aimed.aims u.peer u.number (Some (purposes.Pointer a.list)) at) at) in
+      let w = points.waits_for u.number a.list (subst (λ p. At s.layer p u.number (Some (purposes.Pointer a.list))) (aims u.peer u.number (Some (purposes.Pointer a.list)) at) at) in
       record { kind = w.kind; serial = w.serial; named = w.pointer_is; held = ap (λ g. (terms past).held (transaction g (suc i) 0 u.number)) (sym shown.generation) ∙ w.held }
 
   run_asks : (serial : ℕ) → (host_at past i).pointer ≡ Some serial → IsSentBy past (suc i) 0 serial
@@ -212,12 +185,10 @@ module _ (line : ℕ) (run : Run) (r : IsRun run) (i : ℕ) (b : i < run.initiat
   named_waits serial e a =
       let w = run_waits a in
       let u = transaction (T.generation (suc i)) (suc i) 0 a.write.number in
-      let stands = after_run.sound.stands in
-      let past_is : stands.wire.past ≡ past = stands.is.past_is ∙ after_run.is in
       let same : w.serial ≡ serial = (let x = sym w.named ∙ e in cc) in
       let held : T.held u ≡ waits w.kind serial = w.held ∙ ap (waits w.kind) same in
-      let x : IsAwaited (terms stands.wire.past) u w.kind serial = goes_on.awaited stands.wire u w.kind serial stands.reached (ap (λ ms. (terms ms).held u) past_is ∙ held) in
-      waits_as T u x.packet serial w.kind (ap (λ ms. (terms ms).sent serial) (sym past_is) ∙ x.sent) x.begun refl held
+      let x = awaited u w.kind serial held in
+      waits_as T u x.packet serial w.kind x.sent x.begun refl held
 
   -- and a write is under way where what is named is
   named_points : (serial : ℕ) → (host_at past i).pointer ≡ Some serial → is_under_way T serial ≡ true → PointedNow s.layer
@@ -238,12 +209,9 @@ module _ (line : ℕ) (run : Run) (r : IsRun run) (i : ℕ) (b : i < run.initiat
       let state = under_way_now (state_for s.layer.peers s.target x.u.label) (kind_as x.kind) (shown.states x.u.label ∙ ap shape_of held) in
       record { list = p.list; write = record { peer = s.target; number = x.u.label; serial = state.serial; kind = state.kind; state = state.is; is_for = p.is } }
 
-  module _ (free : is_stuck (host_at past i).session ≡ false) where
-    session_is : is_stuck (host_at past i).session ≡ is_stuck_seat s.seat
-    session_is = ap (λ (c : Core). is_stuck c.session) (host_law.core line run r i b) ∙ stuck_same s.seat
-
+  module _ (unstuck : is_stuck (host_at past i).session ≡ false) where
     points_by : (p : Option ℕ) → (host_at past i).pointer ≡ p → (c : Bool) → points_in s.seat ≡ c → is_pointing T p ≡ c
-    points_by None e true f = let w = run_waits ((pointing_of pointed.cored).writes f) in no_some (sym e ∙ w.named)
+    points_by None e true f = let w = run_waits (pointing.writes f) in no_some (sym e ∙ w.named)
       where
         no_some : {A : Type 0} {n : ℕ} → None ≡ Some n → A
         no_some e = absurd (differ e)
@@ -251,18 +219,58 @@ module _ (line : ℕ) (run : Run) (r : IsRun run) (i : ℕ) (b : i < run.initiat
             differ : {n : ℕ} → None ≡ Some n → ⊥
             differ e = cc
     points_by None e false f = refl
-    points_by (Some serial) e true f = named_waits serial e ((pointing_of pointed.cored).writes f)
+    points_by (Some serial) e true f = named_waits serial e (pointing.writes f)
     points_by (Some serial) e false f = by_test (is_under_way T serial) refl
       where
         by_test : (d : Bool) → is_under_way T serial ≡ d → d ≡ false
-        by_test true g = untrue (sym f ∙ (pointing_of pointed.cored).counts (sym session_is ∙ free) (named_points serial e g))
+        by_test true g = untrue (sym f ∙ pointing.counts (sym session ∙ unstuck) (named_points serial e g))
         by_test false g = refl
 
     run_points : is_pointing T (host_at past i).pointer ≡ points_in s.seat
     run_points = points_by (host_at past i).pointer refl (points_in s.seat) refl
 
-    run_waiting : (action : Action) (has_label : Bool) → (refusals past i action (host_at past i)).waiting ≡ (rows_of action (facts_with has_label s action)).waiting
-    run_waiting action has_label = session_waits line run i action has_label (host_law.core line run r i b) run_points
+  pub by_writes : PointsByWrites past i s
+  by_writes = record { waits_for = run_waits; asks = run_asks; points_while = run_points }
+
+-- what is told of the wire
+fits_of : (past : List Moment) → IsOfWire past → Fit past
+fits_of past h = record { serials = h.serials; sent = h.sent }
+
+awaited_of : {before : List Moment} (past : List Moment) (w : WorldState) (h : Stands before w) → history w before ≡ past → (u : Transaction) (kind : Kind) (serial : ℕ) → (terms past).held u ≡ waits kind serial → IsAwaited (terms past) u kind serial
+awaited_of past w h is u kind serial held =
+    let past_is : h.wire.past ≡ past = h.is.past_is ∙ is in
+    subst (λ ms. IsAwaited (terms ms) u kind serial) past_is (goes_on.awaited h.wire u kind serial h.reached (ap (λ ms. (terms ms).held u) past_is ∙ held))
+
+-- ---- behind a line
+
+module _ (line : ℕ) (run : Run) (r : IsRun run) (i : ℕ) (b : i < run.initiators) where
+  abbrev after_run : SoundAfter line run run.entries (after (beginning run) run.entries).world
+  after_run = sound_after fitting_law own_fitting_law line run run.entries r.few r.short r.entries r.lines
+
+  abbrev last : WorldState
+  last = (after (beginning run) run.entries).world
+
+  abbrev past : List Moment
+  past = history_of line run
+
+  abbrev s : InitiatorState
+  s = initiator_of run i
+
+  there : i < length last.initiators
+  there = subst (λ n. i < n) (sym (count_after run run.entries)) b
+
+  run_pointed : PointsByWrites past i s
+  run_pointed =
+      let stands = after_run.sound.stands in
+      let p = of_runs (Pointed run.ready) (pointed_carried run.ready) line run (λ j c. first_pointed line j run.initiators run.ready c) r i b in
+      let a = of_runs (λ ms j x. IsAimed run.ready j x) (aimed_carried run.ready) line run (λ j c. first_aimed j run.ready) r i b in
+      by_writes past i s (p.points (fits_of past (subst IsOfWire after_run.is (laws_of after_run.past last stands)))) a.aims
+      (subst (λ ms. IsShown ms i s.target s.layer) after_run.is (shown_now last stands after_run.sound.nodes i there))
+      (pointing_of p.cored) (awaited_of past last stands after_run.is)
+      (ap (λ (c : Core). is_stuck c.session) p.cored.core ∙ stuck_same s.seat)
+
+  run_waiting : is_stuck (host_at past i).session ≡ false → (action : Action) (has_label : Bool) → (refusals past i action (host_at past i)).waiting ≡ (rows_of action (facts_with has_label s action)).waiting
+  run_waiting unstuck action has_label = session_waits line run i action has_label (host_law.core line run r i b) (run_pointed.points_while unstuck)
 
   module _ (action : Action) (o : OutboxState) (ends : ends_list (operation_of action) ≡ true) where
     abbrev told : Refusals
@@ -290,11 +298,31 @@ module _ (line : ℕ) (run : Run) (r : IsRun run) (i : ℕ) (b : i < run.initiat
     unfolding refusal
     run_decided l = decided_by told.stuck refl l ∙ sym (refusal_law.first action o s)
 
+-- ---- between two deliveries of a line
+
+module _ (line : ℕ) (run : Run) (r : IsRun run) (next : ℕ) (most : Option ℕ) (told : List (Option Told)) (m : MayAll told (begun (after (beginning run) run.entries))) (i : ℕ) (b : i < run.initiators) where
+  abbrev w : WorldState
+  w = (after_all told (begun (after (beginning run) run.entries))).world
+
+  abbrev now : List Moment
+  now = map said w.fresh ++ asked next (more_deliveries most) ∷ history_of line run
+
+  between_pointed : PointsByWrites now i (initiator_at w i)
+  between_pointed =
+      let s = initiator_at w i in
+      let p = between_runs (Pointed run.ready) (pointed_carried run.ready) line run (λ j c. first_pointed line j run.initiators run.ready c) r next most told m i b in
+      let a = between_runs (λ ms j x. IsAimed run.ready j x) (aimed_carried run.ready) line run (λ j c. first_aimed j run.ready) r next most told m i b in
+      let k = stands_between (λ ms j x. IsAimed run.ready j x) (aimed_carried run.ready) line run (λ j c. first_aimed j run.ready) r next most told m in
+      let there : i < length w.initiators = subst (λ n. i < n) (sym k.size) b in
+      by_writes now i s (p.points (fits_of now (subst IsOfWire k.is (laws_of k.past w k.sound.stands)))) a.aims
+      (subst (λ ms. IsShown ms i s.target s.layer) k.is (shown_now w k.sound.stands k.sound.nodes i there))
+      (pointing_of p.cored) (awaited_of now w k.sound.stands k.is)
+      (ap (λ (c : Core). is_stuck c.session) p.cored.core ∙ stuck_same s.seat)
+
 pub pointer_run_law : PointerRunLaw
 pointer_run_law = record {
-  waits_for = run_waits;
-  asks = run_asks;
-  points_while = run_points;
+  after_lines = run_pointed;
+  between = between_pointed;
   waiting = λ line run r i b action has_label f. run_waiting line run r i b f action has_label;
   decided = λ line run r i b action o e l. run_decided line run r i b action o e l;
   first = λ line run r i b action o e h. run_first line run r i b action o e h;
