@@ -1,30 +1,28 @@
 -- In every run each transaction that is under way in an initiator's layer is with its target.
-use Rattle.std.proofs.Common.{◌≡◌, refl, sym, ◌∙◌, ap, subst, ℕ, ◌+◌, nat_lt, Bool, true, false, cond, List, [], ◌∷◌, Option, Some, None, Result, Ok, Err}
+use Rattle.std.proofs.Common.{◌≡◌, refl, sym, ◌∙◌, ap, subst, ℕ, ◌+◌, nat_lt, Bool, true, false, cond, List, [], ◌∷◌, Option, Some, None}
 use Rattle.async_packet.specs.Labels.{LabelParts}
 use Rattle.label_table.specs.declared.reply.ReplyKind.{ReplyKind}
 use Rattle.label_table.specs.History.{Life, Told, and_before, ended, forgotten, life, not_begun, over, under_way}
 use Rattle.label_table.specs.History as wire
-use Rattle.label_table.specs.Layer.{Layer, expiring_step, judging_step, new_layer, seeing_step, seen_in_generation}
-use Rattle.label_table.proofs.Calls.{after_kept}
+use Rattle.label_table.specs.Layer.{Layer, expiring_step, judging_step, seeing_step, seen_in_generation}
 use Rattle.sbp_initiator.specs.declared.purpose.Purpose.{Purpose}
 use Rattle.sbp_initiator.specs.declared.purpose.Purpose.TheVariants as purposes
 use Rattle.sbp_initiator.specs.declared.state.InitiatorState.{InitiatorState}
 use Rattle.sbp_initiator.specs.Acting.{act_step}
-use Rattle.sbp_initiator.specs.Effects.{Turn, drop_list_step, dropped_as}
+use Rattle.sbp_initiator.specs.Effects.{dropped_as}
 use Rattle.sbp_initiator.specs.Initiators.{new_state}
 use Rattle.sbp_initiator.specs.Receiving.{expire_step, receive_step}
-use Rattle.sbp_initiator.specs.Seeing.{interrupted, reset_step, resets_told, see_step, seen_as}
+use Rattle.sbp_initiator.specs.Seeing.{interrupted, resets_told, see_step, seen_as}
 use Rattle.sbp_initiator.specs.States.{wanted_body}
 use Rattle.orb_list.specs.Lists.{ListState, drop_lists}
 use Rattle.sbp_journal.specs.Outgoings.{OutboxState, empty_outbox}
 use Rattle.sbp_journal.specs.Run.{Moment}
-use Rattle.sbp_journal.specs.declared.event.Action.{Action}
-use Rattle.initiator_laws.specs.Laws.{Call, acts, lets_expire, receives, sees}
+use Rattle.initiator_laws.specs.Laws.{acts, lets_expire, receives, sees}
 use Rattle.initiator_laws.proofs.Over.{sound}
 use Rattle.host_terms.proofs.ActLeft.{act_left}
 use Rattle.host_terms.proofs.Calling.{IsOwn, own_first, own_on}
 use Rattle.host_terms.proofs.Carries.{Carries}
-use Rattle.host_terms.proofs.Layered.{LayerLeft, Left, expire_left, read, receive_left, same}
+use Rattle.host_terms.proofs.Layered.{LayerLeft, expire_left, read, receive_left, same}
 use Rattle.host_terms.proofs.Lives.{At, AskedAt, Called, ask_at, asked_now, at_life, expire_at, judge_at, was_asked}
 use Rattle.host_terms.proofs.Pointed.{expired_called, judged_called, stale_is}
 use Rattle.host_terms.proofs.Pointing.{at_same}

@@ -1,13 +1,13 @@
 -- What each note of the wire leaves of the labels of a requester, and of the generation that a node is in.
-use Rattle.std.proofs.Common.{arith, ◌≡◌, refl, sym, ◌∙◌, ap, ℕ, ◌+◌, nat_eq, Bool, true, false, cond, List, ◌∷◌, Option, Some, None}
+use Rattle.std.proofs.Common.{arith, ◌≡◌, refl, sym, ◌∙◌, ap, ℕ, ◌+◌, nat_eq, Bool, true, false, cond, Option, Some, None}
 use Rattle.std.proofs.lemmas.Bool.Decides.{nat_tests}
 use Rattle.sbp_base.specs.Update.{upd}
 use Rattle.async_packet.specs.Fields.{rcode_of}
-use Rattle.bus_transactions.specs.Rows.{Shape, awaits, shape_of}
-use Rattle.bus_transactions.proofs.Facts.{AskedBy, asked_is, begun_asked}
+use Rattle.bus_transactions.specs.Rows.{awaits, shape_of}
+use Rattle.bus_transactions.proofs.Facts.{asked_is, begun_asked}
 use Rattle.bus_transactions.proofs.PacketParts.{other_requester, same_refl}
 use Rattle.label_table.specs.declared.reply.ReplyKind.{ReplyKind}
-use Rattle.sbp_journal.specs.Transactions.{Kind, Part, Sending, Transaction, asked_by, at, begun_by, between, is_same, no_packet, part_of, request, response}
+use Rattle.sbp_journal.specs.Transactions.{Kind, Part, Sending, Transaction, asked_by, begun_by, between, is_same, no_packet, part_of, request, response}
 use Rattle.sbp_journal.specs.Wire.{Held, Owed, Terms, arrives, asked_in, begins, begun_in, closes, closes_if, free, gets, gets_as, gives, ignores, ignores_that, is_news, is_served, judges, judges_if, kind_in, pays, puts, rests, sends, times_out, waits}
 use Rattle.sbp_journal.specs.declared.cause.Cause.{Cause}
 use Rattle.sbp_journal.specs.declared.cause.Cause.TheVariants as causes

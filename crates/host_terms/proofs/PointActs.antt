@@ -1,13 +1,10 @@
 -- The ORB_POINTER write that an initiator's host names, as the initiator does an action.
-use Rattle.std.proofs.Common.{arith, ◌≡◌, refl, sym, ◌∙◌, ap, subst, ℕ, suc, ◌+◌, ◌≤◌, ◌==◌, is_some, not, Bool, true, false, cond, List, [], ◌∷◌, Option, Some, None}
+use Rattle.std.proofs.Common.{arith, ◌≡◌, refl, sym, ◌∙◌, ap, ℕ, suc, ◌+◌, ◌≤◌, ◌==◌, is_some, not, Bool, true, false, cond, List, [], ◌∷◌, Option, Some, None}
 use Rattle.std.proofs.lemmas.Bool.Decides.{nat_tests}
-use Rattle.async_packet.specs.Labels.{LabelParts}
-use Rattle.bus_transactions.specs.Rows.{awaits, kind_as, shape, shape_of}
-use Rattle.bus_transactions.specs.Sent.{IsOwn}
+use Rattle.bus_transactions.specs.Rows.{kind_as, shape_of}
 use Rattle.bus_transactions.specs.Wire.{transaction}
 use Rattle.bus_transactions.proofs.Facts.{asked_begun, request_asked}
 use Rattle.bus_transactions.proofs.PacketParts.{same_is}
-use Rattle.label_table.specs.Layer.{Layer, asking_step}
 use Rattle.label_table.specs.Peers.{purpose_for, state_for}
 use Rattle.orb_list.specs.declared.list.PresentList.{PresentList}
 use Rattle.orb_list.specs.Table.{list_number}
@@ -21,8 +18,8 @@ use Rattle.sbp_initiator.specs.Effects.{Turn}
 use Rattle.sbp_initiator.specs.Refusals.{rings}
 use Rattle.sbp_initiator.specs.States.{is_unwritten, wanted_body}
 use Rattle.sbp_journal.specs.Run.{Moment, said}
-use Rattle.sbp_journal.specs.Transactions.{Kind, Sending, Transaction, begun_by, between, is_same, part_of, request}
-use Rattle.sbp_journal.specs.Wire.{Held, Terms, kind_in, sends, terms, waits}
+use Rattle.sbp_journal.specs.Transactions.{Kind, Sending, Transaction, begun_by, between, is_same, part_of}
+use Rattle.sbp_journal.specs.Wire.{Terms, kind_in, terms, waits}
 use Rattle.sbp_journal.specs.declared.event.Action.{Action}
 use Rattle.sbp_journal.specs.declared.event.Action.TheVariants as actions
 use Rattle.sbp_journal.specs.declared.event.Event.TheVariants as events
@@ -37,7 +34,7 @@ use Rattle.host_terms.proofs.Held.{sent_apart, sent_begun, sent_count, sent_new,
 use Rattle.host_terms.proofs.Hosted.{Cored, marks_of}
 use Rattle.host_terms.proofs.Lives.{At, AskedAt, ask_at, ask_begins, ask_keeps, asked_now, was_asked}
 use Rattle.host_terms.proofs.PointerNotes.{Fit, Told, asked_pointer, pointer, pointer_after, tame_told}
-use Rattle.host_terms.proofs.Pointing.{HasSent, IsPointer, Points, WaitsFor, asked_generation, called_of, keeps_is, none_of, present_at, sent_waits, under_way_now, waits_before, wrote_at, wrote_is, written_at}
+use Rattle.host_terms.proofs.Pointing.{HasSent, IsPointer, Points, WaitsFor, asked_generation, called_of, keeps_is, none_of, sent_waits, under_way_now, waits_before, wrote_is, written_at}
 use Rattle.host_terms.proofs.Shown.{IsShown}
 
 untrue : {A : Type 0} → false ≡ true → A

@@ -1,32 +1,28 @@
 -- The ORB_POINTER write that an initiator's host names, as others tell and do something, and as the initiator hears a packet, lets a transaction
 -- time out, and sees a generation.
-use Rattle.std.proofs.Common.{arith, ◌≡◌, refl, sym, ◌∙◌, ap, subst, ℕ, suc, ◌+◌, ◌≤◌, ◌==◌, is_some, not, Bool, true, false, List, [], ◌∷◌, Option, Some, None}
+use Rattle.std.proofs.Common.{arith, ◌≡◌, refl, sym, ◌∙◌, ap, ℕ, suc, ◌+◌, ◌≤◌, ◌==◌, is_some, Bool, true, false, List, ◌∷◌, Option, Some}
 use Rattle.std.proofs.lemmas.Bool.Decides.{nat_tests}
 use Rattle.bus_transactions.specs.Rows.{awaits, kind_as, shape, shape_of}
 use Rattle.bus_transactions.specs.Wire.{transaction}
-use Rattle.label_table.specs.declared.judgement.Asked.{Asked}
 use Rattle.label_table.specs.declared.reply.ReplyKind.{ReplyKind}
-use Rattle.label_table.specs.Bodies.{Body}
-use Rattle.label_table.specs.Layer.{Layer, asking_step}
-use Rattle.label_table.specs.Peers.{PeerPlace, purpose_for, state_for}
+use Rattle.label_table.specs.Layer.{Layer}
+use Rattle.label_table.specs.Peers.{purpose_for, state_for}
 use Rattle.sbp_initiator.specs.declared.purpose.Purpose.{Purpose}
 use Rattle.sbp_initiator.specs.declared.purpose.Purpose.TheVariants as purposes
-use Rattle.sbp_initiator.specs.declared.state.InitiatorState.{InitiatorState}
 use Rattle.sbp_initiator.specs.Effects.{Turn}
 use Rattle.sbp_journal.specs.Run.{Moment, said}
 use Rattle.sbp_journal.specs.Transactions.{Kind, Sending, Transaction}
-use Rattle.sbp_journal.specs.Wire.{Held, Terms, sends, terms, waits}
+use Rattle.sbp_journal.specs.Wire.{Terms, terms, waits}
 use Rattle.sbp_journal.specs.declared.note.Note.{Note}
 use Rattle.sbp_journal.specs.declared.note.Note.TheVariants as notes
 use Rattle.sbp_laws.specs.Turns.{event_of}
 use Rattle.host_terms.specs.Calls.{behind}
 use Rattle.host_terms.proofs.Carries.{IsNoAct}
 use Rattle.host_terms.proofs.Held.{sent_count, sent_old}
-use Rattle.host_terms.proofs.Hosted.{Cored}
 use Rattle.host_terms.proofs.Layered.{LayerLeft, Left, read, same}
 use Rattle.host_terms.proofs.Lives.{At, AskedAt, Called, ask_at, ask_keeps, asked_now, was_asked}
 use Rattle.host_terms.proofs.PointerNotes.{Fit, Told, pointer, sent_fades, tame_told}
-use Rattle.host_terms.proofs.Pointing.{HasSent, IsPointer, Points, WaitsFor, asked_generation, at_same, called_of, keeps_is, sent_waits, under_way_now, waits_before, wrote_at}
+use Rattle.host_terms.proofs.Pointing.{HasSent, Points, asked_generation, at_same, keeps_is, sent_waits, under_way_now, waits_before}
 use Rattle.host_terms.proofs.Shown.{IsShown}
 
 -- ---- what leaves the labels
@@ -133,21 +129,21 @@ module _ (past : List Moment) (note : Note) (i target : ℕ) (old l : Layer Purp
     said_now = tame_told t.0.sides ended i left.told
 
     -- of a write of ORB_POINTER that is under way then
-    from_left : (now : Layer Purpose) → LayerLeft l target now → (m list : ℕ) → At now target m (Some (purposes.Pointer list)) → At l target m (Some (purposes.Pointer list))
-    from_left now (same g p) m list a = at_same now l target m (Some (purposes.Pointer list)) (sym p) a
-    from_left now (read body act asked step) m list a = by_asked (ask_at l target body (purposes.Rom act) asked now target m (Some (purposes.Pointer list)) c step a)
+    from_left : (new : Layer Purpose) → LayerLeft l target new → (m list : ℕ) → At new target m (Some (purposes.Pointer list)) → At l target m (Some (purposes.Pointer list))
+    from_left new (same g p) m list a = at_same new l target m (Some (purposes.Pointer list)) (sym p) a
+    from_left new (read body act asked step) m list a = by_asked (ask_at l target body (purposes.Rom act) asked new target m (Some (purposes.Pointer list)) c step a)
       where
         by_asked : AskedAt l target asked (purposes.Rom act) target m (Some (purposes.Pointer list)) → At l target m (Some (purposes.Pointer list))
         by_asked (asked_now p n f) = none_rom list act f
         by_asked (was_asked b) = b
 
-    to_left : (now : Layer Purpose) → LayerLeft l target now → (m : ℕ) (purpose : Option Purpose) → At l target m purpose → At now target m purpose
-    to_left now (same g p) m purpose a = at_same l now target m purpose p a
-    to_left now (read body act asked step) m purpose a = ask_keeps l target body (purposes.Rom act) asked now c step target m purpose a
+    to_left : (new : Layer Purpose) → LayerLeft l target new → (m : ℕ) (purpose : Option Purpose) → At l target m purpose → At new target m purpose
+    to_left new (same g p) m purpose a = at_same l new target m purpose p a
+    to_left new (read body act asked step) m purpose a = ask_keeps l target body (purposes.Rom act) asked new c step target m purpose a
 
-    stays : (now : Layer Purpose) → LayerLeft l target now → now.generation ≡ old.generation
-    stays now (same g p) = g ∙ generation_is
-    stays now (read body act asked step) = asked_generation l target body (purposes.Rom act) asked now step ∙ generation_is
+    stays : (new : Layer Purpose) → LayerLeft l target new → new.generation ≡ old.generation
+    stays new (same g p) = g ∙ generation_is
+    stays new (read body act asked step) = asked_generation l target body (purposes.Rom act) asked new step ∙ generation_is
 
     pub ended_points : ((number list : ℕ) → At t.1.layer target number (Some (purposes.Pointer list)) → is_some (pointer later i) ≡ true) → Points later i target t.1.layer
     ended_points wrote =

@@ -1,5 +1,5 @@
 -- What an initiator tells as it sees a generation, and what it leaves of the layer.
-use Rattle.std.proofs.Common.{◌≡◌, refl, sym, ◌∙◌, ap, ℕ, nat_lt, Bool, true, false, cond, List, [], ◌∷◌, Option, Some, None}
+use Rattle.std.proofs.Common.{◌≡◌, refl, ℕ, nat_lt, Bool, true, false, cond, List, [], ◌∷◌, Option, Some, None}
 use Rattle.label_table.specs.Layer.{Layer, seeing_step, seen_in_generation}
 use Rattle.orb_list.specs.Lists.{ListState, drop_lists}
 use Rattle.sbp_journal.specs.Outgoings.{OutboxState, empty_outbox}
@@ -12,8 +12,8 @@ use Rattle.sbp_initiator.specs.declared.purpose.Pointing.TheVariants as pointing
 use Rattle.sbp_initiator.specs.declared.purpose.Purpose.{Purpose}
 use Rattle.sbp_initiator.specs.declared.purpose.Running.{Running}
 use Rattle.sbp_initiator.specs.declared.state.InitiatorState.{InitiatorState}
-use Rattle.sbp_initiator.specs.Effects.{Turn, drop_list_step, dropped_as}
-use Rattle.sbp_initiator.specs.Seeing.{all_end, interrupted, reset_step, reset_told, resets_told, see_step, seen_as, states_end}
+use Rattle.sbp_initiator.specs.Effects.{Turn, dropped_as}
+use Rattle.sbp_initiator.specs.Seeing.{all_end, interrupted, reset_told, resets_told, see_step, seen_as, states_end}
 use Rattle.host_terms.proofs.Layered.{AreTame, tame_more}
 
 ends_one : (number : ℕ) (operation : Operation) (o : OutboxState) → AreTame o.sides → AreTame (reset_told number operation o).sides

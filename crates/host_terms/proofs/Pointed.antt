@@ -1,12 +1,11 @@
 -- In every run the ORB_POINTER write that an initiator's host names is the one under way in its layer, where one is.
-use Rattle.std.proofs.Common.{arith, ◌≡◌, refl, sym, ◌∙◌, ap, subst, ℕ, suc, ◌+◌, ◌<◌, ◌≤◌, ◌==◌, is_some, not, Bool, true, false, List, [], ◌∷◌, Option, Some, None, Result, Ok, Err}
+use Rattle.std.proofs.Common.{arith, ◌≡◌, refl, sym, ◌∙◌, ap, subst, ℕ, suc, ◌<◌, ◌≤◌, ◌==◌, is_some, not, Bool, true, false, List, [], ◌∷◌, Option, Some, None, Result, Ok, Err}
 use Rattle.async_packet.specs.Labels.{LabelParts}
 use Rattle.bus_transactions.specs.Wire.{transaction}
 use Rattle.label_table.specs.declared.reply.Stale.{Stale}
 use Rattle.label_table.specs.History as wire
 use Rattle.label_table.specs.Layer.{Layer, expired_at, expiring_in, expiring_step, judging_step, peer_at, peer_place, seeing_step}
 use Rattle.label_table.specs.Peers.{PeerPlace, expire_place}
-use Rattle.sbp_initiator.specs.declared.purpose.Pointing.{Pointing}
 use Rattle.sbp_initiator.specs.declared.purpose.Pointing.TheVariants as pointings
 use Rattle.sbp_initiator.specs.declared.purpose.Purpose.{Purpose}
 use Rattle.sbp_initiator.specs.declared.purpose.Purpose.TheVariants as purposes
@@ -29,7 +28,6 @@ use Rattle.sbp_journal.specs.declared.event.Event.{Event}
 use Rattle.sbp_journal.specs.declared.event.Event.TheVariants as events
 use Rattle.sbp_journal.specs.declared.note.Note.{Note}
 use Rattle.sbp_journal.specs.declared.note.Note.TheVariants as notes
-use Rattle.sbp_journal.specs.declared.outbox.Outgoing.{Outgoing}
 use Rattle.sbp_journal.specs.declared.side.Side.{Side}
 use Rattle.sbp_laws.specs.Turns.{event_of}
 use Rattle.sbp_world.proofs.Wire.Agrees.{got_agrees, ignored_agrees, timed_agrees}
@@ -37,16 +35,15 @@ use Rattle.sbp_world.proofs.Wire.Deliver.{judging_stays}
 use Rattle.sbp_world.proofs.Wire.Expires.{stale_same}
 use Rattle.host_terms.specs.Calls.{behind}
 use Rattle.host_terms.proofs.ActLeft.{act_left}
-use Rattle.host_terms.proofs.Asked.{IsRequest, number_in}
 use Rattle.host_terms.proofs.Carries.{Carries, Does, IsNoAct, Tells, is_apart}
 use Rattle.host_terms.proofs.Held.{got_waits, ignored_quiet, timed_waits}
 use Rattle.host_terms.proofs.Hosted.{Cored, cored_carried, first_cored}
-use Rattle.host_terms.proofs.Layered.{AreTame, Left, expire_left, receive_left}
+use Rattle.host_terms.proofs.Layered.{AreTame, expire_left, receive_left}
 use Rattle.host_terms.proofs.Lives.{At, Called, expire_at, judge_at}
 use Rattle.host_terms.proofs.PointActs.{asking_points}
 use Rattle.host_terms.proofs.PointHears.{Ends, ended_points, none_points, sent_points, still_points}
 use Rattle.host_terms.proofs.PointSees.{SeenAs, anew, as_before, see_left}
-use Rattle.host_terms.proofs.PointerNotes.{Fit, Told, apart_passes, got_fades_now, opens, pointer, seen_fades_now, tame_told, timed_fades_now}
+use Rattle.host_terms.proofs.PointerNotes.{Fit, apart_passes, got_fades_now, opens, pointer, seen_fades_now, tame_told, timed_fades_now}
 use Rattle.host_terms.proofs.Pointing.{Points, called_of, written_at, wrote_at, wrote_is}
 use Rattle.host_terms.proofs.Shown.{IsElsewhere, IsHeard, IsShown}
 

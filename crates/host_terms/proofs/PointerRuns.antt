@@ -1,8 +1,8 @@
 -- In every run the write of ORB_POINTER that is under way is the one that the run names.
-use Rattle.std.proofs.Common.{arith, ◌≡◌, refl, sym, ◌∙◌, ap, subst, ℕ, suc, ◌<◌, ◌==◌, ◌&&◌, ◌||◌, nat_eq, not, is_none, Bool, true, false, cond, length, map, List, ◌∷◌, ◌++◌, Option, Some, None}
+use Rattle.std.proofs.Common.{arith, ◌≡◌, refl, sym, ◌∙◌, ap, subst, ℕ, suc, ◌<◌, ◌==◌, ◌&&◌, ◌||◌, not, Bool, true, false, cond, length, map, List, ◌∷◌, ◌++◌, Option, Some, None}
 use Rattle.bus_transactions.specs.Reached.{IsAwaited}
 use Rattle.bus_transactions.specs.Rows.{kind_as, shape_of}
-use Rattle.bus_transactions.proofs.Facts.{AskedBy, asked_is, begun_asked}
+use Rattle.bus_transactions.proofs.Facts.{asked_is, begun_asked}
 use Rattle.bus_transactions.proofs.Reaches.{goes_on}
 use Rattle.label_table.specs.Peers.{state_for}
 use Rattle.sbp_session.specs.declared.seat.Seat.{Seat}
@@ -49,8 +49,8 @@ use Rattle.host_terms.proofs.Aimed.{Aims, IsAimed, aimed_carried, first_aimed}
 use Rattle.host_terms.proofs.Carried.{between_runs, of_runs, stands_between}
 use Rattle.host_terms.proofs.Lives.{At}
 use Rattle.host_terms.proofs.Pointed.{Pointed, first_pointed, pointed_carried}
-use Rattle.host_terms.proofs.PointerNotes.{Fit, pointer}
-use Rattle.host_terms.proofs.Pointing.{IsPointer, Points, pointing_of, under_way_now}
+use Rattle.host_terms.proofs.PointerNotes.{Fit}
+use Rattle.host_terms.proofs.Pointing.{Points, pointing_of, under_way_now}
 use Rattle.host_terms.proofs.Runs.{count_after}
 use Rattle.host_terms.proofs.Shown.{IsShown}
 use Rattle.host_terms.proofs.Shows.{shown_now}

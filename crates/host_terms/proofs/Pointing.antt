@@ -1,6 +1,6 @@
 -- The ORB_POINTER write that an initiator's host names, and the one under way in its layer.
 use Rattle.std.proofs.Common.{◌≡◌, refl, sym, ◌∙◌, ap, subst, ℕ, suc, ◌+◌, ◌≤◌, ◌&&◌, is_some, not, Bool, true, false, List, Option, Some, None, Result, Ok, Err}
-use Rattle.bus_transactions.specs.Rows.{Shape, awaits, kind_as, shape, shape_of}
+use Rattle.bus_transactions.specs.Rows.{awaits, shape}
 use Rattle.bus_transactions.specs.Sent.{IsOwn}
 use Rattle.bus_transactions.specs.Sent as sent
 use Rattle.bus_transactions.specs.Wire.{transaction}
@@ -22,15 +22,14 @@ use Rattle.sbp_initiator.specs.declared.purpose.Purpose.{Purpose}
 use Rattle.sbp_initiator.specs.declared.purpose.Purpose.TheVariants as purposes
 use Rattle.sbp_initiator.specs.declared.state.InitiatorState.{InitiatorState}
 use Rattle.sbp_initiator.specs.States.{is_list, is_unwritten}
-use Rattle.sbp_journal.specs.Run.{Moment, said}
+use Rattle.sbp_journal.specs.Run.{Moment}
 use Rattle.sbp_journal.specs.Transactions.{Kind, Sending, Transaction, begun_by, is_same, part_of}
-use Rattle.sbp_journal.specs.Wire.{Held, Terms, free, kind_in, rests, sends, terms, waits}
+use Rattle.sbp_journal.specs.Wire.{Held, Terms, kind_in, sends, terms, waits}
 use Rattle.initiator_laws.specs.Pointing.{PointingAfter}
 use Rattle.initiator_laws.proofs.Over.{sound}
 use Rattle.initiator_laws.proofs.Pointing.{pointing_law}
-use Rattle.host_terms.specs.Calling.{IsCalled}
 use Rattle.host_terms.specs.Core.{Core}
-use Rattle.host_terms.proofs.Held.{sent_apart, sent_begun, sent_count}
+use Rattle.host_terms.proofs.Held.{sent_apart, sent_begun}
 use Rattle.host_terms.proofs.Hosted.{Cored}
 use Rattle.host_terms.proofs.Lives.{At, Called}
 use Rattle.host_terms.proofs.PointerNotes.{pointer}

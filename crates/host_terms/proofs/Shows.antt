@@ -1,5 +1,5 @@
 -- The labels of the initiators of a world, by its history: as a world stands, as a packet is judged, and as a transaction times out.
-use Rattle.std.proofs.Common.{arith, ◌≡◌, refl, sym, ◌∙◌, ap, subst, ℕ, zero, suc, ◌+◌, ◌-◌, ◌<◌, ◌≤◌, ◌==◌, nat_eq, not, is_ok, Bool, true, false, cond, ◌||◌, List, [], ◌∷◌, length, map, position, replicate, slice_index_or, Option, Some, None, Result, Ok, Err}
+use Rattle.std.proofs.Common.{arith, ◌≡◌, refl, sym, ◌∙◌, ap, subst, ℕ, zero, suc, ◌<◌, ◌≤◌, ◌==◌, nat_eq, not, is_ok, Bool, true, false, cond, ◌||◌, List, ◌∷◌, length, map, position, replicate, slice_index_or, Option, Some, None, Result, Ok, Err}
 use Rattle.std.proofs.lemmas.Bool.Decides.{nat_tests}
 use Rattle.std.proofs.Math.ListN.{get_or-map}
 use Rattle.sbp_base.specs.Update.{upd}
@@ -7,7 +7,7 @@ use Rattle.async_packet.specs.Labels.{LabelParts}
 use Rattle.bus_transactions.specs.Bare.{bare, bare_after, bare_finding, bare_place, bare_purpose, bare_result}
 use Rattle.bus_transactions.specs.May.{may_ignore}
 use Rattle.bus_transactions.specs.Moves.{expire, expiring, moved}
-use Rattle.bus_transactions.specs.Reached.{IsAwaited, Reached}
+use Rattle.bus_transactions.specs.Reached.{IsAwaited}
 use Rattle.bus_transactions.specs.Rows.{awaits, shape, shape_of}
 use Rattle.bus_transactions.specs.Wire.{Due, Node, Wire, as_sending, first_note, id_for, transaction}
 use Rattle.bus_transactions.proofs.Bares.{takes_steps}
@@ -15,7 +15,6 @@ use Rattle.bus_transactions.proofs.Reaches.{goes_on}
 use Rattle.bus_transactions.proofs.Rooms.{position_map}
 use Rattle.bus_transactions.proofs.Stands.{Stands as Holds}
 use Rattle.bus_transactions.proofs.Steps.{ExpiredAs, expires}
-use Rattle.label_table.specs.declared.place.LabelState.{LabelState}
 use Rattle.label_table.specs.declared.place.LabelState.TheVariants as states
 use Rattle.label_table.specs.declared.reply.ReplyKind.{ReplyKind}
 use Rattle.label_table.specs.declared.reply.Stale.{Stale}
@@ -30,25 +29,23 @@ use Rattle.sbp_bus.specs.declared.requests.Request.{Request}
 use Rattle.sbp_bus.specs.Generations.{id_of, topology_at}
 use Rattle.sbp_bus.specs.Packets.{judged_note}
 use Rattle.sbp_bus.specs.Requests.{find}
-use Rattle.sbp_initiator.specs.Effects.{Turn}
-use Rattle.sbp_initiator.specs.Receiving.{expire_step, receive_step, received, request_step}
+use Rattle.sbp_initiator.specs.Receiving.{expire_step, receive_step, received}
 use Rattle.sbp_initiator.specs.declared.purpose.Purpose.{Purpose}
 use Rattle.sbp_initiator.specs.declared.state.InitiatorState.{InitiatorState}
 use Rattle.sbp_journal.specs.Outgoings.{empty_outbox}
 use Rattle.sbp_journal.specs.Run.{Moment, said}
 use Rattle.sbp_journal.specs.Transactions.{Kind, Sending, Transaction}
-use Rattle.sbp_journal.specs.Wire.{Held, Terms, begun_in, free, rests, terms, waits}
+use Rattle.sbp_journal.specs.Wire.{Held, Terms, free, rests, terms, waits}
 use Rattle.sbp_journal.specs.declared.cause.Cause.{Cause}
 use Rattle.sbp_journal.specs.declared.cause.Cause.TheVariants as causes
 use Rattle.sbp_journal.specs.declared.cause.Judged.{Judged}
 use Rattle.sbp_journal.specs.declared.cause.Judged.TheVariants as judgements
 use Rattle.sbp_journal.specs.declared.note.Note.TheVariants as notes
-use Rattle.sbp_target.specs.declared.purpose.Purpose.{Purpose as TargetPurpose}
 use Rattle.sbp_target.specs.Nodes.{NodeState}
 use Rattle.sbp_target.specs.Nodes as target
-use Rattle.sbp_target.specs.Receiving.{expired, expired_in}
+use Rattle.sbp_target.specs.Receiving.{expired}
 use Rattle.sbp_world.specs.Delivering.{marked}
-use Rattle.sbp_world.specs.Packets.{target_expired, target_left}
+use Rattle.sbp_world.specs.Packets.{target_left}
 use Rattle.sbp_world.specs.Worlds.{WorldState, initiator_at, with_note}
 use Rattle.sbp_world.specs.Wire.Wires.{Stands, StandsAt, layer_in, layers_of}
 use Rattle.sbp_world.proofs.Wire.Agrees.{timed_agrees}

@@ -6,6 +6,6 @@ mod laws;
 pub use laws::{
     actions_tell_their_notes, calls_keep_rows, orbs_have_slots, others_leave_rows,
     run_actions_tell_their_notes, runs_are_calls, runs_find_labels, runs_keep_rows,
-    runs_know_sessions, runs_point_by_writes, runs_refuse_by_their_rows, steps_keep_rows, steps_of_worlds_keep_rows,
-    terms_are_read, worlds_keep_rows,
+    runs_know_sessions, runs_point_by_writes, runs_refuse_by_their_rows, steps_keep_rows,
+    steps_of_worlds_keep_rows, terms_are_read, worlds_keep_rows,
 };
