@@ -1,6 +1,7 @@
 -- What the transaction layer sends when it is asked for something: a request, under a label.
 use Rattle.std.proofs.Common.{arith, ◌≡◌, refl, sym, ◌∙◌, ap, ℕ, suc, ◌+◌, ◌<◌, Bool, true, false, cond, List, [], ◌∷◌, length, Option, Some, None}
 use Rattle.async_packet.specs.Canon.{IsValid}
+use Rattle.async_packet.specs.Labels.{LabelParts}
 use Rattle.label_table.specs.declared.judgement.Asked.{Asked}
 use Rattle.label_table.specs.declared.place.Place.{Place}
 use Rattle.label_table.specs.Bodies.{Body, header_to, request_with}
@@ -13,14 +14,19 @@ use Rattle.sbp_initiator.specs.declared.purpose.Purpose.{Purpose}
 use Rattle.bus_transactions.specs.Fitting.{IsLayer}
 use Rattle.bus_transactions.proofs.MoveAsk.{asked_bytes}
 
-pub record IsRequest (bytes : List ℕ) : Type 0 where
-  pub label : ℕ
+-- under this label
+pub record IsRequest (number : ℕ) (bytes : List ℕ) : Type 0 where
   pub kind : Kind
-  pub part : part_of bytes ≡ request label kind
+  pub part : part_of bytes ≡ request number kind
+
+-- that of a packet that leaves
+abbrev pub number_in : Option LabelParts → ℕ
+number_in None = 0
+number_in (Some label) = label.number
 
 abbrev pub IfRequest : Option Asked → Type 0
 IfRequest None = Unit {0}
-IfRequest (Some asked) = IsRequest asked.bytes
+IfRequest (Some asked) = IsRequest asked.label.number asked.bytes
 
 -- a label that serves is one of the table
 below_by : (b : Bool) (number count n : ℕ) (rest : Option ℕ) → cond b (Some number) rest ≡ Some n → (rest ≡ Some n → n < number + 1 + count) → n < number + suc count
@@ -36,7 +42,7 @@ below number bytes (place ∷ places) n e =
 module _ (layer : Layer Purpose) (peer : ℕ) (body : Body) (purpose : Purpose) (c : IsLayer layer) (v : IsValid (request_with (header_to layer.node peer 0) body)) where
   found_request : (k : ℕ) (number : Option ℕ) → ((n : ℕ) → number ≡ Some n → n < 64) → IfRequest (asked_at k layer (begun_for (peer_at layer k) peer purpose (begin_at number (peer_at layer k).table (unlabelled layer peer body)))).0
   found_request k None s = tt
-  found_request k (Some number) s = let a = asked_bytes layer.node peer number body _ v (s number refl) refl in record { label = number; kind = a.kind; part = a.part }
+  found_request k (Some number) s = let a = asked_bytes layer.node peer number body _ v (s number refl) refl in record { kind = a.kind; part = a.part }
 
   full : (k : ℕ) → length (peer_at layer k).table.places ≡ 64
   full k = ap (λ (l : Layer Purpose). length (peer_at l k).table.places) (sym c.layer_is) ∙ (after_kept c.first c.calls).parts.full k

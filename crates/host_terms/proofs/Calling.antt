@@ -44,13 +44,13 @@ own_carried ready = record {
   known = λ line event past i s h. tt;
   number = λ past i s h. h.number;
   asked = λ line event past i s h. h;
-  apart = λ note past i s e h. h;
+  apart = λ note past i s e f h. h;
   sent = λ serial generation from to bytes past i s n h. h;
-  hears = λ serial generation bytes past i s h. record { own = own_on ready i s (receives generation bytes) tt h; others = λ j x e g. g };
-  expires = λ serial label past i s h. record { own = own_on ready i s (lets_expire label) tt h; others = λ j x e g. g };
+  hears = λ serial generation bytes past i s heard shown after h. record { own = own_on ready i s (receives generation bytes) tt h; others = λ j x e g. g };
+  expires = λ serial label past i s shown h. record { own = own_on ready i s (lets_expire label) tt h; others = λ j x e g. g };
   stale = λ label past i s e h. own_on ready i s (lets_expire label) tt h;
   sees = λ generation id target past i s e h. record { own = own_on ready i s (sees generation id target) tt h; others = λ j x f g. g };
-  acts = λ action past i s e fit d known h. record { others = λ j x f g. g; quiet = λ n. own_on ready i s (acts action) fit h; asking = λ packet one serial generation to f q. own_on ready i s (acts action) fit h };
+  acts = λ action past i s e fit d shown known h. record { others = λ j x f g. g; quiet = λ n. own_on ready i s (acts action) fit h; asking = λ packet one serial generation f q. own_on ready i s (acts action) fit h };
 }
 
 pub calls_law : CallsLaw

@@ -3,6 +3,8 @@ use Rattle.std.proofs.Common.{arith, ◌≡◌, refl, sym, ◌∙◌, ap, subst,
 use Rattle.bus_transactions.specs.May.{is_reset}
 use Rattle.bus_transactions.proofs.Fits.{request_fits}
 use Rattle.bus_transactions.proofs.Follows.{last_is}
+use Rattle.packet_store.specs.declared.sent.Sent.{Sent}
+use Rattle.packet_store.specs.Kept.{flying, found_sent}
 use Rattle.packet_store.specs.Stored.{Stored}
 use Rattle.rbc_disk.specs.Runs.{Told}
 use Rattle.sbp_journal.specs.Run.{Moment, asked, said}
@@ -38,8 +40,9 @@ use Rattle.sbp_world.proofs.Making.{initiators_size}
 use Rattle.sbp_world.proofs.Wire.Bus.{holds}
 use Rattle.sbp_world.proofs.FitInitiator.Acts.{IfDemand, demand_fits}
 use Rattle.sbp_world.proofs.Wire.Holding.{Sound, TargetOf, target_small}
+use Rattle.sbp_world.proofs.Wire.Repeats.{said_same}
 use Rattle.sbp_world.proofs.Wire.Runs.{sound_after}
-use Rattle.sbp_world.proofs.Wire.Sound.{next_heard, opens}
+use Rattle.sbp_world.proofs.Wire.Sound.{first_flies, next_heard, opens}
 use Rattle.sbp_world.proofs.Wire.Starts.{states_at}
 use Rattle.sbp_world.proofs.Wire.ToldBytes.{AreTold, happened_fits}
 use Rattle.host_terms.specs.Handing.{history}
@@ -51,6 +54,13 @@ use Rattle.host_terms.proofs.Hosting.{line_same}
 use Rattle.host_terms.proofs.Knows.{may_see, target_there}
 use Rattle.host_terms.proofs.Passes.{delivers, line_expires, line_sees, ticks}
 use Rattle.host_terms.proofs.Runs.{are_told, count_after, count_between}
+use Rattle.host_terms.proofs.Shows.{Arriving, arriving, lapsing, shown_now}
+
+untrue : {A : Type 0} → false ≡ true → A
+untrue e = absurd (differ e)
+  where
+    differ : false ≡ true → ⊥
+    differ e = cc
 
 -- the next packet was not injected
 fresh : {past : List Moment} (w : WorldState) → Stands past w → (terms (history w past)).injected (w.store.last + 1) ≡ false
@@ -87,6 +97,14 @@ AreAt P ms w = (i : ℕ) → i < length w.initiators → P ms i (initiator_at w 
 abbrev pub Knows : (List Moment → ℕ → InitiatorState → Type 0) → ℕ → Run → Type 0
 Knows Q line run = (entries : List Entry) → run.initiators ≤ 4 → length entries + 2 < 2 ^ 32 → AreEntries (beginning run) entries → AreLines run entries → AreAt Q (moments_behind line run entries) (after (beginning run) entries).world
 
+-- a world between two deliveries of a run's next line
+pub record StandsBetween (line : ℕ) (run : Run) (next : ℕ) (event : Event) (w : WorldState) : Type 0 where
+  pub past : List Moment
+  pub lines : ℕ
+  pub sound : Sound past lines w
+  pub is : history w past ≡ map said w.fresh ++ asked next event ∷ moments_behind line run run.entries
+  pub size : length w.initiators ≡ run.initiators
+
 module _ {Q : List Moment → ℕ → InitiatorState → Type 0} (P : List Moment → ℕ → InitiatorState → Type 0) (law : Carries Q P) where
   opened : (past : List Moment) (line : ℕ) (event : Event) (w : WorldState) → Are P past w → Are P (asked line event ∷ history w past) (without_notes w)
   opened past line event w h i b = law.asked line event (history w past) i (initiator_at w i) (h i b)
@@ -96,7 +114,9 @@ module _ {Q : List Moment → ℕ → InitiatorState → Type 0} (P : List Momen
   acts_line : {past : List Moment} {lines : ℕ} (line i : ℕ) (w : WorldState) → i < length w.initiators → lines + 1 < 2 ^ 32 → Sound past lines w → Are Q past w → Are P past w → (action : Action) → IsAction action → Are P (asked line (events.Act i action) ∷ history w past) (acted line i action (without_notes w))
   acts_line {past} line i w inside few sound known h action fit =
       let event = events.Act i action in
-      acts P law (asked line event ∷ history w past) line i action (without_notes w) inside (opened past line event w h) refl (law.known line event (history w past) i (initiator_at w i) (known i inside)) fit 0
+      acts P law (asked line event ∷ history w past) line i action (without_notes w) inside (opened past line event w h) refl fit
+      (shown_now (without_notes w) (opens line event w refl sound).stands sound.nodes i inside)
+      (law.known line event (history w past) i (initiator_at w i) (known i inside))
       (ap (λ n. node_of w.generations n (initiator_at w i).target) (let e : i + 1 ≡ suc i = omega arith in e) ∙ target_there w sound.stands i inside sound.nodes)
       (fresh w sound.stands) (λ d e. own_request w i inside few sound action d e)
 
@@ -106,17 +126,21 @@ module _ {Q : List Moment → ℕ → InitiatorState → Type 0} (P : List Momen
     abbrev now : List Moment
     now = asked line event ∷ past
 
-    one_heard : (serial : ℕ) (again : Bool) (b : Bool) (told : List (Option Told)) (s : Scene) → MayIf b serial told s → Are P now s.world → Are P now (delivered_if b line serial again told s).world
-    one_heard serial again true [] s m h = absurd m
-    one_heard serial again true (told ∷ []) s m h = delivers P law now serial again told s m (none_acts past line event s.world n) h
-    one_heard serial again true (told ∷ other ∷ more) s m h = absurd m
-    one_heard serial again false told s m h = note_carried P law now s.world (notes.Refused line no_packet) (λ i. refl) h
+    one_heard : (serial : ℕ) (again : Bool) (b : Bool) (told : List (Option Told)) (s : Scene) → MayIf b serial told s → ((sent : Sent) → b ≡ true → found_sent serial s.world.store.kept ≡ Some sent → Arriving now serial sent s.world) → Are P now s.world → Are P now (delivered_if b line serial again told s).world
+    one_heard serial again true [] s m k h = absurd m
+    one_heard serial again true (told ∷ []) s m k h = delivers P law now serial again told s m (λ sent f. k sent refl f) (none_acts past line event s.world n) h
+    one_heard serial again true (told ∷ other ∷ more) s m k h = absurd m
+    one_heard serial again false told s m k h = note_carried P law now s.world (notes.Refused line no_packet) (λ i. refl) (λ i. tt) h
 
     next_told : (told : Option Told) → BytesTold told → (s : Scene) → Heard P now lines s.world → (terms now).repeats ≡ false → (o : Option ℕ) → lowest s.world ≡ o → settling.MayAt o told s → Heard P now lines (delivered_at o told s).world
     next_told told t s h r None e m = absurd m
     next_told told t s h r (Some serial) e m = record {
       sound = next_heard fitting_law own_fitting_law told t s h.sound r (Some serial) e;
-      all = delivers P law now serial false told s m (none_acts past line event s.world n) h.all;
+      all = delivers P law now serial false told s m
+          (λ sent f. arriving s.world h.sound.stands h.sound.nodes serial false
+          (ap (λ p. (terms p).repeats) h.sound.stands.is.past_is ∙ said_same s.world.fresh now ∙ r)
+          (λ x. first_flies (flying s.world.store.kept) serial e) sent f)
+          (none_acts past line event s.world n) h.all;
     }
 
     all_told : (told : List (Option Told)) → AreTold told → (s : Scene) → MayAll told s → Heard P now lines s.world → (terms now).repeats ≡ false → Heard P now lines (after_all told s).world
@@ -127,26 +151,26 @@ module _ {Q : List Moment → ℕ → InitiatorState → Type 0} (P : List Momen
         next_told told t.0 (after_all before s) b r (lowest (after_all before s).world) refl m.0
 
   ends : (past : List Moment) (w : WorldState) (b : Bool) → Are P past w → Are P past (with_note (end_note b) w)
-  ends past w true h = note_carried P law past w notes.Settled (λ i. refl) h
-  ends past w false h = note_carried P law past w notes.Stopped (λ i. refl) h
+  ends past w true h = note_carried P law past w notes.Settled (λ i. refl) (λ i. tt) h
+  ends past w false h = note_carried P law past w notes.Stopped (λ i. refl) (λ i. tt) h
 
   -- ---- the other lines
 
   loses : (past : List Moment) (line serial : ℕ) (w : WorldState) (b : Bool) → Are P past w → Are P past (cond b (lost serial w) (refused line no_packet w))
-  loses past line serial w true h = note_carried P law past w (notes.Lost serial) (λ i. refl) h
-  loses past line serial w false h = note_carried P law past w (notes.Refused line no_packet) (λ i. refl) h
+  loses past line serial w true h = note_carried P law past w (notes.Lost serial) (λ i. refl) (λ i. tt) h
+  loses past line serial w false h = note_carried P law past w (notes.Refused line no_packet) (λ i. refl) (λ i. tt) h
 
   keys : (past : List Moment) (line unit : ℕ) (key : List ℕ) (w : WorldState) (b : Bool) → Are P past w → Are P past (cond b (with_note (notes.Key unit) (with_target (with_key unit key w.target) w)) (refused line no_unit w))
-  keys past line unit key w true h = note_carried P law past w (notes.Key unit) (λ i. refl) h
-  keys past line unit key w false h = note_carried P law past w (notes.Refused line no_unit) (λ i. refl) h
+  keys past line unit key w true h = note_carried P law past w (notes.Key unit) (λ i. refl) (λ i. tt) h
+  keys past line unit key w false h = note_carried P law past w (notes.Refused line no_unit) (λ i. refl) (λ i. tt) h
 
   injects : (past : List Moment) (line from : ℕ) (bytes : List ℕ) (w : WorldState) (to : Option ℕ) → NoneActs (history w past) → Are P past w → Are P past (injected to line from bytes w)
   unfolding posted
-  injects past line from bytes w None n h = note_carried P law past w (notes.Refused line no_node) (λ i. refl) h
+  injects past line from bytes w None n h = note_carried P law past w (notes.Refused line no_node) (λ i. refl) (λ i. tt) h
   injects past line from bytes w (Some to) n h = λ i b.
       let serial = w.store.last + 1 in
       law.sent serial (topology_at w.generations from).generation from to bytes (said (notes.Injected serial) ∷ history w past) i (initiator_at w i) (n i)
-      (law.apart (notes.Injected serial) (history w past) i (initiator_at w i) refl (h i b))
+      (law.apart (notes.Injected serial) (history w past) i (initiator_at w i) refl tt (h i b))
 
   -- ---- every line
 
@@ -157,7 +181,7 @@ module _ {Q : List Moment → ℕ → InitiatorState → Type 0} (P : List Momen
   line_keeps {past} line (events.Reset physical) told s few q t m sound known h =
       let w = s.world in
       let v = record (without_notes w) { generations = reset_step physical w.generations } in
-      note_carried P law (asked line (events.Reset physical) ∷ history w past) v (notes.Reset v.generations.latest.generation) (λ i. refl) (opened past line (events.Reset physical) w h)
+      note_carried P law (asked line (events.Reset physical) ∷ history w past) v (notes.Reset v.generations.latest.generation) (λ i. refl) (λ i. tt) (opened past line (events.Reset physical) w h)
   line_keeps {past} line (events.See node) told s few q t m sound known h =
       let event = events.See node in
       let o = opens line event s.world refl sound in
@@ -166,16 +190,24 @@ module _ {Q : List Moment → ℕ → InitiatorState → Type 0} (P : List Momen
       (λ i e. may_see (without_notes s.world) o.stands i (let l : node ≤ length s.world.initiators = q in omega arith))
   line_keeps {past} {lines} line (events.Deliver serial) told s few q t m sound known h =
       let event = events.Deliver serial in
-      one_heard (history s.world past) lines line event (λ i. tt) serial false (is_in_flight serial (begun s).world) told (begun s) m (opened past line event s.world h)
+      let o = opens line event s.world refl sound in
+      one_heard (history s.world past) lines line event (λ i. tt) serial false (is_in_flight serial (begun s).world) told (begun s) m
+      (λ sent f found. arriving (begun s).world o.stands o.nodes serial false (ap (λ p. (terms p).repeats) o.stands.is.past_is) (λ e. f) sent found)
+      (opened past line event s.world h)
   line_keeps {past} {lines} line (events.Repeat serial) told s few q t m sound known h =
       let event = events.Repeat serial in
-      one_heard (history s.world past) lines line event (λ i. tt) serial true (may_repeat serial (begun s).world) told (begun s) m (opened past line event s.world h)
+      let o = opens line event s.world refl sound in
+      one_heard (history s.world past) lines line event (λ i. tt) serial true (may_repeat serial (begun s).world) told (begun s) m
+      (λ sent f found. arriving (begun s).world o.stands o.nodes serial true (ap (λ p. (terms p).repeats) o.stands.is.past_is) (λ e. untrue (sym e)) sent found)
+      (opened past line event s.world h)
   line_keeps {past} line (events.Lose serial) told s few q t m sound known h =
       let event = events.Lose serial in
       loses (asked line event ∷ history s.world past) line serial (without_notes s.world) (is_in_flight serial (without_notes s.world)) (opened past line event s.world h)
   line_keeps {past} line (events.Timeout serial) told s few q t m sound known h =
       let event = events.Timeout serial in
-      line_expires P law (asked line event ∷ history s.world past) line serial (without_notes s.world) (λ i. tt) (opened past line event s.world h)
+      let o = opens line event s.world refl sound in
+      line_expires P law (asked line event ∷ history s.world past) line serial (without_notes s.world)
+      (λ request found. lapsing (without_notes s.world) o.stands o.nodes serial request found) (λ i. tt) (opened past line event s.world h)
   line_keeps {past} {lines} line (events.Step count) told s few q t m sound known h =
       let event = events.Step count in
       (all_told (history s.world past) lines line event (λ i. tt) told t (begun s) m.may (record { sound = opens line event s.world refl sound; all = opened past line event s.world h }) refl).all
@@ -229,6 +261,27 @@ module _ {Q : List Moment → ℕ → InitiatorState → Type 0} (P : List Momen
         let w = (after_all told (begun s)).world in
         subst (λ ms. P (map said w.fresh ++ asked next event ∷ ms) i (initiator_at w i)) before.is
         (all.all i (subst (λ k. i < k) (sym (count_between told s ∙ count_after run run.entries)) b))
+
+    -- and how the world stands there
+    between_stands : IsRun run → (next : ℕ) (event : Event) → is_reset event ≡ false → ((i : ℕ) → IsNoAct i (Some event)) → ((ms : List Moment) → (terms (asked next event ∷ ms)).repeats ≡ false) → (told : List (Option Told)) → MayAll told (begun (after (beginning run) run.entries)) → StandsBetween line run next event (after_all told (begun (after (beginning run) run.entries))).world
+    between_stands r next event e n repeats told m =
+        let before = sound_after fitting_law own_fitting_law line run run.entries r.few r.short r.entries r.lines in
+        let s = after (beginning run) run.entries in
+        let so_far : Are P before.past s.world = subst (λ ms. AreAt P ms s.world) (sym before.is) (are_after run.entries r.few r.short r.entries r.lines) in
+        let all = all_told (history s.world before.past) (length run.entries) next event n told (are_told told s m) (begun s) m
+        (record { sound = opens next event s.world e before.sound; all = opened before.past next event s.world so_far }) (repeats (history s.world before.past)) in
+        let w = (after_all told (begun s)).world in
+        record {
+          past = asked next event ∷ history s.world before.past;
+          lines = length run.entries;
+          sound = all.sound;
+          is = ap (λ ms. map said w.fresh ++ asked next event ∷ ms) before.is;
+          size = count_between told s ∙ count_after run run.entries;
+        }
+
+    pub stands_between : IsRun run → (next : ℕ) (most : Option ℕ) (told : List (Option Told)) → MayAll told (begun (after (beginning run) run.entries)) → StandsBetween line run next (more_deliveries most) (after_all told (begun (after (beginning run) run.entries))).world
+    stands_between r next (Some count) told m = between_stands r next (events.Step count) refl (λ j. tt) (λ ms. refl) told m
+    stands_between r next None told m = between_stands r next events.Settle refl (λ j. tt) (λ ms. refl) told m
 
     pub between_runs : IsRun run → (next : ℕ) (most : Option ℕ) (told : List (Option Told)) → MayAll told (begun (after (beginning run) run.entries)) → (i : ℕ) → i < run.initiators → (let w = (after_all told (begun (after (beginning run) run.entries))).world in P (map said w.fresh ++ asked next (more_deliveries most) ∷ moments_behind line run run.entries) i (initiator_at w i))
     between_runs r next (Some count) told m i b = between_by r next (events.Step count) refl (λ j. tt) (λ ms. refl) told m i b

@@ -4,7 +4,7 @@ use Rattle.std.proofs.Common.{arith, ◌≡◌, refl, sym, ◌∙◌, ap, subst,
 use Rattle.std.proofs.lemmas.Bool.Decides.{nat_tests}
 use Rattle.std.proofs.lemmas.List.{length-set}
 use Rattle.async_packet.specs.Labels.{LabelParts}
-use Rattle.label_table.specs.Layer.{seeing_step}
+use Rattle.label_table.specs.Layer.{expiring_step, judging_step, seeing_step}
 use Rattle.sbp_journal.specs.Run.{Moment, asked as asks, said}
 use Rattle.sbp_journal.specs.Wire.{terms}
 use Rattle.sbp_journal.specs.Outgoings.{OutboxState, empty_outbox}
@@ -34,9 +34,10 @@ use Rattle.sbp_world.specs.Telling.{holder, initiator_of, ticket_of, told, told_
 use Rattle.sbp_world.specs.Worlds.{WorldState, initiator_at, with_initiator, with_note, with_target}
 use Rattle.host_terms.specs.Calls.{behind}
 use Rattle.host_terms.specs.Handing.{AreNotes, AreOthers, IsOther, history}
-use Rattle.host_terms.proofs.Asked.{IsRequest}
+use Rattle.host_terms.proofs.Asked.{IsRequest, number_in}
 use Rattle.host_terms.proofs.Hands.{all_own}
 use Rattle.host_terms.proofs.Hosting.{hands_keep, line_same, state_here, state_there}
+use Rattle.host_terms.proofs.Shown.{IsElsewhere, IsHeard, IsShown}
 
 -- a note says nothing of an initiator
 abbrev pub is_apart : ℕ → Note → Bool
@@ -67,20 +68,20 @@ pub record Tells (P : List Moment → ℕ → InitiatorState → Type 0) (past :
 pub record Does (P : List Moment → ℕ → InitiatorState → Type 0) (past : List Moment) (i : ℕ) (t : Turn) : Type 0 where
   pub others : (j : ℕ) (x : InitiatorState) → (j == i) ≡ false → P past j x → P (behind t.0.sides past) j x
   pub quiet : t.0.packets ≡ [] → P (behind t.0.sides past) i t.1
-  pub asking : (packet : Outgoing) → t.0.packets ≡ packet ∷ [] → (serial generation to : ℕ) → (terms past).injected serial ≡ false → IsRequest packet.bytes → P (said (notes.Sent serial generation (suc i) to packet.bytes) ∷ behind t.0.sides past) i t.1
+  pub asking : (packet : Outgoing) → t.0.packets ≡ packet ∷ [] → (serial generation : ℕ) → (terms past).injected serial ≡ false → IsRequest (number_in packet.label) packet.bytes → P (said (notes.Sent serial generation (suc i) 0 packet.bytes) ∷ behind t.0.sides past) i t.1
 
 -- Q is what is known of an initiator as a line begins: an action that is done may ask for it.
 pub record Carries (Q P : List Moment → ℕ → InitiatorState → Type 0) : Type 0 where
   pub known : (line : ℕ) (event : Event) (past : List Moment) (i : ℕ) (s : InitiatorState) → Q past i s → Q (asks line event ∷ past) i s
   pub number : (past : List Moment) (i : ℕ) (s : InitiatorState) → P past i s → s.number ≡ i
   pub asked : (line : ℕ) (event : Event) (past : List Moment) (i : ℕ) (s : InitiatorState) → P past i s → P (asks line event ∷ past) i s
-  pub apart : (note : Note) (past : List Moment) (i : ℕ) (s : InitiatorState) → is_apart i note ≡ true → P past i s → P (said note ∷ past) i s
+  pub apart : (note : Note) (past : List Moment) (i : ℕ) (s : InitiatorState) → is_apart i note ≡ true → IsElsewhere past i note → P past i s → P (said note ∷ past) i s
   pub sent : (serial generation from to : ℕ) (bytes : List ℕ) (past : List Moment) (i : ℕ) (s : InitiatorState) → IsNoAct i (event_of past) → P past i s → P (said (notes.Sent serial generation from to bytes) ∷ past) i s
-  pub hears : (serial generation : ℕ) (bytes : List ℕ) (past : List Moment) (i : ℕ) (s : InitiatorState) → P past i s → Tells P (said (judged_note serial (receive_step generation bytes empty_outbox s).0) ∷ past) i (receive_step generation bytes empty_outbox s).1
-  pub expires : (serial : ℕ) (label : LabelParts) (past : List Moment) (i : ℕ) (s : InitiatorState) → P past i s → Tells P (said (notes.TimedOut serial) ∷ past) i (expire_step label empty_outbox s).1
+  pub hears : (serial generation : ℕ) (bytes : List ℕ) (past : List Moment) (i : ℕ) (s : InitiatorState) → IsHeard past i serial generation bytes → IsShown past i s.target s.layer → IsShown (said (judged_note serial (receive_step generation bytes empty_outbox s).0) ∷ past) i s.target (judging_step s.layer generation bytes).1 → P past i s → Tells P (said (judged_note serial (receive_step generation bytes empty_outbox s).0) ∷ past) i (receive_step generation bytes empty_outbox s).1
+  pub expires : (serial : ℕ) (label : LabelParts) (past : List Moment) (i : ℕ) (s : InitiatorState) → IsShown (said (notes.TimedOut serial) ∷ past) i s.target (expiring_step s.layer s.target label).1 → P past i s → Tells P (said (notes.TimedOut serial) ∷ past) i (expire_step label empty_outbox s).1
   pub stale : (label : LabelParts) (past : List Moment) (i : ℕ) (s : InitiatorState) → (expire_step label empty_outbox s).0 ≡ false → P past i s → P past i (expire_step label empty_outbox s).1.1
   pub sees : (generation id target : ℕ) (past : List Moment) (i : ℕ) (s : InitiatorState) → (seeing_step s.layer generation id).0 ≡ not (generation == (terms past).generation (suc i)) → P past i s → Tells P (said (notes.Seen (suc i) generation) ∷ past) i (see_step generation id target empty_outbox s)
-  pub acts : (action : Action) (past : List Moment) (i : ℕ) (s : InitiatorState) → event_of past ≡ Some (events.Act i action) → IsAction action → (act_step action empty_outbox s).0 ≡ None → Q past i s → P past i s → Does P past i (act_step action empty_outbox s).1
+  pub acts : (action : Action) (past : List Moment) (i : ℕ) (s : InitiatorState) → event_of past ≡ Some (events.Act i action) → IsAction action → (act_step action empty_outbox s).0 ≡ None → IsShown past i s.target s.layer → Q past i s → P past i s → Does P past i (act_step action empty_outbox s).1
 
 -- nothing is known
 abbrev pub Nothing : List Moment → ℕ → InitiatorState → Type 0
@@ -112,26 +113,26 @@ module _ {Q : List Moment → ℕ → InitiatorState → Type 0} (P : List Momen
   -- ---- what the target tells
 
   module _ (past : List Moment) (weight i : ℕ) (s : InitiatorState) where
-    told_still : (note : Note) (w : WorldState) → is_apart i note ≡ true → P (history w past) i s → P (said note ∷ history w past) i s
-    told_still note w e h = law.apart note (history w past) i s e h
+    told_still : (note : Note) (w : WorldState) → is_apart i note ≡ true → IsElsewhere (history w past) i note → P (history w past) i s → P (said note ∷ history w past) i s
+    told_still note w e f h = law.apart note (history w past) i s e f h
 
     one_other : (side : Side) (w : WorldState) → IsOther side → P (history w past) i s → P (history (told weight side w) past) i s
     unfolding told
     one_other (sides.Own note) w f h = absurd f
     one_other (sides.Opened place orb) w f h = h
-    one_other (sides.Ran place orb cdb payload outcome) w f h = told_still (notes.Ran (holder w place).initiator (list_in (ticket_of w (holder w place).initiator orb)) (orb_in (ticket_of w (holder w place).initiator orb)) (holder w place).unit cdb payload (check_of outcome)) w refl h
-    one_other (sides.Ended place orb status) w f h = told_still (notes.Ended (holder w place).initiator (list_in (ticket_of w (holder w place).initiator orb)) (orb_in (ticket_of w (holder w place).initiator orb)) status) w refl h
-    one_other (sides.Dead place cause) w f h = told_still (notes.Dead (holder w place).initiator (holder w place).list cause) w refl h
-    one_other (sides.Cut place cause) w f h = told_still (notes.Cut (holder w place).initiator (holder w place).list cause) w refl h
-    one_other (sides.Managed node function subject status login) w f h = told_still (notes.Managed (initiator_of w node) (function_word function) subject status (login_if (function_word function) status login)) w refl h
-    one_other (sides.ManageFailed node cause) w f h = told_still (notes.ManageFailed (initiator_of w node) cause) w refl h
-    one_other (sides.Held login) w f h = told_still (notes.Held login) w refl h
-    one_other (sides.Expired login) w f h = told_still (notes.Expired login) w refl h
-    one_other (sides.Back login) w f h = told_still (notes.Back login) w refl h
-    one_other (sides.Left login) w f h = told_still (notes.Left login) w refl h
-    one_other (sides.Cleared unit) w f h = told_still (notes.Cleared unit) w refl h
-    one_other (sides.Unsolicited place) w f h = told_still (notes.Unsolicited (holder w place).initiator) w refl h
-    one_other (sides.Unsent place) w f h = told_still (notes.Unsent (holder w place).initiator) w refl h
+    one_other (sides.Ran place orb cdb payload outcome) w f h = told_still (notes.Ran (holder w place).initiator (list_in (ticket_of w (holder w place).initiator orb)) (orb_in (ticket_of w (holder w place).initiator orb)) (holder w place).unit cdb payload (check_of outcome)) w refl tt h
+    one_other (sides.Ended place orb status) w f h = told_still (notes.Ended (holder w place).initiator (list_in (ticket_of w (holder w place).initiator orb)) (orb_in (ticket_of w (holder w place).initiator orb)) status) w refl tt h
+    one_other (sides.Dead place cause) w f h = told_still (notes.Dead (holder w place).initiator (holder w place).list cause) w refl tt h
+    one_other (sides.Cut place cause) w f h = told_still (notes.Cut (holder w place).initiator (holder w place).list cause) w refl tt h
+    one_other (sides.Managed node function subject status login) w f h = told_still (notes.Managed (initiator_of w node) (function_word function) subject status (login_if (function_word function) status login)) w refl tt h
+    one_other (sides.ManageFailed node cause) w f h = told_still (notes.ManageFailed (initiator_of w node) cause) w refl tt h
+    one_other (sides.Held login) w f h = told_still (notes.Held login) w refl tt h
+    one_other (sides.Expired login) w f h = told_still (notes.Expired login) w refl tt h
+    one_other (sides.Back login) w f h = told_still (notes.Back login) w refl tt h
+    one_other (sides.Left login) w f h = told_still (notes.Left login) w refl tt h
+    one_other (sides.Cleared unit) w f h = told_still (notes.Cleared unit) w refl tt h
+    one_other (sides.Unsolicited place) w f h = told_still (notes.Unsolicited (holder w place).initiator) w refl tt h
+    one_other (sides.Unsent place) w f h = told_still (notes.Unsent (holder w place).initiator) w refl tt h
 
     all_others : (side : List Side) (w : WorldState) → AreOthers side → P (history w past) i s → P (history (told_all weight side w) past) i s
     unfolding told_all
@@ -197,8 +198,12 @@ module _ {Q : List Moment → ℕ → InitiatorState → Type 0} (P : List Momen
             (all_told past (behind t.0.sides (history w past)) w i t.1 inside tells.own (λ k c e. tells.others k (initiator_at w k) e (but k c e)) j (subst (λ m. j < m) (length-set w.initiators i t.1) b));
       })).kept)
 
-  pub note_carried : (past : List Moment) (w : WorldState) (note : Note) → ((i : ℕ) → is_apart i note ≡ true) → Are P past w → Are P past (with_note note w)
-  note_carried past w note e h i b = law.apart note (history w past) i (initiator_at w i) (e i) (h i b)
+  pub note_carried : (past : List Moment) (w : WorldState) (note : Note) → ((i : ℕ) → is_apart i note ≡ true) → ((i : ℕ) → IsElsewhere (history w past) i note) → Are P past w → Are P past (with_note note w)
+  note_carried past w note e f h i b = law.apart note (history w past) i (initiator_at w i) (e i) (f i) (h i b)
+
+  -- of all but one
+  pub note_beside : (past : List Moment) (w : WorldState) (note : Note) (i : ℕ) → ((j : ℕ) → is_apart j note ≡ true) → ((j : ℕ) → (j == i) ≡ false → IsElsewhere (history w past) j note) → Are P past w → AreBut P past i (with_note note w)
+  note_beside past w note i e f h j b g = law.apart note (history w past) j (initiator_at w j) (e j) (f j g) (h j b)
 
   -- ---- what an action hands out
 
@@ -225,26 +230,26 @@ module _ {Q : List Moment → ℕ → InitiatorState → Type 0} (P : List Momen
     by_label serial to node peer (Some label) x = refl
 
     -- what is told of its request
-    abbrev leaving : (to : ℕ) → WorldState → Outgoing → Moment
-    leaving to x packet = said (notes.Sent (x.store.last + 1) (topology_at x.generations (i + 1)).generation (suc i) to packet.bytes)
+    abbrev leaving : WorldState → Outgoing → Moment
+    leaving x packet = said (notes.Sent (x.store.last + 1) (topology_at x.generations (i + 1)).generation (suc i) 0 packet.bytes)
 
-    request_told : (to : ℕ) (x : WorldState) (packet : Outgoing) → node_of x.generations (i + 1) packet.to ≡ Some to → history (sent_all (i + 1) (packet ∷ []) x) past ≡ leaving to x packet ∷ history x past
+    request_told : (x : WorldState) (packet : Outgoing) → node_of x.generations (i + 1) packet.to ≡ Some 0 → history (sent_all (i + 1) (packet ∷ []) x) past ≡ leaving x packet ∷ history x past
     unfolding sent_all sent posted
-    request_told to x packet there =
+    request_told x packet there =
         ap (λ found. history (sent_to found (i + 1) packet x) past) there
-        ∙ by_label (x.store.last + 1) to (i + 1) packet.to packet.label (posted (i + 1) to false packet.bytes x)
-        ∙ ap (λ n. said (notes.Sent (x.store.last + 1) (topology_at x.generations (i + 1)).generation n to packet.bytes) ∷ history x past) (let e : i + 1 ≡ suc i = omega arith in e)
+        ∙ by_label (x.store.last + 1) 0 (i + 1) packet.to packet.label (posted (i + 1) 0 false packet.bytes x)
+        ∙ ap (λ n. said (notes.Sent (x.store.last + 1) (topology_at x.generations (i + 1)).generation n 0 packet.bytes) ∷ history x past) (let e : i + 1 ≡ suc i = omega arith in e)
 
-    pub asking_hands : (weight to : ℕ) (packet : Outgoing) → t.0.packets ≡ packet ∷ [] → (let x = told_all weight t.0.sides (with_initiator i t.1 w) in node_of x.generations (i + 1) packet.to ≡ Some to × ((terms (history w past)).injected (x.store.last + 1) ≡ false)) → IsRequest packet.bytes → Are P past (handed_out (i + 1) weight t.0 (with_initiator i t.1 w))
-    asking_hands weight to packet one k q =
+    pub asking_hands : (weight : ℕ) (packet : Outgoing) → t.0.packets ≡ packet ∷ [] → (let x = told_all weight t.0.sides (with_initiator i t.1 w) in node_of x.generations (i + 1) packet.to ≡ Some 0 × ((terms (history w past)).injected (x.store.last + 1) ≡ false)) → IsRequest (number_in packet.label) packet.bytes → Are P past (handed_out (i + 1) weight t.0 (with_initiator i t.1 w))
+    asking_hands weight packet one k q =
         let v = with_initiator i t.1 w in
         let x = told_all weight t.0.sides v in
         let told_is : history x past ≡ behind_all = all_own past weight t.0.sides v own in
-        let leaves = leaving to x packet in
-        let now : history (sent_all (i + 1) (packet ∷ []) x) past ≡ leaves ∷ behind_all = request_told to x packet k.0 ∙ ap (λ ms. leaves ∷ ms) told_is in
+        let leaves = leaving x packet in
+        let now : history (sent_all (i + 1) (packet ∷ []) x) past ≡ leaves ∷ behind_all = request_told x packet k.0 ∙ ap (λ ms. leaves ∷ ms) told_is in
         subst (λ ps. Are P past (sent_all (i + 1) ps x)) (sym one)
         (are_on P past v (sent_all (i + 1) (packet ∷ []) x) (hands_keep (i + 1) weight (record t.0 { packets = packet ∷ [] }) v)
         (λ j b. subst (λ ms. P ms j (initiator_at v j)) (sym now)
-        (all_told past (leaves ∷ behind_all) w i t.1 inside (does.asking packet one (x.store.last + 1) (topology_at x.generations (i + 1)).generation to k.1 q)
-        (λ m c e. law.apart (notes.Sent (x.store.last + 1) (topology_at x.generations (i + 1)).generation (suc i) to packet.bytes) behind_all m (initiator_at w m) (let f : (suc i == suc m) ≡ false = grind (arith, nat_tests) in ap not f) (others_there m c e))
+        (all_told past (leaves ∷ behind_all) w i t.1 inside (does.asking packet one (x.store.last + 1) (topology_at x.generations (i + 1)).generation k.1 q)
+        (λ m c e. law.apart (notes.Sent (x.store.last + 1) (topology_at x.generations (i + 1)).generation (suc i) 0 packet.bytes) behind_all m (initiator_at w m) (let f : (suc i == suc m) ≡ false = grind (arith, nat_tests) in ap not f) tt (others_there m c e))
         j (subst (λ m. j < m) (length-set w.initiators i t.1) b))))

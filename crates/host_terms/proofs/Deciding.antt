@@ -23,11 +23,11 @@ use Rattle.host_terms.proofs.Hosted.{host_law}
 use Rattle.host_terms.proofs.Refusing.{run_action_law}
 
 -- the rows that neither the lists nor the session are read for
-record Plain (run own : Refusals) : Type 0 where
-  no_rom : run.no_rom ≡ own.no_rom
-  dead_seen : run.dead_seen ≡ own.dead_seen
+pub record Plain (run own : Refusals) : Type 0 where
+  pub no_rom : run.no_rom ≡ own.no_rom
+  pub dead_seen : run.dead_seen ≡ own.dead_seen
 
-rows_same : (r q : Refusals) → r.stuck ≡ q.stuck → r.wrong_state ≡ q.wrong_state → r.waiting ≡ q.waiting → HasRows r q → Plain r q → r.no_label ≡ q.no_label → refusal_of r ≡ refusal_of q
+pub rows_same : (r q : Refusals) → r.stuck ≡ q.stuck → r.wrong_state ≡ q.wrong_state → r.waiting ≡ q.waiting → HasRows r q → Plain r q → r.no_label ≡ q.no_label → refusal_of r ≡ refusal_of q
 rows_same r q a b d h p l =
     ap refusal_of (
     ap (λ x. record r { stuck = x }) a

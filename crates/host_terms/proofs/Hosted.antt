@@ -37,7 +37,7 @@ use Rattle.initiator_laws.proofs.Over.{counted_now, pointed_now, sound}
 use Rattle.initiator_laws.proofs.Purposes.{IfFor, closes_asked, expires_asked}
 use Rattle.initiator_laws.proofs.Runs.{FitsNow, WasPointed}
 use Rattle.sbp_bus.specs.Packets.{judged_note}
-use Rattle.sbp_laws.specs.Actions.{refusal_at, refusals, cuts_list, is_right_state, is_waiting, running_operation}
+use Rattle.sbp_laws.specs.Actions.{refusal_at, refusals, cuts_list, is_pointing, is_right_state, is_waiting, running_operation}
 use Rattle.sbp_laws.specs.Hosts.{Host, Underway, begun, host_at, is_stuck, new_host, ready_host}
 use Rattle.sbp_laws.specs.Turns.{event_of}
 use Rattle.sbp_world.specs.Histories.{history_of}
@@ -111,10 +111,10 @@ module _ (ready : Bool) (i : ℕ) (s : InitiatorState) (h : IsCalled ready i s) 
 
 -- ---- an initiator of a run
 
-record Cored (ready : Bool) (past : List Moment) (i : ℕ) (s : InitiatorState) : Type 0 where
-  own : IsOwn ready i s
-  core : host_core (host_at past i) ≡ own_core s
-  sits : Sits (operation_by (own_core s).work) (own_core s).session
+pub record Cored (ready : Bool) (past : List Moment) (i : ℕ) (s : InitiatorState) : Type 0 where
+  pub own : IsOwn ready i s
+  pub core : host_core (host_at past i) ≡ own_core s
+  pub sits : Sits (operation_by (own_core s).work) (own_core s).session
 
 module _ (ready : Bool) where
   known_of : (past : List Moment) (i : ℕ) (s : InitiatorState) → Cored ready past i s → Known past (empty_outbox, s)
@@ -186,25 +186,25 @@ module _ (ready : Bool) where
           core = ap (λ j. host_core (host_at (behind t.0.sides past) j)) number ∙ k.own ∙ (sym (a.quiet none (own_core a.starts.before)) ∙ a.starts.begun);
           sits = a.starts.sits;
         };
-        asking = λ packet one serial generation to f q. record {
+        asking = λ packet one serial generation f q. record {
           own = own;
-          core = asked_known past action t i serial generation to packet.bytes a.starts own.number under f q;
+          core = asked_known past action t i serial generation 0 packet.bytes a.starts own.number under f q;
           sits = a.starts.sits;
         };
       }
 
-  cored_carried : Carries Nothing (Cored ready)
+  pub cored_carried : Carries Nothing (Cored ready)
   cored_carried = record {
     known = λ line event past i s h. tt;
     number = λ past i s h. h.own.number;
     asked = λ line event past i s h. record { own = h.own; core = h.core; sits = h.sits };
-    apart = λ note past i s e h. noted note past i s (apart_core note past i e) h;
+    apart = λ note past i s e f h. noted note past i s (apart_core note past i e) h;
     sent = λ serial generation from to bytes past i s n h. noted (notes.Sent serial generation from to bytes) past i s (sent_core serial generation from to bytes past i n) h;
-    hears = hears_told;
-    expires = expires_told;
+    hears = λ serial generation bytes past i s heard shown after h. hears_told serial generation bytes past i s h;
+    expires = λ serial label past i s shown h. expires_told serial label past i s h;
     stale = stale_cored;
     sees = sees_told;
-    acts = λ action past i s under fit done known h. acts_told action past i s under fit done h;
+    acts = λ action past i s under fit done shown known h. acts_told action past i s under fit done h;
   }
 
 -- ---- the beginning
@@ -218,7 +218,7 @@ first_sits : (i : ℕ) (ready : Bool) → Sits (operation_by (own_core (new_stat
 unfolding new_state
 first_sits i ready = tt
 
-first_cored : (line i initiators : ℕ) (ready : Bool) → i < initiators → Cored ready (said (notes.Begin initiators ready) ∷ asked line (events.Begin initiators ready) ∷ []) i (new_state i ready)
+pub first_cored : (line i initiators : ℕ) (ready : Bool) → i < initiators → Cored ready (said (notes.Begin initiators ready) ∷ asked line (events.Begin initiators ready) ∷ []) i (new_state i ready)
 first_cored line i initiators ready b = record { own = own_first ready i; core = begun_core i initiators ready b; sits = first_sits i ready }
 
 core_of_runs : (line : ℕ) (run : Run) → IsRun run → (i : ℕ) → i < run.initiators → host_core (host_at (history_of line run) i) ≡ own_core (initiator_of run i)
@@ -425,6 +425,33 @@ session_rows line run i action has_label e =
       wrong_state = ap (λ x. not (is_right_state action x)) session ∙ ap not (right_row action seat);
       waiting = λ f. waiting_same action (terms (history_of line run)) (host_at (history_of line run) i) (points seat) f ∙ ap (λ x. waits_by action x (points seat)) operation;
     }
+
+-- and where the run says whether an ORB_POINTER write is under way
+pointing_same : (action : Action) (wire : Terms) (host : Host) (pointing : Bool) → is_pointing wire host.pointer ≡ pointing → is_waiting action wire host ≡ waits_by action (running_operation host.operation) pointing
+pointing_same (actions.Put cmd) wire host pointing e = waiting_same (actions.Put cmd) wire host pointing refl
+pointing_same (actions.Append cmd) wire host pointing e = waiting_same (actions.Append cmd) wire host pointing refl
+pointing_same actions.Low wire host pointing e = waiting_same actions.Low wire host pointing refl
+pointing_same actions.Link wire host pointing e = waiting_same actions.Link wire host pointing refl
+pointing_same actions.Ring wire host pointing e = waiting_same actions.Ring wire host pointing refl
+pointing_same (actions.Dummy orb) wire host pointing e = waiting_same (actions.Dummy orb) wire host pointing refl
+pointing_same actions.Rom wire host pointing e = waiting_same actions.Rom wire host pointing refl
+pointing_same actions.AgentReset wire host pointing e = ap (λ b. (b || is_pointing wire host.pointer) || false) (some_running host.operation) ∙ ap (λ b. (is_some (running_operation host.operation) || b) || false) e
+pointing_same actions.State wire host pointing e = waiting_same actions.State wire host pointing refl
+pointing_same actions.Enable wire host pointing e = waiting_same actions.Enable wire host pointing refl
+pointing_same (actions.Login unit reconnect exclusive password) wire host pointing e = waiting_same (actions.Login unit reconnect exclusive password) wire host pointing refl
+pointing_same (actions.Query unit) wire host pointing e = waiting_same (actions.Query unit) wire host pointing refl
+pointing_same actions.Reconnect wire host pointing e = waiting_same actions.Reconnect wire host pointing refl
+pointing_same actions.Logout wire host pointing e = ap (λ b. (b || is_pointing wire host.pointer) || false) (some_running host.operation) ∙ ap (λ b. (is_some (running_operation host.operation) || b) || false) e
+pointing_same (actions.Abort orb) wire host pointing e = waiting_same (actions.Abort orb) wire host pointing refl
+pointing_same actions.AbortSet wire host pointing e = ap (λ b. (b || is_pointing wire host.pointer) || false) (some_running host.operation) ∙ ap (λ b. (is_some (running_operation host.operation) || b) || false) e
+pointing_same actions.UnitReset wire host pointing e = ap (λ b. (b || is_pointing wire host.pointer) || false) (some_running host.operation) ∙ ap (λ b. (is_some (running_operation host.operation) || b) || false) e
+pointing_same actions.TargetReset wire host pointing e = ap (λ b. (b || is_pointing wire host.pointer) || false) (some_running host.operation) ∙ ap (λ b. (is_some (running_operation host.operation) || b) || false) e
+
+pub session_waits : (line : ℕ) (run : Run) (i : ℕ) (action : Action) (has_label : Bool) → host_core (host_at (history_of line run) i) ≡ own_core (initiator_of run i) → is_pointing (terms (history_of line run)) (host_at (history_of line run) i).pointer ≡ points (initiator_of run i).seat → (refusals (history_of line run) i action (host_at (history_of line run) i)).waiting ≡ (rows_of action (facts_with has_label (initiator_of run i) action)).waiting
+session_waits line run i action has_label e f =
+    let seat = (initiator_of run i).seat in
+    let operation : running_operation (host_at (history_of line run) i).operation ≡ operation_in (initiator_of run i).operation = working (host_at (history_of line run) i).operation ∙ ap (λ (c : Core). operation_by c.work) e ∙ sym (worked (initiator_of run i).operation) in
+    pointing_same action (terms (history_of line run)) (host_at (history_of line run) i) (points seat) f ∙ ap (λ x. waits_by action x (points seat)) operation
 
 two_rows : (a b c d : Bool) (x y : Option ℕ) → a ≡ c → b ≡ d → a || b ≡ true → cond a (Some 1) (cond b (Some 2) x) ≡ cond c (Some 1) (cond d (Some 2) y)
 two_rows true b true d x y e f g = refl

@@ -309,9 +309,9 @@ module _ (past : List Moment) (action : Action) (s : InitiatorState) (k : Known 
 
 -- ---- its request leaves
 
-pub asked_known : (past : List Moment) (action : Action) (t : Turn) (i serial generation to : ℕ) (bytes : List ℕ) → Starts past action t → t.1.number ≡ i → event_of past ≡ Some (events.Act i action) → (terms past).injected serial ≡ false → IsRequest bytes → host_core (host_at (said (notes.Sent serial generation (suc i) to bytes) ∷ behind t.0.sides past) i) ≡ own_core t.1
-asked_known past action t i serial generation to bytes h n e f q =
-    asks_core action q.label q.kind serial generation to bytes (behind t.0.sides past) i (h.known.line ∙ e) q.part (ap (λ (x : Terms). x.injected serial) h.known.wire ∙ f)
+pub asked_known : {number : ℕ} (past : List Moment) (action : Action) (t : Turn) (i serial generation to : ℕ) (bytes : List ℕ) → Starts past action t → t.1.number ≡ i → event_of past ≡ Some (events.Act i action) → (terms past).injected serial ≡ false → IsRequest number bytes → host_core (host_at (said (notes.Sent serial generation (suc i) to bytes) ∷ behind t.0.sides past) i) ≡ own_core t.1
+asked_known {number} past action t i serial generation to bytes h n e f q =
+    asks_core action number q.kind serial generation to bytes (behind t.0.sides past) i (h.known.line ∙ e) q.part (ap (λ (x : Terms). x.injected serial) h.known.wire ∙ f)
     ∙ ap (λ j. started_by action (host_core (host_at (behind t.0.sides past) j))) (sym n ∙ h.number)
     ∙ ap (started_by action) h.known.own
     ∙ h.begun

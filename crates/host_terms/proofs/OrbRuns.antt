@@ -223,7 +223,7 @@ module _ (ready : Bool) (action : Action) (past : List Moment) (i : ℕ) (s : In
   acts_does = record {
     others = others_act;
     quiet = λ silent. own_acts;
-    asking = λ packet one serial generation to f q. sent_still ready serial generation (suc i) to packet.bytes (behind t.0.sides past) i t.1 own_acts;
+    asking = λ packet one serial generation f q. sent_still ready serial generation (suc i) 0 packet.bytes (behind t.0.sides past) i t.1 own_acts;
   }
 
 -- ---- a run
@@ -257,13 +257,13 @@ orbs_carried ready = record {
   known = λ line event past i s r. known_asked line event past i s r;
   number = λ past i s h. h.number;
   asked = λ line event past i s h. said_still ready past (asked line event ∷ past) i s refl h;
-  apart = λ note past i s e h. apart_still ready note past i s e h;
+  apart = λ note past i s e f h. apart_still ready note past i s e h;
   sent = λ serial generation from to bytes past i s n h. sent_still ready serial generation from to bytes past i s h;
-  hears = hears_still ready;
-  expires = expires_still ready;
+  hears = λ serial generation bytes past i s heard shown after h. hears_still ready serial generation bytes past i s h;
+  expires = λ serial label past i s shown h. expires_still ready serial label past i s h;
   stale = λ label past i s e h. still_on ready past i s h (lets_expire label) tt (expires_quiet label (after i ready h.calls));
   sees = λ generation id target past i s e h. sees_still ready generation id target past i s h;
-  acts = λ action past i s line fit d known h. acts_does ready action past i s line fit d known h;
+  acts = λ action past i s line fit d shown known h. acts_does ready action past i s line fit d known h;
 }
 
 -- what the wire tells of its node ID

@@ -21,7 +21,7 @@ use Rattle.sbp_initiator.specs.Commands.{put_lists}
 use Rattle.sbp_initiator.specs.Refusals.{refusal}
 use Rattle.sbp_world.specs.Telling.{told, told_all}
 use Rattle.sbp_world.specs.Worlds.{WorldState}
-use Rattle.host_terms.proofs.Asked.{IfRequest, IsRequest}
+use Rattle.host_terms.proofs.Asked.{IfRequest, IsRequest, number_in}
 
 -- ---- a step of a list sends nothing
 
@@ -77,7 +77,7 @@ done_sends actions.TargetReset o s = refl
 
 abbrev pub AreRequests : (target : ℕ) → List Outgoing → Type 0
 AreRequests target [] = Unit {0}
-AreRequests target (packet ∷ []) = (packet.to ≡ target) × IsRequest packet.bytes
+AreRequests target (packet ∷ []) = (packet.to ≡ target) × IsRequest (number_in packet.label) packet.bytes
 AreRequests target (packet ∷ other ∷ more) = ⊥
 
 asked_sends : (r : Option Asked × Layer Purpose) (action : Action) (s : InitiatorState) → IfRequest r.0 → AreRequests s.target (asked_as r action empty_outbox s).1.0.packets

@@ -10,6 +10,7 @@ ghost use Rattle.host_terms.specs.Keeping.{KeepingLaw};
 ghost use Rattle.host_terms.specs.Labels.{RunLabelLaw};
 ghost use Rattle.host_terms.specs.Lines.{LineLaw};
 ghost use Rattle.host_terms.specs.Orbs.{OrbsLaw};
+ghost use Rattle.host_terms.specs.PointerRuns.{PointerRunLaw};
 ghost use Rattle.host_terms.specs.Reading.{ReadLaw};
 ghost use Rattle.host_terms.specs.Reads.{MemoryLaw};
 ghost use Rattle.host_terms.specs.Refusing.{RunActionLaw};
@@ -144,4 +145,11 @@ pub fn memory_is_read_by_the_run()
 #[tactic(auto, using(crate::proofs::AnsweringRuns::answering_law))]
 pub fn requests_are_answered_by_the_run()
     ensures { AnsweringLaw }
+{}
+
+/// The law that in every run a write of ORB_POINTER that is under way in an initiator's layer is the one that the
+/// run names for its present list: its label waits for the answer to that request.
+#[tactic(auto, using(crate::proofs::PointerRuns::pointer_run_law))]
+pub fn runs_point_by_writes()
+    ensures { PointerRunLaw }
 {}

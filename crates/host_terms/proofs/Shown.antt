@@ -1,0 +1,39 @@
+-- What the lines of a run know beside the statements that they carry on: that a layer is what the history says of its labels, which packet is
+-- heard, and that a packet is got or a transaction times out elsewhere.
+use Rattle.std.specs.Prelude.{◌≡◌, ℕ, suc, ◌==◌, false, List, Some}
+use Rattle.bus_transactions.specs.Rows.{shape, shape_of}
+use Rattle.bus_transactions.specs.Wire.{transaction}
+use Rattle.label_table.specs.Layer.{Layer}
+use Rattle.label_table.specs.Peers.{state_for}
+use Rattle.sbp_initiator.specs.declared.purpose.Purpose.{Purpose}
+use Rattle.sbp_journal.specs.Run.{Moment}
+use Rattle.sbp_journal.specs.Transactions.{Sending}
+use Rattle.sbp_journal.specs.Wire.{terms}
+use Rattle.sbp_journal.specs.declared.note.Note.{Note}
+use Rattle.sbp_journal.specs.declared.note.Note.TheVariants as notes
+
+-- the labels of an initiator to its target are what the history says of them
+pub record IsShown (past : List Moment) (i target : ℕ) (layer : Layer Purpose) : Type 0 where
+  pub generation : layer.generation ≡ (terms past).generation (suc i)
+  pub states : (number : ℕ) → shape (state_for layer.peers target number) ≡ shape_of ((terms past).held (transaction layer.generation (suc i) 0 number))
+
+-- the packet that an initiator hears
+pub record IsHeard (past : List Moment) (i serial generation : ℕ) (bytes : List ℕ) : Type 0 where
+  pub packet : Sending
+  pub sent : (terms past).sent serial ≡ Some packet
+  pub generation_is : packet.generation ≡ generation
+  pub bytes_are : packet.bytes ≡ bytes
+  pub to_is : packet.to ≡ suc i
+
+-- a packet does not go to an initiator, and does not come from it
+abbrev pub NotTo : List Moment → ℕ → ℕ → Type 0
+NotTo past i serial = (packet : Sending) → (terms past).sent serial ≡ Some packet → (packet.to == suc i) ≡ false
+
+abbrev pub NotFrom : List Moment → ℕ → ℕ → Type 0
+NotFrom past i serial = (packet : Sending) → (terms past).sent serial ≡ Some packet → (packet.from == suc i) ≡ false
+
+-- a note that ends a transaction ends none of this initiator's
+abbrev pub IsElsewhere : List Moment → ℕ → Note → Type 0
+IsElsewhere past i (notes.Got serial) = NotTo past i serial
+IsElsewhere past i (notes.TimedOut serial) = NotFrom past i serial
+IsElsewhere past i _ = Unit {0}
