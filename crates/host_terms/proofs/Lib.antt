@@ -66,3 +66,5 @@ pub mod LoginCounts
 pub mod Answering
 pub mod AnsweringBlocks
 pub mod AnsweringRuns
+pub mod LastingTerms
+pub mod Lasting

@@ -17,3 +17,4 @@ pub mod Labels
 pub mod Orbs
 pub mod Reads
 pub mod Answering
+pub mod Lasting

@@ -8,6 +8,7 @@ ghost use Rattle.host_terms.specs.Deciding.{RunRefusalLaw};
 ghost use Rattle.host_terms.specs.Handing.{HandLaw};
 ghost use Rattle.host_terms.specs.Keeping.{KeepingLaw};
 ghost use Rattle.host_terms.specs.Labels.{RunLabelLaw};
+ghost use Rattle.host_terms.specs.Lasting.{LastingLaw};
 ghost use Rattle.host_terms.specs.Lines.{LineLaw};
 ghost use Rattle.host_terms.specs.Orbs.{OrbsLaw};
 ghost use Rattle.host_terms.specs.Reading.{ReadLaw};
@@ -144,4 +145,12 @@ pub fn memory_is_read_by_the_run()
 #[tactic(auto, using(crate::proofs::AnsweringRuns::answering_law))]
 pub fn requests_are_answered_by_the_run()
     ensures { AnsweringLaw }
+{}
+
+/// The law that in every run what is said of an initiator's ORBs lasts: from each moment on an ORB that was appended keeps
+/// its slot, its command, what it asks for and the node ID of its append; of no list fewer ORBs are appended or linked
+/// later, and none is linked that was not appended; so a next pointer that was the address of the ORB behind is so for good.
+#[tactic(auto, using(crate::proofs::Lasting::lasting_law))]
+pub fn orbs_last()
+    ensures { LastingLaw }
 {}
