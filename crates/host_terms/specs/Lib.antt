@@ -17,4 +17,5 @@ pub mod Labels
 pub mod Orbs
 pub mod Reads
 pub mod Answering
+pub mod Responses
 pub mod Lasting

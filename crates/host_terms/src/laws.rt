@@ -14,6 +14,7 @@ ghost use Rattle.host_terms.specs.Orbs.{OrbsLaw};
 ghost use Rattle.host_terms.specs.Reading.{ReadLaw};
 ghost use Rattle.host_terms.specs.Reads.{MemoryLaw};
 ghost use Rattle.host_terms.specs.Refusing.{RunActionLaw};
+ghost use Rattle.host_terms.specs.Responses.{ResponsesLaw};
 ghost use Rattle.host_terms.specs.Runs.{RunLaw};
 ghost use Rattle.host_terms.specs.Steps.{StepLaw};
 ghost use Rattle.host_terms.specs.Worlds.{WorldLaw};
@@ -153,4 +154,12 @@ pub fn requests_are_answered_by_the_run()
 #[tactic(auto, using(crate::proofs::Lasting::lasting_law))]
 pub fn orbs_last()
     ensures { LastingLaw }
+{}
+
+/// The law that in every run, in a delivery at which an initiator gets a read of the 32 bytes of a slot's ORB that is
+/// complete, the response carries that ORB: it spells the command, the direction and the buffer of its append, and its
+/// next pointer and its format as they stand before the response is sent.
+#[tactic(auto, using(crate::proofs::AnsweringRuns::responses_law))]
+pub fn responses_carry_their_orbs()
+    ensures { ResponsesLaw }
 {}
