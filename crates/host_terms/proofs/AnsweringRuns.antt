@@ -4,6 +4,9 @@ use Rattle.std.proofs.lemmas.Bool.Decides.{nat_tests}
 use Rattle.std.specs.List.{AllByRecursion}
 use Rattle.async_packet.specs.Canon.{canon}
 use Rattle.async_packet.specs.Packet.{Packet, header_in, lock, read_block, read_block_response, read_quadlet, read_quadlet_response, lock_response, write_block, write_quadlet, write_response}
+use Rattle.bus_memory.specs.Memory as memories
+use Rattle.bus_memory.specs.declared.window.Window.TheVariants as windows
+use Rattle.bus_memory.specs.Windows.{start as start_of}
 use Rattle.bus_transactions.specs.May.{is_plain, is_reset}
 use Rattle.bus_transactions.specs.Reached.{IsOf}
 use Rattle.bus_transactions.specs.Steps.{ArePlainSides}
@@ -12,6 +15,7 @@ use Rattle.bus_transactions.proofs.Follows.{last_is}
 use Rattle.bus_transactions.proofs.PacketParts.{part_read}
 use Rattle.bus_transactions.proofs.Reaches.{goes_on}
 use Rattle.label_table.specs.Bodies.{response_to}
+use Rattle.orb_layout.specs.CommandOrbs.{command_orb}
 use Rattle.packet_store.specs.Kept.{is_flying}
 use Rattle.packet_store.specs.Stored.{Stored, deliver_step}
 use Rattle.rbc_disk.specs.Disk.{Disk}
@@ -34,6 +38,9 @@ use Rattle.sbp_initiator.specs.Effects.{Turn}
 use Rattle.sbp_initiator.specs.Receiving.{receive_step}
 use Rattle.sbp_bus.specs.Generations.{GenerationsState, node_of, topology_at}
 use Rattle.sbp_bus.specs.Packets.{judged_note}
+use Rattle.sbp_laws.specs.CarriedBytes.{IsRead}
+use Rattle.sbp_laws.specs.CarriedLaw.{IsAsAppended}
+use Rattle.sbp_laws.specs.Lists.{Orb, prepared_in}
 use Rattle.sbp_laws.specs.JudgementLaw.{answer_packet}
 use Rattle.sbp_laws.specs.Packets.{access_in, id_of, packet_in, spelled_by}
 use Rattle.sbp_laws.specs.SentAnswers.{Begins, answers_to, is_answered, reply_in, reply_packet}
@@ -62,8 +69,10 @@ use Rattle.initiator_laws.specs.Laws.{Call, after as laws_after}
 use Rattle.host_terms.specs.Answering.{AnsweringLaw, GetsRequest, IsAnswered, IsDelivering, in_order}
 use Rattle.host_terms.specs.Calls.{behind}
 use Rattle.host_terms.specs.Handing.{AreNotes, history}
+use Rattle.host_terms.specs.Orbs.{HoldsOrbs, StandsIn, orb_for, request_of as request_for}
 use Rattle.host_terms.specs.Reads.{IsReadBy}
 use Rattle.host_terms.specs.Refusing.{initiator_of}
+use Rattle.host_terms.specs.Responses.{CarriesOrb, OrbIsRead, ResponsesLaw, payload_of}
 use Rattle.host_terms.specs.Runs.{IsRun}
 use Rattle.host_terms.proofs.Answering.{IsRequestFound, answer, none_is, request_of}
 use Rattle.host_terms.proofs.AnsweringBlocks.{answers}
@@ -72,6 +81,11 @@ use Rattle.host_terms.proofs.Knows.{was_sent}
 use Rattle.host_terms.proofs.Liners.{own_notes}
 use Rattle.host_terms.proofs.LoginCounts.{logins_few}
 use Rattle.host_terms.proofs.MemoryReads.{memory_law, memory_read}
+use Rattle.host_terms.proofs.OrbFits.{format_in, next_in}
+use Rattle.host_terms.proofs.OrbTells as tell
+use Rattle.host_terms.proofs.OrbTerms.{OrbTerms, orb_terms, still_left}
+use Rattle.host_terms.proofs.Orbs.{orbs_held, orbs_law}
+use Rattle.host_terms.proofs.ResponseBytes.{block_read, payload_is}
 use Rattle.host_terms.proofs.OrbRuns.{id_known, orbs_between, orbs_carried, orbs_of_runs}
 use Rattle.host_terms.proofs.Requested.{all_told_bus}
 use Rattle.host_terms.proofs.Runs.{are_told, count_after, count_between, run_law}
@@ -298,6 +312,67 @@ module _ {past : List Moment} {lines : ℕ} (s : Scene) (sound : Sound past line
     };
   }
 
+  -- ---- a read of an ORB
+
+  module _ (slot : ℕ) (found : Orb) (b : slot < 32) (reads : IsRead g.access (start_of (windows.Orb slot)) 32) (prepared : prepared_in H i slot ≡ Some found) (stand : StandsIn H i old.lists.memory slot found) (complete : own_reply.rcode ≡ 0) where
+    abbrev orb : List ℕ
+    orb = (memories.slot_at old.lists.memory slot).orb
+
+    given_is : own_reply.given ≡ orb
+    given_is = known.carries g.access slot found b prepared reads.from reads.size ∙ sym (known.held slot found b prepared).orb
+
+    long : length orb ≤ 2048
+    long = let z : length orb ≡ 32 = stand.size in omega arith
+
+    abbrev leaving : List ℕ
+    leaving = canon (response_to (id_of t (suc i)) p own_reply.rcode own_reply.given)
+
+    payload : payload_of leaving ≡ orb
+    payload =
+        payload_is g.sent.bytes p request.read (stands.is.knows.ours serial q was_there).bytes (id_of t (suc i))
+        (subst (λ x. x < 2 ^ 16) id_is (sound.nodes.own.holds i inside).layer.small)
+        (start_of (windows.Orb slot)) 32 (block_read H i p g.access (start_of (windows.Orb slot)) 32 g.asks_for reads complete) orb long own_reply.rcode own_reply.given complete given_is
+
+    abbrev before_it : List Moment
+    before_it = map said effects ++ said (notes.Got serial) ∷ H
+
+    -- what the initiator tells leaves the ORB
+    same_orbs : orb_terms before_it i ≡ orb_terms H i
+    same_orbs =
+        ap (λ ms. orb_terms ms i) (sym (behind_on r.1.0.sides [] (said (notes.Got serial) ∷ H)))
+        ∙ still_left r.1.0.sides (said (notes.Got serial) ∷ H) i (tell.receives g.sent.generation g.sent.bytes empty_outbox old tt)
+
+    carries : CarriesOrb before_it i slot found (payload_of leaving)
+    carries =
+        let n = found.list in
+        let k = found.number in
+        record {
+          size = ap length payload ∙ stand.size;
+          cmd = stand.cmd;
+          fits = stand.fits;
+          place = ap (λ (x : OrbTerms). x.place n k) same_orbs ∙ stand.place;
+          command = ap (λ (x : OrbTerms). x.command n k) same_orbs ∙ stand.command;
+          request = ap (λ (x : OrbTerms). x.request n k) same_orbs ∙ stand.request;
+          node = stand.node;
+          orb = ap command_orb payload ∙ (stand.orb ∙ sym (ap (λ (x : OrbTerms). orb_for stand.cmd stand.node slot (next_in x n k) (format_in x n k)) same_orbs));
+          as_appended = subst (λ x. IsAsAppended (command_orb x) (request_for stand.cmd)) (sym payload) stand.as_appended;
+        }
+
+    pub orb_is_read : OrbIsRead H i serial slot found (history (delivered serial again told s).world past)
+    orb_is_read = record {
+      effects = effects;
+      none_sent = none_on r.1.0.sides [] plain tt;
+      generation = t.generation (suc i);
+      to = g.sent.from;
+      bytes = leaving;
+      is = shows;
+      carries = carries;
+    }
+
+-- what stands behind a request that an initiator gets, and behind a read of an ORB
+abbrev Serves : List Moment → WorldState → (i serial : ℕ) → List Moment → Type 0
+Serves ms w i serial now = (g : GetsRequest ms w i serial) → IsAnswered ms serial now × ((slot : ℕ) (found : Orb) → slot < 32 → IsRead g.access (start_of (windows.Orb slot)) 32 → prepared_in ms i slot ≡ Some found → (host_reply ms i g.access).rcode ≡ 0 → OrbIsRead ms i serial slot found now)
+
 -- ---- a run
 
 all_sound : {past : List Moment} {lines : ℕ} (told : List (Option Told)) → AreTold told → (s : Scene) → Sound past lines s.world → (terms past).repeats ≡ false → Sound past lines (after_all told s).world
@@ -307,10 +382,10 @@ all_sound (told ∷ before) t s sound r =
     next_heard fitting_law own_fitting_law told t.0 (after_all before s) (all_sound before t.1 s sound r) r (lowest (after_all before s).world) refl
 
 -- a scene of a line, with the history of its run in other words
-at_scene : {lines : ℕ} (next : ℕ) (event : Event) (s : Scene) (ms others : List Moment) → ms ≡ others → Sound (asked next event ∷ ms) lines s.world → (i : ℕ) → i < length s.world.initiators → (serial : ℕ) (again : Bool) (one : Option Told) → (initiator_at s.world i).counts.logins ≤ 2 ^ 32 → IsReadBy (map said s.world.fresh ++ asked next event ∷ others) i (initiator_at s.world i) → GetsRequest (map said s.world.fresh ++ asked next event ∷ others) s.world i serial → IsAnswered (map said s.world.fresh ++ asked next event ∷ others) serial (map said (delivered serial again one s).world.fresh ++ asked next event ∷ others)
+at_scene : {lines : ℕ} (next : ℕ) (event : Event) (s : Scene) (ms others : List Moment) → ms ≡ others → Sound (asked next event ∷ ms) lines s.world → (i : ℕ) → i < length s.world.initiators → (serial : ℕ) (again : Bool) (one : Option Told) → (initiator_at s.world i).counts.logins ≤ 2 ^ 32 → IsReadBy (map said s.world.fresh ++ asked next event ∷ others) i (initiator_at s.world i) → HoldsOrbs (map said s.world.fresh ++ asked next event ∷ others) i (initiator_at s.world i) → Serves (map said s.world.fresh ++ asked next event ∷ others) s.world i serial (map said (delivered serial again one s).world.fresh ++ asked next event ∷ others)
 at_scene next event s ms others e sound i inside serial again one few =
-    subst (λ x. IsReadBy (map said s.world.fresh ++ asked next event ∷ x) i (initiator_at s.world i) → GetsRequest (map said s.world.fresh ++ asked next event ∷ x) s.world i serial → IsAnswered (map said s.world.fresh ++ asked next event ∷ x) serial (map said (delivered serial again one s).world.fresh ++ asked next event ∷ x)) e
-    (λ known g. is_answered_here s sound i inside known few serial again one g)
+    subst (λ x. IsReadBy (map said s.world.fresh ++ asked next event ∷ x) i (initiator_at s.world i) → HoldsOrbs (map said s.world.fresh ++ asked next event ∷ x) i (initiator_at s.world i) → Serves (map said s.world.fresh ++ asked next event ∷ x) s.world i serial (map said (delivered serial again one s).world.fresh ++ asked next event ∷ x)) e
+    (λ known held g. (is_answered_here s sound i inside known few serial again one g, λ slot found b reads prepared complete. orb_is_read s sound i inside known few serial again one g slot found b reads prepared (held.stands slot found b prepared) complete))
 
 module _ (line : ℕ) (run : Run) (q : IsRun run) (next : ℕ) (i : ℕ) (b : i < run.initiators) (serial : ℕ) (again : Bool) (one : Option Told) where
   abbrev start : Scene
@@ -328,6 +403,11 @@ module _ (line : ℕ) (run : Run) (q : IsRun run) (next : ℕ) (i : ℕ) (b : i 
       memory_read run.ready (asked next event ∷ history_of line run) i (initiator_of run i) (run_law.rows line run q i b).rows
       ((orbs_carried run.ready).asked next event (history_of line run) i (initiator_of run i) (orbs_of_runs line run q i b))
 
+  held_first : (event : Event) → HoldsOrbs (asked next event ∷ history_of line run) i (initiator_at (begun start).world i)
+  held_first event =
+      orbs_held run.ready (asked next event ∷ history_of line run) i (initiator_of run i) (run_law.rows line run q i b).rows
+      ((orbs_carried run.ready).asked next event (history_of line run) i (initiator_of run i) (orbs_of_runs line run q i b))
+
   -- the login numbers that it used
   few_of : (s : InitiatorState) (calls : List Call) → (laws_after i run.ready calls).1 ≡ s → s.counts.acts ≤ length run.entries → s.counts.logins ≤ 2 ^ 32
   few_of s calls is acts =
@@ -339,22 +419,22 @@ module _ (line : ℕ) (run : Run) (q : IsRun run) (next : ℕ) (i : ℕ) (b : i 
   few_first = let o = orbs_of_runs line run q i b in few_of (initiator_of run i) o.calls o.is (before.sound.nodes.own.counts i inside_start)
 
   abbrev Answers : Event → List (Option Told) → Type 0
-  Answers event told = (let s = after_all told (begun start) in GetsRequest (map said s.world.fresh ++ asked next event ∷ history_of line run) s.world i serial → IsAnswered (map said s.world.fresh ++ asked next event ∷ history_of line run) serial (map said (delivered serial again one s).world.fresh ++ asked next event ∷ history_of line run))
+  Answers event told = (let s = after_all told (begun start) in Serves (map said s.world.fresh ++ asked next event ∷ history_of line run) s.world i serial (map said (delivered serial again one s).world.fresh ++ asked next event ∷ history_of line run))
 
   first_answers : (event : Event) → is_reset event ≡ false → Answers event []
   first_answers event e =
-      at_scene next event (begun start) (history start.world before.past) (history_of line run) before.is (opens next event start.world e before.sound) i inside_start serial again one few_first (known_first event)
+      at_scene next event (begun start) (history start.world before.past) (history_of line run) before.is (opens next event start.world e before.sound) i inside_start serial again one few_first (known_first event) (held_first event)
 
-  more_answers : (event : Event) → is_reset event ≡ false → ((ms : List Moment) → (terms (asked next event ∷ ms)).repeats ≡ false) → (told : List (Option Told)) → MayAll told (begun start) → (calls : List Call) → (laws_after i run.ready calls).1 ≡ initiator_at (after_all told (begun start)).world i → IsReadBy (map said (after_all told (begun start)).world.fresh ++ asked next event ∷ history_of line run) i (initiator_at (after_all told (begun start)).world i) → Answers event told
-  more_answers event e repeats told m calls is known =
+  more_answers : (event : Event) → is_reset event ≡ false → ((ms : List Moment) → (terms (asked next event ∷ ms)).repeats ≡ false) → (told : List (Option Told)) → MayAll told (begun start) → (calls : List Call) → (laws_after i run.ready calls).1 ≡ initiator_at (after_all told (begun start)).world i → IsReadBy (map said (after_all told (begun start)).world.fresh ++ asked next event ∷ history_of line run) i (initiator_at (after_all told (begun start)).world i) → HoldsOrbs (map said (after_all told (begun start)).world.fresh ++ asked next event ∷ history_of line run) i (initiator_at (after_all told (begun start)).world i) → Answers event told
+  more_answers event e repeats told m calls is known held =
       let sound = all_sound told (are_told told start m) (begun start) (opens next event start.world e before.sound) (repeats (history start.world before.past)) in
       let inside = subst (λ n. i < n) (sym (count_between told start)) inside_start in
       at_scene next event (after_all told (begun start)) (history start.world before.past) (history_of line run) before.is sound
-      i inside serial again one (few_of (initiator_at (after_all told (begun start)).world i) calls is (sound.nodes.own.counts i inside)) known
+      i inside serial again one (few_of (initiator_at (after_all told (begun start)).world i) calls is (sound.nodes.own.counts i inside)) known held
 
   run_answers : (event : Event) (told : List (Option Told)) → IsDelivering event told → MayAll told (begun start) → Answers event told
-  run_answers (events.Step count) told d m = let o = orbs_between line run q next (Some count) told m i b in more_answers (events.Step count) refl (λ ms. refl) told m o.calls o.is (memory_law.between line run q next (Some count) told m i b)
-  run_answers events.Settle told d m = let o = orbs_between line run q next None told m i b in more_answers events.Settle refl (λ ms. refl) told m o.calls o.is (memory_law.between line run q next None told m i b)
+  run_answers (events.Step count) told d m = let o = orbs_between line run q next (Some count) told m i b in more_answers (events.Step count) refl (λ ms. refl) told m o.calls o.is (memory_law.between line run q next (Some count) told m i b) (orbs_law.between line run q next (Some count) told m i b)
+  run_answers events.Settle told d m = let o = orbs_between line run q next None told m i b in more_answers events.Settle refl (λ ms. refl) told m o.calls o.is (memory_law.between line run q next None told m i b) (orbs_law.between line run q next None told m i b)
   run_answers (events.Deliver n) told d m = subst (Answers (events.Deliver n)) (sym d) (first_answers (events.Deliver n) refl)
   run_answers (events.Repeat n) told d m = subst (Answers (events.Repeat n)) (sym d) (first_answers (events.Repeat n) refl)
   run_answers (events.Begin initiators ready) told d m = absurd d
@@ -368,4 +448,10 @@ module _ (line : ℕ) (run : Run) (q : IsRun run) (next : ℕ) (i : ℕ) (b : i 
   run_answers (events.Key unit key) told d m = absurd d
 
 pub answering_law : AnsweringLaw
-answering_law = record { answers = λ line run q next event told d m i b serial again one. run_answers line run q next i b serial again one event told d m }
+answering_law = record { answers = λ line run q next event told d m i b serial again one g. (run_answers line run q next i b serial again one event told d m g).0 }
+
+pub responses_law : ResponsesLaw
+responses_law = record {
+  orbs = λ line run q next event told d m i b serial again one g slot found small reads prepared complete.
+      (run_answers line run q next i b serial again one event told d m g).1 slot found small reads prepared complete;
+}

@@ -79,4 +79,7 @@ pub mod MemoryReads
 pub mod LoginCounts
 pub mod Answering
 pub mod AnsweringBlocks
+pub mod ResponseBytes
 pub mod AnsweringRuns
+pub mod LastingTerms
+pub mod Lasting

@@ -178,7 +178,7 @@ goes_by action o s (Some number) r e = absurd (differ e)
     differ e = cc
 goes_by action o s None r e = goes_on action s r
 
-goes : (action : Action) (o : OutboxState) (s : InitiatorState) → (act_step action o s).0 ≡ None → Goes action s
+pub goes : (action : Action) (o : OutboxState) (s : InitiatorState) → (act_step action o s).0 ≡ None → Goes action s
 unfolding act_step
 goes action o s e = goes_by action o s (refusal action (facts_with true s action)) refl e
 
@@ -282,7 +282,7 @@ id_known {past} w h i l =
       aged = subst (λ (t : Terms). t.generation (suc i) ≤ t.bus) same (omega arith);
     }
 
-rows_known : (line : ℕ) (run : Run) → Knows Rowed line run
+pub rows_known : (line : ℕ) (run : Run) → Knows Rowed line run
 rows_known line run entries few short all fit i b =
     let sound = sound_after fitting_law own_fitting_law line run entries few short all fit in
     let w = (world_after (beginning run) entries).world in
@@ -290,7 +290,7 @@ rows_known line run entries few short all fit i b =
     let now = subst (λ ms. IdKnown ms i (initiator_at w i)) sound.is k in
     record { rows = (are_after line run entries few short all fit i b).rows; is_id = now.is_id; aged = now.aged }
 
-first_orbs : (line i initiators : ℕ) (ready : Bool) → Orbs ready (said (notes.Begin initiators ready) ∷ asked line (events.Begin initiators ready) ∷ []) i (new_state i ready)
+pub first_orbs : (line i initiators : ℕ) (ready : Bool) → Orbs ready (said (notes.Begin initiators ready) ∷ asked line (events.Begin initiators ready) ∷ []) i (new_state i ready)
 unfolding new_state
 first_orbs line i initiators ready = record { number = refl; calls = []; called = tt; is = refl; kept = λ k b. tt; none = λ n k b. refl }
 

@@ -18,3 +18,5 @@ pub mod Orbs
 pub mod Reads
 pub mod Answering
 pub mod PointerRuns
+pub mod Responses
+pub mod Lasting

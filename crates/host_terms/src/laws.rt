@@ -8,12 +8,14 @@ ghost use Rattle.host_terms.specs.Deciding.{RunRefusalLaw};
 ghost use Rattle.host_terms.specs.Handing.{HandLaw};
 ghost use Rattle.host_terms.specs.Keeping.{KeepingLaw};
 ghost use Rattle.host_terms.specs.Labels.{RunLabelLaw};
+ghost use Rattle.host_terms.specs.Lasting.{LastingLaw};
 ghost use Rattle.host_terms.specs.Lines.{LineLaw};
 ghost use Rattle.host_terms.specs.Orbs.{OrbsLaw};
 ghost use Rattle.host_terms.specs.PointerRuns.{PointerRunLaw};
 ghost use Rattle.host_terms.specs.Reading.{ReadLaw};
 ghost use Rattle.host_terms.specs.Reads.{MemoryLaw};
 ghost use Rattle.host_terms.specs.Refusing.{RunActionLaw};
+ghost use Rattle.host_terms.specs.Responses.{ResponsesLaw};
 ghost use Rattle.host_terms.specs.Runs.{RunLaw};
 ghost use Rattle.host_terms.specs.Steps.{StepLaw};
 ghost use Rattle.host_terms.specs.Worlds.{WorldLaw};
@@ -152,4 +154,20 @@ pub fn requests_are_answered_by_the_run()
 #[tactic(auto, using(crate::proofs::PointerRuns::pointer_run_law))]
 pub fn runs_point_by_writes()
     ensures { PointerRunLaw }
+{}
+
+/// The law that in every run what is said of an initiator's ORBs lasts: from each moment on an ORB that was appended keeps
+/// its slot, its command, what it asks for and the node ID of its append; of no list fewer ORBs are appended or linked
+/// later, and none is linked that was not appended; so a next pointer that was the address of the ORB behind is so for good.
+#[tactic(auto, using(crate::proofs::Lasting::lasting_law))]
+pub fn orbs_last()
+    ensures { LastingLaw }
+{}
+
+/// The law that in every run, in a delivery at which an initiator gets a read of the 32 bytes of a slot's ORB that is
+/// complete, the response carries that ORB: it spells the command, the direction and the buffer of its append, and its
+/// next pointer and its format as they stand before the response is sent.
+#[tactic(auto, using(crate::proofs::AnsweringRuns::responses_law))]
+pub fn responses_carry_their_orbs()
+    ensures { ResponsesLaw }
 {}

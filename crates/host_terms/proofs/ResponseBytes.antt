@@ -1,0 +1,98 @@
+-- The payload of the response to a block read that is complete.
+use Rattle.std.proofs.Common.{arith, ◌≡◌, refl, sym, ap, subst, ◌∙◌, ℕ, suc, ◌+◌, ◌^◌, ◌<◌, ◌≤◌, Bool, true, false, List, [], ◌∷◌, length, Option, Some, None, Result, Ok}
+use Rattle.async_packet.specs.Canon.{FitsHeader, IsValid, canon}
+use Rattle.async_packet.specs.Fields.{largest}
+use Rattle.async_packet.specs.Packet.{Packet, header_in, lock, lock_response, read_block, read_block_response, read_quadlet, read_quadlet_response, write_block, write_quadlet, write_response}
+use Rattle.async_packet.specs.Reading.{reading}
+use Rattle.async_packet.specs.declared.packet.Header.{Header}
+use Rattle.async_packet.proofs.RoundTrip.{canon_spells}
+use Rattle.async_packet.proofs.Spelled.{reading_spelled}
+use Rattle.bus_transactions.specs.Fitting.{AreBytes}
+use Rattle.bus_transactions.proofs.FitJudged.{is_request, source_fits}
+use Rattle.label_table.specs.Bodies.{header_to, response_to}
+use Rattle.label_table.proofs.Requests.{label_spelled}
+use Rattle.sbp_journal.specs.Addresses.{Access, access_of}
+use Rattle.sbp_journal.specs.Run.{Moment}
+use Rattle.sbp_laws.specs.CarriedBytes.{IsRead, bytes_in}
+use Rattle.sbp_laws.specs.Packets.{answer_in, spelled_by}
+use Rattle.sbp_laws.specs.Served.{host_reply}
+use Rattle.host_terms.specs.Responses.{payload_of}
+use Rattle.host_terms.proofs.Answering.{none_is}
+
+-- ---- the request
+
+abbrev writes : Option Access → Bool
+writes None = false
+writes (Some access) = access.is_write
+
+abbrev is_block_in : Option Access → Bool
+is_block_in None = false
+is_block_in (Some access) = access.is_block
+
+abbrev offset_in : Option Access → ℕ
+offset_in None = 0
+offset_in (Some access) = access.offset
+
+abbrev count_in : Option Access → ℕ
+count_in None = 0
+count_in (Some access) = access.count
+
+abbrev rcode_in : List Moment → ℕ → Option Access → ℕ
+rcode_in past i None = 0
+rcode_in past i (Some access) = (host_reply past i access).rcode
+
+differ : true ≡ false → ⊥
+differ e = cc
+
+some : (n : ℕ) → suc n ≡ 0 → ⊥
+some n e = omega arith
+
+pub record IsBlockRead (p : Packet) (address count : ℕ) : Type 0 where
+  pub header : Header
+  pub is : p ≡ read_block header address count
+
+-- a read of a block that is complete is no lock
+pub block_read : (past : List Moment) (i : ℕ) (p : Packet) (access : Access) (address count : ℕ) → access_of p ≡ Some access → IsRead access address count → (host_reply past i access).rcode ≡ 0 → IsBlockRead p address count
+block_read past i (read_block header offset asked) access address count e r z = record {
+  header = header;
+  is = ap (λ x. read_block header x asked) (ap offset_in e ∙ r.from) ∙ ap (λ x. read_block header address x) (ap count_in e ∙ r.size);
+}
+block_read past i (read_quadlet header offset) access address count e r z = absurd (differ (sym r.block ∙ sym (ap is_block_in e)))
+block_read past i (write_quadlet header offset value) access address count e r z = absurd (differ (ap writes e ∙ r.read))
+block_read past i (write_block header offset payload) access address count e r z = absurd (differ (ap writes e ∙ r.read))
+block_read past i (lock header offset extended payload) access address count e r z = absurd (some 5 (ap (rcode_in past i) e ∙ z))
+block_read past i (write_response header rcode) access address count e r z = absurd (none_is e)
+block_read past i (read_quadlet_response header rcode value) access address count e r z = absurd (none_is e)
+block_read past i (read_block_response header rcode payload) access address count e r z = absurd (none_is e)
+block_read past i (lock_response header rcode extended payload) access address count e r z = absurd (none_is e)
+
+-- ---- the response
+
+module _ (bytes : List ℕ) (p : Packet) (read : reading bytes ≡ Ok p) (are : AreBytes bytes) (own : ℕ) (small : own < 2 ^ 16) (address count : ℕ) (b : IsBlockRead p address count) (given : List ℕ) (long : length given ≤ largest) where
+  abbrev request : Packet
+  request = read_block b.header address count
+
+  abbrev reply : Packet
+  reply = read_block_response (header_to own b.header.source b.header.label) 0 given
+
+  read_request : reading bytes ≡ Ok request
+  read_request = read ∙ ap (λ x. Ok x) b.is
+
+  fits : FitsHeader (header_to own b.header.source b.header.label)
+  fits = record {
+    destination = source_fits bytes request read_request are;
+    label = label_spelled bytes request (is_request bytes request read_request refl);
+    retry = omega arith;
+    priority = omega arith;
+    source = small;
+  }
+
+  valid : IsValid reply
+  valid = (fits, (let z : 0 < 2 ^ 4 = omega arith in z), long)
+
+  pub payload_is : (rcode : ℕ) (gives : List ℕ) → rcode ≡ 0 → gives ≡ given → payload_of (canon (response_to own p rcode gives)) ≡ given
+  payload_is rcode gives z e =
+      ap (λ x. payload_of (canon (response_to own x rcode gives))) b.is
+      ∙ (ap (λ x. payload_of (canon (response_to own request x gives))) z
+      ∙ (ap (λ x. payload_of (canon (response_to own request 0 x))) e
+      ∙ ap (λ x. bytes_in (answer_in (spelled_by x))) (reading_spelled (canon reply) reply (canon_spells reply valid))))

@@ -1,0 +1,62 @@
+-- What the response to a read of an ORB carries, in every run (NCITS 325-1998, command block ORB). In a delivery at which an initiator gets a
+-- block read of the 32 bytes of a slot that an ORB was prepared in, and that is complete, the packet that is told behind what the initiator
+-- tells is the next one, of this initiator; and its payload spells that ORB as it stands before this packet is sent: the command, the direction and
+-- the buffer of its append, the next pointer and the format of that time.
+use Rattle.std.specs.Prelude.{◌≡◌, ◌<◌, ℕ, suc, ◌+◌, Bool, false, List, ◌∷◌, ◌++◌, length, map, Option, Some}
+use Rattle.std.specs.List.{AllByRecursion}
+use Rattle.async_packet.specs.Reading.{reading}
+use Rattle.bus_memory.specs.declared.window.Window.TheVariants as windows
+use Rattle.bus_memory.specs.Windows.{start}
+use Rattle.orb_layout.specs.CommandOrbs.{command_orb}
+use Rattle.rbc_disk.specs.Runs.{Told}
+use Rattle.sbp_journal.specs.Run.{Moment, asked, said}
+use Rattle.sbp_journal.specs.Wire.{terms}
+use Rattle.sbp_journal.specs.declared.event.Cmd.{Cmd}
+use Rattle.sbp_journal.specs.declared.event.Event.{Event}
+use Rattle.sbp_journal.specs.declared.note.Note.{Note}
+use Rattle.sbp_journal.specs.declared.note.Note.TheVariants as notes
+use Rattle.sbp_initiator.specs.Commands.{IsCommand}
+use Rattle.sbp_laws.specs.CarriedBytes.{IsRead, bytes_in}
+use Rattle.sbp_laws.specs.CarriedLaw.{IsAsAppended}
+use Rattle.sbp_laws.specs.Lists.{Orb, command_at, prepared_in, slot_at}
+use Rattle.sbp_laws.specs.Packets.{answer_in, spelled_by}
+use Rattle.sbp_laws.specs.Served.{host_reply}
+use Rattle.sbp_laws.specs.Terms.{request_at}
+use Rattle.sbp_laws.specs.Turns.{is_sent}
+use Rattle.sbp_world.specs.Delivering.{delivered}
+use Rattle.sbp_world.specs.Histories.{history_of}
+use Rattle.sbp_world.specs.Runs.{Run, after, beginning}
+use Rattle.sbp_world.specs.Settling.{MayAll, after_all}
+use Rattle.sbp_world.specs.Worlds.{begun}
+use Rattle.host_terms.specs.Answering.{GetsRequest, IsDelivering}
+use Rattle.host_terms.specs.Orbs.{format_of, next_of, orb_for, request_of}
+use Rattle.host_terms.specs.Runs.{IsRun}
+
+-- what the payload of a response is, by the bytes of its packet
+abbrev pub payload_of : List ℕ → List ℕ
+payload_of bytes = bytes_in (answer_in (spelled_by (reading bytes)))
+
+-- Bytes spell the ORB in a slot, as it stands in a history.
+pub record CarriesOrb (before : List Moment) (i slot : ℕ) (one : Orb) (payload : List ℕ) : Type 0 where
+  pub size : length payload ≡ 32
+  pub cmd : Cmd
+  pub fits : IsCommand cmd
+  pub place : slot_at before i one.list one.number ≡ slot
+  pub command : command_at before i one.list one.number ≡ Some cmd
+  pub request : request_at before i one.list one.number ≡ Some (request_of cmd)
+  pub node : ℕ
+  pub orb : command_orb payload ≡ orb_for cmd node slot (next_of before i one.list one.number) (format_of before i one.list one.number)
+  pub as_appended : IsAsAppended (command_orb payload) (request_of cmd)
+
+-- What stands behind the history in which the read is got: the note of that, what the initiator tells, which is no packet, and the response.
+pub record OrbIsRead (past : List Moment) (i serial slot : ℕ) (one : Orb) (now : List Moment) : Type 0 where
+  pub effects : List Note
+  pub none_sent : AllByRecursion (λ note. is_sent note ≡ false) effects
+  pub generation : ℕ
+  pub to : ℕ
+  pub bytes : List ℕ
+  pub is : now ≡ said (notes.Sent ((terms past).count + 1) generation (suc i) to bytes) ∷ (map said effects ++ said (notes.Got serial) ∷ past)
+  pub carries : CarriesOrb (map said effects ++ said (notes.Got serial) ∷ past) i slot one (payload_of bytes)
+
+pub record ResponsesLaw : Type 0 where
+  pub orbs : (line : ℕ) (run : Run) → IsRun run → (next : ℕ) (event : Event) (told : List (Option Told)) → IsDelivering event told → MayAll told (begun (after (beginning run) run.entries)) → (i : ℕ) → i < run.initiators → (serial : ℕ) (again : Bool) (one : Option Told) → (let s = after_all told (begun (after (beginning run) run.entries)) in (g : GetsRequest (map said s.world.fresh ++ asked next event ∷ history_of line run) s.world i serial) → (slot : ℕ) (found : Orb) → slot < 32 → IsRead g.access (start (windows.Orb slot)) 32 → prepared_in (map said s.world.fresh ++ asked next event ∷ history_of line run) i slot ≡ Some found → (host_reply (map said s.world.fresh ++ asked next event ∷ history_of line run) i g.access).rcode ≡ 0 → OrbIsRead (map said s.world.fresh ++ asked next event ∷ history_of line run) i serial slot found (map said (delivered serial again one s).world.fresh ++ asked next event ∷ history_of line run))
