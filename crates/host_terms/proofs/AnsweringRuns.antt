@@ -1,12 +1,14 @@
 -- In every run an initiator answers each request that it gets as the run terms say.
-use Rattle.std.proofs.Common.{arith, ◌≡◌, refl, sym, ap, subst, ◌∙◌, ℕ, suc, ◌+◌, ◌-◌, ◌^◌, ◌<◌, ◌≤◌, ◌≤◌, ◌==◌, ◌||◌, not, nat_lt, Bool, true, false, cond, List, [], ◌∷◌, ◌++◌, length, map, slice_set, Option, Some, None}
+use Rattle.std.proofs.Common.{arith, ◌≡◌, refl, sym, ap, subst, ◌∙◌, ℕ, suc, ◌+◌, ◌-◌, ◌*◌, ◌^◌, ◌<◌, ◌≤◌, ◌≤◌, ◌==◌, ◌||◌, not, nat_lt, Bool, true, false, cond, List, [], ◌∷◌, ◌++◌, length, map, take, drop, slice_set, Option, Some, None}
 use Rattle.std.proofs.lemmas.Bool.Decides.{nat_tests}
+use Rattle.std.proofs.lemmas.List.{take_all}
 use Rattle.std.specs.List.{AllByRecursion}
 use Rattle.async_packet.specs.Canon.{canon}
 use Rattle.async_packet.specs.Packet.{Packet, header_in, lock, read_block, read_block_response, read_quadlet, read_quadlet_response, lock_response, write_block, write_quadlet, write_response}
 use Rattle.bus_memory.specs.Memory as memories
 use Rattle.bus_memory.specs.declared.window.Window.TheVariants as windows
-use Rattle.bus_memory.specs.Windows.{start as start_of}
+use Rattle.bus_memory.specs.Windows.{start as start_of, window_at}
+use Rattle.bus_memory.proofs.Found.{window_here}
 use Rattle.bus_transactions.specs.May.{is_plain, is_reset}
 use Rattle.bus_transactions.specs.Reached.{IsOf}
 use Rattle.bus_transactions.specs.Steps.{ArePlainSides}
@@ -16,6 +18,9 @@ use Rattle.bus_transactions.proofs.PacketParts.{part_read}
 use Rattle.bus_transactions.proofs.Reaches.{goes_on}
 use Rattle.label_table.specs.Bodies.{response_to}
 use Rattle.orb_layout.specs.CommandOrbs.{command_orb}
+use Rattle.orb_layout.specs.Pointers.{pointer_at}
+use Rattle.orb_layout.specs.declared.command.CommandOrb.{CommandOrb}
+use Rattle.orb_list.specs.Layout.{table_bytes}
 use Rattle.packet_store.specs.Kept.{is_flying}
 use Rattle.packet_store.specs.Stored.{Stored, deliver_step}
 use Rattle.rbc_disk.specs.Disk.{Disk}
@@ -27,6 +32,7 @@ use Rattle.sbp_journal.specs.Transactions.{Sending, part_in, part_of}
 use Rattle.sbp_journal.specs.Wire.{Terms, terms}
 use Rattle.sbp_journal.specs.declared.cause.Judged.{Judged}
 use Rattle.sbp_journal.specs.declared.cause.Judged.TheVariants as judgements
+use Rattle.sbp_journal.specs.declared.event.Cmd.{Cmd}
 use Rattle.sbp_journal.specs.declared.event.Event.{Event}
 use Rattle.sbp_journal.specs.declared.event.Event.TheVariants as events
 use Rattle.sbp_journal.specs.declared.note.Note.{Note}
@@ -40,11 +46,11 @@ use Rattle.sbp_bus.specs.Generations.{GenerationsState, node_of, topology_at}
 use Rattle.sbp_bus.specs.Packets.{judged_note}
 use Rattle.sbp_laws.specs.CarriedBytes.{IsRead}
 use Rattle.sbp_laws.specs.CarriedLaw.{IsAsAppended}
-use Rattle.sbp_laws.specs.Lists.{Orb, prepared_in}
+use Rattle.sbp_laws.specs.Lists.{Orb, command_at, prepared_in}
 use Rattle.sbp_laws.specs.JudgementLaw.{answer_packet}
 use Rattle.sbp_laws.specs.Packets.{access_in, id_of, packet_in, spelled_by}
 use Rattle.sbp_laws.specs.SentAnswers.{Begins, answers_to, is_answered, reply_in, reply_packet}
-use Rattle.sbp_laws.specs.Served.{Reply, host_reply}
+use Rattle.sbp_laws.specs.Served.{Reply, host_reply, orb_in_slot, table_held, table_in_slot, window_gives}
 use Rattle.sbp_laws.specs.Turns.{is_sent, sends_of, turn}
 use Rattle.sbp_world.specs.declared.parts.delivering.Arrival.{Arrival}
 use Rattle.sbp_world.specs.Delivering.{arrived, at_initiator, at_none, at_target, delivered, delivered_by, initiator_received, initiators_received, listed, received_by, received_step, target_received}
@@ -69,10 +75,10 @@ use Rattle.initiator_laws.specs.Laws.{Call, after as laws_after}
 use Rattle.host_terms.specs.Answering.{AnsweringLaw, GetsRequest, IsAnswered, IsDelivering, in_order}
 use Rattle.host_terms.specs.Calls.{behind}
 use Rattle.host_terms.specs.Handing.{AreNotes, history}
-use Rattle.host_terms.specs.Orbs.{HoldsOrbs, StandsIn, orb_for, request_of as request_for}
+use Rattle.host_terms.specs.Orbs.{HoldsOrbs, StandsIn, next_of, orb_for, request_of as request_for}
 use Rattle.host_terms.specs.Reads.{IsReadBy}
 use Rattle.host_terms.specs.Refusing.{initiator_of}
-use Rattle.host_terms.specs.Responses.{CarriesOrb, OrbIsRead, ResponsesLaw, payload_of}
+use Rattle.host_terms.specs.Responses.{AreReads, CarriesOrb, IsReadWith, ResponsesLaw, payload_of}
 use Rattle.host_terms.specs.Runs.{IsRun}
 use Rattle.host_terms.proofs.Answering.{IsRequestFound, answer, none_is, request_of}
 use Rattle.host_terms.proofs.AnsweringBlocks.{answers}
@@ -85,7 +91,8 @@ use Rattle.host_terms.proofs.OrbFits.{format_in, next_in}
 use Rattle.host_terms.proofs.OrbTells as tell
 use Rattle.host_terms.proofs.OrbTerms.{OrbTerms, orb_terms, still_left}
 use Rattle.host_terms.proofs.Orbs.{orbs_held, orbs_law}
-use Rattle.host_terms.proofs.ResponseBytes.{block_read, payload_is}
+use Rattle.host_terms.proofs.MemoryOrbs.{table_size}
+use Rattle.host_terms.proofs.ResponseBytes.{asked_most, block_read, front_pointer, front_short, payload_is}
 use Rattle.host_terms.proofs.OrbRuns.{id_known, orbs_between, orbs_carried, orbs_of_runs}
 use Rattle.host_terms.proofs.Requested.{all_told_bus}
 use Rattle.host_terms.proofs.Runs.{are_told, count_after, count_between, run_law}
@@ -312,66 +319,117 @@ module _ {past : List Moment} {lines : ℕ} (s : Scene) (sound : Sound past line
     };
   }
 
-  -- ---- a read of an ORB
+  -- ---- a read of a slot
 
-  module _ (slot : ℕ) (found : Orb) (b : slot < 32) (reads : IsRead g.access (start_of (windows.Orb slot)) 32) (prepared : prepared_in H i slot ≡ Some found) (stand : StandsIn H i old.lists.memory slot found) (complete : own_reply.rcode ≡ 0) where
+  abbrev before_it : List Moment
+  before_it = map said effects ++ said (notes.Got serial) ∷ H
+
+  -- what the initiator tells leaves the ORBs
+  same_orbs : orb_terms before_it i ≡ orb_terms H i
+  same_orbs =
+      ap (λ ms. orb_terms ms i) (sym (behind_on r.1.0.sides [] (said (notes.Got serial) ∷ H)))
+      ∙ still_left r.1.0.sides (said (notes.Got serial) ∷ H) i (tell.receives g.sent.generation g.sent.bytes empty_outbox old tt)
+
+  abbrev leaving : List ℕ
+  leaving = canon (response_to (id_of t (suc i)) p own_reply.rcode own_reply.given)
+
+  payload : (address count : ℕ) (given : List ℕ) → IsRead g.access address count → own_reply.rcode ≡ 0 → own_reply.given ≡ given → length given ≤ 2048 → payload_of leaving ≡ given
+  payload address count given reads complete gives long =
+      payload_is g.sent.bytes p request.read (stands.is.knows.ours serial q was_there).bytes (id_of t (suc i))
+      (subst (λ x. x < 2 ^ 16) id_is (sound.nodes.own.holds i inside).layer.small)
+      address count (block_read H i p g.access address count g.asks_for reads complete) given long own_reply.rcode own_reply.given complete gives
+
+  is_read_with : (Carried : List Moment → List ℕ → Type 0) → Carried before_it (payload_of leaving) → IsReadWith H i serial Carried (history (delivered serial again told s).world past)
+  is_read_with Carried carries = record {
+    effects = effects;
+    none_sent = none_on r.1.0.sides [] plain tt;
+    generation = t.generation (suc i);
+    to = g.sent.from;
+    bytes = leaving;
+    is = shows;
+    carries = carries;
+  }
+
+  module _ (slot : ℕ) (found : Orb) (b : slot < 32) (prepared : prepared_in H i slot ≡ Some found) (stand : StandsIn H i old.lists.memory slot found) (complete : own_reply.rcode ≡ 0) where
     abbrev orb : List ℕ
     orb = (memories.slot_at old.lists.memory slot).orb
 
-    given_is : own_reply.given ≡ orb
-    given_is = known.carries g.access slot found b prepared reads.from reads.size ∙ sym (known.held slot found b prepared).orb
+    abbrev n : ℕ
+    n = found.list
 
-    long : length orb ≤ 2048
-    long = let z : length orb ≡ 32 = stand.size in omega arith
+    abbrev k : ℕ
+    k = found.number
 
-    abbrev leaving : List ℕ
-    leaving = canon (response_to (id_of t (suc i)) p own_reply.rcode own_reply.given)
+    orb_payload : IsRead g.access (start_of (windows.Orb slot)) 32 → payload_of leaving ≡ orb
+    orb_payload reads =
+        let size : length orb ≡ 32 = stand.size in
+        payload (start_of (windows.Orb slot)) 32 orb reads complete
+        (known.carries g.access slot found b prepared reads.from reads.size ∙ sym (known.held slot found b prepared).orb) (omega arith)
 
-    payload : payload_of leaving ≡ orb
-    payload =
-        payload_is g.sent.bytes p request.read (stands.is.knows.ours serial q was_there).bytes (id_of t (suc i))
-        (subst (λ x. x < 2 ^ 16) id_is (sound.nodes.own.holds i inside).layer.small)
-        (start_of (windows.Orb slot)) 32 (block_read H i p g.access (start_of (windows.Orb slot)) 32 g.asks_for reads complete) orb long own_reply.rcode own_reply.given complete given_is
-
-    abbrev before_it : List Moment
-    before_it = map said effects ++ said (notes.Got serial) ∷ H
-
-    -- what the initiator tells leaves the ORB
-    same_orbs : orb_terms before_it i ≡ orb_terms H i
-    same_orbs =
-        ap (λ ms. orb_terms ms i) (sym (behind_on r.1.0.sides [] (said (notes.Got serial) ∷ H)))
-        ∙ still_left r.1.0.sides (said (notes.Got serial) ∷ H) i (tell.receives g.sent.generation g.sent.bytes empty_outbox old tt)
-
-    carries : CarriesOrb before_it i slot found (payload_of leaving)
-    carries =
-        let n = found.list in
-        let k = found.number in
+    carries_orb : IsRead g.access (start_of (windows.Orb slot)) 32 → CarriesOrb before_it i slot found (payload_of leaving)
+    carries_orb reads =
+        let is = orb_payload reads in
         record {
-          size = ap length payload ∙ stand.size;
+          size = ap length is ∙ stand.size;
           cmd = stand.cmd;
           fits = stand.fits;
           place = ap (λ (x : OrbTerms). x.place n k) same_orbs ∙ stand.place;
           command = ap (λ (x : OrbTerms). x.command n k) same_orbs ∙ stand.command;
           request = ap (λ (x : OrbTerms). x.request n k) same_orbs ∙ stand.request;
           node = stand.node;
-          orb = ap command_orb payload ∙ (stand.orb ∙ sym (ap (λ (x : OrbTerms). orb_for stand.cmd stand.node slot (next_in x n k) (format_in x n k)) same_orbs));
-          as_appended = subst (λ x. IsAsAppended (command_orb x) (request_for stand.cmd)) (sym payload) stand.as_appended;
+          orb = ap command_orb is ∙ (stand.orb ∙ sym (ap (λ (x : OrbTerms). orb_for stand.cmd stand.node slot (next_in x n k) (format_in x n k)) same_orbs));
+          as_appended = subst (λ x. IsAsAppended (command_orb x) (request_for stand.cmd)) (sym is) stand.as_appended;
         }
 
-    pub orb_is_read : OrbIsRead H i serial slot found (history (delivered serial again told s).world past)
-    orb_is_read = record {
-      effects = effects;
-      none_sent = none_on r.1.0.sides [] plain tt;
-      generation = t.generation (suc i);
-      to = g.sent.from;
-      bytes = leaving;
-      is = shows;
-      carries = carries;
+    -- a next pointer
+    pointer_window : IsRead g.access (start_of (windows.Orb slot)) 8 → own_reply.given ≡ take 8 orb
+    pointer_window reads =
+        let at = reads.from in
+        let held = orb_in_slot H i slot (prepared_in H i slot) in
+        let zero : g.access.offset - start_of (windows.Orb slot) ≡ 0 = omega arith in
+        ap (window_gives H i g.access) (ap window_at at ∙ window_here old.lists.memory (start_of (windows.Orb slot)) (windows.Orb slot) b (omega arith) (omega arith))
+        ∙ (ap (λ m. take m (drop (g.access.offset - start_of (windows.Orb slot)) held)) reads.size
+        ∙ (ap (λ m. take 8 (drop m held)) zero ∙ ap (take 8) (sym (known.held slot found b prepared).orb)))
+
+    carries_pointer : IsRead g.access (start_of (windows.Orb slot)) 8 → pointer_at (payload_of leaving) 0 ≡ next_of before_it i n k
+    carries_pointer reads =
+        let size : length orb ≡ 32 = stand.size in
+        ap (λ xs. pointer_at xs 0) (payload (start_of (windows.Orb slot)) 8 (take 8 orb) reads complete (pointer_window reads) (front_short orb 2048 (omega arith) 8))
+        ∙ (front_pointer orb
+        ∙ (ap (λ (x : CommandOrb). x.next) stand.orb ∙ sym (ap (λ (x : OrbTerms). next_in x n k) same_orbs)))
+
+    -- a page table
+    table_window : (cmd : Cmd) → command_at H i n k ≡ Some cmd → IsRead g.access (start_of (windows.Table slot)) (8 * length cmd.segments) → own_reply.given ≡ table_bytes slot 0 cmd.segments
+    table_window cmd is reads =
+        let at = reads.from in
+        let table = table_bytes slot 0 cmd.segments in
+        let zero : g.access.offset - start_of (windows.Table slot) ≡ 0 = omega arith in
+        let size : length table ≡ 8 * length cmd.segments = table_size slot 0 cmd.segments in
+        ap (window_gives H i g.access) (ap window_at at ∙ window_here old.lists.memory (start_of (windows.Table slot)) (windows.Table slot) b (omega arith) (omega arith))
+        ∙ (ap (λ x. take g.access.count (drop (g.access.offset - start_of (windows.Table slot)) (table_in_slot H i slot x))) prepared
+        ∙ (ap (λ x. take g.access.count (drop (g.access.offset - start_of (windows.Table slot)) (table_held slot x))) is
+        ∙ (ap (λ m. take m (drop (g.access.offset - start_of (windows.Table slot)) table)) reads.size
+        ∙ (ap (λ m. take (8 * length cmd.segments) (drop m table)) zero ∙ take_all (8 * length cmd.segments) table (omega arith)))))
+
+    -- it is no longer than a packet may ask for
+    table_long : (cmd : Cmd) → IsRead g.access (start_of (windows.Table slot)) (8 * length cmd.segments) → length (table_bytes slot 0 cmd.segments) ≤ 2048
+    table_long cmd reads =
+        let size : length (table_bytes slot 0 cmd.segments) ≡ 8 * length cmd.segments = table_size slot 0 cmd.segments in
+        let most = asked_most g.sent.bytes p request.read (start_of (windows.Table slot)) (8 * length cmd.segments) (block_read H i p g.access (start_of (windows.Table slot)) (8 * length cmd.segments) g.asks_for reads complete) in
+        omega arith
+
+    pub are_reads : AreReads H i serial slot found g.access (history (delivered serial again told s).world past)
+    are_reads = record {
+      orb = λ reads. is_read_with (λ ms bytes. CarriesOrb ms i slot found bytes) (carries_orb reads);
+      pointer = λ reads. is_read_with (λ ms bytes. pointer_at bytes 0 ≡ next_of ms i found.list found.number) (carries_pointer reads);
+      table = λ cmd is reads.
+          is_read_with (λ ms bytes. bytes ≡ table_bytes slot 0 cmd.segments)
+          (payload (start_of (windows.Table slot)) (8 * length cmd.segments) (table_bytes slot 0 cmd.segments) reads complete (table_window cmd is reads) (table_long cmd reads));
     }
 
--- what stands behind a request that an initiator gets, and behind a read of an ORB
+-- what stands behind a request that an initiator gets, and behind a read of a slot
 abbrev Serves : List Moment → WorldState → (i serial : ℕ) → List Moment → Type 0
-Serves ms w i serial now = (g : GetsRequest ms w i serial) → IsAnswered ms serial now × ((slot : ℕ) (found : Orb) → slot < 32 → IsRead g.access (start_of (windows.Orb slot)) 32 → prepared_in ms i slot ≡ Some found → (host_reply ms i g.access).rcode ≡ 0 → OrbIsRead ms i serial slot found now)
+Serves ms w i serial now = (g : GetsRequest ms w i serial) → IsAnswered ms serial now × ((slot : ℕ) (found : Orb) → slot < 32 → prepared_in ms i slot ≡ Some found → (host_reply ms i g.access).rcode ≡ 0 → AreReads ms i serial slot found g.access now)
 
 -- ---- a run
 
@@ -385,7 +443,7 @@ all_sound (told ∷ before) t s sound r =
 at_scene : {lines : ℕ} (next : ℕ) (event : Event) (s : Scene) (ms others : List Moment) → ms ≡ others → Sound (asked next event ∷ ms) lines s.world → (i : ℕ) → i < length s.world.initiators → (serial : ℕ) (again : Bool) (one : Option Told) → (initiator_at s.world i).counts.logins ≤ 2 ^ 32 → IsReadBy (map said s.world.fresh ++ asked next event ∷ others) i (initiator_at s.world i) → HoldsOrbs (map said s.world.fresh ++ asked next event ∷ others) i (initiator_at s.world i) → Serves (map said s.world.fresh ++ asked next event ∷ others) s.world i serial (map said (delivered serial again one s).world.fresh ++ asked next event ∷ others)
 at_scene next event s ms others e sound i inside serial again one few =
     subst (λ x. IsReadBy (map said s.world.fresh ++ asked next event ∷ x) i (initiator_at s.world i) → HoldsOrbs (map said s.world.fresh ++ asked next event ∷ x) i (initiator_at s.world i) → Serves (map said s.world.fresh ++ asked next event ∷ x) s.world i serial (map said (delivered serial again one s).world.fresh ++ asked next event ∷ x)) e
-    (λ known held g. (is_answered_here s sound i inside known few serial again one g, λ slot found b reads prepared complete. orb_is_read s sound i inside known few serial again one g slot found b reads prepared (held.stands slot found b prepared) complete))
+    (λ known held g. (is_answered_here s sound i inside known few serial again one g, λ slot found b prepared complete. are_reads s sound i inside known few serial again one g slot found b prepared (held.stands slot found b prepared) complete))
 
 module _ (line : ℕ) (run : Run) (q : IsRun run) (next : ℕ) (i : ℕ) (b : i < run.initiators) (serial : ℕ) (again : Bool) (one : Option Told) where
   abbrev start : Scene
@@ -452,6 +510,6 @@ answering_law = record { answers = λ line run q next event told d m i b serial 
 
 pub responses_law : ResponsesLaw
 responses_law = record {
-  orbs = λ line run q next event told d m i b serial again one g slot found small reads prepared complete.
-      (run_answers line run q next i b serial again one event told d m g).1 slot found small reads prepared complete;
+  reads = λ line run q next event told d m i b serial again one g slot found small prepared complete.
+      (run_answers line run q next i b serial again one event told d m g).1 slot found small prepared complete;
 }

@@ -1,6 +1,5 @@
 -- In every run what the history says of the ORBs of an initiator lasts.
-use Rattle.std.proofs.Common.{arith, ◌≡◌, refl, sym, ap, subst, ◌∙◌, ℕ, zero, suc, ◌+◌, ◌-◌, ◌<◌, ◌==◌, not, is_some, Bool, true, false, List, [], ◌∷◌, ◌++◌, Option, Some, None}
-use Rattle.async_packet.specs.Labels.{LabelParts}
+use Rattle.std.proofs.Common.{arith, ◌≡◌, refl, sym, ap, subst, ◌∙◌, ℕ, zero, suc, ◌+◌, ◌-◌, ◌==◌, not, is_some, Bool, true, false, List, [], ◌∷◌, ◌++◌, Option, Some, None}
 use Rattle.orb_list.specs.declared.list.Linking.{Linking}
 use Rattle.orb_list.specs.Table.{SlotTable, orb_number, waits_high}
 use Rattle.sbp_initiator.specs.declared.state.InitiatorState.{InitiatorState}
@@ -17,12 +16,10 @@ use Rattle.sbp_journal.specs.declared.event.Action.{Action}
 use Rattle.sbp_journal.specs.declared.event.Action.TheVariants as actions
 use Rattle.sbp_journal.specs.declared.event.Cmd.{Cmd}
 use Rattle.sbp_journal.specs.declared.event.Event.TheVariants as events
-use Rattle.sbp_journal.specs.declared.note.Note.{Note}
 use Rattle.sbp_journal.specs.declared.note.Note.TheVariants as notes
 use Rattle.sbp_laws.specs.Actions.{action_notes, append_notes, new_list, new_number}
 use Rattle.sbp_laws.specs.Terms.{appends}
 use Rattle.sbp_laws.specs.Turns.{event_of}
-use Rattle.sbp_world.specs.Runs.{Run}
 use Rattle.initiator_laws.specs.Ends.{own}
 use Rattle.host_terms.specs.Calls.{behind}
 use Rattle.host_terms.specs.Fits.{AreRows}

@@ -1,8 +1,8 @@
 -- The payload of the response to a block read that is complete.
-use Rattle.std.proofs.Common.{arith, ◌≡◌, refl, sym, ap, subst, ◌∙◌, ℕ, suc, ◌+◌, ◌^◌, ◌<◌, ◌≤◌, Bool, true, false, List, [], ◌∷◌, length, Option, Some, None, Result, Ok}
+use Rattle.std.proofs.Common.{arith, ◌≡◌, refl, sym, ap, ◌∙◌, ℕ, zero, suc, ◌-◌, ◌^◌, ◌<◌, ◌≤◌, Bool, true, false, List, [], ◌∷◌, length, take, Option, Some, None, Ok}
 use Rattle.async_packet.specs.Canon.{FitsHeader, IsValid, canon}
 use Rattle.async_packet.specs.Fields.{largest}
-use Rattle.async_packet.specs.Packet.{Packet, header_in, lock, lock_response, read_block, read_block_response, read_quadlet, read_quadlet_response, write_block, write_quadlet, write_response}
+use Rattle.async_packet.specs.Packet.{Packet, lock, lock_response, read_block, read_block_response, read_quadlet, read_quadlet_response, write_block, write_quadlet, write_response}
 use Rattle.async_packet.specs.Reading.{reading}
 use Rattle.async_packet.specs.declared.packet.Header.{Header}
 use Rattle.async_packet.proofs.RoundTrip.{canon_spells}
@@ -11,6 +11,7 @@ use Rattle.bus_transactions.specs.Fitting.{AreBytes}
 use Rattle.bus_transactions.proofs.FitJudged.{is_request, source_fits}
 use Rattle.label_table.specs.Bodies.{header_to, response_to}
 use Rattle.label_table.proofs.Requests.{label_spelled}
+use Rattle.orb_layout.specs.Pointers.{pointer_at}
 use Rattle.sbp_journal.specs.Addresses.{Access, access_of}
 use Rattle.sbp_journal.specs.Run.{Moment}
 use Rattle.sbp_laws.specs.CarriedBytes.{IsRead, bytes_in}
@@ -66,6 +67,13 @@ block_read past i (read_quadlet_response header rcode value) access address coun
 block_read past i (read_block_response header rcode payload) access address count e r z = absurd (none_is e)
 block_read past i (lock_response header rcode extended payload) access address count e r z = absurd (none_is e)
 
+-- it asks for no more than a packet carries
+pub asked_most : (bytes : List ℕ) (p : Packet) → reading bytes ≡ Ok p → (address count : ℕ) → IsBlockRead p address count → count ≤ 2048
+asked_most bytes p read address count b =
+    let f = is_request bytes (read_block b.header address count) (read ∙ ap (λ x. Ok x) b.is) refl in
+    let most : count ≤ largest = f.spelled.3 in
+    most
+
 -- ---- the response
 
 module _ (bytes : List ℕ) (p : Packet) (read : reading bytes ≡ Ok p) (are : AreBytes bytes) (own : ℕ) (small : own < 2 ^ 16) (address count : ℕ) (b : IsBlockRead p address count) (given : List ℕ) (long : length given ≤ largest) where
@@ -96,3 +104,22 @@ module _ (bytes : List ℕ) (p : Packet) (read : reading bytes ≡ Ok p) (are : 
       ∙ (ap (λ x. payload_of (canon (response_to own request x gives))) z
       ∙ (ap (λ x. payload_of (canon (response_to own request 0 x))) e
       ∙ ap (λ x. bytes_in (answer_in (spelled_by x))) (reading_spelled (canon reply) reply (canon_spells reply valid))))
+
+-- ---- a next pointer is read of the first 8 bytes of its ORB
+
+pub front_pointer : (xs : List ℕ) → pointer_at (take 8 xs) 0 ≡ pointer_at xs 0
+front_pointer [] = refl
+front_pointer (a ∷ []) = refl
+front_pointer (a ∷ b ∷ []) = refl
+front_pointer (a ∷ b ∷ c ∷ []) = refl
+front_pointer (a ∷ b ∷ c ∷ d ∷ []) = refl
+front_pointer (a ∷ b ∷ c ∷ d ∷ e ∷ []) = refl
+front_pointer (a ∷ b ∷ c ∷ d ∷ e ∷ f ∷ []) = refl
+front_pointer (a ∷ b ∷ c ∷ d ∷ e ∷ f ∷ g ∷ []) = refl
+front_pointer (a ∷ b ∷ c ∷ d ∷ e ∷ f ∷ g ∷ h ∷ rest) = refl
+
+pub front_short : (xs : List ℕ) (n : ℕ) → length xs ≤ n → (k : ℕ) → length (take k xs) ≤ n
+front_short [] n h zero = h
+front_short [] n h (suc k) = h
+front_short (x ∷ xs) n h zero = omega arith
+front_short (x ∷ xs) n h (suc k) = let f = front_short xs (n - 1) (omega arith) k in omega arith

@@ -1,7 +1,7 @@
 -- What stays true of the ORBs of an initiator, in every run (NCITS 325-1998, ORBs in the memory of the initiator). An ORB that was appended keeps
 -- its slot, its command, what it asks for and the node ID of its append for good, and one that was made a dummy stays one. Of no list fewer ORBs
 -- are appended or linked later. So a next pointer that was the address of the ORB behind one is so for good.
-use Rattle.std.specs.Prelude.{◌≡◌, ◌<◌, ◌≤◌, ℕ, suc, true, List, ◌∷◌, ◌++◌, map, Option}
+use Rattle.std.specs.Prelude.{◌≡◌, ◌<◌, ◌≤◌, ℕ, true, List, ◌∷◌, ◌++◌, map, Option}
 use Rattle.orb_layout.specs.declared.pointer.OrbPointer.TheVariants.{At}
 use Rattle.rbc_disk.specs.Runs.{Told}
 use Rattle.sbp_journal.specs.Run.{Moment, asked, said}

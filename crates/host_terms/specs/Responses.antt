@@ -1,14 +1,18 @@
--- What the response to a read of an ORB carries, in every run (NCITS 325-1998, command block ORB). In a delivery at which an initiator gets a
--- block read of the 32 bytes of a slot that an ORB was prepared in, and that is complete, the packet that is told behind what the initiator
--- tells is the next one, of this initiator; and its payload spells that ORB as it stands before this packet is sent: the command, the direction and
--- the buffer of its append, the next pointer and the format of that time.
-use Rattle.std.specs.Prelude.{◌≡◌, ◌<◌, ℕ, suc, ◌+◌, Bool, false, List, ◌∷◌, ◌++◌, length, map, Option, Some}
+-- What the response to a read of an ORB carries, in every run (NCITS 325-1998, command block ORB and page tables). In a delivery at which an
+-- initiator gets a block read that is complete, of a slot that an ORB was prepared in, the packet that is told behind what the initiator tells
+-- is the next one, of this initiator. The payload of the response to a read of the 32 bytes of the slot's ORB spells that ORB as it stands before
+-- this packet is sent: the command, the direction and the buffer of its append, and the next pointer and the format of that time. A read of the
+-- 8 bytes of its next pointer carries that pointer, and a read of its whole page table that table.
+use Rattle.std.specs.Prelude.{◌≡◌, ◌<◌, ℕ, suc, ◌+◌, ◌*◌, Bool, false, List, ◌∷◌, ◌++◌, length, map, Option, Some}
 use Rattle.std.specs.List.{AllByRecursion}
 use Rattle.async_packet.specs.Reading.{reading}
 use Rattle.bus_memory.specs.declared.window.Window.TheVariants as windows
 use Rattle.bus_memory.specs.Windows.{start}
 use Rattle.orb_layout.specs.CommandOrbs.{command_orb}
+use Rattle.orb_layout.specs.Pointers.{pointer_at}
+use Rattle.orb_list.specs.Layout.{table_bytes}
 use Rattle.rbc_disk.specs.Runs.{Told}
+use Rattle.sbp_journal.specs.Addresses.{Access}
 use Rattle.sbp_journal.specs.Run.{Moment, asked, said}
 use Rattle.sbp_journal.specs.Wire.{terms}
 use Rattle.sbp_journal.specs.declared.event.Cmd.{Cmd}
@@ -48,15 +52,21 @@ pub record CarriesOrb (before : List Moment) (i slot : ℕ) (one : Orb) (payload
   pub orb : command_orb payload ≡ orb_for cmd node slot (next_of before i one.list one.number) (format_of before i one.list one.number)
   pub as_appended : IsAsAppended (command_orb payload) (request_of cmd)
 
--- What stands behind the history in which the read is got: the note of that, what the initiator tells, which is no packet, and the response.
-pub record OrbIsRead (past : List Moment) (i serial slot : ℕ) (one : Orb) (now : List Moment) : Type 0 where
+-- What stands behind the history in which a read is got: the note of that, what the initiator tells, which is no packet, and the response. Its
+-- payload carries something of the history before it.
+pub record IsReadWith (past : List Moment) (i serial : ℕ) (Carries : List Moment → List ℕ → Type 0) (now : List Moment) : Type 0 where
   pub effects : List Note
   pub none_sent : AllByRecursion (λ note. is_sent note ≡ false) effects
   pub generation : ℕ
   pub to : ℕ
   pub bytes : List ℕ
   pub is : now ≡ said (notes.Sent ((terms past).count + 1) generation (suc i) to bytes) ∷ (map said effects ++ said (notes.Got serial) ∷ past)
-  pub carries : CarriesOrb (map said effects ++ said (notes.Got serial) ∷ past) i slot one (payload_of bytes)
+  pub carries : Carries (map said effects ++ said (notes.Got serial) ∷ past) (payload_of bytes)
+
+pub record AreReads (past : List Moment) (i serial slot : ℕ) (one : Orb) (access : Access) (now : List Moment) : Type 0 where
+  pub orb : IsRead access (start (windows.Orb slot)) 32 → IsReadWith past i serial (λ before payload. CarriesOrb before i slot one payload) now
+  pub pointer : IsRead access (start (windows.Orb slot)) 8 → IsReadWith past i serial (λ before payload. pointer_at payload 0 ≡ next_of before i one.list one.number) now
+  pub table : (cmd : Cmd) → command_at past i one.list one.number ≡ Some cmd → IsRead access (start (windows.Table slot)) (8 * length cmd.segments) → IsReadWith past i serial (λ before payload. payload ≡ table_bytes slot 0 cmd.segments) now
 
 pub record ResponsesLaw : Type 0 where
-  pub orbs : (line : ℕ) (run : Run) → IsRun run → (next : ℕ) (event : Event) (told : List (Option Told)) → IsDelivering event told → MayAll told (begun (after (beginning run) run.entries)) → (i : ℕ) → i < run.initiators → (serial : ℕ) (again : Bool) (one : Option Told) → (let s = after_all told (begun (after (beginning run) run.entries)) in (g : GetsRequest (map said s.world.fresh ++ asked next event ∷ history_of line run) s.world i serial) → (slot : ℕ) (found : Orb) → slot < 32 → IsRead g.access (start (windows.Orb slot)) 32 → prepared_in (map said s.world.fresh ++ asked next event ∷ history_of line run) i slot ≡ Some found → (host_reply (map said s.world.fresh ++ asked next event ∷ history_of line run) i g.access).rcode ≡ 0 → OrbIsRead (map said s.world.fresh ++ asked next event ∷ history_of line run) i serial slot found (map said (delivered serial again one s).world.fresh ++ asked next event ∷ history_of line run))
+  pub reads : (line : ℕ) (run : Run) → IsRun run → (next : ℕ) (event : Event) (told : List (Option Told)) → IsDelivering event told → MayAll told (begun (after (beginning run) run.entries)) → (i : ℕ) → i < run.initiators → (serial : ℕ) (again : Bool) (one : Option Told) → (let s = after_all told (begun (after (beginning run) run.entries)) in (g : GetsRequest (map said s.world.fresh ++ asked next event ∷ history_of line run) s.world i serial) → (slot : ℕ) (found : Orb) → slot < 32 → prepared_in (map said s.world.fresh ++ asked next event ∷ history_of line run) i slot ≡ Some found → (host_reply (map said s.world.fresh ++ asked next event ∷ history_of line run) i g.access).rcode ≡ 0 → AreReads (map said s.world.fresh ++ asked next event ∷ history_of line run) i serial slot found g.access (map said (delivered serial again one s).world.fresh ++ asked next event ∷ history_of line run))
