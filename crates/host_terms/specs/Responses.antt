@@ -20,7 +20,7 @@ use Rattle.sbp_journal.specs.declared.event.Event.{Event}
 use Rattle.sbp_journal.specs.declared.note.Note.{Note}
 use Rattle.sbp_journal.specs.declared.note.Note.TheVariants as notes
 use Rattle.sbp_initiator.specs.Commands.{IsCommand}
-use Rattle.sbp_laws.specs.CarriedBytes.{IsRead, bytes_in}
+use Rattle.sbp_laws.specs.CarriedBytes.{IsRead, before_sent, bytes_in, payload_at}
 use Rattle.sbp_laws.specs.CarriedLaw.{IsAsAppended}
 use Rattle.sbp_laws.specs.Lists.{Orb, command_at, prepared_in, slot_at}
 use Rattle.sbp_laws.specs.Packets.{answer_in, spelled_by}
@@ -61,6 +61,10 @@ pub record IsReadWith (past : List Moment) (i serial : ℕ) (Carries : List Mome
   pub to : ℕ
   pub bytes : List ℕ
   pub is : now ≡ said (notes.Sent ((terms past).count + 1) generation (suc i) to bytes) ∷ (map said effects ++ said (notes.Got serial) ∷ past)
+  -- by the terms of the wire it answers this read, and its payload and the history before it are these
+  pub answers : (terms now).answers ((terms past).count + 1) ≡ Some serial
+  pub payload : payload_at (terms now) ((terms past).count + 1) ≡ payload_of bytes
+  pub before : before_sent now ((terms past).count + 1) ≡ map said effects ++ said (notes.Got serial) ∷ past
   pub carries : Carries (map said effects ++ said (notes.Got serial) ∷ past) (payload_of bytes)
 
 pub record AreReads (past : List Moment) (i serial slot : ℕ) (one : Orb) (access : Access) (now : List Moment) : Type 0 where
