@@ -70,3 +70,4 @@ pub mod ResponseTerms
 pub mod AnsweringRuns
 pub mod LastingTerms
 pub mod Lasting
+pub mod Remaining

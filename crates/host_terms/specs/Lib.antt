@@ -18,4 +18,5 @@ pub mod Orbs
 pub mod Reads
 pub mod Answering
 pub mod Responses
+pub mod Remaining
 pub mod Lasting

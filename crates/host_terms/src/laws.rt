@@ -14,6 +14,7 @@ ghost use Rattle.host_terms.specs.Orbs.{OrbsLaw};
 ghost use Rattle.host_terms.specs.Reading.{ReadLaw};
 ghost use Rattle.host_terms.specs.Reads.{MemoryLaw};
 ghost use Rattle.host_terms.specs.Refusing.{RunActionLaw};
+ghost use Rattle.host_terms.specs.Remaining.{RemainingLaw};
 ghost use Rattle.host_terms.specs.Responses.{ResponsesLaw};
 ghost use Rattle.host_terms.specs.Runs.{RunLaw};
 ghost use Rattle.host_terms.specs.Steps.{StepLaw};
@@ -162,4 +163,11 @@ pub fn orbs_last()
 #[tactic(auto, using(crate::proofs::AnsweringRuns::responses_law))]
 pub fn responses_carry_their_orbs()
     ensures { ResponsesLaw }
+{}
+
+/// The law that in every run a packet that was sent keeps, by every later history, its bytes, the request that it answers,
+/// and the history before it.
+#[tactic(auto, using(crate::proofs::Remaining::remaining_law))]
+pub fn packets_remain()
+    ensures { RemainingLaw }
 {}
