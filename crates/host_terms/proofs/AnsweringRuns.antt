@@ -48,7 +48,7 @@ use Rattle.sbp_laws.specs.CarriedBytes.{IsRead, before_sent, payload_at}
 use Rattle.sbp_laws.specs.CarriedLaw.{IsAsAppended}
 use Rattle.sbp_laws.specs.Lists.{Orb, command_at, prepared_in}
 use Rattle.sbp_laws.specs.JudgementLaw.{answer_packet}
-use Rattle.sbp_laws.specs.Packets.{access_in, id_of, packet_in, spelled_by}
+use Rattle.sbp_laws.specs.Packets.{access_in, id_of, packet_in, sender_in, spelled_by}
 use Rattle.sbp_laws.specs.SentAnswers.{Begins, answers_to, is_answered, reply_in, reply_packet}
 use Rattle.sbp_laws.specs.Served.{Reply, host_reply, orb_in_slot, table_held, table_in_slot, window_gives}
 use Rattle.sbp_laws.specs.Turns.{is_sent, sends_of, turn}
@@ -355,8 +355,8 @@ module _ {past : List Moment} {lines : ℕ} (s : Scene) (sound : Sound past line
   is_read_with Carried carries = record {
     effects = effects;
     none_sent = none_on r.1.0.sides [] plain tt;
-    generation = t.generation (suc i);
     to = g.sent.from;
+    to_sender = ap sender_in was;
     bytes = leaving;
     is = shows;
     answers = subst (λ ms. (terms ms).answers (t.count + 1) ≡ Some serial) (sym shows) (answers_there H serial q was asks_it effects plain_effects (t.count + 1) (t.generation (suc i)) (suc i) g.sent.from leaving);
