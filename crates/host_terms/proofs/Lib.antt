@@ -71,3 +71,4 @@ pub mod AnsweringRuns
 pub mod LastingTerms
 pub mod Lasting
 pub mod Remaining
+pub mod Standing

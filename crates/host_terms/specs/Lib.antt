@@ -20,3 +20,4 @@ pub mod Answering
 pub mod Responses
 pub mod Remaining
 pub mod Lasting
+pub mod Standing
