@@ -44,11 +44,11 @@ use Rattle.sbp_initiator.specs.Effects.{Turn}
 use Rattle.sbp_initiator.specs.Receiving.{receive_step}
 use Rattle.sbp_bus.specs.Generations.{GenerationsState, node_of, topology_at}
 use Rattle.sbp_bus.specs.Packets.{judged_note}
-use Rattle.sbp_laws.specs.CarriedBytes.{IsRead}
+use Rattle.sbp_laws.specs.CarriedBytes.{IsRead, before_sent, payload_at}
 use Rattle.sbp_laws.specs.CarriedLaw.{IsAsAppended}
 use Rattle.sbp_laws.specs.Lists.{Orb, command_at, prepared_in}
 use Rattle.sbp_laws.specs.JudgementLaw.{answer_packet}
-use Rattle.sbp_laws.specs.Packets.{access_in, id_of, packet_in, spelled_by}
+use Rattle.sbp_laws.specs.Packets.{access_in, id_of, packet_in, sender_in, spelled_by}
 use Rattle.sbp_laws.specs.SentAnswers.{Begins, answers_to, is_answered, reply_in, reply_packet}
 use Rattle.sbp_laws.specs.Served.{Reply, host_reply, orb_in_slot, table_held, table_in_slot, window_gives}
 use Rattle.sbp_laws.specs.Turns.{is_sent, sends_of, turn}
@@ -95,6 +95,7 @@ use Rattle.host_terms.proofs.MemoryOrbs.{table_size}
 use Rattle.host_terms.proofs.ResponseBytes.{asked_most, block_read, front_pointer, front_short, payload_is}
 use Rattle.host_terms.proofs.OrbRuns.{id_known, orbs_between, orbs_carried, orbs_of_runs}
 use Rattle.host_terms.proofs.Requested.{all_told_bus}
+use Rattle.host_terms.proofs.ResponseTerms.{IsRequestPart, answers as answers_there, payload_there, request_part, stood_before}
 use Rattle.host_terms.proofs.Runs.{are_told, count_after, count_between, run_law}
 
 -- ---- what is told
@@ -122,6 +123,11 @@ none_on : (told : List Side) (ns : List Note) → ArePlainSides told → AllByRe
 none_on [] ns a n = n
 none_on (sides.Own note ∷ later) ns a n = none_on later (note ∷ ns) a.1 (plain_none note a.0, n)
 none_on (side ∷ later) ns a n = none_on later ns a.1 n
+
+plain_on : (told : List Side) (ns : List Note) → ArePlainSides told → AllByRecursion (λ note. is_plain note ≡ true) ns → AllByRecursion (λ note. is_plain note ≡ true) (notes_on told ns)
+plain_on [] ns a n = n
+plain_on (sides.Own note ∷ later) ns a n = plain_on later (note ∷ ns) a.1 (a.0, n)
+plain_on (side ∷ later) ns a n = plain_on later ns a.1 n
 
 -- behind notes that are no packets the packets are those that follow
 sends_last : (ns rest : List Note) → AllByRecursion (λ note. is_sent note ≡ false) ns → sends_of (in_order ns rest) ≡ sends_of rest
@@ -339,14 +345,23 @@ module _ {past : List Moment} {lines : ℕ} (s : Scene) (sound : Sound past line
       (subst (λ x. x < 2 ^ 16) id_is (sound.nodes.own.holds i inside).layer.small)
       address count (block_read H i p g.access address count g.asks_for reads complete) given long own_reply.rcode own_reply.given complete gives
 
+  asks_it : IsRequestPart (part_of q.bytes)
+  asks_it = request_part (part_of q.bytes) (ap is_answered (part_read g.sent.bytes p request.read) ∙ asks_part p g.access g.asks_for)
+
+  plain_effects : AllByRecursion (λ note. is_plain note ≡ true) effects
+  plain_effects = plain_on r.1.0.sides [] plain tt
+
   is_read_with : (Carried : List Moment → List ℕ → Type 0) → Carried before_it (payload_of leaving) → IsReadWith H i serial Carried (history (delivered serial again told s).world past)
   is_read_with Carried carries = record {
     effects = effects;
     none_sent = none_on r.1.0.sides [] plain tt;
-    generation = t.generation (suc i);
     to = g.sent.from;
+    to_sender = ap sender_in was;
     bytes = leaving;
     is = shows;
+    answers = subst (λ ms. (terms ms).answers (t.count + 1) ≡ Some serial) (sym shows) (answers_there H serial q was asks_it effects plain_effects (t.count + 1) (t.generation (suc i)) (suc i) g.sent.from leaving);
+    payload = subst (λ ms. payload_at (terms ms) (t.count + 1) ≡ payload_of leaving) (sym shows) (payload_there H serial q was asks_it effects plain_effects (t.count + 1) (t.generation (suc i)) (suc i) g.sent.from leaving);
+    before = subst (λ ms. before_sent ms (t.count + 1) ≡ before_it) (sym shows) (stood_before H serial q was asks_it effects plain_effects (t.count + 1) (t.generation (suc i)) (suc i) g.sent.from leaving);
     carries = carries;
   }
 

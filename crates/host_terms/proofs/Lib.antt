@@ -80,6 +80,9 @@ pub mod LoginCounts
 pub mod Answering
 pub mod AnsweringBlocks
 pub mod ResponseBytes
+pub mod ResponseTerms
 pub mod AnsweringRuns
 pub mod LastingTerms
 pub mod Lasting
+pub mod Remaining
+pub mod Standing

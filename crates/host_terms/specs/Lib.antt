@@ -19,4 +19,6 @@ pub mod Reads
 pub mod Answering
 pub mod PointerRuns
 pub mod Responses
+pub mod Remaining
 pub mod Lasting
+pub mod Standing

@@ -20,10 +20,10 @@ use Rattle.sbp_journal.specs.declared.event.Event.{Event}
 use Rattle.sbp_journal.specs.declared.note.Note.{Note}
 use Rattle.sbp_journal.specs.declared.note.Note.TheVariants as notes
 use Rattle.sbp_initiator.specs.Commands.{IsCommand}
-use Rattle.sbp_laws.specs.CarriedBytes.{IsRead, bytes_in}
+use Rattle.sbp_laws.specs.CarriedBytes.{IsRead, before_sent, bytes_in, payload_at}
 use Rattle.sbp_laws.specs.CarriedLaw.{IsAsAppended}
 use Rattle.sbp_laws.specs.Lists.{Orb, command_at, prepared_in, slot_at}
-use Rattle.sbp_laws.specs.Packets.{answer_in, spelled_by}
+use Rattle.sbp_laws.specs.Packets.{answer_in, sender_in, spelled_by}
 use Rattle.sbp_laws.specs.Served.{host_reply}
 use Rattle.sbp_laws.specs.Terms.{request_at}
 use Rattle.sbp_laws.specs.Turns.{is_sent}
@@ -57,10 +57,15 @@ pub record CarriesOrb (before : List Moment) (i slot : ℕ) (one : Orb) (payload
 pub record IsReadWith (past : List Moment) (i serial : ℕ) (Carries : List Moment → List ℕ → Type 0) (now : List Moment) : Type 0 where
   pub effects : List Note
   pub none_sent : AllByRecursion (λ note. is_sent note ≡ false) effects
-  pub generation : ℕ
+  -- it goes to the node that sent the read
   pub to : ℕ
+  pub to_sender : sender_in ((terms past).sent serial) ≡ Some to
   pub bytes : List ℕ
-  pub is : now ≡ said (notes.Sent ((terms past).count + 1) generation (suc i) to bytes) ∷ (map said effects ++ said (notes.Got serial) ∷ past)
+  pub is : now ≡ said (notes.Sent ((terms past).count + 1) ((terms past).generation (suc i)) (suc i) to bytes) ∷ (map said effects ++ said (notes.Got serial) ∷ past)
+  -- by the terms of the wire it answers this read, and its payload and the history before it are these
+  pub answers : (terms now).answers ((terms past).count + 1) ≡ Some serial
+  pub payload : payload_at (terms now) ((terms past).count + 1) ≡ payload_of bytes
+  pub before : before_sent now ((terms past).count + 1) ≡ map said effects ++ said (notes.Got serial) ∷ past
   pub carries : Carries (map said effects ++ said (notes.Got serial) ∷ past) (payload_of bytes)
 
 pub record AreReads (past : List Moment) (i serial slot : ℕ) (one : Orb) (access : Access) (now : List Moment) : Type 0 where

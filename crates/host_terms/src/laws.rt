@@ -15,8 +15,10 @@ ghost use Rattle.host_terms.specs.PointerRuns.{PointerRunLaw};
 ghost use Rattle.host_terms.specs.Reading.{ReadLaw};
 ghost use Rattle.host_terms.specs.Reads.{MemoryLaw};
 ghost use Rattle.host_terms.specs.Refusing.{RunActionLaw};
+ghost use Rattle.host_terms.specs.Remaining.{RemainingLaw};
 ghost use Rattle.host_terms.specs.Responses.{ResponsesLaw};
 ghost use Rattle.host_terms.specs.Runs.{RunLaw};
+ghost use Rattle.host_terms.specs.Standing.{StandingLaw};
 ghost use Rattle.host_terms.specs.Steps.{StepLaw};
 ghost use Rattle.host_terms.specs.Worlds.{WorldLaw};
 
@@ -170,4 +172,18 @@ pub fn orbs_last()
 #[tactic(auto, using(crate::proofs::AnsweringRuns::responses_law))]
 pub fn responses_carry_their_orbs()
     ensures { ResponsesLaw }
+{}
+
+/// The law that in every run a packet that was sent keeps, by every later history, its bytes, the request that it answers,
+/// and the history before it.
+#[tactic(auto, using(crate::proofs::Remaining::remaining_law))]
+pub fn packets_remain()
+    ensures { RemainingLaw }
+{}
+
+/// The law that in every run a response that was not injected is owed, and stands right behind the note that its request
+/// was got or ignored, with nothing of the bus between them.
+#[tactic(auto, using(crate::proofs::Standing::standing_law))]
+pub fn responses_stand_behind_requests()
+    ensures { StandingLaw }
 {}
