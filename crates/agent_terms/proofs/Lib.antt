@@ -64,3 +64,4 @@ pub mod Ceasing
 pub mod Agreeing
 pub mod Registering
 pub mod Runs
+pub mod AskedSteps

@@ -13,3 +13,4 @@ pub mod Purposes
 pub mod Serials
 pub mod Units
 pub mod Agents
+pub mod Asked

@@ -2,6 +2,7 @@
 ghost use Rattle.agent_terms.specs.Agents.{AgentsBetweenLaw, AgentsRunLaw, SerialsBetweenLaw, SerialsLaw};
 ghost use Rattle.agent_terms.specs.Alike.{AlikeLaw};
 ghost use Rattle.agent_terms.specs.Asides.{AsidesLaw};
+ghost use Rattle.agent_terms.specs.Asked.{UnderLaw};
 ghost use Rattle.agent_terms.specs.Calls.{AgentsLaw};
 ghost use Rattle.agent_terms.specs.Demands.{DemandsLaw};
 ghost use Rattle.agent_terms.specs.Enabled.{EnabledBetweenLaw, EnabledLaw, EnabledTermsBetweenLaw, EnabledTermsLaw};
@@ -179,4 +180,11 @@ pub fn enabled_registers_are_the_targets()
 /// And behind each delivery of a line that may follow.
 pub fn deliveries_keep_the_enabled_registers()
     ensures { EnabledTermsBetweenLaw }
+{}
+
+/// What an agent has under way behind a step is what the step asked for: its request is the main transaction, as its phase
+/// has it, or the read ahead, which later becomes the main transaction as it stands; and an answer to the one, an abort
+/// and the doorbell leave the other as it was.
+pub fn steps_ask_for_what_is_under_way()
+    ensures { UnderLaw }
 {}
