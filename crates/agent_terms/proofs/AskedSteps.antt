@@ -1,7 +1,7 @@
 -- What an agent has under way behind a step is what the step asked for.
-use Rattle.std.proofs.Common.{◌≡◌, refl, ap, sym, subst, ◌∙◌, ℕ, ◌+◌, ◌*◌, ◌==◌, ◌++◌, Bool, true, false, cond, is_some, length, List, Option, Some, None, Result, Ok, Err}
+use Rattle.std.proofs.Common.{◌≡◌, refl, ap, sym, ◌∙◌, ℕ, ◌+◌, ◌*◌, ◌==◌, ◌++◌, Bool, true, false, cond, length, List, Option, Some, None, Result, Ok, Err}
 use Rattle.orb_layout.specs.declared.ask.Ask.{Ask}
-use Rattle.orb_layout.specs.declared.ask.Ask.TheVariants.{Nothing, Read}
+use Rattle.orb_layout.specs.declared.ask.Ask.TheVariants.{Read}
 use Rattle.orb_layout.specs.declared.ask.FailCause.{FailCause}
 use Rattle.orb_layout.specs.declared.ask.FailCause.TheVariants as causes
 use Rattle.orb_layout.specs.declared.pointer.OrbPointer.{OrbPointer}
@@ -263,7 +263,7 @@ unfolding lost_step
 ahead_losses m cause = still_if m (is_ahead m.ahead) (ahead_lost m cause) (quiet, m) (still m aheads.Idle _ m.aborted) (still m m.ahead m.doorbell m.aborted)
 
 -- ---- pointers, doorbells and aborts
-abbrev taken : Ask → Result Ask PointRefusal
+abbrev pub taken : Ask → Result Ask PointRefusal
 taken ask = Ok ask
 
 abbrev refused : PointRefusal → Result Ask PointRefusal

@@ -65,3 +65,4 @@ pub mod Agreeing
 pub mod Registering
 pub mod Runs
 pub mod AskedSteps
+pub mod AskedFollows

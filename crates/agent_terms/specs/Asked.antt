@@ -1,11 +1,16 @@
 -- What an agent has under way is what its step asked for (NCITS 325-1998, command block agents): the request of each step is the main transaction or the
 -- read ahead of the machine behind it, by its phase, and it stays that until it is answered or lost; a read ahead that becomes the main transaction is of
 -- the ORB that is then the present one.
-use Rattle.std.specs.Prelude.{◌≡◌, ℕ, Bool, true, false, List, is_some, Option, Result, Ok}
+use Rattle.std.specs.Prelude.{◌≡◌, ◌⊎◌, ◌≤◌, ◌<◌, ℕ, Bool, true, false, List, [], ◌∷◌, length, is_some, Option, Some, Ok}
+use Rattle.async_packet.specs.Canon.{canon}
+use Rattle.label_table.specs.Bodies.{Body, header_to, request_with}
+use Rattle.label_table.specs.Requests.{with_label}
 use Rattle.orb_layout.specs.declared.ask.Ask.{Ask}
 use Rattle.orb_layout.specs.declared.ask.Ask.TheVariants.{Nothing, Read, Write}
 use Rattle.orb_layout.specs.declared.ask.FailCause.{FailCause}
+use Rattle.login_table.specs.declared.login.Login.{Login}
 use Rattle.orb_layout.specs.declared.pointer.OrbPointer.{OrbPointer}
+use Rattle.orb_layout.specs.declared.pointer.OrbPointer.TheVariants.{At, Null}
 use Rattle.orb_layout.specs.Replies.{Answer}
 use Rattle.rbc_disk.specs.Runs.{Told}
 use Rattle.rbc_disk.specs.Units.{PlainDisk}
@@ -13,9 +18,15 @@ use Rattle.command_agent.specs.declared.phase.Phase.{Phase}
 use Rattle.command_agent.specs.declared.phase.Phase.TheVariants as phases
 use Rattle.command_agent.specs.declared.step.AgentStep.{AgentStep}
 use Rattle.command_agent.specs.declared.step.Which.TheVariants.{Ahead, Main}
-use Rattle.command_agent.specs.Machine.{Machine, is_ahead}
+use Rattle.command_agent.specs.Machine.{Machine, is_ahead, is_sent}
 use Rattle.command_agent.specs.Steps.{abort_step, doorbell_step, lost_step, point_step, reply_step}
 use Rattle.command_agent.specs.Tasks.{writes_status}
+use Rattle.sbp_journal.specs.declared.outbox.Outgoing.{Outgoing}
+use Rattle.sbp_target.specs.declared.desk.Desk.{Desk}
+use Rattle.sbp_target.specs.declared.purpose.Sent.{Sent}
+use Rattle.sbp_target.specs.Agents.{agent_body, follow}
+use Rattle.sbp_target.specs.Nodes.{NodeState, Scene, desk_at}
+use Rattle.command_agent.specs.Steps as steps
 use Rattle.agent_lists.specs.Requests.{ahead_under, main_under}
 
 -- something is asked for
@@ -60,3 +71,67 @@ pub record UnderLaw : Type 0 where
   pub doorbells : (m : Machine) → asks (doorbell_step m).0 ≡ true → main_under (doorbell_step m).1 ≡ (doorbell_step m).0
   pub rung : (m : Machine) → asks (doorbell_step m).0 ≡ false → IsStill m (doorbell_step m).1
   pub aborts : (m : Machine) (orb : ℕ) → IsStill m (abort_step m orb)
+
+-- ---- the packets of it
+
+-- the body of the main transaction, where the login has this FIFO: a status block goes there, and all else to its own address; and of the read ahead
+abbrev pub main_body : (fifo : ℕ) → Machine → Option Body
+main_body fifo m = agent_body (main_under m) (writes_status m.phase) fifo m.outgoing
+
+abbrev pub ahead_body : Machine → Option Body
+ahead_body m = agent_body (ahead_under m) false 0 []
+
+-- A packet is the request of a body, to the peer of a transaction and under its label; the ID of the node that it comes from is the one that the
+-- node had then.
+pub record IsFor (sent : Sent) (body : Option Body) (packet : Outgoing) : Type 0 where
+  pub node : ℕ
+  pub asked : Body
+  pub is : body ≡ Some asked
+  pub to : packet.to ≡ sent.peer
+  pub under : packet.label ≡ Some sent.label
+  pub spelled : packet.bytes ≡ with_label sent.label.number (canon (request_with (header_to node sent.peer 0) asked))
+
+-- the request left, among these packets
+abbrev pub Left : List Outgoing → Sent → Option Body → Type 0
+Left [] sent body = ⊥
+Left (packet ∷ packets) sent body = IsFor sent body packet ⊎ Left packets sent body
+
+-- What the desk of an agent waits for left, as the request that the machine has under way: its main transaction, and its read ahead.
+pub record AsksReally (packets : List Outgoing) (fifo : ℕ) (desk : Desk) : Type 0 where
+  pub main : (sent : Sent) → desk.main ≡ Some sent → is_sent desk.agent.phase ≡ true → Left packets sent (main_body fifo desk.agent)
+  pub ahead : (sent : Sent) → desk.ahead ≡ Some sent → is_ahead desk.agent.ahead ≡ true → Left packets sent (ahead_body desk.agent)
+
+-- The desk has its read ahead still, and the machine is that behind a step.
+pub record IsBehind (packets : List Outgoing) (place : ℕ) (before now : Machine) (node : NodeState) : Type 0 where
+  pub desks : length node.desks ≡ 8
+  pub agent : (desk_at node place).agent ≡ now
+  pub ahead : (sent : Sent) → (desk_at node place).ahead ≡ Some sent → is_ahead before.ahead ≡ true → Left packets sent (ahead_body before)
+
+-- a next pointer names an ORB
+abbrev pub has_next : OrbPointer → Bool
+has_next Null = false
+has_next (At offset) = true
+
+-- the buffer is in use
+abbrev pub uses_buffer : Phase → Bool
+uses_buffer phases.ReadingTable = true
+uses_buffer (phases.ReadingData wanted) = true
+uses_buffer phases.Answering = true
+uses_buffer _ = false
+
+-- An agent's machine: nothing is read ahead in a phase that reads nothing ahead, what is read ahead is what its next pointer names, and a packet carries
+-- a chunk of its buffer.
+pub record IsFit (m : Machine) : Type 0 where
+  pub bare : reads_none m.phase ≡ true → is_ahead m.ahead ≡ false
+  pub next : is_ahead m.ahead ≡ true → has_next m.orb.next ≡ true
+  pub limit : uses_buffer m.phase ≡ true → m.orb.max_payload ≤ 9
+
+-- Behind all that follows a step of the agent of a place, of a login with a FIFO: what its desk waits for left.
+abbrev pub Asks : (place : ℕ) → Login → Scene → Type 0
+Asks place login s = AsksReally s.outbox.packets login.fifo (desk_at s.node place)
+
+pub record FollowLaw : Type 0 where
+  pub replies : (place : ℕ) (login : Login) (m : Machine) (plain : PlainDisk) (told : Option Told) (answer : Answer) (s : Scene) → place < 8 → IsFit m → (let r = reply_step m place plain told Main answer in IsBehind s.outbox.packets place m r.1 s.node → Asks place login (follow place login r.0 s))
+  pub losses : (place : ℕ) (login : Login) (m : Machine) (cause : FailCause) (s : Scene) → place < 8 → IsFit m → is_sent m.phase ≡ true → (let r = lost_step m Main cause in IsBehind s.outbox.packets place m r.1 s.node → Asks place login (follow place login r.0 s))
+  pub pointers : (place : ℕ) (login : Login) (m : Machine) (pointer : OrbPointer) (ask : Ask) (s : Scene) → place < 8 → (point_step m pointer).0 ≡ Ok ask → IsBehind s.outbox.packets place m (point_step m pointer).1 s.node → Asks place login (follow place login (steps.asks ask) s)
+  pub doorbells : (place : ℕ) (login : Login) (m : Machine) (s : Scene) → place < 8 → is_ahead m.ahead ≡ false → asks (doorbell_step m).0 ≡ true → IsBehind s.outbox.packets place m (doorbell_step m).1 s.node → Asks place login (follow place login (steps.asks (doorbell_step m).0) s)

@@ -2,7 +2,7 @@
 ghost use Rattle.agent_terms.specs.Agents.{AgentsBetweenLaw, AgentsRunLaw, SerialsBetweenLaw, SerialsLaw};
 ghost use Rattle.agent_terms.specs.Alike.{AlikeLaw};
 ghost use Rattle.agent_terms.specs.Asides.{AsidesLaw};
-ghost use Rattle.agent_terms.specs.Asked.{UnderLaw};
+ghost use Rattle.agent_terms.specs.Asked.{FollowLaw, UnderLaw};
 ghost use Rattle.agent_terms.specs.Calls.{AgentsLaw};
 ghost use Rattle.agent_terms.specs.Demands.{DemandsLaw};
 ghost use Rattle.agent_terms.specs.Enabled.{EnabledBetweenLaw, EnabledLaw, EnabledTermsBetweenLaw, EnabledTermsLaw};
@@ -187,4 +187,10 @@ pub fn deliveries_keep_the_enabled_registers()
 /// and the doorbell leave the other as it was.
 pub fn steps_ask_for_what_is_under_way()
     ensures { UnderLaw }
+{}
+
+/// What follows a step of an agent leaves the request that it asks for: what its desk waits for then is a packet that left, to
+/// its peer and under its label, of the body that its machine has under way; a status block goes to the FIFO of its login.
+pub fn desks_wait_for_what_left()
+    ensures { FollowLaw }
 {}

@@ -9,7 +9,7 @@ pub use laws::{
     deliveries_keep_packets_leaving, deliveries_keep_serials_for_what_is_under_way,
     deliveries_keep_the_agents, deliveries_keep_the_enabled_registers,
     deliveries_keep_the_purposes, deliveries_keep_the_units, deliveries_keep_what_serials_are_for,
-    deliveries_keep_who_has_places, enabled_registers_are_the_targets,
+    deliveries_keep_who_has_places, desks_wait_for_what_left, enabled_registers_are_the_targets,
     enabled_registers_have_live_logins, hand_outs_change_the_agents, labels_of_requests_are_new,
     notes_change_the_agents, other_notes_leave_the_agents, packets_of_the_target_leave,
     places_have_their_initiators, requests_ask_of_the_agents, requests_have_purposes,
