@@ -1,7 +1,10 @@
 -- Behind a step of an agent what its desk waits for left, as the request that its machine has under way.
-use Rattle.std.proofs.Common.{◌≡◌, ◌∙◌, refl, sym, ap, subst, inl, inr, ℕ, ◌<◌, ◌&&◌, ◌||◌, not, is_some, nat_lt, Bool, true, false, cond, List, [], ◌∷◌, ◌++◌, length, Option, Some, None, Result, Err}
-use Rattle.std.specs.Prelude.{slice_set}
+use Rattle.std.proofs.Common.{◌≡◌, ◌∙◌, refl, sym, ap, subst, inl, inr, ℕ, ◌<◌, ◌&&◌, ◌||◌, not, is_some, nat_lt, Bool, true, false, cond, List, [], ◌∷◌, ◌++◌, length, Option, Some, None, Result, Err, arith, ◌≢◌, nat_eq}
+use Rattle.std.specs.Prelude.{slice_index_or, slice_set}
 use Rattle.std.proofs.Math.ListN.{length-set}
+use Rattle.std.proofs.lemmas.Bool.Decides.{nat_tests}
+use Rattle.label_table.proofs.Owned.{set_at}
+use Rattle.sbp_target.specs.Desks.{new_desk}
 use Rattle.label_table.specs.declared.judgement.Asked.{Asked}
 use Rattle.label_table.specs.Bodies.{Body}
 use Rattle.label_table.specs.Layer.{Layer, asked_at, asking_in, asking_step, free_labels, peer_at, peer_place, unlabelled}
@@ -70,7 +73,7 @@ left_last : (packets : List Outgoing) (packet : Outgoing) (sent : Sent) (body : 
 left_last [] packet sent body h = inl h
 left_last (first ∷ packets) packet sent body h = inr (left_last packets packet sent body h)
 
-left_as : (packets : List Outgoing) (sent : Sent) (x y : Option Body) → x ≡ y → Left packets sent x → Left packets sent y
+pub left_as : (packets : List Outgoing) (sent : Sent) (x y : Option Body) → x ≡ y → Left packets sent x → Left packets sent y
 left_as packets sent x y e h = subst (λ (b : Option Body). Left packets sent b) e h
 
 -- ---- a read has one body, wherever a status block goes
@@ -91,7 +94,7 @@ turned_body fifo m before e =
     ap (λ (a : Ask). agent_body a (writes_status m.phase) fifo m.outgoing) e
     ∙ ahead_alone before.ahead before.orb.next (writes_status m.phase) fifo m.outgoing
 
-still_body : (fifo : ℕ) (before now : Machine) → IsStill before now → main_body fifo now ≡ main_body fifo before
+pub still_body : (fifo : ℕ) (before now : Machine) → IsStill before now → main_body fifo now ≡ main_body fifo before
 still_body fifo before now s =
     ap (λ (a : Ask). agent_body a (writes_status now.phase) fifo now.outgoing) s.main
     ∙ ap (λ (p : Bool). agent_body (main_under before) p fifo now.outgoing) (ap writes_status s.phase)
@@ -114,18 +117,33 @@ bare_by phases.Suspended = refl
 bare_by phases.WritingLastStatus = refl
 bare_by phases.Dead = refl
 
-bare_of : (m : Machine) → Fit m → IsBare m
+pub bare_of : (m : Machine) → Fit m → IsBare m
 bare_of m f = record { bare = λ e. f.bare (sym (bare_by m.phase) ∙ e) }
 
 -- ---- the desk of the agent in the course of a step
-pub record On (q : ℕ) (d : Desk) (node : NodeState) : Type 0 where
+pub record On (base : NodeState) (q : ℕ) (d : Desk) (node : NodeState) : Type 0 where
   pub desks : length node.desks ≡ 8
   pub is : desk_at node q ≡ d
+  pub others : (k : ℕ) → k ≢ q → desk_at node k ≡ desk_at base k
 
-on_set : (q : ℕ) (d e : Desk) (node later : NodeState) → q < 8 → On q d node → later.desks ≡ slice_set node.desks q e → On q e later
-on_set q d e node later b o is = record {
+-- another desk
+other_id : (k q : ℕ) → k ≢ q → nat_eq k q ≡ false
+other_id k q n = by (nat_eq k q) refl
+  where
+    by : (x : Bool) → nat_eq k q ≡ x → nat_eq k q ≡ false
+    by true e = absurd (n (let same : k ≡ q = grind (arith, nat_tests) in same))
+    by false e = e
+
+desk_other : (q k : ℕ) (node later : NodeState) (d : Desk) → q < 8 → length node.desks ≡ 8 → k ≢ q → later.desks ≡ slice_set node.desks q d → desk_at later k ≡ desk_at node k
+desk_other q k node later d b size n e =
+    let inside : q < length node.desks = omega arith in
+    ap (λ ds. slice_index_or ds k new_desk) e ∙ set_at node.desks q k d new_desk inside ∙ ap (λ (x : Bool). cond x d (desk_at node k)) (other_id k q n)
+
+on_set : (base : NodeState) (q : ℕ) (d e : Desk) (node later : NodeState) → q < 8 → On base q d node → later.desks ≡ slice_set node.desks q e → On base q e later
+on_set base q d e node later b o is = record {
   desks = ap (λ ds. length ds) is ∙ length-set node.desks q e ∙ o.desks;
   is = desk_set q node later e b o.desks is;
+  others = λ k n. desk_other q k node later e b o.desks n is ∙ o.others k n;
 }
 
 abbrev ahead_left : Option FailCause → Option Sent → Option Sent
@@ -141,22 +159,22 @@ promoted turned d = record d { main = cond turned d.ahead d.main; ahead = cond t
 abbrev noted_desk : AgentStep → Desk → Desk
 noted_desk step d = promoted step.promoted (dropped step.dead d)
 
-dropped_on : (q : ℕ) (dead : Option FailCause) (d : Desk) (node : NodeState) → q < 8 → On q d node → On q (dropped dead d) (dropped_by dead q node)
+dropped_on : (base : NodeState) (q : ℕ) (dead : Option FailCause) (d : Desk) (node : NodeState) → q < 8 → On base q d node → On base q (dropped dead d) (dropped_by dead q node)
 unfolding without_ahead
-dropped_on q None d node b o = o
-dropped_on q (Some cause) d node b o =
-    subst (λ (x : Desk). On q (record x { ahead = None }) (without_ahead q node)) o.is
-    (on_set q d (record (desk_at node q) { ahead = None }) node (without_ahead q node) b o refl)
+dropped_on base q None d node b o = o
+dropped_on base q (Some cause) d node b o =
+    subst (λ (x : Desk). On base q (record x { ahead = None }) (without_ahead q node)) o.is
+    (on_set base q d (record (desk_at node q) { ahead = None }) node (without_ahead q node) b o refl)
 
-promoted_on : (q : ℕ) (x : Bool) (d : Desk) (node : NodeState) → q < 8 → On q d node → On q (promoted x d) (promoted_by x q node)
-promoted_on q false d node b o = o
-promoted_on q true d node b o =
-    subst (λ (x : Desk). On q (record x { main = x.ahead; ahead = None }) (promoted_by true q node)) o.is
-    (on_set q d (record (desk_at node q) { main = (desk_at node q).ahead; ahead = None }) node (promoted_by true q node) b o refl)
+promoted_on : (base : NodeState) (q : ℕ) (x : Bool) (d : Desk) (node : NodeState) → q < 8 → On base q d node → On base q (promoted x d) (promoted_by x q node)
+promoted_on base q false d node b o = o
+promoted_on base q true d node b o =
+    subst (λ (x : Desk). On base q (record x { main = x.ahead; ahead = None }) (promoted_by true q node)) o.is
+    (on_set base q d (record (desk_at node q) { main = (desk_at node q).ahead; ahead = None }) node (promoted_by true q node) b o refl)
 
-noted_on : (q : ℕ) (step : AgentStep) (d : Desk) (s : Scene) → q < 8 → On q d s.node → On q (noted_desk step d) (noted q step s).node
+noted_on : (base : NodeState) (q : ℕ) (step : AgentStep) (d : Desk) (s : Scene) → q < 8 → On base q d s.node → On base q (noted_desk step d) (noted q step s).node
 unfolding noted
-noted_on q step d s b o = promoted_on q step.promoted (dropped step.dead d) (dropped_by step.dead q s.node) b (dropped_on q step.dead d s.node b o)
+noted_on base q step d s b o = promoted_on base q step.promoted (dropped step.dead d) (dropped_by step.dead q s.node) b (dropped_on base q step.dead d s.node b o)
 
 ran_told : (q : ℕ) (m : Machine) (x : Option Outcome) (o : OutboxState) → (tell_ran q m x o).packets ≡ o.packets
 ran_told q m None o = refl
@@ -205,32 +223,32 @@ is_for layer now peer body purpose asked e = record {
   spelled = subst (λ (r : Option Asked × Layer Purpose). Spells (unlabelled layer peer body) r.0) e (step_spells layer peer body purpose);
 }
 
-module _ (q : ℕ) (b : q < 8) (login : Login) where
+module _ (base : NodeState) (q : ℕ) (b : q < 8) (login : Login) where
   -- ---- the main request
   -- it left, and the desk waits for it; or it found no label, and all is as before
   record Goes (d : Desk) (packets : List Outgoing) (body : Option Body) (s : Scene) : Type 0 where
     sent : Sent
-    on : On q (record d { main = Some sent }) s.node
+    on : On base q (record d { main = Some sent }) s.node
     left : Left s.outbox.packets sent body
     more : (other : Sent) (x : Option Body) → Left packets other x → Left s.outbox.packets other x
 
   record Stays (d : Desk) (packets : List Outgoing) (s : Scene) : Type 0 where
-    on : On q d s.node
+    on : On base q d s.node
     same : s.outbox.packets ≡ packets
 
   abbrev MainGoes : Desk → List Outgoing → Option Body → Bool × Scene → Type 0
   MainGoes d packets body (true, s) = Goes d packets body s
   MainGoes d packets body (false, s) = Stays d packets s
 
-  main_by : (d : Desk) (body : Body) (s : Scene) (r : Option Asked × Layer Purpose) → asking_step s.node.layer login.node body (purposes.Agent q) ≡ r → On q d s.node → MainGoes d s.outbox.packets (Some body) (main_sent q login.node s.node (sent_by r s.outbox login.node))
-  main_by d body s (None, layer) e o = record { on = record { desks = o.desks; is = o.is }; same = refl }
+  main_by : (d : Desk) (body : Body) (s : Scene) (r : Option Asked × Layer Purpose) → asking_step s.node.layer login.node body (purposes.Agent q) ≡ r → On base q d s.node → MainGoes d s.outbox.packets (Some body) (main_sent q login.node s.node (sent_by r s.outbox login.node))
+  main_by d body s (None, layer) e o = record { on = record { desks = o.desks; is = o.is; others = o.others }; same = refl }
   main_by d body s (Some asked, layer) e o =
       let packet : Outgoing = record { to = login.node; label = Some asked.label; bytes = asked.bytes } in
       let sent : Sent = record { peer = login.node; label = asked.label } in
       let later = with_desk (record s.node { layer = layer }) q (record (desk_at s.node q) { main = Some sent }) in
       record {
         sent = sent;
-        on = subst (λ (x : Desk). On q (record x { main = Some sent }) later) o.is (on_set q d (record (desk_at s.node q) { main = Some sent }) s.node later b o refl);
+        on = subst (λ (x : Desk). On base q (record x { main = Some sent }) later) o.is (on_set base q d (record (desk_at s.node q) { main = Some sent }) s.node later b o refl);
         left = left_last s.outbox.packets packet sent (Some body) (is_for s.node.layer layer login.node body (purposes.Agent q) asked e);
         more = λ other x h. left_more s.outbox.packets packet other x h;
       }
@@ -240,12 +258,12 @@ module _ (q : ℕ) (b : q < 8) (login : Login) where
     some : Body
     is : body ≡ Some some
 
-  main_in : (d : Desk) (body : Option Body) (s : Scene) → Has body → On q d s.node → MainGoes d s.outbox.packets body (main_asked body q login s)
+  main_in : (d : Desk) (body : Option Body) (s : Scene) → Has body → On base q d s.node → MainGoes d s.outbox.packets body (main_asked body q login s)
   unfolding request_step
   main_in d None s h o = absurd (let none : None ≡ Some h.some = h.is in cc)
   main_in d (Some body) s h o = main_by d body s (asking_step s.node.layer login.node body (purposes.Agent q)) refl o
 
-  main_goes : (d : Desk) (step : AgentStep) (s : Scene) → Has (agent_body step.ask (is_some step.ended) login.fifo d.agent.outgoing) → On q d s.node → MainGoes d s.outbox.packets (agent_body step.ask (is_some step.ended) login.fifo d.agent.outgoing) (ask_main q login step s)
+  main_goes : (d : Desk) (step : AgentStep) (s : Scene) → Has (agent_body step.ask (is_some step.ended) login.fifo d.agent.outgoing) → On base q d s.node → MainGoes d s.outbox.packets (agent_body step.ask (is_some step.ended) login.fifo d.agent.outgoing) (ask_main q login step s)
   unfolding ask_main
   main_goes d step s h o =
       subst (λ (x : Desk). MainGoes d s.outbox.packets (agent_body step.ask (is_some step.ended) login.fifo d.agent.outgoing) (main_asked (agent_body step.ask (is_some step.ended) login.fifo x.agent.outgoing) q login s)) (sym o.is)
@@ -266,7 +284,7 @@ module _ (q : ℕ) (b : q < 8) (login : Login) where
   -- ---- the read ahead
   record Runs (d : Desk) (packets : List Outgoing) (body : Option Body) (s : Scene) : Type 0 where
     sent : Sent
-    on : On q (record d { ahead = Some sent }) s.node
+    on : On base q (record d { ahead = Some sent }) s.node
     left : Left s.outbox.packets sent body
     more : (other : Sent) (x : Option Body) → Left packets other x → Left s.outbox.packets other x
 
@@ -274,29 +292,29 @@ module _ (q : ℕ) (b : q < 8) (login : Login) where
   AheadGoes d packets body (true, s) = Runs d packets body s
   AheadGoes d packets body (false, s) = Stays d packets s
 
-  ahead_by : (d : Desk) (body : Body) (s : Scene) (r : Option Asked × Layer Purpose) → asking_step s.node.layer login.node body (purposes.Agent q) ≡ r → On q d s.node → AheadGoes d s.outbox.packets (Some body) (ahead_sent q login.node s.node (sent_by r s.outbox login.node))
-  ahead_by d body s (None, layer) e o = record { on = record { desks = o.desks; is = o.is }; same = refl }
+  ahead_by : (d : Desk) (body : Body) (s : Scene) (r : Option Asked × Layer Purpose) → asking_step s.node.layer login.node body (purposes.Agent q) ≡ r → On base q d s.node → AheadGoes d s.outbox.packets (Some body) (ahead_sent q login.node s.node (sent_by r s.outbox login.node))
+  ahead_by d body s (None, layer) e o = record { on = record { desks = o.desks; is = o.is; others = o.others }; same = refl }
   ahead_by d body s (Some asked, layer) e o =
       let packet : Outgoing = record { to = login.node; label = Some asked.label; bytes = asked.bytes } in
       let sent : Sent = record { peer = login.node; label = asked.label } in
       let later = with_desk (record s.node { layer = layer }) q (record (desk_at s.node q) { ahead = Some sent }) in
       record {
         sent = sent;
-        on = subst (λ (x : Desk). On q (record x { ahead = Some sent }) later) o.is (on_set q d (record (desk_at s.node q) { ahead = Some sent }) s.node later b o refl);
+        on = subst (λ (x : Desk). On base q (record x { ahead = Some sent }) later) o.is (on_set base q d (record (desk_at s.node q) { ahead = Some sent }) s.node later b o refl);
         left = left_last s.outbox.packets packet sent (Some body) (is_for s.node.layer layer login.node body (purposes.Agent q) asked e);
         more = λ other x h. left_more s.outbox.packets packet other x h;
       }
 
-  ahead_if : (x : Bool) (d : Desk) (body : Body) (s : Scene) → On q d s.node → AheadGoes d s.outbox.packets (Some body) (cond x (false, s) (ahead_sent q login.node s.node (request_step s.node.layer s.outbox login.node body (purposes.Agent q))))
+  ahead_if : (x : Bool) (d : Desk) (body : Body) (s : Scene) → On base q d s.node → AheadGoes d s.outbox.packets (Some body) (cond x (false, s) (ahead_sent q login.node s.node (request_step s.node.layer s.outbox login.node body (purposes.Agent q))))
   unfolding request_step
   ahead_if true d body s o = record { on = o; same = refl }
   ahead_if false d body s o = ahead_by d body s (asking_step s.node.layer login.node body (purposes.Agent q)) refl o
 
-  ahead_in : (d : Desk) (body : Option Body) (s : Scene) → Has body → On q d s.node → AheadGoes d s.outbox.packets body (ahead_asked body q login s)
+  ahead_in : (d : Desk) (body : Option Body) (s : Scene) → Has body → On base q d s.node → AheadGoes d s.outbox.packets body (ahead_asked body q login s)
   ahead_in d None s h o = absurd (let none : None ≡ Some h.some = h.is in cc)
   ahead_in d (Some body) s h o = ahead_if (nat_lt (free_labels s.node.layer login.node) 16) d body s o
 
-  ahead_goes : (d : Desk) (ask : Ask) (s : Scene) → Has (agent_body ask false login.fifo d.agent.outgoing) → On q d s.node → AheadGoes d s.outbox.packets (agent_body ask false login.fifo d.agent.outgoing) (send_ahead q login ask s)
+  ahead_goes : (d : Desk) (ask : Ask) (s : Scene) → Has (agent_body ask false login.fifo d.agent.outgoing) → On base q d s.node → AheadGoes d s.outbox.packets (agent_body ask false login.fifo d.agent.outgoing) (send_ahead q login ask s)
   unfolding send_ahead
   ahead_goes d ask s h o =
       subst (λ (x : Desk). AheadGoes d s.outbox.packets (agent_body ask false login.fifo d.agent.outgoing) (ahead_asked (agent_body ask false login.fifo x.agent.outgoing) q login s)) (sym o.is)
@@ -313,7 +331,7 @@ module _ (q : ℕ) (b : q < 8) (login : Login) where
   -- ---- what is behind it all
   record Ended (s : Scene) : Type 0 where
     desk : Desk
-    on : On q desk s.node
+    on : On base q desk s.node
     asks : AsksReally s.outbox.packets login.fifo desk
 
   -- a step that is silent does nothing
@@ -321,16 +339,16 @@ module _ (q : ℕ) (b : q < 8) (login : Login) where
   unfolding ask_main noted tell_step
   silent step t e = subst (λ (x : AgentStep). ask_main q login x (noted q x t) ≡ (true, t)) (sym e) refl
 
-  on_agent : (d : Desk) (now : Machine) (s : Scene) → On q d s.node → On q (record d { agent = now }) (with_agent s.node q now)
+  on_agent : (d : Desk) (now : Machine) (s : Scene) → On base q d s.node → On base q (record d { agent = now }) (with_agent s.node q now)
   on_agent d now s o =
-      subst (λ (x : Desk). On q (record x { agent = now }) (with_agent s.node q now)) o.is
-      (on_set q d (record (desk_at s.node q) { agent = now }) s.node (with_agent s.node q now) b o refl)
+      subst (λ (x : Desk). On base q (record x { agent = now }) (with_agent s.node q now)) o.is
+      (on_set base q d (record (desk_at s.node q) { agent = now }) s.node (with_agent s.node q now) b o refl)
 
-  agent_is : (d : Desk) (s : Scene) → On q d s.node → (desk_at s.node q).agent ≡ d.agent
+  agent_is : (d : Desk) (s : Scene) → On base q d s.node → (desk_at s.node q).agent ≡ d.agent
   agent_is d s o = ap (λ (x : Desk). x.agent) o.is
 
   -- ---- a read ahead that found no label
-  drops_by : (x : Bool) (d : Desk) (s : Scene) → x ≡ true → On q d s.node → Fit d.agent → is_ahead d.agent.ahead ≡ true → ((sent : Sent) → d.main ≡ Some sent → is_sent d.agent.phase ≡ true → Left s.outbox.packets sent (main_body login.fifo d.agent)) → Ended (lost_by x q login Ahead s).1
+  drops_by : (x : Bool) (d : Desk) (s : Scene) → x ≡ true → On base q d s.node → Fit d.agent → is_ahead d.agent.ahead ≡ true → ((sent : Sent) → d.main ≡ Some sent → is_sent d.agent.phase ≡ true → Left s.outbox.packets sent (main_body login.fifo d.agent)) → Ended (lost_by x q login Ahead s).1
   drops_by false d s e o f u h = absurd (no e)
   drops_by true d s e o f u h =
       let m = d.agent in
@@ -351,7 +369,7 @@ module _ (q : ℕ) (b : q < 8) (login : Login) where
       })
 
   -- ---- a main request that found no label
-  falls_by : (x : Bool) (d : Desk) (s : Scene) → x ≡ true → On q d s.node → d.agent.phase ≡ phases.WritingLastStatus → is_ahead d.agent.ahead ≡ false → Ended (lost_by x q login Main s).1
+  falls_by : (x : Bool) (d : Desk) (s : Scene) → x ≡ true → On base q d s.node → d.agent.phase ≡ phases.WritingLastStatus → is_ahead d.agent.ahead ≡ false → Ended (lost_by x q login Main s).1
   falls_by false d s e o p i = absurd (no e)
   falls_by true d s e o p i =
       let dead : Machine = record d.agent { phase = phases.Dead } in
@@ -384,7 +402,7 @@ module _ (q : ℕ) (b : q < 8) (login : Login) where
       let last : d.agent.phase ≡ phases.WritingLastStatus = ap (λ (x : Machine). x.phase) a ∙ lost.last asked in
       falls_by (is_under_way Main (desk_at s.node q).agent) d s (ap (λ (x : Machine). is_sent x.phase) (agent_is d s g.on) ∙ ap is_sent last) g.on last (ap (λ (x : Machine). is_ahead x.ahead) a ∙ lost.idle)
 
-  asked_by : (x : Bool) (d : Desk) (had : Bool) (l : AgentStep × Machine) (ahead : Ask) (s : Scene) → d.agent ≡ l.1 → Lost had l → IsUnder ahead l → is_asked l.0.ask ≡ x → On q d s.node → Ended (after_loss q login (ask_main q login l.0 s))
+  asked_by : (x : Bool) (d : Desk) (had : Bool) (l : AgentStep × Machine) (ahead : Ask) (s : Scene) → d.agent ≡ l.1 → Lost had l → IsUnder ahead l → is_asked l.0.ask ≡ x → On base q d s.node → Ended (after_loss q login (ask_main q login l.0 s))
   asked_by true d had l ahead s a lost u k o =
       block_goes d s.outbox.packets had l ahead (ask_main q login l.0 s) a lost u k
       (subst (λ (x : Machine). MainGoes d s.outbox.packets (agent_body l.0.ask (is_some l.0.ended) login.fifo x.outgoing) (ask_main q login l.0 s)) a
@@ -398,7 +416,7 @@ module _ (q : ℕ) (b : q < 8) (login : Login) where
         asks = record { main = λ sent e p. absurd (no (sym unsent ∙ p)); ahead = λ sent e p. absurd (no (sym idle ∙ p)) };
       })
 
-  main_dies : (x : Bool) (d : Desk) (s : Scene) → x ≡ true → On q d s.node → Fit d.agent → is_sent d.agent.phase ≡ true → Ended (after_loss q login (lost_by x q login Main s))
+  main_dies : (x : Bool) (d : Desk) (s : Scene) → x ≡ true → On base q d s.node → Fit d.agent → is_sent d.agent.phase ≡ true → Ended (after_loss q login (lost_by x q login Main s))
   main_dies false d s e o f k = absurd (no e)
   main_dies true d s e o f k =
       let m = d.agent in
@@ -408,9 +426,9 @@ module _ (q : ℕ) (b : q < 8) (login : Login) where
       let place = scene (with_agent s.node q l.1) s.outbox in
       subst (λ (own : Machine). Ended (after_loss q login (ask_main q login (lost_step own Main causes.Label).0 (noted q (lost_step own Main causes.Label).0 (scene (with_agent s.node q (lost_step own Main causes.Label).1) s.outbox))))) (sym (agent_is d s o))
       (asked_by (is_asked l.0.ask) (noted_desk l.0 (record d { agent = l.1 })) (is_ahead m.ahead) l (ahead_under m) (noted q l.0 place) refl lost under refl
-      (noted_on q l.0 (record d { agent = l.1 }) place b (on_agent d l.1 s o)))
+      (noted_on base q l.0 (record d { agent = l.1 }) place b (on_agent d l.1 s o)))
 
-  main_lost : (d : Desk) (s : Scene) → On q d s.node → Fit d.agent → is_sent d.agent.phase ≡ true → Ended (lose_main q login s)
+  main_lost : (d : Desk) (s : Scene) → On base q d s.node → Fit d.agent → is_sent d.agent.phase ≡ true → Ended (lose_main q login s)
   unfolding lose_main lose
   main_lost d s o f k = main_dies (is_under_way Main (desk_at s.node q).agent) d s (ap (λ (x : Machine). is_sent x.phase) (agent_is d s o) ∙ k) o f k
 
@@ -449,7 +467,7 @@ module _ (q : ℕ) (b : q < 8) (login : Login) where
         subst (λ (ps : List Outgoing). Left ps sent (main_body login.fifo d.agent)) (sym g.same)
         (subst (λ (x : Machine). Left packets sent (main_body login.fifo x)) (sym a) (h sent f (ap (λ (x : Machine). is_sent x.phase) (sym a) ∙ p))))
 
-    ahead_ended : (x : Bool) (d : Desk) (s : Scene) → is_asked step.ahead ≡ x → d.agent ≡ m → On q d s.node → M d s.outbox.packets → A d s.outbox.packets → Ended (ask_ahead q login step.ahead s)
+    ahead_ended : (x : Bool) (d : Desk) (s : Scene) → is_asked step.ahead ≡ x → d.agent ≡ m → On base q d s.node → M d s.outbox.packets → A d s.outbox.packets → Ended (ask_ahead q login step.ahead s)
     ahead_ended true d s e a o h i =
         ahead_then d s.outbox.packets (send_ahead q login step.ahead s) a e h
         (subst (λ (x : Machine). AheadGoes d s.outbox.packets (agent_body step.ahead false login.fifo x.outgoing) (send_ahead q login step.ahead s)) a
@@ -473,7 +491,7 @@ module _ (q : ℕ) (b : q < 8) (login : Login) where
     main_then d packets (false, s) a k i g =
         main_lost d s g.on (subst Fit (sym a) behind.fit) (ap (λ (x : Machine). is_sent x.phase) a ∙ behind.main ∙ ap (λ (x : Bool). x || step.promoted) k)
 
-    main_ended : (x : Bool) (d : Desk) (s : Scene) → is_asked step.ask ≡ x → d.agent ≡ m → On q d s.node → (is_asked step.ask ≡ false → M d s.outbox.packets) → A d s.outbox.packets → Ended (after_main q login step (ask_main q login step s))
+    main_ended : (x : Bool) (d : Desk) (s : Scene) → is_asked step.ask ≡ x → d.agent ≡ m → On base q d s.node → (is_asked step.ask ≡ false → M d s.outbox.packets) → A d s.outbox.packets → Ended (after_main q login step (ask_main q login step s))
     main_ended true d s k a o h i =
         main_then d s.outbox.packets (ask_main q login step s) a k i
         (subst (λ (x : Machine). MainGoes d s.outbox.packets (agent_body step.ask (is_some step.ended) login.fifo x.outgoing) (ask_main q login step s)) a
@@ -501,13 +519,13 @@ module _ (q : ℕ) (b : q < 8) (login : Login) where
         by true g = refl
         by false g = absurd (no_2 g)
 
-    follow_ended : (d : Desk) (s : Scene) → d.agent ≡ m → On q d s.node → ((sent : Sent) → d.ahead ≡ Some sent → is_ahead before.ahead ≡ true → Left s.outbox.packets sent (ahead_body before)) → Ended (follow q login step s)
+    follow_ended : (d : Desk) (s : Scene) → d.agent ≡ m → On base q d s.node → ((sent : Sent) → d.ahead ≡ Some sent → is_ahead before.ahead ≡ true → Left s.outbox.packets sent (ahead_body before)) → Ended (follow q login step s)
     unfolding follow
     follow_ended d s a o reads =
         let now = noted_desk step d in
         let u = noted q step s in
         let told : (sent : Sent) → (x : Option Body) → Left s.outbox.packets sent x → Left u.outbox.packets sent x = λ sent x. subst (λ (ps : List Outgoing). Left ps sent x) (sym (packets_told q step s)) in
-        main_ended (is_asked step.ask) now u refl a (noted_on q step d s b o)
+        main_ended (is_asked step.ask) now u refl a (noted_on base q step d s b o)
         (λ k sent e p.
         let t : step.promoted ≡ true = sym (ap (λ (x : Bool). x || step.promoted) k) ∙ sym behind.main ∙ p in
         left_as u.outbox.packets sent (ahead_body before) (main_body login.fifo m) (sym (turned_body login.fifo m before (under.turned t)))
@@ -542,13 +560,21 @@ fit_of m f = record { bare = λ e. f.bare (bare_by m.phase ∙ e); next = λ e. 
 abbrev Asks : (place : ℕ) → Login → Scene → Type 0
 Asks place login s = AsksReally s.outbox.packets login.fifo (desk_at s.node place)
 
-asks_of : (q : ℕ) (b : q < 8) (login : Login) (s : Scene) → Ended q b login s → Asks q login s
-asks_of q b login s e = subst (λ (d : Desk). AsksReally s.outbox.packets login.fifo d) (sym e.on.is) e.asks
+asks_of : (base : NodeState) (q : ℕ) (b : q < 8) (login : Login) (s : Scene) → Ended base q b login s → Asks q login s
+asks_of base q b login s e = subst (λ (d : Desk). AsksReally s.outbox.packets login.fifo d) (sym e.on.is) e.asks
+
+-- what is behind all that follows a step, and the other desks
+pub record Followed (q : ℕ) (login : Login) (base : NodeState) (s : Scene) : Type 0 where
+  pub asks : AsksReally s.outbox.packets login.fifo (desk_at s.node q)
+  pub others : (k : ℕ) → k ≢ q → desk_at s.node k ≡ desk_at base k
+
+pub followed : (q : ℕ) (b : q < 8) (login : Login) (had : Bool) (step : AgentStep) (before m : Machine) (s : Scene) → Behind had (step, m) → IsUnder (ahead_under before) (step, m) → (had ≡ true → is_ahead before.ahead ≡ true) → IsBehind s.outbox.packets q before m s.node → Followed q login s.node (follow q login step s)
+followed q b login had step before m s behind under had_is i =
+    let e = follow_ended s.node q b login had step before m behind under had_is (desk_at s.node q) s i.agent (record { desks = i.desks; is = refl; others = λ k n. refl }) i.ahead in
+    record { asks = asks_of s.node q b login (follow q login step s) e; others = e.on.others }
 
 follow_of : (q : ℕ) (b : q < 8) (login : Login) (had : Bool) (step : AgentStep) (before m : Machine) (s : Scene) → Behind had (step, m) → IsUnder (ahead_under before) (step, m) → (had ≡ true → is_ahead before.ahead ≡ true) → IsBehind s.outbox.packets q before m s.node → Asks q login (follow q login step s)
-follow_of q b login had step before m s behind under had_is i =
-    asks_of q b login (follow q login step s)
-    (follow_ended q b login had step before m behind under had_is (desk_at s.node q) s i.agent (record { desks = i.desks; is = refl }) i.ahead)
+follow_of q b login had step before m s behind under had_is i = (followed q b login had step before m s behind under had_is i).asks
 
 -- a step that only asks for its main transaction
 only : (ahead ask : Ask) (m : Machine) → is_ahead m.ahead ≡ false → main_under m ≡ ask → writes_status m.phase ≡ false → IsUnder ahead (steps.asks ask, m)
