@@ -134,7 +134,7 @@ other_id k q n = by (nat_eq k q) refl
     by true e = absurd (n (let same : k ≡ q = grind (arith, nat_tests) in same))
     by false e = e
 
-desk_other : (q k : ℕ) (node later : NodeState) (d : Desk) → q < 8 → length node.desks ≡ 8 → k ≢ q → later.desks ≡ slice_set node.desks q d → desk_at later k ≡ desk_at node k
+pub desk_other : (q k : ℕ) (node later : NodeState) (d : Desk) → q < 8 → length node.desks ≡ 8 → k ≢ q → later.desks ≡ slice_set node.desks q d → desk_at later k ≡ desk_at node k
 desk_other q k node later d b size n e =
     let inside : q < length node.desks = omega arith in
     ap (λ ds. slice_index_or ds k new_desk) e ∙ set_at node.desks q k d new_desk inside ∙ ap (λ (x : Bool). cond x d (desk_at node k)) (other_id k q n)

@@ -66,3 +66,4 @@ pub mod Registering
 pub mod Runs
 pub mod AskedSteps
 pub mod AskedFollows
+pub mod AskedLate

@@ -3,7 +3,9 @@
 -- the ORB that is then the present one.
 use Rattle.std.specs.Prelude.{◌≡◌, ◌⊎◌, ◌≤◌, ◌<◌, ℕ, Bool, true, false, List, [], ◌∷◌, length, is_some, Option, Some, Ok}
 use Rattle.async_packet.specs.Canon.{canon}
+use Rattle.async_packet.specs.Labels.{LabelParts}
 use Rattle.label_table.specs.Bodies.{Body, header_to, request_with}
+use Rattle.label_table.specs.Layer.{Layer}
 use Rattle.label_table.specs.Requests.{with_label}
 use Rattle.orb_layout.specs.declared.ask.Ask.{Ask}
 use Rattle.orb_layout.specs.declared.ask.Ask.TheVariants.{Nothing, Read, Write}
@@ -21,11 +23,16 @@ use Rattle.command_agent.specs.declared.step.Which.TheVariants.{Ahead, Main}
 use Rattle.command_agent.specs.Machine.{Machine, is_ahead, is_sent}
 use Rattle.command_agent.specs.Steps.{abort_step, doorbell_step, lost_step, point_step, reply_step}
 use Rattle.command_agent.specs.Tasks.{writes_status}
+use Rattle.sbp_journal.specs.declared.cause.CutCause.{CutCause}
 use Rattle.sbp_journal.specs.declared.outbox.Outgoing.{Outgoing}
+use Rattle.sbp_journal.specs.Outgoings.{OutboxState}
+use Rattle.sbp_target.specs.declared.purpose.Purpose.{Purpose}
+use Rattle.sbp_target.specs.Calls.{Call, after}
+use Rattle.sbp_target.specs.Receiving.{expire_agent}
 use Rattle.sbp_target.specs.declared.desk.Desk.{Desk}
 use Rattle.sbp_target.specs.declared.purpose.Sent.{Sent}
-use Rattle.sbp_target.specs.Agents.{agent_body, follow}
-use Rattle.sbp_target.specs.Nodes.{NodeState, Scene, desk_at}
+use Rattle.sbp_target.specs.Agents.{agent_body, cut, follow}
+use Rattle.sbp_target.specs.Nodes.{NodeState, Scene, desk_at, login_at, scene}
 use Rattle.command_agent.specs.Steps as steps
 use Rattle.agent_lists.specs.Requests.{ahead_under, main_under}
 
@@ -135,3 +142,16 @@ pub record FollowLaw : Type 0 where
   pub losses : (place : ℕ) (login : Login) (m : Machine) (cause : FailCause) (s : Scene) → place < 8 → IsFit m → is_sent m.phase ≡ true → (let r = lost_step m Main cause in IsBehind s.outbox.packets place m r.1 s.node → Asks place login (follow place login r.0 s))
   pub pointers : (place : ℕ) (login : Login) (m : Machine) (pointer : OrbPointer) (ask : Ask) (s : Scene) → place < 8 → (point_step m pointer).0 ≡ Ok ask → IsBehind s.outbox.packets place m (point_step m pointer).1 s.node → Asks place login (follow place login (steps.asks ask) s)
   pub doorbells : (place : ℕ) (login : Login) (m : Machine) (s : Scene) → place < 8 → is_ahead m.ahead ≡ false → asks (doorbell_step m).0 ≡ true → IsBehind s.outbox.packets place m (doorbell_step m).1 s.node → Asks place login (follow place login (steps.asks (doorbell_step m).0) s)
+
+-- ---- the desks of all places, each by the FIFO of its login
+pub record AllAsk (packets : List Outgoing) (node : NodeState) : Type 0 where
+  pub all : (place : ℕ) (login : Login) → place < 8 → login_at node place ≡ Some login → AsksReally packets login.fifo (desk_at node place)
+
+-- A time-out of a transaction of an agent, and a cut of its list, keep that.
+pub record LatesAsk (node : NodeState) : Type 0 where
+  pub expiries : (layer : Layer Purpose) (outbox : OutboxState) (place peer : ℕ) (label : LabelParts) → place < 8 → AllAsk outbox.packets node → (let s = expire_agent place peer label (scene (record node { layer = layer }) outbox) in AllAsk s.outbox.packets s.node)
+  pub cuts : (layer : Layer Purpose) (outbox : OutboxState) (place : ℕ) (cause : CutCause) → place < 8 → AllAsk outbox.packets node → (let s = cut cause place (scene (record node { layer = layer }) outbox) in AllAsk s.outbox.packets s.node)
+
+-- of a target that has a unit, after every list of calls
+abbrev pub LateLaw : Type 0
+LateLaw = (units ready : ℕ) (calls : List Call) → 0 < units → LatesAsk (after units ready calls)

@@ -2,7 +2,7 @@
 ghost use Rattle.agent_terms.specs.Agents.{AgentsBetweenLaw, AgentsRunLaw, SerialsBetweenLaw, SerialsLaw};
 ghost use Rattle.agent_terms.specs.Alike.{AlikeLaw};
 ghost use Rattle.agent_terms.specs.Asides.{AsidesLaw};
-ghost use Rattle.agent_terms.specs.Asked.{FollowLaw, UnderLaw};
+ghost use Rattle.agent_terms.specs.Asked.{FollowLaw, LateLaw, UnderLaw};
 ghost use Rattle.agent_terms.specs.Calls.{AgentsLaw};
 ghost use Rattle.agent_terms.specs.Demands.{DemandsLaw};
 ghost use Rattle.agent_terms.specs.Enabled.{EnabledBetweenLaw, EnabledLaw, EnabledTermsBetweenLaw, EnabledTermsLaw};
@@ -193,4 +193,10 @@ pub fn steps_ask_for_what_is_under_way()
 /// its peer and under its label, of the body that its machine has under way; a status block goes to the FIFO of its login.
 pub fn desks_wait_for_what_left()
     ensures { FollowLaw }
+{}
+
+/// A time-out of a transaction of an agent, and a cut of its list, leave the desks of all places waiting for what left:
+/// for packets of the bodies that their machines have under way.
+pub fn time_outs_keep_what_was_asked()
+    ensures { LateLaw }
 {}

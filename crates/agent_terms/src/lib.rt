@@ -14,5 +14,5 @@ pub use laws::{
     notes_change_the_agents, other_notes_leave_the_agents, packets_of_the_target_leave,
     places_have_their_initiators, requests_ask_of_the_agents, requests_have_purposes,
     serials_are_for_what_is_under_way, serials_have_purposes, steps_ask_for_what_is_under_way,
-    units_are_the_targets,
+    time_outs_keep_what_was_asked, units_are_the_targets,
 };
