@@ -565,13 +565,14 @@ asks_of base q b login s e = subst (λ (d : Desk). AsksReally s.outbox.packets l
 
 -- what is behind all that follows a step, and the other desks
 pub record Followed (q : ℕ) (login : Login) (base : NodeState) (s : Scene) : Type 0 where
+  pub desks : length s.node.desks ≡ 8
   pub asks : AsksReally s.outbox.packets login.fifo (desk_at s.node q)
   pub others : (k : ℕ) → k ≢ q → desk_at s.node k ≡ desk_at base k
 
 pub followed : (q : ℕ) (b : q < 8) (login : Login) (had : Bool) (step : AgentStep) (before m : Machine) (s : Scene) → Behind had (step, m) → IsUnder (ahead_under before) (step, m) → (had ≡ true → is_ahead before.ahead ≡ true) → IsBehind s.outbox.packets q before m s.node → Followed q login s.node (follow q login step s)
 followed q b login had step before m s behind under had_is i =
     let e = follow_ended s.node q b login had step before m behind under had_is (desk_at s.node q) s i.agent (record { desks = i.desks; is = refl; others = λ k n. refl }) i.ahead in
-    record { asks = asks_of s.node q b login (follow q login step s) e; others = e.on.others }
+    record { desks = e.on.desks; asks = asks_of s.node q b login (follow q login step s) e; others = e.on.others }
 
 follow_of : (q : ℕ) (b : q < 8) (login : Login) (had : Bool) (step : AgentStep) (before m : Machine) (s : Scene) → Behind had (step, m) → IsUnder (ahead_under before) (step, m) → (had ≡ true → is_ahead before.ahead ≡ true) → IsBehind s.outbox.packets q before m s.node → Asks q login (follow q login step s)
 follow_of q b login had step before m s behind under had_is i = (followed q b login had step before m s behind under had_is i).asks

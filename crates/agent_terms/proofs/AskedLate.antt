@@ -42,10 +42,10 @@ use Rattle.agent_terms.proofs.Walk.{desk_set}
 no : false ≡ true → ⊥
 no e = cc
 
-none_sent : (sent : Sent) → None ≡ Some sent → ⊥
+pub none_sent : (sent : Sent) → None ≡ Some sent → ⊥
 none_sent sent e = cc
 
-same_login : (x y : Login) → Some x ≡ Some y → x ≡ y
+pub same_login : (x y : Login) → Some x ≡ Some y → x ≡ y
 same_login x y e = cc
 
 -- ---- what left stays so
@@ -59,20 +59,20 @@ keeps_left sent body = record {
   asks = λ layer packets peer asked purpose h. kept_with _ peer packets sent body h;
 }
 
-follow_keeps : (q : ℕ) (login : Login) (step : AgentStep) (s : Scene) (sent : Sent) (body : Option Body) → Left s.outbox.packets sent body → Left (follow q login step s).outbox.packets sent body
+pub follow_keeps : (q : ℕ) (login : Login) (step : AgentStep) (s : Scene) (sent : Sent) (body : Option Body) → Left s.outbox.packets sent body → Left (follow q login step s).outbox.packets sent body
 follow_keeps q login step s sent body h = pass.follows (λ layer packets. Left packets sent body) (keeps_left sent body) q login step s h
 
 keeps_logins : (logins : Table) → framed.Keeps (λ node. node.logins ≡ logins)
 keeps_logins logins = record { layers = λ node layer h. h; desks = λ node place d e h. h }
 
-follow_logins : (q : ℕ) (login : Login) (step : AgentStep) (s : Scene) → (follow q login step s).node.logins ≡ s.node.logins
+pub follow_logins : (q : ℕ) (login : Login) (step : AgentStep) (s : Scene) → (follow q login step s).node.logins ≡ s.node.logins
 follow_logins q login step s = framed.follows_at (λ node. node.logins ≡ s.node.logins) (keeps_logins s.node.logins) q login step s refl
 
-asks_more : (before now : List Outgoing) → ((sent : Sent) (body : Option Body) → Left before sent body → Left now sent body) → (fifo : ℕ) (d : Desk) → AsksReally before fifo d → AsksReally now fifo d
+pub asks_more : (before now : List Outgoing) → ((sent : Sent) (body : Option Body) → Left before sent body → Left now sent body) → (fifo : ℕ) (d : Desk) → AsksReally before fifo d → AsksReally now fifo d
 asks_more before now more fifo d a = record { main = λ sent e p. more sent (main_body fifo d.agent) (a.main sent e p); ahead = λ sent e p. more sent (ahead_body d.agent) (a.ahead sent e p) }
 
 -- ---- one desk of all changes
-all_by : (q : ℕ) (before packets : List Outgoing) (node now : NodeState) → now.logins ≡ node.logins → ((k : ℕ) → k ≢ q → desk_at now k ≡ desk_at node k) → ((sent : Sent) (body : Option Body) → Left before sent body → Left packets sent body) → ((login : Login) → login_at node q ≡ Some login → AsksReally packets login.fifo (desk_at now q)) → AllAsk before node → AllAsk packets now
+pub all_by : (q : ℕ) (before packets : List Outgoing) (node now : NodeState) → now.logins ≡ node.logins → ((k : ℕ) → k ≢ q → desk_at now k ≡ desk_at node k) → ((sent : Sent) (body : Option Body) → Left before sent body → Left packets sent body) → ((login : Login) → login_at node q ≡ Some login → AsksReally packets login.fifo (desk_at now q)) → AllAsk before node → AllAsk packets now
 all_by q before packets node now logins others more here a = record { all = λ p login l e. by (nat_eq p q) p login l (ap (λ (t : Table). place_at t.places p) (sym logins) ∙ e) refl }
   where
     by : (x : Bool) (p : ℕ) (login : Login) → p < 8 → login_at node p ≡ Some login → nat_eq p q ≡ x → AsksReally packets login.fifo (desk_at now p)
@@ -84,7 +84,7 @@ all_by q before packets node now logins others more here a = record { all = λ p
         subst (λ (d : Desk). AsksReally packets login.fifo d) (sym (others p n)) (asks_more before packets more login.fifo (desk_at node p) (a.all p login l e))
 
 -- ---- which transaction it is
-main_of : (a u c v : Bool) → cond {A = Option Which} (a && u) (Some Main) (cond (c && v) (Some Ahead) None) ≡ Some Main → u ≡ true
+pub main_of : (a u c v : Bool) → cond {A = Option Which} (a && u) (Some Main) (cond (c && v) (Some Ahead) None) ≡ Some Main → u ≡ true
 main_of true true c v e = refl
 main_of true false true true e = absurd (let f : Some Ahead ≡ Some Main = e in cc)
 main_of true false true false e = absurd (let f : None ≡ Some Main = e in cc)
@@ -93,7 +93,7 @@ main_of false u true true e = absurd (let f : Some Ahead ≡ Some Main = e in cc
 main_of false u true false e = absurd (let f : None ≡ Some Main = e in cc)
 main_of false u false v e = absurd (let f : None ≡ Some Main = e in cc)
 
-ahead_of : (a u c v : Bool) → cond {A = Option Which} (a && u) (Some Main) (cond (c && v) (Some Ahead) None) ≡ Some Ahead → v ≡ true
+pub ahead_of : (a u c v : Bool) → cond {A = Option Which} (a && u) (Some Main) (cond (c && v) (Some Ahead) None) ≡ Some Ahead → v ≡ true
 ahead_of true true c v e = absurd (let f : Some Main ≡ Some Ahead = e in cc)
 ahead_of true false true true e = refl
 ahead_of true false true false e = absurd (let f : None ≡ Some Ahead = e in cc)
@@ -102,7 +102,7 @@ ahead_of false u true true e = refl
 ahead_of false u true false e = absurd (let f : None ≡ Some Ahead = e in cc)
 ahead_of false u false v e = absurd (let f : None ≡ Some Ahead = e in cc)
 
-quiet_follow : (q : ℕ) (login : Login) (step : AgentStep) (s : Scene) → step ≡ quiet → follow q login step s ≡ s
+pub quiet_follow : (q : ℕ) (login : Login) (step : AgentStep) (s : Scene) → step ≡ quiet → follow q login step s ≡ s
 unfolding follow ask_main noted tell_step send_ahead
 quiet_follow q login step s e = subst (λ (x : AgentStep). follow q login x s ≡ s) (sym e) refl
 

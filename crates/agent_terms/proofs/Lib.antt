@@ -67,3 +67,4 @@ pub mod Runs
 pub mod AskedSteps
 pub mod AskedFollows
 pub mod AskedLate
+pub mod AskedReplies

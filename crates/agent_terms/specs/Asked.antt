@@ -14,6 +14,7 @@ use Rattle.login_table.specs.declared.login.Login.{Login}
 use Rattle.orb_layout.specs.declared.pointer.OrbPointer.{OrbPointer}
 use Rattle.orb_layout.specs.declared.pointer.OrbPointer.TheVariants.{At, Null}
 use Rattle.orb_layout.specs.Replies.{Answer}
+use Rattle.rbc_disk.specs.Disk.{Disk}
 use Rattle.rbc_disk.specs.Runs.{Told}
 use Rattle.rbc_disk.specs.Units.{PlainDisk}
 use Rattle.command_agent.specs.declared.phase.Phase.{Phase}
@@ -29,6 +30,7 @@ use Rattle.sbp_journal.specs.Outgoings.{OutboxState}
 use Rattle.sbp_target.specs.declared.purpose.Purpose.{Purpose}
 use Rattle.sbp_target.specs.Calls.{Call, after}
 use Rattle.sbp_target.specs.Receiving.{expire_agent}
+use Rattle.sbp_target.specs.Replies.{replied_to, whole}
 use Rattle.sbp_target.specs.declared.desk.Desk.{Desk}
 use Rattle.sbp_target.specs.declared.purpose.Sent.{Sent}
 use Rattle.sbp_target.specs.Agents.{agent_body, cut, follow}
@@ -155,3 +157,10 @@ pub record LatesAsk (node : NodeState) : Type 0 where
 -- of a target that has a unit, after every list of calls
 abbrev pub LateLaw : Type 0
 LateLaw = (units ready : ℕ) (calls : List Call) → 0 < units → LatesAsk (after units ready calls)
+
+-- A reply to one of its transactions does so too, whatever a command that it runs tells.
+pub record RepliesAsk (node : NodeState) : Type 0 where
+  pub replies : (layer : Layer Purpose) (outbox : OutboxState) (told : Option Told) (answer : Answer) (disks : List Disk) (place peer : ℕ) (label : LabelParts) → place < 8 → AllAsk outbox.packets node → (let w = replied_to told place peer label answer (whole (scene (record node { layer = layer }) outbox) disks) in AllAsk w.outbox.packets w.node)
+
+abbrev pub RepliesLaw : Type 0
+RepliesLaw = (units ready : ℕ) (calls : List Call) → 0 < units → RepliesAsk (after units ready calls)

@@ -2,7 +2,7 @@
 ghost use Rattle.agent_terms.specs.Agents.{AgentsBetweenLaw, AgentsRunLaw, SerialsBetweenLaw, SerialsLaw};
 ghost use Rattle.agent_terms.specs.Alike.{AlikeLaw};
 ghost use Rattle.agent_terms.specs.Asides.{AsidesLaw};
-ghost use Rattle.agent_terms.specs.Asked.{FollowLaw, LateLaw, UnderLaw};
+ghost use Rattle.agent_terms.specs.Asked.{FollowLaw, LateLaw, RepliesLaw, UnderLaw};
 ghost use Rattle.agent_terms.specs.Calls.{AgentsLaw};
 ghost use Rattle.agent_terms.specs.Demands.{DemandsLaw};
 ghost use Rattle.agent_terms.specs.Enabled.{EnabledBetweenLaw, EnabledLaw, EnabledTermsBetweenLaw, EnabledTermsLaw};
@@ -199,4 +199,10 @@ pub fn desks_wait_for_what_left()
 /// for packets of the bodies that their machines have under way.
 pub fn time_outs_keep_what_was_asked()
     ensures { LateLaw }
+{}
+
+/// A reply to a transaction of an agent leaves the desks of all places waiting for what left, whatever a command that it
+/// runs tells; unsolicited statuses that leave behind it change nothing of that.
+pub fn replies_keep_what_was_asked()
+    ensures { RepliesLaw }
 {}
