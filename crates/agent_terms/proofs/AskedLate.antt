@@ -1,6 +1,5 @@
 -- A time-out of a transaction of an agent, and a cut of its list, leave all desks waiting for what left.
-use Rattle.std.proofs.Common.{arith, ◌≡◌, ◌≢◌, ◌∙◌, refl, sym, ap, subst, ℕ, ◌<◌, ◌&&◌, nat_eq, Bool, true, false, cond, List, length, Option, Some, None}
-use Rattle.std.specs.Prelude.{slice_set}
+use Rattle.std.proofs.Common.{arith, ◌≡◌, ◌≢◌, ◌∙◌, refl, sym, ap, subst, ℕ, ◌<◌, ◌&&◌, nat_eq, Bool, true, false, cond, List, Option, Some, None}
 use Rattle.std.proofs.Math.ListN.{length-set}
 use Rattle.std.proofs.lemmas.Bool.Decides.{nat_tests}
 use Rattle.async_packet.specs.Labels.{LabelParts}
@@ -23,7 +22,7 @@ use Rattle.sbp_target.specs.declared.purpose.Purpose.{Purpose}
 use Rattle.sbp_target.specs.declared.purpose.Sent.{Sent}
 use Rattle.sbp_target.specs.Agents.{ask_main, cut, cut_node, follow, noted, send_ahead, told_cut}
 use Rattle.sbp_target.specs.Calls.{after}
-use Rattle.sbp_target.specs.Desks.{expired_desk, is_that, reset_desk, taken, which_in}
+use Rattle.sbp_target.specs.Desks.{is_that, reset_desk, taken, which_in}
 use Rattle.sbp_target.specs.Nodes.{NodeState, Scene, desk_at, login_at, scene, with_desk}
 use Rattle.sbp_target.specs.Receiving.{expire_agent, expired_by}
 use Rattle.sbp_target.specs.Telling.{tell_step}
@@ -34,7 +33,7 @@ use Rattle.target_laws.proofs.Framed as framed
 use Rattle.target_laws.proofs.Pass as pass
 use Rattle.target_laws.proofs.Settled.{all_good}
 use Rattle.target_laws.proofs.Stepped.{ahead_loses, main_loses}
-use Rattle.agent_terms.specs.Asked.{AllAsk, AsksReally, LateLaw, LatesAsk, Left, ahead_body, main_body}
+use Rattle.agent_terms.specs.Asked.{AllAsk, AsksReally, LateLaw, Left, ahead_body, main_body}
 use Rattle.agent_terms.proofs.AskedFollows.{Followed, bare_of, desk_other, followed, left_as, left_more, still_body}
 use Rattle.agent_terms.proofs.AskedSteps.{under_law}
 use Rattle.agent_terms.proofs.Walk.{desk_set}

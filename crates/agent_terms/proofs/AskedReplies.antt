@@ -1,27 +1,23 @@
 -- A reply to an agent leaves all desks waiting for what left.
-use Rattle.std.proofs.Common.{arith, ◌≡◌, ◌≢◌, ◌∙◌, refl, sym, ap, subst, ℕ, zero, suc, ◌+◌, ◌<◌, ◌≤◌, ◌&&◌, nat_eq, nat_lt, Bool, true, false, cond, List, length, Option, Some, None}
-use Rattle.std.specs.Prelude.{slice_index_or, slice_set}
+use Rattle.std.proofs.Common.{arith, ◌≡◌, ◌∙◌, refl, sym, ap, subst, ℕ, zero, suc, ◌+◌, ◌<◌, ◌≤◌, nat_lt, Bool, true, false, cond, List, length, Option, Some, None}
+use Rattle.std.specs.Prelude.{slice_set}
 use Rattle.std.proofs.Math.ListN.{length-set}
-use Rattle.std.proofs.lemmas.Bool.Decides.{nat_tests}
 use Rattle.async_packet.specs.Labels.{LabelParts}
 use Rattle.label_table.specs.declared.judgement.Asked.{Asked}
 use Rattle.label_table.specs.Bodies.{Body, block_write}
 use Rattle.label_table.specs.Layer.{Layer, asking_step}
 use Rattle.login_table.specs.declared.login.Login.{Login}
-use Rattle.login_table.specs.Table.{Table, place_at}
 use Rattle.media_bay.specs.Unsolicited.{block}
 use Rattle.orb_layout.specs.Replies.{Answer}
 use Rattle.rbc_disk.specs.Disk.{Disk}
 use Rattle.rbc_disk.specs.Disk.{disk_at}
 use Rattle.rbc_disk.specs.Runs.{Told}
-use Rattle.rbc_disk.specs.Units.{PlainDisk}
 use Rattle.command_agent.specs.declared.step.AgentStep.{AgentStep}
 use Rattle.command_agent.specs.declared.step.Which.{Which}
 use Rattle.command_agent.specs.declared.step.Which.TheVariants.{Ahead, Main}
 use Rattle.command_agent.specs.Machine.{Machine, is_ahead, is_sent}
 use Rattle.command_agent.specs.Steps.{reply_step}
 use Rattle.sbp_journal.specs.declared.outbox.Outgoing.{Outgoing}
-use Rattle.sbp_journal.specs.declared.side.Side.{Side}
 use Rattle.sbp_journal.specs.declared.side.Side.TheVariants as sides
 use Rattle.sbp_journal.specs.Outgoings.{OutboxState}
 use Rattle.sbp_target.specs.declared.desk.Desk.{Desk}
@@ -30,9 +26,9 @@ use Rattle.sbp_target.specs.declared.purpose.Purpose.TheVariants as purposes
 use Rattle.sbp_target.specs.declared.purpose.Sent.{Sent}
 use Rattle.sbp_target.specs.Agents.{follow}
 use Rattle.sbp_target.specs.Calls.{after}
-use Rattle.sbp_target.specs.Desks.{is_that, new_desk, taken, which_in}
-use Rattle.sbp_target.specs.Nodes.{NodeState, Scene, desk_at, login_at, scene, with_desk}
-use Rattle.sbp_target.specs.Replies.{Stage, Whole, advance, announced_by, came, changed_by, follow_all, plain_in, replied, replied_by, replied_to, scene_of, served_login, stage, whole}
+use Rattle.sbp_target.specs.Desks.{is_that, taken, which_in}
+use Rattle.sbp_target.specs.Nodes.{NodeState, Scene, desk_at, login_at, scene}
+use Rattle.sbp_target.specs.Replies.{Stage, advance, announced_by, came, changed_by, follow_all, plain_in, replied, replied_by, replied_to, scene_of, served_login, stage, whole}
 use Rattle.sbp_target.specs.Sending.{request_step, sent_by, with_packet, with_side}
 use Rattle.sbp_target.specs.Units.{announce_at, announce_from, announce_in, announce_to, hears, is_pending, unsolicited_by, unsolicited_from}
 use Rattle.target_base.specs.Logins.{if_served}
@@ -41,9 +37,9 @@ use Rattle.target_laws.proofs.Following.{Fits}
 use Rattle.target_laws.proofs.Settled.{all_good}
 use Rattle.target_laws.proofs.Stepped.{Behind, Over, ahead_replied, main_replied}
 use Rattle.agent_lists.specs.Requests.{ahead_under}
-use Rattle.agent_terms.specs.Asked.{AllAsk, AsksReally, IsStill, IsUnder, Left, RepliesAsk, RepliesLaw, ahead_body, main_body}
+use Rattle.agent_terms.specs.Asked.{AllAsk, AsksReally, IsStill, IsUnder, Left, RepliesLaw, main_body}
 use Rattle.agent_terms.proofs.AskedFollows.{Followed, bare_of, desk_other, followed, left_as, left_more, still_body}
-use Rattle.agent_terms.proofs.AskedLate.{ahead_of, all_by, asks_more, follow_keeps, follow_logins, main_of, none_sent, quiet_follow, same_login}
+use Rattle.agent_terms.proofs.AskedLate.{ahead_of, all_by, asks_more, follow_keeps, follow_logins, none_sent, quiet_follow, same_login}
 use Rattle.agent_terms.proofs.AskedSteps.{under_law}
 use Rattle.agent_terms.proofs.Walk.{desk_set}
 
