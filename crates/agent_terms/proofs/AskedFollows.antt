@@ -578,7 +578,7 @@ follow_of : (q : ℕ) (b : q < 8) (login : Login) (had : Bool) (step : AgentStep
 follow_of q b login had step before m s behind under had_is i = (followed q b login had step before m s behind under had_is i).asks
 
 -- a step that only asks for its main transaction
-only : (ahead ask : Ask) (m : Machine) → is_ahead m.ahead ≡ false → main_under m ≡ ask → writes_status m.phase ≡ false → IsUnder ahead (steps.asks ask, m)
+pub only : (ahead ask : Ask) (m : Machine) → is_ahead m.ahead ≡ false → main_under m ≡ ask → writes_status m.phase ≡ false → IsUnder ahead (steps.asks ask, m)
 only ahead ask m i e w = record { main = λ f. e; status = λ f. w; turned = λ f. absurd (no f); asked = λ f. absurd (no f); kept = λ f g. absurd (no (sym i ∙ g)) }
 
 ok_ask : (x y : Ask) → taken x ≡ taken y → x ≡ y

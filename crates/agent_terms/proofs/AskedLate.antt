@@ -193,13 +193,13 @@ module _ (node : NodeState) (g : Good node) (layer : Layer Purpose) (outbox : Ou
       }))
       a
 
-  cuts : (cause : CutCause) → (let s = cut cause q (scene (record node { layer = layer }) outbox) in AllAsk s.outbox.packets s.node)
+  pub cut_keeps : (cause : CutCause) → (let s = cut cause q (scene (record node { layer = layer }) outbox) in AllAsk s.outbox.packets s.node)
   unfolding cut
-  cuts cause =
+  cut_keeps cause =
       subst (λ (ps : List Outgoing). AllAsk ps (cut_node q (record node { layer = layer }))) (sym (told_same (is_reset (state_in m.phase)) cause)) reset_all
 
 pub late_law : LateLaw
 late_law units ready calls has =
     let node = after units ready calls in
     let g = all_good units ready calls has in
-    record { expiries = λ layer outbox place peer label b a. lates node g layer outbox place b a peer label; cuts = λ layer outbox place cause b a. cuts node g layer outbox place b a cause }
+    record { expiries = λ layer outbox place peer label b a. lates node g layer outbox place b a peer label; cuts = λ layer outbox place cause b a. cut_keeps node g layer outbox place b a cause }

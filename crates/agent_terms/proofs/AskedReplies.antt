@@ -45,16 +45,16 @@ use Rattle.agent_terms.proofs.Walk.{desk_set}
 
 -- ---- unsolicited statuses behind a step
 -- a register is disabled
-abbrev Off : Desk → Bool → Desk
+abbrev pub Off : Desk → Bool → Desk
 Off d x = record d { is_enabled = x }
 
-off_asks : (packets : List Outgoing) (fifo : ℕ) (d : Desk) (x : Bool) → AsksReally packets fifo d → AsksReally packets fifo (Off d x)
+pub off_asks : (packets : List Outgoing) (fifo : ℕ) (d : Desk) (x : Bool) → AsksReally packets fifo d → AsksReally packets fifo (Off d x)
 off_asks packets fifo d x a = record { main = a.main; ahead = a.ahead }
 
 -- eight desks, and all wait for what left
-record Fine (s : Scene) : Type 0 where
-  desks : length s.node.desks ≡ 8
-  all : AllAsk s.outbox.packets s.node
+pub record Fine (s : Scene) : Type 0 where
+  pub desks : length s.node.desks ≡ 8
+  pub all : AllAsk s.outbox.packets s.node
 
 pick : (b : Bool) (x y : Scene) → Fine x → Fine y → Fine (cond b x y)
 pick true x y h i = h

@@ -243,7 +243,7 @@ unfolding lost_step
 losses m cause b = loses_by m.phase m cause
 
 -- ---- the read ahead is over
-still : (m : Machine) (ahead : ReadAhead) (doorbell aborted : Bool) → IsStill m (record m { ahead = ahead; doorbell = doorbell; aborted = aborted })
+pub still : (m : Machine) (ahead : ReadAhead) (doorbell aborted : Bool) → IsStill m (record m { ahead = ahead; doorbell = doorbell; aborted = aborted })
 still m ahead doorbell aborted = record { main = main_still m.phase m ahead doorbell aborted; phase = refl; outgoing = refl }
 
 still_if : (m : Machine) (b : Bool) (x y : AgentStep × Machine) → IsStill m x.1 → IsStill m y.1 → IsStill m (cond b x y).1

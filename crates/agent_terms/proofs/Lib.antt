@@ -68,3 +68,4 @@ pub mod AskedSteps
 pub mod AskedFollows
 pub mod AskedLate
 pub mod AskedReplies
+pub mod AskedAccesses

@@ -31,6 +31,9 @@ use Rattle.sbp_target.specs.declared.purpose.Purpose.{Purpose}
 use Rattle.sbp_target.specs.Calls.{Call, after}
 use Rattle.sbp_target.specs.Receiving.{expire_agent}
 use Rattle.sbp_target.specs.Replies.{replied_to, whole}
+use Rattle.sbp_target.specs.Serving.{accessed_by}
+use Rattle.async_packet.specs.Packet.{Packet}
+use Rattle.target_base.specs.declared.address.Access.{Access}
 use Rattle.sbp_target.specs.declared.desk.Desk.{Desk}
 use Rattle.sbp_target.specs.declared.purpose.Sent.{Sent}
 use Rattle.sbp_target.specs.Agents.{agent_body, cut, follow}
@@ -164,3 +167,10 @@ pub record RepliesAsk (node : NodeState) : Type 0 where
 
 abbrev pub RepliesLaw : Type 0
 RepliesLaw = (units ready : ℕ) (calls : List Call) → 0 < units → RepliesAsk (after units ready calls)
+
+-- So does all that is asked of the registers of an agent.
+pub record AccessesAsk (node : NodeState) : Type 0 where
+  pub accesses : (layer : Layer Purpose) (outbox : OutboxState) (place : ℕ) (access : Access) (p : Packet) (bytes : List ℕ) → place < 8 → AllAsk outbox.packets node → (let s = accessed_by access place p bytes (scene (record node { layer = layer }) outbox) in AllAsk s.outbox.packets s.node)
+
+abbrev pub AccessesLaw : Type 0
+AccessesLaw = (units ready : ℕ) (calls : List Call) → 0 < units → AccessesAsk (after units ready calls)

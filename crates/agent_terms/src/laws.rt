@@ -2,7 +2,7 @@
 ghost use Rattle.agent_terms.specs.Agents.{AgentsBetweenLaw, AgentsRunLaw, SerialsBetweenLaw, SerialsLaw};
 ghost use Rattle.agent_terms.specs.Alike.{AlikeLaw};
 ghost use Rattle.agent_terms.specs.Asides.{AsidesLaw};
-ghost use Rattle.agent_terms.specs.Asked.{FollowLaw, LateLaw, RepliesLaw, UnderLaw};
+ghost use Rattle.agent_terms.specs.Asked.{AccessesLaw, FollowLaw, LateLaw, RepliesLaw, UnderLaw};
 ghost use Rattle.agent_terms.specs.Calls.{AgentsLaw};
 ghost use Rattle.agent_terms.specs.Demands.{DemandsLaw};
 ghost use Rattle.agent_terms.specs.Enabled.{EnabledBetweenLaw, EnabledLaw, EnabledTermsBetweenLaw, EnabledTermsLaw};
@@ -205,4 +205,10 @@ pub fn time_outs_keep_what_was_asked()
 /// runs tells; unsolicited statuses that leave behind it change nothing of that.
 pub fn replies_keep_what_was_asked()
     ensures { RepliesLaw }
+{}
+
+/// What is asked of the registers of an agent, its reset, a pointer, the doorbell and the rest, leaves the desks of all
+/// places waiting for what left.
+pub fn accesses_keep_what_was_asked()
+    ensures { AccessesLaw }
 {}

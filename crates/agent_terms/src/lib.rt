@@ -4,7 +4,7 @@
 mod laws;
 
 pub use laws::{
-    agents_are_the_targets, alike_agents_step_alike, calls_change_the_agents,
+    accesses_keep_what_was_asked, agents_are_the_targets, alike_agents_step_alike, calls_change_the_agents,
     deliveries_keep_enabled_registers_live, deliveries_keep_labels_new,
     deliveries_keep_packets_leaving, deliveries_keep_serials_for_what_is_under_way,
     deliveries_keep_the_agents, deliveries_keep_the_enabled_registers,
