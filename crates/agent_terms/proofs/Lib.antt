@@ -69,3 +69,4 @@ pub mod AskedFollows
 pub mod AskedLate
 pub mod AskedReplies
 pub mod AskedAccesses
+pub mod AskedSights

@@ -29,7 +29,7 @@ use Rattle.sbp_journal.specs.declared.outbox.Outgoing.{Outgoing}
 use Rattle.sbp_journal.specs.Outgoings.{OutboxState}
 use Rattle.sbp_target.specs.declared.purpose.Purpose.{Purpose}
 use Rattle.sbp_target.specs.Calls.{Call, after}
-use Rattle.sbp_target.specs.Receiving.{expire_agent}
+use Rattle.sbp_target.specs.Receiving.{expire_agent, seen, with_key}
 use Rattle.sbp_target.specs.Replies.{replied_to, whole}
 use Rattle.sbp_target.specs.Serving.{accessed_by}
 use Rattle.async_packet.specs.Packet.{Packet}
@@ -174,3 +174,11 @@ pub record AccessesAsk (node : NodeState) : Type 0 where
 
 abbrev pub AccessesLaw : Type 0
 AccessesLaw = (units ready : ℕ) (calls : List Call) → 0 < units → AccessesAsk (after units ready calls)
+
+-- So do a generation that is seen and a key that is set.
+pub record SightsAsk (node : NodeState) : Type 0 where
+  pub sights : (outbox : OutboxState) (generation id : ℕ) → AllAsk outbox.packets node → (let s = (seen generation id (scene node outbox)).1 in AllAsk s.outbox.packets s.node)
+  pub keys : (outbox : OutboxState) (unit : ℕ) (key : List ℕ) → AllAsk outbox.packets node → AllAsk outbox.packets (with_key unit key node)
+
+abbrev pub SightsLaw : Type 0
+SightsLaw = (units ready : ℕ) (calls : List Call) → 0 < units → SightsAsk (after units ready calls)
