@@ -1,12 +1,11 @@
 -- What is asked of the registers of an agent leaves all desks waiting for what left.
-use Rattle.std.proofs.Common.{◌≡◌, ◌≢◌, ◌∙◌, refl, sym, ap, subst, ℕ, ◌<◌, Bool, true, false, List, [], length, Option, Some, None, Result, Ok, Err}
+use Rattle.std.proofs.Common.{◌≡◌, ◌∙◌, refl, sym, ap, subst, ℕ, ◌<◌, true, false, List, [], length, Option, Some, None, Ok}
 use Rattle.std.specs.Prelude.{slice_set}
 use Rattle.std.proofs.Math.ListN.{length-set}
 use Rattle.async_packet.specs.Packet.{Packet, header_in}
 use Rattle.label_table.specs.Bodies.{Body}
 use Rattle.label_table.specs.Layer.{Layer, answering_step}
 use Rattle.login_table.specs.declared.login.Login.{Login}
-use Rattle.orb_layout.specs.declared.ask.Ask.{Ask}
 use Rattle.orb_layout.specs.declared.ask.Ask.TheVariants.{Nothing}
 use Rattle.orb_layout.specs.declared.command.CommandOrb.{CommandOrb}
 use Rattle.orb_layout.specs.declared.pointer.OrbPointer.{OrbPointer}
@@ -20,7 +19,6 @@ use Rattle.command_agent.specs.declared.step.AgentStep.{AgentStep}
 use Rattle.command_agent.specs.Machine.{Machine, is_ahead, is_sent, state_in}
 use Rattle.command_agent.specs.Steps.{doorbell_in, doorbell_step, fetch_step, point_in, point_step, quiet, reread_step}
 use Rattle.command_agent.specs.Steps as steps
-use Rattle.command_agent.specs.Tasks.{writes_status}
 use Rattle.sbp_journal.specs.declared.cause.CutCause.TheVariants as cuts
 use Rattle.sbp_journal.specs.declared.outbox.Outgoing.{Outgoing}
 use Rattle.sbp_journal.specs.Outgoings.{OutboxState}
@@ -35,15 +33,15 @@ use Rattle.sbp_target.specs.Calls.{after}
 use Rattle.sbp_target.specs.Desks.{pointed_desk, reset_desk}
 use Rattle.sbp_target.specs.Nodes.{NodeState, Scene, desk_at, login_at, scene, with_desk}
 use Rattle.sbp_target.specs.Sending.{answer_step}
-use Rattle.sbp_target.specs.Serving.{accessed_by, answered, asked_at, asked_in, enabled, point, pointed_by, ring, rung_by}
+use Rattle.sbp_target.specs.Serving.{accessed_by, answered, asked_in, enabled, point, pointed_by, ring, rung_by}
 use Rattle.target_laws.proofs.Calling.{Good, not_eight}
 use Rattle.target_laws.proofs.Following.{Fits}
 use Rattle.target_laws.proofs.Settled.{all_good}
 use Rattle.target_laws.proofs.Stepped.{Behind, behind_fetch, behind_reread, is_bare}
-use Rattle.agent_lists.specs.Requests.{ahead_ask, ahead_under, main_under}
-use Rattle.agent_terms.specs.Asked.{AccessesAsk, AccessesLaw, AllAsk, AsksReally, IsStill, IsUnder, Left, ahead_body, main_body}
+use Rattle.agent_lists.specs.Requests.{ahead_ask, ahead_under}
+use Rattle.agent_terms.specs.Asked.{AccessesLaw, AllAsk, AsksReally, IsStill, IsUnder, Left, ahead_body, main_body}
 use Rattle.agent_terms.proofs.AskedFollows.{Followed, desk_other, followed, left_as, left_more, only, still_body}
-use Rattle.agent_terms.proofs.AskedLate.{all_by, asks_more, cut_keeps, follow_keeps, follow_logins, none_sent, quiet_follow, same_login}
+use Rattle.agent_terms.proofs.AskedLate.{all_by, asks_more, cut_keeps, follow_keeps, follow_logins, quiet_follow, same_login}
 use Rattle.agent_terms.proofs.AskedReplies.{Fine, Off, off_asks}
 use Rattle.agent_terms.proofs.AskedSteps.{still}
 use Rattle.agent_terms.proofs.Walk.{desk_set}

@@ -156,12 +156,12 @@ module _ (node : NodeState) (g : Good node) (outbox : OutboxState) (q : ℕ) (b 
       subst Fine (sym (quiet_follow q login r.0 (scene later outbox) over.silent)) (record {
         desks = ap (λ ds. length ds) desks ∙ length-set node.desks q d ∙ g.mid.size;
         all = all_by q outbox.packets outbox.packets node later logins (λ p n. desk_other q p node later d b g.mid.size n desks) (λ sent body h. h)
-      (λ other e.
-      subst (λ (x : Desk). AsksReally outbox.packets other.fifo x) (sym (desk_set q node later d b g.mid.size desks)) (record {
-        main = λ sent f p. left_as outbox.packets sent (main_body other.fifo m) (main_body other.fifo r.1) (sym (still_body other.fifo m r.1 still)) ((a.all q other b e).main sent f (ap is_sent (sym still.phase) ∙ p));
-        ahead = λ sent f p. absurd (none_sent sent f);
-      }))
-      a;
+            (λ other e.
+            subst (λ (x : Desk). AsksReally outbox.packets other.fifo x) (sym (desk_set q node later d b g.mid.size desks)) (record {
+              main = λ sent f p. left_as outbox.packets sent (main_body other.fifo m) (main_body other.fifo r.1) (sym (still_body other.fifo m r.1 still)) ((a.all q other b e).main sent f (ap is_sent (sym still.phase) ∙ p));
+              ahead = λ sent f p. absurd (none_sent sent f);
+            }))
+            a;
       })
 
   -- ---- a reply

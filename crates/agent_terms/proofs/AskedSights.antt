@@ -1,9 +1,7 @@
 -- A generation that is seen, and a key that is set, leave all desks waiting for what left.
-use Rattle.std.proofs.Common.{arith, ◌≡◌, ◌∙◌, refl, sym, ap, subst, ℕ, ◌<◌, Bool, true, false, List, length, map, Option, Some, None}
-use Rattle.std.specs.Prelude.{slice_index_or}
+use Rattle.std.proofs.Common.{arith, ◌≡◌, ◌∙◌, sym, ap, ℕ, ◌<◌, Bool, true, false, List, length, None}
 use Rattle.std.proofs.lemmas.List.{get_or-map}
 use Rattle.label_table.specs.Layer.{Layer, seeing_step}
-use Rattle.login_table.specs.declared.login.Login.{Login}
 use Rattle.command_agent.specs.Machine.{Machine, is_ahead, is_sent}
 use Rattle.command_agent.specs.Steps.{reset_step}
 use Rattle.sbp_journal.specs.declared.cause.CutCause.TheVariants as cuts
@@ -13,13 +11,12 @@ use Rattle.sbp_target.specs.declared.desk.Desk.{Desk}
 use Rattle.sbp_target.specs.declared.purpose.Purpose.{Purpose}
 use Rattle.sbp_target.specs.Calls.{after}
 use Rattle.sbp_target.specs.Desks.{disabled, new_desk}
-use Rattle.sbp_target.specs.Nodes.{NodeState, Scene, desk_at, login_at, scene}
+use Rattle.sbp_target.specs.Nodes.{NodeState, desk_at, scene}
 use Rattle.sbp_target.specs.Receiving.{cleared_node, held_all, reset_by, seen, with_key}
-use Rattle.sbp_target.specs.Units.{cut_all, cut_from, is_cut}
-use Rattle.target_laws.proofs.Calling.{Good}
+use Rattle.sbp_target.specs.Units.{cut_all}
 use Rattle.target_laws.proofs.Settled.{all_good}
-use Rattle.agent_terms.specs.Asked.{AllAsk, AsksReally, SightsAsk, SightsLaw}
-use Rattle.agent_terms.proofs.Cuts.{AreCut, all_cut}
+use Rattle.agent_terms.specs.Asked.{AllAsk, AsksReally, SightsLaw}
+use Rattle.agent_terms.proofs.Cuts.{all_cut}
 
 no : false ≡ true → ⊥
 no e = cc
