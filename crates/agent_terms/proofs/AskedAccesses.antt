@@ -50,7 +50,7 @@ no : false ≡ true → ⊥
 no e = cc
 
 -- ---- an answer
-answered_fine : (p : Packet) (bytes : List ℕ) (rcode : ℕ) (given : List ℕ) (s : Scene) → Fine s → Fine (answered p bytes rcode given s)
+pub answered_fine : (p : Packet) (bytes : List ℕ) (rcode : ℕ) (given : List ℕ) (s : Scene) → Fine s → Fine (answered p bytes rcode given s)
 unfolding answer_step
 answered_fine p bytes rcode given s h =
     let packet : Outgoing = record { to = (header_in p).source; label = None; bytes = (answering_step s.node.layer p bytes rcode given).0 } in
@@ -198,7 +198,7 @@ module _ (node : NodeState) (g : Good node) (layer : Layer Purpose) (outbox : Ou
         answered_fine p bytes complete [] (enabled q Begun)
         (set_fine (Off Here true) (enabled q Begun) refl refl (λ sent body h. h) (λ login e. off_asks outbox.packets login.fifo Here true (a.all q login b e)))
 
-    accesses_fine : (access : Access) → Fine (accessed_by access q p bytes Begun)
+    pub accesses_fine : (access : Access) → Fine (accessed_by access q p bytes Begun)
     accesses_fine accesses.State = answered_fine p bytes complete _ Begun begun
     accesses_fine accesses.Reset = reset_fine
     accesses_fine (accesses.Point pointer) = point_fine pointer

@@ -52,7 +52,7 @@ kept_with : (r : Option Asked) (peer : ℕ) (packets : List Outgoing) (sent : Se
 kept_with None peer packets sent body h = h
 kept_with (Some asked) peer packets sent body h = left_more packets (request peer asked) sent body h
 
-keeps_left : (sent : Sent) (body : Option Body) → pass.Keeps (λ layer packets. Left packets sent body)
+pub keeps_left : (sent : Sent) (body : Option Body) → pass.Keeps (λ layer packets. Left packets sent body)
 keeps_left sent body = record {
   leaves = record { disowns = λ layer packets peer label h. h };
   asks = λ layer packets peer asked purpose h. kept_with _ peer packets sent body h;

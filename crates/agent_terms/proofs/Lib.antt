@@ -70,3 +70,4 @@ pub mod AskedLate
 pub mod AskedReplies
 pub mod AskedAccesses
 pub mod AskedSights
+pub mod AskedRequests

@@ -31,7 +31,7 @@ use Rattle.sbp_target.specs.declared.purpose.Purpose.{Purpose}
 use Rattle.sbp_target.specs.Calls.{Call, after}
 use Rattle.sbp_target.specs.Receiving.{expire_agent, seen, with_key}
 use Rattle.sbp_target.specs.Replies.{replied_to, whole}
-use Rattle.sbp_target.specs.Serving.{accessed_by}
+use Rattle.sbp_target.specs.Serving.{accessed_by, request_step}
 use Rattle.async_packet.specs.Packet.{Packet}
 use Rattle.target_base.specs.declared.address.Access.{Access}
 use Rattle.sbp_target.specs.declared.desk.Desk.{Desk}
@@ -182,3 +182,10 @@ pub record SightsAsk (node : NodeState) : Type 0 where
 
 abbrev pub SightsLaw : Type 0
 SightsLaw = (units ready : ℕ) (calls : List Call) → 0 < units → SightsAsk (after units ready calls)
+
+-- So does each request that the target gets: it is served or refused, and answered.
+pub record RequestsAsk (node : NodeState) : Type 0 where
+  pub requests : (layer : Layer Purpose) (outbox : OutboxState) (p : Packet) (bytes : List ℕ) → AllAsk outbox.packets node → (let s = (request_step p bytes (scene (record node { layer = layer }) outbox)).1 in AllAsk s.outbox.packets s.node)
+
+abbrev pub RequestsAskLaw : Type 0
+RequestsAskLaw = (units ready : ℕ) (calls : List Call) → 0 < units → RequestsAsk (after units ready calls)

@@ -2,7 +2,7 @@
 ghost use Rattle.agent_terms.specs.Agents.{AgentsBetweenLaw, AgentsRunLaw, SerialsBetweenLaw, SerialsLaw};
 ghost use Rattle.agent_terms.specs.Alike.{AlikeLaw};
 ghost use Rattle.agent_terms.specs.Asides.{AsidesLaw};
-ghost use Rattle.agent_terms.specs.Asked.{AccessesLaw, FollowLaw, LateLaw, RepliesLaw, SightsLaw, UnderLaw};
+ghost use Rattle.agent_terms.specs.Asked.{AccessesLaw, FollowLaw, LateLaw, RepliesLaw, RequestsAskLaw, SightsLaw, UnderLaw};
 ghost use Rattle.agent_terms.specs.Calls.{AgentsLaw};
 ghost use Rattle.agent_terms.specs.Demands.{DemandsLaw};
 ghost use Rattle.agent_terms.specs.Enabled.{EnabledBetweenLaw, EnabledLaw, EnabledTermsBetweenLaw, EnabledTermsLaw};
@@ -216,4 +216,10 @@ pub fn accesses_keep_what_was_asked()
 /// A generation that is seen, and a key that is set, leave the desks of all places waiting for what left.
 pub fn sights_keep_what_was_asked()
     ensures { SightsLaw }
+{}
+
+/// Each request that the target gets, to a register of an agent, to its management agent or elsewhere, leaves the desks of
+/// all places waiting for what left.
+pub fn requests_keep_what_was_asked()
+    ensures { RequestsAskLaw }
 {}
