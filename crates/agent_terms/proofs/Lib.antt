@@ -71,3 +71,4 @@ pub mod AskedReplies
 pub mod AskedAccesses
 pub mod AskedSights
 pub mod AskedRequests
+pub mod AskedTicks

@@ -29,7 +29,7 @@ use Rattle.sbp_journal.specs.declared.outbox.Outgoing.{Outgoing}
 use Rattle.sbp_journal.specs.Outgoings.{OutboxState}
 use Rattle.sbp_target.specs.declared.purpose.Purpose.{Purpose}
 use Rattle.sbp_target.specs.Calls.{Call, after}
-use Rattle.sbp_target.specs.Receiving.{expire_agent, seen, with_key}
+use Rattle.sbp_target.specs.Receiving.{expire_agent, seen, ticked, with_key}
 use Rattle.sbp_target.specs.Replies.{replied_to, whole}
 use Rattle.sbp_target.specs.Serving.{accessed_by, request_step}
 use Rattle.async_packet.specs.Packet.{Packet}
@@ -189,3 +189,8 @@ pub record RequestsAsk (node : NodeState) : Type 0 where
 
 abbrev pub RequestsAskLaw : Type 0
 RequestsAskLaw = (units ready : ℕ) (calls : List Call) → 0 < units → RequestsAsk (after units ready calls)
+
+-- So does a second that goes by.
+abbrev pub TicksAskLaw : Type 0
+TicksAskLaw =
+    (units ready : ℕ) (calls : List Call) (outbox : OutboxState) → (let node = after units ready calls in AllAsk outbox.packets node → (let s = ticked (scene node outbox) in AllAsk s.outbox.packets s.node))

@@ -2,7 +2,7 @@
 ghost use Rattle.agent_terms.specs.Agents.{AgentsBetweenLaw, AgentsRunLaw, SerialsBetweenLaw, SerialsLaw};
 ghost use Rattle.agent_terms.specs.Alike.{AlikeLaw};
 ghost use Rattle.agent_terms.specs.Asides.{AsidesLaw};
-ghost use Rattle.agent_terms.specs.Asked.{AccessesLaw, FollowLaw, LateLaw, RepliesLaw, RequestsAskLaw, SightsLaw, UnderLaw};
+ghost use Rattle.agent_terms.specs.Asked.{AccessesLaw, FollowLaw, LateLaw, RepliesLaw, RequestsAskLaw, SightsLaw, TicksAskLaw, UnderLaw};
 ghost use Rattle.agent_terms.specs.Calls.{AgentsLaw};
 ghost use Rattle.agent_terms.specs.Demands.{DemandsLaw};
 ghost use Rattle.agent_terms.specs.Enabled.{EnabledBetweenLaw, EnabledLaw, EnabledTermsBetweenLaw, EnabledTermsLaw};
@@ -222,4 +222,9 @@ pub fn sights_keep_what_was_asked()
 /// all places waiting for what left.
 pub fn requests_keep_what_was_asked()
     ensures { RequestsAskLaw }
+{}
+
+/// A second that goes by leaves the desks of all places waiting for what left.
+pub fn seconds_keep_what_was_asked()
+    ensures { TicksAskLaw }
 {}
