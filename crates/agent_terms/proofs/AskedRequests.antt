@@ -1,8 +1,7 @@
 -- A request that the target gets leaves all desks waiting for what left.
-use Rattle.std.proofs.Common.{◌≡◌, refl, sym, ap, subst, ℕ, ◌<◌, ◌∙◌, Bool, true, false, cond, List, [], length, Option, Some, None, Result, Ok, Err}
+use Rattle.std.proofs.Common.{◌≡◌, refl, sym, ap, subst, ℕ, ◌<◌, ◌∙◌, Bool, true, false, cond, List, [], length, Option, Result, Ok, Err}
 use Rattle.std.specs.Prelude.{slice_index_or}
 use Rattle.async_packet.specs.Packet.{Packet, header_in}
-use Rattle.label_table.specs.declared.judgement.Asked.{Asked}
 use Rattle.label_table.specs.Bodies.{Body}
 use Rattle.label_table.specs.Layer.{Layer}
 use Rattle.login_table.specs.Table.{Table, place_at}
@@ -23,12 +22,12 @@ use Rattle.sbp_target.specs.declared.purpose.Sent.{Sent}
 use Rattle.sbp_target.specs.Calls.{after}
 use Rattle.sbp_target.specs.Desks.{new_desk}
 use Rattle.sbp_target.specs.Management.{ask_manager}
-use Rattle.sbp_target.specs.Nodes.{NodeState, Scene, desk_at, login_at, scene}
+use Rattle.sbp_target.specs.Nodes.{NodeState, Scene, desk_at, scene}
 use Rattle.sbp_target.specs.Serving.{answered, is_barred, request_step, serve, served_as, start, started_by}
 use Rattle.target_laws.proofs.Calling.{Good}
 use Rattle.target_laws.proofs.Pass as pass
 use Rattle.target_laws.proofs.Settled.{all_good, reaches}
-use Rattle.agent_terms.specs.Asked.{AllAsk, AsksReally, Left, RequestsAsk, RequestsAskLaw}
+use Rattle.agent_terms.specs.Asked.{AllAsk, AsksReally, Left, RequestsAskLaw}
 use Rattle.agent_terms.proofs.AskedAccesses.{accesses_fine, answered_fine}
 use Rattle.agent_terms.proofs.AskedLate.{asks_more, keeps_left}
 use Rattle.agent_terms.proofs.AskedReplies.{Fine}

@@ -1,13 +1,13 @@
 -- A second that goes by leaves all desks waiting for what left.
-use Rattle.std.proofs.Common.{◌≡◌, ◌∙◌, refl, sym, ap, subst, ℕ, zero, suc, ◌+◌, ◌<◌, Bool, true, false, cond, List, length, map, Option, Some, None}
+use Rattle.std.proofs.Common.{◌≡◌, ◌∙◌, refl, sym, ap, subst, ℕ, zero, suc, ◌+◌, Bool, true, false, cond, List, length, Option, Some, None}
 use Rattle.std.proofs.Math.ListN.{get_or-map}
 use Rattle.login_table.specs.declared.login.Login.{Login}
-use Rattle.login_table.specs.Table.{is_last, one_less, place_at, tick_step, ticked}
+use Rattle.login_table.specs.Table.{is_last, one_less, tick_step, ticked}
 use Rattle.sbp_journal.specs.declared.outbox.Outgoing.{Outgoing}
 use Rattle.sbp_journal.specs.declared.side.Side.TheVariants as sides
 use Rattle.sbp_journal.specs.Outgoings.{OutboxState}
 use Rattle.sbp_target.specs.Calls.{after}
-use Rattle.sbp_target.specs.Nodes.{NodeState, Scene, desk_at, login_at, scene}
+use Rattle.sbp_target.specs.Nodes.{NodeState, desk_at, login_at, scene}
 use Rattle.sbp_target.specs.Receiving as receiving
 use Rattle.sbp_target.specs.Receiving.{expired_from}
 use Rattle.sbp_target.specs.Sending.{with_side}

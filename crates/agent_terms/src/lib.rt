@@ -13,7 +13,7 @@ pub use laws::{
     enabled_registers_have_live_logins, hand_outs_change_the_agents, labels_of_requests_are_new,
     notes_change_the_agents, other_notes_leave_the_agents, packets_of_the_target_leave,
     places_have_their_initiators, replies_keep_what_was_asked, requests_ask_of_the_agents,
-    requests_have_purposes, requests_keep_what_was_asked, serials_are_for_what_is_under_way, serials_have_purposes,
-    seconds_keep_what_was_asked, sights_keep_what_was_asked, steps_ask_for_what_is_under_way, time_outs_keep_what_was_asked,
-    units_are_the_targets,
+    requests_have_purposes, requests_keep_what_was_asked, seconds_keep_what_was_asked,
+    serials_are_for_what_is_under_way, serials_have_purposes, sights_keep_what_was_asked,
+    steps_ask_for_what_is_under_way, time_outs_keep_what_was_asked, units_are_the_targets,
 };
