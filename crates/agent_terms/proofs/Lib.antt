@@ -72,3 +72,4 @@ pub mod AskedAccesses
 pub mod AskedSights
 pub mod AskedRequests
 pub mod AskedTicks
+pub mod AskedManagement

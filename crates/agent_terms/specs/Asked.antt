@@ -29,6 +29,7 @@ use Rattle.sbp_journal.specs.declared.outbox.Outgoing.{Outgoing}
 use Rattle.sbp_journal.specs.Outgoings.{OutboxState}
 use Rattle.sbp_target.specs.declared.purpose.Purpose.{Purpose}
 use Rattle.sbp_target.specs.Calls.{Call, after}
+use Rattle.sbp_target.specs.Management.{manage}
 use Rattle.sbp_target.specs.Receiving.{expire_agent, seen, ticked, with_key}
 use Rattle.sbp_target.specs.Replies.{replied_to, whole}
 use Rattle.sbp_target.specs.Serving.{accessed_by, request_step}
@@ -194,3 +195,8 @@ RequestsAskLaw = (units ready : ℕ) (calls : List Call) → 0 < units → Reque
 abbrev pub TicksAskLaw : Type 0
 TicksAskLaw =
     (units ready : ℕ) (calls : List Call) (outbox : OutboxState) → (let node = after units ready calls in AllAsk outbox.packets node → (let s = ticked (scene node outbox) in AllAsk s.outbox.packets s.node))
+
+-- So do a reply to the management operation and its time-out, whatever its step decides and makes of the logins.
+abbrev pub ManagementAskLaw : Type 0
+ManagementAskLaw =
+    (units ready : ℕ) (calls : List Call) (layer : Layer Purpose) (outbox : OutboxState) (answer : Answer) → 0 < units → (let node = after units ready calls in AllAsk outbox.packets node → (let s = manage answer (scene (record node { layer = layer }) outbox) in AllAsk s.outbox.packets s.node))

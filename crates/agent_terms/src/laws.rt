@@ -2,7 +2,7 @@
 ghost use Rattle.agent_terms.specs.Agents.{AgentsBetweenLaw, AgentsRunLaw, SerialsBetweenLaw, SerialsLaw};
 ghost use Rattle.agent_terms.specs.Alike.{AlikeLaw};
 ghost use Rattle.agent_terms.specs.Asides.{AsidesLaw};
-ghost use Rattle.agent_terms.specs.Asked.{AccessesLaw, FollowLaw, LateLaw, RepliesLaw, RequestsAskLaw, SightsLaw, TicksAskLaw, UnderLaw};
+ghost use Rattle.agent_terms.specs.Asked.{AccessesLaw, FollowLaw, LateLaw, ManagementAskLaw, RepliesLaw, RequestsAskLaw, SightsLaw, TicksAskLaw, UnderLaw};
 ghost use Rattle.agent_terms.specs.Calls.{AgentsLaw};
 ghost use Rattle.agent_terms.specs.Demands.{DemandsLaw};
 ghost use Rattle.agent_terms.specs.Enabled.{EnabledBetweenLaw, EnabledLaw, EnabledTermsBetweenLaw, EnabledTermsLaw};
@@ -227,4 +227,11 @@ pub fn requests_keep_what_was_asked()
 /// A second that goes by leaves the desks of all places waiting for what left.
 pub fn seconds_keep_what_was_asked()
     ensures { TicksAskLaw }
+{}
+
+/// A reply to the management operation, and its time-out, leave the desks of all places waiting for what left: a login that
+/// it enters finds an agent in RESET, which waits for nothing, each other live login stays as it is, and the lists that it
+/// cuts wait for nothing more.
+pub fn management_keeps_what_was_asked()
+    ensures { ManagementAskLaw }
 {}
