@@ -168,7 +168,7 @@ module _ (node : NodeState) (g : Good node) (layer : Layer Purpose) (outbox : Ou
   late_by (Some login) (Some Main) e h i = main_late login e (h refl)
   late_by (Some login) (Some Ahead) e h i = ahead_late login e (i refl)
 
-  lates : (peer : ℕ) (label : LabelParts) → (let s = expire_agent q peer label (scene (record node { layer = layer }) outbox) in AllAsk s.outbox.packets s.node)
+  pub lates : (peer : ℕ) (label : LabelParts) → (let s = expire_agent q peer label (scene (record node { layer = layer }) outbox) in AllAsk s.outbox.packets s.node)
   unfolding expire_agent
   lates peer label =
       late_by (login_at node q) (which_in Here peer label) refl

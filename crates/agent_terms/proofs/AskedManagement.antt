@@ -17,7 +17,7 @@ use Rattle.orb_layout.specs.declared.ask.FailCause.{FailCause}
 use Rattle.orb_layout.specs.Replies.{Answer}
 use Rattle.command_agent.specs.declared.phase.Phase.{Phase}
 use Rattle.command_agent.specs.declared.phase.Phase.TheVariants as phases
-use Rattle.command_agent.specs.Machine.{Machine, is_ahead, is_sent, state_in}
+use Rattle.command_agent.specs.Machine.{is_ahead, is_sent, state_in}
 use Rattle.command_agent.specs.Steps.{abort_step, is_reset, reset_step}
 use Rattle.sbp_journal.specs.declared.cause.CutCause.{CutCause}
 use Rattle.sbp_journal.specs.declared.cause.CutCause.TheVariants as cuts
@@ -28,7 +28,7 @@ use Rattle.sbp_target.specs.declared.purpose.Purpose.{Purpose}
 use Rattle.sbp_target.specs.Agents.{cut, cut_node, told_cut}
 use Rattle.sbp_target.specs.Calls.{after}
 use Rattle.sbp_target.specs.Desks.{reset_desk}
-use Rattle.sbp_target.specs.Management.{clear_one, cut_place, cut_placed, decided_by, effect_by, failed_by, logged_out, manage, managed_in, managed_with, place_in, tell_failed, tell_left, told_of, with_manager}
+use Rattle.sbp_target.specs.Management.{cut_place, cut_placed, decided_by, effect_by, failed_by, logged_out, manage, managed_in, managed_with, place_in, tell_left, told_of, with_manager}
 use Rattle.sbp_target.specs.Nodes.{NodeState, Scene, desk_at, login_at, scene}
 use Rattle.sbp_target.specs.Units.{clear_from, clear_unit, cut_all, cut_at, cut_from, is_cut}
 use Rattle.target_laws.proofs.Calling.{Good, not_eight}
@@ -49,7 +49,7 @@ no : false ≡ true → ⊥
 no e = cc
 
 -- ---- an agent in RESET waits for nothing
-idle_asks : (packets : List Outgoing) (fifo : ℕ) (d : Desk) → is_sent d.agent.phase ≡ false → is_ahead d.agent.ahead ≡ false → AsksReally packets fifo d
+pub idle_asks : (packets : List Outgoing) (fifo : ℕ) (d : Desk) → is_sent d.agent.phase ≡ false → is_ahead d.agent.ahead ≡ false → AsksReally packets fifo d
 idle_asks packets fifo d s a = record { main = λ sent f p. absurd (no (sym s ∙ p)); ahead = λ sent f p. absurd (no (sym a ∙ p)) }
 
 reset_phase : (p : Phase) → is_reset (state_in p) ≡ true → p ≡ phases.Reset

@@ -208,7 +208,7 @@ module _ (node : NodeState) (g : Good node) (outbox : OutboxState) (q : ℕ) (b 
     reply_by (Some login) (Some Main) h i = main_replies login (h login refl)
     reply_by (Some login) (Some Ahead) h i = ahead_replies login (i refl)
 
-    replies : (peer : ℕ) (label : LabelParts) → Fine (scene_of (replied_to told q peer label answer (whole (scene Over_layer outbox) disks)))
+    pub replies : (peer : ℕ) (label : LabelParts) → Fine (scene_of (replied_to told q peer label answer (whole (scene Over_layer outbox) disks)))
     unfolding replied_to
     replies peer label =
         reply_by (served_login Over_layer q) (which_in Here peer label) (λ login e. served_is (length node.units) (login_at node q) login e)

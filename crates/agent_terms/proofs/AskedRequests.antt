@@ -89,7 +89,7 @@ module _ (node : NodeState) (g : Good node) (layer : Layer Purpose) (outbox : Ou
   unfolding is_barred
   barred_same = refl
 
-  requests : Fine (request_step p bytes Begun).1
+  pub requests : Fine (request_step p bytes Begun).1
   unfolding request_step
   requests = request_by (is_barred (record node { layer = layer }) p) (sym barred_same)
 

@@ -39,11 +39,11 @@ module _ (node : NodeState) (size : length node.desks ≡ 8) (outbox : OutboxSta
       let at : (p : ℕ) → p < 8 → desk_at (held_all cut).node p ≡ disabled (desk_at cut.node p) = λ p l. (let s = c.size in get_or-map disabled cut.node.desks p new_desk new_desk (omega arith)) in
       record { all = λ p login l e. reset_asks (held_all cut).outbox.packets login.fifo (desk_at (held_all cut).node p) (desk_at node p).agent (ap (λ (d : Desk). d.agent) (at p l) ∙ c.agent p l) }
 
-  sights : (generation id : ℕ) → (let s = (seen generation id (scene node outbox)).1 in AllAsk s.outbox.packets s.node)
+  pub sights : (generation id : ℕ) → (let s = (seen generation id (scene node outbox)).1 in AllAsk s.outbox.packets s.node)
   unfolding seen
   sights generation id = sights_by (seeing_step node.layer generation id).0 (seeing_step node.layer generation id).1
 
-  keys : (unit : ℕ) (key : List ℕ) → AllAsk outbox.packets (with_key unit key node)
+  pub keys : (unit : ℕ) (key : List ℕ) → AllAsk outbox.packets (with_key unit key node)
   keys unit key = record { all = λ p login l e. a.all p login l e }
 
 pub sights_law : SightsLaw

@@ -39,7 +39,7 @@ was_there : (l : Option Login) (login : Login) → ticked l ≡ Some login → W
 was_there None login e = absurd (none_login login e)
 was_there (Some x) login e = was_by (is_last x.remaining) x login e
 
-ticks : (node : NodeState) (outbox : OutboxState) → AllAsk outbox.packets node → (let s = receiving.ticked (scene node outbox) in AllAsk s.outbox.packets s.node)
+pub ticks : (node : NodeState) (outbox : OutboxState) → AllAsk outbox.packets node → (let s = receiving.ticked (scene node outbox) in AllAsk s.outbox.packets s.node)
 unfolding receiving.ticked
 ticks node outbox a =
     let t = tick_step node.logins in

@@ -73,3 +73,4 @@ pub mod AskedSights
 pub mod AskedRequests
 pub mod AskedTicks
 pub mod AskedManagement
+pub mod AskedCalls

@@ -26,11 +26,11 @@ use Rattle.command_agent.specs.Steps.{abort_step, doorbell_step, lost_step, poin
 use Rattle.command_agent.specs.Tasks.{writes_status}
 use Rattle.sbp_journal.specs.declared.cause.CutCause.{CutCause}
 use Rattle.sbp_journal.specs.declared.outbox.Outgoing.{Outgoing}
-use Rattle.sbp_journal.specs.Outgoings.{OutboxState}
+use Rattle.sbp_journal.specs.Outgoings.{OutboxState, empty_outbox}
 use Rattle.sbp_target.specs.declared.purpose.Purpose.{Purpose}
-use Rattle.sbp_target.specs.Calls.{Call, after}
+use Rattle.sbp_target.specs.Calls.{Call, after, done}
 use Rattle.sbp_target.specs.Management.{manage}
-use Rattle.sbp_target.specs.Receiving.{expire_agent, seen, ticked, with_key}
+use Rattle.sbp_target.specs.Receiving.{expire_agent, new_node, seen, ticked, with_key}
 use Rattle.sbp_target.specs.Replies.{replied_to, whole}
 use Rattle.sbp_target.specs.Serving.{accessed_by, request_step}
 use Rattle.async_packet.specs.Packet.{Packet}
@@ -200,3 +200,16 @@ TicksAskLaw =
 abbrev pub ManagementAskLaw : Type 0
 ManagementAskLaw =
     (units ready : ℕ) (calls : List Call) (layer : Layer Purpose) (outbox : OutboxState) (answer : Answer) → 0 < units → (let node = after units ready calls in AllAsk outbox.packets node → (let s = manage answer (scene (record node { layer = layer }) outbox) in AllAsk s.outbox.packets s.node))
+
+-- a target and all that it handed out, where one outbox takes it call after call, the latest of them first
+abbrev pub gathered : ℕ → ℕ → List Call → Scene
+gathered units ready [] = scene (new_node units ready) empty_outbox
+gathered units ready (call ∷ calls) = done call (gathered units ready calls)
+
+-- So does each call, whatever it finds; and after every list of calls what the desks wait for is in the outbox that took all.
+pub record CallsAsk (units ready : ℕ) (calls : List Call) : Type 0 where
+  pub each : (call : Call) (outbox : OutboxState) → AllAsk outbox.packets (after units ready calls) → (let s = done call (scene (after units ready calls) outbox) in AllAsk s.outbox.packets s.node)
+  pub all : AllAsk (gathered units ready calls).outbox.packets (gathered units ready calls).node
+
+abbrev pub CallsAskLaw : Type 0
+CallsAskLaw = (units ready : ℕ) (calls : List Call) → 0 < units → CallsAsk units ready calls

@@ -2,7 +2,7 @@
 ghost use Rattle.agent_terms.specs.Agents.{AgentsBetweenLaw, AgentsRunLaw, SerialsBetweenLaw, SerialsLaw};
 ghost use Rattle.agent_terms.specs.Alike.{AlikeLaw};
 ghost use Rattle.agent_terms.specs.Asides.{AsidesLaw};
-ghost use Rattle.agent_terms.specs.Asked.{AccessesLaw, FollowLaw, LateLaw, ManagementAskLaw, RepliesLaw, RequestsAskLaw, SightsLaw, TicksAskLaw, UnderLaw};
+ghost use Rattle.agent_terms.specs.Asked.{AccessesLaw, CallsAskLaw, FollowLaw, LateLaw, ManagementAskLaw, RepliesLaw, RequestsAskLaw, SightsLaw, TicksAskLaw, UnderLaw};
 ghost use Rattle.agent_terms.specs.Calls.{AgentsLaw};
 ghost use Rattle.agent_terms.specs.Demands.{DemandsLaw};
 ghost use Rattle.agent_terms.specs.Enabled.{EnabledBetweenLaw, EnabledLaw, EnabledTermsBetweenLaw, EnabledTermsLaw};
@@ -234,4 +234,11 @@ pub fn seconds_keep_what_was_asked()
 /// cuts wait for nothing more.
 pub fn management_keeps_what_was_asked()
     ensures { ManagementAskLaw }
+{}
+
+/// Each call of a target, a delivery, a time-out, a sight, a second or a key, leaves the desks of all places waiting for
+/// what left, whatever was called before; and after every list of calls of a new target, where one outbox takes all that it
+/// hands out, what they wait for is in that outbox.
+pub fn calls_keep_what_was_asked()
+    ensures { CallsAskLaw }
 {}
