@@ -86,3 +86,4 @@ pub mod LastingTerms
 pub mod Lasting
 pub mod Remaining
 pub mod Standing
+pub mod Deliveries

@@ -22,3 +22,4 @@ pub mod Responses
 pub mod Remaining
 pub mod Lasting
 pub mod Standing
+pub mod Deliveries
