@@ -1,11 +1,14 @@
 -- Only deliveries tell that a packet was got.
 use Rattle.std.proofs.Common.{arith, ◌≡◌, refl, sym, ◌∙◌, ap, subst, ℕ, zero, suc, ◌+◌, ◌-◌, ◌<◌, ◌≤◌, nat_lt, Bool, true, false, cond, List, [], ◌∷◌, ◌++◌, length, map, slice_set, Option, Some, None, append_assoc}
 use Rattle.std.proofs.lemmas.Bool.Decides.{nat_tests}
+use Rattle.bus_transactions.specs.May.{is_reset}
+use Rattle.bus_transactions.specs.Wire.{as_sending}
 use Rattle.packet_store.specs.declared.sent.Sent.{Sent}
 use Rattle.packet_store.specs.Kept.{found_sent}
 use Rattle.rbc_disk.specs.Runs.{Told}
 use Rattle.sbp_journal.specs.Outgoings.{OutboxState, empty_outbox}
 use Rattle.sbp_journal.specs.Run.{Moment, asked, said}
+use Rattle.sbp_journal.specs.Wire.{terms}
 use Rattle.sbp_journal.specs.declared.cause.Judged.{Judged}
 use Rattle.sbp_journal.specs.declared.cause.Judged.TheVariants as judgements
 use Rattle.sbp_journal.specs.declared.event.Action.{Action}
@@ -30,21 +33,31 @@ use Rattle.sbp_world.specs.Histories.{history_of, moments_behind}
 use Rattle.sbp_world.specs.Lines.{MayHappen, acted, acted_by, happens, keyed, weight_in}
 use Rattle.sbp_world.specs.Nodes.{reset_line, see_line, tick_line}
 use Rattle.sbp_world.specs.Packets.{MayIf, delivered_if, expires, inject_line, injected, injected_to, is_in_flight, lose_line, may_repeat, timed_out, timeout_line, timeout_of}
-use Rattle.sbp_world.specs.Runs.{AreEntries, Entry, Run, after, beginning}
+use Rattle.sbp_world.specs.Runs.{Entry, Run, after, beginning}
 use Rattle.sbp_world.specs.Sending.{posted}
 use Rattle.sbp_world.specs.Settling.{MayAll, MayNext, after_all, delivered_at, delivered_next, is_settled, lowest}
 use Rattle.sbp_world.specs.Settling as settling
 use Rattle.sbp_world.specs.Telling.{told, told_all}
 use Rattle.sbp_world.specs.Worlds.{Scene, WorldState, begun, initiator_at, with_initiator, with_note}
 use Rattle.sbp_world.specs.Wire.Lines.{AreLines}
+use Rattle.sbp_world.specs.Wire.Wires.{Stands}
+use Rattle.sbp_world.proofs.FitInitiator.Law.{fitting_law as own_fitting_law}
+use Rattle.sbp_world.proofs.FitTarget.Law.{fitting_law}
 use Rattle.sbp_world.proofs.Wire.Comes.{own_inside, own_outside, to_own}
 use Rattle.sbp_world.proofs.Wire.Gains.{Gains, all_sent, hands_out}
+use Rattle.sbp_world.proofs.Wire.Holding.{Sound}
 use Rattle.sbp_world.proofs.Wire.OwnActs.{AreStepSides, IsStepSide, acts}
 use Rattle.sbp_world.proofs.Wire.OwnTells as own
+use Rattle.sbp_world.proofs.Wire.Runs.{SoundAfter, sound_after}
+use Rattle.sbp_world.proofs.Wire.Sound.{opens}
 use Rattle.sbp_world.proofs.Wire.Turned.{Turned, delivers, lapse_turns, second_turns, sight_turns, stale_refuses}
 use Rattle.host_terms.specs.Answering.{IsDelivering}
 use Rattle.host_terms.specs.Deliveries.{DeliveriesLaw, IsDelivered, WasGot, front_of}
+use Rattle.host_terms.specs.Handing.{history}
 use Rattle.host_terms.specs.Runs.{IsRun}
+use Rattle.host_terms.proofs.AnsweringRuns.{all_sound}
+use Rattle.host_terms.proofs.Knows.{was_sent}
+use Rattle.host_terms.proofs.Runs.{are_told, count_after, count_between}
 
 -- ---- notes
 
@@ -381,6 +394,38 @@ module _ (line : ℕ) (run : Run) (e : Entry) (earlier : List Entry) (q : IsRun 
   same : moments_behind line front earlier ≡ moments_behind line now earlier
   same = moments_same line now earlier earlier
 
+  before_it : SoundAfter line front earlier s.world
+  before_it = sound_after fitting_law own_fitting_law line front earlier front_is.few front_is.short front_is.entries front_is.lines
+
+  -- how the world stands behind some deliveries
+  deliveries_sound : (event : Event) (told : List (Option Told)) → is_reset event ≡ false → ((ms : List Moment) → (terms (asked e.line event ∷ ms)).repeats ≡ false) → MayAll told (begun s) → Sound (asked e.line event ∷ history s.world before_it.past) (length earlier) (after_all told (begun s)).world
+  deliveries_sound event told r repeats m = all_sound told (are_told told s m) (begun s) (opens e.line event s.world r before_it.sound) (repeats (history s.world before_it.past))
+
+  stands_here : (event : Event) (told : List (Option Told)) → IsDelivering event told → MayAll told (begun s) → Stands (asked e.line event ∷ history s.world before_it.past) (after_all told (begun s)).world
+  stands_here (events.Step count) told d m = (deliveries_sound (events.Step count) told refl (λ ms. refl) m).stands
+  stands_here events.Settle told d m = (deliveries_sound events.Settle told refl (λ ms. refl) m).stands
+  stands_here (events.Deliver n) told d m = subst (λ told. Stands (asked e.line (events.Deliver n) ∷ history s.world before_it.past) (after_all told (begun s)).world) (sym d) (opens e.line (events.Deliver n) s.world refl before_it.sound).stands
+  stands_here (events.Repeat n) told d m = subst (λ told. Stands (asked e.line (events.Repeat n) ∷ history s.world before_it.past) (after_all told (begun s)).world) (sym d) (opens e.line (events.Repeat n) s.world refl before_it.sound).stands
+  stands_here (events.Begin initiators ready) told d m = absurd d
+  stands_here (events.Act j action) told d m = absurd d
+  stands_here (events.Reset physical) told d m = absurd d
+  stands_here (events.See node) told d m = absurd d
+  stands_here (events.Lose n) told d m = absurd d
+  stands_here (events.Timeout n) told d m = absurd d
+  stands_here events.Tick told d m = absurd d
+  stands_here (events.Inject initiator bytes) told d m = absurd d
+  stands_here (events.Key unit key) told d m = absurd d
+
+  was_there : (serial : ℕ) (before : List Note) (h : Here e.event (begun s) e.notes serial before) → (terms (map said before ++ asked e.line e.event ∷ history_of line front)).sent serial ≡ Some (as_sending h.was_got.sent)
+  was_there serial before h =
+      let t = after_all h.told (begun s) in
+      subst (λ ns. (terms (map said ns ++ asked e.line e.event ∷ history_of line front)).sent serial ≡ Some (as_sending h.was_got.sent)) (sym h.is)
+      (subst (λ ms. (terms (map said t.world.fresh ++ asked e.line e.event ∷ ms)).sent serial ≡ Some (as_sending h.was_got.sent)) before_it.is
+      (was_sent t.world (stands_here e.event h.told h.delivers h.may) serial h.was_got.sent h.was_got.found))
+
+  is_inside : (told : List (Option Told)) (i : ℕ) → i < length (after_all told (begun s)).world.initiators → i < run.initiators
+  is_inside told i b = subst (λ n. i < n) (count_between told s ∙ count_after run earlier) b
+
   here_is : (serial : ℕ) (before : List Note) → Here e.event (begun s) e.notes serial before → IsDelivered line now serial (map said before ++ asked e.line e.event ∷ history_of line front)
   here_is serial before h =
       let new = (delivered serial h.again h.one (after_all h.told (begun s))).world.fresh in
@@ -397,6 +442,8 @@ module _ (line : ℕ) (run : Run) (e : Entry) (earlier : List Entry) (q : IsRun 
         one = h.one;
         may_one = h.may_one;
         was_got = h.was_got;
+        was = was_there serial before h;
+        inside = λ i is. is_inside h.told i (h.was_got.inside i is);
         is = ap (λ ns. map said ns ++ asked e.line e.event ∷ history_of line front) h.is;
         rest = map said h.later;
         behind = said_append h.later new (asked e.line e.event ∷ history_of line front)
@@ -418,6 +465,8 @@ module _ (line : ℕ) (run : Run) (e : Entry) (earlier : List Entry) (q : IsRun 
     one = d.one;
     may_one = d.may_one;
     was_got = d.was_got;
+    was = d.was;
+    inside = d.inside;
     is = d.is;
     rest = map said e.notes ++ asked e.line e.event ∷ d.rest;
     behind = append_assoc (map said e.notes) (asked e.line e.event ∷ d.rest) _ ∙ ap (λ ms. map said e.notes ++ asked e.line e.event ∷ ms) (d.behind ∙ same);

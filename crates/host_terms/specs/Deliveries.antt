@@ -1,11 +1,13 @@
 -- In which delivery a packet is got, in every run (IEEE 1394-1995, split transactions): behind each note that a packet was got stands the history of a
 -- line that delivers packets, behind the deliveries of it so far, with that packet the next one.
 use Rattle.std.specs.Prelude.{◌≡◌, ◌<◌, ℕ, suc, Bool, List, ◌∷◌, ◌++◌, length, map, Option, Some}
+use Rattle.bus_transactions.specs.Wire.{as_sending}
 use Rattle.packet_store.specs.declared.sent.Sent.{Sent}
 use Rattle.packet_store.specs.Kept.{found_sent}
 use Rattle.rbc_disk.specs.Runs.{Told}
 use Rattle.sbp_journal.specs.Outgoings.{empty_outbox}
 use Rattle.sbp_journal.specs.Run.{Moment, asked, said}
+use Rattle.sbp_journal.specs.Wire.{terms}
 use Rattle.sbp_journal.specs.declared.cause.Judged.TheVariants as judgements
 use Rattle.sbp_journal.specs.declared.note.Note.TheVariants as notes
 use Rattle.sbp_initiator.specs.Receiving.{receive_step}
@@ -42,6 +44,9 @@ pub record IsDelivered (line : ℕ) (run : Run) (serial : ℕ) (before : List Mo
   pub one : Option Told
   pub may_one : MayReceive one serial (after_all told (begun (after (beginning run) earlier)))
   pub was_got : WasGot serial (after_all told (begun (after (beginning run) earlier)))
+  -- it was sent so by the history before it too
+  pub was : (terms before).sent serial ≡ Some (as_sending was_got.sent)
+  pub inside : (i : ℕ) → was_got.sent.to ≡ suc i → i < run.initiators
   pub is : before ≡ map said (after_all told (begun (after (beginning run) earlier))).world.fresh ++ asked entry.line entry.event ∷ history_of line (front_of run earlier)
   pub rest : List Moment
   pub behind : rest ++ (map said (delivered serial again one (after_all told (begun (after (beginning run) earlier)))).world.fresh ++ asked entry.line entry.event ∷ history_of line (front_of run earlier)) ≡ history_of line run
