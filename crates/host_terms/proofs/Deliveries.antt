@@ -56,6 +56,7 @@ use Rattle.host_terms.specs.Deliveries.{DeliveriesLaw, IsDelivered, WasGot, fron
 use Rattle.host_terms.specs.Handing.{history}
 use Rattle.host_terms.specs.Runs.{IsRun}
 use Rattle.host_terms.proofs.AnsweringRuns.{all_sound}
+use Rattle.host_terms.proofs.GotRequests.{request_got}
 use Rattle.host_terms.proofs.Knows.{was_sent}
 use Rattle.host_terms.proofs.Runs.{are_told, count_after, count_between}
 
@@ -487,4 +488,17 @@ pub deliveries_law : DeliveriesLaw
 deliveries_law = record {
   deliveries = λ line run q later before serial e.
       find_got (IsDelivered line run) later before serial (subst (GotsIn (IsDelivered line run)) (sym e) (run_gots line run run.entries q));
+  requests = λ line run before serial i d to packet read access asks is_said. record {
+    sent = d.was_got.sent;
+    found = d.was_got.found;
+    to_it = to;
+    packet = packet;
+    request =
+        request_got (initiator_at (after_all d.told (begun (after (beginning run) d.earlier))).world i) d.was_got.sent.generation d.was_got.sent.bytes packet access asks read
+        (d.was_got.got i to);
+    access = access;
+    asks_for = asks;
+    got = d.was_got.got i to;
+    is_said = is_said;
+  };
 }

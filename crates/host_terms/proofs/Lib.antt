@@ -86,4 +86,5 @@ pub mod LastingTerms
 pub mod Lasting
 pub mod Remaining
 pub mod Standing
+pub mod GotRequests
 pub mod Deliveries
