@@ -88,3 +88,4 @@ pub mod Remaining
 pub mod Standing
 pub mod GotRequests
 pub mod Deliveries
+pub mod Finished

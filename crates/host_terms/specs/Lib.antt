@@ -23,3 +23,4 @@ pub mod Remaining
 pub mod Lasting
 pub mod Standing
 pub mod Deliveries
+pub mod Finished

@@ -6,6 +6,7 @@ ghost use Rattle.host_terms.specs.Calls.{CallLaw};
 ghost use Rattle.host_terms.specs.Core.{HostLaw};
 ghost use Rattle.host_terms.specs.Deciding.{RunRefusalLaw};
 ghost use Rattle.host_terms.specs.Deliveries.{DeliveriesLaw};
+ghost use Rattle.host_terms.specs.Finished.{FinishedLaw};
 ghost use Rattle.host_terms.specs.Handing.{HandLaw};
 ghost use Rattle.host_terms.specs.Keeping.{KeepingLaw};
 ghost use Rattle.host_terms.specs.Labels.{RunLabelLaw};
@@ -195,4 +196,11 @@ pub fn responses_stand_behind_requests()
 #[tactic(auto, using(crate::proofs::Deliveries::deliveries_law))]
 pub fn gets_are_deliveries()
     ensures { DeliveriesLaw }
+{}
+
+/// The law of every finished history: behind the note that an initiator got a read of a slot's ORB, of its next pointer or
+/// of its page table that is complete, it goes on with the response, and that carries what was read.
+#[tactic(auto, using(crate::proofs::Finished::finished_law))]
+pub fn finished_responses_carry_their_orbs()
+    ensures { FinishedLaw }
 {}
