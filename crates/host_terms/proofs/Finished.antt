@@ -1,12 +1,17 @@
 -- The responses of a finished history carry what was read.
-use Rattle.std.proofs.Common.{◌≡◌, ◌<◌, sym, ◌∙◌, ap, subst, ℕ, suc, false, List, ◌∷◌, ◌++◌, map, Some, None, Result, Ok, Err}
+use Rattle.std.proofs.Common.{◌≡◌, ◌<◌, refl, sym, ◌∙◌, ap, subst, ℕ, suc, ◌+◌, true, false, List, [], ◌∷◌, ◌++◌, map, Some, None, Result, Ok, Err}
+use Rattle.std.specs.List.{AllByRecursion}
 use Rattle.async_packet.specs.Packet.{Packet}
 use Rattle.async_packet.specs.Reading.{reading}
 use Rattle.async_packet.specs.declared.fault.PacketFault.{PacketFault}
 use Rattle.bus_memory.specs.Windows.{window_at}
+use Rattle.bus_transactions.specs.May.{is_plain}
+use Rattle.bus_transactions.specs.Packets.{SerialsCount}
 use Rattle.sbp_journal.specs.Addresses.{Access, access_of}
 use Rattle.sbp_journal.specs.Run.{Moment, asked, said}
 use Rattle.sbp_journal.specs.Wire.{terms}
+use Rattle.sbp_journal.specs.declared.note.Note.{Note}
+use Rattle.sbp_journal.specs.declared.note.Note.TheVariants as notes
 use Rattle.sbp_laws.specs.Lists.{Orb, prepared_in}
 use Rattle.sbp_laws.specs.Packets.{packet_in, receiver_in, spelled_by}
 use Rattle.sbp_laws.specs.Served.{host_reply}
@@ -23,6 +28,7 @@ use Rattle.host_terms.specs.Responses.{AreReads}
 use Rattle.host_terms.proofs.AnsweringRuns.{responses_law}
 use Rattle.host_terms.proofs.Deliveries.{deliveries_law}
 use Rattle.host_terms.proofs.GotRequests.{request_got}
+use Rattle.host_terms.proofs.Remaining.{gets_same, serials, serials_behind}
 
 same_node : (m n : ℕ) → Some m ≡ Some n → m ≡ n
 same_node m n e = cc
@@ -78,8 +84,36 @@ module _ (line : ℕ) (run : Run) (past : List Moment) (serial : ℕ) (d : IsDel
     reads = serves gets slot found small prepared complete;
   }
 
+-- ---- the packet behind a note
+
+not_plain : false ≡ true → ⊥
+not_plain e = cc
+
+plain_count : (note : Note) (past : List Moment) → is_plain note ≡ true → (terms (said note ∷ past)).count ≡ (terms past).count
+unfolding is_plain
+plain_count (notes.Sent s generation from to bytes) past e = absurd (not_plain e)
+plain_count (notes.Got s) past e = absurd (not_plain e)
+plain_count (notes.Ignored s cause) past e = absurd (not_plain e)
+plain_count (notes.TimedOut s) past e = absurd (not_plain e)
+plain_count note past e = refl
+
+effects_count : (effects : List Note) (past : List Moment) → AllByRecursion (λ note. is_plain note ≡ true) effects → (terms (map said effects ++ past)).count ≡ (terms past).count
+effects_count [] past h = refl
+effects_count (note ∷ effects) past h = plain_count note (map said effects ++ past) h.0 ∙ effects_count effects past h.1
+
+serials_from : (later before : List Moment) → SerialsCount (later ++ before) → SerialsCount before
+serials_from [] before h = h
+serials_from (m ∷ later) before h = serials_from later before (serials_behind m (later ++ before) h)
+
+next_serial : (past : List Moment) (request : ℕ) (effects : List Note) → AllByRecursion (λ note. is_plain note ≡ true) effects → (serial generation from to : ℕ) (bytes : List ℕ) → SerialsCount (said (notes.Sent serial generation from to bytes) ∷ (map said effects ++ said (notes.Got request) ∷ past)) → serial ≡ (terms past).count + 1
+next_serial past request effects plain serial generation from to bytes h =
+    h.0 ∙ ap (λ n. n + 1) (effects_count effects (said (notes.Got request) ∷ past) plain ∙ (gets_same ((terms past).sent request) request (terms past)).count)
+
 pub finished_law : FinishedLaw
 finished_law = record {
   reads = λ line run q later past serial e i to packet spelled access asks is_said slot found small prepared complete.
       goes_on line run past serial (deliveries_law.deliveries line run q later past serial e) i to packet spelled access asks is_said slot found small prepared complete;
+  next = λ line run q later past request effects plain serial generation from to bytes e.
+      next_serial past request effects plain serial generation from to bytes
+      (serials_from later (said (notes.Sent serial generation from to bytes) ∷ (map said effects ++ said (notes.Got request) ∷ past)) (subst SerialsCount (sym e) (serials line run q)));
 }
