@@ -25,10 +25,11 @@ use Rattle.host_terms.specs.Deliveries.{IsDelivered, front_of}
 use Rattle.host_terms.specs.Finished.{FinishedLaw, GoesOnWith}
 use Rattle.host_terms.specs.Reads.{IsSaid}
 use Rattle.host_terms.specs.Responses.{AreReads}
+use Rattle.host_terms.specs.Runs.{IsRun}
 use Rattle.host_terms.proofs.AnsweringRuns.{responses_law}
 use Rattle.host_terms.proofs.Deliveries.{deliveries_law}
 use Rattle.host_terms.proofs.GotRequests.{request_got}
-use Rattle.host_terms.proofs.Remaining.{gets_same, serials, serials_behind}
+use Rattle.host_terms.proofs.Remaining.{gets_same, remaining_law, serials, serials_behind}
 
 same_node : (m n : ℕ) → Some m ≡ Some n → m ≡ n
 same_node m n e = cc
@@ -42,7 +43,7 @@ spelled_ok (Err fault) p e = absurd (differ e)
     differ : None ≡ Some p → ⊥
     differ e = cc
 
-module _ (line : ℕ) (run : Run) (past : List Moment) (serial : ℕ) (d : IsDelivered line run serial past) (i : ℕ) (to : receiver_in ((terms past).sent serial) ≡ Some (suc i)) (packet : Packet) (spelled : packet_in ((terms past).sent serial) ≡ Some packet) (access : Access) (asks : access_of packet ≡ Some access) (is_said : access.is_write ≡ false → (host_reply past i access).rcode ≡ 0 → IsSaid past i access (window_at access.offset)) where
+module _ (line : ℕ) (run : Run) (q : IsRun run) (past : List Moment) (serial : ℕ) (d : IsDelivered line run serial past) (i : ℕ) (to : receiver_in ((terms past).sent serial) ≡ Some (suc i)) (packet : Packet) (spelled : packet_in ((terms past).sent serial) ≡ Some packet) (access : Access) (asks : access_of packet ≡ Some access) (is_said : access.is_write ≡ false → (host_reply past i access).rcode ≡ 0 → IsSaid past i access (window_at access.offset)) where
   abbrev s : Scene
   s = after_all d.told (begun (after (beginning run) d.earlier))
 
@@ -82,6 +83,7 @@ module _ (line : ℕ) (run : Run) (past : List Moment) (serial : ℕ) (d : IsDel
     rest = d.rest;
     is = d.behind;
     reads = serves gets slot found small prepared complete;
+    remains = remaining_law.remains line run q d.rest now d.behind;
   }
 
 -- ---- the packet behind a note
@@ -112,7 +114,7 @@ next_serial past request effects plain serial generation from to bytes h =
 pub finished_law : FinishedLaw
 finished_law = record {
   reads = λ line run q later past serial e i to packet spelled access asks is_said slot found small prepared complete.
-      goes_on line run past serial (deliveries_law.deliveries line run q later past serial e) i to packet spelled access asks is_said slot found small prepared complete;
+      goes_on line run q past serial (deliveries_law.deliveries line run q later past serial e) i to packet spelled access asks is_said slot found small prepared complete;
   next = λ line run q later past request effects plain serial generation from to bytes e.
       next_serial past request effects plain serial generation from to bytes
       (serials_from later (said (notes.Sent serial generation from to bytes) ∷ (map said effects ++ said (notes.Got request) ∷ past)) (subst SerialsCount (sym e) (serials line run q)));

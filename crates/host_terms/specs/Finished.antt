@@ -17,6 +17,7 @@ use Rattle.sbp_laws.specs.Served.{host_reply}
 use Rattle.sbp_world.specs.Histories.{history_of}
 use Rattle.sbp_world.specs.Runs.{Run}
 use Rattle.host_terms.specs.Reads.{IsSaid}
+use Rattle.host_terms.specs.Remaining.{Remains}
 use Rattle.host_terms.specs.Responses.{AreReads}
 use Rattle.host_terms.specs.Runs.{IsRun}
 
@@ -26,6 +27,8 @@ pub record GoesOnWith (past all : List Moment) (i serial slot : ℕ) (one : Orb)
   pub rest : List Moment
   pub is : rest ++ now ≡ all
   pub reads : AreReads past i serial slot one access now
+  -- so what the response is and carries is so by the whole history
+  pub remains : Remains now all
 
 pub record FinishedLaw : Type 0 where
   pub reads : (line : ℕ) (run : Run) → IsRun run → (later past : List Moment) (serial : ℕ) → later ++ said (notes.Got serial) ∷ past ≡ history_of line run → (i : ℕ) → receiver_in ((terms past).sent serial) ≡ Some (suc i) → (packet : Packet) → packet_in ((terms past).sent serial) ≡ Some packet → (access : Access) → access_of packet ≡ Some access → (access.is_write ≡ false → (host_reply past i access).rcode ≡ 0 → IsSaid past i access (window_at access.offset)) → (slot : ℕ) (found : Orb) → slot < 32 → prepared_in past i slot ≡ Some found → (host_reply past i access).rcode ≡ 0 → GoesOnWith past (history_of line run) i serial slot found access
