@@ -448,7 +448,7 @@ Serves ms w i serial now = (g : GetsRequest ms w i serial) → IsAnswered ms ser
 
 -- ---- a run
 
-all_sound : {past : List Moment} {lines : ℕ} (told : List (Option Told)) → AreTold told → (s : Scene) → Sound past lines s.world → (terms past).repeats ≡ false → Sound past lines (after_all told s).world
+pub all_sound : {past : List Moment} {lines : ℕ} (told : List (Option Told)) → AreTold told → (s : Scene) → Sound past lines s.world → (terms past).repeats ≡ false → Sound past lines (after_all told s).world
 unfolding delivered_next
 all_sound [] t s sound r = sound
 all_sound (told ∷ before) t s sound r =

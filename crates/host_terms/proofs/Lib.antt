@@ -86,3 +86,6 @@ pub mod LastingTerms
 pub mod Lasting
 pub mod Remaining
 pub mod Standing
+pub mod GotRequests
+pub mod Deliveries
+pub mod Finished

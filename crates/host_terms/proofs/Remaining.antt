@@ -53,7 +53,7 @@ gets_as_same (request label kind) s packet t = judges_same (asked_by packet) Non
 gets_as_same (response label kind) s packet t = closes_same _ _ kind _ t
 gets_as_same no_packet s packet t = record { count = refl; sent = refl; answers = refl }
 
-gets_same : (found : Option Sending) (s : ℕ) (t : Terms) → Same t (gets found s t)
+pub gets_same : (found : Option Sending) (s : ℕ) (t : Terms) → Same t (gets found s t)
 gets_same None s t = record { count = refl; sent = refl; answers = refl }
 gets_same (Some packet) s t = let k = gets_as_same (part_of packet.bytes) s packet _ in record { count = k.count; sent = k.sent; answers = k.answers }
 
@@ -130,7 +130,7 @@ step (said (notes.Ignored s cause)) past c = same_remains (said (notes.Ignored s
 step (said (notes.TimedOut s)) past c = same_remains (said (notes.TimedOut s)) past (times_out_same _ (terms past)) (λ r. refl)
 step (said note) past c = same_remains (said note) past (record { count = refl; sent = refl; answers = refl }) (λ r. refl)
 
-serials_behind : (m : Moment) (past : List Moment) → SerialsCount (m ∷ past) → SerialsCount past
+pub serials_behind : (m : Moment) (past : List Moment) → SerialsCount (m ∷ past) → SerialsCount past
 serials_behind (said (notes.Sent s generation from to bytes)) past c = c.1
 serials_behind (said note) past c = c
 serials_behind (asked line event) past c = c
@@ -150,7 +150,7 @@ remains (m ∷ later) before c =
 
 -- ---- a run
 
-serials : (line : ℕ) (run : Run) → IsRun run → SerialsCount (history_of line run)
+pub serials : (line : ℕ) (run : Run) → IsRun run → SerialsCount (history_of line run)
 serials line run q =
     let b = sound_after fitting_law own_fitting_law line run run.entries q.few q.short q.entries q.lines in
     subst SerialsCount b.is (laws_of b.past (after (beginning run) run.entries).world b.sound.stands).serials

@@ -22,3 +22,5 @@ pub mod Responses
 pub mod Remaining
 pub mod Lasting
 pub mod Standing
+pub mod Deliveries
+pub mod Finished

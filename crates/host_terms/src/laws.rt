@@ -5,6 +5,8 @@ ghost use Rattle.host_terms.specs.Calling.{CallsLaw};
 ghost use Rattle.host_terms.specs.Calls.{CallLaw};
 ghost use Rattle.host_terms.specs.Core.{HostLaw};
 ghost use Rattle.host_terms.specs.Deciding.{RunRefusalLaw};
+ghost use Rattle.host_terms.specs.Deliveries.{DeliveriesLaw};
+ghost use Rattle.host_terms.specs.Finished.{FinishedLaw};
 ghost use Rattle.host_terms.specs.Handing.{HandLaw};
 ghost use Rattle.host_terms.specs.Keeping.{KeepingLaw};
 ghost use Rattle.host_terms.specs.Labels.{RunLabelLaw};
@@ -186,4 +188,20 @@ pub fn packets_remain()
 #[tactic(auto, using(crate::proofs::Standing::standing_law))]
 pub fn responses_stand_behind_requests()
     ensures { StandingLaw }
+{}
+
+/// The law that in every run each note that a packet was got stands at a delivery of it: the history before it is that of a
+/// line that delivers packets, behind the deliveries of it so far, and the history behind that delivery is the end of
+/// that of the run.
+#[tactic(auto, using(crate::proofs::Deliveries::deliveries_law))]
+pub fn gets_are_deliveries()
+    ensures { DeliveriesLaw }
+{}
+
+/// The law of every finished history: behind the note that an initiator got a read of a slot's ORB, of its next pointer or
+/// of its page table that is complete, it goes on with the response, and that carries what was read, by the whole
+/// history too; and the response that is owed for a request that was got is the next packet behind that note.
+#[tactic(auto, using(crate::proofs::Finished::finished_law))]
+pub fn finished_responses_carry_their_orbs()
+    ensures { FinishedLaw }
 {}
