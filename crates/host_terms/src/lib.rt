@@ -4,10 +4,11 @@
 mod laws;
 
 pub use laws::{
-    actions_tell_their_notes, calls_keep_rows, memory_is_read_by_the_run, orbs_have_slots,
-    orbs_last, orbs_stand_in_memory, others_leave_rows, packets_remain,
-    requests_are_answered_by_the_run, responses_carry_their_orbs, responses_stand_behind_requests,
-    run_actions_tell_their_notes, runs_are_calls, runs_find_labels, runs_keep_rows,
-    runs_know_sessions, runs_point_by_writes, runs_refuse_by_their_rows, steps_keep_rows,
-    steps_of_worlds_keep_rows, terms_are_read, worlds_keep_rows,
+    actions_tell_their_notes, calls_keep_rows, finished_responses_carry_their_orbs,
+    gets_are_deliveries, memory_is_read_by_the_run, orbs_have_slots, orbs_last,
+    orbs_stand_in_memory, others_leave_rows, packets_remain, requests_are_answered_by_the_run,
+    responses_carry_their_orbs, responses_stand_behind_requests, run_actions_tell_their_notes,
+    runs_are_calls, runs_find_labels, runs_keep_rows, runs_know_sessions, runs_point_by_writes,
+    runs_refuse_by_their_rows, steps_keep_rows, steps_of_worlds_keep_rows, terms_are_read,
+    worlds_keep_rows,
 };
