@@ -32,5 +32,5 @@ pub record GoesOnWith (past all : List Moment) (i serial slot : ℕ) (one : Orb)
 
 pub record FinishedLaw : Type 0 where
   pub reads : (line : ℕ) (run : Run) → IsRun run → (later past : List Moment) (serial : ℕ) → later ++ said (notes.Got serial) ∷ past ≡ history_of line run → (i : ℕ) → receiver_in ((terms past).sent serial) ≡ Some (suc i) → (packet : Packet) → packet_in ((terms past).sent serial) ≡ Some packet → (access : Access) → access_of packet ≡ Some access → (access.is_write ≡ false → (host_reply past i access).rcode ≡ 0 → IsSaid past i access (window_at access.offset)) → (slot : ℕ) (found : Orb) → slot < 32 → prepared_in past i slot ≡ Some found → (host_reply past i access).rcode ≡ 0 → GoesOnWith past (history_of line run) i serial slot found access
-  -- the response that is owed for a request that was got is the next packet behind that note
+  -- a packet that is sent behind that note and plain effects alone, as the response that is owed there, has the next serial
   pub next : (line : ℕ) (run : Run) → IsRun run → (later past : List Moment) (request : ℕ) (effects : List Note) → AllByRecursion (λ note. is_plain note ≡ true) effects → (serial generation from to : ℕ) (bytes : List ℕ) → later ++ said (notes.Sent serial generation from to bytes) ∷ (map said effects ++ said (notes.Got request) ∷ past) ≡ history_of line run → serial ≡ (terms past).count + 1

@@ -154,7 +154,8 @@ pub fn requests_are_answered_by_the_run()
 {}
 
 /// The law that in every run a write of ORB_POINTER that is under way in an initiator's layer is the one that the
-/// run names for its present list: its label waits for the answer to that request.
+/// run names for its present list: its label waits for the answer to that request; that unless the session is Stuck
+/// it points exactly while that request is under way; and that an action that ends a list is refused by the run's rows.
 #[tactic(auto, using(crate::proofs::PointerRuns::pointer_run_law))]
 pub fn runs_point_by_writes()
     ensures { PointerRunLaw }
