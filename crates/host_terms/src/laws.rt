@@ -201,7 +201,7 @@ pub fn gets_are_deliveries()
 
 /// The law of every finished history: behind the note that an initiator got a read of a slot's ORB, of its next pointer or
 /// of its page table that is complete, it goes on with the response, and that carries what was read, by the whole
-/// history too; and the response that is owed for a request that was got is the next packet behind that note.
+/// history too; and a packet that is sent behind that note and plain effects alone has the next serial.
 #[tactic(auto, using(crate::proofs::Finished::finished_law))]
 pub fn finished_responses_carry_their_orbs()
     ensures { FinishedLaw }
