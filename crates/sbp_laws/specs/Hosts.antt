@@ -266,7 +266,7 @@ stored_in window access responses = responses
 
 abbrev pub stored : Option Access → List (List ℕ) → List (List ℕ)
 stored None responses = responses
-stored (Some access) responses = if access.is_write && access.is_block then stored_in (window_at access.offset) access responses else responses
+stored (Some access) responses = if access.is_write then stored_in (window_at access.offset) access responses else responses
 
 abbrev pub got_by : Option ℕ → Terms → ℕ → Option ℕ → Host → Host
 got_by (Some own) wire serial present host = answered (answer_in (packet_at wire serial)) own present host

@@ -36,10 +36,10 @@ use Rattle.sbp_journal.specs.declared.event.Action.TheVariants as actions
 use Rattle.sbp_journal.specs.declared.operation.Operation.{Operation}
 use Rattle.sbp_journal.specs.declared.note.Note.TheVariants as notes
 use Rattle.sbp_laws.specs.Turns.{event_of}
-use Rattle.sbp_laws.specs.Packets.{access_at, id_of}
-use Rattle.sbp_laws.specs.Lists.{Orb, SlotState, vacant, used, resting, slots, slot_at, prepared_in, command_at, linked, lowered, is_dummy, present_list}
+use Rattle.sbp_laws.specs.Packets.{access_at, id_of, receiver_in}
+use Rattle.sbp_laws.specs.Lists.{Orb, SlotState, vacant, used, resting, slots, lowest_vacant, slot_at, prepared_in, command_at, linked, lowered, is_dummy, present_list}
 use Rattle.sbp_laws.specs.Hosts.{Host, host_at, operation_of, is_management}
-use Rattle.sbp_laws.specs.Targets.{Target, Agent, agent_at, login_fifo}
+use Rattle.sbp_laws.specs.Targets.{Target, Agent, agent_at, login_fifo, is_serial}
 use Rattle.sbp_laws.specs.CarriedBytes.{laid_out}
 use Rattle.sbp_laws.specs.JudgementLaw.{rom_of, rom_size}
 
@@ -178,7 +178,20 @@ abbrev pub table_in_slot : List Moment → (i slot : ℕ) → Option Orb → Lis
 table_in_slot past i slot None = []
 table_in_slot past i slot (Some one) = table_held slot (command_at past i one.list one.number)
 
--- a byte of a slot's buffer: of the data of the latest command prepared there that has one at this address, or of a write since
+-- the page table window of a slot: the table of the ORB that was prepared there last, and behind its end what stood there before, zeros at first
+abbrev pub in_front : (table before : List ℕ) → List ℕ
+in_front table before = table ++ drop (length table) before
+
+abbrev pub tables_before : List Moment → (i slot : ℕ) → List ℕ
+tables_before [] i slot = replicate 512 0
+tables_before (said (notes.Append j n k cdb buffer) ∷ past) i slot =
+    if (j == i) && (lowest_vacant (slots past i) == slot) then in_front (table_in_slot past i slot (prepared_in past i slot)) (tables_before past i slot) else tables_before past i slot
+tables_before (_ ∷ past) i slot = tables_before past i slot
+
+abbrev pub tables_in_slot : List Moment → (i slot : ℕ) → List ℕ
+tables_in_slot past i slot = in_front (table_in_slot past i slot (prepared_in past i slot)) (tables_before past i slot)
+
+-- a byte of these, where there is one
 abbrev pub data_at : Option ℕ → List ℕ → Option ℕ
 data_at None payload = None
 data_at (Some at) payload = if nat_lt at (length payload) then Some (slice_index_or payload at 0) else None
@@ -195,13 +208,6 @@ byte_written address (Some access) =
 abbrev pub or_byte : Option ℕ → ℕ → ℕ
 or_byte (Some byte) other = byte
 or_byte None other = other
-
-abbrev pub byte_in : List Moment → (i slot address : ℕ) → ℕ
-byte_in [] i slot address = 0
-byte_in (said (notes.Append j n k cdb buffer) ∷ past) i slot address =
-    or_byte (if (j == i) && (slot_at (said (notes.Append j n k cdb buffer) ∷ past) i n k == slot) then byte_of slot address (command_at (said (notes.Append j n k cdb buffer) ∷ past) i n k) else None) (byte_in past i slot address)
-byte_in (said (notes.Got serial) ∷ past) i slot address = or_byte (byte_written address (access_at (terms past) serial)) (byte_in past i slot address)
-byte_in (_ ∷ past) i slot address = byte_in past i slot address
 
 abbrev pub bytes_from : (count : ℕ) → (ℕ → ℕ) → ℕ → List ℕ
 bytes_from zero byte address = []
@@ -317,6 +323,22 @@ window_facts past i rom access = record {
   has_direction = has_direction past i access (window_at access.offset);
 }
 
+-- a request that an initiator got is complete
+abbrev pub is_complete_at : List Moment → (i : ℕ) → Option Access → Bool
+is_complete_at past i None = false
+is_complete_at past i (Some access) = window_rcode (window_facts past i (rom_size (suc i) 0) access) == 0
+
+-- a byte of a slot's buffer: of the data of the latest command prepared there that has one at this address, or of a write that the initiator got
+-- since and that was complete
+abbrev pub byte_in : List Moment → (i slot address : ℕ) → ℕ
+byte_in [] i slot address = 0
+byte_in (said (notes.Append j n k cdb buffer) ∷ past) i slot address =
+    or_byte (if (j == i) && (slot_at (said (notes.Append j n k cdb buffer) ∷ past) i n k == slot) then byte_of slot address (command_at (said (notes.Append j n k cdb buffer) ∷ past) i n k) else None) (byte_in past i slot address)
+byte_in (said (notes.Got serial) ∷ past) i slot address =
+    let access = access_at (terms past) serial in
+    or_byte (if is_serial (receiver_in ((terms past).sent serial)) (suc i) && is_complete_at past i access then byte_written address access else None) (byte_in past i slot address)
+byte_in (_ ∷ past) i slot address = byte_in past i slot address
+
 abbrev pub cut : Access → ℕ → List ℕ → List ℕ
 cut access base held = take access.count (drop (access.offset - base) held)
 
@@ -324,7 +346,7 @@ abbrev pub window_gives : List Moment → ℕ → Access → Option Window → L
 window_gives past i access None = []
 window_gives past i access (Some windows.Rom) = rom_gives (suc i) 0 access
 window_gives past i access (Some (windows.Orb slot)) = cut access (start (windows.Orb slot)) (orb_in_slot past i slot (prepared_in past i slot))
-window_gives past i access (Some (windows.Table slot)) = cut access (start (windows.Table slot)) (table_in_slot past i slot (prepared_in past i slot))
+window_gives past i access (Some (windows.Table slot)) = cut access (start (windows.Table slot)) (tables_in_slot past i slot)
 window_gives past i access (Some (windows.Buffer slot)) = bytes_from access.count (byte_in past i slot) access.offset
 window_gives past i access (Some (windows.Management place)) = cut access (start (windows.Management place)) (place_bytes (place_held past i place))
 window_gives past i access (Some (windows.Response place)) = []
