@@ -13,7 +13,7 @@ use Rattle.sbp_world.specs.Lines.{IsEvent}
 use Rattle.bus_transactions.specs.Fitting.{AreBytes}
 use Rattle.bus_transactions.proofs.Fits.{bytes_append, bytes_quad, no_bytes}
 use Rattle.sbp_world.specs.FitInitiator.{BytesCommand}
-use Rattle.sbp_world.specs.Wire.Lines.{IsLine}
+use Rattle.sbp_world.specs.Wire.Lines.{FillsBuffer, IsLine}
 
 drawn_two : (x : ℕ) → drawn x 2 < 2
 unfolding drawn
@@ -77,11 +77,19 @@ read_bytes : (lba : ℕ) → BytesCommand (block_read lba)
 unfolding block_read
 read_bytes lba = record { cdb = block_bytes 0x28 lba 1 (omega arith); payload = no_bytes }
 
+write_fills : (lba byte : ℕ) → FillsBuffer (block_write lba byte)
+unfolding block_write block_of
+write_fills lba byte = record { payload = λ t. length-replicate 512 byte; segments = λ t. absurd (omega arith) }
+
+read_fills : (lba : ℕ) → FillsBuffer (block_read lba)
+unfolding block_read
+read_fills lba = record { payload = λ t. absurd (cc t); segments = λ t. absurd (omega arith) }
+
 turn_of_is : (x1 x2 x3 : ℕ) → IsLine (turn_of x1 x2 x3).event 2
 turn_of_is x1 x2 x3 =
     elim (drawn x2 2 == 0) as (λ t. IsLine (cond t (appending (drawn x1 2) (block_write (drawn x3 64) (drawn (next x3) 256)) (next x3)) (appending (drawn x1 2) (block_read (drawn x3 64)) x3)).event 2) [
-      | true ↦ (drawn_two x1, write_bytes (drawn x3 64) (drawn (next x3) 256) (drawn_byte (next x3)), write_is (drawn x3 64) (drawn (next x3) 256))
-      | false ↦ (drawn_two x1, read_bytes (drawn x3 64), read_is (drawn x3 64))
+      | true ↦ (drawn_two x1, write_bytes (drawn x3 64) (drawn (next x3) 256) (drawn_byte (next x3)), write_is (drawn x3 64) (drawn (next x3) 256), write_fills (drawn x3 64) (drawn (next x3) 256))
+      | false ↦ (drawn_two x1, read_bytes (drawn x3 64), read_is (drawn x3 64), read_fills (drawn x3 64))
     ]
 
 turn_is : (x : ℕ) → IsLine (turn x).event 2

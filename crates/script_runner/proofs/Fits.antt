@@ -36,9 +36,9 @@ use Rattle.script_text.specs.Line.{action_of, all_differ, arguments, event_of, f
 use Rattle.sbp_initiator.specs.Commands.{IsCommand}
 use Rattle.sbp_initiator.specs.Acting.{IsAction}
 use Rattle.sbp_world.specs.Lines.{IsEvent}
-use Rattle.sbp_world.specs.Wire.Lines.{IsLine}
+use Rattle.sbp_world.specs.Wire.Lines.{FillsAction, FillsBuffer, IsLine}
 use Rattle.script_runner.specs.Runner.{HasBytes, IsBeginning}
-use Rattle.script_runner.proofs.OwnIds.{AreAtMost, HasOwnIds, ids_apart, is_line}
+use Rattle.script_runner.proofs.OwnIds.{AreAtMost, HasOwn, ids_apart, is_line}
 
 -- ---- words
 
@@ -68,13 +68,14 @@ record IsPlain (cmd : Cmd) : Type 0 where
   block : length cmd.cdb ≡ 12
   short : cmd.length ≤ 16384
   payload : length cmd.payload ≤ cmd.length
+  fills : cmd.to_initiator ≡ false → length cmd.payload ≡ cmd.length
 
 addressed_length : (form : Form) (opcode lba count : ℕ) → length (addressed_block form opcode lba count) ≡ 12
 addressed_length Ten opcode lba count = refl
 addressed_length Twelve opcode lba count = refl
 
 plain_bringing : (cdb : List ℕ) (len : ℕ) → length cdb ≡ 12 → len ≤ 16384 → IsPlain (bringing cdb len)
-plain_bringing cdb len e few = record { block = e; short = few; payload = omega arith }
+plain_bringing cdb len e few = record { block = e; short = few; payload = omega arith; fills = λ t. let none = ltb-false 0 len t in omega arith }
 
 plain_reading : (form : Form) (opcode : ℕ) (ws : List (List ℕ)) → IfOk (reading_blocks form opcode ws) IsPlain
 plain_reading form opcode [] = tt
@@ -107,7 +108,7 @@ plain_writing form opcode [] = tt
 plain_writing form opcode (lba ∷ []) = tt
 plain_writing form opcode (lba ∷ content ∷ tail) =
     then_fits IsPlain (number 0 4294967295 lba) _ (λ l e. then_fits IsPlain (bytes_of (pieces content)) _ (λ bytes k.
-    record { block = addressed_length form opcode l _; short = bytes_few (pieces content) bytes k; payload = omega arith }))
+    record { block = addressed_length form opcode l _; short = bytes_few (pieces content) bytes k; payload = omega arith; fills = λ t. refl }))
 
 plain_block_fits : (opcode fourth len : ℕ) → len ≤ 16384 → IsPlain (bringing (plain_block opcode fourth) len)
 plain_block_fits opcode fourth len few = plain_bringing (plain_block opcode fourth) len refl few
@@ -133,11 +134,12 @@ plain_command verbs.Write12 ws = plain_writing Twelve 0xAA ws
 record AreSegments (total : ℕ) (segs : List ℕ) : Type 0 where
   few : length segs ≤ 64
   whole : sum segs ≤ total
+  sums : 0 < length segs → sum segs ≡ total
 
 summing_fits : (total : ℕ) (lens : List ℕ) → length lens ≤ 64 → IfOk (summing total lens) (AreSegments total)
 summing_fits total lens few =
     elim (sum lens == total) as (λ t. (sum lens == total) ≡ t → IfOk (cond t (Ok lens) (Err faults.Range)) (AreSegments total)) [
-      | true ↦ λ e. let same : sum lens ≡ total = eqb-true (sum lens) total e in record { few = few; whole = omega arith }
+      | true ↦ λ e. let same : sum lens ≡ total = eqb-true (sum lens) total e in record { few = few; whole = omega arith; sums = λ t. same }
       | false ↦ λ e. tt
     ] refl
 
@@ -157,7 +159,7 @@ segments_fit total word =
     ] refl
 
 maybe_segments : (total : ℕ) (word : Option (List ℕ)) → IfOk (segments total word) (AreSegments total)
-maybe_segments total None = record { few = omega arith; whole = omega arith }
+maybe_segments total None = record { few = omega arith; whole = omega arith; sums = λ t. absurd (omega arith) }
 maybe_segments total (Some word) = segments_fit total word
 
 max_payload_fits : (word : Option (List ℕ)) (most : ℕ) → max_payload word ≡ Ok most → most ≤ 9
@@ -174,19 +176,24 @@ command_is cmd segs most p s few = λ node login. record {
   max_payload = omega arith;
 }
 
-end_fits : (ws : List (List ℕ)) (cmd : Cmd) → IsPlain cmd → IfOk (with_end ws cmd) IsCommand
+-- it is a command that fills its buffer
+abbrev FitsBuffer : Cmd → Type 0
+FitsBuffer cmd = IsCommand cmd × FillsBuffer cmd
+
+end_fits : (ws : List (List ℕ)) (cmd : Cmd) → IsPlain cmd → IfOk (with_end ws cmd) FitsBuffer
 end_fits ws cmd p =
     then_segments (segments cmd.length (behind Seg ws)) (maybe_segments cmd.length (behind Seg ws))
   where
-    then_segments : (r : Result (List ℕ) LineFault) → IfOk r (AreSegments cmd.length) → IfOk (r >>= λ segs. max_payload (behind Pay ws) >>= λ most. Ok (record cmd { segments = segs; max_payload = most })) IsCommand
-    then_segments (Ok segs) s = then_fits IsCommand (max_payload (behind Pay ws)) _ (λ most k. command_is cmd segs most p s (max_payload_fits (behind Pay ws) most k))
+    then_segments : (r : Result (List ℕ) LineFault) → IfOk r (AreSegments cmd.length) → IfOk (r >>= λ segs. max_payload (behind Pay ws) >>= λ most. Ok (record cmd { segments = segs; max_payload = most })) FitsBuffer
+    then_segments (Ok segs) s =
+        then_fits FitsBuffer (max_payload (behind Pay ws)) _ (λ most k. (command_is cmd segs most p s (max_payload_fits (behind Pay ws) most k), record { payload = p.fills; segments = s.sums }))
     then_segments (Err fault) s = tt
 
-cmd_fits : (verb : Option Verb) (ws : List (List ℕ)) → IfOk (cmd_of verb ws) IsCommand
+cmd_fits : (verb : Option Verb) (ws : List (List ℕ)) → IfOk (cmd_of verb ws) FitsBuffer
 cmd_fits None ws = tt
 cmd_fits (Some verb) ws = then_command (command verb ws) (plain_command verb ws)
   where
-    then_command : (r : Result Cmd LineFault) → IfOk r IsPlain → IfOk (r >>= with_end ws) IsCommand
+    then_command : (r : Result Cmd LineFault) → IfOk r IsPlain → IfOk (r >>= with_end ws) FitsBuffer
     then_command (Ok cmd) p = end_fits ws cmd p
     then_command (Err fault) p = tt
 
@@ -206,9 +213,9 @@ numbers_small low high ws ids e =
 
 -- ---- events
 
--- an event that names an initiator there is; the IDs of a reset are physical ones
+-- an event that names an initiator there is; the IDs of a reset are physical ones, and a command fills its buffer
 abbrev Fits : ℕ → Event → Type 0
-Fits n event = names_none n event ≡ false → IsEvent event n × HasOwnIds event
+Fits n event = names_none n event ≡ false → IsEvent event n × HasOwn event
 
 turned : (b : Bool) → not b ≡ false → b ≡ true
 turned true e = refl
@@ -217,25 +224,28 @@ turned false e = absurd (cc e)
 named : (i n : ℕ) → not (nat_lt i n) ≡ false → i < n
 named i n e = ltb-true i n (turned (nat_lt i n) e)
 
-action_fits : (act : Act) → IsAction (action_of act)
-action_fits acts.Rom = tt
-action_fits acts.Reconnect = tt
-action_fits acts.Logout = tt
-action_fits acts.AbortSet = tt
-action_fits acts.UnitReset = tt
-action_fits acts.TargetReset = tt
-action_fits acts.AgentReset = tt
-action_fits acts.State = tt
-action_fits acts.Enable = tt
-action_fits acts.Low = tt
-action_fits acts.Link = tt
-action_fits acts.Ring = tt
+abbrev FitsAction : Action → Type 0
+FitsAction action = IsAction action × FillsAction action
 
-orb_fits : (act : OrbAct) (orb : ℕ) → IsAction (orb_action act orb)
-orb_fits orb_acts.Abort orb = tt
-orb_fits orb_acts.Dummy orb = tt
+action_fits : (act : Act) → FitsAction (action_of act)
+action_fits acts.Rom = (tt, tt)
+action_fits acts.Reconnect = (tt, tt)
+action_fits acts.Logout = (tt, tt)
+action_fits acts.AbortSet = (tt, tt)
+action_fits acts.UnitReset = (tt, tt)
+action_fits acts.TargetReset = (tt, tt)
+action_fits acts.AgentReset = (tt, tt)
+action_fits acts.State = (tt, tt)
+action_fits acts.Enable = (tt, tt)
+action_fits acts.Low = (tt, tt)
+action_fits acts.Link = (tt, tt)
+action_fits acts.Ring = (tt, tt)
 
-placed_fits : (placing : Placing) (cmd : Cmd) → IsCommand cmd → IsAction (placed placing cmd)
+orb_fits : (act : OrbAct) (orb : ℕ) → FitsAction (orb_action act orb)
+orb_fits orb_acts.Abort orb = (tt, tt)
+orb_fits orb_acts.Dummy orb = (tt, tt)
+
+placed_fits : (placing : Placing) (cmd : Cmd) → FitsBuffer cmd → FitsAction (placed placing cmd)
 placed_fits placings.Put cmd h = h
 placed_fits placings.Append cmd h = h
 
@@ -245,8 +255,8 @@ fate_fits fates.Repeat serial n = λ e. (tt, tt)
 fate_fits fates.Lose serial n = λ e. (tt, tt)
 fate_fits fates.Timeout serial n = λ e. (tt, tt)
 
-act_fits : (n i : ℕ) (action : Action) → IsAction action → Fits n (events.Act i action)
-act_fits n i action h = λ e. ((named i n e, h), tt)
+act_fits : (n i : ℕ) (action : Action) → FitsAction action → Fits n (events.Act i action)
+act_fits n i action h = λ e. ((named i n e, h.0), h.1)
 
 row_act : (n : ℕ) (act : Act) (ws : List (List ℕ)) → IfOk (event_of (rows.Act act) ws) (Fits n)
 row_act n act [] = tt
@@ -259,12 +269,12 @@ row_login n (i ∷ []) = tt
 row_login n (i ∷ u ∷ []) = tt
 row_login n (i ∷ u ∷ r ∷ options) =
     then_fits (Fits n) (number 0 3 i) _ (λ a e. then_fits (Fits n) (number 0 3 u) _ (λ b f. then_fits (Fits n) (number 0 15 r) _ (λ c g.
-    let few = (within 0 15 c r g).1 in let below : c < 2 ^ 4 = omega arith in act_fits n a (actions.Login b c (is_exclusive options) (password options)) below)))
+    let few = (within 0 15 c r g).1 in let below : c < 2 ^ 4 = omega arith in act_fits n a (actions.Login b c (is_exclusive options) (password options)) (below, tt))))
 
 row_query : (n : ℕ) (ws : List (List ℕ)) → IfOk (event_of rows.Query ws) (Fits n)
 row_query n [] = tt
 row_query n (i ∷ []) = tt
-row_query n (i ∷ u ∷ []) = then_fits (Fits n) (number 0 3 i) _ (λ a e. then_fits (Fits n) (number 0 3 u) _ (λ b f. act_fits n a (actions.Query b) tt))
+row_query n (i ∷ u ∷ []) = then_fits (Fits n) (number 0 3 i) _ (λ a e. then_fits (Fits n) (number 0 3 u) _ (λ b f. act_fits n a (actions.Query b) (tt, tt)))
 row_query n (i ∷ u ∷ w ∷ ws) = tt
 
 row_orb : (n : ℕ) (act : OrbAct) (ws : List (List ℕ)) → IfOk (event_of (rows.OnOrb act) ws) (Fits n)
@@ -278,7 +288,7 @@ row_command n placing [] = tt
 row_command n placing (i ∷ []) = tt
 row_command n placing (i ∷ verb ∷ ws) = then_fits (Fits n) (number 0 3 i) _ (λ a e. then_cmd a (cmd_of (verb_of verb) ws) (cmd_fits (verb_of verb) ws))
   where
-    then_cmd : (a : ℕ) (r : Result Cmd LineFault) → IfOk r IsCommand → IfOk (r >>= λ cmd. Ok (events.Act a (placed placing cmd))) (Fits n)
+    then_cmd : (a : ℕ) (r : Result Cmd LineFault) → IfOk r FitsBuffer → IfOk (r >>= λ cmd. Ok (events.Act a (placed placing cmd))) (Fits n)
     then_cmd a (Ok cmd) h = act_fits n a _ (placed_fits placing cmd h)
     then_cmd a (Err fault) h = tt
 
@@ -444,7 +454,7 @@ goes_on n r some e = by_test (n == 0) refl e
     by_test true t f = let none : n ≡ 0 = eqb-true n 0 t in absurd (omega arith)
     by_test false t f = f
 
-fits_whole : (line : List ℕ) (n : ℕ) (event : Event) → 0 < n → reading line n ≡ Ok (Some event) → IsEvent event n × HasOwnIds event
+fits_whole : (line : List ℕ) (n : ℕ) (event : Event) → 0 < n → reading line n ≡ Ok (Some event) → IsEvent event n × HasOwn event
 fits_whole line n event some e =
     let s = says_so line n event e in
     subst (λ x. IfOk x (Fits n)) s.is (row_fits s.r n (arguments line) (goes_on n s.r some s.place) s.shape) s.names

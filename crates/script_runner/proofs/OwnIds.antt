@@ -1,4 +1,5 @@
--- The IDs of a reset are physical ones, and no two are the same; so an event whose bytes are below 256 is a line of the wire.
+-- The IDs of a reset are physical ones, and no two are the same; so an event whose bytes are below 256, and whose command fills its buffer, is a
+-- line of the wire.
 use Rattle.std.proofs.Common.{◌≡◌, ◌∙◌, refl, sym, ap, ℕ, zero, suc, ◌+◌, ◌<◌, ◌≤◌, ◌==◌, ◌&&◌, ◌||◌, Bool, true, false, not, List, [], ◌∷◌, length, slice_index_or, arith}
 use Rattle.std.specs.List.{list_any}
 use Rattle.std.proofs.lemmas.Bool.{eqb-false}
@@ -6,7 +7,7 @@ use Rattle.sbp_journal.specs.declared.event.Event.{Event}
 use Rattle.sbp_journal.specs.declared.event.Event.TheVariants as events
 use Rattle.script_text.specs.Line.{all_differ}
 use Rattle.sbp_world.specs.Lines.{IsEvent}
-use Rattle.sbp_world.specs.Wire.Lines.{IsLine}
+use Rattle.sbp_world.specs.Wire.Lines.{FillsAction, IsLine}
 use Rattle.script_runner.specs.Runner.{HasBytes}
 
 -- each number is this one at most
@@ -21,10 +22,11 @@ pub record ArePhysical (ids : List ℕ) : Type 0 where
   pub small : AreAtMost 62 ids
   pub apart : AreApart ids
 
--- the IDs of an event, if it is a reset
-abbrev pub HasOwnIds : Event → Type 0
-HasOwnIds (events.Reset ids) = ArePhysical ids
-HasOwnIds _ = Unit {0}
+-- the IDs of an event, if it is a reset, and the command, if it has one
+abbrev pub HasOwn : Event → Type 0
+HasOwn (events.Act initiator action) = FillsAction action
+HasOwn (events.Reset ids) = ArePhysical ids
+HasOwn _ = Unit {0}
 
 neither : (a b : Bool) → (a || b) ≡ false → (a ≡ false) × (b ≡ false)
 neither true b e = absurd (cc e)
@@ -51,9 +53,9 @@ ids_apart (n ∷ ns) e (suc i) (suc j) here there same =
 
 -- ---- a line of the wire
 
-pub is_line : (event : Event) (n : ℕ) → IsEvent event n → HasOwnIds event → HasBytes event → IsLine event n
+pub is_line : (event : Event) (n : ℕ) → IsEvent event n → HasOwn event → HasBytes event → IsLine event n
 is_line (events.Begin initiators ready) n h own bytes = absurd h
-is_line (events.Act initiator action) n h own bytes = (h.0, bytes, h.1)
+is_line (events.Act initiator action) n h own bytes = (h.0, bytes, h.1, own)
 is_line (events.Reset ids) n h own bytes = record { count = h ∙ (let e : n + 1 ≡ suc n = omega arith in e); small = own.small; apart = own.apart }
 is_line (events.See node) n h own bytes = h
 is_line (events.Deliver serial) n h own bytes = tt

@@ -1,9 +1,12 @@
 -- The laws of the wire over every run of a world: each line of it is a list of moves of the wire.
-use Rattle.std.specs.Prelude.{◌≡◌, ◌≤◌, ◌<◌, ℕ, suc, ◌+◌, ◌^◌, Bool, List, [], ◌∷◌, ◌++◌, length, map, slice_index_or}
+use Rattle.std.specs.Prelude.{◌≡◌, ◌≤◌, ◌<◌, ℕ, suc, ◌+◌, ◌^◌, Bool, false, List, [], ◌∷◌, ◌++◌, length, map, sum, slice_index_or}
 use Rattle.std.specs.List.{All}
 use Rattle.sbp_initiator.specs.Acting.{IsAction}
 use Rattle.sbp_world.specs.FitInitiator.{BytesAction}
 use Rattle.sbp_journal.specs.Run.{Moment, asked, said, history}
+use Rattle.sbp_journal.specs.declared.event.Action.{Action}
+use Rattle.sbp_journal.specs.declared.event.Action.TheVariants as actions
+use Rattle.sbp_journal.specs.declared.event.Cmd.{Cmd}
 use Rattle.sbp_journal.specs.declared.event.Event.{Event}
 use Rattle.sbp_journal.specs.declared.event.Event.TheVariants as events
 use Rattle.sbp_world.specs.Histories.{history_of, moments_behind}
@@ -22,11 +25,21 @@ pub record HasIds (physical : List ℕ) (nodes : ℕ) : Type 0 where
   pub small : (i : ℕ) → i < length physical → slice_index_or physical i 0 ≤ 62
   pub apart : (i j : ℕ) → i < length physical → j < length physical → slice_index_or physical i 0 ≡ slice_index_or physical j 0 → i ≡ j
 
--- The event of a line that is not the first, in a run of so many initiators: its numbers are in the ranges of a line's fields, and its bytes are
--- below 256.
+-- A command fills its buffer: the data that it brings to the target, and its segments, where it has any.
+pub record FillsBuffer (cmd : Cmd) : Type 0 where
+  pub payload : cmd.to_initiator ≡ false → length cmd.payload ≡ cmd.length
+  pub segments : 0 < length cmd.segments → sum cmd.segments ≡ cmd.length
+
+abbrev pub FillsAction : Action → Type 0
+FillsAction (actions.Put cmd) = FillsBuffer cmd
+FillsAction (actions.Append cmd) = FillsBuffer cmd
+FillsAction _ = Unit {0}
+
+-- The event of a line that is not the first, in a run of so many initiators: its numbers are in the ranges of a line's fields, its bytes are
+-- below 256, and a command fills its buffer.
 abbrev pub IsLine : Event → (initiators : ℕ) → Type 0
 IsLine (events.Begin initiators ready) n = ⊥
-IsLine (events.Act initiator action) n = (initiator < n) × BytesAction action × IsAction action
+IsLine (events.Act initiator action) n = (initiator < n) × BytesAction action × IsAction action × FillsAction action
 IsLine (events.Reset physical) n = HasIds physical (suc n)
 IsLine (events.See node) n = node ≤ n
 IsLine (events.Inject initiator bytes) n = (initiator < n) × All (λ byte. byte < 256) bytes
