@@ -1,7 +1,7 @@
 pub mod Roles
-pub mod Orders
 pub mod Rings
 pub mod Rows
+pub mod Bagged
 pub mod Indexed
 pub mod Listed
 pub mod Shelved

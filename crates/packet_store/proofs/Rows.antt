@@ -6,11 +6,10 @@ use Rattle.std.proofs.lemmas.Bool.Decides.{nat_tests}
 use Rattle.std.proofs.lemmas.List.{get_or-set_same, get_or-set_other, get_or_read}
 use Rattle.packet_store.specs.declared.transaction.Transaction.{Transaction}
 use Rattle.packet_store.specs.declared.row.Place.{Place}
-use Rattle.packet_store.specs.declared.index.Index.{Index}
 use Rattle.packet_store.specs.Transactions.{is_same}
-use Rattle.packet_store.specs.Indexes.{cell_of, cell, is_place, has, tally}
+use Rattle.packet_store.specs.Indexes.{cell_of, cell, is_place, tally}
 
-equal_of : (s q : ℕ) → (s == q) ≡ true → s ≡ q
+pub equal_of : (s q : ℕ) → (s == q) ≡ true → s ≡ q
 equal_of s q e = grind (arith, nat_tests)
 
 unequal_of : (s q : ℕ) → (s == q) ≡ false → s ≢ q
@@ -128,20 +127,6 @@ or_fourth true false false true d = refl
 or_fourth true false false false d = refl
 or_fourth false a b c d = refl
 
-pub left_each : (s a b c d : Bool) → ((not s && a) || ((not s && b) || ((not s && c) || (not s && d)))) ≡ (not s && (a || (b || (c || d))))
-left_each true a b c d = refl
-left_each false a b c d = refl
-
-pub or_left : (x y : Bool) → x ≡ true → (x || y) ≡ true
-or_left x y e = rw e refl
-
-pub or_right : (x y : Bool) → y ≡ true → (x || y) ≡ true
-or_right true y e = refl
-or_right false y e = e
-
-pub or_none : (x y z w : Bool) → x ≡ false → y ≡ false → z ≡ false → w ≡ false → (x || (y || (z || w))) ≡ false
-or_none x y z w e f g h = rw (e, f, g, h) refl
-
 -- ---- the serials under a transaction
 abbrev one_if : Bool → ℕ
 one_if b = cond b 1 0
@@ -152,31 +137,38 @@ at_most true y false e = rw e (omega arith)
 at_most false y true e = rw e (omega arith)
 at_most false y false e = rw e (omega arith)
 
-pub tally_most : (index after : Index) (t : Transaction) (s end : ℕ) → ((u : Transaction) (q : ℕ) → has after u q ≡ (not (is_same t u && (s == q)) && has index u q)) → tally after t end ≤ tally index t end
-tally_most index after t s zero h = omega arith
-tally_most index after t s (suc end) h =
-    let i = tally_most index after t s end h in
-    let m = at_most (has index t end) (has after t end) (is_same t t && (s == end)) (h t end) in
+-- numbers less
+pub tally_most : (f g b : ℕ → Bool) (end : ℕ) → ((q : ℕ) → g q ≡ (not (b q) && f q)) → tally g end ≤ tally f end
+tally_most f g b zero h = omega arith
+tally_most f g b (suc end) h =
+    let i = tally_most f g b end h in
+    let m = at_most (f end) (g end) (b end) (h end) in
     omega (arith, i, m)
 
-own : (t : Transaction) → is_same t t ≡ true
-own t =
-    let self : (n : ℕ) → (n == n) ≡ true = λ n. grind (arith, nat_tests) in
-    rw (self t.label, self t.requester, self t.responder, self t.generation) refl
-
-less_step : (index after : Index) (t : Transaction) (s end : ℕ) (b : Bool) → (s == end) ≡ b → ((u : Transaction) (q : ℕ) → has after u q ≡ (not (is_same t u && (s == q)) && has index u q)) → has index t s ≡ true → tally after t end ≤ tally index t end → (s < end → tally after t end < tally index t end) → s < suc end → one_if (has after t end) + tally after t end < one_if (has index t end) + tally index t end
-less_step index after t s end true e h here most ind l =
+less_step : (f g b : ℕ → Bool) (s end : ℕ) (x : Bool) → (s == end) ≡ x → ((q : ℕ) → g q ≡ (not (b q) && f q)) → b s ≡ true → f s ≡ true → (s < end → tally g end < tally f end) → s < suc end → one_if (g end) + tally g end < one_if (f end) + tally f end
+less_step f g b s end true e h out here ind l =
     let eq = equal_of s end e in
-    let x : has index t end ≡ true = ap (has index t) (sym eq) ∙ here in
-    let y : has after t end ≡ false = h t end ∙ rw (own t, e) refl in
-    rw (x, y) (omega (arith, most))
-less_step index after t s end false e h here most ind l =
+    let m = tally_most f g b end h in
+    let x : f end ≡ true = ap f (sym eq) ∙ here in
+    let y : g end ≡ false = h end ∙ rw (ap b (sym eq) ∙ out) refl in
+    rw (x, y) (omega (arith, m))
+less_step f g b s end false e h out here ind l =
     let ne = unequal_of s end e in
-    let y : has after t end ≡ has index t end = h t end ∙ rw (own t, e) refl in
+    let m = at_most (f end) (g end) (b end) (h end) in
     let i = ind (grind (arith, ne, l)) in
-    rw y (omega (arith, i))
+    omega (arith, i, m)
 
-pub tally_less : (index after : Index) (t : Transaction) (s end : ℕ) → ((u : Transaction) (q : ℕ) → has after u q ≡ (not (is_same t u && (s == q)) && has index u q)) → has index t s ≡ true → s < end → tally after t end < tally index t end
-tally_less index after t s zero h here l = absurd (omega (arith, l))
-tally_less index after t s (suc end) h here l =
-    less_step index after t s end (s == end) refl h here (tally_most index after t s end h) (λ m. tally_less index after t s end h here m) l
+-- and one of those that passed is among them
+pub tally_less : (f g b : ℕ → Bool) (s end : ℕ) → ((q : ℕ) → g q ≡ (not (b q) && f q)) → b s ≡ true → f s ≡ true → s < end → tally g end < tally f end
+tally_less f g b s zero h out here l = absurd (omega (arith, l))
+tally_less f g b s (suc end) h out here l =
+    less_step f g b s end (s == end) refl h out here (λ m. tally_less f g b s end h out here m) l
+
+own : (t : Transaction) (s : ℕ) → (is_same t t && (s == s)) ≡ true
+own t s =
+    let self : (n : ℕ) → (n == n) ≡ true = λ n. grind (arith, nat_tests) in
+    rw (self t.label, self t.requester, self t.responder, self t.generation, self s) refl
+
+pub row_less : (f g : Transaction → ℕ → Bool) (t : Transaction) (s end : ℕ) → ((u : Transaction) (q : ℕ) → g u q ≡ (not (is_same t u && (s == q)) && f u q)) → f t s ≡ true → s < end → tally (g t) end < tally (f t) end
+row_less f g t s end h here l =
+    tally_less (f t) (g t) (λ q. is_same t t && (s == q)) s end (h t) (own t s) here l

@@ -7,7 +7,7 @@ use Rattle.packet_store.specs.declared.sent.Kept.{Kept}
 use Rattle.packet_store.specs.declared.transaction.Transaction.{Transaction}
 use Rattle.packet_store.specs.declared.index.Index.{Index}
 use Rattle.packet_store.specs.Transactions.{belongs, is_that, transaction_of}
-use Rattle.packet_store.specs.Indexes.{has}
+use Rattle.packet_store.specs.Indexes.{has, Fewer}
 use Rattle.packet_store.specs.Kept.{without, with_delivered, found, flying, is_delivered, recent, AreBelow}
 use Rattle.packet_store.specs.Stored.{stays, newest}
 use Rattle.packet_store.specs.declared.sent.Sent.{Sent}
@@ -78,24 +78,19 @@ tied_delivered kept after index last since s b t a = record {
 record Lacks (s : ℕ) (ks : List Kept) : Type 0 where
   none : without s ks ≡ ks
 
--- the new index has what the old one had, but for places of one serial
-pub record Fewer (index after : Index) (s : ℕ) : Type 0 where
-  pub same : (t : Transaction) (q : ℕ) → (s == q) ≡ false → has after t q ≡ has index t q
-  pub gone : (t : Transaction) (q : ℕ) → has index t q ≡ false → has after t q ≡ false
-
-reindexed_step : (index after : Index) (last since low s : ℕ) (k : Kept) (ks : List Kept) (b : Bool) → (s == k.serial) ≡ b → Fewer index after s → AreKept index last since low (cond (not b) (k ∷ without s ks) (without s ks)) → (AreKept index last since k.serial (without s ks) → AreKept after last since k.serial (without s ks)) → (AreKept index last since low (without s ks) → AreKept after last since low (without s ks)) → AreKept after last since low (cond (not b) (k ∷ without s ks) (without s ks))
+reindexed_step : (index after : Index) (last since low s : ℕ) (k : Kept) (ks : List Kept) (b : Bool) → (s == k.serial) ≡ b → Fewer (has index) (has after) s → AreKept index last since low (cond (not b) (k ∷ without s ks) (without s ks)) → (AreKept index last since k.serial (without s ks) → AreKept after last since k.serial (without s ks)) → (AreKept index last since low (without s ks) → AreKept after last since low (without s ks)) → AreKept after last since low (cond (not b) (k ∷ without s ks) (without s ks))
 reindexed_step index after last since low s k ks true d f h ind other = other h
 reindexed_step index after last since low s k ks false d f h ind other =
     (record { above = h.0.above; below = h.0.below; recent = h.0.recent; indexed = λ t. f.same t k.serial d ∙ h.0.indexed t }, ind h.1)
 
-reindexed : (index after : Index) (last since low s : ℕ) (ks : List Kept) → Fewer index after s → AreKept index last since low (without s ks) → AreKept after last since low (without s ks)
+reindexed : (index after : Index) (last since low s : ℕ) (ks : List Kept) → Fewer (has index) (has after) s → AreKept index last since low (without s ks) → AreKept after last since low (without s ks)
 reindexed index after last since low s [] f h = tt
 reindexed index after last since low s (k ∷ ks) f h =
     reindexed_step index after last since low s k ks (s == k.serial) refl f h
     (λ r. reindexed index after last since k.serial s ks f r)
     (λ r. reindexed index after last since low s ks f r)
 
-pub tied_fewer : (kept before : List Kept) (index after : Index) (last since s : ℕ) → Fewer index after s → kept ≡ without s before → Tied kept index last since → Tied kept after last since
+pub tied_fewer : (kept before : List Kept) (index after : Index) (last since s : ℕ) → Fewer (has index) (has after) s → kept ≡ without s before → Tied kept index last since → Tied kept after last since
 tied_fewer kept before index after last since s f e t = record {
   sound = subst (AreKept after last since 0) (sym e) (reindexed index after last since 0 s before f (subst (AreKept index last since 0) e t.sound));
   fresh = λ u q l. f.gone u q (t.fresh u q l);
@@ -104,18 +99,6 @@ tied_fewer kept before index after last since s f e t = record {
 and_false : (b x : Bool) → x ≡ false → (b && x) ≡ false
 and_false true x e = e
 and_false false x e = refl
-
-kept_by : (b x : Bool) (y : Bool) → b ≡ false → y ≡ (not b && x) → y ≡ x
-kept_by b x y e f = f ∙ rw e refl
-
-gone_by : (b x y : Bool) → x ≡ false → y ≡ (not b && x) → y ≡ false
-gone_by b x y e f = f ∙ and_false (not b) x e
-
-pub fewer : (index after : Index) (u : Transaction) (s : ℕ) (by : Transaction → Bool) → ((t : Transaction) (q : ℕ) → has after t q ≡ (not (by t && (s == q)) && has index t q)) → Fewer index after s
-fewer index after u s by h = record {
-  same = λ t q e. kept_by (by t && (s == q)) (has index t q) (has after t q) (and_false (by t) (s == q) e) (h t q);
-  gone = λ t q e. gone_by (by t && (s == q)) (has index t q) (has after t q) e (h t q);
-}
 
 -- ---- withdrawing
 
@@ -271,21 +254,19 @@ kept_below index last since low s (k ∷ ks) l h = let b = h.0.below in (omega (
 pub are_below : (kept : List Kept) (index : Index) (last since : ℕ) → Tied kept index last since → AreBelow (last + 1) kept
 are_below kept index last since t = kept_below index last since 0 (last + 1) kept (omega arith) t.sound
 
-undo_both : (b x y z : Bool) → (b ≡ true → x ≡ false) → y ≡ (b || x) → z ≡ (not b && y) → z ≡ x
-undo_both true x y z h e f = f ∙ sym (h refl)
-undo_both false x y z h e f = f ∙ e
+-- the packet that was added last, taken out again
+pub pushed_off : (index : Index) (last since low s : ℕ) (sent : Sent) (ks : List Kept) → AreKept index last since low ks → last < s → without s (ks ++ newest s sent ∷ []) ≡ ks
+pushed_off index last since low s sent [] h l =
+    let e : (s == s) ≡ true = grind (arith, nat_tests) in
+    rw e refl
+pushed_off index last since low s sent (k ∷ ks) h l =
+    let b = h.0.below in
+    let d : (s == k.serial) ≡ false = differs s k.serial (λ eq. absurd (omega (arith, eq, b, l))) in
+    rw d (ap (λ xs. k ∷ xs) (pushed_off index last since k.serial s sent ks h.1 l))
 
-fresh_at : (x y : Bool) (index : Index) (t : Transaction) (s q : ℕ) → has index t s ≡ false → (x && (s == q)) ≡ true → has index t q ≡ false
-fresh_at true y index t s q h e =
-    let eq : s ≡ q = grind (arith, nat_tests) in
-    ap (has index t) (sym eq) ∙ h
-fresh_at false y index t s q h e = cc e
-
--- a serial added and removed again
-pub undone_index : (kept : List Kept) (index middle after : Index) (last since : ℕ) (of : Option Transaction) → Tied kept index last since → ((t : Transaction) (q : ℕ) → has middle t q ≡ ((is_that t of && (last + 1 == q)) || has index t q)) → ((t : Transaction) (q : ℕ) → has after t q ≡ (not (is_that t of && (last + 1 == q)) && has middle t q)) → (t : Transaction) (q : ℕ) → has after t q ≡ has index t q
-undone_index kept index middle after last since of d m a t q =
-    let l : last < last + 1 = omega arith in
-    undo_both (is_that t of && (last + 1 == q)) (has index t q) (has middle t q) (has after t q) (fresh_at (is_that t of) true index t (last + 1) q (d.fresh t (last + 1) l)) (m t q) (a t q)
+pub undone : (kept now after : List Kept) (index : Index) (last since : ℕ) (sent : Sent) → Tied kept index last since → now ≡ kept ++ newest (last + 1) sent ∷ [] → after ≡ without (last + 1) now → after ≡ kept
+undone kept now after index last since sent t e a =
+    a ∙ ap (without (last + 1)) e ∙ pushed_off index last since 0 (last + 1) sent kept t.sound (omega arith)
 
 count_step : (since : ℕ) (k : Kept) (ks : List Kept) (b : Bool) → k.in_flight ≡ b → (b ≡ false → since < k.serial) → length ks ≡ length (flying ks) + length (recent since ks) → length (k ∷ ks) ≡ length (cond b (k.serial ∷ flying ks) (flying ks)) + length (cond (not b && nat_lt since k.serial) (k ∷ recent since ks) (recent since ks))
 count_step since k ks true e h ind = omega (arith, ind)

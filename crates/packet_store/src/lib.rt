@@ -3,6 +3,8 @@
 #![tactic(auto)]
 
 mod aloft;
+mod bag;
+mod bags;
 mod index;
 mod laws;
 mod ring;

@@ -1,14 +1,14 @@
 ghost use Rattle.std.specs.Prelude.{◌≡◌, ℕ, ◌<◌, ◌==◌, ◌&&◌, ◌||◌, length, not, false, true, None, IfSome, IfNone};
 ghost use Rattle.packet_store.specs.declared.transaction.Transaction.{Transaction};
 ghost use Rattle.packet_store.specs.Transactions.{is_same};
-ghost use Rattle.packet_store.specs.Indexes.{cell, cell_of, is_place, row_has};
+ghost use Rattle.packet_store.specs.Indexes.{cell, cell_of, is_below, is_place, row_has};
 
 use crate::transaction::Transaction;
 use sbp_base::NoMemory;
 use std::alloc::Global;
 
 /// A place of the index: a transaction, and the serial of one of its packets.
-#[derive(Clone, Copy, PartialEq, Eq, PartialOrd, Ord, Drop)]
+#[derive(Clone, Copy, Drop)]
 pub(crate) struct Place {
     pub(crate) transaction: Transaction,
     pub(crate) serial: u64,
@@ -36,7 +36,7 @@ fn cell_of(transaction: &Transaction) -> usize
 }
 
 /// Whether two transactions are the same.
-fn is_same(one: &Transaction, other: &Transaction) -> bool
+pub(crate) fn is_same(one: &Transaction, other: &Transaction) -> bool
     ensures { result ≡ is_same one.now other.now }
 {
     one.generation == other.generation
@@ -56,6 +56,13 @@ fn is_place(cell: &Option<Place>, place: &Place) -> bool
     }
 }
 
+/// Whether a place is of a transaction, with a serial below the end.
+pub(crate) fn is_below(place: &Place, transaction: &Transaction, end: u64) -> bool
+    ensures { result ≡ is_below place.now transaction.now end }
+{
+    place.serial < end && is_same(&place.transaction, transaction)
+}
+
 /// The serial that a cell has under a transaction, if it is below the end.
 fn below_in(cell: &Option<Place>, transaction: &Transaction, end: u64) -> Option<u64>
     ensures found { IfSome result (λ s. (is_place cell.now transaction.now s ≡ true) × (s < end)) }
@@ -63,7 +70,7 @@ fn below_in(cell: &Option<Place>, transaction: &Transaction, end: u64) -> Option
 {
     match cell {
         Some(here) => {
-            if here.serial < end && is_same(&here.transaction, transaction) {
+            if is_below(here, transaction, end) {
                 Some(here.serial)
             } else {
                 None
@@ -145,14 +152,18 @@ impl Row {
         }
     }
 
-    /// A serial under a transaction that is below the end, if there is one.
+    /// Takes out a serial under a transaction that is below the end, if there is one.
     #[tactic(auto, unfolding(crate::specs::Indexes::row_has))]
-    pub(crate) fn below(&self, transaction: &Transaction, end: u64) -> Option<u64>
-        ensures found { IfSome result (λ s. (row_has self.now transaction.now s ≡ true) × (s < end)) }
-        ensures none { IfNone result ((q : ℕ) → q < end → row_has self.now transaction.now q ≡ false) }
+    pub(crate) fn take_below(&mut self, transaction: &Transaction, end: u64) -> Option<u64>
+        ensures found { IfSome result (λ s. (row_has self.old transaction.now s ≡ true) × (s < end)) }
+        ensures taken { IfSome result (λ s. (t : Transaction) (q : ℕ) → row_has self.new t q ≡ (not (is_same transaction.now t && (s == q)) && row_has self.old t q)) }
+        ensures none { IfNone result ((q : ℕ) → q < end → row_has self.old transaction.now q ≡ false) }
+        ensures kept { IfNone result (self.new ≡ self.old) }
     {
         let at = cell_of(transaction);
         let here = self.cell(at);
-        below_in(&here, transaction, end)
+        let serial = below_in(&here, transaction, end)?;
+        self.cells[at] = None;
+        Some(serial)
     }
 }

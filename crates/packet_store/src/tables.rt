@@ -84,9 +84,8 @@ impl Tables {
         ensures last { self.new.last ≡ self.old.last }
         ensures tied { Tied self.new.shelf self.new.index self.new.last (self.new.last - 1025) }
     {
-        while let Some(serial) = self.index.first_below(transaction, self.last) {
+        while let Some(serial) = self.index.take_below(transaction, self.last) {
             self.discard(serial);
-            self.index.remove(transaction, serial);
         }
     }
 
@@ -106,13 +105,26 @@ impl Tables {
         ensures tied { Tied self.new.shelf self.new.index self.new.last (self.old.last - 1024) }
     {
         let serial = self.last + 1;
-        self.index.insert_for(transaction, serial)?;
-        if let Err(error) = self.shelf.push(serial, sent) {
-            self.index.remove_for(transaction, serial);
+        self.shelf.push(serial, sent)?;
+        if let Err(error) = self.enter(transaction, serial) {
+            self.discard(serial);
             return Err(error);
         }
         self.last = serial;
         Ok(())
+    }
+
+    /// Adds a serial to the index under its transaction, if it has one.
+    fn enter(&mut self, transaction: Option<Transaction>, serial: u64) -> Result<(), NoMemory>
+        ensures shelf { self.new.shelf ≡ self.old.shelf }
+        ensures last { self.new.last ≡ self.old.last }
+        ensures added { OnOk result ((t : Transaction) (q : ℕ) → has self.new.index t q ≡ ((is_that t transaction && (serial == q)) || has self.old.index t q)) }
+        ensures failed { OnErr result ((t : Transaction) (q : ℕ) → has self.new.index t q ≡ has self.old.index t q) }
+    {
+        match transaction {
+            Some(transaction) => self.index.insert(transaction, serial),
+            None => Ok(()),
+        }
     }
 
     /// Drops the delivered packet that is not among the last 1,024 serials any more.

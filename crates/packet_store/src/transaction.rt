@@ -5,9 +5,8 @@ use crate::role::Role;
 use crate::sent::Sent;
 
 /// A transaction, by the generation in which it was sent, its requester, its responder and its
-/// label (IEEE 1394-1995, transaction layer). Transactions are in order by the label first, in which
-/// those of a bus differ most.
-#[derive(Clone, Copy, PartialEq, Eq, PartialOrd, Ord)]
+/// label (IEEE 1394-1995, transaction layer).
+#[derive(Clone, Copy, PartialEq, Eq)]
 pub struct Transaction {
     pub label: u8,
     pub requester: u8,

@@ -1,5 +1,5 @@
 use Rattle.std.specs.Prelude.{◌≡◌, ◌-◌}
-use Rattle.packet_store.specs.Indexes.{tally}
+use Rattle.packet_store.specs.Indexes.{load}
 use Rattle.packet_store.specs.Sound.{Tied, withdrawn}
 use Rattle.packet_store.proofs.tables.Tables.withdraw.Given as goal
 
@@ -11,4 +11,4 @@ invariant-loop-serial l = record {
 }
 
 abbrev pub decreases-loop-serial : goal.decreases-loop-serial
-decreases-loop-serial l = tally l.self.index l.transaction l.fn.self.last
+decreases-loop-serial l = load l.self.index l.transaction l.fn.self.last
