@@ -56,7 +56,7 @@ judged_requests : (number : ℕ) (s : InitiatorState) (refused : Option ℕ) →
 judged_requests number s (Some n) e = some_none n e
 judged_requests number s None e = asked_requests number s (asked_for (manage_demand s) s) e
 
-abort_requests : (number : ℕ) (s : InitiatorState) → (act_step (actions.Abort number) empty_outbox s).0 ≡ None → Requests s (act_step (actions.Abort number) empty_outbox s).1.0
+pub abort_requests : (number : ℕ) (s : InitiatorState) → (act_step (actions.Abort number) empty_outbox s).0 ≡ None → Requests s (act_step (actions.Abort number) empty_outbox s).1.0
 unfolding act_step
 abort_requests number s e = judged_requests number s (refusal (actions.Abort number) (facts_with true s (actions.Abort number))) e
 

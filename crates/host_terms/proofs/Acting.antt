@@ -12,7 +12,7 @@ use Rattle.sbp_journal.specs.declared.outbox.Outgoing.{Outgoing}
 use Rattle.sbp_initiator.proofs.FirstRow.{refusal_law}
 use Rattle.sbp_initiator.specs.declared.state.InitiatorState.{InitiatorState}
 use Rattle.sbp_initiator.specs.declared.purpose.Demand.{Demand}
-use Rattle.sbp_initiator.specs.Acting.{IsAction, act_step, asked_for, demand_of}
+use Rattle.sbp_initiator.specs.Acting.{act_step, asked_for, demand_of}
 use Rattle.sbp_initiator.specs.Effects.{Turn}
 use Rattle.sbp_initiator.specs.Initiators.{new_state}
 use Rattle.sbp_bus.specs.Generations.{GenerationsState, node_of}
@@ -23,12 +23,12 @@ use Rattle.sbp_world.specs.Worlds.{WorldState, initiator_at, with_initiator}
 use Rattle.sbp_world.proofs.InitiatorForms as initiators
 use Rattle.host_terms.specs.Handing.{AreNotes, history}
 use Rattle.host_terms.proofs.Asked.{IfRequest}
-use Rattle.host_terms.proofs.Carries.{Are, Carries, Does, asking_hands, note_carried, quiet_hands}
+use Rattle.host_terms.proofs.Carries.{Are, CarriesSent, Does, IsLineOf, asking_hands, note_carried, quiet_hands}
 use Rattle.host_terms.proofs.Liners.{own_notes}
 use Rattle.host_terms.proofs.Requested.{AreRequests, act_sends, all_told_bus}
 use Rattle.host_terms.proofs.Shown.{IsShown}
 
-module _ {Q : List Moment → ℕ → InitiatorState → Type 0} (P : List Moment → ℕ → InitiatorState → Type 0) (law : Carries Q P) (past : List Moment) (line i : ℕ) (action : Action) (w : WorldState) (inside : i < length w.initiators) (h : Are P past w) where
+module _ {Q : List Moment → ℕ → InitiatorState → Type 0} (P : List Moment → ℕ → InitiatorState → Type 0) (law : CarriesSent Q P) (past : List Moment) (line i : ℕ) (action : Action) (w : WorldState) (inside : i < length w.initiators) (h : Are P past w) where
   abbrev old : InitiatorState
   old = initiator_at w i
 
@@ -41,7 +41,7 @@ module _ {Q : List Moment → ℕ → InitiatorState → Type 0} (P : List Momen
       (subst (λ (x : InitiatorState). Are P past (with_initiator i x w)) (sym kept)
       (subst (λ (xs : List InitiatorState). Are P past (record w { initiators = xs })) (sym (set-get_or w.initiators i (new_state 0 false))) h))
 
-  module _ (under : event_of (history w past) ≡ Some (events.Act i action)) (fit : IsAction action) (shown : IsShown (history w past) i old.target old.layer) (known : Q (history w past) i old) (there : node_of w.generations (i + 1) old.target ≡ Some 0) (fresh : (terms (history w past)).injected (w.store.last + 1) ≡ false) (asks : (d : Demand) → demand_of action old ≡ Some d → IfRequest (asked_for d old).0) where
+  module _ (under : event_of (history w past) ≡ Some (events.Act i action)) (fit : IsLineOf action) (shown : IsShown (history w past) i old.target old.layer) (known : Q (history w past) i old) (there : node_of w.generations (i + 1) old.target ≡ Some 0) (fresh : (terms (history w past)).injected (w.store.last + 1) ≡ false) (asks : (d : Demand) → demand_of action old ≡ Some d → IfRequest (asked_for d old).0) where
     hands_by : (t : Turn) → AreNotes t.0.sides → Does P (history w past) i t → (packets : List Outgoing) → t.0.packets ≡ packets → AreRequests old.target packets → Are P past (handed_out (i + 1) (weight_in action) t.0 (with_initiator i t.1 w))
     hands_by t own does [] e r = quiet_hands P law past w i t inside own does (λ j b f. h j b) (weight_in action) e
     hands_by t own does (packet ∷ []) e r =

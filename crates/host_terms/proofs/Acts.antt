@@ -210,7 +210,7 @@ pub goes_on : (action : Action) (s : InitiatorState) → refusal action (facts_w
 unfolding refusal
 goes_on action s e = record { allowed = allowed action s e; rows = no_row (rows_of action (facts_with true s action)) e }
 
-some_waits : (found : Option TicketParts) → not (is_some found) ≡ false → (u : TicketParts) × (found ≡ Some u)
+pub some_waits : (found : Option TicketParts) → not (is_some found) ≡ false → (u : TicketParts) × (found ≡ Some u)
 some_waits None e = absurd (untrue e)
   where
     untrue : true ≡ false → ⊥

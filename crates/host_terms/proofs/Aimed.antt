@@ -124,7 +124,7 @@ module _ (ready : Bool) where
     acts = λ action past i s e fit d shown known h.
         let t = (act_step action empty_outbox s).1 in
         let left = act_left action s d in
-        let own = own_on ready i s (acts action) fit h.own in
+        let own = own_on ready i s (acts action) fit.0 h.own in
         record {
           others = λ j x f g. g;
           quiet = λ none. record { own = own; aims = λ peer m q a. h.aims peer m q (subst (λ (l : Layer Purpose). At l peer m q) (left.quiet none) a) ∙ sym left.target_is };

@@ -180,7 +180,7 @@ some_fifo logins out offset f few e = by_tests (offset == place_fifo 0) (offset 
 pub none_is : {access : Access} → None ≡ Some access → ⊥
 none_is e = cc
 
-reads_as : (r : ℕ × List ℕ) (p : Packet) (bytes : List ℕ) (o : OutboxState) (s : InitiatorState) → (read_as r p bytes o s).1.0.packets ≡ o.packets ++ answer s.layer.node p r.0 r.1 ∷ []
+pub reads_as : (r : ℕ × List ℕ) (p : Packet) (bytes : List ℕ) (o : OutboxState) (s : InitiatorState) → (read_as r p bytes o s).1.0.packets ≡ o.packets ++ answer s.layer.node p r.0 r.1 ∷ []
 reads_as (rcode, out) p bytes o s = responds p bytes rcode out (o, called s)
 
 writes_as : (r : ℕ × ListState) (p : Packet) (bytes : List ℕ) (o : OutboxState) (s : InitiatorState) → (written_as r p bytes o s).1.0.packets ≡ o.packets ++ answer s.layer.node p r.0 [] ∷ []

@@ -1,6 +1,7 @@
 -- What an initiator answers to a block that is written to one of its FIFOs; and to every request that it gets.
-use Rattle.std.proofs.Common.{◌≡◌, refl, sym, ap, subst, ◌∙◌, ℕ, suc, ◌≤◌, ◌^◌, ◌==◌, ◌&&◌, Bool, true, false, cond, List, [], ◌∷◌, ◌++◌, length, Option, Some, None, Result, Ok, Err}
+use Rattle.std.proofs.Common.{◌≡◌, refl, sym, ap, subst, ◌∙◌, ℕ, suc, ◌≤◌, ◌^◌, ◌==◌, ◌&&◌, Bool, true, false, cond, List, replicate, [], ◌∷◌, ◌++◌, length, Option, Some, None, Result, Ok, Err}
 use Rattle.async_packet.specs.declared.packet.Header.{Header}
+use Rattle.bus_memory.specs.Access.{read_step}
 use Rattle.async_packet.specs.Packet.{Packet, lock, read_block, read_block_response, read_quadlet, read_quadlet_response, lock_response, write_block, write_quadlet, write_response}
 use Rattle.initiator_base.specs.Fifos.{is_dead_kind}
 use Rattle.initiator_base.specs.declared.fifos.Fifo.{Fifo}
@@ -31,13 +32,13 @@ use Rattle.sbp_initiator.specs.declared.purpose.Purpose.{Purpose}
 use Rattle.sbp_initiator.specs.declared.purpose.Running.{Running}
 use Rattle.sbp_initiator.specs.declared.state.InitiatorState.{InitiatorState}
 use Rattle.sbp_initiator.specs.Effects.{Turn, drop_where, dropped_as, end_step, good_end, good_event, managed_step, moved, moves_session, response_of, then_step, told, with_dead}
-use Rattle.sbp_initiator.specs.Receiving.{addressed, block_at, block_by, block_step, called, fifo_of, got_step, ignored_step, is_foreign, managed_for, present_for, quadlet_at, receive_step, received, request_step, status_step, taken_as, taken_by}
+use Rattle.sbp_initiator.specs.Receiving.{addressed, block_at, block_by, block_step, called, fifo_of, got_step, ignored_step, is_foreign, managed_for, present_for, quadlet_at, read_as, receive_step, received, request_step, status_step, taken_as, taken_by}
 use Rattle.sbp_initiator.specs.Refusals.{ends_list}
 use Rattle.sbp_initiator.specs.States.{status_in}
 use Rattle.sbp_laws.specs.JudgementLaw.{rom_size}
 use Rattle.sbp_laws.specs.Served.{is_fifo_write, window_facts}
 use Rattle.host_terms.specs.Reads.{IsReadBy}
-use Rattle.host_terms.proofs.Answering.{Answered, IsTold, IsRequestFound, answer, asks_block, asks_quadlet, locks, no_fifo, none_is, reply, request_of, responds, serves, some_fifo, writes_block}
+use Rattle.host_terms.proofs.Answering.{Answered, IsTold, IsRequestFound, answer, asks_block, asks_quadlet, locks, no_fifo, none_is, reply, reads_as, request_of, responds, serves, some_fifo, writes_block}
 
 -- ---- what is sent and what the layer is stays
 
@@ -203,3 +204,23 @@ module _ (past : List Moment) (i : ℕ) (s : InitiatorState) (known : IsReadBy p
   answers generation bytes p access found e told few got =
       let f : IsRequestFound s.layer generation bytes p = request_of s.layer generation bytes p found in
       subst (λ x. Says p access (received x bytes empty_outbox s)) (sym f.same) (requests p access bytes e told few) got
+
+-- ---- a block read
+
+-- one that is got is answered with what the memory gives and its rcode
+module _ (s : InitiatorState) (header : Header) (address count : ℕ) (bytes : List ℕ) where
+  abbrev read : ℕ × List ℕ
+  read = read_step s.lists.memory address (replicate count 0)
+
+  abbrev Gives : Judged × Turn → Type 0
+  Gives r = r.0 ≡ judgements.Got → r.1.0.packets ≡ answer s.layer.node (read_block header address count) read.0 read.1 ∷ []
+
+  pick_gives : (b : Bool) → Gives (cond b (ignored_step causes.Source 7 (read_block header address count) bytes (empty_outbox, s)) (read_as read (read_block header address count) bytes empty_outbox s))
+  pick_gives true = λ g. absurd (not_got causes.Source g)
+  pick_gives false = λ g. reads_as read (read_block header address count) bytes empty_outbox s
+
+  pub block_answered : (generation : ℕ) → (judging_step s.layer generation bytes).0 ≡ of_request (read_block header address count) → (receive_step generation bytes empty_outbox s).0 ≡ judgements.Got → (receive_step generation bytes empty_outbox s).1.0.packets ≡ answer s.layer.node (read_block header address count) read.0 read.1 ∷ []
+  unfolding receive_step
+  block_answered generation found got =
+      let f : IsRequestFound s.layer generation bytes (read_block header address count) = request_of s.layer generation bytes (read_block header address count) found in
+      subst (λ x. Gives (received x bytes empty_outbox s)) (sym f.same) (pick_gives (is_foreign (read_block header address count) s)) got

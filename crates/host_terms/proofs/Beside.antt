@@ -117,7 +117,7 @@ module _ {t : ListTerms} (s : SlotTable) (f : Fits t s) (u : TicketParts) (w : (
       waits_of (states.Taken had_next) last e f = cc
       waits_of states.Resting last e f = cc
 
-present_of : (present : Option PresentList) (u : TicketParts) → IsOf present u → present_in present ≡ Some u.list
+pub present_of : (present : Option PresentList) (u : TicketParts) → IsOf present u → present_in present ≡ Some u.list
 present_of None u h = absurd h
 present_of (Some list) u h = ap (λ x. Some x) h
 

@@ -52,7 +52,7 @@ pick_read : {G : Type 0} (b : Bool) (fault : OrbFault) (rest : Result StatusBloc
 pick_read true fault rest block g e = cc
 pick_read false fault rest block g e = g e
 
-src_read : (management : Bool) (bytes : List ℕ) (block : StatusBlock) → read_status_block management bytes ≡ Ok block → src_of bytes ≡ block.src
+pub src_read : (management : Bool) (bytes : List ℕ) (block : StatusBlock) → read_status_block management bytes ≡ Ok block → src_of bytes ≡ block.src
 src_read management bytes block e =
     pick_read (nat_lt (length bytes) 8) _ _ block
     (pick_read (nat_lt (length bytes) (whole_length bytes)) _ _ block
@@ -98,7 +98,7 @@ judged_got (ignored_as cause rcode) p bytes s turn side left told =
 judged_got telling p bytes s turn side left told = refl
 judged_got serving p bytes s turn side left told = refl
 
-told_got : (generation : ℕ) (bytes : List ℕ) (s : InitiatorState) (p : Packet) (side : Side) → (judging_step s.layer generation bytes).0 ≡ of_request p → (receive_step generation bytes empty_outbox s).1.0.sides ≡ side ∷ [] → (receive_step generation bytes empty_outbox s).0 ≡ judgements.Got
+pub told_got : (generation : ℕ) (bytes : List ℕ) (s : InitiatorState) (p : Packet) (side : Side) → (judging_step s.layer generation bytes).0 ≡ of_request p → (receive_step generation bytes empty_outbox s).1.0.sides ≡ side ∷ [] → (receive_step generation bytes empty_outbox s).0 ≡ judgements.Got
 told_got generation bytes s p side e told =
     let r = found_request s.layer generation bytes p e in
     judging_law.noted generation bytes empty_outbox s

@@ -50,7 +50,7 @@ own_carried ready = record {
   expires = λ serial label past i s shown h. record { own = own_on ready i s (lets_expire label) tt h; others = λ j x e g. g };
   stale = λ label past i s e h. own_on ready i s (lets_expire label) tt h;
   sees = λ generation id target past i s e h. record { own = own_on ready i s (sees generation id target) tt h; others = λ j x f g. g };
-  acts = λ action past i s e fit d shown known h. record { others = λ j x f g. g; quiet = λ n. own_on ready i s (acts action) fit h; asking = λ packet one serial generation f q. own_on ready i s (acts action) fit h };
+  acts = λ action past i s e fit d shown known h. record { others = λ j x f g. g; quiet = λ n. own_on ready i s (acts action) fit.0 h; asking = λ packet one serial generation f q. own_on ready i s (acts action) fit.0 h };
 }
 
 pub calls_law : CallsLaw

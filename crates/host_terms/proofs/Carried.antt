@@ -1,5 +1,6 @@
 -- What the lines of a run carry on holds of each initiator after every line.
-use Rattle.std.proofs.Common.{arith, ◌≡◌, refl, sym, ◌∙◌, ap, subst, ℕ, suc, ◌+◌, ◌^◌, ◌<◌, ◌≤◌, nat_lt, Bool, true, false, cond, List, [], ◌∷◌, ◌++◌, length, map, Option, Some, None}
+use Rattle.std.proofs.Common.{arith, ◌≡◌, refl, sym, ◌∙◌, ap, subst, ℕ, suc, ◌+◌, ◌^◌, ◌<◌, ◌≤◌, ◌==◌, nat_lt, Bool, true, false, cond, List, [], ◌∷◌, ◌++◌, length, map, Option, Some, None}
+use Rattle.std.proofs.lemmas.Bool.Decides.{nat_tests}
 use Rattle.bus_transactions.specs.May.{is_reset}
 use Rattle.bus_transactions.proofs.Fits.{request_fits}
 use Rattle.bus_transactions.proofs.Follows.{last_is}
@@ -15,7 +16,7 @@ use Rattle.sbp_journal.specs.declared.event.Event.TheVariants as events
 use Rattle.sbp_journal.specs.declared.note.Note.TheVariants as notes
 use Rattle.sbp_initiator.specs.declared.state.InitiatorState.{InitiatorState}
 use Rattle.sbp_initiator.specs.declared.purpose.Demand.{Demand}
-use Rattle.sbp_initiator.specs.Acting.{IsAction, asked_for, demand_of}
+use Rattle.sbp_initiator.specs.Acting.{asked_for, demand_of}
 use Rattle.sbp_initiator.specs.States.{wanted_body}
 use Rattle.sbp_initiator.specs.Initiators.{new_state}
 use Rattle.sbp_bus.specs.Generations.{node_of, reset_step, topology_at}
@@ -49,7 +50,7 @@ use Rattle.host_terms.specs.Handing.{history}
 use Rattle.host_terms.specs.Runs.{IsRun, more_deliveries}
 use Rattle.host_terms.proofs.Acting.{acts}
 use Rattle.host_terms.proofs.Asked.{IfRequest, is_request}
-use Rattle.host_terms.proofs.Carries.{Are, Carries, IsNoAct, NoneActs, note_carried}
+use Rattle.host_terms.proofs.Carries.{Are, Carries, CarriesSent, IsLineOf, IsNoAct, NoneActs, by_more, note_carried}
 use Rattle.host_terms.proofs.Hosting.{line_same}
 use Rattle.host_terms.proofs.Knows.{may_see, target_there}
 use Rattle.host_terms.proofs.Passes.{delivers, line_expires, line_sees, ticks}
@@ -105,13 +106,13 @@ pub record StandsBetween (line : ℕ) (run : Run) (next : ℕ) (event : Event) (
   pub is : history w past ≡ map said w.fresh ++ asked next event ∷ moments_behind line run run.entries
   pub size : length w.initiators ≡ run.initiators
 
-module _ {Q : List Moment → ℕ → InitiatorState → Type 0} (P : List Moment → ℕ → InitiatorState → Type 0) (law : Carries Q P) where
+module _ {Q : List Moment → ℕ → InitiatorState → Type 0} (P : List Moment → ℕ → InitiatorState → Type 0) (law : CarriesSent Q P) where
   opened : (past : List Moment) (line : ℕ) (event : Event) (w : WorldState) → Are P past w → Are P (asked line event ∷ history w past) (without_notes w)
   opened past line event w h i b = law.asked line event (history w past) i (initiator_at w i) (h i b)
 
   -- ---- an action
 
-  acts_line : {past : List Moment} {lines : ℕ} (line i : ℕ) (w : WorldState) → i < length w.initiators → lines + 1 < 2 ^ 32 → Sound past lines w → Are Q past w → Are P past w → (action : Action) → IsAction action → Are P (asked line (events.Act i action) ∷ history w past) (acted line i action (without_notes w))
+  acts_line : {past : List Moment} {lines : ℕ} (line i : ℕ) (w : WorldState) → i < length w.initiators → lines + 1 < 2 ^ 32 → Sound past lines w → Are Q past w → Are P past w → (action : Action) → IsLineOf action → Are P (asked line (events.Act i action) ∷ history w past) (acted line i action (without_notes w))
   acts_line {past} line i w inside few sound known h action fit =
       let event = events.Act i action in
       acts P law (asked line event ∷ history w past) line i action (without_notes w) inside (opened past line event w h) refl fit
@@ -164,12 +165,12 @@ module _ {Q : List Moment → ℕ → InitiatorState → Type 0} (P : List Momen
   keys past line unit key w true h = note_carried P law past w (notes.Key unit) (λ i. refl) (λ i. tt) h
   keys past line unit key w false h = note_carried P law past w (notes.Refused line no_unit) (λ i. refl) (λ i. tt) h
 
-  injects : (past : List Moment) (line from : ℕ) (bytes : List ℕ) (w : WorldState) (to : Option ℕ) → NoneActs (history w past) → Are P past w → Are P past (injected to line from bytes w)
+  injects : (past : List Moment) (line from : ℕ) (bytes : List ℕ) (w : WorldState) (to : Option ℕ) → (from == 0) ≡ false → NoneActs (history w past) → Are P past w → Are P past (injected to line from bytes w)
   unfolding posted
-  injects past line from bytes w None n h = note_carried P law past w (notes.Refused line no_node) (λ i. refl) (λ i. tt) h
-  injects past line from bytes w (Some to) n h = λ i b.
+  injects past line from bytes w None z n h = note_carried P law past w (notes.Refused line no_node) (λ i. refl) (λ i. tt) h
+  injects past line from bytes w (Some to) z n h = λ i b.
       let serial = w.store.last + 1 in
-      law.sent serial (topology_at w.generations from).generation from to bytes (said (notes.Injected serial) ∷ history w past) i (initiator_at w i) (n i)
+      law.sent serial (topology_at w.generations from).generation from to bytes (said (notes.Injected serial) ∷ history w past) i (initiator_at w i) (n i, λ e. absurd (let no : true ≡ false = sym (ap (λ n. n == 0) e) ∙ z in cc))
       (law.apart (notes.Injected serial) (history w past) i (initiator_at w i) refl tt (h i b))
 
   -- ---- every line
@@ -177,7 +178,7 @@ module _ {Q : List Moment → ℕ → InitiatorState → Type 0} (P : List Momen
   line_keeps : {past : List Moment} {lines : ℕ} (line : ℕ) (event : Event) (told : List (Option Told)) (s : Scene) → lines + 1 < 2 ^ 32 → IsLine event (length s.world.initiators) → AreTold told → MayHappen event told s → Sound past lines s.world → Are Q past s.world → Are P past s.world → Are P (asked line event ∷ history s.world past) (happens line event told s).world
   unfolding happens MayHappen reset_line lose_line inject_line keyed
   line_keeps line (events.Begin initiators ready) told s few q t m sound known h = absurd q
-  line_keeps line (events.Act i action) told s few q t m sound known h = acts_line line i s.world q.0 few sound known h action q.2
+  line_keeps line (events.Act i action) told s few q t m sound known h = acts_line line i s.world q.0 few sound known h action (q.2, q.3)
   line_keeps {past} line (events.Reset physical) told s few q t m sound known h =
       let w = s.world in
       let v = record (without_notes w) { generations = reset_step physical w.generations } in
@@ -219,7 +220,7 @@ module _ {Q : List Moment → ℕ → InitiatorState → Type 0} (P : List Momen
       ticks P law (asked line events.Tick ∷ history s.world past) (without_notes s.world) (λ i. tt) (opened past line events.Tick s.world h)
   line_keeps {past} line (events.Inject initiator bytes) told s few q t m sound known h =
       let event = events.Inject initiator bytes in
-      injects (asked line event ∷ history s.world past) line (initiator + 1) bytes (without_notes s.world) (injected_to (initiator + 1) bytes (without_notes s.world)) (λ i. tt) (opened past line event s.world h)
+      injects (asked line event ∷ history s.world past) line (initiator + 1) bytes (without_notes s.world) (injected_to (initiator + 1) bytes (without_notes s.world)) (let z : (initiator + 1 == 0) ≡ false = grind (arith, nat_tests) in z) (λ i. tt) (opened past line event s.world h)
   line_keeps {past} line (events.Key unit key) told s few q t m sound known h =
       let event = events.Key unit key in
       keys (asked line event ∷ history s.world past) line unit key (without_notes s.world) (nat_lt unit (length s.world.target.units)) (opened past line event s.world h)
@@ -246,8 +247,8 @@ module _ {Q : List Moment → ℕ → InitiatorState → Type 0} (P : List Momen
         ∙ ap (λ ms. map said e.notes ++ asked e.line e.event ∷ ms) b.is)
         (line_keeps e.line e.event e.told s (omega arith) fit.0 (happened_fits e.event e.told s all.0.may) all.0.may b.sound before_it so_far)
 
-    pub of_runs : IsRun run → (i : ℕ) → i < run.initiators → P (moments_behind line run run.entries) i (initiator_at (after (beginning run) run.entries).world i)
-    of_runs r i b = are_after run.entries r.few r.short r.entries r.lines i (subst (λ n. i < n) (sym (count_after run run.entries)) b)
+    pub sent_of_runs : IsRun run → (i : ℕ) → i < run.initiators → P (moments_behind line run run.entries) i (initiator_at (after (beginning run) run.entries).world i)
+    sent_of_runs r i b = are_after run.entries r.few r.short r.entries r.lines i (subst (λ n. i < n) (sym (count_after run run.entries)) b)
 
     -- ---- between two deliveries of a line
 
@@ -279,10 +280,21 @@ module _ {Q : List Moment → ℕ → InitiatorState → Type 0} (P : List Momen
           size = count_between told s ∙ count_after run run.entries;
         }
 
-    pub stands_between : IsRun run → (next : ℕ) (most : Option ℕ) (told : List (Option Told)) → MayAll told (begun (after (beginning run) run.entries)) → StandsBetween line run next (more_deliveries most) (after_all told (begun (after (beginning run) run.entries))).world
-    stands_between r next (Some count) told m = between_stands r next (events.Step count) refl (λ j. tt) (λ ms. refl) told m
-    stands_between r next None told m = between_stands r next events.Settle refl (λ j. tt) (λ ms. refl) told m
+    pub sent_stands_between : IsRun run → (next : ℕ) (most : Option ℕ) (told : List (Option Told)) → MayAll told (begun (after (beginning run) run.entries)) → StandsBetween line run next (more_deliveries most) (after_all told (begun (after (beginning run) run.entries))).world
+    sent_stands_between r next (Some count) told m = between_stands r next (events.Step count) refl (λ j. tt) (λ ms. refl) told m
+    sent_stands_between r next None told m = between_stands r next events.Settle refl (λ j. tt) (λ ms. refl) told m
 
-    pub between_runs : IsRun run → (next : ℕ) (most : Option ℕ) (told : List (Option Told)) → MayAll told (begun (after (beginning run) run.entries)) → (i : ℕ) → i < run.initiators → (let w = (after_all told (begun (after (beginning run) run.entries))).world in P (map said w.fresh ++ asked next (more_deliveries most) ∷ moments_behind line run run.entries) i (initiator_at w i))
-    between_runs r next (Some count) told m i b = between_by r next (events.Step count) refl (λ j. tt) (λ ms. refl) told m i b
-    between_runs r next None told m i b = between_by r next events.Settle refl (λ j. tt) (λ ms. refl) told m i b
+    pub sent_between_runs : IsRun run → (next : ℕ) (most : Option ℕ) (told : List (Option Told)) → MayAll told (begun (after (beginning run) run.entries)) → (i : ℕ) → i < run.initiators → (let w = (after_all told (begun (after (beginning run) run.entries))).world in P (map said w.fresh ++ asked next (more_deliveries most) ∷ moments_behind line run run.entries) i (initiator_at w i))
+    sent_between_runs r next (Some count) told m i b = between_by r next (events.Step count) refl (λ j. tt) (λ ms. refl) told m i b
+    sent_between_runs r next None told m i b = between_by r next events.Settle refl (λ j. tt) (λ ms. refl) told m i b
+
+-- where nothing is known of what the target sends
+module _ {Q : List Moment → ℕ → InitiatorState → Type 0} (P : List Moment → ℕ → InitiatorState → Type 0) (law : Carries Q P) (line : ℕ) (run : Run) (known : Knows Q line run) (first : (i : ℕ) → i < run.initiators → P (moments_behind line run []) i (new_state i run.ready)) where
+  pub of_runs : IsRun run → (i : ℕ) → i < run.initiators → P (moments_behind line run run.entries) i (initiator_at (after (beginning run) run.entries).world i)
+  of_runs r i b = sent_of_runs P (by_more law) line run known first r i b
+
+  pub stands_between : IsRun run → (next : ℕ) (most : Option ℕ) (told : List (Option Told)) → MayAll told (begun (after (beginning run) run.entries)) → StandsBetween line run next (more_deliveries most) (after_all told (begun (after (beginning run) run.entries))).world
+  stands_between r next most told m = sent_stands_between P (by_more law) line run known first r next most told m
+
+  pub between_runs : IsRun run → (next : ℕ) (most : Option ℕ) (told : List (Option Told)) → MayAll told (begun (after (beginning run) run.entries)) → (i : ℕ) → i < run.initiators → (let w = (after_all told (begun (after (beginning run) run.entries))).world in P (map said w.fresh ++ asked next (more_deliveries most) ∷ moments_behind line run run.entries) i (initiator_at w i))
+  between_runs r next most told m i b = sent_between_runs P (by_more law) line run known first r next most told m i b

@@ -17,6 +17,7 @@ use Rattle.sbp_journal.specs.declared.outbox.Outgoing.{Outgoing}
 use Rattle.sbp_journal.specs.declared.side.Side.{Side}
 use Rattle.sbp_journal.specs.declared.side.Side.TheVariants as sides
 use Rattle.sbp_initiator.specs.Acting.{IsAction, act_step}
+use Rattle.sbp_world.specs.Wire.Lines.{FillsAction}
 use Rattle.sbp_initiator.specs.Effects.{Turn}
 use Rattle.sbp_initiator.specs.Initiators.{new_state}
 use Rattle.sbp_initiator.specs.Receiving.{expire_step, receive_step}
@@ -37,6 +38,7 @@ use Rattle.host_terms.specs.Handing.{AreNotes, AreOthers, IsOther, history}
 use Rattle.host_terms.proofs.Asked.{IsRequest, number_in}
 use Rattle.host_terms.proofs.Hands.{all_own}
 use Rattle.host_terms.proofs.Hosting.{hands_keep, line_same, state_here, state_there}
+use Rattle.host_terms.proofs.Mild.{AreMild, FromTarget, IsMild}
 use Rattle.host_terms.proofs.Shown.{IsElsewhere, IsHeard, IsShown}
 
 -- a note says nothing of an initiator
@@ -70,18 +72,51 @@ pub record Does (P : List Moment → ℕ → InitiatorState → Type 0) (past : 
   pub quiet : t.0.packets ≡ [] → P (behind t.0.sides past) i t.1
   pub asking : (packet : Outgoing) → t.0.packets ≡ packet ∷ [] → (serial generation : ℕ) → (terms past).injected serial ≡ false → IsRequest (number_in packet.label) packet.bytes → P (said (notes.Sent serial generation (suc i) 0 packet.bytes) ∷ behind t.0.sides past) i t.1
 
+-- the action of a line
+abbrev pub IsLineOf : Action → Type 0
+IsLineOf action = IsAction action × FillsAction action
+
 -- Q is what is known of an initiator as a line begins: an action that is done may ask for it.
-pub record Carries (Q P : List Moment → ℕ → InitiatorState → Type 0) : Type 0 where
+-- `Sends` is what is known of a packet that is sent, and of the line, where initiator i sends none for its action.
+pub record CarriesBy (Sends : (i : ℕ) → Option Event → (from : ℕ) → List ℕ → Type 0) (Q P : List Moment → ℕ → InitiatorState → Type 0) : Type 0 where
   pub known : (line : ℕ) (event : Event) (past : List Moment) (i : ℕ) (s : InitiatorState) → Q past i s → Q (asks line event ∷ past) i s
   pub number : (past : List Moment) (i : ℕ) (s : InitiatorState) → P past i s → s.number ≡ i
   pub asked : (line : ℕ) (event : Event) (past : List Moment) (i : ℕ) (s : InitiatorState) → P past i s → P (asks line event ∷ past) i s
   pub apart : (note : Note) (past : List Moment) (i : ℕ) (s : InitiatorState) → is_apart i note ≡ true → IsElsewhere past i note → P past i s → P (said note ∷ past) i s
-  pub sent : (serial generation from to : ℕ) (bytes : List ℕ) (past : List Moment) (i : ℕ) (s : InitiatorState) → IsNoAct i (event_of past) → P past i s → P (said (notes.Sent serial generation from to bytes) ∷ past) i s
+  pub sent : (serial generation from to : ℕ) (bytes : List ℕ) (past : List Moment) (i : ℕ) (s : InitiatorState) → Sends i (event_of past) from bytes → P past i s → P (said (notes.Sent serial generation from to bytes) ∷ past) i s
   pub hears : (serial generation : ℕ) (bytes : List ℕ) (past : List Moment) (i : ℕ) (s : InitiatorState) → IsHeard past i serial generation bytes → IsShown past i s.target s.layer → IsShown (said (judged_note serial (receive_step generation bytes empty_outbox s).0) ∷ past) i s.target (judging_step s.layer generation bytes).1 → P past i s → Tells P (said (judged_note serial (receive_step generation bytes empty_outbox s).0) ∷ past) i (receive_step generation bytes empty_outbox s).1
   pub expires : (serial : ℕ) (label : LabelParts) (past : List Moment) (i : ℕ) (s : InitiatorState) → IsShown (said (notes.TimedOut serial) ∷ past) i s.target (expiring_step s.layer s.target label).1 → P past i s → Tells P (said (notes.TimedOut serial) ∷ past) i (expire_step label empty_outbox s).1
   pub stale : (label : LabelParts) (past : List Moment) (i : ℕ) (s : InitiatorState) → (expire_step label empty_outbox s).0 ≡ false → P past i s → P past i (expire_step label empty_outbox s).1.1
   pub sees : (generation id target : ℕ) (past : List Moment) (i : ℕ) (s : InitiatorState) → (seeing_step s.layer generation id).0 ≡ not (generation == (terms past).generation (suc i)) → P past i s → Tells P (said (notes.Seen (suc i) generation) ∷ past) i (see_step generation id target empty_outbox s)
-  pub acts : (action : Action) (past : List Moment) (i : ℕ) (s : InitiatorState) → event_of past ≡ Some (events.Act i action) → IsAction action → (act_step action empty_outbox s).0 ≡ None → IsShown past i s.target s.layer → Q past i s → P past i s → Does P past i (act_step action empty_outbox s).1
+  pub acts : (action : Action) (past : List Moment) (i : ℕ) (s : InitiatorState) → event_of past ≡ Some (events.Act i action) → IsLineOf action → (act_step action empty_outbox s).0 ≡ None → IsShown past i s.target s.layer → Q past i s → P past i s → Does P past i (act_step action empty_outbox s).1
+
+-- the line is no action of that initiator
+abbrev pub NoAct : (i : ℕ) → Option Event → (from : ℕ) → List ℕ → Type 0
+NoAct i event from bytes = IsNoAct i event
+
+abbrev pub Carries : (Q P : List Moment → ℕ → InitiatorState → Type 0) → Type 0
+Carries Q P = CarriesBy NoAct Q P
+
+-- and the target writes no quadlet
+abbrev pub FromOther : (i : ℕ) → Option Event → (from : ℕ) → List ℕ → Type 0
+FromOther i event from bytes = IsNoAct i event × (from ≡ 0 → IsMild bytes)
+
+abbrev pub CarriesSent : (Q P : List Moment → ℕ → InitiatorState → Type 0) → Type 0
+CarriesSent Q P = CarriesBy FromOther Q P
+
+pub by_more : {Q P : List Moment → ℕ → InitiatorState → Type 0} → Carries Q P → CarriesSent Q P
+by_more law = record {
+  known = law.known;
+  number = law.number;
+  asked = law.asked;
+  apart = law.apart;
+  sent = λ serial generation from to bytes past i s n h. law.sent serial generation from to bytes past i s n.0 h;
+  hears = law.hears;
+  expires = law.expires;
+  stale = law.stale;
+  sees = law.sees;
+  acts = law.acts;
+}
 
 -- nothing is known
 abbrev pub Nothing : List Moment → ℕ → InitiatorState → Type 0
@@ -109,7 +144,7 @@ pub record Still (P : List Moment → ℕ → InitiatorState → Type 0) (past :
   pub line : IsNoAct i (event_of (history w past))
   pub kept : P (history w past) i s
 
-module _ {Q : List Moment → ℕ → InitiatorState → Type 0} (P : List Moment → ℕ → InitiatorState → Type 0) (law : Carries Q P) where
+module _ {Q : List Moment → ℕ → InitiatorState → Type 0} (P : List Moment → ℕ → InitiatorState → Type 0) (law : CarriesSent Q P) where
   -- ---- what the target tells
 
   module _ (past : List Moment) (weight i : ℕ) (s : InitiatorState) where
@@ -146,34 +181,37 @@ module _ {Q : List Moment → ℕ → InitiatorState → Type 0} (P : List Momen
     asked_still serial to node peer None w h = h
     asked_still serial to node peer (Some label) w h = record { line = h.line; kept = h.kept }
 
-    posted_still : (from to : ℕ) (bytes : List ℕ) (w : WorldState) → Still P past i s w → Still P past i s (posted from to false bytes w)
+    posted_still : (from to : ℕ) (bytes : List ℕ) (w : WorldState) → (from ≡ 0 → IsMild bytes) → Still P past i s w → Still P past i s (posted from to false bytes w)
     unfolding posted
-    posted_still from to bytes w h = record {
+    posted_still from to bytes w m h = record {
       line = h.line;
-      kept = law.sent (w.store.last + 1) (topology_at w.generations from).generation from to bytes (history w past) i s h.line h.kept;
+      kept = law.sent (w.store.last + 1) (topology_at w.generations from).generation from to bytes (history w past) i s (h.line, m) h.kept;
     }
 
-    to_still : (to : Option ℕ) (from : ℕ) (packet : Outgoing) (w : WorldState) → Still P past i s w → Still P past i s (sent_to to from packet w)
-    to_still None from packet w h = h
-    to_still (Some to) from packet w h = asked_still (w.store.last + 1) to from packet.to packet.label (posted from to false packet.bytes w) (posted_still from to packet.bytes w h)
+    to_still : (to : Option ℕ) (from : ℕ) (packet : Outgoing) (w : WorldState) → (from ≡ 0 → IsMild packet.bytes) → Still P past i s w → Still P past i s (sent_to to from packet w)
+    to_still None from packet w m h = h
+    to_still (Some to) from packet w m h = asked_still (w.store.last + 1) to from packet.to packet.label (posted from to false packet.bytes w) (posted_still from to packet.bytes w m h)
 
-    sent_still : (from : ℕ) (packet : Outgoing) (w : WorldState) → Still P past i s w → Still P past i s (sent from packet w)
+    sent_still : (from : ℕ) (packet : Outgoing) (w : WorldState) → (from ≡ 0 → IsMild packet.bytes) → Still P past i s w → Still P past i s (sent from packet w)
     unfolding sent
-    sent_still from packet w h = to_still (node_of w.generations from packet.to) from packet w h
+    sent_still from packet w m h = to_still (node_of w.generations from packet.to) from packet w m h
 
-    all_still : (from : ℕ) (packets : List Outgoing) (w : WorldState) → Still P past i s w → Still P past i s (sent_all from packets w)
+    all_still : (from : ℕ) (packets : List Outgoing) (w : WorldState) → (from ≡ 0 → AreMild packets) → Still P past i s w → Still P past i s (sent_all from packets w)
     unfolding sent_all
-    all_still from [] w h = h
-    all_still from (packet ∷ later) w h = all_still from later (sent from packet w) (sent_still from packet w h)
+    all_still from [] w m h = h
+    all_still from (packet ∷ later) w m h = all_still from later (sent from packet w) (λ e. (m e).1) (sent_still from packet w (λ e. (m e).0) h)
 
   -- ---- what a node hands out, in a line that is no action
 
-  pub target_hands : (past : List Moment) (w : WorldState) (node : NodeState) (from weight : ℕ) (outbox : OutboxState) → AreOthers outbox.sides → NoneActs (history w past) → Are P past w → Are P past (handed_out from weight outbox (with_target node w))
+  own_node : {A : Type 0} (from : ℕ) → from ≡ 0 → (from == 0) ≡ false → A
+  own_node from e z = absurd (let no : true ≡ false = sym (ap (λ n. n == 0) e) ∙ z in cc)
+
+  pub target_hands : (past : List Moment) (w : WorldState) (node : NodeState) (from weight : ℕ) (outbox : OutboxState) → FromTarget outbox → NoneActs (history w past) → Are P past w → Are P past (handed_out from weight outbox (with_target node w))
   target_hands past w node from weight outbox o n h =
       let v = with_target node w in
       let x = told_all weight outbox.sides v in
       are_on P past v (handed_out from weight outbox v) (hands_keep from weight outbox v)
-      (λ i b. (all_still past i (initiator_at w i) from outbox.packets x (record { line = no_act past v x i (n i); kept = all_others past weight i (initiator_at w i) outbox.sides v o (h i b) })).kept)
+      (λ i b. (all_still past i (initiator_at w i) from outbox.packets x (λ e. o.1) (record { line = no_act past v x i (n i); kept = all_others past weight i (initiator_at w i) outbox.sides v o.0 (h i b) })).kept)
 
   -- what holds behind the notes of an initiator
   all_told : (past : List Moment) (ms : List Moment) (w : WorldState) (i : ℕ) (s : InitiatorState) → i < length w.initiators → P ms i s → ((j : ℕ) → j < length w.initiators → (j == i) ≡ false → P ms j (initiator_at w j)) → (j : ℕ) → j < length w.initiators → P ms j (initiator_at (with_initiator i s w) j)
@@ -186,13 +224,13 @@ module _ {Q : List Moment → ℕ → InitiatorState → Type 0} (P : List Momen
           (subst (P ms i) (sym (state_here w.initiators i s (new_state 0 false) inside)) own)
       each false e = subst (P ms j) (sym (state_there w.initiators i j s (new_state 0 false) e inside)) (others j b e)
 
-  pub initiator_hands : (past : List Moment) (w : WorldState) (i from weight : ℕ) (t : Turn) → i < length w.initiators → AreNotes t.0.sides → NoneActs (history w past) → Tells P (history w past) i t → AreBut P past i w → Are P past (handed_out from weight t.0 (with_initiator i t.1 w))
-  initiator_hands past w i from weight t inside own n tells but =
+  pub initiator_hands : (past : List Moment) (w : WorldState) (i from weight : ℕ) (t : Turn) → (from == 0) ≡ false → i < length w.initiators → AreNotes t.0.sides → NoneActs (history w past) → Tells P (history w past) i t → AreBut P past i w → Are P past (handed_out from weight t.0 (with_initiator i t.1 w))
+  initiator_hands past w i from weight t z inside own n tells but =
       let v = with_initiator i t.1 w in
       let x = told_all weight t.0.sides v in
       let told_is : history x past ≡ behind t.0.sides (history w past) = all_own past weight t.0.sides v own in
       are_on P past v (handed_out from weight t.0 v) (hands_keep from weight t.0 v)
-      (λ j b. (all_still past j (initiator_at v j) from t.0.packets x (record {
+      (λ j b. (all_still past j (initiator_at v j) from t.0.packets x (λ e. own_node from e z) (record {
         line = no_act past w x j (n j);
         kept = subst (λ ms. P ms j (initiator_at v j)) (sym told_is)
             (all_told past (behind t.0.sides (history w past)) w i t.1 inside tells.own (λ k c e. tells.others k (initiator_at w k) e (but k c e)) j (subst (λ m. j < m) (length-set w.initiators i t.1) b));
@@ -251,5 +289,5 @@ module _ {Q : List Moment → ℕ → InitiatorState → Type 0} (P : List Momen
         (are_on P past v (sent_all (i + 1) (packet ∷ []) x) (hands_keep (i + 1) weight (record t.0 { packets = packet ∷ [] }) v)
         (λ j b. subst (λ ms. P ms j (initiator_at v j)) (sym now)
         (all_told past (leaves ∷ behind_all) w i t.1 inside (does.asking packet one (x.store.last + 1) (topology_at x.generations (i + 1)).generation k.1 q)
-        (λ m c e. law.apart (notes.Sent (x.store.last + 1) (topology_at x.generations (i + 1)).generation (suc i) 0 packet.bytes) behind_all m (initiator_at w m) (let f : (suc i == suc m) ≡ false = grind (arith, nat_tests) in ap not f) tt (others_there m c e))
+        (λ m c e. law.apart (notes.Sent (x.store.last + 1) (topology_at x.generations (i + 1)).generation (suc i) 0 packet.bytes) behind_all m (initiator_at w m) (let f : (suc i == suc m) ≡ false = grind (arith, nat_tests) in ap not f) (let z : (suc i == 0) ≡ false = grind (arith, nat_tests) in z) (others_there m c e))
         j (subst (λ m. j < m) (length-set w.initiators i t.1) b))))

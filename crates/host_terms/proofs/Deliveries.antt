@@ -1,7 +1,6 @@
 -- Only deliveries tell that a packet was got.
 use Rattle.std.proofs.Common.{arith, ◌≡◌, refl, sym, ◌∙◌, ap, subst, ℕ, zero, suc, ◌+◌, ◌<◌, ◌≤◌, nat_lt, Bool, true, false, cond, List, [], ◌∷◌, ◌++◌, length, map, slice_set, Option, Some, None, append_assoc}
 use Rattle.std.proofs.lemmas.Bool.Decides.{nat_tests}
-use Rattle.bus_transactions.specs.May.{is_reset}
 use Rattle.bus_transactions.specs.Wire.{as_sending}
 use Rattle.packet_store.specs.declared.sent.Sent.{Sent}
 use Rattle.packet_store.specs.Kept.{found_sent}
@@ -40,30 +39,23 @@ use Rattle.sbp_world.specs.Settling as settling
 use Rattle.sbp_world.specs.Telling.{told, told_all}
 use Rattle.sbp_world.specs.Worlds.{Scene, WorldState, begun, initiator_at, with_initiator, with_note}
 use Rattle.sbp_world.specs.Wire.Lines.{AreLines}
-use Rattle.sbp_world.specs.Wire.Wires.{Stands}
-use Rattle.sbp_world.proofs.FitInitiator.Law.{fitting_law as own_fitting_law}
-use Rattle.sbp_world.proofs.FitTarget.Law.{fitting_law}
 use Rattle.sbp_world.proofs.Wire.Comes.{own_inside, own_outside, to_own}
 use Rattle.sbp_world.proofs.Wire.Gains.{Gains, all_sent, hands_out}
-use Rattle.sbp_world.proofs.Wire.Holding.{Sound}
 use Rattle.sbp_world.proofs.Wire.OwnActs.{AreStepSides, IsStepSide, acts}
 use Rattle.sbp_world.proofs.Wire.OwnTells as own
-use Rattle.sbp_world.proofs.Wire.Runs.{SoundAfter, sound_after}
-use Rattle.sbp_world.proofs.Wire.Sound.{opens}
 use Rattle.sbp_world.proofs.Wire.Turned.{Turned, delivers, lapse_turns, second_turns, sight_turns, stale_refuses}
 use Rattle.host_terms.specs.Answering.{IsDelivering}
 use Rattle.host_terms.specs.Deliveries.{DeliveriesLaw, IsDelivered, WasGot, front_of}
-use Rattle.host_terms.specs.Handing.{history}
 use Rattle.host_terms.specs.Runs.{IsRun}
-use Rattle.host_terms.proofs.AnsweringRuns.{all_sound}
+use Rattle.host_terms.proofs.Between.{stands_there}
 use Rattle.host_terms.proofs.GotRequests.{request_got}
 use Rattle.host_terms.proofs.Knows.{was_sent}
-use Rattle.host_terms.proofs.Runs.{are_told, count_after, count_between}
+use Rattle.host_terms.proofs.Runs.{count_after, count_between}
 
 -- ---- notes
 
 -- what is so of each note that a packet was got, and of the notes before it
-abbrev GotsAre : (ℕ → List Note → Type 0) → List Note → Type 0
+abbrev pub GotsAre : (ℕ → List Note → Type 0) → List Note → Type 0
 GotsAre F [] = Unit {0}
 GotsAre F (notes.Got serial ∷ ns) = F serial ns × GotsAre F ns
 GotsAre F (note ∷ ns) = GotsAre F ns
@@ -195,17 +187,17 @@ comes F serial again one s f = found_comes F serial again one s (found_sent seri
 -- ---- deliveries one after the other
 
 -- In a line from a scene: notes stand before the delivery of a packet, and what stands behind it is the end of all notes.
-record Here (event : Event) (s : Scene) (all : List Note) (serial : ℕ) (before : List Note) : Type 0 where
-  told : List (Option Told)
-  delivers : IsDelivering event told
-  may : MayAll told s
-  again : Bool
-  one : Option Told
-  may_one : MayReceive one serial (after_all told s)
-  was_got : WasGot serial (after_all told s)
-  is : before ≡ (after_all told s).world.fresh
-  later : List Note
-  behind : all ≡ later ++ (delivered serial again one (after_all told s)).world.fresh
+pub record Here (event : Event) (s : Scene) (all : List Note) (serial : ℕ) (before : List Note) : Type 0 where
+  pub told : List (Option Told)
+  pub delivers : IsDelivering event told
+  pub may : MayAll told s
+  pub again : Bool
+  pub one : Option Told
+  pub may_one : MayReceive one serial (after_all told s)
+  pub was_got : WasGot serial (after_all told s)
+  pub is : before ≡ (after_all told s).world.fresh
+  pub later : List Note
+  pub behind : all ≡ later ++ (delivered serial again one (after_all told s)).world.fresh
 
 -- all notes are more
 wider : (event : Event) (s : Scene) (old new more : List Note) → new ≡ more ++ old → (serial : ℕ) (before : List Note) → Here event s old serial before → Here event s new serial before
@@ -223,7 +215,7 @@ wider event s old new more e serial before h = record {
 }
 
 module _ (event : Event) (s : Scene) (none : s.world.fresh ≡ []) where
-  abbrev GotsHere : List Note → Type 0
+  abbrev pub GotsHere : List Note → Type 0
   GotsHere all = GotsAre (Here event s all) all
 
   begins_gots : (F : ℕ → List Note → Type 0) → GotsAre F s.world.fresh
@@ -240,7 +232,7 @@ module _ (event : Event) (s : Scene) (none : s.world.fresh ≡ []) where
   lowest_gots told d m one None may h = absurd may
   lowest_gots told d m one (Some serial) may h = next_gots told d m false one serial may h
 
-  all_gots : ((told : List (Option Told)) → IsDelivering event told) → (told : List (Option Told)) → MayAll told s → GotsHere (after_all told s).world.fresh
+  pub all_gots : ((told : List (Option Told)) → IsDelivering event told) → (told : List (Option Told)) → MayAll told s → GotsHere (after_all told s).world.fresh
   unfolding delivered_next MayNext
   all_gots d [] m = begins_gots (Here event s s.world.fresh)
   all_gots d (one ∷ before) m = lowest_gots before (d before) m.1 one (lowest (after_all before s).world) m.0 (all_gots d before m.1)
@@ -342,30 +334,30 @@ line_gots line (events.Key unit key) told s m = pick_gots _ (nat_lt unit (length
 
 -- ---- moments
 
-abbrev GotsIn : (ℕ → List Moment → Type 0) → List Moment → Type 0
+abbrev pub GotsIn : (ℕ → List Moment → Type 0) → List Moment → Type 0
 GotsIn G [] = Unit {0}
 GotsIn G (said (notes.Got serial) ∷ ms) = G serial ms × GotsIn G ms
 GotsIn G (said note ∷ ms) = GotsIn G ms
 GotsIn G (asked line event ∷ ms) = GotsIn G ms
 
-said_gots : (F : ℕ → List Note → Type 0) (G : ℕ → List Moment → Type 0) (ns : List Note) (ms : List Moment) → ((serial : ℕ) (before : List Note) → F serial before → G serial (map said before ++ ms)) → GotsAre F ns → GotsIn G ms → GotsIn G (map said ns ++ ms)
+pub said_gots : (F : ℕ → List Note → Type 0) (G : ℕ → List Moment → Type 0) (ns : List Note) (ms : List Moment) → ((serial : ℕ) (before : List Note) → F serial before → G serial (map said before ++ ms)) → GotsAre F ns → GotsIn G ms → GotsIn G (map said ns ++ ms)
 said_gots F G [] ms f h g = g
 said_gots F G (notes.Got serial ∷ ns) ms f h g = (f serial ns h.0, said_gots F G ns ms f h.1 g)
 said_gots F G (note ∷ ns) ms f h g = said_gots F G ns ms f h g
 
-map_in : (F G : ℕ → List Moment → Type 0) (ms : List Moment) → ((serial : ℕ) (before : List Moment) → F serial before → G serial before) → GotsIn F ms → GotsIn G ms
+pub map_in : (F G : ℕ → List Moment → Type 0) (ms : List Moment) → ((serial : ℕ) (before : List Moment) → F serial before → G serial before) → GotsIn F ms → GotsIn G ms
 map_in F G [] f h = tt
 map_in F G (said (notes.Got serial) ∷ ms) f h = (f serial ms h.0, map_in F G ms f h.1)
 map_in F G (said note ∷ ms) f h = map_in F G ms f h
 map_in F G (asked line event ∷ ms) f h = map_in F G ms f h
 
-find_got : (G : ℕ → List Moment → Type 0) (later before : List Moment) (serial : ℕ) → GotsIn G (later ++ said (notes.Got serial) ∷ before) → G serial before
+pub find_got : (G : ℕ → List Moment → Type 0) (later before : List Moment) (serial : ℕ) → GotsIn G (later ++ said (notes.Got serial) ∷ before) → G serial before
 find_got G [] before serial h = h.0
 find_got G (said (notes.Got other) ∷ later) before serial h = find_got G later before serial h.1
 find_got G (said note ∷ later) before serial h = find_got G later before serial h
 find_got G (asked line event ∷ later) before serial h = find_got G later before serial h
 
-said_append : (one two : List Note) (ms : List Moment) → map said one ++ (map said two ++ ms) ≡ map said (one ++ two) ++ ms
+pub said_append : (one two : List Note) (ms : List Moment) → map said one ++ (map said two ++ ms) ≡ map said (one ++ two) ++ ms
 said_append [] two ms = refl
 said_append (note ∷ one) two ms = ap (λ x. said note ∷ x) (said_append one two ms)
 
@@ -395,34 +387,12 @@ module _ (line : ℕ) (run : Run) (e : Entry) (earlier : List Entry) (q : IsRun 
   same : moments_behind line front earlier ≡ moments_behind line now earlier
   same = moments_same line now earlier earlier
 
-  before_it : SoundAfter line front earlier s.world
-  before_it = sound_after fitting_law own_fitting_law line front earlier front_is.few front_is.short front_is.entries front_is.lines
-
-  -- how the world stands behind some deliveries
-  deliveries_sound : (event : Event) (told : List (Option Told)) → is_reset event ≡ false → ((ms : List Moment) → (terms (asked e.line event ∷ ms)).repeats ≡ false) → MayAll told (begun s) → Sound (asked e.line event ∷ history s.world before_it.past) (length earlier) (after_all told (begun s)).world
-  deliveries_sound event told r repeats m = all_sound told (are_told told s m) (begun s) (opens e.line event s.world r before_it.sound) (repeats (history s.world before_it.past))
-
-  stands_here : (event : Event) (told : List (Option Told)) → IsDelivering event told → MayAll told (begun s) → Stands (asked e.line event ∷ history s.world before_it.past) (after_all told (begun s)).world
-  stands_here (events.Step count) told d m = (deliveries_sound (events.Step count) told refl (λ ms. refl) m).stands
-  stands_here events.Settle told d m = (deliveries_sound events.Settle told refl (λ ms. refl) m).stands
-  stands_here (events.Deliver n) told d m = subst (λ told. Stands (asked e.line (events.Deliver n) ∷ history s.world before_it.past) (after_all told (begun s)).world) (sym d) (opens e.line (events.Deliver n) s.world refl before_it.sound).stands
-  stands_here (events.Repeat n) told d m = subst (λ told. Stands (asked e.line (events.Repeat n) ∷ history s.world before_it.past) (after_all told (begun s)).world) (sym d) (opens e.line (events.Repeat n) s.world refl before_it.sound).stands
-  stands_here (events.Begin initiators ready) told d m = absurd d
-  stands_here (events.Act j action) told d m = absurd d
-  stands_here (events.Reset physical) told d m = absurd d
-  stands_here (events.See node) told d m = absurd d
-  stands_here (events.Lose n) told d m = absurd d
-  stands_here (events.Timeout n) told d m = absurd d
-  stands_here events.Tick told d m = absurd d
-  stands_here (events.Inject initiator bytes) told d m = absurd d
-  stands_here (events.Key unit key) told d m = absurd d
-
   was_there : (serial : ℕ) (before : List Note) (h : Here e.event (begun s) e.notes serial before) → (terms (map said before ++ asked e.line e.event ∷ history_of line front)).sent serial ≡ Some (as_sending h.was_got.sent)
   was_there serial before h =
-      let t = after_all h.told (begun s) in
+      let b = stands_there line front front_is e.line e.event h.told h.delivers h.may in
       subst (λ ns. (terms (map said ns ++ asked e.line e.event ∷ history_of line front)).sent serial ≡ Some (as_sending h.was_got.sent)) (sym h.is)
-      (subst (λ ms. (terms (map said t.world.fresh ++ asked e.line e.event ∷ ms)).sent serial ≡ Some (as_sending h.was_got.sent)) before_it.is
-      (was_sent t.world (stands_here e.event h.told h.delivers h.may) serial h.was_got.sent h.was_got.found))
+      (subst (λ ms. (terms ms).sent serial ≡ Some (as_sending h.was_got.sent)) b.is
+      (was_sent (after_all h.told (begun s)).world b.sound.stands serial h.was_got.sent h.was_got.found))
 
   is_inside : (told : List (Option Told)) (i : ℕ) → i < length (after_all told (begun s)).world.initiators → i < run.initiators
   is_inside told i b = subst (λ n. i < n) (count_between told s ∙ count_after run earlier) b
@@ -480,7 +450,7 @@ module _ (line : ℕ) (run : Run) (e : Entry) (earlier : List Entry) (q : IsRun 
       (subst (λ ns. GotsAre (Here e.event (begun s) ns) ns) (sym q.entries.0.notes_are) (line_gots e.line e.event e.told s q.entries.0.may))
       (map_in (IsDelivered line front) (IsDelivered line now) (history_of line front) earlier_is h))
 
-run_gots : (line : ℕ) (run : Run) (entries : List Entry) → IsRun (front_of run entries) → GotsIn (IsDelivered line (front_of run entries)) (history_of line (front_of run entries))
+pub run_gots : (line : ℕ) (run : Run) (entries : List Entry) → IsRun (front_of run entries) → GotsIn (IsDelivered line (front_of run entries)) (history_of line (front_of run entries))
 run_gots line run [] q = tt
 run_gots line run (e ∷ earlier) q = entry_gots line run e earlier q (run_gots line run earlier (front_is line run e earlier q))
 

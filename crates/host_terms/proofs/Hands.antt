@@ -30,26 +30,37 @@ use Rattle.host_terms.specs.Fits.{AreRows}
 use Rattle.host_terms.specs.Handing.{AreNotes, AreOthers, HandLaw, IsNote, IsOther, history}
 use Rattle.host_terms.specs.Steps.{IsNoAbort}
 use Rattle.host_terms.proofs.Beside.{beside_rests, sent_rests}
-use Rattle.host_terms.proofs.TargetTells as target
+use Rattle.host_terms.proofs.Mild.{FromTarget}
+use Rattle.host_terms.proofs.TargetGives as target
 
--- ---- what the target tells
+-- ---- what the target hands out
 
-left_tells : (r : Judged × Whole) (faults : List ℕ) → AreOthers r.1.outbox.sides → AreOthers (left_target r faults).1.0.sides
-left_tells (judged, w) faults h = h
+left_gives : (r : Judged × Whole) (faults : List ℕ) → FromTarget r.1.outbox → FromTarget (left_target r faults).1.0
+left_gives (judged, w) faults h = h
 
-pub target_tells : (told : Option Told) (packet : Sent) (node : NodeState) (media : Held) → MayTell told packet node media → AreOthers (target_received told packet node media).1.0.sides
+pub target_gives : (told : Option Told) (packet : Sent) (node : NodeState) (media : Held) → MayTell told packet node media → FromTarget (target_received told packet node media).1.0
 unfolding target_received MayTell
-target_tells told packet node media m =
-    left_tells (received told packet.generation packet.bytes (whole_of node media)) (faults_after told packet node media)
-    (target.receives told packet.generation packet.bytes (whole_of node media) media.faults (faults_after told packet node media) m tt)
+target_gives told packet node media m =
+    left_gives (received told packet.generation packet.bytes (whole_of node media)) (faults_after told packet node media)
+    (target.receives told packet.generation packet.bytes (whole_of node media) media.faults (faults_after told packet node media) m (tt, tt))
+
+pub sight_gives : (generation id : ℕ) (node : NodeState) → FromTarget (target_sees generation id node).0
+unfolding target_sees
+sight_gives generation id node = target.sees generation id (scene node empty_outbox) (tt, tt)
+
+pub second_gives : (node : NodeState) → FromTarget (target_ticks node).0
+unfolding target_ticks
+second_gives node = target.ticks (scene node empty_outbox) (tt, tt)
+
+-- and of that what it tells
+pub target_tells : (told : Option Told) (packet : Sent) (node : NodeState) (media : Held) → MayTell told packet node media → AreOthers (target_received told packet node media).1.0.sides
+target_tells told packet node media m = (target_gives told packet node media m).0
 
 pub sight_tells : (generation id : ℕ) (node : NodeState) → AreOthers (target_sees generation id node).0.sides
-unfolding target_sees
-sight_tells generation id node = target.sees generation id (scene node empty_outbox) tt
+sight_tells generation id node = (sight_gives generation id node).0
 
 pub second_tells : (node : NodeState) → AreOthers (target_ticks node).0.sides
-unfolding target_ticks
-second_tells node = target.ticks (scene node empty_outbox) tt
+second_tells node = (second_gives node).0
 
 -- ---- it leaves the terms of every initiator
 
@@ -142,7 +153,7 @@ all_own past weight (side ∷ later) w f = all_own past weight later (told weigh
 pub hand_law : HandLaw
 hand_law = record {
   received = target_tells;
-  expires = λ peer label node. target.expires peer label (scene node empty_outbox) tt;
+  expires = λ peer label node. (target.expires peer label (scene node empty_outbox) (tt, tt)).0;
   sees = sight_tells;
   ticks = second_tells;
   others = λ past w weight i s told f r. all_others past weight i s told w f r;

@@ -117,7 +117,7 @@ pub record Cored (ready : Bool) (past : List Moment) (i : ℕ) (s : InitiatorSta
   pub sits : Sits (operation_by (own_core s).work) (own_core s).session
 
 module _ (ready : Bool) where
-  known_of : (past : List Moment) (i : ℕ) (s : InitiatorState) → Cored ready past i s → Known past (empty_outbox, s)
+  pub known_of : (past : List Moment) (i : ℕ) (s : InitiatorState) → Cored ready past i s → Known past (empty_outbox, s)
   known_of past i s h = record {
     own = ap (λ j. host_core (host_at past j)) h.own.number ∙ h.core;
     others = λ j e. refl;
@@ -204,7 +204,7 @@ module _ (ready : Bool) where
     expires = λ serial label past i s shown h. expires_told serial label past i s h;
     stale = stale_cored;
     sees = sees_told;
-    acts = λ action past i s under fit done shown known h. acts_told action past i s under fit done h;
+    acts = λ action past i s under fit done shown known h. acts_told action past i s under fit.0 done h;
   }
 
 -- ---- the beginning

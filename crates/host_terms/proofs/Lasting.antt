@@ -3,7 +3,7 @@ use Rattle.std.proofs.Common.{arith, ◌≡◌, refl, sym, ap, subst, ◌∙◌,
 use Rattle.orb_list.specs.declared.list.Linking.{Linking}
 use Rattle.orb_list.specs.Table.{SlotTable, orb_number, waits_high}
 use Rattle.sbp_initiator.specs.declared.state.InitiatorState.{InitiatorState}
-use Rattle.sbp_initiator.specs.Acting.{IsAction, act_step}
+use Rattle.sbp_initiator.specs.Acting.{act_step}
 use Rattle.sbp_initiator.specs.Effects.{Turn}
 use Rattle.sbp_initiator.specs.Initiators.{new_state}
 use Rattle.sbp_initiator.specs.Receiving.{expire_step, receive_step}
@@ -27,7 +27,7 @@ use Rattle.host_terms.specs.Lasting.{LastingLaw, Lasts}
 use Rattle.host_terms.specs.Reading.{ReadAs}
 use Rattle.host_terms.proofs.Acts.{Goes}
 use Rattle.host_terms.proofs.Carried.{between_runs, of_runs}
-use Rattle.host_terms.proofs.Carries.{Carries, Does, Tells}
+use Rattle.host_terms.proofs.Carries.{Carries, Does, IsLineOf, Tells}
 use Rattle.host_terms.proofs.LastingTerms.{AllLast, append_all, dummy_all, from_there, lasts, left_all, link_all, low_all, one_more, same_all, still_all}
 use Rattle.host_terms.proofs.OrbLinks.{waits_for}
 use Rattle.host_terms.proofs.OrbRuns.{Orbs, Rowed, first_orbs, goes, orbs_carried, rows_known}
@@ -130,7 +130,7 @@ module _ (ready : Bool) where
     others = λ j x e k. record { orbs = orbs.others j x e k.orbs; all = still_all t.0.sides past j q k.all };
   }
 
-  module _ (action : Action) (past : List Moment) (i : ℕ) (s : InitiatorState) (line : event_of past ≡ Some (events.Act i action)) (fit : IsAction action) (no_refusal : (act_step action empty_outbox s).0 ≡ None) (known : Rowed past i s) (h : Lasting ready past i s) where
+  module _ (action : Action) (past : List Moment) (i : ℕ) (s : InitiatorState) (line : event_of past ≡ Some (events.Act i action)) (fit : IsLineOf action) (no_refusal : (act_step action empty_outbox s).0 ≡ None) (known : Rowed past i s) (h : Lasting ready past i s) where
     abbrev t : Turn
     t = (act_step action empty_outbox s).1
 
@@ -155,7 +155,7 @@ module _ (ready : Bool) where
       };
     }
 
-  lasting_carried : Carries Rowed (Lasting ready)
+  pub lasting_carried : Carries Rowed (Lasting ready)
   lasting_carried =
       let c = orbs_carried ready in
       record {
@@ -181,7 +181,7 @@ module _ (ready : Bool) where
         acts = λ action past i s line fit d shown known h. does_on action past i s line fit d known h (c.acts action past i s line fit d shown known h.orbs);
       }
 
-first_lasting : (line i initiators : ℕ) (ready : Bool) → Lasting ready (said (notes.Begin initiators ready) ∷ asked line (events.Begin initiators ready) ∷ []) i (new_state i ready)
+pub first_lasting : (line i initiators : ℕ) (ready : Bool) → Lasting ready (said (notes.Begin initiators ready) ∷ asked line (events.Begin initiators ready) ∷ []) i (new_state i ready)
 first_lasting line i initiators ready =
     let first = asked line (events.Begin initiators ready) ∷ [] in
     record {
@@ -190,7 +190,7 @@ first_lasting line i initiators ready =
     }
 
 -- from a moment of a history on
-from_moment : (later before past : List Moment) (i : ℕ) → later ++ before ≡ past → AllLast past i → Lasts before past i
+pub from_moment : (later before past : List Moment) (i : ℕ) → later ++ before ≡ past → AllLast past i → Lasts before past i
 from_moment later before past i e h =
     subst (λ ms. Lasts before ms i) e
     (let f = from_there later before i (subst (λ ms. AllLast ms i) (sym e) h) in lasts before (later ++ before) i f.0 f.1)

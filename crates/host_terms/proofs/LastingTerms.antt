@@ -4,7 +4,7 @@ use Rattle.std.proofs.lemmas.Bool.Decides.{nat_tests}
 use Rattle.bus_memory.specs.declared.window.Window.TheVariants as windows
 use Rattle.bus_memory.specs.Windows.{start}
 use Rattle.orb_layout.specs.declared.pointer.OrbPointer.TheVariants.{Null, At}
-use Rattle.sbp_journal.specs.Run.{Moment, said}
+use Rattle.sbp_journal.specs.Run.{Moment, asked, said}
 use Rattle.sbp_journal.specs.Wire.{terms}
 use Rattle.sbp_journal.specs.declared.event.Cmd.{Cmd}
 use Rattle.sbp_journal.specs.declared.note.Note.{Note}
@@ -196,20 +196,29 @@ module _ (t : OrbTerms) (w : Within t) (n : ℕ) where
 
 -- ---- a history
 
+-- an ORB that is appended has the next number of its list
+abbrev pub IsNumbered : List Moment → Moment → ℕ → Type 0
+IsNumbered past (said (notes.Append j n k cdb buffer)) i = nat_eq j i ≡ true → k ≡ appends past i n
+IsNumbered past _ i = Unit {0}
+
+pub record IsLast (past : List Moment) (m : Moment) (i : ℕ) : Type 0 where
+  pub last : Last (orb_terms past i) (orb_terms (m ∷ past) i)
+  pub numbered : IsNumbered past m i
+
 abbrev pub AllLast : List Moment → ℕ → Type 0
 AllLast [] i = Unit {0}
-AllLast (m ∷ past) i = Last (orb_terms past i) (orb_terms (m ∷ past) i) × AllLast past i
+AllLast (m ∷ past) i = IsLast past m i × AllLast past i
 
 pub within_of : (past : List Moment) (i : ℕ) → AllLast past i → Within (orb_terms past i)
 within_of [] i h = λ n. same_count 0
-within_of (m ∷ past) i h = h.0.within
+within_of (m ∷ past) i h = h.0.last.within
 
 -- from each of its moments on
 pub from_there : (later before : List Moment) (i : ℕ) → AllLast (later ++ before) i → Last (orb_terms before i) (orb_terms (later ++ before) i) × Within (orb_terms before i)
 from_there [] before i h = (last_same (orb_terms before i) (within_of before i h), within_of before i h)
 from_there (m ∷ later) before i h =
     let b = from_there later before i h.1 in
-    (last_on (orb_terms before i) (orb_terms (later ++ before) i) (orb_terms (m ∷ later ++ before) i) b.0 h.0, b.1)
+    (last_on (orb_terms before i) (orb_terms (later ++ before) i) (orb_terms (m ∷ later ++ before) i) b.0 h.0.last, b.1)
 
 module _ (before past : List Moment) (i : ℕ) (last : Last (orb_terms before i) (orb_terms past i)) (w : Within (orb_terms before i)) where
   next_on : (n k address : ℕ) (b : Bool) → nat_lt (suc k) (linked before i n) ≡ b → cond b (At (address_of before i n (suc k))) Null ≡ At address → next_of past i n k ≡ At address
@@ -240,43 +249,64 @@ module _ (before past : List Moment) (i : ℕ) (last : Last (orb_terms before i)
 
 -- ---- one more moment
 
-module _ (past : List Moment) (i : ℕ) (h : AllLast past i) where
-  abbrev t : OrbTerms
-  t = orb_terms past i
-
-  pub same_all : (m : Moment) → orb_terms (m ∷ past) i ≡ t → AllLast (m ∷ past) i
-  same_all m e = (subst (Last t) (sym e) (last_same t (within_of past i h)), h)
-
-  pub append_all : (n k : ℕ) (cdb : List ℕ) (buffer : NoteBuffer) → k ≡ appends past i n → AllLast (said (notes.Append i n k cdb buffer) ∷ past) i
-  append_all n zero cdb buffer new =
-      let w = within_of past i h in (
-        subst (Last t) (sym (append_first past i n cdb buffer))
-            (append_last t n 0 new (Some (record { cdb = cdb; buffer = buffer })) (cmd_of (event_of past)) (lowest_vacant (slots past i)) (id_of (terms past) (suc i)) (first_linked true n t)
-            (λ m. first_on t w n new m (nat_eq m n) refl) (λ m. first_within t w n m (nat_eq m n))),
-        h,
-      )
-  append_all n (suc k) cdb buffer new =
-      let w = within_of past i h in (
-        subst (Last t) (sym (append_next past i n k cdb buffer))
-            (append_last t n (suc k) new (Some (record { cdb = cdb; buffer = buffer })) (cmd_of (event_of past)) (lowest_vacant (slots past i)) (id_of (terms past) (suc i)) (linked past i)
-            (λ m. same_count (linked past i m)) (λ m. next_within t w n m (nat_eq m n) refl)),
-        h,
-      )
-
-  pub link_all : (n k : ℕ) → suc k ≡ appends past i n → AllLast (said (notes.Linked i n k) ∷ past) i
-  link_all n k latest = (subst (Last t) (sym (link_said past i n k)) (link_last t (within_of past i h) n k latest), h)
-
-  pub low_all : (n k : ℕ) → AllLast (said (notes.Low i n k) ∷ past) i
-  low_all n k = (subst (Last t) (sym (low_said past i n k)) (low_last t (within_of past i h) n k), h)
-
-  pub dummy_all : (n k : ℕ) → AllLast (said (notes.Dummied i n k) ∷ past) i
-  dummy_all n k = (subst (Last t) (sym (dummy_said past i n k)) (dummy_last t (within_of past i h) n k), h)
-
 -- an ORB more of its list
 pub one_more : (past : List Moment) (i n k : ℕ) (cdb : List ℕ) (buffer : NoteBuffer) → appends (said (notes.Append i n k cdb buffer) ∷ past) i n ≡ suc (appends past i n)
 one_more past i n k cdb buffer =
     ap (λ b. cond b (cond (nat_eq n n) (suc (appends past i n)) (appends past i n)) (appends past i n)) (itself i)
     ∙ ap (λ b. cond b (suc (appends past i n)) (appends past i n)) (itself n)
+
+pub one_of : (i j n k : ℕ) (cdb : List ℕ) (buffer : NoteBuffer) (past : List Moment) → nat_eq j i ≡ true → appends (said (notes.Append j n k cdb buffer) ∷ past) i n ≡ suc (appends past i n)
+one_of i j n k cdb buffer past e =
+    let same : j ≡ i = grind (arith, nat_tests) in
+    subst (λ x. appends (said (notes.Append x n k cdb buffer) ∷ past) i n ≡ suc (appends past i n)) (sym same) (one_more past i n k cdb buffer)
+
+no_more : (a : ℕ) → suc a ≡ a → ⊥
+no_more a e = omega arith
+
+-- what leaves the ORBs appends none
+numbered_same : (m : Moment) (past : List Moment) (i : ℕ) → orb_terms (m ∷ past) i ≡ orb_terms past i → IsNumbered past m i
+numbered_same (said (notes.Append j n k cdb buffer)) past i e = λ own.
+    absurd (no_more (appends past i n) (sym (one_of i j n k cdb buffer past own) ∙ ap (λ (t : OrbTerms). t.appended n) e))
+numbered_same (said note) past i e = tt
+numbered_same (asked line event) past i e = tt
+
+module _ (past : List Moment) (i : ℕ) (h : AllLast past i) where
+  abbrev t : OrbTerms
+  t = orb_terms past i
+
+  pub same_all : (m : Moment) → orb_terms (m ∷ past) i ≡ t → AllLast (m ∷ past) i
+  same_all m e = (record { last = subst (Last t) (sym e) (last_same t (within_of past i h)); numbered = numbered_same m past i e }, h)
+
+  pub append_all : (n k : ℕ) (cdb : List ℕ) (buffer : NoteBuffer) → k ≡ appends past i n → AllLast (said (notes.Append i n k cdb buffer) ∷ past) i
+  append_all n zero cdb buffer new =
+      let w = within_of past i h in (
+        record {
+          last = subst (Last t) (sym (append_first past i n cdb buffer))
+              (append_last t n 0 new (Some (record { cdb = cdb; buffer = buffer })) (cmd_of (event_of past)) (lowest_vacant (slots past i)) (id_of (terms past) (suc i)) (first_linked true n t)
+              (λ m. first_on t w n new m (nat_eq m n) refl) (λ m. first_within t w n m (nat_eq m n)));
+          numbered = λ own. new;
+        },
+        h,
+      )
+  append_all n (suc k) cdb buffer new =
+      let w = within_of past i h in (
+        record {
+          last = subst (Last t) (sym (append_next past i n k cdb buffer))
+              (append_last t n (suc k) new (Some (record { cdb = cdb; buffer = buffer })) (cmd_of (event_of past)) (lowest_vacant (slots past i)) (id_of (terms past) (suc i)) (linked past i)
+              (λ m. same_count (linked past i m)) (λ m. next_within t w n m (nat_eq m n) refl));
+          numbered = λ own. new;
+        },
+        h,
+      )
+
+  pub link_all : (n k : ℕ) → suc k ≡ appends past i n → AllLast (said (notes.Linked i n k) ∷ past) i
+  link_all n k latest = (record { last = subst (Last t) (sym (link_said past i n k)) (link_last t (within_of past i h) n k latest); numbered = tt }, h)
+
+  pub low_all : (n k : ℕ) → AllLast (said (notes.Low i n k) ∷ past) i
+  low_all n k = (record { last = subst (Last t) (sym (low_said past i n k)) (low_last t (within_of past i h) n k); numbered = tt }, h)
+
+  pub dummy_all : (n k : ℕ) → AllLast (said (notes.Dummied i n k) ∷ past) i
+  dummy_all n k = (record { last = subst (Last t) (sym (dummy_said past i n k)) (dummy_last t (within_of past i h) n k); numbered = tt }, h)
 
 -- ---- what is told
 

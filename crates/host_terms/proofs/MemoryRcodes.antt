@@ -30,7 +30,7 @@ Rows inside has = first_or 0 ((not inside, 7) ∷ (not has, 6) ∷ [])
 abbrev AllRows : (empty fifo inside has : Bool) → ℕ
 AllRows empty fifo inside has = first_or 0 ((false, 6) ∷ (empty, 6) ∷ (fifo, 6) ∷ (not inside, 7) ∷ (not has, 6) ∷ [])
 
-and_true : (a b : Bool) → a && b ≡ true → a ≡ true
+pub and_true : (a b : Bool) → a && b ≡ true → a ≡ true
 and_true true b e = refl
 and_true false b e = e
 

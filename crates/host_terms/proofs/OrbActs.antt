@@ -9,9 +9,9 @@ use Rattle.orb_list.specs.Runs.{if_some, run}
 use Rattle.orb_list.specs.Table as table
 use Rattle.orb_list.specs.Table.{SlotTable, find_in, list_number, may_prepare, next_ticket, orb_number, waits_high, waits_low}
 use Rattle.orb_list.specs.Tickets.{TicketParts}
-use Rattle.sbp_initiator.specs.Commands.{IsCommand, asked_by}
+use Rattle.sbp_initiator.specs.Commands.{asked_by}
 use Rattle.sbp_initiator.specs.declared.state.InitiatorState.{InitiatorState}
-use Rattle.sbp_initiator.specs.Acting.{IsAction, login_id, orb_by}
+use Rattle.sbp_initiator.specs.Acting.{login_id, orb_by}
 use Rattle.sbp_initiator.specs.States.{place_of}
 use Rattle.sbp_journal.specs.Buffers.{buffer_of}
 use Rattle.sbp_journal.specs.Run.{Moment, said}
@@ -36,7 +36,8 @@ use Rattle.host_terms.proofs.Acts.{Goes, found_number}
 use Rattle.host_terms.proofs.Beside.{find_waits, found_list}
 use Rattle.host_terms.proofs.OrbAppends.{append_fits, append_none, prepared_table}
 use Rattle.host_terms.proofs.OrbCalls.{orb_quiet, pin_quiet}
-use Rattle.host_terms.proofs.OrbFits.{AllFit, AreQuiet, NoneYet, quiet_append, quiet_calls}
+use Rattle.host_terms.proofs.Carries.{IsLineOf}
+use Rattle.host_terms.proofs.OrbFits.{AllFit, AreQuiet, IsFull, NoneYet, quiet_append, quiet_calls}
 use Rattle.host_terms.proofs.OrbLinks.{dummy_fits, dummy_none, link_fits, link_none, low_fits, low_none as low_none_yet, waits_for, waits_for_low}
 use Rattle.host_terms.proofs.OrbTerms.{AreLeft, OrbTerms, orb_terms, told_left}
 use Rattle.host_terms.proofs.Readings.{read_as}
@@ -66,7 +67,7 @@ module _ (past : List Moment) (i : ℕ) (calls : List slot_runs.Call) (quads : L
 
     -- ---- an ORB is prepared
 
-    module _ (cmd : Cmd) (node login slot : ℕ) (fit : IsCommand cmd) (is_id : node ≡ id_of (terms past) (suc i)) (line : cmd_of (event_of past) ≡ Some cmd) (e : may_prepare s ≡ Ok slot) where
+    module _ (cmd : Cmd) (node login slot : ℕ) (fit : IsFull cmd) (is_id : node ≡ id_of (terms past) (suc i)) (line : cmd_of (event_of past) ≡ Some cmd) (e : may_prepare s ≡ Ok slot) where
       abbrev u : TicketParts
       u = next_ticket s slot login
 
@@ -289,7 +290,7 @@ module _ (past : List Moment) (i : ℕ) (calls : List slot_runs.Call) (quads : L
       slot_for : is_ok (may_prepare state.lists.slots) ≡ true → (slot : ℕ) × (may_prepare s ≡ Ok slot)
       slot_for e = is_ok_slot (may_prepare s) (ap (λ x. is_ok (may_prepare x)) same ∙ e)
 
-      pub act_done : (action : Action) → Goes action state → IsAction action → event_of past ≡ Some (events.Act i action) → Done (action_notes action past i) (action_calls action state)
+      pub act_done : (action : Action) → Goes action state → IsLineOf action → event_of past ≡ Some (events.Act i action) → Done (action_notes action past i) (action_calls action state)
       act_done (actions.Put cmd) g fit line = let f = slot_for (g.allowed.prepares refl) in put_done cmd state.layer.node (login_id state) f.0 fit is_id (ap cmd_of line) f.1
       act_done (actions.Append cmd) g fit line = let f = slot_for (g.allowed.prepares refl) in append_done cmd state.layer.node (login_id state) f.0 fit is_id (ap cmd_of line) f.1
       act_done actions.Low g fit line = low_done (ap (λ (x : SlotTable). is_some (waits_low x.present)) same ∙ not_off (is_some (waits_low state.lists.slots.present)) g.rows.not_linking)

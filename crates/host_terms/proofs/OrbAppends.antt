@@ -14,7 +14,7 @@ use Rattle.orb_list.specs.Runs.{Call, Prepare, Note, Prepared, if_ok, run}
 use Rattle.orb_list.specs.Table as table
 use Rattle.orb_list.specs.Table.{SlotTable, added, list_number, may_prepare, next_ticket, orb_number, slot_in}
 use Rattle.orb_list.specs.Tickets.{TicketParts}
-use Rattle.sbp_initiator.specs.Commands.{IsCommand, asked_by}
+use Rattle.sbp_initiator.specs.Commands.{asked_by}
 use Rattle.sbp_journal.specs.Buffers.{buffer_of}
 use Rattle.sbp_journal.specs.Run.{Moment, said}
 use Rattle.sbp_journal.specs.Wire.{terms}
@@ -27,7 +27,7 @@ use Rattle.sbp_laws.specs.Turns.{event_of}
 use Rattle.host_terms.specs.Fits.{AreRows, IfLast, IfList, LastFits, LoweredFits, linked_by, terms_at}
 use Rattle.host_terms.specs.Orbs.{request_of}
 use Rattle.host_terms.proofs.Chains.{Same, chained_run}
-use Rattle.host_terms.proofs.OrbFits.{AllFit, IfFits, NoneYet, OrbFits, low_to}
+use Rattle.host_terms.proofs.OrbFits.{AllFit, IfFits, IsFull, NoneYet, OrbFits, low_to}
 use Rattle.host_terms.proofs.OrbTerms.{OrbTerms, append_first, append_next, first_linked, orb_terms, with_append}
 use Rattle.host_terms.proofs.Prepares.{itself}
 
@@ -98,6 +98,7 @@ module _ (t : OrbTerms) (n k : ℕ) (request : Option Request) (command : Option
     login = f.login;
     at = f.at ∙ sym (other_id (nat_eq n o.ticket.list) (nat_eq k o.ticket.number) id (t.id o.ticket.list o.ticket.number) (λ a b. let same : o.ticket.list ≡ n = grind (arith, nat_tests) in absurd (grind (arith, nat_tests))));
     fits = f.fits;
+    fills = f.fills;
     asked = f.asked;
     command = ap (λ a. cond a (cond (nat_eq o.ticket.number k) command (t.command o.ticket.list o.ticket.number)) (t.command o.ticket.list o.ticket.number)) e ∙ f.command;
     request = ap (λ a. cond a (cond (nat_eq o.ticket.number k) request (t.request o.ticket.list o.ticket.number)) (t.request o.ticket.list o.ticket.number)) e ∙ f.request;
@@ -116,6 +117,7 @@ module _ (t : OrbTerms) (n k : ℕ) (request : Option Request) (command : Option
     login = f.login;
     at = f.at ∙ sym (other_id (nat_eq n o.ticket.list) (nat_eq k o.ticket.number) id (t.id o.ticket.list o.ticket.number) (λ a b. other (grind (arith, nat_tests)) (grind (arith, nat_tests))));
     fits = f.fits;
+    fills = f.fills;
     asked = f.asked;
     command = other_name (nat_eq o.ticket.list n) (nat_eq o.ticket.number k) command (t.command o.ticket.list o.ticket.number) other ∙ f.command;
     request = other_name (nat_eq o.ticket.list n) (nat_eq o.ticket.number k) request (t.request o.ticket.list o.ticket.number) other ∙ f.request;
@@ -145,7 +147,7 @@ module _ (t : OrbTerms) (n k : ℕ) (request : Option Request) (command : Option
           grind (arith, nat_tests)
 
   -- the new one
-  module _ (u : TicketParts) (cmd : Cmd) (node login : ℕ) (fit : IsCommand cmd) (is_id : node ≡ id) (lows : t.lowered n ≤ k) (of : u.list ≡ n) (numbered : u.number ≡ k) (c : command ≡ Some cmd) (r : request ≡ Some (request_of cmd)) (none : t.dummy n k ≡ false) where
+  module _ (u : TicketParts) (cmd : Cmd) (node login : ℕ) (fit : IsFull cmd) (is_id : node ≡ id) (lows : t.lowered n ≤ k) (of : u.list ≡ n) (numbered : u.number ≡ k) (c : command ≡ Some cmd) (r : request ≡ Some (request_of cmd)) (none : t.dummy n k ≡ false) where
     abbrev asked : Asked
     asked = asked_by cmd node login
 
@@ -177,7 +179,8 @@ module _ (t : OrbTerms) (n k : ℕ) (request : Option Request) (command : Option
       node = node;
       login = login;
       at = at_now;
-      fits = fit;
+      fits = fit.0;
+      fills = fit.1;
       asked = refl;
       command = this_name (nat_eq u.list n) (nat_eq u.number k) command (t.command u.list u.number) (t.command u.list u.number) same_list same_number ∙ c;
       request = this_name (nat_eq u.list n) (nat_eq u.number k) request (t.request u.list u.number) (t.request u.list u.number) same_list same_number ∙ r;
@@ -193,7 +196,8 @@ module _ (t : OrbTerms) (n k : ℕ) (request : Option Request) (command : Option
       node = node;
       login = login;
       at = at_now;
-      fits = fit;
+      fits = fit.0;
+      fills = fit.1;
       asked = refl;
       command = this_name (nat_eq u.list n) (nat_eq u.number k) command (t.command u.list u.number) (t.command u.list u.number) same_list same_number ∙ c;
       request = this_name (nat_eq u.list n) (nat_eq u.number k) request (t.request u.list u.number) (t.request u.list u.number) same_list same_number ∙ r;
@@ -267,7 +271,7 @@ module _ (past : List Moment) (i : ℕ) (calls : List Call) (quads : List ℕ) (
     lows = let a = lowered_below list.link list.tail.number (t.lowered list.tail.list) f.lowered in omega arith;
   }
 
-  module _ (cmd : Cmd) (node login slot : ℕ) (fit : IsCommand cmd) (is_id : node ≡ id_of (terms past) (suc i)) (line : cmd_of (event_of past) ≡ Some cmd) (e : may_prepare s ≡ Ok slot) where
+  module _ (cmd : Cmd) (node login slot : ℕ) (fit : IsFull cmd) (is_id : node ≡ id_of (terms past) (suc i)) (line : cmd_of (event_of past) ≡ Some cmd) (e : may_prepare s ≡ Ok slot) where
     abbrev u : TicketParts
     u = next_ticket s slot login
 

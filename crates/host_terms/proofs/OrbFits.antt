@@ -13,6 +13,7 @@ use Rattle.orb_list.specs.Table as table
 use Rattle.orb_list.specs.Table.{SlotTable}
 use Rattle.sbp_initiator.specs.Commands.{IsCommand, asked_by}
 use Rattle.sbp_journal.specs.declared.event.Cmd.{Cmd}
+use Rattle.sbp_world.specs.Wire.Lines.{FillsBuffer}
 use Rattle.host_terms.specs.Orbs.{request_of}
 use Rattle.host_terms.proofs.OrbTerms.{OrbTerms}
 
@@ -30,12 +31,17 @@ low_to slot = pointer_low (At (start (windows.Orb slot)))
 abbrev pub low_in : OrbTerms → (n k : ℕ) → ℕ
 low_in t n k = cond (nat_le (suc k) (t.lowered n)) (low_to (t.place n (suc k))) 0
 
+-- a command of a line, which fills its buffer
+abbrev pub IsFull : Cmd → Type 0
+IsFull cmd = IsCommand cmd × FillsBuffer cmd
+
 pub record OrbFits (t : OrbTerms) (o : Kept) : Type 0 where
   pub cmd : Cmd
   pub node : ℕ
   pub login : ℕ
   pub at : node ≡ t.id o.ticket.list o.ticket.number
   pub fits : IsCommand cmd
+  pub fills : FillsBuffer cmd
   pub asked : o.asked ≡ asked_by cmd node login
   pub command : t.command o.ticket.list o.ticket.number ≡ Some cmd
   pub request : t.request o.ticket.list o.ticket.number ≡ Some (request_of cmd)

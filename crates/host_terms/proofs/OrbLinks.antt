@@ -71,6 +71,7 @@ module _ (t : OrbTerms) (n k slot : ℕ) (linked : t.linked n ≡ k) (place : t.
     login = f.login;
     at = f.at;
     fits = f.fits;
+    fills = f.fills;
     asked = f.asked;
     command = f.command;
     request = f.request;
@@ -94,6 +95,7 @@ module _ (t : OrbTerms) (n k slot : ℕ) (linked : t.linked n ≡ k) (place : t.
     login = f.login;
     at = f.at;
     fits = f.fits;
+    fills = f.fills;
     asked = f.asked;
     command = f.command;
     request = f.request;
@@ -153,6 +155,7 @@ module _ (t : OrbTerms) (n k slot : ℕ) (lowered : suc (t.lowered n) ≡ k) (pl
     login = f.login;
     at = f.at;
     fits = f.fits;
+    fills = f.fills;
     asked = f.asked;
     command = f.command;
     request = f.request;
@@ -176,6 +179,7 @@ module _ (t : OrbTerms) (n k slot : ℕ) (lowered : suc (t.lowered n) ≡ k) (pl
     login = f.login;
     at = f.at;
     fits = f.fits;
+    fills = f.fills;
     asked = f.asked;
     command = f.command;
     request = f.request;
@@ -208,6 +212,7 @@ module _ (t : OrbTerms) (n k : ℕ) where
     login = f.login;
     at = f.at;
     fits = f.fits;
+    fills = f.fills;
     asked = f.asked;
     command = f.command;
     request = f.request;
@@ -239,6 +244,7 @@ module _ (t : OrbTerms) (n k : ℕ) where
     login = f.login;
     at = f.at;
     fits = f.fits;
+    fills = f.fills;
     asked = f.asked;
     command = f.command;
     request = f.request;

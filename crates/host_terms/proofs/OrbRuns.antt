@@ -9,7 +9,7 @@ use Rattle.rbc_disk.specs.Runs.{Told}
 use Rattle.sbp_initiator.specs.declared.purpose.Demand.{Demand}
 use Rattle.sbp_initiator.specs.declared.purpose.Purpose.{Purpose}
 use Rattle.sbp_initiator.specs.declared.state.InitiatorState.{InitiatorState}
-use Rattle.sbp_initiator.specs.Acting.{IsAction, act_step, asked_as, asked_for, demand_of, demanded_as, facts_with, judged_as}
+use Rattle.sbp_initiator.specs.Acting.{act_step, asked_as, asked_for, demand_of, demanded_as, facts_with, judged_as}
 use Rattle.sbp_initiator.specs.Effects.{Turn}
 use Rattle.sbp_initiator.specs.Initiators.{new_state, own_rom}
 use Rattle.sbp_initiator.specs.Receiving.{expire_step, receive_step}
@@ -50,7 +50,7 @@ use Rattle.host_terms.specs.Runs.{IsRun, more_deliveries}
 use Rattle.host_terms.proofs.Acts.{Goes, goes_on}
 use Rattle.host_terms.proofs.Alone.{call_same}
 use Rattle.host_terms.proofs.Carried.{Knows, between_runs, of_runs}
-use Rattle.host_terms.proofs.Carries.{Carries, Does, Tells, is_apart}
+use Rattle.host_terms.proofs.Carries.{Carries, Does, IsLineOf, Tells, is_apart}
 use Rattle.host_terms.proofs.Liners.{number_call}
 use Rattle.host_terms.proofs.OrbActs.{Done, act_done}
 use Rattle.host_terms.proofs.OrbCalls.{expires_quiet, receives_quiet, sees_quiet}
@@ -119,7 +119,7 @@ module _ (ready : Bool) where
     others = λ j x e k. said_still past (behind t.0.sides past) j x (still_left t.0.sides past j q) k;
   }
 
-  apart_still : (note : Note) (past : List Moment) (i : ℕ) (s : InitiatorState) → is_apart i note ≡ true → Orbs ready past i s → Orbs ready (said note ∷ past) i s
+  pub apart_still : (note : Note) (past : List Moment) (i : ℕ) (s : InitiatorState) → is_apart i note ≡ true → Orbs ready past i s → Orbs ready (said note ∷ past) i s
   apart_still note past i s e h = said_still past (said note ∷ past) i s (orbs_apart note past i e) h
 
   seen_still : (generation : ℕ) (past : List Moment) (i j : ℕ) (s : InitiatorState) → Orbs ready past i s → Orbs ready (said (notes.Seen j generation) ∷ past) i s
@@ -167,7 +167,7 @@ module _ (action : Action) (o p : OutboxState) (s : InitiatorState) where
   judged_same (Some number) = refl
   judged_same None = demanded_same (demand_of action s)
 
-  refused_same : (act_step action o s).0 ≡ (act_step action p s).0
+  pub refused_same : (act_step action o s).0 ≡ (act_step action p s).0
   unfolding act_step
   refused_same = judged_same (refusal action (facts_with true s action))
 
@@ -182,7 +182,7 @@ pub goes : (action : Action) (o : OutboxState) (s : InitiatorState) → (act_ste
 unfolding act_step
 goes action o s e = goes_by action o s (refusal action (facts_with true s action)) refl e
 
-module _ (ready : Bool) (action : Action) (past : List Moment) (i : ℕ) (s : InitiatorState) (line : event_of past ≡ Some (events.Act i action)) (fit : IsAction action) (no_refusal : (act_step action empty_outbox s).0 ≡ None) (known : Rowed past i s) (h : Orbs ready past i s) where
+module _ (ready : Bool) (action : Action) (past : List Moment) (i : ℕ) (s : InitiatorState) (line : event_of past ≡ Some (events.Act i action)) (fit : IsLineOf action) (no_refusal : (act_step action empty_outbox s).0 ≡ None) (known : Rowed past i s) (h : Orbs ready past i s) where
   abbrev t : Turn
   t = (act_step action empty_outbox s).1
 
@@ -212,7 +212,7 @@ module _ (ready : Bool) (action : Action) (past : List Moment) (i : ℕ) (s : In
   own_acts : Orbs ready (behind t.0.sides past) i t.1
   own_acts =
       subst (λ told. Orbs ready (behind told past) i t.1) (sym sides_are)
-      (call_on ready past i s h (behind (own (action_notes action past i)) past) (acts action) fit
+      (call_on ready past i s h (behind (own (action_notes action past i)) past) (acts action) fit.0
       (subst (λ xs. AllFit (orb_terms (behind (own (action_notes action past i)) past) i) (run (xs ++ slots_before) (own_rom i)).notes) (sym calls_are) does.fits) does.none)
 
   others_act : (j : ℕ) (x : InitiatorState) → (j == i) ≡ false → Orbs ready past j x → Orbs ready (behind t.0.sides past) j x

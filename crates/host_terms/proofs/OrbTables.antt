@@ -62,6 +62,21 @@ one_segment base len false false h = absurd (differ (h refl))
     differ : false ≡ true → ⊥
     differ e = cc
 
+-- a page table is read as the segments of its buffer
+table_laid_by : (slot : ℕ) (cmd : Cmd) (segments : List ℕ) → slot < 32 → sum segments ≤ 16384 → length segments ≤ 64 → has_table segments ≡ true → elements_of (table_bytes slot 0 segments) ≡ laid_out slot cmd segments
+table_laid_by slot cmd [] small s l e = cc
+table_laid_by slot cmd (first ∷ rest) small s l e =
+    let at : start (windows.Buffer slot) + 0 ≡ start (windows.Buffer slot) = omega arith in
+    table_law slot (first ∷ rest) small (small_counts (first ∷ rest) s) (omega arith)
+    ∙ (placed_as slot 0 (first ∷ rest) ∙ ap (λ x. placed x (first ∷ rest)) at)
+
+pub table_laid : (slot : ℕ) (cmd : Cmd) → slot < 32 → IsCommand cmd → has_table cmd.segments ≡ true → elements_of (table_bytes slot 0 cmd.segments) ≡ laid_out slot cmd cmd.segments
+table_laid slot cmd small fits e =
+    let q = fits 0 0 in
+    let total = q.whole in
+    let short = q.short in
+    table_laid_by slot cmd cmd.segments small (omega arith) q.segments e
+
 module _ (cmd : Cmd) (slot : ℕ) (small : slot < 32) (moved : List Moved) where
   abbrev descriptor : List ℕ → ℕ
   descriptor segments = cond (nat_lt 0 (data_size cmd.length segments)) (data_start slot segments) 0
@@ -70,11 +85,8 @@ module _ (cmd : Cmd) (slot : ℕ) (small : slot < 32) (moved : List Moved) where
   laid_by [] s l h = one_segment (start (windows.Buffer slot)) cmd.length (cmd.length == 0) (nat_lt 0 cmd.length) (λ e. grind (arith, nat_tests))
   laid_by (first ∷ rest) s l h =
       let some : nat_lt 0 (length (first ∷ rest)) ≡ true = grind (arith, nat_tests) in
-      let at : start (windows.Buffer slot) + 0 ≡ start (windows.Buffer slot) = omega arith in
       ap (λ b. elements_of (read_at (cond b (start (windows.Table slot)) 0) moved)) some
-      ∙ (ap elements_of (h refl)
-      ∙ (table_law slot (first ∷ rest) small (small_counts (first ∷ rest) s) (omega arith)
-      ∙ (placed_as slot 0 (first ∷ rest) ∙ ap (λ x. placed x (first ∷ rest)) at)))
+      ∙ (ap elements_of (h refl) ∙ table_laid_by slot cmd (first ∷ rest) small s l refl)
 
   pub laid_as : IsCommand cmd → (node : ℕ) (next : OrbPointer) (format : ℕ) → (has_table cmd.segments ≡ true → read_at (start (windows.Table slot)) moved ≡ table_bytes slot 0 cmd.segments) → buffer_in (orb_for cmd node slot next format) moved ≡ laid_out slot cmd cmd.segments
   laid_as fits node next format h =
@@ -100,5 +112,9 @@ laid_bytes : (slot : ℕ) (cmd : Cmd) (segments : List ℕ) → (has_table segme
 laid_bytes slot cmd [] h = single_bytes (start (windows.Buffer slot)) cmd.length
 laid_bytes slot cmd (count ∷ rest) h = placed_bytes (start (windows.Buffer slot)) (count ∷ rest) ∙ h refl
 
-pub whole_bytes : (slot : ℕ) (cmd : Cmd) → (has_table cmd.segments ≡ true → sum cmd.segments ≡ cmd.length) → bytes_of (laid_out slot cmd cmd.segments) ≡ cmd.length
-whole_bytes slot cmd h = laid_bytes slot cmd cmd.segments h
+has_some : (segments : List ℕ) → has_table segments ≡ true → 0 < length segments
+has_some [] e = absurd (cc e)
+has_some (first ∷ rest) e = omega arith
+
+pub whole_bytes : (slot : ℕ) (cmd : Cmd) → (0 < length cmd.segments → sum cmd.segments ≡ cmd.length) → bytes_of (laid_out slot cmd cmd.segments) ≡ cmd.length
+whole_bytes slot cmd h = laid_bytes slot cmd cmd.segments (λ e. h (has_some cmd.segments e))

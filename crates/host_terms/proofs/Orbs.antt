@@ -128,7 +128,7 @@ module _ (ready : Bool) (past : List Moment) (i : ℕ) (s : InitiatorState) (row
         command = f.command;
         request = f.request;
         fits = f.fits;
-        fills = same_bytes f.cmd;
+        fills = same_bytes f.cmd f.fills.payload;
         node = node_at m.orb 8;
         orb = spells;
         as_appended = record { command = ap (λ (x : CommandOrb). x.cdb) spells; direction = ap (λ (x : CommandOrb). x.to_initiator) spells ∙ same_direction f.cmd };
@@ -137,7 +137,7 @@ module _ (ready : Bool) (past : List Moment) (i : ℕ) (s : InitiatorState) (row
             read_table memory k out b zero
             ∙ (ap (λ n. take n m.table) long ∙ table);
         laid = λ moved read. ap (λ (x : CommandOrb). buffer_in x moved) spells ∙ laid_as f.cmd k b moved f.fits (node_at m.orb 8) (next_in (orb_terms past i) o.ticket.list o.ticket.number) (format_in (orb_terms past i) o.ticket.list o.ticket.number) read;
-        whole = whole_bytes k f.cmd;
+        whole = whole_bytes k f.cmd f.fills.segments;
         size = size;
         read = λ out long zero.
             subst (λ x. (read_step memory (start (windows.Orb x)) out).0 ≡ 0 → (read_step memory (start (windows.Orb x)) out).1 ≡ m.orb) (sym l.at)

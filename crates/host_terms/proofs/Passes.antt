@@ -38,14 +38,15 @@ use Rattle.sbp_world.specs.Sending.{sent_all}
 use Rattle.sbp_world.specs.Telling.{told_all}
 use Rattle.sbp_world.specs.Worlds.{Scene, WorldState, initiator_at, with_initiator, with_note, with_target}
 use Rattle.sbp_world.proofs.InitiatorForms as initiators
-use Rattle.host_terms.specs.Handing.{AreNotes, AreOthers, history}
+use Rattle.host_terms.specs.Handing.{AreNotes, history}
 use Rattle.host_terms.specs.Lines.{MaySee}
-use Rattle.host_terms.proofs.Carries.{Are, AreBut, Carries, NoneActs, Tells, initiator_hands, is_apart, note_beside, note_carried, target_hands}
-use Rattle.host_terms.proofs.Hands.{second_tells, sight_tells, target_tells}
+use Rattle.host_terms.proofs.Carries.{Are, AreBut, CarriesSent, NoneActs, Tells, initiator_hands, is_apart, note_beside, note_carried, target_hands}
+use Rattle.host_terms.proofs.Hands.{second_gives, sight_gives, target_gives}
 use Rattle.host_terms.proofs.Liners.{own_notes, silent}
+use Rattle.host_terms.proofs.Mild.{FromTarget}
 use Rattle.host_terms.proofs.Shown.{IsElsewhere, NotFrom, NotTo}
 use Rattle.host_terms.proofs.Shows.{Arriving, Lapsing}
-use Rattle.host_terms.proofs.TargetTells as target_tell
+use Rattle.host_terms.proofs.TargetGives as target_give
 
 pub judged_apart : (serial : ℕ) (judged : Judged) (i : ℕ) → is_apart i (judged_note serial judged) ≡ true
 judged_apart serial judgements.Got i = refl
@@ -53,9 +54,9 @@ judged_apart serial (judgements.Ignored cause) i = refl
 
 judged_elsewhere : (past : List Moment) (i serial : ℕ) (judged : Judged) → NotTo past i serial → IsElsewhere past i (judged_note serial judged)
 judged_elsewhere past i serial judgements.Got away = away
-judged_elsewhere past i serial (judgements.Ignored cause) away = tt
+judged_elsewhere past i serial (judgements.Ignored cause) away = away
 
-module _ {Q : List Moment → ℕ → InitiatorState → Type 0} (P : List Moment → ℕ → InitiatorState → Type 0) (law : Carries Q P) (past : List Moment) where
+module _ {Q : List Moment → ℕ → InitiatorState → Type 0} (P : List Moment → ℕ → InitiatorState → Type 0) (law : CarriesSent Q P) (past : List Moment) where
   all_but : (i : ℕ) (w : WorldState) → Are P past w → AreBut P past i w
   all_but i w h j b e = h j b
 
@@ -65,19 +66,19 @@ module _ {Q : List Moment → ℕ → InitiatorState → Type 0} (P : List Momen
     abbrev mark : Bool → WorldState → WorldState
     mark b w = cond b w (record w { store = deliver_step w.store serial })
 
-    target_arrives : (b : Bool) (w : WorldState) (state : NodeState) (node : ℕ) (judged : Judged) (outbox : OutboxState) → ((i : ℕ) → NotTo (history w past) i serial) → AreOthers outbox.sides → NoneActs (history w past) → Are P past w → Are P past (handed_out node 0 outbox (with_note (judged_note serial judged) (mark b (with_target state w))))
+    target_arrives : (b : Bool) (w : WorldState) (state : NodeState) (node : ℕ) (judged : Judged) (outbox : OutboxState) → ((i : ℕ) → NotTo (history w past) i serial) → FromTarget outbox → NoneActs (history w past) → Are P past w → Are P past (handed_out node 0 outbox (with_note (judged_note serial judged) (mark b (with_target state w))))
     target_arrives true w state node judged outbox away o n h =
         target_hands P law past (with_note (judged_note serial judged) w) state node 0 outbox o n (note_carried P law past w (judged_note serial judged) (judged_apart serial judged) (λ i. judged_elsewhere (history w past) i serial judged (away i)) h)
     target_arrives false w state node judged outbox away o n h =
         let v = record w { store = deliver_step w.store serial } in
         target_hands P law past (with_note (judged_note serial judged) v) state node 0 outbox o n (note_carried P law past v (judged_note serial judged) (judged_apart serial judged) (λ i. judged_elsewhere (history w past) i serial judged (away i)) h)
 
-    own_arrives : (b : Bool) (w : WorldState) (i node : ℕ) (judged : Judged) (t : Turn) → i < length w.initiators → ((j : ℕ) → (j == i) ≡ false → NotTo (history w past) j serial) → AreNotes t.0.sides → NoneActs (history w past) → Tells P (said (judged_note serial judged) ∷ history w past) i t → Are P past w → Are P past (handed_out node 0 t.0 (with_note (judged_note serial judged) (mark b (record w { initiators = slice_set w.initiators i t.1 }))))
-    own_arrives true w i node judged t inside away own n tells h =
-        initiator_hands P law past (with_note (judged_note serial judged) w) i node 0 t inside own n tells (note_beside P law past w (judged_note serial judged) i (judged_apart serial judged) (λ j f. judged_elsewhere (history w past) j serial judged (away j f)) h)
-    own_arrives false w i node judged t inside away own n tells h =
+    own_arrives : (b : Bool) (w : WorldState) (i node : ℕ) (judged : Judged) (t : Turn) → (node == 0) ≡ false → i < length w.initiators → ((j : ℕ) → (j == i) ≡ false → NotTo (history w past) j serial) → AreNotes t.0.sides → NoneActs (history w past) → Tells P (said (judged_note serial judged) ∷ history w past) i t → Are P past w → Are P past (handed_out node 0 t.0 (with_note (judged_note serial judged) (mark b (record w { initiators = slice_set w.initiators i t.1 }))))
+    own_arrives true w i node judged t z inside away own n tells h =
+        initiator_hands P law past (with_note (judged_note serial judged) w) i node 0 t z inside own n tells (note_beside P law past w (judged_note serial judged) i (judged_apart serial judged) (λ j f. judged_elsewhere (history w past) j serial judged (away j f)) h)
+    own_arrives false w i node judged t z inside away own n tells h =
         let v = record w { store = deliver_step w.store serial } in
-        initiator_hands P law past (with_note (judged_note serial judged) v) i node 0 t inside own n tells (note_beside P law past v (judged_note serial judged) i (judged_apart serial judged) (λ j f. judged_elsewhere (history w past) j serial judged (away j f)) h)
+        initiator_hands P law past (with_note (judged_note serial judged) v) i node 0 t z inside own n tells (note_beside P law past v (judged_note serial judged) i (judged_apart serial judged) (λ j f. judged_elsewhere (history w past) j serial judged (away j f)) h)
 
     abbrev Arrives : Option Arrival × (OutboxState × Scene) → Type 0
     Arrives r = Are P past (delivered_by serial again r).world
@@ -86,15 +87,15 @@ module _ {Q : List Moment → ℕ → InitiatorState → Type 0} (P : List Momen
     pick_arrives true x y h i = h refl
     pick_arrives false x y h i = i refl
 
-    at_target_arrives : (node : ℕ) (r : Judged × (OutboxState × (NodeState × Held))) (s : Scene) → ((i : ℕ) → NotTo (history s.world past) i serial) → AreOthers r.1.0.sides → NoneActs (history s.world past) → Are P past s.world → Arrives (at_target node r s)
+    at_target_arrives : (node : ℕ) (r : Judged × (OutboxState × (NodeState × Held))) (s : Scene) → ((i : ℕ) → NotTo (history s.world past) i serial) → FromTarget r.1.0 → NoneActs (history s.world past) → Are P past s.world → Arrives (at_target node r s)
     unfolding arrived
     at_target_arrives node (judged, (outbox, (state, media))) s away o n h =
         target_arrives (again || not (is_flying serial s.world.store.kept)) s.world state node judged outbox away o n h
 
-    at_own_arrives : (i node : ℕ) (r : Judged × Turn) (s : Scene) → i < length s.world.initiators → ((j : ℕ) → (j == i) ≡ false → NotTo (history s.world past) j serial) → AreNotes r.1.0.sides → NoneActs (history s.world past) → Tells P (said (judged_note serial r.0) ∷ history s.world past) i r.1 → Are P past s.world → Arrives (at_initiator node (listed i r s.world.initiators) s)
+    at_own_arrives : (i node : ℕ) (r : Judged × Turn) (s : Scene) → (node == 0) ≡ false → i < length s.world.initiators → ((j : ℕ) → (j == i) ≡ false → NotTo (history s.world past) j serial) → AreNotes r.1.0.sides → NoneActs (history s.world past) → Tells P (said (judged_note serial r.0) ∷ history s.world past) i r.1 → Are P past s.world → Arrives (at_initiator node (listed i r s.world.initiators) s)
     unfolding arrived
-    at_own_arrives i node (judged, (outbox, state)) s inside away own n tells h =
-        own_arrives (again || not (is_flying serial s.world.store.kept)) s.world i node judged (outbox, state) inside away own n tells h
+    at_own_arrives i node (judged, (outbox, state)) s z inside away own n tells h =
+        own_arrives (again || not (is_flying serial s.world.store.kept)) s.world i node judged (outbox, state) z inside away own n tells h
 
     own_received : (sent : Sent) (s : Scene) → Arriving past serial sent s.world → (sent.to == 0) ≡ false → NoneActs (history s.world past) → Are P past s.world → Arrives (initiator_received sent s)
     unfolding initiators_received
@@ -106,14 +107,14 @@ module _ {Q : List Moment → ℕ → InitiatorState → Type 0} (P : List Momen
         pick_arrives (nat_lt i (length s.world.initiators)) (at_initiator sent.to (initiators_received i sent s.world.initiators) s) (at_none s)
         (λ e.
         let inside : i < length s.world.initiators = grind (arith, nat_tests) in
-        at_own_arrives i sent.to r s inside (λ j f. k.away j (let g : (sent.to == suc j) ≡ false = grind (arith, nat_tests) in g)) (own_notes r.1.0.sides (initiators.receives sent.generation sent.bytes empty_outbox old tt)) n
+        at_own_arrives i sent.to r s z inside (λ j f. k.away j (let g : (sent.to == suc j) ≡ false = grind (arith, nat_tests) in g)) (own_notes r.1.0.sides (initiators.receives sent.generation sent.bytes empty_outbox old tt)) n
         (law.hears serial sent.generation sent.bytes (history s.world past) i old (k.heard i to_is) (k.now i inside) (k.shown i to_is inside) (h i inside)) h)
         (λ e. h)
 
     received_where : (told : Option Told) (sent : Sent) (s : Scene) → MayTold (sent.to == 0) told sent s → Arriving past serial sent s.world → NoneActs (history s.world past) → Are P past s.world → Arrives (received_at told sent s)
     received_where told sent s m k n h =
         pick_arrives (sent.to == 0) (at_target sent.to (target_received told sent s.world.target s.media) s) (initiator_received sent s)
-        (λ e. at_target_arrives sent.to (target_received told sent s.world.target s.media) s (λ i. k.away i (let g : (sent.to == suc i) ≡ false = grind (arith, nat_tests) in g)) (target_tells told sent s.world.target s.media (subst (λ b. MayTold b told sent s) e m)) n h)
+        (λ e. at_target_arrives sent.to (target_received told sent s.world.target s.media) s (λ i. k.away i (let g : (sent.to == suc i) ≡ false = grind (arith, nat_tests) in g)) (target_gives told sent s.world.target s.media (subst (λ b. MayTold b told sent s) e m)) n h)
         (λ e. own_received sent s k e n h)
 
     received_found : (told : Option Told) (found : Option Sent) (s : Scene) → MayAt told found s → ((sent : Sent) → found ≡ Some sent → Arriving past serial sent s.world) → NoneActs (history s.world past) → Are P past s.world → Arrives (received_by told found s)
@@ -137,16 +138,16 @@ module _ {Q : List Moment → ℕ → InitiatorState → Type 0} (P : List Momen
     refuses : (w : WorldState) → Are P past w → Are P past (refused line no_packet w)
     refuses w h = note_carried P law past w (notes.Refused line no_packet) (λ i. refl) (λ i. tt) h
 
-    target_ends : (node : ℕ) (r : Result (Unit {0}) Stale × target.Scene) (w : WorldState) → ((target_left r w.target).0 ≡ true → (i : ℕ) → NotFrom (history w past) i serial) → AreOthers r.1.outbox.sides → NoneActs (history w past) → Are P past w → Ends node (packets.at_target (target_left r w.target) w)
+    target_ends : (node : ℕ) (r : Result (Unit {0}) Stale × target.Scene) (w : WorldState) → ((target_left r w.target).0 ≡ true → (i : ℕ) → NotFrom (history w past) i serial) → FromTarget r.1.outbox → NoneActs (history w past) → Are P past w → Ends node (packets.at_target (target_left r w.target) w)
     target_ends node (Ok done, s) w away o n h = target_hands P law past (with_note (notes.TimedOut serial) w) s.node node 0 s.outbox o n (note_carried P law past w (notes.TimedOut serial) (λ i. refl) (away refl) h)
     target_ends node (Err stale, s) w away o n h = refuses w h
 
-    own_ends : (i node : ℕ) (r : Bool × Turn) (w : WorldState) → i < length w.initiators → (r.0 ≡ true → (j : ℕ) → (j == i) ≡ false → NotFrom (history w past) j serial) → AreNotes r.1.0.sides → NoneActs (history w past) → (r.0 ≡ true → Tells P (said (notes.TimedOut serial) ∷ history w past) i r.1) → (r.0 ≡ false → Tells P (history w past) i r.1) → (r.0 ≡ false → r.1.0 ≡ empty_outbox) → Are P past w → Ends node (packets.at_initiator i r w)
+    own_ends : (i node : ℕ) (r : Bool × Turn) (w : WorldState) → (node == 0) ≡ false → i < length w.initiators → (r.0 ≡ true → (j : ℕ) → (j == i) ≡ false → NotFrom (history w past) j serial) → AreNotes r.1.0.sides → NoneActs (history w past) → (r.0 ≡ true → Tells P (said (notes.TimedOut serial) ∷ history w past) i r.1) → (r.0 ≡ false → Tells P (history w past) i r.1) → (r.0 ≡ false → r.1.0 ≡ empty_outbox) → Are P past w → Ends node (packets.at_initiator i r w)
     unfolding told_all sent_all
-    own_ends i node (true, (outbox, state)) w inside away own n tells before stale h =
-        initiator_hands P law past (with_note (notes.TimedOut serial) w) i node 0 (outbox, state) inside own n (tells refl) (note_beside P law past w (notes.TimedOut serial) i (λ j. refl) (away refl) h)
-    own_ends i node (false, (outbox, state)) w inside away own n tells before stale h =
-        refuses (with_initiator i state w) (handed_nothing (stale refl) (initiator_hands P law past w i node 0 (outbox, state) inside own n (before refl) (all_but i w h)))
+    own_ends i node (true, (outbox, state)) w z inside away own n tells before stale h =
+        initiator_hands P law past (with_note (notes.TimedOut serial) w) i node 0 (outbox, state) z inside own n (tells refl) (note_beside P law past w (notes.TimedOut serial) i (λ j. refl) (away refl) h)
+    own_ends i node (false, (outbox, state)) w z inside away own n tells before stale h =
+        refuses (with_initiator i state w) (handed_nothing (stale refl) (initiator_hands P law past w i node 0 (outbox, state) z inside own n (before refl) (all_but i w h)))
       where
         handed_nothing : outbox ≡ empty_outbox → Are P past (handed_out node 0 outbox (with_initiator i state w)) → Are P past (with_initiator i state w)
         handed_nothing e h = subst (λ x. Are P past (handed_out node 0 x (with_initiator i state w))) e h
@@ -166,7 +167,7 @@ module _ {Q : List Moment → ℕ → InitiatorState → Type 0} (P : List Momen
         pick_ends request.node (nat_lt i (length w.initiators)) (packets.at_initiator i r w) (false, (empty_outbox, w))
         (λ e.
         let inside : i < length w.initiators = grind (arith, nat_tests) in
-        own_ends i request.node r w inside (λ e j f. k.own_away i node_is inside e j f) (own_notes r.1.0.sides (initiators.expires request.label empty_outbox old tt)) n
+        own_ends i request.node r w z inside (λ e j f. k.own_away i node_is inside e j f) (own_notes r.1.0.sides (initiators.expires request.label empty_outbox old tt)) n
         (λ e. law.expires serial request.label (history w past) i old (k.shown i node_is inside e) (h i inside)) (stale_tells request.label w i old (h i inside)) (silent past line serial request.label old) h)
         (λ e. refuses w h)
 
@@ -174,7 +175,7 @@ module _ {Q : List Moment → ℕ → InitiatorState → Type 0} (P : List Momen
     unfolding world_expires target_expired
     all_expires request w k n h =
         pick_ends request.node (request.node == 0) (packets.at_target (target_expired request w.target) w) (initiator_expires request w)
-        (λ e. target_ends request.node (expired request.peer request.label (scene w.target empty_outbox)) w (k.target_away (let z : request.node ≡ 0 = grind (arith, nat_tests) in z)) (target_tell.expires request.peer request.label (scene w.target empty_outbox) tt) n h)
+        (λ e. target_ends request.node (expired request.peer request.label (scene w.target empty_outbox)) w (k.target_away (let z : request.node ≡ 0 = grind (arith, nat_tests) in z)) (target_give.expires request.peer request.label (scene w.target empty_outbox) (tt, tt)) n h)
         (λ e. own_expires request w k e n h)
 
     found_expires : (request : Option Request) (w : WorldState) → ((one : Request) → request ≡ Some one → Lapsing past serial one w) → NoneActs (history w past) → Are P past w → Are P past (timeout_of request line serial w)
@@ -207,20 +208,20 @@ module _ {Q : List Moment → ℕ → InitiatorState → Type 0} (P : List Momen
     zero_seen : (j : ℕ) → (node == 0) ≡ true → is_apart j note ≡ true
     zero_seen j e = let g : (node == suc j) ≡ false = grind (arith, nat_tests) in ap not g
 
-    target_pair : (r : OutboxState × NodeState) → AreOthers r.0.sides → (node == 0) ≡ true → Sees (nodes.at_target r seen)
+    target_pair : (r : OutboxState × NodeState) → FromTarget r.0 → (node == 0) ≡ true → Sees (nodes.at_target r seen)
     target_pair (outbox, state) o e =
         target_hands P law past seen state node 0 outbox o n (λ i b. law.apart note (history w past) i (initiator_at w i) (zero_seen i e) tt (h i b))
 
     own_pair : (i : ℕ) (r : Turn) → node ≡ suc i → i < length w.initiators → AreNotes r.0.sides → Tells P (said note ∷ history w past) i r → Sees (nodes.at_initiator i r seen)
     own_pair i (outbox, state) e inside own tells =
-        initiator_hands P law past seen i node 0 (outbox, state) inside own n tells
+        initiator_hands P law past seen i node 0 (outbox, state) (let z : (node == 0) ≡ false = grind (arith, nat_tests) in z) inside own n tells
         (λ j b f. law.apart note (history w past) j (initiator_at w j) (others_seen i j e f) tt (h j b))
 
     pub line_sees : ((i : ℕ) → node ≡ suc i → i < length w.initiators) → ((i : ℕ) → node ≡ suc i → MaySee past i w) → Are P past (see_line node w)
     unfolding see_line nodes.sees
     line_sees inside may =
         pick_sees (node == 0) (nodes.target_learns seen) (nodes.initiator_learns node seen)
-        (λ e. target_pair (nodes.target_sees w.generations.latest.generation (id_of w.generations.latest 0) w.target) (sight_tells w.generations.latest.generation (id_of w.generations.latest 0) w.target) e)
+        (λ e. target_pair (nodes.target_sees w.generations.latest.generation (id_of w.generations.latest 0) w.target) (sight_gives w.generations.latest.generation (id_of w.generations.latest 0) w.target) e)
         (λ e.
         let i = node - 1 in
         let is : node ≡ suc i = grind (arith, nat_tests) in
@@ -237,7 +238,7 @@ module _ {Q : List Moment → ℕ → InitiatorState → Type 0} (P : List Momen
 
   pub ticks : (w : WorldState) → NoneActs (history w past) → Are P past w → Are P past (tick_line w)
   unfolding tick_line
-  ticks w n h = by_pair (target_ticks w.target) (second_tells w.target)
+  ticks w n h = by_pair (target_ticks w.target) (second_gives w.target)
     where
-      by_pair : (r : OutboxState × NodeState) → AreOthers r.0.sides → Are P past (nodes.handed_all 0 (nodes.at_target r (with_note notes.Tick w)))
+      by_pair : (r : OutboxState × NodeState) → FromTarget r.0 → Are P past (nodes.handed_all 0 (nodes.at_target r (with_note notes.Tick w)))
       by_pair (outbox, node) o = target_hands P law past (with_note notes.Tick w) node 0 0 outbox o n (note_carried P law past w notes.Tick (λ i. refl) (λ i. tt) h)

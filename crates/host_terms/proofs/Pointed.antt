@@ -10,7 +10,7 @@ use Rattle.sbp_initiator.specs.declared.purpose.Pointing.TheVariants as pointing
 use Rattle.sbp_initiator.specs.declared.purpose.Purpose.{Purpose}
 use Rattle.sbp_initiator.specs.declared.purpose.Purpose.TheVariants as purposes
 use Rattle.sbp_initiator.specs.declared.state.InitiatorState.{InitiatorState}
-use Rattle.sbp_initiator.specs.Acting.{IsAction, act_step}
+use Rattle.sbp_initiator.specs.Acting.{act_step}
 use Rattle.sbp_initiator.specs.Effects.{Turn}
 use Rattle.sbp_initiator.specs.Initiators.{new_state}
 use Rattle.sbp_initiator.specs.Receiving.{expire_step, expired_as, receive_step}
@@ -35,7 +35,7 @@ use Rattle.sbp_world.proofs.Wire.Deliver.{judging_stays}
 use Rattle.sbp_world.proofs.Wire.Expires.{stale_same}
 use Rattle.host_terms.specs.Calls.{behind}
 use Rattle.host_terms.proofs.ActLeft.{act_left}
-use Rattle.host_terms.proofs.Carries.{Carries, Does, IsNoAct, Nothing, Tells, is_apart}
+use Rattle.host_terms.proofs.Carries.{Carries, Does, IsLineOf, IsNoAct, Nothing, Tells, is_apart}
 use Rattle.host_terms.proofs.Held.{got_waits, ignored_quiet, timed_waits}
 use Rattle.host_terms.proofs.Hosted.{Cored, cored_carried, first_cored}
 use Rattle.host_terms.proofs.Layered.{AreTame, expire_left, receive_left}
@@ -228,7 +228,7 @@ module _ (ready : Bool) where
 
   -- ---- it acts
 
-  acts_pointed : (action : Action) (past : List Moment) (i : ℕ) (s : InitiatorState) → event_of past ≡ Some (events.Act i action) → IsAction action → (act_step action empty_outbox s).0 ≡ None → IsShown past i s.target s.layer → Pointed ready past i s → Does (Pointed ready) past i (act_step action empty_outbox s).1
+  acts_pointed : (action : Action) (past : List Moment) (i : ℕ) (s : InitiatorState) → event_of past ≡ Some (events.Act i action) → IsLineOf action → (act_step action empty_outbox s).0 ≡ None → IsShown past i s.target s.layer → Pointed ready past i s → Does (Pointed ready) past i (act_step action empty_outbox s).1
   acts_pointed action past i s under fit done shown h =
       let t = (act_step action empty_outbox s).1 in
       let left = act_left action s done in

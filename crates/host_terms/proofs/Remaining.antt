@@ -26,7 +26,7 @@ pub record Same (t u : Terms) : Type 0 where
   pub sent : u.sent ≡ t.sent
   pub answers : u.answers ≡ t.answers
 
-opened_same : (event : Event) (t : Terms) → Same t (opened event t)
+pub opened_same : (event : Event) (t : Terms) → Same t (opened event t)
 opened_same (events.Reset physical) t = record { count = refl; sent = refl; answers = refl }
 opened_same (events.Repeat serial) t = record { count = refl; sent = refl; answers = refl }
 opened_same _ t = record { count = refl; sent = refl; answers = refl }
@@ -66,17 +66,17 @@ ignores_same causes.Source s packet t = let k = judges_same (asked_by packet) (S
 ignores_same causes.Login s packet t = let k = judges_same (asked_by packet) (Some causes.Login) s packet _ in record { count = k.count; sent = k.sent; answers = k.answers }
 ignores_same causes.Slot s packet t = let k = judges_same (asked_by packet) (Some causes.Slot) s packet _ in record { count = k.count; sent = k.sent; answers = k.answers }
 
-ignores_that_same : (found : Option Sending) (cause : Cause) (s : ℕ) (t : Terms) → Same t (ignores_that found cause s t)
+pub ignores_that_same : (found : Option Sending) (cause : Cause) (s : ℕ) (t : Terms) → Same t (ignores_that found cause s t)
 ignores_that_same None cause s t = record { count = refl; sent = refl; answers = refl }
 ignores_that_same (Some packet) cause s t = let k = ignores_same cause s packet _ in record { count = k.count; sent = k.sent; answers = k.answers }
 
-times_out_same : (u : Option Transaction) (t : Terms) → Same t (times_out u t)
+pub times_out_same : (u : Option Transaction) (t : Terms) → Same t (times_out u t)
 times_out_same None t = record { count = refl; sent = refl; answers = refl }
 times_out_same (Some u) t = record { count = refl; sent = refl; answers = refl }
 
 -- ---- a packet is sent
 
-begins_same : (u : Option Transaction) (s : ℕ) (packet : Sending) (t : Terms) → Same t (begins u s packet t)
+pub begins_same : (u : Option Transaction) (s : ℕ) (packet : Sending) (t : Terms) → Same t (begins u s packet t)
 begins_same None s packet t = record { count = refl; sent = refl; answers = refl }
 begins_same (Some u) s packet t = record { count = refl; sent = refl; answers = refl }
 
@@ -84,12 +84,12 @@ gives_same : (u : Option Transaction) (rcode : ℕ) (t : Terms) → Same t (give
 gives_same None rcode t = record { count = refl; sent = refl; answers = refl }
 gives_same (Some u) rcode t = record { count = refl; sent = refl; answers = refl }
 
-record Pays (s : ℕ) (t u : Terms) : Type 0 where
-  count : u.count ≡ t.count
-  sent : u.sent ≡ t.sent
-  answers : (r : ℕ) → nat_eq r s ≡ false → u.answers r ≡ t.answers r
+pub record Pays (s : ℕ) (t u : Terms) : Type 0 where
+  pub count : u.count ≡ t.count
+  pub sent : u.sent ≡ t.sent
+  pub answers : (r : ℕ) → nat_eq r s ≡ false → u.answers r ≡ t.answers r
 
-pays_same : (owed : Option Owed) (sent : ℕ → Option Sending) (s : ℕ) (packet : Sending) (t : Terms) → Pays s t (pays owed sent s packet t)
+pub pays_same : (owed : Option Owed) (sent : ℕ → Option Sending) (s : ℕ) (packet : Sending) (t : Terms) → Pays s t (pays owed sent s packet t)
 pays_same None sent s packet t = record { count = refl; sent = refl; answers = λ r e. refl }
 pays_same (Some owed) sent s packet t =
     let k = gives_same _ _ t in

@@ -1,6 +1,7 @@
 -- The payload of the response to a block read that is complete.
-use Rattle.std.proofs.Common.{arith, ◌≡◌, refl, sym, ap, ◌∙◌, ℕ, zero, suc, ◌-◌, ◌^◌, ◌<◌, ◌≤◌, Bool, true, false, List, [], ◌∷◌, length, take, Option, Some, None, Ok}
-use Rattle.async_packet.specs.Canon.{FitsHeader, IsValid, canon}
+use Rattle.std.proofs.Common.{arith, ◌≡◌, refl, sym, ap, ◌∙◌, ℕ, zero, suc, ◌-◌, ◌^◌, ◌<◌, ◌≤◌, ◌==◌, Bool, true, false, cond, List, [], ◌∷◌, length, take, Option, Some, None, Ok}
+use Rattle.std.proofs.lemmas.Bool.Decides.{nat_tests}
+use Rattle.async_packet.specs.Canon.{FitsHeader, canon}
 use Rattle.async_packet.specs.Fields.{largest}
 use Rattle.async_packet.specs.Packet.{Packet, lock, lock_response, read_block, read_block_response, read_quadlet, read_quadlet_response, write_block, write_quadlet, write_response}
 use Rattle.async_packet.specs.Reading.{reading}
@@ -12,12 +13,13 @@ use Rattle.bus_transactions.proofs.FitJudged.{is_request, source_fits}
 use Rattle.label_table.specs.Bodies.{header_to, response_to}
 use Rattle.label_table.proofs.Requests.{label_spelled}
 use Rattle.orb_layout.specs.Pointers.{pointer_at}
+use Rattle.orb_layout.specs.Replies.{Payload, Refused}
 use Rattle.sbp_journal.specs.Addresses.{Access, access_of}
 use Rattle.sbp_journal.specs.Run.{Moment}
-use Rattle.sbp_laws.specs.CarriedBytes.{IsRead, bytes_in}
-use Rattle.sbp_laws.specs.Packets.{answer_in, spelled_by}
+use Rattle.sbp_journal.specs.Transactions.{Kind, locking, part_in, request, response}
+use Rattle.sbp_laws.specs.CarriedBytes.{IsRead}
+use Rattle.sbp_laws.specs.Packets.{answer_in, answer_of, spelled_by}
 use Rattle.sbp_laws.specs.Served.{host_reply}
-use Rattle.host_terms.specs.Responses.{payload_of}
 use Rattle.host_terms.proofs.Answering.{none_is}
 
 -- ---- the request
@@ -67,6 +69,35 @@ block_read past i (read_quadlet_response header rcode value) access address coun
 block_read past i (read_block_response header rcode payload) access address count e r z = absurd (none_is e)
 block_read past i (lock_response header rcode extended payload) access address count e r z = absurd (none_is e)
 
+-- ---- a response that tells bytes answers a read
+
+-- it is of no lock
+pub tells_read : (p : Packet) (l : ℕ) (k : Kind) (bytes : List ℕ) → answer_of p ≡ Payload bytes → part_in p ≡ response l k → k ≡ locking → ⊥
+tells_read (write_quadlet header offset value) l k bytes e f g = cc
+tells_read (write_block header offset payload) l k bytes e f g = cc
+tells_read (read_quadlet header offset) l k bytes e f g = cc
+tells_read (read_block header offset asked) l k bytes e f g = cc
+tells_read (lock header offset extended payload) l k bytes e f g = cc
+tells_read (write_response header rcode) l k bytes e f g = cc
+tells_read (read_quadlet_response header rcode value) l k bytes e f g = cc
+tells_read (read_block_response header rcode payload) l k bytes e f g = cc
+tells_read (lock_response header rcode extended payload) l k bytes e f g = cc
+
+-- a request for a block that is neither a write nor a lock
+pub block_read_of : (p : Packet) (access : Access) (l : ℕ) (k : Kind) → access_of p ≡ Some access → access.is_write ≡ false → access.is_block ≡ true → part_in p ≡ request l k → (k ≡ locking → ⊥) → IsBlockRead p access.offset access.count
+block_read_of (read_block header offset asked) access l k e w b f n = record {
+  header = header;
+  is = ap (λ x. read_block header x asked) (ap offset_in e) ∙ ap (λ x. read_block header access.offset x) (ap count_in e);
+}
+block_read_of (read_quadlet header offset) access l k e w b f n = absurd (differ (sym b ∙ sym (ap is_block_in e)))
+block_read_of (write_quadlet header offset value) access l k e w b f n = absurd (differ (ap writes e ∙ w))
+block_read_of (write_block header offset payload) access l k e w b f n = absurd (differ (ap writes e ∙ w))
+block_read_of (lock header offset extended payload) access l k e w b f n = let is : k ≡ locking = cc in absurd (n is)
+block_read_of (write_response header rcode) access l k e w b f n = absurd (none_is e)
+block_read_of (read_quadlet_response header rcode value) access l k e w b f n = absurd (none_is e)
+block_read_of (read_block_response header rcode payload) access l k e w b f n = absurd (none_is e)
+block_read_of (lock_response header rcode extended payload) access l k e w b f n = absurd (none_is e)
+
 -- it asks for no more than a packet carries
 pub asked_most : (bytes : List ℕ) (p : Packet) → reading bytes ≡ Ok p → (address count : ℕ) → IsBlockRead p address count → count ≤ 2048
 asked_most bytes p read address count b =
@@ -76,34 +107,55 @@ asked_most bytes p read address count b =
 
 -- ---- the response
 
-module _ (bytes : List ℕ) (p : Packet) (read : reading bytes ≡ Ok p) (are : AreBytes bytes) (own : ℕ) (small : own < 2 ^ 16) (address count : ℕ) (b : IsBlockRead p address count) (given : List ℕ) (long : length given ≤ largest) where
-  abbrev request : Packet
-  request = read_block b.header address count
+module _ (bytes : List ℕ) (p : Packet) (read : reading bytes ≡ Ok p) (are : AreBytes bytes) (own : ℕ) (small : own < 2 ^ 16) (address count : ℕ) (b : IsBlockRead p address count) where
+  abbrev asking : Packet
+  asking = read_block b.header address count
 
-  abbrev reply : Packet
-  reply = read_block_response (header_to own b.header.source b.header.label) 0 given
+  abbrev pub reply_as : (rcode : ℕ) → List ℕ → Packet
+  reply_as rcode payload = read_block_response (header_to own b.header.source b.header.label) rcode payload
 
-  read_request : reading bytes ≡ Ok request
+  read_request : reading bytes ≡ Ok asking
   read_request = read ∙ ap (λ x. Ok x) b.is
 
   fits : FitsHeader (header_to own b.header.source b.header.label)
   fits = record {
-    destination = source_fits bytes request read_request are;
-    label = label_spelled bytes request (is_request bytes request read_request refl);
+    destination = source_fits bytes asking read_request are;
+    label = label_spelled bytes asking (is_request bytes asking read_request refl);
     retry = omega arith;
     priority = omega arith;
     source = small;
   }
 
-  valid : IsValid reply
-  valid = (fits, (let z : 0 < 2 ^ 4 = omega arith in z), long)
+  -- it is read as what it is
+  spelled_as : (rcode : ℕ) (payload : List ℕ) → rcode < 2 ^ 4 → length payload ≤ largest → reading (canon (reply_as rcode payload)) ≡ Ok (reply_as rcode payload)
+  spelled_as rcode payload few long = reading_spelled (canon (reply_as rcode payload)) (reply_as rcode payload) (canon_spells (reply_as rcode payload) (fits, few, long))
 
-  pub payload_is : (rcode : ℕ) (gives : List ℕ) → rcode ≡ 0 → gives ≡ given → payload_of (canon (response_to own p rcode gives)) ≡ given
-  payload_is rcode gives z e =
-      ap (λ x. payload_of (canon (response_to own x rcode gives))) b.is
-      ∙ (ap (λ x. payload_of (canon (response_to own request x gives))) z
-      ∙ (ap (λ x. payload_of (canon (response_to own request 0 x))) e
-      ∙ ap (λ x. bytes_in (answer_in (spelled_by x))) (reading_spelled (canon reply) reply (canon_spells reply valid))))
+  -- one that is complete tells what was given
+  pub tells_given : (given : List ℕ) → length given ≤ largest → (rcode : ℕ) → rcode ≡ 0 → answer_in (spelled_by (reading (canon (response_to own p rcode given)))) ≡ Payload given
+  tells_given given long rcode z =
+      let few : 0 < 2 ^ 4 = omega arith in
+      ap (λ x. answer_in (spelled_by (reading (canon (response_to own x rcode given))))) b.is
+      ∙ (ap (λ x. answer_in (spelled_by (reading (canon (response_to own asking x given))))) z
+      ∙ ap (λ x. answer_in (spelled_by x)) (spelled_as 0 given few long))
+
+  -- one that is not complete tells no bytes
+  refuses : (rcode : ℕ) (given : List ℕ) → rcode < 2 ^ 4 → (rcode == 0) ≡ false → answer_in (spelled_by (reading (canon (response_to own p rcode given)))) ≡ Refused rcode
+  refuses rcode given few z =
+      ap (λ x. answer_in (spelled_by (reading (canon (response_to own x rcode given))))) b.is
+      ∙ (ap (λ c. answer_in (spelled_by (reading (canon (reply_as rcode (cond c given [])))))) z
+      ∙ (ap (λ x. answer_in (spelled_by x)) (spelled_as rcode [] few (omega arith))
+      ∙ ap (λ c. cond c (Payload []) (Refused rcode)) z))
+
+  -- so one that tells bytes is complete
+  pub completes : (rcode : ℕ) (given payload : List ℕ) → rcode < 2 ^ 4 → answer_in (spelled_by (reading (canon (response_to own p rcode given)))) ≡ Payload payload → rcode ≡ 0
+  completes rcode given payload few e = by_zero (rcode == 0) refl
+    where
+      none : Refused rcode ≡ Payload payload → ⊥
+      none e = cc
+
+      by_zero : (c : Bool) → (rcode == 0) ≡ c → rcode ≡ 0
+      by_zero true z = grind (arith, nat_tests)
+      by_zero false z = absurd (none (sym (refuses rcode given few z) ∙ e))
 
 -- ---- a next pointer is read of the first 8 bytes of its ORB
 

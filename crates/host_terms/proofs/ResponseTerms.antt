@@ -1,12 +1,12 @@
 -- What the terms of the wire say of a response behind the request that was got.
-use Rattle.std.proofs.Common.{◌≡◌, refl, ◌∙◌, ap, ℕ, true, false, cond, List, [], ◌∷◌, ◌++◌, map, Option, Some, None}
+use Rattle.std.proofs.Common.{◌≡◌, refl, ◌∙◌, ap, ℕ, true, false, cond, List, [], ◌∷◌, ◌++◌, map, Some, None}
 use Rattle.std.specs.List.{AllByRecursion}
 use Rattle.bus_transactions.specs.May.{is_plain}
 use Rattle.bus_transactions.proofs.Facts.{request_asked}
 use Rattle.bus_transactions.proofs.MoveOthers.{plain_terms}
 use Rattle.sbp_journal.specs.Run.{Moment, said}
-use Rattle.sbp_journal.specs.Transactions.{Kind, Part, Sending, Transaction, begun_by, no_packet, part_of, request, response}
-use Rattle.sbp_journal.specs.Wire.{Owed, Terms, arrives, begins, gets, gets_as, gives, is_news, is_served, judges, pays, puts, terms}
+use Rattle.sbp_journal.specs.Transactions.{Kind, Part, Sending, no_packet, part_of, request, response}
+use Rattle.sbp_journal.specs.Wire.{Owed, Terms, arrives, gets, gets_as, is_news, is_served, judges, terms}
 use Rattle.sbp_journal.specs.declared.note.Note.{Note}
 use Rattle.sbp_journal.specs.declared.note.Note.TheVariants as notes
 use Rattle.sbp_laws.specs.CarriedBytes.{before_sent, bytes_in, payload_at}
@@ -14,8 +14,9 @@ use Rattle.sbp_laws.specs.Packets.{answer_in, packet_in}
 use Rattle.sbp_laws.specs.SentAnswers.{is_answered}
 use Rattle.host_terms.specs.Responses.{payload_of}
 use Rattle.host_terms.proofs.Prepares.{itself}
+use Rattle.host_terms.proofs.SentMoments.{answers_now, sent_there}
 
-plain_all : (ns : List Note) (past : List Moment) → AllByRecursion (λ note. is_plain note ≡ true) ns → terms (map said ns ++ past) ≡ terms past
+pub plain_all : (ns : List Note) (past : List Moment) → AllByRecursion (λ note. is_plain note ≡ true) ns → terms (map said ns ++ past) ≡ terms past
 plain_all [] past h = refl
 plain_all (note ∷ ns) past h = plain_terms note (terms (map said ns ++ past)) h.0 ∙ plain_all ns past h.1
 
@@ -34,14 +35,6 @@ request_part no_packet e = absurd (differ e)
   where
     differ : false ≡ true → ⊥
     differ e = cc
-
-given_sent : (u : Option Transaction) (rcode : ℕ) (t : Terms) → (gives u rcode t).sent ≡ t.sent
-given_sent None rcode t = refl
-given_sent (Some u) rcode t = refl
-
-begun_sent : (u : Option Transaction) (s : ℕ) (packet : Sending) (t : Terms) → (begins u s packet t).sent ≡ t.sent
-begun_sent None s packet t = refl
-begun_sent (Some u) s packet t = refl
 
 module _ (past : List Moment) (serial : ℕ) (q : Sending) (was : (terms past).sent serial ≡ Some q) (asks : IsRequestPart (part_of q.bytes)) (effects : List Note) (plain : AllByRecursion (λ note. is_plain note ≡ true) effects) (r generation from to : ℕ) (bytes : List ℕ) where
   abbrev before : List Moment
@@ -63,30 +56,11 @@ module _ (past : List Moment) (serial : ℕ) (q : Sending) (was : (terms past).s
       ∙ (ap (λ x. (gets_as x serial q arrived).owes) asks.is
       ∙ ap (λ u. (judges u None serial q arrived).owes) (request_asked q asks.label asks.kind asks.is)))
 
-  abbrev packet : Sending
-  packet = record { generation = generation; from = from; to = to; bytes = bytes; injected = (terms before).injected r }
-
-  abbrev put : Terms
-  put = puts (begun_by packet) r packet (terms before)
-
-  abbrev begun : Terms
-  begun = begins (begun_by packet) r packet put
-
-  abbrev paid : Option Owed → Terms
-  paid o = pays o (terms before).sent r packet begun
-
   pub answers : (terms now).answers r ≡ Some serial
-  answers = ap (λ o. (paid o).answers r) owes ∙ ap (λ b. cond b (Some serial) (begun.answers r)) (itself r)
-
-  paid_sent : (o : Option Owed) → (paid o).sent ≡ put.sent
-  paid_sent None = begun_sent (begun_by packet) r packet put
-  paid_sent (Some o) = given_sent _ _ begun ∙ begun_sent (begun_by packet) r packet put
-
-  sent_is : (terms now).sent r ≡ Some packet
-  sent_is = ap (λ f. f r) (paid_sent (terms before).owes) ∙ ap (λ b. cond b (Some packet) ((terms before).sent r)) (itself r)
+  answers = answers_now before r generation from to bytes owed owes
 
   pub payload_there : payload_at (terms now) r ≡ payload_of bytes
-  payload_there = ap (λ x. bytes_in (answer_in (packet_in x))) sent_is
+  payload_there = ap (λ x. bytes_in (answer_in (packet_in x))) (sent_there before r generation from to bytes)
 
   pub stood_before : before_sent now r ≡ before
   stood_before = ap (λ b. cond b before (before_sent before r)) (itself r)

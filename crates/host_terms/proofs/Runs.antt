@@ -197,7 +197,7 @@ line_keeps {past} line (events.Key unit key) told s q t m sound h =
 abbrev pub AreAt : List Moment → WorldState → Type 0
 AreAt ms w = (i : ℕ) → i < length w.initiators → IsHost ms i (initiator_at w i)
 
-first_host : (line i initiators : ℕ) (ready : Bool) → IsHost (said (notes.Begin initiators ready) ∷ asked line (events.Begin initiators ready) ∷ []) i (new_state i ready)
+pub first_host : (line i initiators : ℕ) (ready : Bool) → IsHost (said (notes.Begin initiators ready) ∷ asked line (events.Begin initiators ready) ∷ []) i (new_state i ready)
 unfolding new_state
 first_host line i initiators ready = record { number = refl; rows = begins line i initiators ready; pin = refl }
 

@@ -7,7 +7,7 @@ use Rattle.async_packet.specs.Labels.{LabelParts}
 use Rattle.bus_transactions.specs.Bare.{bare, bare_after, bare_finding, bare_place, bare_purpose, bare_result}
 use Rattle.bus_transactions.specs.May.{may_ignore}
 use Rattle.bus_transactions.specs.Moves.{expire, expiring, moved}
-use Rattle.bus_transactions.specs.Reached.{IsAwaited}
+use Rattle.bus_transactions.specs.Reached.{IsAwaited, IsOf}
 use Rattle.bus_transactions.specs.Rows.{awaits, shape, shape_of}
 use Rattle.bus_transactions.specs.Wire.{Due, Node, Wire, as_sending, first_note, id_for, transaction}
 use Rattle.bus_transactions.proofs.Bares.{takes_steps}
@@ -48,7 +48,7 @@ use Rattle.sbp_world.specs.Delivering.{marked}
 use Rattle.sbp_world.specs.Packets.{target_left}
 use Rattle.sbp_world.specs.Worlds.{WorldState, initiator_at, with_note}
 use Rattle.sbp_world.specs.Wire.Wires.{Stands, StandsAt, layer_in, layers_of}
-use Rattle.sbp_world.proofs.Wire.Agrees.{timed_agrees}
+use Rattle.sbp_world.proofs.Wire.Agrees.{ignored_agrees, timed_agrees}
 use Rattle.sbp_world.proofs.Wire.Asks.{own_layer}
 use Rattle.sbp_world.proofs.Wire.Bus.{holds}
 use Rattle.sbp_world.proofs.Wire.Deliver.{judged_marked}
@@ -98,6 +98,7 @@ shown_by wire h i layer own past is target id =
     let row : t.ids (t.generation (suc i)) 0 ≡ target = ap (λ x. t.ids x 0) (sym node.generation) ∙ id in
     subst (λ ms. IsShown ms i target layer) is (record {
       generation = sym g;
+      named = ap (λ x. t.ids x 0) (sym g) ∙ row;
       states = λ number.
           ap shape (sym (state_bare layer target number))
           ∙ ap (λ (l : Node). shape (state_for l.peers target number)) (sym own)
@@ -126,9 +127,10 @@ pub record Arriving (past : List Moment) (serial : ℕ) (sent : Sent) (w : World
   pub shown : (i : ℕ) → sent.to ≡ suc i → i < length w.initiators → IsShown (said (judged_note serial (receive_step sent.generation sent.bytes empty_outbox (initiator_at w i)).0) ∷ history w past) i (initiator_at w i).target (judging_step (initiator_at w i).layer sent.generation sent.bytes).1
 
 -- the same labels
-shown_same : (past now : List Moment) (i target : ℕ) (layer : Layer Purpose) → (terms now).held ≡ (terms past).held → (terms now).generation ≡ (terms past).generation → IsShown past i target layer → IsShown now i target layer
-shown_same past now i target layer held generation h = record {
+shown_same : (past now : List Moment) (i target : ℕ) (layer : Layer Purpose) → (terms now).held ≡ (terms past).held → (terms now).generation ≡ (terms past).generation → (terms now).ids ≡ (terms past).ids → IsShown past i target layer → IsShown now i target layer
+shown_same past now i target layer held generation ids h = record {
   generation = h.generation ∙ ap (λ (g : ℕ → ℕ). g (suc i)) (sym generation);
+  named = ap (λ (f : ℕ → ℕ → ℕ). f layer.generation 0) ids ∙ h.named;
   states = λ number. h.states number ∙ ap (λ (x : Transaction → Held). shape_of (x (transaction layer.generation (suc i) 0 number))) (sym held);
 }
 
@@ -138,7 +140,7 @@ ignored_same past serial i target layer cause other h =
     let t : Terms = terms past in
     let a = ignored_quiet (t.sent serial) cause serial t in
     let b = ignored_quiet (t.sent serial) other serial t in
-    shown_same (said (notes.Ignored serial other) ∷ past) (said (notes.Ignored serial cause) ∷ past) i target layer (a.held ∙ sym b.held) (a.generation ∙ sym b.generation) h
+    shown_same (said (notes.Ignored serial other) ∷ past) (said (notes.Ignored serial cause) ∷ past) i target layer (a.held ∙ sym b.held) (a.generation ∙ sym b.generation) ((ignored_agrees (t.sent serial) cause serial t).ids ∙ sym (ignored_agrees (t.sent serial) other serial t).ids) h
 
 module _ (past : List Moment) (serial i target : ℕ) (bytes : List ℕ) (s : InitiatorState) where
   abbrev ByCause : Finding Purpose × Layer Purpose → Type 0
@@ -195,10 +197,17 @@ module _ {past : List Moment} {lines : ℕ} (w : WorldState) (h : Stands past w)
   packet_is : (packet : Sending) → (terms (history w past)).sent serial ≡ Some packet → packet ≡ as_sending sent
   packet_is packet e = let f = sym e ∙ was_sent w h serial sent found in cc
 
+  of_packet : IsOf (terms (history w past)) (as_sending sent)
+  of_packet = subst (λ ms. IsOf (terms ms) (as_sending sent)) h.is.past_is (goes_on.packets h.wire serial (as_sending sent) h.reached (ap (λ ms. (terms ms).sent serial) h.is.past_is ∙ was_sent w h serial sent found))
+
+  apart_there : (generation one other : ℕ) → (terms (history w past)).ids generation one ≡ (terms (history w past)).ids generation other → one ≡ other
+  apart_there generation one other e =
+      goes_on.apart h.wire generation one other h.reached (ap (λ ms. (terms ms).ids generation one) h.is.past_is ∙ e ∙ sym (ap (λ ms. (terms ms).ids generation other) h.is.past_is))
+
   pub arriving : Arriving past serial sent w
   arriving = record {
     away = λ i e packet f. ap (λ (q : Sending). nat_eq q.to (suc i)) (packet_is packet f) ∙ e;
-    heard = λ i e. record { packet = as_sending sent; sent = was_sent w h serial sent found; generation_is = refl; bytes_are = refl; to_is = e };
+    heard = λ i e. record { packet = as_sending sent; sent = was_sent w h serial sent found; generation_is = refl; bytes_are = refl; to_is = e; source = of_packet.source; apart = apart_there };
     now = λ i inside. shown_now w h nodes i inside;
     shown = arriving_shown;
   }

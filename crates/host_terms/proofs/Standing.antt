@@ -123,7 +123,7 @@ owes_behind (said (notes.Ignored s cause) ∷ past) h owed e = first_behind (not
 owes_behind (said note ∷ past) h owed e = later_behind note past owed refl (owes_behind past h owed e)
 
 -- what was answered before a moment
-answered_from : (later before : List Moment) → AreAnswered (later ++ before) → AreAnswered before
+pub answered_from : (later before : List Moment) → AreAnswered (later ++ before) → AreAnswered before
 answered_from [] before h = h
 answered_from (said (notes.Sent s generation from to bytes) ∷ later) before h = answered_from later before h.1
 answered_from (said (notes.Injected s) ∷ later) before h = answered_from later before h.1

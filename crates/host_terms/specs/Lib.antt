@@ -5,6 +5,7 @@ pub mod Reading
 pub mod Calls
 pub mod Keeping
 pub mod Acting
+pub mod Gathered
 pub mod Handing
 pub mod Worlds
 pub mod Lines
@@ -24,3 +25,11 @@ pub mod Lasting
 pub mod Standing
 pub mod Deliveries
 pub mod Finished
+pub mod Carrying
+pub mod Bytes
+pub mod DataReads
+pub mod Answers
+pub mod Quadlets
+pub mod Sources
+pub mod Places
+pub mod Statuses

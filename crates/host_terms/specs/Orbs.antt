@@ -2,7 +2,7 @@
 -- that an ORB was prepared in last spells it: its command, its direction, its buffer and its page table are those of its append; its next
 -- pointer is null until the ORB behind it is linked, and then that ORB's address; its format is 3 exactly where it was made a dummy. A read of its
 -- 32 bytes that is served gives these bytes. And an ORB that uses a slot is the one that was prepared last there.
-use Rattle.std.specs.Prelude.{◌≡◌, ◌<◌, ℕ, suc, ◌*◌, nat_lt, true, false, if◌then◌else◌, List, ◌∷◌, ◌++◌, length, map, slice_index_or, sum, take, Option, Some}
+use Rattle.std.specs.Prelude.{◌≡◌, ◌<◌, ℕ, suc, ◌*◌, nat_lt, true, if◌then◌else◌, List, ◌∷◌, ◌++◌, length, map, slice_index_or, take, Option, Some}
 use Rattle.bus_memory.specs.Access.{read_step}
 use Rattle.bus_memory.specs.Memory.{Memory}
 use Rattle.bus_memory.specs.Memory as memories
@@ -53,17 +53,17 @@ pub record StandsIn (past : List Moment) (i : ℕ) (memory : Memory) (slot : ℕ
   pub command : command_at past i one.list one.number ≡ Some cmd
   pub request : request_at past i one.list one.number ≡ Some (request_of cmd)
   pub fits : IsCommand cmd
-  -- to the initiator the buffer is as long as the command says, and to the target it is so where the data fill it
-  pub fills : (cmd.to_initiator ≡ false → length cmd.payload ≡ cmd.length) → (plan_of (buffer_of cmd)).bytes ≡ cmd.length
+  -- the buffer is as long as the command says, as its data and its segments fill it
+  pub fills : (plan_of (buffer_of cmd)).bytes ≡ cmd.length
   pub node : ℕ
   pub orb : command_orb (memories.slot_at memory slot).orb ≡ orb_for cmd node slot (next_of past i one.list one.number) (format_of past i one.list one.number)
   pub as_appended : IsAsAppended (command_orb (memories.slot_at memory slot).orb) (request_of cmd)
   pub table : take (8 * length cmd.segments) (memories.slot_at memory slot).table ≡ table_bytes slot 0 cmd.segments
-  -- a read of the page table that is served gives it; by it, where there is one, the buffer is the one that is laid out for the command, whose
-  -- length is that of the segments
+  -- a read of the page table that is served gives it; by it, where there is one, the buffer is the one that is laid out for the command, as long
+  -- as the command says
   pub reads_table : (out : List ℕ) → length out ≡ 8 * length cmd.segments → (read_step memory (start (windows.Table slot)) out).0 ≡ 0 → (read_step memory (start (windows.Table slot)) out).1 ≡ table_bytes slot 0 cmd.segments
   pub laid : (moved : List Moved) → (has_table cmd.segments ≡ true → read_at (start (windows.Table slot)) moved ≡ table_bytes slot 0 cmd.segments) → buffer_in (command_orb (memories.slot_at memory slot).orb) moved ≡ laid_out slot cmd cmd.segments
-  pub whole : (has_table cmd.segments ≡ true → sum cmd.segments ≡ cmd.length) → bytes_of (laid_out slot cmd cmd.segments) ≡ cmd.length
+  pub whole : bytes_of (laid_out slot cmd cmd.segments) ≡ cmd.length
   pub size : length (memories.slot_at memory slot).orb ≡ 32
   pub read : (out : List ℕ) → length out ≡ 32 → (read_step memory (address_of past i one.list one.number) out).0 ≡ 0 → (read_step memory (address_of past i one.list one.number) out).1 ≡ (memories.slot_at memory slot).orb
 

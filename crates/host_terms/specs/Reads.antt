@@ -3,7 +3,7 @@
 -- prepared in last has its 32 bytes: the next pointer with the quadlets that were written, the node ID that its initiator had at the append,
 -- and format 3 exactly where it is a dummy; and its page table. The ROM is that of the node. A read or a write has the rcode of the run
 -- terms; and a read that is complete gives the bytes that they say.
-use Rattle.std.specs.Prelude.{◌≡◌, ◌<◌, ◌≤◌, ℕ, suc, ◌+◌, ◌-◌, true, false, List, ◌∷◌, ◌++◌, length, map, take, Option, Some}
+use Rattle.std.specs.Prelude.{◌≡◌, ◌<◌, ℕ, suc, true, false, List, ◌∷◌, ◌++◌, length, map, take, Option, Some}
 use Rattle.bus_memory.specs.Access.{read_step, write_step}
 use Rattle.bus_memory.specs.Memory.{Memory, is_written}
 use Rattle.bus_memory.specs.Memory as memories
@@ -31,11 +31,12 @@ pub record IsHeld (past : List Moment) (i : ℕ) (memory : Memory) (slot : ℕ) 
   pub table : take (length (table_in_slot past i slot (prepared_in past i slot))) (memories.slot_at memory slot).table ≡ table_in_slot past i slot (prepared_in past i slot)
   pub direction : is_written (memories.slot_at memory slot) ≡ direction_of past i (prepared_in past i slot)
 
--- the windows whose bytes are said here: the ROM, ORBs, page tables as far as they go, and responses, of which no read is complete
+-- The windows whose bytes are said here: the ROM, ORBs, page tables, buffers, and responses, of which no read is complete.
 abbrev pub IsSaid : List Moment → ℕ → Access → Option Window → Type 0
 IsSaid past i access (Some windows.Rom) = Unit {0}
 IsSaid past i access (Some (windows.Orb slot)) = Unit {0}
-IsSaid past i access (Some (windows.Table slot)) = access.offset - start (windows.Table slot) + access.count ≤ length (table_in_slot past i slot (prepared_in past i slot))
+IsSaid past i access (Some (windows.Table slot)) = Unit {0}
+IsSaid past i access (Some (windows.Buffer slot)) = Unit {0}
 IsSaid past i access (Some (windows.Response place)) = Unit {0}
 IsSaid past i access _ = ⊥
 

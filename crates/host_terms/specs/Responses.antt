@@ -2,8 +2,9 @@
 -- initiator gets a block read that is complete, of a slot that an ORB was prepared in, the packet that is told behind what the initiator tells
 -- is the next one, of this initiator. The payload of the response to a read of the 32 bytes of the slot's ORB spells that ORB as it stands before
 -- this packet is sent: the command, the direction and the buffer of its append, and the next pointer and the format of that time. A read of the
--- 8 bytes of its next pointer carries that pointer, and a read of its whole page table that table.
-use Rattle.std.specs.Prelude.{◌≡◌, ◌<◌, ℕ, suc, ◌+◌, ◌*◌, Bool, false, List, ◌∷◌, ◌++◌, length, map, Option, Some}
+-- 8 bytes of its next pointer carries that pointer, and a read of its whole page table that table. Where its data go to the target, a read of bytes
+-- that follow each other in its buffer, by its segments, carries these data in their order.
+use Rattle.std.specs.Prelude.{◌≡◌, ◌<◌, ℕ, suc, ◌+◌, ◌*◌, Bool, false, List, ◌∷◌, ◌++◌, length, map, take, drop, Option, Some}
 use Rattle.std.specs.List.{AllByRecursion}
 use Rattle.async_packet.specs.Reading.{reading}
 use Rattle.bus_memory.specs.declared.window.Window.TheVariants as windows
@@ -11,6 +12,7 @@ use Rattle.bus_memory.specs.Windows.{start}
 use Rattle.orb_layout.specs.CommandOrbs.{command_orb}
 use Rattle.orb_layout.specs.Pointers.{pointer_at}
 use Rattle.orb_list.specs.Layout.{table_bytes}
+use Rattle.page_table.specs.Buffer.{addresses, buffer_addresses}
 use Rattle.rbc_disk.specs.Runs.{Told}
 use Rattle.sbp_journal.specs.Addresses.{Access}
 use Rattle.sbp_journal.specs.Run.{Moment, asked, said}
@@ -20,7 +22,7 @@ use Rattle.sbp_journal.specs.declared.event.Event.{Event}
 use Rattle.sbp_journal.specs.declared.note.Note.{Note}
 use Rattle.sbp_journal.specs.declared.note.Note.TheVariants as notes
 use Rattle.sbp_initiator.specs.Commands.{IsCommand}
-use Rattle.sbp_laws.specs.CarriedBytes.{IsRead, before_sent, bytes_in, payload_at}
+use Rattle.sbp_laws.specs.CarriedBytes.{IsRead, before_sent, bytes_in, laid_out, payload_at}
 use Rattle.sbp_laws.specs.CarriedLaw.{IsAsAppended}
 use Rattle.sbp_laws.specs.Lists.{Orb, command_at, prepared_in, slot_at}
 use Rattle.sbp_laws.specs.Packets.{answer_in, sender_in, spelled_by}
@@ -72,6 +74,7 @@ pub record AreReads (past : List Moment) (i serial slot : ℕ) (one : Orb) (acce
   pub orb : IsRead access (start (windows.Orb slot)) 32 → IsReadWith past i serial (λ before payload. CarriesOrb before i slot one payload) now
   pub pointer : IsRead access (start (windows.Orb slot)) 8 → IsReadWith past i serial (λ before payload. pointer_at payload 0 ≡ next_of before i one.list one.number) now
   pub table : (cmd : Cmd) → command_at past i one.list one.number ≡ Some cmd → IsRead access (start (windows.Table slot)) (8 * length cmd.segments) → IsReadWith past i serial (λ before payload. payload ≡ table_bytes slot 0 cmd.segments) now
+  pub chunk : (cmd : Cmd) → command_at past i one.list one.number ≡ Some cmd → cmd.to_initiator ≡ false → (at offset count : ℕ) → addresses offset count ≡ take count (drop at (buffer_addresses (laid_out slot cmd cmd.segments))) → IsRead access offset count → IsReadWith past i serial (λ before payload. payload ≡ take count (drop at cmd.payload)) now
 
 pub record ResponsesLaw : Type 0 where
   pub reads : (line : ℕ) (run : Run) → IsRun run → (next : ℕ) (event : Event) (told : List (Option Told)) → IsDelivering event told → MayAll told (begun (after (beginning run) run.entries)) → (i : ℕ) → i < run.initiators → (serial : ℕ) (again : Bool) (one : Option Told) → (let s = after_all told (begun (after (beginning run) run.entries)) in (g : GetsRequest (map said s.world.fresh ++ asked next event ∷ history_of line run) s.world i serial) → (slot : ℕ) (found : Orb) → slot < 32 → prepared_in (map said s.world.fresh ++ asked next event ∷ history_of line run) i slot ≡ Some found → (host_reply (map said s.world.fresh ++ asked next event ∷ history_of line run) i g.access).rcode ≡ 0 → AreReads (map said s.world.fresh ++ asked next event ∷ history_of line run) i serial slot found g.access (map said (delivered serial again one s).world.fresh ++ asked next event ∷ history_of line run))

@@ -1,12 +1,17 @@
 //! The laws of the terms of a run: what they say of an initiator is what it holds.
 ghost use Rattle.host_terms.specs.Acting.{ActionLaw};
 ghost use Rattle.host_terms.specs.Answering.{AnsweringLaw};
+ghost use Rattle.host_terms.specs.Answers.{TakenLaw};
+ghost use Rattle.host_terms.specs.Bytes.{BytesLaw};
 ghost use Rattle.host_terms.specs.Calling.{CallsLaw};
 ghost use Rattle.host_terms.specs.Calls.{CallLaw};
+ghost use Rattle.host_terms.specs.Carrying.{CarriesLaw};
 ghost use Rattle.host_terms.specs.Core.{HostLaw};
+ghost use Rattle.host_terms.specs.DataReads.{DataLaw};
 ghost use Rattle.host_terms.specs.Deciding.{RunRefusalLaw};
 ghost use Rattle.host_terms.specs.Deliveries.{DeliveriesLaw};
 ghost use Rattle.host_terms.specs.Finished.{FinishedLaw};
+ghost use Rattle.host_terms.specs.Gathered.{GatheredLaw};
 ghost use Rattle.host_terms.specs.Handing.{HandLaw};
 ghost use Rattle.host_terms.specs.Keeping.{KeepingLaw};
 ghost use Rattle.host_terms.specs.Labels.{RunLabelLaw};
@@ -14,12 +19,14 @@ ghost use Rattle.host_terms.specs.Lasting.{LastingLaw};
 ghost use Rattle.host_terms.specs.Lines.{LineLaw};
 ghost use Rattle.host_terms.specs.Orbs.{OrbsLaw};
 ghost use Rattle.host_terms.specs.PointerRuns.{PointerRunLaw};
+ghost use Rattle.host_terms.specs.Quadlets.{QuadletLaw};
 ghost use Rattle.host_terms.specs.Reading.{ReadLaw};
 ghost use Rattle.host_terms.specs.Reads.{MemoryLaw};
 ghost use Rattle.host_terms.specs.Refusing.{RunActionLaw};
 ghost use Rattle.host_terms.specs.Remaining.{RemainingLaw};
 ghost use Rattle.host_terms.specs.Responses.{ResponsesLaw};
 ghost use Rattle.host_terms.specs.Runs.{RunLaw};
+ghost use Rattle.host_terms.specs.Sources.{SourceLaw};
 ghost use Rattle.host_terms.specs.Standing.{StandingLaw};
 ghost use Rattle.host_terms.specs.Steps.{StepLaw};
 ghost use Rattle.host_terms.specs.Worlds.{WorldLaw};
@@ -138,8 +145,8 @@ pub fn orbs_stand_in_memory()
 /// The law that in every run an initiator's memory is what the run terms say: a slot is armed exactly where they have an
 /// ORB in it or let it rest; the slot that an ORB was prepared in last has its 32 bytes, with the quadlets of its next
 /// pointer that were written, the node ID of its append and its format, and its page table; the ROM is that of the node; a
-/// read or a write has the rcode of the run terms; and a read of the ROM, of an ORB, or inside a page table that is
-/// complete gives the bytes that they say.
+/// read or a write has the rcode of the run terms; and a read that is complete gives the bytes that they say: of the ROM, of
+/// an ORB, of a page table, and of a buffer.
 #[tactic(auto, using(crate::proofs::MemoryReads::memory_law))]
 pub fn memory_is_read_by_the_run()
     ensures { MemoryLaw }
@@ -147,8 +154,8 @@ pub fn memory_is_read_by_the_run()
 
 /// The law that in every run, in a delivery at which an initiator gets a request, the first packet that is told is the
 /// response of the sent law: with the rcode and the bytes that the run terms have as the request is got. Of a read that
-/// is complete this is said where it is of the ROM, of an ORB or inside a page table.
-#[tactic(auto, using(crate::proofs::AnsweringRuns::answering_law))]
+/// is complete this is said where it is of the ROM, of an ORB, of a page table, or of a buffer.
+#[tactic(auto, using(crate::proofs::AnsweringLines::answering_law))]
 pub fn requests_are_answered_by_the_run()
     ensures { AnsweringLaw }
 {}
@@ -171,8 +178,9 @@ pub fn orbs_last()
 
 /// The law that in every run, in a delivery at which an initiator gets a read of the 32 bytes of a slot's ORB that is
 /// complete, the response carries that ORB: it spells the command, the direction and the buffer of its append, and its
-/// next pointer and its format as they stand before the response is sent.
-#[tactic(auto, using(crate::proofs::AnsweringRuns::responses_law))]
+/// next pointer and its format as they stand before the response is sent. So it does of a read of the next pointer, of the
+/// page table, and of bytes of its buffer in their order, where its data go to the target: it carries these data.
+#[tactic(auto, using(crate::proofs::AnsweringLines::responses_law))]
 pub fn responses_carry_their_orbs()
     ensures { ResponsesLaw }
 {}
@@ -199,10 +207,65 @@ pub fn gets_are_deliveries()
     ensures { DeliveriesLaw }
 {}
 
-/// The law of every finished history: behind the note that an initiator got a read of a slot's ORB, of its next pointer or
-/// of its page table that is complete, it goes on with the response, and that carries what was read, by the whole
+/// The law of every finished history: behind the note that an initiator got a read of a slot's ORB, of its next pointer, of
+/// its page table or of its data that is complete, it goes on with the response, and that carries what was read, by the whole
 /// history too; and a packet that is sent behind that note and plain effects alone has the next serial.
 #[tactic(auto, using(crate::proofs::Finished::finished_law))]
 pub fn finished_responses_carry_their_orbs()
     ensures { FinishedLaw }
+{}
+
+/// The law that in every run a response that was not injected, and that tells bytes in answer to a block read of an
+/// initiator, stands behind the moment at which the read was got, with the next serial; that the read was complete, and
+/// the bytes are those that the memory held at that moment: the ORB that was prepared last in a slot, its next pointer, its
+/// page table, which is read as the buffer laid out for its command, or the data of its append, where that buffer is
+/// read; and that of an ORB that is still the one prepared last in its slot they say what is so now: its command, a next
+/// pointer that is null or the address of the ORB behind, which is linked, its page table, and its data. After each
+/// line, and behind some deliveries of a line that delivers packets.
+#[tactic(auto, using(crate::proofs::Carrying::carries_law))]
+pub fn responses_bring_what_memory_held()
+    ensures { CarriesLaw }
+{}
+
+/// The law that in every run the page tables and the buffers in an initiator's memory hold what the run says: the page table of
+/// a slot that of the ORB that was prepared there last, with what stood behind its end before; each byte of a buffer the byte of
+/// the data of the latest append there that has one at its address, or of a write that the initiator got since and answered
+/// complete, of a block or of a quadlet; and while the data of a slot's ORB go to the target, these data stand in its segments.
+#[tactic(auto, using(crate::proofs::ByteRuns::bytes_law))]
+pub fn buffers_hold_what_was_written()
+    ensures { BytesLaw }
+{}
+
+/// The law that in every run a read of bytes that follow each other in the buffer of a slot's ORB, by its segments, gives the
+/// bytes of its data in their order, where these go to the target; so does a read of a chunk of it.
+#[tactic(auto, using(crate::proofs::ByteReads::data_law))]
+pub fn data_are_read_as_appended()
+    ensures { DataLaw }
+{}
+
+/// The law that in every run the target sends no write of a quadlet, and no initiator gets one that it answers complete.
+#[tactic(auto, using(crate::proofs::Quadlets::quadlet_law))]
+pub fn no_quadlets_are_written()
+    ensures { QuadletLaw }
+{}
+
+/// The law that in every run each request that an initiator got, but for a read of its ROM, was sent by the target.
+#[tactic(auto, using(crate::proofs::Quadlets::source_law))]
+pub fn requests_come_from_the_target()
+    ensures { SourceLaw }
+{}
+
+/// The law that in every run the answer of a good status that an initiator takes is what the run says that its ORB's buffer held
+/// then, in the order of its segments, where its data go to the initiator, and has no byte where they do not.
+#[tactic(auto, using(crate::proofs::AnswerRuns::taken_law))]
+pub fn answers_are_what_buffers_held()
+    ensures { TakenLaw }
+{}
+
+/// The law that in every run, where the writes that brought bytes of an ORB's buffer since its append are the pieces of the
+/// buffer, each once and in turn, the answer of a good status that is taken is their bytes, joined; so where the target's writes to
+/// these pieces since the ORB's run are those, it is the answer of the carried law.
+#[tactic(auto, using(crate::proofs::Gathered::gathered_law))]
+pub fn answers_join_what_was_written()
+    ensures { GatheredLaw }
 {}

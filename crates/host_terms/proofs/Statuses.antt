@@ -1,0 +1,14 @@
+pub mod Folds
+pub mod Waits
+pub mod Blocks
+pub mod Brings
+pub mod Quiet
+pub mod Hearing
+pub mod Housed
+pub mod Acted
+pub mod Held
+pub mod Runs
+pub mod Insides
+pub mod Ranges
+pub mod Finished
+pub mod Senders

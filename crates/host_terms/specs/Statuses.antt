@@ -1,0 +1,3 @@
+pub mod Taking
+pub mod Finished
+pub mod Senders
