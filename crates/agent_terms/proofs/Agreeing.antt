@@ -74,13 +74,13 @@ use Rattle.sbp_world.proofs.Wire.Bus.{aged, holds}
 use Rattle.sbp_world.proofs.Wire.Nodes.{handed_alike, marked_alike}
 use Rattle.target_laws.proofs.Calling.{Good}
 use Rattle.target_laws.proofs.Found.{IsFound, found as found_in}
-use Rattle.target_terms.proofs.Firsts.{got_here, wire_is}
-use Rattle.target_terms.proofs.Hearing.{answers_none}
-use Rattle.target_terms.proofs.Holding.{Holding, good_of, marked_hist, target_generation, was_sent}
-use Rattle.target_terms.proofs.Still.{gets_clock, hist, ignores_still, lapses_clock}
-use Rattle.target_terms.specs.Offices.{Office, by_sides}
-use Rattle.target_terms.proofs.Places.{AreApart, sound_apart}
-use Rattle.target_terms.proofs.Told.{all_sides, office_in, term_in}
+use Rattle.agent_terms.proofs.Management.Firsts.{got_here, wire_is}
+use Rattle.agent_terms.proofs.Management.Hearing.{answers_none}
+use Rattle.agent_terms.proofs.Management.Holding.{Holding, good_of, marked_hist, target_generation, was_sent}
+use Rattle.agent_terms.proofs.Management.Still.{gets_clock, hist, ignores_still, lapses_clock}
+use Rattle.agent_terms.specs.Management.Offices.{Office, by_sides}
+use Rattle.agent_terms.proofs.Management.Places.{AreApart, sound_apart}
+use Rattle.agent_terms.proofs.Management.Told.{all_sides, office_in, term_in}
 use Rattle.agent_terms.specs.Demands.{enabled_by}
 use Rattle.agent_terms.specs.Enabled.{AreLive, AreTermsOf}
 use Rattle.agent_terms.specs.Holders.{AreHeldAt}

@@ -44,6 +44,7 @@ use Rattle.agent_terms.proofs.AskedFollows.{Followed, desk_other, followed, left
 use Rattle.agent_terms.proofs.AskedLate.{all_by, asks_more, cut_keeps, follow_keeps, follow_logins, quiet_follow, same_login}
 use Rattle.agent_terms.proofs.AskedReplies.{Fine, Off, off_asks}
 use Rattle.agent_terms.proofs.AskedSteps.{still}
+use Rattle.agent_terms.proofs.Sized.{still_sized}
 use Rattle.agent_terms.proofs.Walk.{desk_set}
 
 no : false ≡ true → ⊥
@@ -133,7 +134,7 @@ module _ (node : NodeState) (g : Good node) (layer : Layer Purpose) (outbox : Ou
     fetches next =
         let r = fetch_step m next in
         let d = (pointed_desk Here (Ok r.0.ask, r.1)).1 in
-        asks_fine (login_at node q) d r _ refl (behind_fetch m next) (only (ahead_under m) r.0.ask r.1 refl refl refl) refl refl refl refl
+        asks_fine (login_at node q) d r _ refl (behind_fetch m next) (only (ahead_under m) _ _ r.1 refl refl refl) refl refl refl refl
         (λ sent body h. left_more outbox.packets _ sent body h) refl
 
     refuses : (rcode : ℕ) → Fine (answered p bytes rcode [] (scene (with_desk (record node { layer = layer }) q Here) outbox))
@@ -168,6 +169,7 @@ module _ (node : NodeState) (g : Good node) (layer : Layer Purpose) (outbox : Ou
           ahead = λ sent f k.
               left_as outbox.packets sent (ahead_body m) (ahead_body n) (ap (λ (x : ReadAhead). agent_body (ahead_ask x m.orb.next) false 0 []) (sym ahead) ∙ ap (λ (o : CommandOrb). agent_body (ahead_ask n.ahead o.next) false 0 []) (sym orb))
               ((a.all q login b e).ahead sent f (ap is_ahead (sym ahead) ∙ k));
+          sized = still_sized m n still (a.all q login b e).sized;
         })))
 
     rings : (state : AgentState) → state_in m.phase ≡ state → Fine (rung_by q p bytes (doorbell_in state m) Begun)
@@ -179,7 +181,7 @@ module _ (node : NodeState) (g : Good node) (layer : Layer Purpose) (outbox : Ou
         let h : is_ahead m.ahead ≡ false = fits.agent.bare (bare_state m.phase e) in
         let r = reread_step m in
         let d : Desk = record Here { agent = r.1 } in
-        asks_fine (login_at node q) d r _ refl (behind_reread m h) (only (ahead_under m) r.0.ask r.1 h refl refl) refl refl refl refl
+        asks_fine (login_at node q) d r _ refl (behind_reread m h) (only (ahead_under m) _ _ r.1 h refl refl) refl refl refl refl
         (λ sent body k. left_more outbox.packets _ sent body k) refl
 
     ring_fine : Fine (ring q p bytes Begun)

@@ -46,8 +46,9 @@ use Rattle.sbp_target.specs.Telling.{tell_dead, tell_ended, tell_ran, tell_step}
 use Rattle.target_laws.proofs.Stepped.{Behind, Carries, Fit, Lost, ahead_loses, behind_fetch, behind_reread, is_asked, is_bare, is_next, last_loses, main_loses, main_replied}
 use Rattle.target_laws.proofs.Stepped as stepped
 use Rattle.agent_lists.specs.Requests.{ahead_ask, ahead_under, main_under}
-use Rattle.agent_terms.specs.Asked.{AsksReally, FollowLaw, IsBare, IsBehind, IsFit, IsFor, IsStill, IsUnder, Left, ahead_body, asks, has_next, main_body, reads_none, uses_buffer}
+use Rattle.agent_terms.specs.Asked.{AsksReally, FollowLaw, IsBare, IsBehind, IsFit, IsFor, IsSized, IsStill, IsUnder, Left, ahead_body, asks, has_next, main_body, reads_none, uses_buffer}
 use Rattle.agent_terms.proofs.AskedSteps.{taken, under_law}
+use Rattle.agent_terms.proofs.Sized.{nothing_sized, read_sized, still_sized}
 use Rattle.agent_terms.proofs.Walk.{desk_set}
 use Rattle.agent_terms.proofs.Writes.{HasBody, has_body, no_body}
 
@@ -348,9 +349,9 @@ module _ (base : NodeState) (q : ℕ) (b : q < 8) (login : Login) where
   agent_is d s o = ap (λ (x : Desk). x.agent) o.is
 
   -- ---- a read ahead that found no label
-  drops_by : (x : Bool) (d : Desk) (s : Scene) → x ≡ true → On base q d s.node → Fit d.agent → is_ahead d.agent.ahead ≡ true → ((sent : Sent) → d.main ≡ Some sent → is_sent d.agent.phase ≡ true → Left s.outbox.packets sent (main_body login.fifo d.agent)) → Ended (lost_by x q login Ahead s).1
-  drops_by false d s e o f u h = absurd (no e)
-  drops_by true d s e o f u h =
+  drops_by : (x : Bool) (d : Desk) (s : Scene) → x ≡ true → On base q d s.node → Fit d.agent → is_ahead d.agent.ahead ≡ true → ((sent : Sent) → d.main ≡ Some sent → is_sent d.agent.phase ≡ true → Left s.outbox.packets sent (main_body login.fifo d.agent)) → IsSized d.agent → Ended (lost_by x q login Ahead s).1
+  drops_by false d s e o f u h z = absurd (no e)
+  drops_by true d s e o f u h z =
       let m = d.agent in
       let l = lost_step m Ahead causes.Label in
       let over = ahead_loses m causes.Label u f in
@@ -365,6 +366,7 @@ module _ (base : NodeState) (q : ℕ) (b : q < 8) (login : Login) where
         asks = record {
           main = λ sent e p. left_as s.outbox.packets sent (main_body login.fifo m) (main_body login.fifo l.1) (sym (still_body login.fifo m l.1 still)) (h sent e (ap is_sent (sym still.phase) ∙ p));
           ahead = λ sent e p. absurd (no (sym over.idle ∙ p));
+          sized = still_sized m l.1 still z;
         };
       })
 
@@ -381,7 +383,7 @@ module _ (base : NodeState) (q : ℕ) (b : q < 8) (login : Login) where
       subst Ended (sym is) (record {
         desk = record d { agent = dead };
         on = on_agent d dead s o;
-        asks = record { main = λ sent e p. absurd (no p); ahead = λ sent e p. absurd (no (sym i ∙ p)) };
+        asks = record { main = λ sent e p. absurd (no p); ahead = λ sent e p. absurd (no (sym i ∙ p)); sized = nothing_sized dead refl };
       })
 
   -- the status block of an ORB that failed leaves, or is lost too
@@ -396,6 +398,7 @@ module _ (base : NodeState) (q : ℕ) (b : q < 8) (login : Login) where
         asks = record {
           main = λ sent e p. subst (λ (x : Sent). Left s.outbox.packets x (main_body login.fifo d.agent)) (one_sent g.sent sent e) (left_as s.outbox.packets g.sent _ _ body_is g.left);
           ahead = λ sent e p. absurd (no (sym lost.idle ∙ ap (λ (x : Machine). is_ahead x.ahead) (sym a) ∙ p));
+          sized = subst IsSized (sym a) u.sized;
         };
       }
   block_goes d packets had l ahead (false, s) a lost u asked g =
@@ -413,7 +416,7 @@ module _ (base : NodeState) (q : ℕ) (b : q < 8) (login : Login) where
       subst (λ (r : Bool × Scene). Ended (after_loss q login r)) (sym (main_none l.0 s k)) (record {
         desk = d;
         on = o;
-        asks = record { main = λ sent e p. absurd (no (sym unsent ∙ p)); ahead = λ sent e p. absurd (no (sym idle ∙ p)) };
+        asks = record { main = λ sent e p. absurd (no (sym unsent ∙ p)); ahead = λ sent e p. absurd (no (sym idle ∙ p)); sized = subst IsSized (sym a) u.sized };
       })
 
   main_dies : (x : Bool) (d : Desk) (s : Scene) → x ≡ true → On base q d s.node → Fit d.agent → is_sent d.agent.phase ≡ true → Ended (after_loss q login (lost_by x q login Main s))
@@ -458,6 +461,7 @@ module _ (base : NodeState) (q : ℕ) (b : q < 8) (login : Login) where
         ahead = λ sent f p.
             subst (λ (x : Sent). Left s.outbox.packets x (ahead_body d.agent)) (one_sent g.sent sent f)
             (left_as s.outbox.packets g.sent _ _ (ahead_asked_body e ∙ ap ahead_body (sym a)) g.left);
+        sized = subst IsSized (sym a) under.sized;
       };
     }
     ahead_then d packets (false, s) a e h g =
@@ -466,6 +470,7 @@ module _ (base : NodeState) (q : ℕ) (b : q < 8) (login : Login) where
         (λ sent f p.
         subst (λ (ps : List Outgoing). Left ps sent (main_body login.fifo d.agent)) (sym g.same)
         (subst (λ (x : Machine). Left packets sent (main_body login.fifo x)) (sym a) (h sent f (ap (λ (x : Machine). is_sent x.phase) (sym a) ∙ p))))
+        (subst IsSized (sym a) under.sized)
 
     ahead_ended : (x : Bool) (d : Desk) (s : Scene) → is_asked step.ahead ≡ x → d.agent ≡ m → On base q d s.node → M d s.outbox.packets → A d s.outbox.packets → Ended (ask_ahead q login step.ahead s)
     ahead_ended true d s e a o h i =
@@ -479,6 +484,7 @@ module _ (base : NodeState) (q : ℕ) (b : q < 8) (login : Login) where
           asks = record {
             main = λ sent f p. subst (λ (x : Machine). Left s.outbox.packets sent (main_body login.fifo x)) (sym a) (h sent f (ap (λ (x : Machine). is_sent x.phase) (sym a) ∙ p));
             ahead = λ sent f p. subst (λ (x : Machine). Left s.outbox.packets sent (ahead_body x)) (sym a) (i e sent f (ap (λ (x : Machine). is_ahead x.ahead) (sym a) ∙ p));
+            sized = subst IsSized (sym a) under.sized;
           };
         })
 
@@ -578,8 +584,8 @@ follow_of : (q : ℕ) (b : q < 8) (login : Login) (had : Bool) (step : AgentStep
 follow_of q b login had step before m s behind under had_is i = (followed q b login had step before m s behind under had_is i).asks
 
 -- a step that only asks for its main transaction
-pub only : (ahead ask : Ask) (m : Machine) → is_ahead m.ahead ≡ false → main_under m ≡ ask → writes_status m.phase ≡ false → IsUnder ahead (steps.asks ask, m)
-only ahead ask m i e w = record { main = λ f. e; status = λ f. w; turned = λ f. absurd (no f); asked = λ f. absurd (no f); kept = λ f g. absurd (no (sym i ∙ g)) }
+pub only : (ahead : Ask) (at count : ℕ) (m : Machine) → is_ahead m.ahead ≡ false → main_under m ≡ Read at count → writes_status m.phase ≡ false → IsUnder ahead (steps.asks (Read at count), m)
+only ahead at count m i e w = record { main = λ f. e; status = λ f. w; turned = λ f. absurd (no f); asked = λ f. absurd (no f); kept = λ f g. absurd (no (sym i ∙ g)); sized = read_sized m at count e }
 
 ok_ask : (x y : Ask) → taken x ≡ taken y → x ≡ y
 ok_ask x y e = cc
@@ -591,7 +597,7 @@ module _ (q : ℕ) (b : q < 8) (login : Login) (s : Scene) where
   fetches : (m : Machine) (next : ℕ) (ask : Ask) → taken (fetch_step m next).0.ask ≡ taken ask → IsBehind s.outbox.packets q m (fetch_step m next).1 s.node → Asks q login (follow q login (steps.asks ask) s)
   fetches m next ask e i =
       subst (λ (a : Ask). Asks q login (follow q login (steps.asks a) s)) (ok_ask _ ask e)
-      (follow_of q b login false (fetch_step m next).0 m (fetch_step m next).1 s (behind_fetch m next) (only (ahead_under m) (fetch_step m next).0.ask (fetch_step m next).1 refl refl refl) (λ f. absurd (no f)) i)
+      (follow_of q b login false (fetch_step m next).0 m (fetch_step m next).1 s (behind_fetch m next) (only (ahead_under m) _ _ (fetch_step m next).1 refl refl refl) (λ f. absurd (no f)) i)
 
   points : (state : AgentState) (m : Machine) (pointer : OrbPointer) (ask : Ask) → (point_in state m pointer).0 ≡ taken ask → IsBehind s.outbox.packets q m (point_in state m pointer).1 s.node → Asks q login (follow q login (steps.asks ask) s)
   points states.Reset m Null ask e i = absurd (refused_not _ ask e)
@@ -610,7 +616,7 @@ module _ (q : ℕ) (b : q < 8) (login : Login) (s : Scene) where
   rings states.Active m h e i = absurd (no e)
   rings states.Dead m h e i = absurd (no e)
   rings states.Suspended m h e i =
-      follow_of q b login false (reread_step m).0 m (reread_step m).1 s (behind_reread m h) (only (ahead_under m) (reread_step m).0.ask (reread_step m).1 h refl refl) (λ f. absurd (no f)) i
+      follow_of q b login false (reread_step m).0 m (reread_step m).1 s (behind_reread m h) (only (ahead_under m) _ _ (reread_step m).1 h refl refl) (λ f. absurd (no f)) i
 
   ring_asks : (m : Machine) → is_ahead m.ahead ≡ false → asks (doorbell_step m).0 ≡ true → IsBehind s.outbox.packets q m (doorbell_step m).1 s.node → Asks q login (follow q login (steps.asks (doorbell_step m).0) s)
   unfolding doorbell_step

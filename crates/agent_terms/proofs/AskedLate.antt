@@ -36,6 +36,7 @@ use Rattle.target_laws.proofs.Stepped.{ahead_loses, main_loses}
 use Rattle.agent_terms.specs.Asked.{AllAsk, AsksReally, LateLaw, Left, ahead_body, main_body}
 use Rattle.agent_terms.proofs.AskedFollows.{Followed, bare_of, desk_other, followed, left_as, left_more, still_body}
 use Rattle.agent_terms.proofs.AskedSteps.{under_law}
+use Rattle.agent_terms.proofs.Sized.{nothing_sized, still_sized}
 use Rattle.agent_terms.proofs.Walk.{desk_set}
 
 no : false ≡ true → ⊥
@@ -68,7 +69,7 @@ pub follow_logins : (q : ℕ) (login : Login) (step : AgentStep) (s : Scene) →
 follow_logins q login step s = framed.follows_at (λ node. node.logins ≡ s.node.logins) (keeps_logins s.node.logins) q login step s refl
 
 pub asks_more : (before now : List Outgoing) → ((sent : Sent) (body : Option Body) → Left before sent body → Left now sent body) → (fifo : ℕ) (d : Desk) → AsksReally before fifo d → AsksReally now fifo d
-asks_more before now more fifo d a = record { main = λ sent e p. more sent (main_body fifo d.agent) (a.main sent e p); ahead = λ sent e p. more sent (ahead_body d.agent) (a.ahead sent e p) }
+asks_more before now more fifo d a = record { main = λ sent e p. more sent (main_body fifo d.agent) (a.main sent e p); ahead = λ sent e p. more sent (ahead_body d.agent) (a.ahead sent e p); sized = a.sized }
 
 -- ---- one desk of all changes
 pub all_by : (q : ℕ) (before packets : List Outgoing) (node now : NodeState) → now.logins ≡ node.logins → ((k : ℕ) → k ≢ q → desk_at now k ≡ desk_at node k) → ((sent : Sent) (body : Option Body) → Left before sent body → Left packets sent body) → ((login : Login) → login_at node q ≡ Some login → AsksReally packets login.fifo (desk_at now q)) → AllAsk before node → AllAsk packets now
@@ -156,6 +157,7 @@ module _ (node : NodeState) (g : Good node) (layer : Layer Purpose) (outbox : Ou
       subst (λ (x : Desk). AsksReally outbox.packets other.fifo x) (sym (here_is d)) (record {
         main = λ sent f p. left_as outbox.packets sent (main_body other.fifo m) (main_body other.fifo l.1) (sym (still_body other.fifo m l.1 still)) ((a.all q other b e).main sent f (ap is_sent (sym still.phase) ∙ p));
         ahead = λ sent f p. absurd (none_sent sent f);
+        sized = still_sized m l.1 still (a.all q other b e).sized;
       }))
       a)
 
@@ -190,6 +192,7 @@ module _ (node : NodeState) (g : Good node) (layer : Layer Purpose) (outbox : Ou
       subst (λ (x : Desk). AsksReally outbox.packets other.fifo x) (sym (desk_set q node now d b g.mid.size refl)) (record {
         main = λ sent f p. absurd (none_sent sent f);
         ahead = λ sent f p. absurd (none_sent sent f);
+        sized = nothing_sized d.agent refl;
       }))
       a
 

@@ -43,6 +43,7 @@ use Rattle.agent_terms.proofs.AskedLate.{all_by, same_login}
 use Rattle.agent_terms.proofs.AskedReplies.{Fine, Off, off_asks}
 use Rattle.agent_terms.proofs.AskedRequests.{manager_fine, same_fine}
 use Rattle.agent_terms.proofs.AskedSteps.{under_law}
+use Rattle.agent_terms.proofs.Sized.{idle_sized, still_sized}
 use Rattle.agent_terms.proofs.Walk.{desk_set}
 
 no : false ≡ true → ⊥
@@ -50,7 +51,7 @@ no e = cc
 
 -- ---- an agent in RESET waits for nothing
 pub idle_asks : (packets : List Outgoing) (fifo : ℕ) (d : Desk) → is_sent d.agent.phase ≡ false → is_ahead d.agent.ahead ≡ false → AsksReally packets fifo d
-idle_asks packets fifo d s a = record { main = λ sent f p. absurd (no (sym s ∙ p)); ahead = λ sent f p. absurd (no (sym a ∙ p)) }
+idle_asks packets fifo d s a = record { main = λ sent f p. absurd (no (sym s ∙ p)); ahead = λ sent f p. absurd (no (sym a ∙ p)); sized = idle_sized d.agent s }
 
 reset_phase : (p : Phase) → is_reset (state_in p) ≡ true → p ≡ phases.Reset
 reset_phase phases.Reset e = refl
@@ -131,7 +132,7 @@ enter_fine : (place subject : ℕ) (replaced : Option ℕ) (s : Scene) → place
 enter_fine place subject replaced s b h =
     let d : Desk = record (desk_at s.node place) { pointer = None; is_enabled = false } in
     set_fine place d s (effect_by (effects.Entered place replaced) subject s) b refl refl (left_packets replaced s.outbox)
-    (λ login e. (let a = h.all.all place login b e in record { main = a.main; ahead = a.ahead })) h
+    (λ login e. (let a = h.all.all place login b e in record { main = a.main; ahead = a.ahead; sized = a.sized })) h
 
 abort_fine : (place orb subject : ℕ) (s : Scene) → place < 8 → Fine s → Fine (effect_by (effects.Abort place orb) subject s)
 unfolding abort_step
@@ -144,6 +145,7 @@ abort_fine place orb subject s b h =
     (let a = h.all.all place login b e in record {
       main = λ sent f p. left_as s.outbox.packets sent (main_body login.fifo m) (main_body login.fifo n) (sym (still_body login.fifo m n still)) (a.main sent f p);
       ahead = a.ahead;
+      sized = still_sized m n still a.sized;
     }))
     h
 

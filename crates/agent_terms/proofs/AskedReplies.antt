@@ -41,6 +41,7 @@ use Rattle.agent_terms.specs.Asked.{AllAsk, AsksReally, IsStill, IsUnder, Left, 
 use Rattle.agent_terms.proofs.AskedFollows.{Followed, bare_of, desk_other, followed, left_as, left_more, still_body}
 use Rattle.agent_terms.proofs.AskedLate.{ahead_of, all_by, asks_more, follow_keeps, follow_logins, none_sent, quiet_follow, same_login}
 use Rattle.agent_terms.proofs.AskedSteps.{under_law}
+use Rattle.agent_terms.proofs.Sized.{still_sized}
 use Rattle.agent_terms.proofs.Walk.{desk_set}
 
 -- ---- unsolicited statuses behind a step
@@ -49,7 +50,7 @@ abbrev pub Off : Desk → Bool → Desk
 Off d x = record d { is_enabled = x }
 
 pub off_asks : (packets : List Outgoing) (fifo : ℕ) (d : Desk) (x : Bool) → AsksReally packets fifo d → AsksReally packets fifo (Off d x)
-off_asks packets fifo d x a = record { main = a.main; ahead = a.ahead }
+off_asks packets fifo d x a = record { main = a.main; ahead = a.ahead; sized = a.sized }
 
 -- eight desks, and all wait for what left
 pub record Fine (s : Scene) : Type 0 where
@@ -160,6 +161,7 @@ module _ (node : NodeState) (g : Good node) (outbox : OutboxState) (q : ℕ) (b 
             subst (λ (x : Desk). AsksReally outbox.packets other.fifo x) (sym (desk_set q node later d b g.mid.size desks)) (record {
               main = λ sent f p. left_as outbox.packets sent (main_body other.fifo m) (main_body other.fifo r.1) (sym (still_body other.fifo m r.1 still)) ((a.all q other b e).main sent f (ap is_sent (sym still.phase) ∙ p));
               ahead = λ sent f p. absurd (none_sent sent f);
+              sized = still_sized m r.1 still (a.all q other b e).sized;
             }))
             a;
       })

@@ -17,6 +17,7 @@ use Rattle.sbp_target.specs.Units.{cut_all}
 use Rattle.target_laws.proofs.Settled.{all_good}
 use Rattle.agent_terms.specs.Asked.{AllAsk, AsksReally, SightsLaw}
 use Rattle.agent_terms.proofs.Cuts.{all_cut}
+use Rattle.agent_terms.proofs.Sized.{idle_sized}
 
 no : false ≡ true → ⊥
 no e = cc
@@ -27,6 +28,7 @@ unfolding reset_step
 reset_asks packets fifo d m e = record {
   main = λ sent f p. absurd (no (sym (ap (λ (x : Machine). is_sent x.phase) e) ∙ p));
   ahead = λ sent f p. absurd (no (sym (ap (λ (x : Machine). is_ahead x.ahead) e) ∙ p));
+  sized = idle_sized d.agent (ap (λ (x : Machine). is_sent x.phase) e);
 }
 
 module _ (node : NodeState) (size : length node.desks ≡ 8) (outbox : OutboxState) (a : AllAsk outbox.packets node) where

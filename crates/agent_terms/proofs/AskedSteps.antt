@@ -30,12 +30,13 @@ use Rattle.command_agent.specs.declared.step.PointRefusal.{PointRefusal}
 use Rattle.command_agent.specs.declared.step.AgentState.{AgentState}
 use Rattle.command_agent.specs.declared.step.AgentState.TheVariants as states
 use Rattle.command_agent.specs.declared.step.Which.TheVariants.{Ahead, Main}
-use Rattle.command_agent.specs.Machine.{Machine, chunk_of, is_ahead, plan_of, state_in}
+use Rattle.command_agent.specs.Machine.{Machine, chunk_of, is_ahead, is_sent, plan_of, state_in}
 use Rattle.command_agent.specs.Checks.{death_by, reads_table, verdict}
-use Rattle.command_agent.specs.Steps.{abort_step, advanced, ahead_lost, ahead_of, ahead_read, ahead_step, answer_chunk, answer_step, check_step, checked, chunk_written, data_grown, data_read, data_step, dead_step, doorbell_in, doorbell_step, elements_read, end_step, fail_step, follow_step, judge_step, judged, lost_step, main_lost, next_read, orb_read, point_in, point_step, quiet, ran_as, reply_step, reread_step, run_step, sent, served, status_written, table_read, told_or, turn_step, turned, unread_buffer, wait_step, with_ahead, with_outcome}
+use Rattle.command_agent.specs.Steps.{abort_step, advanced, ahead_lost, ahead_of, ahead_read, ahead_step, answer_chunk, answer_step, check_step, checked, chunk_written, data_grown, data_read, data_step, dead_step, doorbell_in, doorbell_step, elements_read, end_step, fail_step, fetch_step, follow_step, judge_step, judged, lost_step, main_lost, next_read, orb_read, point_in, point_step, quiet, ran_as, reply_step, reread_step, run_step, sent, served, status_written, table_read, told_or, turn_step, turned, unread_buffer, wait_step, with_ahead, with_outcome}
 use Rattle.command_agent.specs.Steps as steps
 use Rattle.agent_lists.specs.Requests.{ahead_ask, ahead_under, main_ask, main_under}
 use Rattle.agent_terms.specs.Asked.{IsBare, IsStill, IsUnder, UnderLaw, asks, reads_none}
+use Rattle.agent_terms.proofs.Sized.{answer_sized, idle_sized, nothing_sized, read_sized, write_sized}
 
 no : false ≡ true → ⊥
 no e = cc
@@ -54,36 +55,36 @@ idle_asks (aheads.Kept orb) next other e = refl
 
 -- ---- the present ORB ends, or the agent becomes dead
 ends : (ahead : Ask) (m : Machine) (kind : StatusKind) (dead : Option FailCause) → (is_ahead m.ahead ≡ true → ahead_under m ≡ ahead) → IsUnder ahead (end_step m kind dead)
-ends ahead m kind None h = record { main = λ e. refl; status = λ e. refl; turned = λ e. absurd (no e); asked = λ e. absurd (no e); kept = λ e f. h f }
-ends ahead m kind (Some cause) h = record { main = λ e. refl; status = λ e. refl; turned = λ e. absurd (no e); asked = λ e. absurd (no e); kept = λ e f. absurd (no f) }
+ends ahead m kind None h = record { main = λ e. refl; status = λ e. refl; turned = λ e. absurd (no e); asked = λ e. absurd (no e); kept = λ e f. h f; sized = write_sized (end_step m kind None).1 _ _ refl refl }
+ends ahead m kind (Some cause) h = record { main = λ e. refl; status = λ e. refl; turned = λ e. absurd (no e); asked = λ e. absurd (no e); kept = λ e f. absurd (no f); sized = write_sized (end_step m kind (Some cause)).1 _ _ refl refl }
 
 dies : (ahead : Ask) (m : Machine) (cause : FailCause) → IsUnder ahead (dead_step m cause)
-dies ahead m cause = record { main = λ e. absurd (no e); status = λ e. absurd (no e); turned = λ e. absurd (no e); asked = λ e. absurd (no e); kept = λ e f. absurd (no f) }
+dies ahead m cause = record { main = λ e. absurd (no e); status = λ e. absurd (no e); turned = λ e. absurd (no e); asked = λ e. absurd (no e); kept = λ e f. absurd (no f); sized = nothing_sized (dead_step m cause).1 refl }
 
 under_if : (ahead : Ask) (b : Bool) (x y : AgentStep × Machine) → IsUnder ahead x → IsUnder ahead y → IsUnder ahead (cond b x y)
 under_if ahead true x y p q = p
 under_if ahead false x y p q = q
 
 -- nothing is asked for
-stays : (ahead : Ask) (m : Machine) → (is_ahead m.ahead ≡ true → ahead_under m ≡ ahead) → IsUnder ahead (quiet, m)
-stays ahead m h = record { main = λ e. absurd (no e); status = λ e. absurd (no e); turned = λ e. absurd (no e); asked = λ e. absurd (no e); kept = λ e f. h f }
+stays : (ahead : Ask) (m : Machine) → is_sent m.phase ≡ false → (is_ahead m.ahead ≡ true → ahead_under m ≡ ahead) → IsUnder ahead (quiet, m)
+stays ahead m i h = record { main = λ e. absurd (no e); status = λ e. absurd (no e); turned = λ e. absurd (no e); asked = λ e. absurd (no e); kept = λ e f. h f; sized = idle_sized m i }
 
 rereads : (ahead : Ask) (m : Machine) → (is_ahead m.ahead ≡ true → ahead_under m ≡ ahead) → IsUnder ahead (reread_step m)
-rereads ahead m h = record { main = λ e. refl; status = λ e. refl; turned = λ e. absurd (no e); asked = λ e. absurd (no e); kept = λ e f. h f }
+rereads ahead m h = record { main = λ e. refl; status = λ e. refl; turned = λ e. absurd (no e); asked = λ e. absurd (no e); kept = λ e f. h f; sized = read_sized (reread_step m).1 _ _ refl }
 
 waits : (ahead : Ask) (m : Machine) → (is_ahead m.ahead ≡ true → ahead_under m ≡ ahead) → IsUnder ahead (wait_step m)
-waits ahead m h = under_if ahead m.doorbell (reread_step m) (quiet, record m { phase = phases.Suspended }) (rereads ahead m h) (stays ahead (record m { phase = phases.Suspended }) h)
+waits ahead m h = under_if ahead m.doorbell (reread_step m) (quiet, record m { phase = phases.Suspended }) (rereads ahead m h) (stays ahead (record m { phase = phases.Suspended }) refl h)
 
 -- ---- data and answers
 takes : (ahead : Ask) (m : Machine) (wanted : ℕ) → (is_ahead m.ahead ≡ true → ahead_under m ≡ ahead) → IsUnder ahead (data_step m wanted)
-takes ahead m wanted h = record { main = λ e. refl; status = λ e. refl; turned = λ e. absurd (no e); asked = λ e. absurd (no e); kept = λ e f. h f }
+takes ahead m wanted h = record { main = λ e. refl; status = λ e. refl; turned = λ e. absurd (no e); asked = λ e. absurd (no e); kept = λ e f. h f; sized = read_sized (data_step m wanted).1 _ _ refl }
 
 answers : (ahead : Ask) (m : Machine) → (is_ahead m.ahead ≡ true → ahead_under m ≡ ahead) → IsUnder ahead (answer_step m)
-answers ahead m h = record { main = λ e. refl; status = λ e. refl; turned = λ e. absurd (no e); asked = λ e. absurd (no e); kept = λ e f. h f }
+answers ahead m h = record { main = λ e. refl; status = λ e. refl; turned = λ e. absurd (no e); asked = λ e. absurd (no e); kept = λ e f. h f; sized = answer_sized m }
 
 -- ---- a command runs
 outcome_told : (ahead : Ask) (outcome : Outcome) (s : AgentStep × Machine) → IsUnder ahead s → IsUnder ahead (with_outcome outcome s)
-outcome_told ahead outcome s u = record { main = u.main; status = u.status; turned = u.turned; asked = u.asked; kept = u.kept }
+outcome_told ahead outcome s u = record { main = u.main; status = u.status; turned = u.turned; asked = u.asked; kept = u.kept; sized = u.sized }
 
 ran : (ahead : Ask) (m : Machine) (outcome : Outcome) → (is_ahead m.ahead ≡ true → ahead_under m ≡ ahead) → IsUnder ahead (ran_as m outcome)
 ran ahead m (outcomes.Check sense) h = ends ahead m (kinds.Check sense) None h
@@ -100,7 +101,7 @@ judges ahead m told (needs.Payload len) h = takes ahead m len h
 
 -- ---- the checks of an ORB, behind which the read ahead may follow
 tables : (ahead : Ask) (m : Machine) → (is_ahead m.ahead ≡ true → ahead_under m ≡ ahead) → IsUnder ahead (steps.asks (Read m.orb.descriptor (8 * m.orb.data_size)), record m { phase = phases.ReadingTable })
-tables ahead m h = record { main = λ e. refl; status = λ e. refl; turned = λ e. absurd (no e); asked = λ e. absurd (no e); kept = λ e f. h f }
+tables ahead m h = record { main = λ e. refl; status = λ e. refl; turned = λ e. absurd (no e); asked = λ e. absurd (no e); kept = λ e f. h f; sized = read_sized (record m { phase = phases.ReadingTable }) _ _ refl }
 
 checks : (ahead : Ask) (v : Option StatusKind) (m : Machine) (place : ℕ) (plain : PlainDisk) (told : Told) → (is_ahead m.ahead ≡ true → ahead_under m ≡ ahead) → IsUnder ahead (checked m place plain told v)
 checks ahead (Some kind) m place plain told h = ends ahead m kind (death_by kind) h
@@ -121,6 +122,7 @@ ahead_asks ahead None (At next) s p n u = record {
   turned = λ e. absurd (no (sym p ∙ e));
   asked = λ e. ap (λ (o : OrbPointer). ahead_ask (aheads.UnderWay s.1.doorbell) o) n;
   kept = λ e f. absurd (no_2 e);
+  sized = record { bytes = λ offset size e. u.sized.bytes offset size (sym (main_still s.1.phase s.1 _ false s.1.aborted) ∙ e) };
 }
 ahead_asks ahead None Null s p n u = u
 ahead_asks ahead (Some cause) (At next) s p n u = u
@@ -162,8 +164,8 @@ module _ (place : ℕ) (plain : PlainDisk) (told : Told) (ahead : Ask) where
   moved_if false x y p q = q
 
   turns : (m : Machine) (next : ℕ) (a : ReadAhead) → (is_ahead a ≡ true → ahead_ask a (At next) ≡ ahead) → Moved (turn_step m next a)
-  turns m next aheads.Idle h = record { main = λ e. refl; status = λ e. refl; turned = λ e. absurd (no e); asked = λ e. absurd (no e); kept = λ e f. absurd (no f) }
-  turns m next (aheads.UnderWay rung) h = record { main = λ e. absurd (no e); status = λ e. absurd (no e); turned = λ e. h refl; asked = λ e. absurd (no e); kept = λ e f. absurd (no f) }
+  turns m next aheads.Idle h = record { main = λ e. refl; status = λ e. refl; turned = λ e. absurd (no e); asked = λ e. absurd (no e); kept = λ e f. absurd (no f); sized = read_sized (fetch_step m next).1 _ _ refl }
+  turns m next (aheads.UnderWay rung) h = record { main = λ e. absurd (no e); status = λ e. absurd (no e); turned = λ e. h refl; asked = λ e. absurd (no e); kept = λ e f. absurd (no f); sized = read_sized (turned m next) _ _ refl }
   turns m next (aheads.Kept orb) h = checks_then ahead (record (turned m next) { orb = orb }) place plain told refl
 
   follows : (m : Machine) (next : OrbPointer) → m.orb.next ≡ next → Reads m → Moved (follow_step m next)
@@ -209,38 +211,38 @@ module _ (place : ℕ) (plain : PlainDisk) (told : Told) (ahead : Ask) where
       let m' = record m { written = m.written + answer_chunk m } in
       under_if ahead (m'.written == length m'.answer) (end_step m' kinds.Good None) (answer_step m') (ends ahead m' kinds.Good None h) (answers ahead m' h)
 
-  advances : (phase : Phase) (m : Machine) (answer : Answer) → (reads_none phase ≡ true → is_ahead m.ahead ≡ false) → Reads m → Moved (advanced phase m answer)
-  advances phases.Fetching m answer b h = orb_is m (payload_of answer 32) (b refl)
-  advances phases.ReadingTable m answer b h = table_is m (payload_of answer (8 * m.orb.data_size)) h
-  advances (phases.ReadingData wanted) m answer b h = data_is m wanted (payload_of answer (chunk_of m (length m.payload) wanted).length) h
-  advances phases.Answering m answer b h = chunk_is m (write_failure answer) h
-  advances phases.WritingStatus m answer b h = status_is m (write_failure answer) h
-  advances phases.ReadingNext m answer b h = next_is m (payload_of answer 8) (b refl)
-  advances phases.WritingLastStatus m answer b h = stays ahead (record m { phase = phases.Dead }) h
-  advances phases.Reset m answer b h = stays ahead m h
-  advances phases.Suspended m answer b h = stays ahead m h
-  advances phases.Dead m answer b h = stays ahead m h
+  advances : (phase : Phase) (m : Machine) (answer : Answer) → m.phase ≡ phase → (reads_none phase ≡ true → is_ahead m.ahead ≡ false) → Reads m → Moved (advanced phase m answer)
+  advances phases.Fetching m answer i b h = orb_is m (payload_of answer 32) (b refl)
+  advances phases.ReadingTable m answer i b h = table_is m (payload_of answer (8 * m.orb.data_size)) h
+  advances (phases.ReadingData wanted) m answer i b h = data_is m wanted (payload_of answer (chunk_of m (length m.payload) wanted).length) h
+  advances phases.Answering m answer i b h = chunk_is m (write_failure answer) h
+  advances phases.WritingStatus m answer i b h = status_is m (write_failure answer) h
+  advances phases.ReadingNext m answer i b h = next_is m (payload_of answer 8) (b refl)
+  advances phases.WritingLastStatus m answer i b h = stays ahead (record m { phase = phases.Dead }) refl h
+  advances phases.Reset m answer i b h = stays ahead m (ap is_sent i) h
+  advances phases.Suspended m answer i b h = stays ahead m (ap is_sent i) h
+  advances phases.Dead m answer i b h = stays ahead m (ap is_sent i) h
 
 replies : (m : Machine) (place : ℕ) (plain : PlainDisk) (told : Option Told) (answer : Answer) → IsBare m → IsUnder (ahead_under m) (reply_step m place plain told Main answer)
 unfolding reply_step
-replies m place plain told answer b = advances place plain (told_or told) (ahead_under m) m.phase m answer b.bare (λ e. refl)
+replies m place plain told answer b = advances place plain (told_or told) (ahead_under m) m.phase m answer refl b.bare (λ e. refl)
 
 -- ---- the losses
-loses_by : (phase : Phase) (m : Machine) (cause : FailCause) → IsUnder (ahead_under m) (main_lost phase m cause)
-loses_by phases.Fetching m cause = ends (ahead_under m) m kinds.Failed (Some cause) (λ e. refl)
-loses_by phases.ReadingTable m cause = ends (ahead_under m) m kinds.Failed (Some cause) (λ e. refl)
-loses_by (phases.ReadingData wanted) m cause = ends (ahead_under m) m kinds.Failed (Some cause) (λ e. refl)
-loses_by phases.Answering m cause = ends (ahead_under m) m kinds.Failed (Some cause) (λ e. refl)
-loses_by phases.WritingStatus m cause = dies (ahead_under m) m cause
-loses_by phases.ReadingNext m cause = dies (ahead_under m) m cause
-loses_by phases.WritingLastStatus m cause = stays (ahead_under m) (record m { phase = phases.Dead }) (λ e. refl)
-loses_by phases.Reset m cause = stays (ahead_under m) m (λ e. refl)
-loses_by phases.Suspended m cause = stays (ahead_under m) m (λ e. refl)
-loses_by phases.Dead m cause = stays (ahead_under m) m (λ e. refl)
+loses_by : (phase : Phase) (m : Machine) (cause : FailCause) → m.phase ≡ phase → IsUnder (ahead_under m) (main_lost phase m cause)
+loses_by phases.Fetching m cause i = ends (ahead_under m) m kinds.Failed (Some cause) (λ e. refl)
+loses_by phases.ReadingTable m cause i = ends (ahead_under m) m kinds.Failed (Some cause) (λ e. refl)
+loses_by (phases.ReadingData wanted) m cause i = ends (ahead_under m) m kinds.Failed (Some cause) (λ e. refl)
+loses_by phases.Answering m cause i = ends (ahead_under m) m kinds.Failed (Some cause) (λ e. refl)
+loses_by phases.WritingStatus m cause i = dies (ahead_under m) m cause
+loses_by phases.ReadingNext m cause i = dies (ahead_under m) m cause
+loses_by phases.WritingLastStatus m cause i = stays (ahead_under m) (record m { phase = phases.Dead }) refl (λ e. refl)
+loses_by phases.Reset m cause i = stays (ahead_under m) m (ap is_sent i) (λ e. refl)
+loses_by phases.Suspended m cause i = stays (ahead_under m) m (ap is_sent i) (λ e. refl)
+loses_by phases.Dead m cause i = stays (ahead_under m) m (ap is_sent i) (λ e. refl)
 
 losses : (m : Machine) (cause : FailCause) → IsBare m → IsUnder (ahead_under m) (lost_step m Main cause)
 unfolding lost_step
-losses m cause b = loses_by m.phase m cause
+losses m cause b = loses_by m.phase m cause refl
 
 -- ---- the read ahead is over
 pub still : (m : Machine) (ahead : ReadAhead) (doorbell aborted : Bool) → IsStill m (record m { ahead = ahead; doorbell = doorbell; aborted = aborted })

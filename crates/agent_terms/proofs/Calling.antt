@@ -44,13 +44,13 @@ use Rattle.target_laws.proofs.Calling.{Good}
 use Rattle.target_laws.proofs.Found.{IsFound, found}
 use Rattle.target_laws.proofs.Primitives.{Known, closing_known, expiring_known, live_on}
 use Rattle.target_laws.proofs.Seats.{Lives}
-use Rattle.target_terms.specs.Calls.{delivered, demanded, lapsed, requested}
-use Rattle.target_terms.specs.Offices.{Agrees, Office, by_sides, replied, started, started_by, ticked}
-use Rattle.target_terms.proofs.Calls.{barred_same}
-use Rattle.target_terms.proofs.Calm.{Calm, From, accesses_by, answers, cuts_all, expires_agent, replies}
-use Rattle.target_terms.proofs.Managing.{quiet_says}
-use Rattle.target_terms.proofs.Places.{AreApart, sound_apart}
-use Rattle.target_terms.proofs.Sides.{sides_more}
+use Rattle.agent_terms.specs.Management.Calls.{delivered, demanded, lapsed, requested}
+use Rattle.agent_terms.specs.Management.Offices.{Agrees, Office, by_sides, replied, started, started_by, ticked}
+use Rattle.agent_terms.proofs.Management.Calls.{barred_same}
+use Rattle.agent_terms.proofs.Management.Calm.{Calm, From, accesses_by, answers, cuts_all, expires_agent, replies}
+use Rattle.agent_terms.proofs.Management.Managing.{quiet_says}
+use Rattle.agent_terms.proofs.Management.Places.{AreApart, sound_apart}
+use Rattle.agent_terms.proofs.Management.Sides.{sides_more}
 use Rattle.agent_terms.proofs.Placed.{Placed, held_placed, left_placed, second_placed}
 use Rattle.agent_terms.proofs.Telling.{IsTold, Of, all_quiet, asks_told, reply_told, told_more, told_snoc}
 

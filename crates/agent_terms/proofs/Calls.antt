@@ -30,8 +30,8 @@ use Rattle.target_laws.proofs.Calling.{Good, not_eight}
 use Rattle.target_laws.proofs.Following.{IsServed}
 use Rattle.target_laws.proofs.Rested.{Came, came_for, for_ahead, for_main}
 use Rattle.target_laws.proofs.Seats.{split}
-use Rattle.target_terms.proofs.Calm.{AreQuiet}
-use Rattle.target_terms.specs.Offices.{Office}
+use Rattle.agent_terms.proofs.Management.Calm.{AreQuiet}
+use Rattle.agent_terms.specs.Management.Offices.{Office}
 use Rattle.agent_terms.specs.Calls.{AreOf, Follow, replied}
 use Rattle.agent_terms.specs.Crews.{Request, ToldAlike, agent_in, crew_over, crew_packets, crew_sides, with_requests}
 use Rattle.agent_terms.proofs.Cuts.{AreCut, IsKept, cut_settled, kept_self}

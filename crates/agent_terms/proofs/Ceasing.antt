@@ -46,8 +46,8 @@ use Rattle.sbp_target.specs.Receiving.{expired_from, held_from, tell_held}
 use Rattle.sbp_target.specs.Sending.{answer_step, answered_by, request_step as asks_step, sent_by, with_side}
 use Rattle.sbp_target.specs.Serving.{answered, start, started_by}
 use Rattle.sbp_target.specs.Units.{clear_from, clear_unit, cut_all, cut_at, cut_from, is_cut}
-use Rattle.target_terms.specs.Offices.{Office, by_managed, by_side, by_sides, placed, placed_by}
-use Rattle.target_terms.proofs.Places.{AreApart}
+use Rattle.agent_terms.specs.Management.Offices.{Office, by_managed, by_side, by_sides, placed, placed_by}
+use Rattle.agent_terms.proofs.Management.Places.{AreApart}
 use Rattle.agent_terms.specs.Enabled.{AreLive, HasLive}
 use Rattle.agent_terms.proofs.Disabling.{AreDisabling, IsDisabling, all_disabled}
 use Rattle.agent_terms.proofs.Enabling.{ask_logins}

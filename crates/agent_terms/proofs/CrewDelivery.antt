@@ -24,12 +24,12 @@ use Rattle.sbp_world.proofs.Wire.Holding.{Sound}
 use Rattle.sbp_world.proofs.Wire.Nodes.{marked_alike}
 use Rattle.sbp_world.proofs.Wire.Starts.{laws_of}
 use Rattle.target_laws.proofs.Found.{found as found_as}
-use Rattle.target_terms.proofs.Calls.{delivery_does}
-use Rattle.target_terms.proofs.Holding.{Holding, handed_judged}
-use Rattle.target_terms.proofs.Sides.{AllBehind}
-use Rattle.target_terms.proofs.Still.{hist}
-use Rattle.target_terms.proofs.Told.{term_in}
-use Rattle.target_terms.specs.Calls as management
+use Rattle.agent_terms.proofs.Management.Calls.{delivery_does}
+use Rattle.agent_terms.proofs.Management.Holding.{Holding, handed_judged}
+use Rattle.agent_terms.proofs.Management.Sides.{AllBehind}
+use Rattle.agent_terms.proofs.Management.Still.{hist}
+use Rattle.agent_terms.proofs.Management.Told.{term_in}
+use Rattle.agent_terms.specs.Management.Calls as management
 use Rattle.agent_terms.specs.Calls.{AreOf, delivered}
 use Rattle.agent_terms.specs.Crews.{Request, with_requests}
 use Rattle.agent_terms.specs.Hands.{AllLeave}

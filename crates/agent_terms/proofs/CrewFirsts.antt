@@ -61,19 +61,19 @@ use Rattle.target_laws.specs.Transactions.{IsUnderWay, TransactionLaw}
 use Rattle.target_laws.proofs.Calling.{Good}
 use Rattle.target_laws.proofs.Found.{IsFound}
 use Rattle.target_laws.proofs.Primitives.{Closing, closing_known}
-use Rattle.target_terms.specs.Calls as management
-use Rattle.target_terms.specs.Offices.{Agrees, Office, office_of, replied as office_replied}
-use Rattle.target_terms.proofs.Awaiting.{under_for}
-use Rattle.target_terms.proofs.Calls.{barred_same}
-use Rattle.target_terms.proofs.Delivering.{answer_is}
-use Rattle.target_terms.proofs.Demands.{demand_is}
-use Rattle.target_terms.proofs.Firsts.{got_here, request_keeps}
-use Rattle.target_terms.proofs.Hearing.{IsAnswer, answers, answers_none, label_number}
-use Rattle.target_terms.proofs.Holding.{Holding, is_of, marked_hist, was_sent}
-use Rattle.target_terms.proofs.Idle.{managed_idle, managed_office, over_idle}
-use Rattle.target_terms.proofs.Offices.{over_keeps}
-use Rattle.target_terms.proofs.Still.{hist}
-use Rattle.target_terms.proofs.Told.{term_in}
+use Rattle.agent_terms.specs.Management.Calls as management
+use Rattle.agent_terms.specs.Management.Offices.{Agrees, Office, office_of, replied as office_replied}
+use Rattle.agent_terms.proofs.Management.Awaiting.{under_for}
+use Rattle.agent_terms.proofs.Management.Calls.{barred_same}
+use Rattle.agent_terms.proofs.Management.Delivering.{answer_is}
+use Rattle.agent_terms.proofs.Management.Demands.{demand_is}
+use Rattle.agent_terms.proofs.Management.Firsts.{got_here, request_keeps}
+use Rattle.agent_terms.proofs.Management.Hearing.{IsAnswer, answers, answers_none, label_number}
+use Rattle.agent_terms.proofs.Management.Holding.{Holding, is_of, marked_hist, was_sent}
+use Rattle.agent_terms.proofs.Management.Idle.{managed_idle, managed_office, over_idle}
+use Rattle.agent_terms.proofs.Management.Offices.{over_keeps}
+use Rattle.agent_terms.proofs.Management.Still.{hist}
+use Rattle.agent_terms.proofs.Management.Told.{term_in}
 use Rattle.agent_terms.specs.Calls.{AgentsKeep, AreOf, changed, delivered, demanded, managed, replied, requested}
 use Rattle.agent_terms.specs.Crews.{Request, ToldAlike, agent_in, answered as term_answered}
 use Rattle.agent_terms.specs.Hands.{run_told, run_untold}

@@ -45,17 +45,17 @@ use Rattle.sbp_world.proofs.Wire.Handles.{expired_generation}
 use Rattle.target_laws.specs.Transactions.{IsUnderWay, TransactionLaw}
 use Rattle.target_laws.proofs.Calling.{Good}
 use Rattle.target_laws.proofs.Primitives.{Expiring, expiring_known}
-use Rattle.target_terms.specs.Calls as management
-use Rattle.target_terms.specs.Offices.{Office, replied as office_replied}
-use Rattle.target_terms.proofs.Awaiting.{under_for}
-use Rattle.target_terms.proofs.Calls.{lapse_does}
-use Rattle.target_terms.proofs.Firsts.{lapsed_here}
-use Rattle.target_terms.proofs.Holding.{Holding, past_terms}
-use Rattle.target_terms.proofs.Idle.{managed_idle, managed_office, over_idle}
-use Rattle.target_terms.proofs.Lapse.{asked_as, entry, from_asked}
-use Rattle.target_terms.proofs.Sides.{AllBehind}
-use Rattle.target_terms.proofs.Still.{hist}
-use Rattle.target_terms.proofs.Told.{term_in}
+use Rattle.agent_terms.specs.Management.Calls as management
+use Rattle.agent_terms.specs.Management.Offices.{Office, replied as office_replied}
+use Rattle.agent_terms.proofs.Management.Awaiting.{under_for}
+use Rattle.agent_terms.proofs.Management.Calls.{lapse_does}
+use Rattle.agent_terms.proofs.Management.Firsts.{lapsed_here}
+use Rattle.agent_terms.proofs.Management.Holding.{Holding, past_terms}
+use Rattle.agent_terms.proofs.Management.Idle.{managed_idle, managed_office, over_idle}
+use Rattle.agent_terms.proofs.Management.Lapse.{asked_as, entry, from_asked}
+use Rattle.agent_terms.proofs.Management.Sides.{AllBehind}
+use Rattle.agent_terms.proofs.Management.Still.{hist}
+use Rattle.agent_terms.proofs.Management.Told.{term_in}
 use Rattle.agent_terms.specs.Calls.{AreOf, Follow, changed, lapsed, managed, replied}
 use Rattle.agent_terms.specs.Crews.{Request, agent_in, answered as term_answered, with_requests}
 use Rattle.agent_terms.specs.Hands.{resumed, run_told, run_untold}

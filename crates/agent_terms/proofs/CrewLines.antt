@@ -37,12 +37,12 @@ use Rattle.sbp_world.proofs.Wire.Comes.{own_inside, own_outside, received_is, to
 use Rattle.sbp_world.proofs.Wire.Holding.{Sound}
 use Rattle.sbp_world.proofs.Wire.Nodes.{handed_alike, marked_alike}
 use Rattle.sbp_world.proofs.Wire.ToldBytes.{AreTold}
-use Rattle.target_terms.proofs.Holding.{Holding, marked_hist, was_sent}
-use Rattle.target_terms.proofs.Idle.{over_idle}
-use Rattle.target_terms.proofs.InitiatorTells as own
-use Rattle.target_terms.proofs.Lines.{all_heard, line_holds, opens}
-use Rattle.target_terms.proofs.Still.{hist}
-use Rattle.target_terms.proofs.Told.{term_in}
+use Rattle.agent_terms.proofs.Management.Holding.{Holding, marked_hist, was_sent}
+use Rattle.agent_terms.proofs.Management.Idle.{over_idle}
+use Rattle.agent_terms.proofs.Management.InitiatorTells as own
+use Rattle.agent_terms.proofs.Management.Lines.{all_heard, line_holds, opens}
+use Rattle.agent_terms.proofs.Management.Still.{hist}
+use Rattle.agent_terms.proofs.Management.Told.{term_in}
 use Rattle.agent_terms.specs.Calls.{AreOf}
 use Rattle.agent_terms.specs.Crews.{with_requests}
 use Rattle.agent_terms.proofs.Asides.{asides_law}

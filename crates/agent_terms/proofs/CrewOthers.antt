@@ -20,9 +20,9 @@ use Rattle.sbp_world.specs.Handing.{handed_out}
 use Rattle.sbp_world.specs.Sending.{asked, posted, sent, sent_all, sent_to}
 use Rattle.sbp_world.specs.Telling.{told, told_all}
 use Rattle.sbp_world.specs.Worlds.{WorldState}
-use Rattle.target_terms.proofs.Firsts.{wire_is}
-use Rattle.target_terms.proofs.Owned.{AreOwn, IsNoRun}
-use Rattle.target_terms.proofs.Told.{term_in}
+use Rattle.agent_terms.proofs.Management.Firsts.{wire_is}
+use Rattle.agent_terms.proofs.Management.Owned.{AreOwn, IsNoRun}
+use Rattle.agent_terms.proofs.Management.Told.{term_in}
 use Rattle.agent_terms.proofs.Asides.{settled_over}
 
 -- ---- a note of another node, where no reply waits

@@ -37,13 +37,13 @@ use Rattle.sbp_world.specs.Settling.{after_all}
 use Rattle.sbp_world.specs.Worlds.{Scene, WorldState, initiator_at, with_initiator, with_note, with_target}
 use Rattle.sbp_world.proofs.Wire.Holding.{Sound}
 use Rattle.sbp_world.proofs.Wire.Nodes.{handed_alike}
-use Rattle.target_terms.proofs.Holding.{Holding}
-use Rattle.target_terms.proofs.Idle.{over_idle}
-use Rattle.target_terms.proofs.InitiatorTells as own
-use Rattle.target_terms.proofs.Lapse.{from_asked}
-use Rattle.target_terms.proofs.Owned.{AreOwn}
-use Rattle.target_terms.proofs.Still.{hist}
-use Rattle.target_terms.proofs.Told.{term_in}
+use Rattle.agent_terms.proofs.Management.Holding.{Holding}
+use Rattle.agent_terms.proofs.Management.Idle.{over_idle}
+use Rattle.agent_terms.proofs.Management.InitiatorTells as own
+use Rattle.agent_terms.proofs.Management.Lapse.{from_asked}
+use Rattle.agent_terms.proofs.Management.Owned.{AreOwn}
+use Rattle.agent_terms.proofs.Management.Still.{hist}
+use Rattle.agent_terms.proofs.Management.Told.{term_in}
 use Rattle.agent_terms.specs.Asides.{MayGoOn}
 use Rattle.agent_terms.specs.Calls.{AreOf}
 use Rattle.agent_terms.specs.Crews.{Request, with_requests}

@@ -13,12 +13,12 @@ use Rattle.sbp_world.specs.Settling.{MayAll, after_all}
 use Rattle.sbp_world.specs.Worlds.{Scene, WorldState, begun}
 use Rattle.sbp_world.specs.Wire.Lines.{AreLines}
 use Rattle.sbp_world.proofs.Wire.ToldBytes.{happened_fits}
-use Rattle.target_terms.specs.Terms.{DeliversMore}
-use Rattle.target_terms.proofs.Begins.{first_holds, first_past}
-use Rattle.target_terms.proofs.Holding.{Holding}
-use Rattle.target_terms.proofs.Lines.{line_holds, opens}
-use Rattle.target_terms.proofs.Runs.{are_told, no_repeats, not_reset}
-use Rattle.target_terms.proofs.Still.{hist}
+use Rattle.agent_terms.specs.Management.Terms.{DeliversMore}
+use Rattle.agent_terms.proofs.Management.Begins.{first_holds, first_past}
+use Rattle.agent_terms.proofs.Management.Holding.{Holding}
+use Rattle.agent_terms.proofs.Management.Lines.{line_holds, opens}
+use Rattle.agent_terms.proofs.Management.Runs.{are_told, no_repeats, not_reset}
+use Rattle.agent_terms.proofs.Management.Still.{hist}
 use Rattle.agent_terms.specs.Agents.{AgentsBetweenLaw, AgentsRunLaw, AreAgentsAt, ArePurposedAt, SerialsBetweenLaw, SerialsLaw}
 use Rattle.agent_terms.proofs.CrewLines.{LineUnits, all_crew, line_crew, opened}
 use Rattle.agent_terms.proofs.CrewPass.{AllUnits, Crewed, UnitsAre}

@@ -28,7 +28,7 @@ use Rattle.target_laws.proofs.Following.{IsServed}
 use Rattle.target_laws.proofs.Primitives.{Known}
 use Rattle.target_laws.proofs.Rested.{Came, came_for, for_ahead, for_main}
 use Rattle.target_laws.proofs.Seats.{IsFor, Lives}
-use Rattle.target_terms.proofs.Holding.{Holding}
+use Rattle.agent_terms.proofs.Management.Holding.{Holding}
 use Rattle.agent_terms.specs.Serials.{kept_as}
 use Rattle.agent_terms.proofs.Purposes.{g, label_generation, state_is}
 

@@ -21,14 +21,14 @@ use Rattle.sbp_world.specs.Wire.Wires.{Stands}
 use Rattle.sbp_world.proofs.Wire.Bus.{aged, holds}
 use Rattle.sbp_world.proofs.Wire.Forgets.{seen_stays, ticked_stays}
 use Rattle.target_laws.proofs.Calling.{Good}
-use Rattle.target_terms.specs.Calls as management
-use Rattle.target_terms.specs.Offices.{Office, office_of, ticked}
-use Rattle.target_terms.proofs.Calls.{forgets_if}
-use Rattle.target_terms.proofs.Firsts.{wire_is}
-use Rattle.target_terms.proofs.Holding.{Holding, target_generation}
-use Rattle.target_terms.proofs.Resting.{second_rests, sight_rests}
-use Rattle.target_terms.proofs.Still.{hist}
-use Rattle.target_terms.proofs.Told.{term_in}
+use Rattle.agent_terms.specs.Management.Calls as management
+use Rattle.agent_terms.specs.Management.Offices.{Office, office_of, ticked}
+use Rattle.agent_terms.proofs.Management.Calls.{forgets_if}
+use Rattle.agent_terms.proofs.Management.Firsts.{wire_is}
+use Rattle.agent_terms.proofs.Management.Holding.{Holding, target_generation}
+use Rattle.agent_terms.proofs.Management.Resting.{second_rests, sight_rests}
+use Rattle.agent_terms.proofs.Management.Still.{hist}
+use Rattle.agent_terms.proofs.Management.Told.{term_in}
 use Rattle.agent_terms.specs.Calls.{AreOf, seen}
 use Rattle.agent_terms.specs.Crews.{Request, with_requests}
 use Rattle.agent_terms.specs.Hands.{AllLeave}

@@ -10,11 +10,11 @@ use Rattle.sbp_target.specs.Nodes.{NodeState, Scene as TargetScene}
 use Rattle.sbp_world.specs.Handing.{handed_out}
 use Rattle.sbp_world.specs.Worlds.{WorldState}
 use Rattle.target_laws.proofs.Seats.{Lives}
-use Rattle.target_terms.specs.Offices.{Office, office_of}
-use Rattle.target_terms.proofs.Calls.{Doing, calmly, managing}
-use Rattle.target_terms.proofs.Managing.{quiet_says}
-use Rattle.target_terms.proofs.Sides.{AllBehind}
-use Rattle.target_terms.proofs.Told.{term_in}
+use Rattle.agent_terms.specs.Management.Offices.{Office, office_of}
+use Rattle.agent_terms.proofs.Management.Calls.{Doing, calmly, managing}
+use Rattle.agent_terms.proofs.Management.Managing.{quiet_says}
+use Rattle.agent_terms.proofs.Management.Sides.{AllBehind}
+use Rattle.agent_terms.proofs.Management.Told.{term_in}
 use Rattle.agent_terms.specs.Calls.{AreOf, Follow}
 use Rattle.agent_terms.specs.Crews.{Request, crew_over, crew_packets, crew_sides, with_requests}
 use Rattle.agent_terms.specs.Hands.{AllLeave, AreTold, MayResume, resumed}

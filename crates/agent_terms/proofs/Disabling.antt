@@ -37,9 +37,9 @@ use Rattle.sbp_laws.specs.Turns.{event_of}
 use Rattle.sbp_world.specs.Sending.{asked, posted, sent, sent_all, sent_to}
 use Rattle.sbp_world.specs.Telling.{holder, initiator_of, told, told_all}
 use Rattle.sbp_world.specs.Worlds.{WorldState, with_note}
-use Rattle.target_terms.specs.Offices.{Office, by_side}
-use Rattle.target_terms.proofs.Sides.{AllBehind, TellsBehind}
-use Rattle.target_terms.proofs.Told.{office_in, one_side, term_in}
+use Rattle.agent_terms.specs.Management.Offices.{Office, by_side}
+use Rattle.agent_terms.proofs.Management.Sides.{AllBehind, TellsBehind}
+use Rattle.agent_terms.proofs.Management.Told.{office_in, one_side, term_in}
 
 -- ---- the same registers and the same table
 pub record Keeps (t now : Target) : Type 0 where

@@ -58,14 +58,14 @@ use Rattle.target_laws.proofs.Managing.{unlabelled}
 use Rattle.target_laws.proofs.Primitives.{Known, closing_known, expiring_known, live_on}
 use Rattle.target_laws.proofs.Seats.{Lives}
 use Rattle.target_laws.proofs.Settled.{all_good, reaches}
-use Rattle.target_terms.specs.Offices.{Office}
-use Rattle.target_terms.proofs.Calls.{barred_same}
-use Rattle.target_terms.proofs.Calm as calm
-use Rattle.target_terms.proofs.Calm.{Calm, From}
-use Rattle.target_terms.proofs.Managing.{decision_stands}
-use Rattle.target_terms.proofs.Lines.{all_heard, opens}
-use Rattle.target_terms.proofs.Runs.{are_told, holds_after, no_repeats, not_reset}
-use Rattle.target_terms.proofs.Still.{hist}
+use Rattle.agent_terms.specs.Management.Offices.{Office}
+use Rattle.agent_terms.proofs.Management.Calls.{barred_same}
+use Rattle.agent_terms.proofs.Management.Calm as calm
+use Rattle.agent_terms.proofs.Management.Calm.{Calm, From}
+use Rattle.agent_terms.proofs.Management.Managing.{decision_stands}
+use Rattle.agent_terms.proofs.Management.Lines.{all_heard, opens}
+use Rattle.agent_terms.proofs.Management.Runs.{are_told, holds_after, no_repeats, not_reset}
+use Rattle.agent_terms.proofs.Management.Still.{hist}
 use Rattle.agent_terms.specs.Enabled.{AreLive, EnabledBetweenLaw, EnabledLaw, HasLive}
 use Rattle.agent_terms.proofs.Enabled.{Enabled, accesses_by, clears_from, clears_one, cuts_all, cuts_placed, lapses, replies, set_enabled}
 use Rattle.agent_terms.proofs.Hiring.{reply_hires}

@@ -26,7 +26,7 @@ use Rattle.sbp_target.specs.Sending.{request_step, sent_by, with_packet}
 use Rattle.sbp_target.specs.Telling.{tell_step}
 use Rattle.sbp_target.specs.declared.desk.Desk.{Desk}
 use Rattle.target_laws.proofs.Stepped.{Behind, Carries, Fit, Lost, ahead_loses, is_asked, is_bare, last_loses, main_loses}
-use Rattle.target_terms.proofs.Requests.{writes_body}
+use Rattle.agent_terms.proofs.Management.Requests.{writes_body}
 use Rattle.agent_terms.specs.Alike.{Alike}
 use Rattle.agent_terms.specs.Crews.{Request, with_requests}
 use Rattle.agent_terms.proofs.Serials.{Paired, Turning, more_has, more_within, number_after, one_more, one_unless, paired_as, paired_more, paired_unless, requests_within}

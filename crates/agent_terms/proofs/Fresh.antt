@@ -34,7 +34,7 @@ use Rattle.sbp_world.proofs.Wire.Holding.{KnownTo, known_small, target_has}
 use Rattle.target_laws.proofs.Calling.{Good}
 use Rattle.target_laws.proofs.Primitives.{Known, asks_known}
 use Rattle.target_laws.proofs.Seats.{same_is, same_self}
-use Rattle.target_terms.proofs.Holding.{Holding, ours}
+use Rattle.agent_terms.proofs.Management.Holding.{Holding, ours}
 use Rattle.agent_terms.specs.Crews.{Has, Request, with_requests}
 use Rattle.agent_terms.specs.Fresh.{AreNew, LabelsAreNew}
 use Rattle.agent_terms.proofs.Leaving.{good, led_to, source_known}

@@ -25,12 +25,12 @@ use Rattle.sbp_world.proofs.Wire.Holding.{KnownTo}
 use Rattle.target_laws.specs.Transactions.{IsThat, IsUnderWay, TransactionLaw}
 use Rattle.target_laws.proofs.Calling.{Good}
 use Rattle.target_laws.proofs.Seats.{IsFor}
-use Rattle.target_terms.specs.Offices.{Office}
-use Rattle.target_terms.specs.Terms.{Awaits}
-use Rattle.target_terms.proofs.Awaiting.{under_for}
-use Rattle.target_terms.proofs.Holding.{Holding, past_terms, same_id}
-use Rattle.target_terms.proofs.Offices.{over_keeps}
-use Rattle.target_terms.proofs.Still.{hist}
+use Rattle.agent_terms.specs.Management.Offices.{Office}
+use Rattle.agent_terms.specs.Management.Terms.{Awaits}
+use Rattle.agent_terms.proofs.Management.Awaiting.{under_for}
+use Rattle.agent_terms.proofs.Management.Holding.{Holding, past_terms, same_id}
+use Rattle.agent_terms.proofs.Management.Offices.{over_keeps}
+use Rattle.agent_terms.proofs.Management.Still.{hist}
 use Rattle.agent_terms.specs.Calls.{AreOf}
 use Rattle.agent_terms.specs.Crews.{AreOne, Request, agent_in}
 use Rattle.agent_terms.specs.Purposes.{HasRequest}
@@ -74,18 +74,18 @@ among_at k (a ∷ agents) (suc i) serial which l n e =
     ∙ among_at (k + 1) agents i serial which (omega arith) (λ j m. n (suc j) (omega arith)) e
     ∙ ap (λ m. for_agent m which) same
 
-serial_of : (x : Option ℕ) (serial : ℕ) → is_serial x serial ≡ true → x ≡ Some serial
-serial_of None serial e = absurd (no e)
-serial_of (Some s) serial e = let same : s ≡ serial = grind (arith, nat_tests) in ap Some same
+pub is_its_serial : (x : Option ℕ) (serial : ℕ) → is_serial x serial ≡ true → x ≡ Some serial
+is_its_serial None serial e = absurd (no e)
+is_its_serial (Some s) serial e = let same : s ≡ serial = grind (arith, nat_tests) in ap Some same
 
 is_that_serial : (x : Option ℕ) (s serial : ℕ) → x ≡ Some s → s ≡ serial → is_serial x serial ≡ true
 is_that_serial x s serial e f = ap (λ m. is_serial m serial) e ∙ (let z : nat_eq s serial ≡ true = grind (arith, nat_tests) in z)
 
-record There (x : Option Sent) : Type 0 where
-  sent : Sent
-  is : x ≡ Some sent
+pub record There (x : Option Sent) : Type 0 where
+  pub sent : Sent
+  pub is : x ≡ Some sent
 
-there : (x : Option Sent) → is_some x ≡ true → There x
+pub there : (x : Option Sent) → is_some x ≡ true → There x
 there None e = absurd (no e)
 there (Some sent) e = record { sent = sent; is = refl }
 
@@ -146,10 +146,10 @@ module _ (units ready : ℕ) (has : 0 < units) (start : List Disk) {past : List 
 
   module _ (requests : List Request) (are : AreOf requests T.agents w.target) (known : AreKnown requests w.target w.requests) where
     -- what an agent waits for is the request of what its desk keeps
-    record Own (p : ℕ) (sent : Sent) (s : ℕ) : Type 0 where
-      request : HasRequest t w.requests sent
-      serial_is : request.serial ≡ s
-      under : IsUnderWay layer (Some (purposes.Agent p)) sent.peer sent.label.number
+    pub record Own (p : ℕ) (sent : Sent) (s : ℕ) : Type 0 where
+      pub request : HasRequest t w.requests sent
+      pub serial_is : request.serial ≡ s
+      pub under : IsUnderWay layer (Some (purposes.Agent p)) sent.peer sent.label.number
 
     own : (p : ℕ) (sent : Sent) (f : IsFor G.lives (purposes.Agent p) sent) (k : KnownTo w.generations.seen sent.peer) (s : ℕ) → AreOne requests (Some sent) (Some s) → Own p sent s
     own p sent f k s one =
@@ -161,12 +161,12 @@ module _ (units ready : ℕ) (has : 0 < units) (start : List Disk) {past : List 
           under = under_for layer G.lives (Some (purposes.Agent p)) sent.peer sent.label f.kind G.mid.known f.life;
         }
 
-    own_main : (p : ℕ) → p < 8 → (sent : Sent) → (desk_at w.target p).main ≡ Some sent → (s : ℕ) → (agent_in T.agents p).main ≡ Some s → Own p sent s
+    pub own_main : (p : ℕ) → p < 8 → (sent : Sent) → (desk_at w.target p).main ≡ Some sent → (s : ℕ) → (agent_in T.agents p).main ≡ Some s → Own p sent s
     own_main p b sent e s f =
         own p sent ((G.mid.seats p b).main_for sent e).0 ((h.sound.nodes.target_holds.fits.seats p).main sent e).0 s
         (subst (λ (y : Option ℕ). AreOne requests (Some sent) y) f (subst (λ (y : Option Sent). AreOne requests y (agent_in T.agents p).main) e (are.each p b).main_is))
 
-    own_ahead : (p : ℕ) → p < 8 → (sent : Sent) → (desk_at w.target p).ahead ≡ Some sent → (s : ℕ) → (agent_in T.agents p).ahead ≡ Some s → Own p sent s
+    pub own_ahead : (p : ℕ) → p < 8 → (sent : Sent) → (desk_at w.target p).ahead ≡ Some sent → (s : ℕ) → (agent_in T.agents p).ahead ≡ Some s → Own p sent s
     own_ahead p b sent e s f =
         own p sent ((G.mid.seats p b).ahead_for sent e).0 ((h.sound.nodes.target_holds.fits.seats p).ahead sent e).0 s
         (subst (λ (y : Option ℕ). AreOne requests (Some sent) y) f (subst (λ (y : Option Sent). AreOne requests y (agent_in T.agents p).ahead) e (are.each p b).ahead_is))
@@ -215,11 +215,11 @@ module _ (units ready : ℕ) (has : 0 < units) (start : List Disk) {past : List 
         where
           main_by : (x : Bool) → is_serial (agent_in T.agents p).main serial ≡ x → x ≡ false
           main_by false e = refl
-          main_by true e = absurd (n (main_kept p b (serial_of (agent_in T.agents p).main serial e)).fit.purpose_is)
+          main_by true e = absurd (n (main_kept p b (is_its_serial (agent_in T.agents p).main serial e)).fit.purpose_is)
 
           ahead_by : (x : Bool) → is_serial (agent_in T.agents p).ahead serial ≡ x → x ≡ false
           ahead_by false e = refl
-          ahead_by true e = absurd (n (ahead_kept p b (serial_of (agent_in T.agents p).ahead serial e)).fit.purpose_is)
+          ahead_by true e = absurd (n (ahead_kept p b (is_its_serial (agent_in T.agents p).ahead serial e)).fit.purpose_is)
 
       -- the operation
       abbrev manages : Option ℕ
@@ -294,7 +294,7 @@ module _ (units ready : ℕ) (has : 0 < units) (start : List Disk) {past : List 
 
         by_test : (x : Bool) → is_serial (agent_in T.agents place).main serial ≡ x → IsForAgent T w.target place (ids peer) number serial
         by_test true e =
-            let k = main_kept place b (serial_of (agent_in T.agents place).main serial e) in
+            let k = main_kept place b (is_its_serial (agent_in T.agents place).main serial e) in
             record { which = Main; is = waits_as Main e; kept = record { sent = k.sent; is = k.is; peer_is = k.fit.peer_is; number_is = k.fit.number_is } }
         by_test false e = by_that e ((L.agents_have place b).no_more (ids peer) number here)
 

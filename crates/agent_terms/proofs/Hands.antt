@@ -22,9 +22,9 @@ use Rattle.sbp_laws.specs.Targets.{Agent, Reply, Target, going_on, is_write_acce
 use Rattle.sbp_world.specs.Sending.{asked, posted, sent, sent_all, sent_to}
 use Rattle.sbp_world.specs.Telling.{holder, initiator_of, told, told_all}
 use Rattle.sbp_world.specs.Worlds.{WorldState, with_note}
-use Rattle.target_terms.specs.Offices.{Office, by_side, office_of}
-use Rattle.target_terms.proofs.Sides.{AllBehind, TellsBehind}
-use Rattle.target_terms.proofs.Told.{one_side, term_in}
+use Rattle.agent_terms.specs.Management.Offices.{Office, by_side, office_of}
+use Rattle.agent_terms.proofs.Management.Sides.{AllBehind, TellsBehind}
+use Rattle.agent_terms.proofs.Management.Told.{one_side, term_in}
 use Rattle.agent_terms.specs.Calls.{changed}
 use Rattle.agent_terms.specs.Crews.{answered, crew_over, crew_packet, crew_packets, crew_side, crew_sides, sent_among}
 use Rattle.agent_terms.specs.Hands.{AllLeave, AreTold, HandsLaw, IsOfStep, IsPart, Leaves, MayResume, resumed}

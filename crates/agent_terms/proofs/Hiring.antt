@@ -38,8 +38,8 @@ use Rattle.sbp_journal.specs.declared.operation.FunctionWord.{FunctionWord}
 use Rattle.sbp_journal.specs.declared.operation.FunctionWord.TheVariants as words
 use Rattle.sbp_laws.specs.Targets.{Agent, Decided, decided_by, decided_in, new_agent}
 use Rattle.sbp_bus.specs.Words.{function_word, login_if}
-use Rattle.target_terms.specs.Offices.{Office}
-use Rattle.target_terms.proofs.Deciding.{Agrees, IsOther, agree, left_by, old_left}
+use Rattle.agent_terms.specs.Management.Offices.{Office}
+use Rattle.agent_terms.proofs.Management.Deciding.{Agrees, IsOther, agree, left_by, old_left}
 use Rattle.agent_terms.specs.Crews.{hired, hired_in}
 
 -- the new login has this place, which no live login had

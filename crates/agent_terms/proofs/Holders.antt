@@ -32,11 +32,11 @@ use Rattle.sbp_world.proofs.FitTarget.Law.{fitting_law}
 use Rattle.sbp_world.proofs.Wire.Found.{known_has}
 use Rattle.sbp_world.proofs.Wire.Starts.{first_id}
 use Rattle.sbp_world.proofs.Wire.ToldBytes.{happened_fits}
-use Rattle.target_terms.proofs.Begins.{first_holds}
-use Rattle.target_terms.proofs.Holding.{Holding, good_of, known_id, same_id}
-use Rattle.target_terms.proofs.Lines.{all_heard, opens}
-use Rattle.target_terms.proofs.Runs.{are_told, holds_after, no_repeats, not_reset}
-use Rattle.target_terms.proofs.Still.{hist}
+use Rattle.agent_terms.proofs.Management.Begins.{first_holds}
+use Rattle.agent_terms.proofs.Management.Holding.{Holding, good_of, known_id, same_id}
+use Rattle.agent_terms.proofs.Management.Lines.{all_heard, opens}
+use Rattle.agent_terms.proofs.Management.Runs.{are_told, holds_after, no_repeats, not_reset}
+use Rattle.agent_terms.proofs.Management.Still.{hist}
 use Rattle.agent_terms.specs.Holders.{AreHeldAt, HoldersBetweenLaw, HoldersLaw, IsHeld, IsLiveOf, IsOf}
 use Rattle.agent_terms.proofs.Peers.{Peer, found_leaves, is_peer, peer_of}
 use Rattle.agent_terms.proofs.Placed.{Has, IsHolder, Placed}

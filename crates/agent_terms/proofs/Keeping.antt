@@ -33,11 +33,11 @@ use Rattle.target_laws.proofs.Found.{IsFound, found}
 use Rattle.target_laws.proofs.Primitives.{Known, closing_known, expiring_known, live_on}
 use Rattle.target_laws.proofs.Seats.{Lives}
 use Rattle.target_laws.proofs.Settled.{all_good, reaches}
-use Rattle.target_terms.specs.Offices.{Agrees, Office}
-use Rattle.target_terms.specs.Offices as office
-use Rattle.target_terms.specs.Calls as management
-use Rattle.target_terms.proofs.Calls.{barred_same, forgets_if}
-use Rattle.target_terms.proofs.Calm.{Calm, From, expires_agent, replies}
+use Rattle.agent_terms.specs.Management.Offices.{Agrees, Office}
+use Rattle.agent_terms.specs.Management.Offices as office
+use Rattle.agent_terms.specs.Management.Calls as management
+use Rattle.agent_terms.proofs.Management.Calls.{barred_same, forgets_if}
+use Rattle.agent_terms.proofs.Management.Calm.{Calm, From, expires_agent, replies}
 use Rattle.agent_terms.specs.Calls.{AgentsLaw, AreOf, delivered, lapsed, requested}
 use Rattle.agent_terms.specs.Crews.{Request, ToldAlike}
 use Rattle.agent_terms.proofs.Calls.{Behind, behind_follow, lapses_behind, replies_behind}

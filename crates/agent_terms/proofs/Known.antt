@@ -49,7 +49,7 @@ use Rattle.sbp_world.proofs.Wire.Entered.{number_small}
 use Rattle.sbp_world.proofs.Wire.Forgets.{seen_stays, ticked_stays}
 use Rattle.sbp_world.proofs.Wire.Holding.{KnownTo, known_small, target_has}
 use Rattle.sbp_world.proofs.Wire.Nodes.{handed_alike, marked_alike}
-use Rattle.target_terms.proofs.Holding.{Holding, ours}
+use Rattle.agent_terms.proofs.Management.Holding.{Holding, ours}
 use Rattle.agent_terms.specs.Crews.{Has, Request, with_request, with_requests}
 use Rattle.agent_terms.specs.Hands.{AllLeave}
 use Rattle.agent_terms.specs.Serials.{AreKnown}
@@ -107,7 +107,7 @@ all_split last (packet ∷ later) requests r h = by (all_split (last + 1) later 
 
 -- ---- a label that is under way in a layer is so in the lives of its calls
 module _ (calls : List (wire.Call Purpose)) (layer : Layer Purpose) (led : wire.after 0xffc0 calls ≡ layer) (peer : ℕ) (label : LabelParts) where
-  life_waits : (kind : ReplyKind) → label.generation ≡ layer.generation → state_for layer.peers peer label.number ≡ states.UnderWay kind label.serial → wire.IsUnderWay (lives_of calls peer label)
+  pub life_waits : (kind : ReplyKind) → label.generation ≡ layer.generation → state_for layer.peers peer label.number ≡ states.UnderWay kind label.serial → wire.IsUnderWay (lives_of calls peer label)
   life_waits kind g s =
       let life = (after_kept 0xffc0 calls).agree.waits peer label kind (g ∙ sym (ap (λ (l : Layer Purpose). l.generation) led)) (ap (λ (l : Layer Purpose). state_for l.peers peer label.number) led ∙ s) in
       subst wire.IsUnderWay (sym life) tt

@@ -41,9 +41,9 @@ use Rattle.sbp_world.proofs.Wire.Found.{IsKnown, has_known, known_has, node_foun
 use Rattle.sbp_world.proofs.Wire.Holding.{KnownTo, known_small, target_has}
 use Rattle.target_laws.proofs.Calling.{Good}
 use Rattle.target_laws.proofs.Primitives.{Known}
-use Rattle.target_terms.proofs.Holding.{Holding, good_of, is_of, known_id, ours, target_generation}
-use Rattle.target_terms.proofs.Requests.{asked_labelled, asks_valid}
-use Rattle.target_terms.proofs.Still.{hist}
+use Rattle.agent_terms.proofs.Management.Holding.{Holding, good_of, is_of, known_id, ours, target_generation}
+use Rattle.agent_terms.proofs.Management.Requests.{asked_labelled, asks_valid}
+use Rattle.agent_terms.proofs.Management.Still.{hist}
 use Rattle.agent_terms.specs.Hands.{AllLeave, IsResponse, Leaves}
 use Rattle.agent_terms.specs.Leaving.{PacketsLeave}
 use Rattle.agent_terms.proofs.Writes.{asked_writes}

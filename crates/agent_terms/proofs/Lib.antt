@@ -1,3 +1,4 @@
+pub mod Management
 pub mod Steps
 pub mod Writes
 pub mod Serials
@@ -64,6 +65,7 @@ pub mod Ceasing
 pub mod Agreeing
 pub mod Registering
 pub mod Runs
+pub mod Sized
 pub mod AskedSteps
 pub mod AskedFollows
 pub mod AskedLate
@@ -74,3 +76,12 @@ pub mod AskedRequests
 pub mod AskedTicks
 pub mod AskedManagement
 pub mod AskedCalls
+pub mod Beside
+pub mod BesideCalls
+pub mod LastAsked
+pub mod AskedBytes
+pub mod AskedAlike
+pub mod AskedPackets
+pub mod Waited
+pub mod AskedAgents
+pub mod AskedRuns

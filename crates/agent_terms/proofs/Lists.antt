@@ -17,9 +17,9 @@ use Rattle.sbp_journal.specs.declared.outbox.Outgoing.{Outgoing}
 use Rattle.sbp_journal.specs.declared.side.Side.{Side}
 use Rattle.sbp_journal.specs.declared.side.Side.TheVariants as sides
 use Rattle.sbp_laws.specs.Targets.{Agent, agent_over, is_nothing, main_lost, moved, new_agent, sends_of, wants, wants_it}
-use Rattle.target_terms.specs.Offices.{Office}
-use Rattle.target_terms.specs.Offices as office
-use Rattle.target_terms.proofs.Calm.{AreQuiet, IsQuiet}
+use Rattle.agent_terms.specs.Management.Offices.{Office}
+use Rattle.agent_terms.specs.Management.Offices as office
+use Rattle.agent_terms.proofs.Management.Calm.{AreQuiet, IsQuiet}
 use Rattle.agent_terms.specs.Crews.{agent_in, by_packet, by_packets, by_side, by_sides, crew_over, crew_packet, crew_packets, crew_side, crew_sides, sent_among}
 use Rattle.agent_terms.proofs.Follows.{over_idle}
 use Rattle.agent_terms.proofs.Walk.{other_id, same_id}

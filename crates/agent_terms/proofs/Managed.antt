@@ -39,10 +39,10 @@ use Rattle.target_laws.proofs.Calling.{Good, not_eight}
 use Rattle.target_laws.proofs.Primitives.{Known}
 use Rattle.target_laws.proofs.Seats.{Lives, split}
 use Rattle.target_laws.proofs.Stepped.{is_bare}
-use Rattle.target_terms.proofs.Calm.{Calm, clears_from, clears_one, cuts_all, cuts_at}
-use Rattle.target_terms.proofs.Deciding.{left_by}
-use Rattle.target_terms.specs.Offices.{Agrees, Office, replied, stepped}
-use Rattle.target_terms.specs.Offices as office
+use Rattle.agent_terms.proofs.Management.Calm.{Calm, clears_from, clears_one, cuts_all, cuts_at}
+use Rattle.agent_terms.proofs.Management.Deciding.{left_by}
+use Rattle.agent_terms.specs.Management.Offices.{Agrees, Office, replied, stepped}
+use Rattle.agent_terms.specs.Management.Offices as office
 use Rattle.agent_terms.specs.Alike.{answers, has_list, moves_data}
 use Rattle.agent_terms.specs.Calls.{AreOf, affected, managed}
 use Rattle.agent_terms.specs.Crews.{Request, agent_in, crew_over, crew_packets, crew_side, crew_sides, hired, with_requests}

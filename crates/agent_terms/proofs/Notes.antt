@@ -37,7 +37,7 @@ use Rattle.sbp_target.specs.Desks.{new_desk}
 use Rattle.sbp_target.specs.Nodes.{desk_at}
 use Rattle.sbp_target.specs.Receiving.{new_node}
 use Rattle.command_agent.specs.Steps.{point_in, point_step, reply_step}
-use Rattle.target_terms.specs.Offices.{Office, office_of}
+use Rattle.agent_terms.specs.Management.Offices.{Office, office_of}
 use Rattle.agent_terms.specs.Calls.{AreOf, accessed, affected, changed, seen}
 use Rattle.agent_terms.specs.Crews.{IsOf, address, agent_in, answered, crew_over, hired, hired_by, hired_in, sent_among}
 use Rattle.agent_terms.specs.Notes.{IsBehind, NotesLaw, by_note}

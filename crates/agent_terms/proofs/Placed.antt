@@ -13,7 +13,7 @@ use Rattle.login_table.specs.Table.{held, is_live, one_less, place_at, revived}
 use Rattle.sbp_bus.specs.declared.places.Holder.{Holder}
 use Rattle.sbp_bus.specs.Places.{back_at, back_step, enter_step, has_login, is_free, left_step, opened_by, opened_step, place_in, put_at, taken_by}
 use Rattle.sbp_laws.specs.Targets.{at_id, second_gone}
-use Rattle.target_terms.proofs.Places.{AreApart, at_other, one_changed}
+use Rattle.agent_terms.proofs.Management.Places.{AreApart, at_other, one_changed}
 
 -- Whose a login is: a live one is of an initiator whose node's ID it has.
 pub record IsHolder (Of : (initiator id : ℕ) → Type 0) (login : Login) (holder : Holder) : Type 0 where

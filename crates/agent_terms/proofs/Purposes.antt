@@ -40,9 +40,9 @@ use Rattle.sbp_world.proofs.Wire.Holding.{KnownTo}
 use Rattle.target_laws.specs.Transactions.{IsUnderWay, TransactionLaw}
 use Rattle.target_laws.proofs.Calling.{Good}
 use Rattle.target_laws.proofs.Seats.{IsFor}
-use Rattle.target_terms.specs.Terms.{Awaits}
-use Rattle.target_terms.proofs.Holding.{Holding, good_of, known_id, law_of, past_terms, same_id}
-use Rattle.target_terms.proofs.Still.{hist}
+use Rattle.agent_terms.specs.Management.Terms.{Awaits}
+use Rattle.agent_terms.proofs.Management.Holding.{Holding, good_of, known_id, law_of, past_terms, same_id}
+use Rattle.agent_terms.proofs.Management.Still.{hist}
 use Rattle.agent_terms.specs.Purposes.{ArePurposesAt, HasPurpose, HasRequest}
 
 -- ---- labels of a layer, and of the layer without what its transactions are for

@@ -57,13 +57,13 @@ use Rattle.sbp_world.specs.Wire.Lines.{AreLines, IsLine}
 use Rattle.sbp_world.proofs.Wire.Comes.{own_inside, own_outside, received_is, to_own, to_zero}
 use Rattle.sbp_world.proofs.Wire.Nodes.{handed_alike, marked_alike}
 use Rattle.sbp_world.proofs.Wire.ToldBytes.{AreTold, happened_fits}
-use Rattle.target_terms.proofs.Firsts.{got_there}
-use Rattle.target_terms.proofs.Holding.{Holding, marked_hist, was_sent}
-use Rattle.target_terms.proofs.InitiatorTells as own
-use Rattle.target_terms.proofs.Lines.{all_heard, line_holds, opens}
-use Rattle.target_terms.proofs.Owned.{AreOwn, IsNoRun, IsOwn}
-use Rattle.target_terms.proofs.Runs.{are_told, holds_after, no_repeats, not_reset}
-use Rattle.target_terms.proofs.Still.{hist}
+use Rattle.agent_terms.proofs.Management.Firsts.{got_there}
+use Rattle.agent_terms.proofs.Management.Holding.{Holding, marked_hist, was_sent}
+use Rattle.agent_terms.proofs.Management.InitiatorTells as own
+use Rattle.agent_terms.proofs.Management.Lines.{all_heard, line_holds, opens}
+use Rattle.agent_terms.proofs.Management.Owned.{AreOwn, IsNoRun, IsOwn}
+use Rattle.agent_terms.proofs.Management.Runs.{are_told, holds_after, no_repeats, not_reset}
+use Rattle.agent_terms.proofs.Management.Still.{hist}
 use Rattle.agent_terms.specs.Enabled.{AreTermsOf, EnabledTermsBetweenLaw, EnabledTermsLaw}
 use Rattle.agent_terms.proofs.Agreeing.{delivery_agrees, lapse_agrees, second_agrees, sight_agrees}
 use Rattle.agent_terms.proofs.Disabling.{IsStill, all_still, enabled_in, injected_still, note_still, one_note, over_same, reply_keeps, wire_in}

@@ -5,9 +5,9 @@ use Rattle.sbp_world.specs.Making.{ready_logins}
 use Rattle.sbp_world.specs.Runs.{after, beginning}
 use Rattle.sbp_world.specs.Settling.{after_all}
 use Rattle.sbp_world.specs.Worlds.{begun}
-use Rattle.target_terms.proofs.Lines.{all_heard, opens}
-use Rattle.target_terms.proofs.Runs.{are_told, holds_after, no_repeats, not_reset}
-use Rattle.target_terms.proofs.Still.{hist}
+use Rattle.agent_terms.proofs.Management.Lines.{all_heard, opens}
+use Rattle.agent_terms.proofs.Management.Runs.{are_told, holds_after, no_repeats, not_reset}
+use Rattle.agent_terms.proofs.Management.Still.{hist}
 use Rattle.agent_terms.specs.Fresh.{LabelsBetweenLaw, LabelsLaw}
 use Rattle.agent_terms.proofs.Fresh.{labels_new}
 use Rattle.agent_terms.specs.Leaving.{LeavingBetweenLaw, LeavingLaw}

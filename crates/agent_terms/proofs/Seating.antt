@@ -39,9 +39,9 @@ use Rattle.sbp_world.specs.Wire.Lines.{IsLine}
 use Rattle.sbp_world.proofs.Wire.Comes.{own_inside, own_outside, received_is, to_own, to_zero}
 use Rattle.sbp_world.proofs.Wire.Nodes.{marked_alike}
 use Rattle.sbp_world.proofs.Wire.ToldBytes.{AreTold}
-use Rattle.target_terms.proofs.Holding.{Holding}
-use Rattle.target_terms.proofs.InitiatorTells as own
-use Rattle.target_terms.proofs.Lines.{all_heard, opens}
+use Rattle.agent_terms.proofs.Management.Holding.{Holding}
+use Rattle.agent_terms.proofs.Management.InitiatorTells as own
+use Rattle.agent_terms.proofs.Management.Lines.{all_heard, opens}
 use Rattle.agent_terms.proofs.Peers.{injects_on, lost_kept, marked_kept}
 use Rattle.agent_terms.proofs.Seats.{Seats, delivery_seats, key_seats, lapse_seats, marked_same, own_hands, sight_seats, tick_seats}
 

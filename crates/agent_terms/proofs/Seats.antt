@@ -53,13 +53,13 @@ use Rattle.sbp_world.proofs.Wire.Found.{has_known, known_has, node_found}
 use Rattle.sbp_world.proofs.Wire.Holding.{known_small, latest_small}
 use Rattle.sbp_world.proofs.Wire.Nodes.{handed_alike, marked_alike}
 use Rattle.target_laws.proofs.Calling.{Good}
-use Rattle.target_terms.specs.Calls.{CallsKeep}
-use Rattle.target_terms.specs.Offices.{Agrees, Office}
-use Rattle.target_terms.proofs.Calls.{forgets_if, management_law}
-use Rattle.target_terms.proofs.Calm.{From}
-use Rattle.target_terms.proofs.Holding.{Holding, good_of, is_of, known_id, ours, same_id, target_generation}
-use Rattle.target_terms.proofs.Owned.{AreOwn, IsOwn}
-use Rattle.target_terms.proofs.Still.{hist}
+use Rattle.agent_terms.specs.Management.Calls.{CallsKeep}
+use Rattle.agent_terms.specs.Management.Offices.{Agrees, Office}
+use Rattle.agent_terms.proofs.Management.Calls.{forgets_if, management_law}
+use Rattle.agent_terms.proofs.Management.Calm.{From}
+use Rattle.agent_terms.proofs.Management.Holding.{Holding, good_of, is_of, known_id, ours, same_id, target_generation}
+use Rattle.agent_terms.proofs.Management.Owned.{AreOwn, IsOwn}
+use Rattle.agent_terms.proofs.Management.Still.{hist}
 use Rattle.agent_terms.proofs.Calling.{IsOwned, delivery_told, lapse_told, second_told, sight_told}
 use Rattle.agent_terms.proofs.Leaving.{source_known}
 use Rattle.agent_terms.proofs.Peers.{AllTo, AreNoLoops, Peer, all_sent_places, all_told_store, delivery_to, expiry_to, found_leaves, is_peer, marked_kept, none_to, own_sent, peer_known, peer_of, peer_other, target_sent}

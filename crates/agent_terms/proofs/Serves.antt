@@ -37,8 +37,8 @@ use Rattle.sbp_target.specs.Serving.{accessed_by, answered, enabled, served_as, 
 use Rattle.sbp_target.specs.Units.{cut_all}
 use Rattle.target_laws.proofs.Calling.{Good}
 use Rattle.target_laws.proofs.Following.{IsServed}
-use Rattle.target_terms.proofs.Calm.{AreQuiet, Calm, From, accesses_by, answers, cuts_all}
-use Rattle.target_terms.specs.Offices.{Office}
+use Rattle.agent_terms.proofs.Management.Calm.{AreQuiet, Calm, From, accesses_by, answers, cuts_all}
+use Rattle.agent_terms.specs.Management.Offices.{Office}
 use Rattle.agent_terms.specs.Calls.{AreOf, accessed, demanded, seen}
 use Rattle.agent_terms.specs.Crews.{Request, agent_in, crew_sides}
 use Rattle.agent_terms.proofs.Calls.{AllSettled, Behind, IsUnmoved, all_terms_cut, cut_all_settled, idle_behind, one_term_cut, same_desks, settled_of, turned_behind, unmoved_settled}

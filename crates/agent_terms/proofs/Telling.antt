@@ -40,11 +40,11 @@ use Rattle.sbp_world.specs.Telling.{initiator_of, told, told_all}
 use Rattle.sbp_world.specs.Worlds.{WorldState}
 use Rattle.sbp_world.proofs.Wire.Alike.{told_alike}
 use Rattle.target_laws.proofs.Seats.{Lives}
-use Rattle.target_terms.proofs.Calm.{AreQuiet, Calm, From, IsQuiet, clears_from, clears_one, cuts_all, cuts_placed}
-use Rattle.target_terms.proofs.Managing.{quiet_says}
-use Rattle.target_terms.proofs.Places.{AreApart}
-use Rattle.target_terms.proofs.Sides.{sides_more}
-use Rattle.target_terms.specs.Offices.{Agrees, Office, by_managed, by_note, by_side, by_sides, placed, placed_by, replied, stepped}
+use Rattle.agent_terms.proofs.Management.Calm.{AreQuiet, Calm, From, IsQuiet, clears_from, clears_one, cuts_all, cuts_placed}
+use Rattle.agent_terms.proofs.Management.Managing.{quiet_says}
+use Rattle.agent_terms.proofs.Management.Places.{AreApart}
+use Rattle.agent_terms.proofs.Management.Sides.{sides_more}
+use Rattle.agent_terms.specs.Management.Offices.{Agrees, Office, by_managed, by_note, by_side, by_sides, placed, placed_by, replied, stepped}
 use Rattle.agent_terms.proofs.Granting.{Grants, IsBack, StepBrings, reply_brings}
 use Rattle.agent_terms.proofs.Placed.{IsHolder, Placed, back_placed, entered_placed, first_free, left_placed, opened_placed}
 

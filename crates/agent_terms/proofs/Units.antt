@@ -16,9 +16,9 @@ use Rattle.sbp_world.specs.Settling.{after_all}
 use Rattle.sbp_world.specs.Wire.Lines.{AreLines}
 use Rattle.sbp_world.specs.Worlds.{WorldState, begun}
 use Rattle.sbp_world.proofs.Wire.ToldBytes.{happened_fits}
-use Rattle.target_terms.proofs.Lines.{opens}
-use Rattle.target_terms.proofs.Runs.{are_told, holds_after, no_repeats, not_reset}
-use Rattle.target_terms.proofs.Still.{hist}
+use Rattle.agent_terms.proofs.Management.Lines.{opens}
+use Rattle.agent_terms.proofs.Management.Runs.{are_told, holds_after, no_repeats, not_reset}
+use Rattle.agent_terms.proofs.Management.Still.{hist}
 use Rattle.agent_terms.specs.Units.{AreUnitsAt, UnitsBetweenLaw, UnitsLaw}
 use Rattle.agent_terms.proofs.Holders.{seats_after}
 use Rattle.agent_terms.proofs.Seating.{opened as opened_seats}

@@ -55,11 +55,11 @@ use Rattle.sbp_world.proofs.Wire.Comes.{own_inside, own_outside, received_is, to
 use Rattle.sbp_world.proofs.Wire.Nodes.{handed_alike, marked_alike}
 use Rattle.sbp_world.proofs.Wire.ToldBytes.{AreTold}
 use Rattle.target_laws.proofs.Calling.{Good}
-use Rattle.target_terms.proofs.Holding.{Holding, good_of, marked_hist}
-use Rattle.target_terms.proofs.InitiatorTells as own
-use Rattle.target_terms.proofs.Lines.{all_heard, opens}
-use Rattle.target_terms.proofs.Owned.{AreOwn}
-use Rattle.target_terms.proofs.Still.{gets_clock, hist, ignores_still, lapses_clock}
+use Rattle.agent_terms.proofs.Management.Holding.{Holding, good_of, marked_hist}
+use Rattle.agent_terms.proofs.Management.InitiatorTells as own
+use Rattle.agent_terms.proofs.Management.Lines.{all_heard, opens}
+use Rattle.agent_terms.proofs.Management.Owned.{AreOwn}
+use Rattle.agent_terms.proofs.Management.Still.{gets_clock, hist, ignores_still, lapses_clock}
 use Rattle.agent_terms.specs.Holders.{IsHeld}
 use Rattle.agent_terms.proofs.Holders.{are_held}
 use Rattle.agent_terms.proofs.Seating.{all_seats, opened as opened_seats}

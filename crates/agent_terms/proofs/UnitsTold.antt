@@ -45,11 +45,11 @@ use Rattle.sbp_world.specs.Handing.{handed_out}
 use Rattle.sbp_world.specs.Sending.{asked, posted, sent, sent_all, sent_to}
 use Rattle.sbp_world.specs.Telling.{holder, initiator_of, ticket_at, told, told_all}
 use Rattle.sbp_world.specs.Worlds.{WorldState, with_note}
-use Rattle.target_terms.specs.Offices.{Office}
-use Rattle.target_terms.proofs.Firsts.{wire_is}
-use Rattle.target_terms.proofs.Owned.{AreOwn, IsNoRun, IsOwn}
-use Rattle.target_terms.proofs.Still.{hist}
-use Rattle.target_terms.proofs.Told.{one_side, term_in}
+use Rattle.agent_terms.specs.Management.Offices.{Office}
+use Rattle.agent_terms.proofs.Management.Firsts.{wire_is}
+use Rattle.agent_terms.proofs.Management.Owned.{AreOwn, IsNoRun, IsOwn}
+use Rattle.agent_terms.proofs.Management.Still.{hist}
+use Rattle.agent_terms.proofs.Management.Told.{one_side, term_in}
 
 -- ---- the same units, and the same logins
 

@@ -20,9 +20,9 @@ use Rattle.sbp_laws.specs.Packets.{id_for}
 use Rattle.sbp_laws.specs.Targets.{last_unit, place_on}
 use Rattle.sbp_world.specs.Telling.{holder, told, told_all}
 use Rattle.sbp_world.specs.Worlds.{WorldState, with_note}
-use Rattle.target_terms.specs.Offices.{Office}
-use Rattle.target_terms.proofs.Told.{office_in, one_note as office_note, term_in}
-use Rattle.target_terms.proofs.Still.{hist}
+use Rattle.agent_terms.specs.Management.Offices.{Office}
+use Rattle.agent_terms.proofs.Management.Told.{office_in, one_note as office_note, term_in}
+use Rattle.agent_terms.proofs.Management.Still.{hist}
 use Rattle.agent_terms.proofs.Disabling.{IsStill, enabled_in, one_note, wire_in}
 use Rattle.agent_terms.proofs.Heeding.{AreHeard, Hears, IsHeard, all_off, off, ran_by}
 

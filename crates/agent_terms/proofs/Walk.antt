@@ -35,7 +35,7 @@ use Rattle.target_laws.proofs.Stepped.{Carries, is_asked}
 use Rattle.agent_terms.specs.Crews.{AreOne, Request, by_packet, by_packets, by_side, by_sides, with_requests}
 use Rattle.agent_terms.proofs.Serials.{Paired, Turning, more_has, number_after, one_more, sent_within}
 use Rattle.agent_terms.proofs.Writes.{HasBody, asked_writes, has_body, no_body}
-use Rattle.target_terms.proofs.Requests.{writes_body}
+use Rattle.agent_terms.proofs.Management.Requests.{writes_body}
 
 pub same_id : (n : ℕ) → nat_eq n n ≡ true
 same_id n = grind (arith, nat_tests)

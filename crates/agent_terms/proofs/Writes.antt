@@ -17,7 +17,7 @@ use Rattle.sbp_laws.specs.Targets.{wants}
 use Rattle.sbp_target.specs.declared.purpose.Purpose.{Purpose}
 use Rattle.sbp_target.specs.Agents.{agent_body}
 use Rattle.target_laws.proofs.Stepped.{Carries, is_asked}
-use Rattle.target_terms.proofs.Requests.{writes_body}
+use Rattle.agent_terms.proofs.Management.Requests.{writes_body}
 
 -- ---- the bytes of a request are its body's with its label in them
 

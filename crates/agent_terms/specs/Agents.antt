@@ -17,7 +17,7 @@ use Rattle.sbp_world.specs.Settling.{MayAll, after_all}
 use Rattle.sbp_world.specs.Wire.Lines.{AreLines}
 use Rattle.sbp_world.specs.Worlds.{WorldState, begun}
 use Rattle.target_laws.specs.Transactions.{IsUnderWay}
-use Rattle.target_terms.specs.Terms.{DeliversMore}
+use Rattle.agent_terms.specs.Management.Terms.{DeliversMore}
 use Rattle.agent_terms.specs.Calls.{AreOf}
 use Rattle.agent_terms.specs.Crews.{Request}
 use Rattle.agent_terms.specs.Serials.{AreKnown, IsHanded}

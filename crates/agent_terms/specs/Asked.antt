@@ -59,6 +59,10 @@ reads_none _ = true
 pub record IsBare (m : Machine) : Type 0 where
   pub bare : reads_none m.phase ≡ true → is_ahead m.ahead ≡ false
 
+-- A write that is under way has as many bytes as it was asked for.
+pub record IsSized (m : Machine) : Type 0 where
+  pub bytes : (offset size : ℕ) → main_under m ≡ Write offset size → length m.outgoing ≡ size
+
 -- Behind a step to whose main transaction a reply came, or that failed, with the read ahead before it: what the step asks for is the main transaction,
 -- a status block exactly where an ORB ends; a read ahead that becomes the main transaction is it; and the read ahead is the one that the step asks for, or
 -- the one before.
@@ -68,6 +72,7 @@ pub record IsUnder (ahead : Ask) (s : AgentStep × Machine) : Type 0 where
   pub turned : s.0.promoted ≡ true → main_under s.1 ≡ ahead
   pub asked : asks s.0.ahead ≡ true → ahead_under s.1 ≡ s.0.ahead
   pub kept : asks s.0.ahead ≡ false → is_ahead s.1.ahead ≡ true → ahead_under s.1 ≡ ahead
+  pub sized : IsSized s.1
 
 -- The main transaction is as it was, with its bytes.
 pub record IsStill (before now : Machine) : Type 0 where
@@ -109,10 +114,12 @@ abbrev pub Left : List Outgoing → Sent → Option Body → Type 0
 Left [] sent body = ⊥
 Left (packet ∷ packets) sent body = IsFor sent body packet ⊎ Left packets sent body
 
--- What the desk of an agent waits for left, as the request that the machine has under way: its main transaction, and its read ahead.
+-- What the desk of an agent waits for left, as the request that the machine has under way: its main transaction, with as many bytes as it asked for, and
+-- its read ahead.
 pub record AsksReally (packets : List Outgoing) (fifo : ℕ) (desk : Desk) : Type 0 where
   pub main : (sent : Sent) → desk.main ≡ Some sent → is_sent desk.agent.phase ≡ true → Left packets sent (main_body fifo desk.agent)
   pub ahead : (sent : Sent) → desk.ahead ≡ Some sent → is_ahead desk.agent.ahead ≡ true → Left packets sent (ahead_body desk.agent)
+  pub sized : IsSized desk.agent
 
 -- The desk has its read ahead still, and the machine is that behind a step.
 pub record IsBehind (packets : List Outgoing) (place : ℕ) (before now : Machine) (node : NodeState) : Type 0 where

@@ -30,9 +30,9 @@ use Rattle.sbp_target.specs.Receiving.{TellsIn, answer_in, received, with_layer}
 use Rattle.sbp_target.specs.Replies.{plain_in, served_login, whole}
 use Rattle.sbp_target.specs.Serving.{is_barred}
 use Rattle.sbp_target.specs.Calls.{Call, after, alone, lets_expire, sees, sets_key, ticks}
-use Rattle.target_terms.specs.Offices.{Office}
-use Rattle.target_terms.specs.Offices as office
-use Rattle.target_terms.specs.Calls as management
+use Rattle.agent_terms.specs.Management.Offices.{Office}
+use Rattle.agent_terms.specs.Management.Offices as office
+use Rattle.agent_terms.specs.Management.Calls as management
 use Rattle.agent_terms.specs.Crews.{IsOf, Request, ToldAlike, agent_in, answered, crew_over, crew_packets, crew_sides, pointed, with_requests}
 
 -- the agents are those of a node that has sent these requests

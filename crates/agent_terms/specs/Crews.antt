@@ -21,8 +21,8 @@ use Rattle.sbp_journal.specs.declared.side.Side.TheVariants as sides
 use Rattle.sbp_laws.specs.Targets.{Agent, Decided, agent_over, closed, main_lost, moved, new_agent, pointed_by, sends_of, wants_it}
 use Rattle.sbp_target.specs.declared.desk.Desk.{Desk}
 use Rattle.sbp_target.specs.declared.purpose.Sent.{Sent}
-use Rattle.target_terms.specs.Offices.{Office}
-use Rattle.target_terms.specs.Offices as office
+use Rattle.agent_terms.specs.Management.Offices.{Office}
+use Rattle.agent_terms.specs.Management.Offices as office
 use Rattle.agent_terms.specs.Alike.{Alike, TellsAlike}
 
 -- ---- an agent by itself

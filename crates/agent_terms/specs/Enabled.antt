@@ -13,7 +13,7 @@ use Rattle.sbp_world.specs.Runs.{AreEntries, Run, after, beginning}
 use Rattle.sbp_world.specs.Settling.{MayAll, after_all}
 use Rattle.sbp_world.specs.Wire.Lines.{AreLines}
 use Rattle.sbp_world.specs.Worlds.{begun}
-use Rattle.target_terms.specs.Terms.{DeliversMore}
+use Rattle.agent_terms.specs.Management.Terms.{DeliversMore}
 
 -- a place has a live login
 pub record HasLive (places : List (Option Login)) (place : ℕ) : Type 0 where

@@ -19,7 +19,7 @@ use Rattle.sbp_world.specs.Runs.{AreEntries, Run, after, beginning}
 use Rattle.sbp_world.specs.Settling.{MayAll, after_all}
 use Rattle.sbp_world.specs.Wire.Lines.{AreLines}
 use Rattle.sbp_world.specs.Worlds.{WorldState, begun}
-use Rattle.target_terms.specs.Terms.{DeliversMore}
+use Rattle.agent_terms.specs.Management.Terms.{DeliversMore}
 use Rattle.agent_terms.specs.Crews.{Has, Request, with_requests}
 
 -- the requests among the packets of a turn, however they are numbered

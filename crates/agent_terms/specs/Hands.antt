@@ -18,7 +18,7 @@ use Rattle.sbp_laws.specs.Packets.{access_in_bytes}
 use Rattle.sbp_laws.specs.Targets.{Agent, Reply, Target, is_write_access, over, plain_for, target_at, told_of}
 use Rattle.sbp_world.specs.Handing.{handed_out}
 use Rattle.sbp_world.specs.Worlds.{WorldState}
-use Rattle.target_terms.specs.Offices.{office_of}
+use Rattle.agent_terms.specs.Management.Offices.{office_of}
 use Rattle.agent_terms.specs.Calls.{changed}
 use Rattle.agent_terms.specs.Crews.{answered, crew_over, crew_packets, crew_sides}
 

@@ -24,7 +24,7 @@ use Rattle.sbp_world.specs.Runs.{AreEntries, Run, after, beginning}
 use Rattle.sbp_world.specs.Settling.{MayAll, after_all}
 use Rattle.sbp_world.specs.Wire.Lines.{AreLines}
 use Rattle.sbp_world.specs.Worlds.{WorldState, begun}
-use Rattle.target_terms.specs.Terms.{DeliversMore}
+use Rattle.agent_terms.specs.Management.Terms.{DeliversMore}
 
 -- an ID is that of an initiator's node, as the target knows the nodes
 pub record IsOf (t : Terms) (initiators initiator id : ℕ) : Type 0 where

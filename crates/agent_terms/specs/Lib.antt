@@ -1,3 +1,4 @@
+pub mod Management
 pub mod Alike
 pub mod Crews
 pub mod Calls
@@ -14,3 +15,4 @@ pub mod Serials
 pub mod Units
 pub mod Agents
 pub mod Asked
+pub mod AskedRuns

@@ -16,7 +16,7 @@ use Rattle.sbp_laws.specs.Packets.{access_in_bytes}
 use Rattle.sbp_laws.specs.Targets.{Agent, Reply, Target, going_on, is_write_access, main_lost, managed_by, manager_step, new_target, over, plain_for, register_got, reset_seen, target_by, told_by, untold_by, wants_it}
 use Rattle.target_base.specs.declared.address.Access.TheVariants as accesses
 use Rattle.sbp_target.specs.Receiving.{new_node}
-use Rattle.target_terms.specs.Offices.{Office, office_of}
+use Rattle.agent_terms.specs.Management.Offices.{Office, office_of}
 use Rattle.agent_terms.specs.Calls.{AreOf, accessed, changed, managed, seen}
 use Rattle.agent_terms.specs.Crews.{answered, crew_over, hired, sent_among}
 

@@ -21,7 +21,7 @@ use Rattle.sbp_world.specs.Settling.{MayAll, after_all}
 use Rattle.sbp_world.specs.Wire.Lines.{AreLines}
 use Rattle.sbp_world.specs.Worlds.{WorldState, begun}
 use Rattle.target_laws.specs.Transactions.{IsThat, IsUnderWay}
-use Rattle.target_terms.specs.Terms.{DeliversMore}
+use Rattle.agent_terms.specs.Management.Terms.{DeliversMore}
 
 -- A transaction that a desk keeps has one request, to the node that the desk names: it waits on the wire under the label that the desk has, and
 -- the bus knows it by its serial.

@@ -14,7 +14,7 @@ use Rattle.sbp_world.specs.Runs.{AreEntries, Run, after, beginning}
 use Rattle.sbp_world.specs.Settling.{MayAll, after_all}
 use Rattle.sbp_world.specs.Wire.Lines.{AreLines}
 use Rattle.sbp_world.specs.Worlds.{begun}
-use Rattle.target_terms.specs.Terms.{DeliversMore}
+use Rattle.agent_terms.specs.Management.Terms.{DeliversMore}
 
 -- as many, and each with its medium
 pub record AreUnitsAt (start : List Disk) (past : List Moment) (node : NodeState) (disks : List Disk) : Type 0 where

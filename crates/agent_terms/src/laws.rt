@@ -3,6 +3,7 @@ ghost use Rattle.agent_terms.specs.Agents.{AgentsBetweenLaw, AgentsRunLaw, Seria
 ghost use Rattle.agent_terms.specs.Alike.{AlikeLaw};
 ghost use Rattle.agent_terms.specs.Asides.{AsidesLaw};
 ghost use Rattle.agent_terms.specs.Asked.{AccessesLaw, CallsAskLaw, FollowLaw, LateLaw, ManagementAskLaw, RepliesLaw, RequestsAskLaw, SightsLaw, TicksAskLaw, UnderLaw};
+ghost use Rattle.agent_terms.specs.AskedRuns.{AskedBetweenLaw, AskedRunLaw};
 ghost use Rattle.agent_terms.specs.Calls.{AgentsLaw};
 ghost use Rattle.agent_terms.specs.Demands.{DemandsLaw};
 ghost use Rattle.agent_terms.specs.Enabled.{EnabledBetweenLaw, EnabledLaw, EnabledTermsBetweenLaw, EnabledTermsLaw};
@@ -241,4 +242,18 @@ pub fn management_keeps_what_was_asked()
 /// hands out, what they wait for is in that outbox.
 pub fn calls_keep_what_was_asked()
     ensures { CallsAskLaw }
+{}
+
+/// After every line of every run what an agent of the terms waits for is what it asked for: the packet with the serial of
+/// its main transaction is the target's request to the initiator that has the login, is under way, and is a read at the
+/// address and of as many bytes as its phase has under way, or a write of as many, with the bytes that the agent has to
+/// write where the medium told them, a status block to the FIFO of its login; and the packet of its read ahead is a read of
+/// the ORB that its next pointer names. A serial that is for an agent, by the terms, is one that it waits for.
+pub fn agents_wait_for_what_they_asked()
+    ensures { AskedRunLaw }
+{}
+
+/// And behind each delivery of a line that may follow.
+pub fn deliveries_keep_what_agents_asked()
+    ensures { AskedBetweenLaw }
 {}
