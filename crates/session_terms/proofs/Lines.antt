@@ -42,8 +42,8 @@ use Rattle.sbp_world.specs.Worlds.{Scene, WorldState, begun, initiator_at, with_
 use Rattle.sbp_world.specs.Wire.Lines.{IsLine}
 use Rattle.sbp_world.proofs.Wire.Comes.{own_inside, own_outside, received_is, to_own, to_zero}
 use Rattle.sbp_world.proofs.Wire.ToldBytes.{AreTold}
-use Rattle.target_terms.proofs.Holding.{Holding}
-use Rattle.target_terms.proofs.Lines.{all_heard, opens}
+use Rattle.agent_terms.proofs.Management.Holding.{Holding}
+use Rattle.agent_terms.proofs.Management.Lines.{all_heard, opens}
 use Rattle.session_terms.proofs.Caught.{Met, Seen, Sits, met_own, is_in, own_hands, sits_any, sits_plain, sits_relist}
 use Rattle.session_terms.proofs.Sessions.{acts as session_acts, expires as session_expires}
 use Rattle.session_terms.proofs.Turns.{delivery_met, key_met, lapse_met, own_delivery_met, own_sight_met, sight_met, tick_met}
@@ -105,7 +105,7 @@ module _ (units ready : ℕ) (has : 0 < units) (start : List Disk) where
   acts w line i action m =
       acts_by w line i action (act_step action empty_outbox (initiator_at w i))
       (session_acts (Sits (Seen w.generations i)) (sits_plain (Seen w.generations i)) (sits_relist (Seen w.generations i)) action empty_outbox (initiator_at w i)
-      (λ e p seat lists. sits_any (Seen w.generations i) seat lists ((m.sits i).joined (in_by (initiator_at w i).seat (prepared action (initiator_at w i) p (goes_on action (initiator_at w i) e))))) (m.sits i)) m
+      (λ e p lists. sits_any (Seen w.generations i) (initiator_at w i).seat lists ((m.sits i).joined (in_by (initiator_at w i).seat (prepared action (initiator_at w i) p (goes_on action (initiator_at w i) e))))) (m.sits i)) m
 
   -- ---- a packet is lost, or injected
   loses : (w : WorldState) (line serial : ℕ) → Met w → Met (lose_line line serial w)

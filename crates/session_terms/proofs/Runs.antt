@@ -52,12 +52,12 @@ use Rattle.sbp_world.proofs.Wire.Found.{has_id, known_has, node_found}
 use Rattle.sbp_world.proofs.Wire.Starts.{first_id}
 use Rattle.sbp_world.proofs.Wire.ToldBytes.{happened_fits}
 use Rattle.target_laws.proofs.Calling.{not_eight}
-use Rattle.target_terms.specs.Terms.{DeliversMore}
-use Rattle.target_terms.proofs.Begins.{first_holds}
-use Rattle.target_terms.proofs.Holding.{Holding, good_of, known_id}
-use Rattle.target_terms.proofs.Lines.{all_heard, opens}
-use Rattle.target_terms.proofs.Runs.{are_told, holds_after, no_repeats, not_reset}
-use Rattle.target_terms.proofs.Still.{hist}
+use Rattle.agent_terms.specs.Management.Terms.{DeliversMore}
+use Rattle.agent_terms.proofs.Management.Begins.{first_holds}
+use Rattle.agent_terms.proofs.Management.Holding.{Holding, good_of, known_id}
+use Rattle.agent_terms.proofs.Management.Lines.{all_heard, opens}
+use Rattle.agent_terms.proofs.Management.Runs.{are_told, holds_after, no_repeats, not_reset}
+use Rattle.agent_terms.proofs.Management.Still.{hist}
 use Rattle.session_terms.specs.Caught.{CaughtBetweenLaw, CaughtLaw, HasCaught, HaveCaught}
 use Rattle.session_terms.specs.Joined.{IsJoined, JoinedBetweenLaw, JoinedLaw, is_joined}
 use Rattle.session_terms.proofs.Caught.{Met, Seen, Up, is_in, is_up, sits_any, up_later, up_of}

@@ -28,6 +28,7 @@ use Rattle.orb_list.specs.Tickets.{TicketParts}
 use Rattle.sbp_journal.specs.declared.cause.Cause.TheVariants as ignored
 use Rattle.sbp_journal.specs.declared.cause.Judged.{Judged}
 use Rattle.sbp_journal.specs.declared.event.Action.{Action}
+use Rattle.sbp_journal.specs.declared.event.Cmd.{Cmd}
 use Rattle.sbp_journal.specs.declared.event.Action.TheVariants as actions
 use Rattle.sbp_journal.specs.declared.note.Note.TheVariants as notes
 use Rattle.sbp_journal.specs.declared.operation.Operation.{Operation}
@@ -46,12 +47,13 @@ use Rattle.sbp_initiator.specs.declared.purpose.Purpose.{Purpose}
 use Rattle.sbp_initiator.specs.declared.purpose.Purpose.TheVariants as purposes
 use Rattle.sbp_initiator.specs.declared.purpose.Running.{Running}
 use Rattle.sbp_initiator.specs.declared.state.InitiatorState.{InitiatorState}
-use Rattle.sbp_initiator.specs.Acting.{act_step, asked_as, asked_for, demand_of, demanded_as, done_step, dummy_for, facts_with, judged_as, link_as, low_as, managed_by, orb_by, pinned_for, ring_for, with_running}
+use Rattle.sbp_initiator.specs.Commands.{put_lists}
+use Rattle.sbp_initiator.specs.Acting.{act_step, append_step, asked_as, asked_for, demand_of, demanded_as, done_step, dummy_for, facts_with, judged_as, link_as, link_step, login_id, low_as, low_step, managed_by, orb_by, pinned_for, put_as, put_step, ring_for, with_running}
 use Rattle.sbp_initiator.specs.Effects.{Turn, ask_quad, asked_quad, conflict_for, conflict_step, doorbell_ended, drop_list_step, dropped_as, enable_ended, end_own_for, end_own_step, end_step, ended_for, ended_step, fail_step, fault_number, finish_rom, is_address, is_conflict, known_where, management_ended, moved, moves_session, next_quad, pointer_ended, quad_got, reset_ended, rom_ended, state_ended, stick_step, told, with_answered, with_dead, with_rom, with_unit}
 use Rattle.sbp_initiator.specs.Receiving.{addressed, block_at, block_by, block_step, called, expire_step, expired_as, fifo_of, got_step, ignored_step, is_foreign, managed_for, present_for, quadlet_at, read_as, receive_step, received, request_step, respond_step, responded_as, serve_step, status_step, taken_as, taken_by, written_as}
 use Rattle.sbp_initiator.specs.Refusals.{prepares, refusal}
 use Rattle.sbp_initiator.specs.Seeing.{interrupted, resets_told, see_step, seen_as}
-use Rattle.sbp_initiator.specs.States.{counts_for, ending_of, is_list, is_unwritten, status_in}
+use Rattle.sbp_initiator.specs.States.{counts_for, ending_of, is_list, is_unwritten, no_marks, status_in}
 use Rattle.sbp_session.specs.declared.seat.Seat.{Seat}
 use Rattle.session_terms.proofs.Presents.{Fewer, drop_fewer, dummy_fewer, free_none, high_fewer, low_fewer, manage_fewer, pin_fewer, take_fewer, unpin_fewer, write_fewer}
 use Rattle.sbp_session.specs.Moves.{Event, conflict, entered, failed, goes, good, pointed, pointing, reset, sent}
@@ -65,9 +67,22 @@ is_plain (entered response) = false
 is_plain good = false
 is_plain _ = true
 
+-- a list that is dropped leaves the session
+pub drop_seat : (r : Option ℕ × ListState) (o : OutboxState) (s : InitiatorState) → (dropped_as r o s).1.seat ≡ s.seat
+drop_seat (None, lists) o s = refl
+drop_seat (Some n, lists) o s = refl
+
+-- a request that is not foreign is of the target
+pub own_write : (source target : ℕ) → not (source == target) ≡ false → source ≡ target
+own_write source target e = by (nat_eq source target) refl e
+  where
+    by : (b : Bool) → nat_eq source target ≡ b → not b ≡ false → source ≡ target
+    by true f g = grind (arith, nat_tests)
+    by false f g = absurd (no (sym g))
+
 -- a property of a session, kept by those
 module _ (Sit : Seat → ListState → Type 0) (plain : (event : Event) (seat : Seat) (lists : ListState) → is_plain event ≡ true → Sit seat lists → Sit (goes event seat) lists) (relist : (seat : Seat) (old new : ListState) → Fewer old new → Sit seat old → Sit seat new) where
-  abbrev At : Turn → Type 0
+  abbrev pub At : Turn → Type 0
   At t = Sit t.1.seat t.1.lists
 
   pick : (b : Bool) (x y : Turn) → At x → At y → At (cond b x y)
@@ -190,7 +205,7 @@ module _ (Sit : Seat → ListState → Type 0) (plain : (event : Event) (seat : 
   ended_sits (purposes.Rom act) ending o s h = rom_ends act ending o s h
   ended_sits (purposes.State act list) ending o s h = state_ends act list ending o s h
 
-  ends_for : (purpose : Option Purpose) (ending : Ending) (o : OutboxState) (s : InitiatorState) → Sit s.seat s.lists → At (ended_for purpose ending o s)
+  pub ends_for : (purpose : Option Purpose) (ending : Ending) (o : OutboxState) (s : InitiatorState) → Sit s.seat s.lists → At (ended_for purpose ending o s)
   ends_for None ending o s h = h
   ends_for (Some purpose) ending o s h = ended_sits purpose ending o s h
 
@@ -199,17 +214,17 @@ module _ (Sit : Seat → ListState → Type 0) (plain : (event : Event) (seat : 
   responds_as : (r : List ℕ × Layer Purpose) (source : ℕ) (o : OutboxState) (s : InitiatorState) → Sit s.seat s.lists → At (responded_as r source o s)
   responds_as (response, layer) source o s h = h
 
-  responds : (p : Packet) (bytes : List ℕ) (rcode : ℕ) (given : List ℕ) (t : Turn) → At t → At (respond_step p bytes rcode given t)
+  pub responds : (p : Packet) (bytes : List ℕ) (rcode : ℕ) (given : List ℕ) (t : Turn) → At t → At (respond_step p bytes rcode given t)
   responds p bytes rcode given t h = responds_as (answering_step t.1.layer p bytes rcode given) (header_in p).source t.0 t.1 h
 
-  takes_as : (r : Option TicketParts × ListState) (kind : StatusKind) (p : Packet) (bytes : List ℕ) (o : OutboxState) (s : InitiatorState) → Fewer s.lists r.1 → Sit s.seat s.lists → At (taken_as r kind p bytes o s).1
+  pub takes_as : (r : Option TicketParts × ListState) (kind : StatusKind) (p : Packet) (bytes : List ℕ) (o : OutboxState) (s : InitiatorState) → Fewer s.lists r.1 → Sit s.seat s.lists → At (taken_as r kind p bytes o s).1
   takes_as (None, lists) kind p bytes o s f h = responds p bytes 0 [] (o, record s { lists = lists }) (relist s.seat s.lists lists f h)
   takes_as (Some ticket, lists) kind p bytes o s f h =
       let u = record (called s) { lists = lists } in
       let k = relist s.seat s.lists lists f h in
       responds p bytes 0 [] (taken_by ticket lists kind o (called s)) (pick_state (is_dead_kind kind) (with_dead u) u k k)
 
-  pick_judged : (b : Bool) (x y : Judged × Turn) → At x.1 → At y.1 → At (cond b x y).1
+  pub pick_judged : (b : Bool) (x y : Judged × Turn) → At x.1 → At y.1 → At (cond b x y).1
   pick_judged true x y h i = h
   pick_judged false x y h i = i
 
@@ -219,7 +234,7 @@ module _ (Sit : Seat → ListState → Type 0) (plain : (event : Event) (seat : 
   writes_as : (r : ℕ × ListState) (p : Packet) (bytes : List ℕ) (o : OutboxState) (s : InitiatorState) → Fewer s.lists r.1 → Sit s.seat s.lists → At (written_as r p bytes o s).1
   writes_as (rcode, lists) p bytes o s f h = responds p bytes rcode [] (o, record (called s) { lists = lists }) (relist s.seat s.lists lists f h)
 
-  serves : (p : Packet) (bytes : List ℕ) (o : OutboxState) (s : InitiatorState) → Sit s.seat s.lists → At (serve_step p bytes o s).1
+  pub serves : (p : Packet) (bytes : List ℕ) (o : OutboxState) (s : InitiatorState) → Sit s.seat s.lists → At (serve_step p bytes o s).1
   serves (read_quadlet header offset) bytes o s h = reads_as (read_step s.lists.memory offset (replicate 4 0)) (read_quadlet header offset) bytes o s h
   serves (read_block header offset asked) bytes o s h = reads_as (read_step s.lists.memory offset (replicate asked 0)) (read_block header offset asked) bytes o s h
   serves (write_quadlet header offset value) bytes o s h = writes_as (write_lists s.lists offset (big_bytes 4 value)) (write_quadlet header offset value) bytes o s (write_fewer s.lists offset (big_bytes 4 value)) h
@@ -230,7 +245,7 @@ module _ (Sit : Seat → ListState → Type 0) (plain : (event : Event) (seat : 
   serves (lock header offset extended payload) bytes o s h = responds (lock header offset extended payload) bytes 6 [] (o, called s) h
   serves (lock_response header rcode extended payload) bytes o s h = responds (lock_response header rcode extended payload) bytes 6 [] (o, called s) h
 
-  quadlets_at : (fifo : Option Fifo) (p : Packet) (bytes : List ℕ) (o : OutboxState) (s : InitiatorState) → Sit s.seat s.lists → At (quadlet_at fifo p bytes o s).1
+  pub quadlets_at : (fifo : Option Fifo) (p : Packet) (bytes : List ℕ) (o : OutboxState) (s : InitiatorState) → Sit s.seat s.lists → At (quadlet_at fifo p bytes o s).1
   quadlets_at None p bytes o s h = serves p bytes o s h
   quadlets_at (Some fifos.Closed) p bytes o s h = responds p bytes 7 [] (o, s) h
   quadlets_at (Some fifos.Login) p bytes o s h = serves p bytes o s h
@@ -271,13 +286,6 @@ module _ (Sit : Seat → ListState → Type 0) (plain : (event : Event) (seat : 
   Given target p = (header_in p).source ≡ target → (seat : Seat) (lists : ListState) → Sit seat lists
 
   -- a write that is not foreign is of the target
-  own_write : (source target : ℕ) → not (source == target) ≡ false → source ≡ target
-  own_write source target e = by (nat_eq source target) refl e
-    where
-      by : (b : Bool) → nat_eq source target ≡ b → not b ≡ false → source ≡ target
-      by true f g = grind (arith, nat_tests)
-      by false f g = absurd (no (sym g))
-
   reaches : (p : Packet) (bytes : List ℕ) (o : OutboxState) (s : InitiatorState) → is_foreign p s ≡ false → Given s.target p → Sit s.seat s.lists → At (addressed p bytes o s).1
   reaches (read_quadlet header offset) bytes o s f g h = serves (read_quadlet header offset) bytes o s h
   reaches (read_block header offset asked) bytes o s f g h = serves (read_block header offset asked) bytes o s h
@@ -321,10 +329,6 @@ module _ (Sit : Seat → ListState → Type 0) (plain : (event : Event) (seat : 
   expires label o s h = expires_as (expiring_step s.layer s.target label) o s h
 
   -- ---- a generation is seen
-
-  drop_seat : (r : Option ℕ × ListState) (o : OutboxState) (s : InitiatorState) → (dropped_as r o s).1.seat ≡ s.seat
-  drop_seat (None, lists) o s = refl
-  drop_seat (Some n, lists) o s = refl
 
   -- what is known where no list is present
   abbrev pub Cleared : Seat → Type 0
@@ -372,13 +376,26 @@ module _ (Sit : Seat → ListState → Type 0) (plain : (event : Event) (seat : 
   moves_on s place orb h = plain sent s.seat (manage_lists s.lists place orb) refl (manages s place orb h)
 
   -- what is known where an action prepares an ORB
-  abbrev pub Begins : Action → Type 0
-  Begins action = prepares action ≡ true → (seat : Seat) (lists : ListState) → Sit seat lists
+  abbrev pub Begins : Action → Seat → Type 0
+  Begins action seat = prepares action ≡ true → (lists : ListState) → Sit seat lists
 
-  does : (action : Action) (o : OutboxState) (s : InitiatorState) → Begins action → Sit s.seat s.lists → At (done_step action o s)
+  puts_as : (r : Option TicketParts × ListState) (cmd : Cmd) (o : OutboxState) (s : InitiatorState) → ((lists : ListState) → Sit s.seat lists) → At (put_as r cmd o s)
+  puts_as (None, lists) cmd o s begin = begin lists
+  puts_as (Some t, lists) cmd o s begin = pick_state (t.number == 0) (record s { lists = lists; marks = record no_marks { first = t.slot } }) (record s { lists = lists }) (begin lists) (begin lists)
+
+  appends : (cmd : Cmd) (o : OutboxState) (s : InitiatorState) → ((lists : ListState) → Sit s.seat lists) → At (append_step cmd o s)
+  appends cmd o s begin =
+      let a = put_step cmd o s in
+      let b = low_step a.0 a.1 in
+      let c = link_step b.0 b.1 in
+      let put = puts_as (put_lists s.lists cmd s.layer.node (login_id s)) cmd o s begin in
+      let low = lows_as (low_lists a.1.lists) a.0 a.1 (low_fewer a.1.lists) put in
+      rings_for c.1.lists.slots.present c.0 c.1 (links_as (high_lists b.1.lists) b.0 b.1 (high_fewer b.1.lists) low)
+
+  does : (action : Action) (o : OutboxState) (s : InitiatorState) → Begins action s.seat → Sit s.seat s.lists → At (done_step action o s)
   unfolding done_step
-  does (actions.Put cmd) o s begin h = begin refl _ _
-  does (actions.Append cmd) o s begin h = begin refl _ _
+  does (actions.Put cmd) o s begin h = puts_as (put_lists s.lists cmd s.layer.node (login_id s)) cmd o s (begin refl)
+  does (actions.Append cmd) o s begin h = appends cmd o s (begin refl)
   does actions.Low o s begin h = lows_as (low_lists s.lists) o s (low_fewer s.lists) h
   does actions.Link o s begin h = links_as (high_lists s.lists) o s (high_fewer s.lists) h
   does actions.Ring o s begin h = rings_for s.lists.slots.present o s h
@@ -396,18 +413,18 @@ module _ (Sit : Seat → ListState → Type 0) (plain : (event : Event) (seat : 
   does actions.UnitReset o s begin h = manages s _ _ h
   does actions.TargetReset o s begin h = manages s _ _ h
 
-  asks_as : (r : Option Asked × Layer Purpose) (action : Action) (o : OutboxState) (s : InitiatorState) → Begins action → Sit s.seat s.lists → At (asked_as r action o s).1
+  asks_as : (r : Option Asked × Layer Purpose) (action : Action) (o : OutboxState) (s : InitiatorState) → Begins action s.seat → Sit s.seat s.lists → At (asked_as r action o s).1
   asks_as (None, layer) action o s begin h = h
   asks_as (Some asked, layer) action o s begin h = does action o (record s { layer = layer }) begin h
 
-  demands_as : (demand : Option Demand) (action : Action) (o : OutboxState) (s : InitiatorState) → Begins action → Sit s.seat s.lists → At (demanded_as demand action o s).1
+  demands_as : (demand : Option Demand) (action : Action) (o : OutboxState) (s : InitiatorState) → Begins action s.seat → Sit s.seat s.lists → At (demanded_as demand action o s).1
   demands_as None action o s begin h = does action o s begin h
   demands_as (Some demand) action o s begin h = asks_as (asked_for demand s) action o s begin h
 
-  judges_as : (number : Option ℕ) (action : Action) (o : OutboxState) (s : InitiatorState) → (number ≡ None → Begins action) → Sit s.seat s.lists → At (judged_as number action o s).1
+  judges_as : (number : Option ℕ) (action : Action) (o : OutboxState) (s : InitiatorState) → (number ≡ None → Begins action s.seat) → Sit s.seat s.lists → At (judged_as number action o s).1
   judges_as (Some number) action o s begin h = h
   judges_as None action o s begin h = demands_as (demand_of action s) action o s (begin refl) h
 
-  pub acts : (action : Action) (o : OutboxState) (s : InitiatorState) → (refusal action (facts_with true s action) ≡ None → Begins action) → Sit s.seat s.lists → At (act_step action o s).1
+  pub acts : (action : Action) (o : OutboxState) (s : InitiatorState) → (refusal action (facts_with true s action) ≡ None → Begins action s.seat) → Sit s.seat s.lists → At (act_step action o s).1
   unfolding act_step
   acts action o s begin h = judges_as (refusal action (facts_with true s action)) action o s begin h

@@ -38,9 +38,9 @@ use Rattle.sbp_target.specs.Serving.{is_barred}
 use Rattle.target_base.specs.declared.address.Demand.{Demand}
 use Rattle.target_base.specs.declared.address.Demand.TheVariants as demands
 use Rattle.target_base.specs.Addresses.{demand_of}
-use Rattle.target_terms.specs.Calls.{CallsKeep, delivered, demanded, lapsed, requested, seen}
-use Rattle.target_terms.specs.Offices.{Agrees, Office, by_managed, by_note, by_side, by_sides, placed, placed_by, replied, started, started_by, ticked, with_key}
-use Rattle.target_terms.proofs.Calls.{management_law}
+use Rattle.agent_terms.specs.Management.Calls.{CallsKeep, delivered, demanded, lapsed, requested, seen}
+use Rattle.agent_terms.specs.Management.Offices.{Agrees, Office, by_managed, by_note, by_side, by_sides, placed, placed_by, replied, started, started_by, ticked, with_key}
+use Rattle.agent_terms.proofs.Management.Calls.{management_law}
 use Rattle.session_terms.specs.Starting.{GoesOn, IsAsked, OperationsStart, StartingLaw}
 
 differ : {A : Type 0} (own : Operation) → None ≡ Some own → A
@@ -132,7 +132,7 @@ placing : (login : Option ℕ) (o : Office) → (placed_by login o).manager ≡ 
 placing None o = refl
 placing (Some id) o = placed_manager (position is_none o.table.places) o.decided id o
 
-managing : (word : FunctionWord) (login : Option ℕ) (o : Office) → (by_managed word login o).manager ≡ o.manager
+pub managing : (word : FunctionWord) (login : Option ℕ) (o : Office) → (by_managed word login o).manager ≡ o.manager
 managing functions.Login login o = placing login o
 managing word login o = refl
 

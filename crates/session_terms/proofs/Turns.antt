@@ -50,8 +50,8 @@ use Rattle.sbp_world.proofs.Wire.Bus.{aged, holds}
 use Rattle.sbp_world.proofs.Wire.Found.{IsIdOf, has_id, has_known, known_has, node_found}
 use Rattle.sbp_world.proofs.Wire.Holding.{known_small, latest_small, to_target}
 use Rattle.sbp_world.proofs.Wire.Nodes.{handed_alike, marked_alike}
-use Rattle.target_terms.proofs.Holding.{Holding, is_of, known_id, ours, past_terms, target_generation, was_sent}
-use Rattle.target_terms.proofs.Still.{hist}
+use Rattle.agent_terms.proofs.Management.Holding.{Holding, is_of, known_id, ours, past_terms, target_generation, was_sent}
+use Rattle.agent_terms.proofs.Management.Still.{hist}
 use Rattle.agent_terms.proofs.Leaving.{source_known}
 use Rattle.session_terms.proofs.Caught.{Met, met_alike, met_but, Seen, Sits, Up, is_up, own_hands, sits_any, sits_cleared, sits_plain, sits_relist, sits_to, target_hands, up_by, up_flag, up_known, up_later, up_of}
 use Rattle.session_terms.proofs.Sessions.{IfAsked, receives, sees as session_sees}

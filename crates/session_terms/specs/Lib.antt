@@ -2,3 +2,11 @@ pub mod Caught
 pub mod Joined
 pub mod Standing
 pub mod Starting
+pub mod Single
+pub mod Writing
+pub mod Handed
+pub mod Entering
+pub mod Blocks
+pub mod Holding
+pub mod Placed
+pub mod Asking
