@@ -1,0 +1,14 @@
+-- The pointer that the 8 bytes of an address below 2^32 spell.
+use Rattle.std.proofs.Common.{arith, ◌≡◌, ap, ℕ, ◌/◌, ◌<◌, ◌^◌, ◌==◌, false}
+use Rattle.std.proofs.lemmas.Bool.Decides.{nat_tests}
+use Rattle.byteorder.specs.Endian.{big_bytes}
+use Rattle.orb_layout.specs.declared.pointer.OrbPointer.TheVariants.{At}
+use Rattle.orb_layout.specs.Pointers.{offset_at, pointer_at}
+use Rattle.sbp_base.specs.Quadlets.{quad}
+
+pub eight_pointer : (x : ℕ) → x < 2 ^ 32 → pointer_at (big_bytes 8 x) 0 ≡ At x
+eight_pointer x small =
+    let bytes = big_bytes 8 x in
+    let some : (quad bytes 0 / 2 ^ 31 == 1) ≡ false = grind (arith, nat_tests) in
+    let place : offset_at bytes 0 ≡ x = omega arith in
+    rw some (ap (λ (n : ℕ). At n) place)

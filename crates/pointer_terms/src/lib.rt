@@ -1,0 +1,6 @@
+//! The packets by which an initiator points an agent to its lists, and how these end.
+#![tactic(auto)]
+
+mod laws;
+
+pub use laws::{moments_stand_as_they_may, pointers_are_of_lists, writes_are_of_actions};
