@@ -1,0 +1,12 @@
+pub mod Lists
+pub mod Needs
+pub mod Along
+pub mod Orders
+pub mod Brings
+pub mod Running
+pub mod Names
+pub mod Opens
+pub mod Places
+pub mod SentReads
+pub mod Presents
+pub mod SlotsStay

@@ -1,0 +1,117 @@
+//! The laws of the lists and the agents.
+ghost use Rattle.list_terms.specs.Along.{AlongLaw};
+ghost use Rattle.list_terms.specs.Brings.{BringsLaw};
+ghost use Rattle.list_terms.specs.Lists.{GrowingLaw};
+ghost use Rattle.list_terms.specs.Opens.{OpensLaw};
+ghost use Rattle.list_terms.specs.Orders.{AppendsLaw, OrderRunLaw};
+ghost use Rattle.list_terms.specs.Names.{NamesLaw};
+ghost use Rattle.list_terms.specs.Running.{ListsRunLaw, RunsRunLaw};
+ghost use Rattle.list_terms.specs.Places.{ListedLaw};
+ghost use Rattle.list_terms.specs.SentReads.{SentReadsLaw};
+ghost use Rattle.list_terms.specs.Presents.{PresentLaw};
+ghost use Rattle.list_terms.specs.SlotsStay.{SlotsStayLaw};
+
+/// The lists of an initiator, as the run terms have them, are laid out as an agent asks for it: an ORB without
+/// elements of a page table names the buffer of its command. From each moment of every run on a list grows:
+/// more of its ORBs are linked, and those that were linked keep their addresses, their commands, their buffers
+/// and their data.
+#[tactic(auto, using(crate::proofs::Lists::growing_law))]
+pub fn lists_grow()
+    ensures { GrowingLaw }
+{}
+
+/// In every run an ORB that is appended has the next number of the latest list of its initiator, or begins the
+/// next list with number 0; and it is prepared in one of the 32 slots, in which no ORB of its list waits.
+#[tactic(auto, using(crate::proofs::RunLaws::appends_law))]
+pub fn appends_are_numbered()
+    ensures { AppendsLaw }
+{}
+
+/// In every run an ORB of an initiator's latest list of which no status was taken is the one that was prepared
+/// last in its slot, one of 32; and it is the one that the bus has for its address at a place of that initiator.
+#[tactic(auto, using(crate::proofs::Naming::names_law))]
+pub fn orbs_stand_in_their_slots()
+    ensures { NamesLaw }
+{}
+
+/// Where lists are open as they should be in every run (`OpenListsLaw`), what an agent waits for, to read in a slot of
+/// an initiator that injected no packets, was sent when the ORB that the slot has now had been appended: after every
+/// line of every run, and behind each delivery of a line that may follow.
+#[tactic(auto, using(crate::proofs::RunLaws::sent_reads_law))]
+pub fn reads_are_sent_behind_appends()
+    ensures { SentReadsLaw }
+{}
+
+/// And so what an agent reads along a list of an initiator that injected no packets is what the list holds: the
+/// response to its read brings the ORB behind those that have ended, or the one behind that; its page table, which is
+/// read as the buffer laid out for its command; the next bytes of its data; or the next pointer of the last ORB.
+/// After every line of every run, and behind each delivery of a line that may follow.
+#[tactic(auto, using(crate::proofs::RunLaws::brings_law))]
+pub fn agents_read_what_lists_hold()
+    ensures { BringsLaw }
+{}
+
+/// And so an agent that has a list open of an initiator that injected no packets is along that list, behind as many of
+/// its ORBs as the history has ends of it: after every line of every run, and behind each delivery of a line that may
+/// follow.
+#[tactic(auto, using(crate::proofs::RunLaws::along_law))]
+pub fn agents_are_along_lists()
+    ensures { AlongLaw }
+{}
+
+/// And so the order law holds of every run: the ORBs of a list run and end in their order, each behind its
+/// append, and none of a list that was cut or behind which the next one began.
+#[tactic(auto, using(crate::proofs::RunLaws::order_run_law))]
+pub fn orbs_end_in_order()
+    ensures { OrderRunLaw }
+{}
+
+/// And an ORB runs at its turn, with the command of its append, and with no data or with as many of the first
+/// bytes of its data as the command asks for.
+#[tactic(auto, using(crate::proofs::OnceLaws::lists_run_law))]
+pub fn orbs_run_as_they_were_appended()
+    ensures { ListsRunLaw }
+{}
+
+/// And where, besides, an ORB that ran, of a list that was not cut and of which none has ended, is at an agent that
+/// has the list open (`UnrunLaw`), an ORB runs at most once; and it ends good or with a check behind its run with
+/// that outcome alone, and as dummy, aborted or illegal without one.
+#[tactic(auto, using(crate::proofs::OnceLaws::runs_run_law))]
+pub fn orbs_run_once()
+    ensures { RunsRunLaw }
+{}
+
+/// In every run an agent is not in RESET at the place of a live login alone, whose initiator is the one that the bus has there.
+/// Its list, then, is that of the ORB which a write of ORB_POINTER of that initiator to that place named, as the target got it:
+/// after every line of every run, and behind each delivery of a line that may follow.
+#[tactic(auto, using(crate::proofs::OpenProved::opens_law))]
+pub fn open_lists_were_pointed_to()
+    ensures { OpensLaw }
+{}
+
+/// Where what open lists stand on holds at a place of a run (`ArePlaced`), an agent that has a list open of an initiator that
+/// injected no packets has the latest list of it, which was not cut, and the ORBs of it that are linked and have not ended are the
+/// ones that their addresses name; no two places have a list open of one such initiator; and a pointer that an agent takes is that
+/// to the first ORB of the latest list, of which none has ended, and which no other agent has open.
+pub fn open_lists_are_the_latest()
+    ensures { ListedLaw }
+{
+    pointer_terms::pointers_are_of_lists();
+    pointer_terms::moments_stand_as_they_may();
+    session_terms::nodes_have_caught_up_with_the_target();
+    session_terms::deliveries_keep_nodes_caught_up();
+}
+
+/// In every run the present list of an initiator is the latest one, and an ORB of it whose status was not taken is the one that
+/// was prepared last in its slot: after every line, and behind each delivery of a line that delivers one packet after the other.
+pub fn present_lists_are_the_latest()
+    ensures { PresentLaw }
+{
+    pointer_terms::moments_stand_as_they_may();
+}
+/// By every history, and so in every run, a slot of an initiator has its ORB from the append on, used or at rest,
+/// until this ORB is over or the initiator sees another generation: until then no other ORB is prepared there.
+#[tactic(auto, using(crate::proofs::SlotsHeld::slots_stay_law))]
+pub fn slots_stay()
+    ensures { SlotsStayLaw }
+{}
