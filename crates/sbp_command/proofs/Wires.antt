@@ -13,6 +13,9 @@ use Rattle.sbp_world.specs.Wire.Journal.{journal_run}
 use Rattle.sbp_world.specs.Wire.Lines.{AreLines}
 use Rattle.sbp_world.proofs.Wire.Entries.{bus_law}
 use Rattle.sbp_world.proofs.Wire.Runs.{all_runs}
+use Rattle.host_terms.specs.Runs.{IsRun}
+use Rattle.host_terms.specs.Statuses.Finished.{TakesStatuses}
+use Rattle.host_terms.proofs.Statuses.Finished.{finished_law, once_taken_law}
 use Rattle.script_runner.specs.Events.{events_in, events_of, journal}
 use Rattle.script_runner.specs.Runner.{scene_of}
 use Rattle.sbp_command.specs.Machine.{HasRun}
@@ -46,6 +49,15 @@ run_on_bus line run start same units few count all lines =
     let most : length run.entries + 2 < 2 ^ 32 = omega arith in
     bus_law.lawful line run few (units ∙ ap (λ m. length m.disks) (sym same)) most all lines
 
+pub run_takes : (line : ℕ) (run : Run) → run.initiators ≤ 4 → length run.entries ≤ 65535 → AreEntries (beginning run) run.entries → AreLines run run.entries → TakesStatuses (history_of line run)
+run_takes line run few count all lines =
+    let is : IsRun run = record { few = few; short = omega arith; entries = all; lines = lines } in
+    record {
+      each = finished_law.each line run is (injectors (history_of line run));
+      taken = finished_law.taken line run is;
+      once = once_taken_law.once line run is;
+    }
+
 -- ---- a run of the machine
 
 -- it is one over its events, whose notes are its journal
@@ -66,4 +78,5 @@ has_run line run start media world happened same units few count events stands l
       leaves = run_leaves line run start media same few stands.lines left;
       of_wire = run_of_wire line run few count stands.lines lines;
       on_the_bus = run_on_bus line run start same units few count stands.lines lines;
+      statuses = run_takes line run few count stands.lines lines;
     }

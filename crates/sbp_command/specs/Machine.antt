@@ -10,11 +10,12 @@ use Rattle.sbp_laws.specs.Lawful.{injectors}
 use Rattle.sbp_laws.specs.OnTheBus.{LawfulOnTheBus}
 use Rattle.sbp_world.specs.Wire.History.{IsOfWire}
 use Rattle.sbp_world.specs.Wire.Journal.{journal_run}
+use Rattle.host_terms.specs.Statuses.Finished.{TakesStatuses}
 use Rattle.script_runner.specs.Events.{events_of, journal}
 
 -- A run of the machine, over exactly these events and from what the media held at first: its notes, and what it leaves of the media. That is
 -- what the notes alone say of them: each medium holds what the disk fold gives, and each failing run raised its count. And its history
--- keeps the laws of the wire, and its journal the part of the laws that is of the bus.
+-- keeps the laws of the wire, and its journal the part of the laws that is of the bus; and the statuses that it takes are those that are due.
 pub record HasRun (start : Held) (happened : List (ℕ × Event)) (notes : List Note) (now : Held) : Type 0 where
   pub line : ℕ
   pub run : Run
@@ -28,6 +29,7 @@ pub record HasRun (start : Held) (happened : List (ℕ × Event)) (notes : List 
   pub leaves : LeavesMedia start (history_of line run) now
   pub of_wire : IsOfWire (history_of line run)
   pub on_the_bus : LawfulOnTheBus (injectors (history_of line run)) (journal_run line run)
+  pub statuses : TakesStatuses (history_of line run)
 
 -- No run begins: there is no event and no note, and the media are as they were.
 pub record HasNone (start : Held) (happened : List (ℕ × Event)) (notes : List Note) (now : Held) : Type 0 where
