@@ -18,16 +18,17 @@ use Rattle.agent_terms.proofs.Management.Owned.{AreOwn, IsNoRun}
 use Rattle.agent_terms.proofs.Management.Still.{hist}
 use Rattle.host_terms.proofs.OrbTerms.{AreStill, is_left}
 use Rattle.host_terms.proofs.Prepares.{itself}
-use Rattle.sbp_laws.specs.OrderLaw.{OrderLaw}
+use Rattle.sbp_laws.specs.OrderLaw.{OrderLaw, is_cut}
 use Rattle.list_terms.specs.Orders.{IsAppend}
 use Rattle.list_terms.proofs.Named.{no}
 use Rattle.list_terms.proofs.Passing.{PassLaw}
 
--- a note is no run and no end, and an append is the next one
+-- a note is no run, no end and no cut, and an append is the next one
 abbrev pub IsGood : List Moment → Note → Type 0
 IsGood ms (notes.Append i n k cdb buffer) = IsAppend ms i n k
 IsGood ms (notes.Ran i n k unit cdb bytes check) = ⊥
 IsGood ms (notes.Ended i n k status) = ⊥
+IsGood ms (notes.Cut i n cause) = ⊥
 IsGood ms note = Unit {0}
 
 -- notes of an initiator, each as it stands behind those before it
@@ -40,13 +41,14 @@ module _ (wild : ℕ → Bool) where
     pub later : List Moment
     pub is : later ++ ms ≡ now
     pub ends_are : (i n : ℕ) → ends now i n ≡ ends ms i n
+    pub cuts_are : (i n : ℕ) → is_cut now i n ≡ is_cut ms i n
     pub runs_are : (i n k : ℕ) → runs now i n k ≡ runs ms i n k
     pub ran_are : (i n k : ℕ) → ran_status now i n k ≡ ran_status ms i n k
     pub law : OrderLaw wild ms → OrderLaw wild now
     pub passes : PassLaw wild ms → PassLaw wild now
 
   pub adds_none : (ms : List Moment) → Adds ms ms
-  adds_none ms = record { later = []; is = refl; ends_are = λ i n. refl; runs_are = λ i n k. refl; ran_are = λ i n k. refl; law = λ l. l; passes = λ l. l }
+  adds_none ms = record { later = []; is = refl; ends_are = λ i n. refl; cuts_are = λ i n. refl; runs_are = λ i n k. refl; ran_are = λ i n k. refl; law = λ l. l; passes = λ l. l }
 
   joined : (a b c : List Moment) → (a ++ b) ++ c ≡ a ++ (b ++ c)
   joined [] b c = refl
@@ -57,6 +59,7 @@ module _ (wild : ℕ → Bool) where
     later = b.later ++ a.later;
     is = joined b.later a.later one ∙ ap (λ ms. b.later ++ ms) a.is ∙ b.is;
     ends_are = λ i n. b.ends_are i n ∙ a.ends_are i n;
+    cuts_are = λ i n. b.cuts_are i n ∙ a.cuts_are i n;
     runs_are = λ i n k. b.runs_are i n k ∙ a.runs_are i n k;
     ran_are = λ i n k. b.ran_are i n k ∙ a.ran_are i n k;
     law = λ l. b.law (a.law l);
@@ -64,46 +67,46 @@ module _ (wild : ℕ → Bool) where
   }
 
   pub adds_asked : (line : ℕ) (event : Event) (ms : List Moment) → Adds ms (asked line event ∷ ms)
-  adds_asked line event ms = record { later = asked line event ∷ []; is = refl; ends_are = λ i n. refl; runs_are = λ i n k. refl; ran_are = λ i n k. refl; law = λ l. (tt, l); passes = λ l. (tt, l) }
+  adds_asked line event ms = record { later = asked line event ∷ []; is = refl; ends_are = λ i n. refl; cuts_are = λ i n. refl; runs_are = λ i n k. refl; ran_are = λ i n k. refl; law = λ l. (tt, l); passes = λ l. (tt, l) }
 
   pub adds_note : (note : Note) (ms : List Moment) → IsGood ms note → Adds ms (said note ∷ ms)
-  adds_note (notes.Begin a b) ms g = record { later = said (notes.Begin a b) ∷ []; is = refl; ends_are = λ j m. refl; runs_are = λ j m k. refl; ran_are = λ j m k. refl; law = λ l. (tt, l); passes = λ l. (tt, l) }
-  adds_note (notes.Sent a b c d e) ms g = record { later = said (notes.Sent a b c d e) ∷ []; is = refl; ends_are = λ j m. refl; runs_are = λ j m k. refl; ran_are = λ j m k. refl; law = λ l. (tt, l); passes = λ l. (tt, l) }
-  adds_note (notes.Injected a) ms g = record { later = said (notes.Injected a) ∷ []; is = refl; ends_are = λ j m. refl; runs_are = λ j m k. refl; ran_are = λ j m k. refl; law = λ l. (tt, l); passes = λ l. (tt, l) }
-  adds_note (notes.Got a) ms g = record { later = said (notes.Got a) ∷ []; is = refl; ends_are = λ j m. refl; runs_are = λ j m k. refl; ran_are = λ j m k. refl; law = λ l. (tt, l); passes = λ l. (tt, l) }
-  adds_note (notes.Ignored a b) ms g = record { later = said (notes.Ignored a b) ∷ []; is = refl; ends_are = λ j m. refl; runs_are = λ j m k. refl; ran_are = λ j m k. refl; law = λ l. (tt, l); passes = λ l. (tt, l) }
-  adds_note (notes.Lost a) ms g = record { later = said (notes.Lost a) ∷ []; is = refl; ends_are = λ j m. refl; runs_are = λ j m k. refl; ran_are = λ j m k. refl; law = λ l. (tt, l); passes = λ l. (tt, l) }
-  adds_note (notes.TimedOut a) ms g = record { later = said (notes.TimedOut a) ∷ []; is = refl; ends_are = λ j m. refl; runs_are = λ j m k. refl; ran_are = λ j m k. refl; law = λ l. (tt, l); passes = λ l. (tt, l) }
-  adds_note (notes.Append i n k cdb buffer) ms g = record { later = said (notes.Append i n k cdb buffer) ∷ []; is = refl; ends_are = λ j m. refl; runs_are = λ j m k. refl; ran_are = λ j m k. refl; law = λ l. (g.next, l); passes = λ l. (g, l) }
-  adds_note (notes.Low a b c) ms g = record { later = said (notes.Low a b c) ∷ []; is = refl; ends_are = λ j m. refl; runs_are = λ j m k. refl; ran_are = λ j m k. refl; law = λ l. (tt, l); passes = λ l. (tt, l) }
-  adds_note (notes.Linked a b c) ms g = record { later = said (notes.Linked a b c) ∷ []; is = refl; ends_are = λ j m. refl; runs_are = λ j m k. refl; ran_are = λ j m k. refl; law = λ l. (tt, l); passes = λ l. (tt, l) }
-  adds_note (notes.Rung a b c) ms g = record { later = said (notes.Rung a b c) ∷ []; is = refl; ends_are = λ j m. refl; runs_are = λ j m k. refl; ran_are = λ j m k. refl; law = λ l. (tt, l); passes = λ l. (tt, l) }
-  adds_note (notes.Dummied a b c) ms g = record { later = said (notes.Dummied a b c) ∷ []; is = refl; ends_are = λ j m. refl; runs_are = λ j m k. refl; ran_are = λ j m k. refl; law = λ l. (tt, l); passes = λ l. (tt, l) }
+  adds_note (notes.Begin a b) ms g = record { later = said (notes.Begin a b) ∷ []; is = refl; ends_are = λ j m. refl; cuts_are = λ j m. refl; runs_are = λ j m k. refl; ran_are = λ j m k. refl; law = λ l. (tt, l); passes = λ l. (tt, l) }
+  adds_note (notes.Sent a b c d e) ms g = record { later = said (notes.Sent a b c d e) ∷ []; is = refl; ends_are = λ j m. refl; cuts_are = λ j m. refl; runs_are = λ j m k. refl; ran_are = λ j m k. refl; law = λ l. (tt, l); passes = λ l. (tt, l) }
+  adds_note (notes.Injected a) ms g = record { later = said (notes.Injected a) ∷ []; is = refl; ends_are = λ j m. refl; cuts_are = λ j m. refl; runs_are = λ j m k. refl; ran_are = λ j m k. refl; law = λ l. (tt, l); passes = λ l. (tt, l) }
+  adds_note (notes.Got a) ms g = record { later = said (notes.Got a) ∷ []; is = refl; ends_are = λ j m. refl; cuts_are = λ j m. refl; runs_are = λ j m k. refl; ran_are = λ j m k. refl; law = λ l. (tt, l); passes = λ l. (tt, l) }
+  adds_note (notes.Ignored a b) ms g = record { later = said (notes.Ignored a b) ∷ []; is = refl; ends_are = λ j m. refl; cuts_are = λ j m. refl; runs_are = λ j m k. refl; ran_are = λ j m k. refl; law = λ l. (tt, l); passes = λ l. (tt, l) }
+  adds_note (notes.Lost a) ms g = record { later = said (notes.Lost a) ∷ []; is = refl; ends_are = λ j m. refl; cuts_are = λ j m. refl; runs_are = λ j m k. refl; ran_are = λ j m k. refl; law = λ l. (tt, l); passes = λ l. (tt, l) }
+  adds_note (notes.TimedOut a) ms g = record { later = said (notes.TimedOut a) ∷ []; is = refl; ends_are = λ j m. refl; cuts_are = λ j m. refl; runs_are = λ j m k. refl; ran_are = λ j m k. refl; law = λ l. (tt, l); passes = λ l. (tt, l) }
+  adds_note (notes.Append i n k cdb buffer) ms g = record { later = said (notes.Append i n k cdb buffer) ∷ []; is = refl; ends_are = λ j m. refl; cuts_are = λ j m. refl; runs_are = λ j m k. refl; ran_are = λ j m k. refl; law = λ l. (g.next, l); passes = λ l. (g, l) }
+  adds_note (notes.Low a b c) ms g = record { later = said (notes.Low a b c) ∷ []; is = refl; ends_are = λ j m. refl; cuts_are = λ j m. refl; runs_are = λ j m k. refl; ran_are = λ j m k. refl; law = λ l. (tt, l); passes = λ l. (tt, l) }
+  adds_note (notes.Linked a b c) ms g = record { later = said (notes.Linked a b c) ∷ []; is = refl; ends_are = λ j m. refl; cuts_are = λ j m. refl; runs_are = λ j m k. refl; ran_are = λ j m k. refl; law = λ l. (tt, l); passes = λ l. (tt, l) }
+  adds_note (notes.Rung a b c) ms g = record { later = said (notes.Rung a b c) ∷ []; is = refl; ends_are = λ j m. refl; cuts_are = λ j m. refl; runs_are = λ j m k. refl; ran_are = λ j m k. refl; law = λ l. (tt, l); passes = λ l. (tt, l) }
+  adds_note (notes.Dummied a b c) ms g = record { later = said (notes.Dummied a b c) ∷ []; is = refl; ends_are = λ j m. refl; cuts_are = λ j m. refl; runs_are = λ j m k. refl; ran_are = λ j m k. refl; law = λ l. (tt, l); passes = λ l. (tt, l) }
   adds_note (notes.Ran a b c d e f x) ms g = absurd g
   adds_note (notes.Ended a b c d) ms g = absurd g
-  adds_note (notes.Cut a b c) ms g = record { later = said (notes.Cut a b c) ∷ []; is = refl; ends_are = λ j m. refl; runs_are = λ j m k. refl; ran_are = λ j m k. refl; law = λ l. (tt, l); passes = λ l. (tt, l) }
-  adds_note (notes.Dead a b c) ms g = record { later = said (notes.Dead a b c) ∷ []; is = refl; ends_are = λ j m. refl; runs_are = λ j m k. refl; ran_are = λ j m k. refl; law = λ l. (tt, l); passes = λ l. (tt, l) }
-  adds_note (notes.Taken a b c d e) ms g = record { later = said (notes.Taken a b c d e) ∷ []; is = refl; ends_are = λ j m. refl; runs_are = λ j m k. refl; ran_are = λ j m k. refl; law = λ l. (tt, l); passes = λ l. (tt, l) }
-  adds_note (notes.Drop a b) ms g = record { later = said (notes.Drop a b) ∷ []; is = refl; ends_are = λ j m. refl; runs_are = λ j m k. refl; ran_are = λ j m k. refl; law = λ l. (tt, l); passes = λ l. (tt, l) }
-  adds_note (notes.Managed a b c d e) ms g = record { later = said (notes.Managed a b c d e) ∷ []; is = refl; ends_are = λ j m. refl; runs_are = λ j m k. refl; ran_are = λ j m k. refl; law = λ l. (tt, l); passes = λ l. (tt, l) }
-  adds_note (notes.ManageFailed a b) ms g = record { later = said (notes.ManageFailed a b) ∷ []; is = refl; ends_are = λ j m. refl; runs_are = λ j m k. refl; ran_are = λ j m k. refl; law = λ l. (tt, l); passes = λ l. (tt, l) }
-  adds_note (notes.Held a) ms g = record { later = said (notes.Held a) ∷ []; is = refl; ends_are = λ j m. refl; runs_are = λ j m k. refl; ran_are = λ j m k. refl; law = λ l. (tt, l); passes = λ l. (tt, l) }
-  adds_note (notes.Expired a) ms g = record { later = said (notes.Expired a) ∷ []; is = refl; ends_are = λ j m. refl; runs_are = λ j m k. refl; ran_are = λ j m k. refl; law = λ l. (tt, l); passes = λ l. (tt, l) }
-  adds_note (notes.Back a) ms g = record { later = said (notes.Back a) ∷ []; is = refl; ends_are = λ j m. refl; runs_are = λ j m k. refl; ran_are = λ j m k. refl; law = λ l. (tt, l); passes = λ l. (tt, l) }
-  adds_note (notes.Left a) ms g = record { later = said (notes.Left a) ∷ []; is = refl; ends_are = λ j m. refl; runs_are = λ j m k. refl; ran_are = λ j m k. refl; law = λ l. (tt, l); passes = λ l. (tt, l) }
-  adds_note (notes.Cleared a) ms g = record { later = said (notes.Cleared a) ∷ []; is = refl; ends_are = λ j m. refl; runs_are = λ j m k. refl; ran_are = λ j m k. refl; law = λ l. (tt, l); passes = λ l. (tt, l) }
-  adds_note (notes.Op a b c) ms g = record { later = said (notes.Op a b c) ∷ []; is = refl; ends_are = λ j m. refl; runs_are = λ j m k. refl; ran_are = λ j m k. refl; law = λ l. (tt, l); passes = λ l. (tt, l) }
-  adds_note (notes.Stuck a) ms g = record { later = said (notes.Stuck a) ∷ []; is = refl; ends_are = λ j m. refl; runs_are = λ j m k. refl; ran_are = λ j m k. refl; law = λ l. (tt, l); passes = λ l. (tt, l) }
-  adds_note (notes.Reset a) ms g = record { later = said (notes.Reset a) ∷ []; is = refl; ends_are = λ j m. refl; runs_are = λ j m k. refl; ran_are = λ j m k. refl; law = λ l. (tt, l); passes = λ l. (tt, l) }
-  adds_note (notes.Seen a b) ms g = record { later = said (notes.Seen a b) ∷ []; is = refl; ends_are = λ j m. refl; runs_are = λ j m k. refl; ran_are = λ j m k. refl; law = λ l. (tt, l); passes = λ l. (tt, l) }
-  adds_note notes.Tick ms g = record { later = said notes.Tick ∷ []; is = refl; ends_are = λ j m. refl; runs_are = λ j m k. refl; ran_are = λ j m k. refl; law = λ l. (tt, l); passes = λ l. (tt, l) }
-  adds_note (notes.Refused a b) ms g = record { later = said (notes.Refused a b) ∷ []; is = refl; ends_are = λ j m. refl; runs_are = λ j m k. refl; ran_are = λ j m k. refl; law = λ l. (tt, l); passes = λ l. (tt, l) }
-  adds_note notes.Settled ms g = record { later = said notes.Settled ∷ []; is = refl; ends_are = λ j m. refl; runs_are = λ j m k. refl; ran_are = λ j m k. refl; law = λ l. (tt, l); passes = λ l. (tt, l) }
-  adds_note notes.Stopped ms g = record { later = said notes.Stopped ∷ []; is = refl; ends_are = λ j m. refl; runs_are = λ j m k. refl; ran_are = λ j m k. refl; law = λ l. (tt, l); passes = λ l. (tt, l) }
-  adds_note (notes.Key a) ms g = record { later = said (notes.Key a) ∷ []; is = refl; ends_are = λ j m. refl; runs_are = λ j m k. refl; ran_are = λ j m k. refl; law = λ l. (tt, l); passes = λ l. (tt, l) }
-  adds_note (notes.Unsolicited a) ms g = record { later = said (notes.Unsolicited a) ∷ []; is = refl; ends_are = λ j m. refl; runs_are = λ j m k. refl; ran_are = λ j m k. refl; law = λ l. (tt, l); passes = λ l. (tt, l) }
-  adds_note (notes.Unsent a) ms g = record { later = said (notes.Unsent a) ∷ []; is = refl; ends_are = λ j m. refl; runs_are = λ j m k. refl; ran_are = λ j m k. refl; law = λ l. (tt, l); passes = λ l. (tt, l) }
-  adds_note (notes.Told a) ms g = record { later = said (notes.Told a) ∷ []; is = refl; ends_are = λ j m. refl; runs_are = λ j m k. refl; ran_are = λ j m k. refl; law = λ l. (tt, l); passes = λ l. (tt, l) }
+  adds_note (notes.Cut a b c) ms g = absurd g
+  adds_note (notes.Dead a b c) ms g = record { later = said (notes.Dead a b c) ∷ []; is = refl; ends_are = λ j m. refl; cuts_are = λ j m. refl; runs_are = λ j m k. refl; ran_are = λ j m k. refl; law = λ l. (tt, l); passes = λ l. (tt, l) }
+  adds_note (notes.Taken a b c d e) ms g = record { later = said (notes.Taken a b c d e) ∷ []; is = refl; ends_are = λ j m. refl; cuts_are = λ j m. refl; runs_are = λ j m k. refl; ran_are = λ j m k. refl; law = λ l. (tt, l); passes = λ l. (tt, l) }
+  adds_note (notes.Drop a b) ms g = record { later = said (notes.Drop a b) ∷ []; is = refl; ends_are = λ j m. refl; cuts_are = λ j m. refl; runs_are = λ j m k. refl; ran_are = λ j m k. refl; law = λ l. (tt, l); passes = λ l. (tt, l) }
+  adds_note (notes.Managed a b c d e) ms g = record { later = said (notes.Managed a b c d e) ∷ []; is = refl; ends_are = λ j m. refl; cuts_are = λ j m. refl; runs_are = λ j m k. refl; ran_are = λ j m k. refl; law = λ l. (tt, l); passes = λ l. (tt, l) }
+  adds_note (notes.ManageFailed a b) ms g = record { later = said (notes.ManageFailed a b) ∷ []; is = refl; ends_are = λ j m. refl; cuts_are = λ j m. refl; runs_are = λ j m k. refl; ran_are = λ j m k. refl; law = λ l. (tt, l); passes = λ l. (tt, l) }
+  adds_note (notes.Held a) ms g = record { later = said (notes.Held a) ∷ []; is = refl; ends_are = λ j m. refl; cuts_are = λ j m. refl; runs_are = λ j m k. refl; ran_are = λ j m k. refl; law = λ l. (tt, l); passes = λ l. (tt, l) }
+  adds_note (notes.Expired a) ms g = record { later = said (notes.Expired a) ∷ []; is = refl; ends_are = λ j m. refl; cuts_are = λ j m. refl; runs_are = λ j m k. refl; ran_are = λ j m k. refl; law = λ l. (tt, l); passes = λ l. (tt, l) }
+  adds_note (notes.Back a) ms g = record { later = said (notes.Back a) ∷ []; is = refl; ends_are = λ j m. refl; cuts_are = λ j m. refl; runs_are = λ j m k. refl; ran_are = λ j m k. refl; law = λ l. (tt, l); passes = λ l. (tt, l) }
+  adds_note (notes.Left a) ms g = record { later = said (notes.Left a) ∷ []; is = refl; ends_are = λ j m. refl; cuts_are = λ j m. refl; runs_are = λ j m k. refl; ran_are = λ j m k. refl; law = λ l. (tt, l); passes = λ l. (tt, l) }
+  adds_note (notes.Cleared a) ms g = record { later = said (notes.Cleared a) ∷ []; is = refl; ends_are = λ j m. refl; cuts_are = λ j m. refl; runs_are = λ j m k. refl; ran_are = λ j m k. refl; law = λ l. (tt, l); passes = λ l. (tt, l) }
+  adds_note (notes.Op a b c) ms g = record { later = said (notes.Op a b c) ∷ []; is = refl; ends_are = λ j m. refl; cuts_are = λ j m. refl; runs_are = λ j m k. refl; ran_are = λ j m k. refl; law = λ l. (tt, l); passes = λ l. (tt, l) }
+  adds_note (notes.Stuck a) ms g = record { later = said (notes.Stuck a) ∷ []; is = refl; ends_are = λ j m. refl; cuts_are = λ j m. refl; runs_are = λ j m k. refl; ran_are = λ j m k. refl; law = λ l. (tt, l); passes = λ l. (tt, l) }
+  adds_note (notes.Reset a) ms g = record { later = said (notes.Reset a) ∷ []; is = refl; ends_are = λ j m. refl; cuts_are = λ j m. refl; runs_are = λ j m k. refl; ran_are = λ j m k. refl; law = λ l. (tt, l); passes = λ l. (tt, l) }
+  adds_note (notes.Seen a b) ms g = record { later = said (notes.Seen a b) ∷ []; is = refl; ends_are = λ j m. refl; cuts_are = λ j m. refl; runs_are = λ j m k. refl; ran_are = λ j m k. refl; law = λ l. (tt, l); passes = λ l. (tt, l) }
+  adds_note notes.Tick ms g = record { later = said notes.Tick ∷ []; is = refl; ends_are = λ j m. refl; cuts_are = λ j m. refl; runs_are = λ j m k. refl; ran_are = λ j m k. refl; law = λ l. (tt, l); passes = λ l. (tt, l) }
+  adds_note (notes.Refused a b) ms g = record { later = said (notes.Refused a b) ∷ []; is = refl; ends_are = λ j m. refl; cuts_are = λ j m. refl; runs_are = λ j m k. refl; ran_are = λ j m k. refl; law = λ l. (tt, l); passes = λ l. (tt, l) }
+  adds_note notes.Settled ms g = record { later = said notes.Settled ∷ []; is = refl; ends_are = λ j m. refl; cuts_are = λ j m. refl; runs_are = λ j m k. refl; ran_are = λ j m k. refl; law = λ l. (tt, l); passes = λ l. (tt, l) }
+  adds_note notes.Stopped ms g = record { later = said notes.Stopped ∷ []; is = refl; ends_are = λ j m. refl; cuts_are = λ j m. refl; runs_are = λ j m k. refl; ran_are = λ j m k. refl; law = λ l. (tt, l); passes = λ l. (tt, l) }
+  adds_note (notes.Key a) ms g = record { later = said (notes.Key a) ∷ []; is = refl; ends_are = λ j m. refl; cuts_are = λ j m. refl; runs_are = λ j m k. refl; ran_are = λ j m k. refl; law = λ l. (tt, l); passes = λ l. (tt, l) }
+  adds_note (notes.Unsolicited a) ms g = record { later = said (notes.Unsolicited a) ∷ []; is = refl; ends_are = λ j m. refl; cuts_are = λ j m. refl; runs_are = λ j m k. refl; ran_are = λ j m k. refl; law = λ l. (tt, l); passes = λ l. (tt, l) }
+  adds_note (notes.Unsent a) ms g = record { later = said (notes.Unsent a) ∷ []; is = refl; ends_are = λ j m. refl; cuts_are = λ j m. refl; runs_are = λ j m k. refl; ran_are = λ j m k. refl; law = λ l. (tt, l); passes = λ l. (tt, l) }
+  adds_note (notes.Told a) ms g = record { later = said (notes.Told a) ∷ []; is = refl; ends_are = λ j m. refl; cuts_are = λ j m. refl; runs_are = λ j m k. refl; ran_are = λ j m k. refl; law = λ l. (tt, l); passes = λ l. (tt, l) }
 
   -- ---- a world that goes on so: its target and who has the places stay
   module _ (past : List Moment) where

@@ -39,8 +39,10 @@ mod Naming
 mod OnceLaws
 mod Frees
 mod OpenPlaces
+mod OpenSpares
 mod OpenFollows
 mod OpenCuts
+mod OpenHad
 mod OpenManages
 mod OpenTurns
 mod OpenSteps
@@ -52,8 +54,16 @@ mod OpenProved
 mod OpenLists
 mod OpenNews
 mod OpenFresh
+mod OpenPlacing
+mod OpenUncut
 mod OpenListed
 mod OpenPointed
 mod OpenLasting
 mod OpenPresents
+mod Lasts
+mod Rises
+mod Generations
+mod Joins
+mod JoinRuns
+mod JoinLaws
 mod SlotsHeld

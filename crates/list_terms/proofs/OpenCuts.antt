@@ -1,6 +1,6 @@
 -- What a call of the target leaves of the places whose lists are open, where it points to none: cuts, decisions, resets and seconds. A place with an open list
 -- has a live login, and no other login that leaves or is taken back has its ID.
-use Rattle.std.proofs.Common.{arith, ◌≡◌, ◌≢◌, ◌∙◌, refl, sym, ap, subst, ◌<◌, ℕ, zero, suc, ◌+◌, nat_eq, nat_lt, not, Bool, true, false, cond, List, [], ◌∷◌, length, map, Option, Some, None}
+use Rattle.std.proofs.Common.{arith, ◌≡◌, ◌⊎◌, inl, inr, ◌≢◌, ◌∙◌, refl, sym, ap, subst, ◌<◌, ℕ, zero, suc, ◌+◌, nat_eq, nat_lt, not, Bool, true, false, cond, List, [], ◌∷◌, ◌++◌, length, map, Option, Some, None}
 use Rattle.std.specs.Prelude.{slice_index_or, slice_set}
 use Rattle.std.proofs.lemmas.Bool.Decides.{nat_tests}
 use Rattle.std.proofs.Math.ListN.{length-set}
@@ -36,6 +36,11 @@ use Rattle.agent_terms.proofs.Sparing.{IsOld}
 use Rattle.list_terms.proofs.Follows.{told_last, set_here}
 use Rattle.list_terms.proofs.Frees.{Frees, HasHeld, HasId}
 use Rattle.list_terms.proofs.OpenPlaces.{Has, decided_keeps, left_keeps}
+use Rattle.list_terms.proofs.OpenSpares.{SameCuts, cut_noted}
+use Rattle.sbp_bus.specs.Places.{holder_at, or_nobody}
+use Rattle.sbp_journal.specs.declared.note.Note.{Note}
+use Rattle.sbp_journal.specs.Run.{Moment, said}
+use Rattle.sbp_laws.specs.OrderLaw.{is_cut as was_cut}
 
 no : false ≡ true → ⊥
 no e = cc
@@ -81,7 +86,20 @@ pub record OwnsLogin (Why : Type 0) (logins : List (Option Login)) (h : Holder) 
 
 -- u is the world before anything is told, H says who has the places, by these logins as the call began, and B why a list is open there
 module _ (u : WorldState) (H : ℕ → Holder) (B : ℕ → Type 0) (logins : List (Option Login)) (sound : IsSound logins) where
+  -- the list of a place was cut, which has none now
+  pub record CutAt (now : NodeState) (i n : ℕ) : Type 0 where
+    pub place : ℕ
+    pub small : place < 8
+    pub from_is : (H place).initiator ≡ i
+    pub list_is : (H place).list ≡ Some n
+    pub own : OwnsLogin (B place) logins (H place) place
+    pub over : Listing now place → ⊥
+
+  abbrev pub CutsOf : NodeState → List Note → Type 0
+  CutsOf now fresh = (ms : List Moment) (i n : ℕ) → was_cut (map said fresh ++ ms) i n ≡ true → (was_cut (map said u.fresh ++ ms) i n ≡ true) ⊎ CutAt now i n
+
   pub record Open (s : Scene) : Type 0 where
+    pub cuts : CutsOf s.node (told_all 0 s.outbox.sides u).fresh
     pub desks : length s.node.desks ≡ 8
     pub kept : (p : ℕ) → p < 8 → Listing s.node p → Has (told_all 0 s.outbox.sides u).places p (H p)
     pub own : (p : ℕ) → p < 8 → Listing s.node p → OwnsLogin (B p) logins (H p) p
@@ -89,8 +107,16 @@ module _ (u : WorldState) (H : ℕ → Holder) (B : ℕ → Type 0) (logins : Li
   abbrev pub Fewer : NodeState → NodeState → Type 0
   Fewer before now = (p : ℕ) → Listing now p → Listing before p
 
+  fewer_cut : (before now : NodeState) (i n : ℕ) → Fewer before now → CutAt before i n → CutAt now i n
+  fewer_cut before now i n f c = record { place = c.place; small = c.small; from_is = c.from_is; list_is = c.list_is; own = c.own; over = λ l. c.over (f c.place l) }
+
+  fewer_cuts : (before now : NodeState) (i n : ℕ) → Fewer before now → (A : Type 0) → A ⊎ CutAt before i n → A ⊎ CutAt now i n
+  fewer_cuts before now i n f A (inl a) = inl a
+  fewer_cuts before now i n f A (inr c) = inr (fewer_cut before now i n f c)
+
   pub fewer : (s t : Scene) → length t.node.desks ≡ length s.node.desks → Fewer s.node t.node → t.outbox.sides ≡ s.outbox.sides → Open s → Open t
   fewer s t d f e c = record {
+    cuts = λ ms i n x. fewer_cuts s.node t.node i n f (was_cut (map said u.fresh ++ ms) i n ≡ true) (c.cuts ms i n (subst (λ xs. was_cut (map said (told_all 0 xs u).fresh ++ ms) i n ≡ true) e x));
     desks = d ∙ c.desks;
     kept = λ p b l. subst (λ xs. Has (told_all 0 xs u).places p (H p)) (sym e) (c.kept p b (f p l));
     own = λ p b l. c.own p b (f p l);
@@ -105,12 +131,19 @@ module _ (u : WorldState) (H : ℕ → Holder) (B : ℕ → Type 0) (logins : Li
   abbrev pub Leaves : Scene → Side → Type 0
   Leaves s side = (w : WorldState) (p : ℕ) → p < 8 → Listing s.node p → Has w.places p (H p) → Has (told 0 side w).places p (H p)
 
-  pub side_more : (s : Scene) (side : Side) → Leaves s side → Open s → Open (scene s.node (with_side s.outbox side))
-  side_more s side f c = record {
+  abbrev pub Quiet : Side → Type 0
+  Quiet side = (w : WorldState) → SameCuts w.fresh (told 0 side w).fresh
+
+  side_with : (s : Scene) (side : Side) → Leaves s side → CutsOf s.node (told 0 side (told_all 0 s.outbox.sides u)).fresh → Open s → Open (scene s.node (with_side s.outbox side))
+  side_with s side f x c = record {
+    cuts = subst (λ (w : WorldState). CutsOf s.node w.fresh) (sym (told_last s.outbox.sides side u)) x;
     desks = c.desks;
     kept = λ p b l. subst (λ (w : WorldState). Has w.places p (H p)) (sym (told_last s.outbox.sides side u)) (f (told_all 0 s.outbox.sides u) p b l (c.kept p b l));
     own = c.own;
   }
+
+  pub side_more : (s : Scene) (side : Side) → Leaves s side → Quiet side → Open s → Open (scene s.node (with_side s.outbox side))
+  side_more s side f q c = side_with s side f (λ ms i n e. c.cuts ms i n (sym (q (told_all 0 s.outbox.sides u) ms i n) ∙ e)) c
 
   -- a login leaves that is none of those
   abbrev pub Apart : Scene → ℕ → Type 0
@@ -118,11 +151,11 @@ module _ (u : WorldState) (H : ℕ → Holder) (B : ℕ → Type 0) (logins : Li
 
   left_more : (s : Scene) (id : ℕ) → Apart s id → Open s → Open (scene s.node (with_side s.outbox (sides.Left id)))
   unfolding told
-  left_more s id f c = side_more s (sides.Left id) (λ w p b l h. left_keeps w.places id p (H p) (f p b l) h) c
+  left_more s id f c = side_more s (sides.Left id) (λ w p b l h. left_keeps w.places id p (H p) (f p b l) h) (λ w ms i n. refl) c
 
   pub expired_more : (s : Scene) (id : ℕ) → Apart s id → Open s → Open (scene s.node (with_side s.outbox (sides.Expired id)))
   unfolding told
-  expired_more s id f c = side_more s (sides.Expired id) (λ w p b l h. left_keeps w.places id p (H p) (f p b l) h) c
+  expired_more s id f c = side_more s (sides.Expired id) (λ w p b l h. left_keeps w.places id p (H p) (f p b l) h) (λ w ms i n. refl) c
 
   -- another desk
   pub desk_more : (s : Scene) (k : ℕ) (d : Desk) → (is_up d.agent ≡ true → Listing s.node k) → Open s → Open (scene (with_desk s.node k d) s.outbox)
@@ -146,21 +179,8 @@ module _ (u : WorldState) (H : ℕ → Holder) (B : ℕ → Type 0) (logins : Li
   other_apart p place id other o h e = (sound.apart p place o.login h.login other o.is h.is).ids (sym o.id_is ∙ e ∙ sym h.id_is)
 
   -- ---- cuts
-  told_cuts : (b : Bool) (place : ℕ) (cause : CutCause) (s : Scene) → Open s → Open (scene s.node (told_cut b place cause s.outbox))
-  unfolding told
-  told_cuts true place cause s c = c
-  told_cuts false place cause s c = side_more s (sides.Cut place cause) (λ w p b l h. h) c
-
   listless : (m : Machine) → is_up (reset_step m) ≡ true → ⊥
   listless m e = no (sym (reset_none m) ∙ e)
-
-  pub cuts_one : (cause : CutCause) (place : ℕ) (s : Scene) → Open s → Open (cut cause place s)
-  unfolding cut
-  cuts_one cause place s c =
-      let d = reset_desk (desk_at s.node place) in
-      let one = desk_more s place d (λ e. absurd (listless (Here s.node place) e)) c in
-      let t = scene (cut_node place s.node) s.outbox in
-      told_cuts (is_reset (state_in (desk_at s.node place).agent.phase)) place cause t (same_desks (scene (with_desk s.node place d) s.outbox) (cut_node place s.node) s.outbox refl refl one)
 
   -- the agent that is cut has no list
   cut_none : (cause : CutCause) (place : ℕ) (s : Scene) → length s.node.desks ≡ 8 → place < 8 → Listing (cut cause place s).node place → ⊥
@@ -168,6 +188,38 @@ module _ (u : WorldState) (H : ℕ → Holder) (B : ℕ → Type 0) (logins : Li
   cut_none cause place s size b e =
       let x : desk_at (cut_node place s.node) place ≡ reset_desk (desk_at s.node place) = set_here (record s.node { layer = (cut_node place s.node).layer }) place (reset_desk (desk_at s.node place)) (omega (arith, size)) in
       listless (Here s.node place) (sym (ap (λ (d : Desk). is_up d.agent) x) ∙ e)
+
+  -- a place has a list, and so it is one of the eight
+  far_none : (desks : List Desk) (k : ℕ) → is_up (slice_index_or desks k new_desk).agent ≡ true → k < length desks
+  far_none [] k e = absurd (no e)
+  far_none (d ∷ desks) zero e = omega arith
+  far_none (d ∷ desks) (suc k) e = let x = far_none desks k e in omega (arith, x)
+
+  told_cuts : (b : Bool) (place : ℕ) (cause : CutCause) (s : Scene) (now : NodeState) → is_reset (state_in (Here s.node place).phase) ≡ b → (place < 8 → Listing now place → ⊥) → Open s → Open (scene now s.outbox) → Open (scene now (told_cut b place cause s.outbox))
+  unfolding told
+  told_cuts true place cause s now e over k c = c
+  told_cuts false place cause s now e over k c =
+      let l : Listing s.node place = ap not e in
+      let far = far_none s.node.desks place l in
+      let size = k.desks in
+      let b : place < 8 = omega arith in
+      let w = told_all 0 s.outbox.sides u in
+      let is : holder_at w.places place ≡ H place = ap or_nobody (k.kept place b l) in
+      side_with (scene now s.outbox) (sides.Cut place cause) (λ w p b l h. h)
+      (λ ms i n x. cut_by place cause now b (k.own place b l) (over b) w ms i n is (cut_noted (holder_at w.places place).list cause (map said w.fresh ++ ms) (holder_at w.places place).initiator i n x) (c.cuts ms i n)) c
+    where
+      cut_by : (place : ℕ) (cause : CutCause) (now : NodeState) → place < 8 → OwnsLogin (B place) logins (H place) place → (Listing now place → ⊥) → (w : WorldState) (ms : List Moment) (i n : ℕ) → holder_at w.places place ≡ H place → (was_cut (map said w.fresh ++ ms) i n ≡ true) ⊎ (((holder_at w.places place).initiator ≡ i) × ((holder_at w.places place).list ≡ Some n)) → (was_cut (map said w.fresh ++ ms) i n ≡ true → (was_cut (map said u.fresh ++ ms) i n ≡ true) ⊎ CutAt now i n) → (was_cut (map said u.fresh ++ ms) i n ≡ true) ⊎ CutAt now i n
+      cut_by place cause now b o over w ms i n is (inl e) f = f e
+      cut_by place cause now b o over w ms i n is (inr (x, y)) f =
+          inr (record { place = place; small = b; from_is = ap (λ (h : Holder). h.initiator) (sym is) ∙ x; list_is = ap (λ (h : Holder). h.list) (sym is) ∙ y; own = o; over = over })
+
+  pub cuts_one : (cause : CutCause) (place : ℕ) (s : Scene) → Open s → Open (cut cause place s)
+  unfolding cut
+  cuts_one cause place s c =
+      let d = reset_desk (desk_at s.node place) in
+      let one = desk_more s place d (λ e. absurd (listless (Here s.node place) e)) c in
+      told_cuts (is_reset (state_in (desk_at s.node place).agent.phase)) place cause s (cut_node place s.node) refl (λ b l. cut_none cause place s c.desks b l) c
+      (same_desks (scene (with_desk s.node place d) s.outbox) (cut_node place s.node) s.outbox refl refl one)
 
   pick : (b : Bool) (s t : Scene) → Open s → Open t → Open (cond b s t)
   pick true s t c e = c
@@ -191,7 +243,7 @@ module _ (u : WorldState) (H : ℕ → Holder) (B : ℕ → Type 0) (logins : Li
   unfolding clear_unit told
   clears unit s c =
       let t = scene (record s.node { units = (clear_unit unit s).node.units }) s.outbox in
-      side_more t (sides.Cleared unit) (λ w p b l h. h) (same_desks s t.node s.outbox refl refl c)
+      side_more t (sides.Cleared unit) (λ w p b l h. h) (λ w ms i n. refl) (same_desks s t.node s.outbox refl refl c)
 
   clears_from : (left unit : ℕ) (s : Scene) → Open s → Open (clear_from left unit s)
   unfolding clear_from
@@ -207,7 +259,7 @@ module _ (u : WorldState) (H : ℕ → Holder) (B : ℕ → Type 0) (logins : Li
   pub tells_failed : (source : ℕ) (failed : Option FailCause) (s : Scene) → Open s → Open (scene s.node (tell_failed source failed s.outbox))
   unfolding told
   tells_failed source None s c = c
-  tells_failed source (Some cause) s c = side_more s (sides.ManageFailed source cause) (λ w p b l h. h) c
+  tells_failed source (Some cause) s c = side_more s (sides.ManageFailed source cause) (λ w p b l h. h) (λ w ms i n. refl) c
 
   abbrev pub Old : Effect → Type 0
   Old (effects.Entered place replaced) = IsOld replaced logins
@@ -234,7 +286,7 @@ module _ (u : WorldState) (H : ℕ → Holder) (B : ℕ → Type 0) (logins : Li
   effects_by effects.Nothing id s o f c = c
   effects_by (effects.Entered place replaced) id s o f c =
       tells_left replaced (scene (fresh_desk place s.node) s.outbox) o (desk_more s place (record (desk_at s.node place) { pointer = None; is_enabled = false }) (λ e. e) c)
-  effects_by (effects.Back place) id s o f c = side_more s (sides.Back id) (λ w p b l h. h) c
+  effects_by (effects.Back place) id s o f c = side_more s (sides.Back id) (λ w p b l h. h) (λ w ms i n. refl) c
   effects_by (effects.Left place) id s o f c = leaves place id s f c
   effects_by (effects.Abort place orb) id s o f c = desk_more s place (record (desk_at s.node place) { agent = abort_step (desk_at s.node place).agent orb }) (abort_less (Here s.node place) orb) c
   effects_by (effects.AbortSet place) id s o f c = cuts_placed (place_in place) cuts.AbortSet s c
@@ -270,4 +322,4 @@ module _ (u : WorldState) (H : ℕ → Holder) (B : ℕ → Type 0) (logins : Li
       let t = effect_by effect d.subject s in
       let o = effects_by effect d.subject s known.old known.frees c in
       side_more t (sides.Managed source d.function d.subject d.status d.login)
-      (λ w p b l h. decided_keeps w.places d.status (function_word d.function) d.subject d.login _ p (H p) (λ r z e. let x = freed_held effect d.subject known.frees (known.back r z) in held_apart p x.0 d.subject (o.own p b l) x.1 e) h) o
+      (λ w p b l h. decided_keeps w.places d.status (function_word d.function) d.subject d.login _ p (H p) (λ r z e. let x = freed_held effect d.subject known.frees (known.back r z) in held_apart p x.0 d.subject (o.own p b l) x.1 e) h) (λ w ms i n. refl) o

@@ -40,7 +40,7 @@ use Rattle.target_laws.proofs.Following.{IsServed}
 use Rattle.target_laws.proofs.Settled.{reaches}
 use Rattle.list_terms.proofs.OpenCuts.{Here, cuts_one, desk_more, same_desks}
 use Rattle.list_terms.proofs.OpenManages.{answers, manages, starts}
-use Rattle.list_terms.proofs.OpenSteps.{After, late_open, refused_open, reply_open, ring_open, taken_open}
+use Rattle.list_terms.proofs.OpenSteps.{Opens, late_open, refused_open, reply_open, ring_open, taken_open}
 use Rattle.list_terms.proofs.OpenTurns.{AreSeated, Before, K, begins, here, node, sound, waits_lists, waits_place}
 
 module _ (w : WorldState) (g : Good w.target) (seats : AreSeated w) (u : WorldState) (same : u.places ≡ w.places) where
@@ -74,7 +74,7 @@ module _ (w : WorldState) (g : Good w.target) (seats : AreSeated w) (u : WorldSt
       pub ask : Ask
       pub took : (point_step (Here w.target place) pointer).0 ≡ Ok ask
       pub got : judged ≡ judgements.Got
-      pub after : After w g seats u same layer place small packet sent.bytes served (orb_of (point_step (Here w.target place) pointer).1) s
+      pub after : Opens w g seats u same layer place small packet sent.bytes served (orb_of (point_step (Here w.target place) pointer).1) s
 
     abbrev pub Turned : Judged → Scene → Type 0
     Turned judged s = Now layer s ⊎ Points judged s

@@ -1,5 +1,5 @@
 -- What follows a step of the agent of a place leaves who has the places, and the agents of all other places.
-use Rattle.std.proofs.Common.{◌≡◌, ◌∙◌, refl, ap, ◌<◌, ◌≤◌, ℕ, zero, suc, ◌+◌, is_some, Bool, true, false, cond, List, length, Option, Some, None, arith}
+use Rattle.std.proofs.Common.{◌≡◌, ◌∙◌, refl, sym, ap, subst, ◌<◌, ◌≤◌, ℕ, zero, suc, ◌+◌, is_some, Bool, true, false, cond, List, ◌++◌, map, length, Option, Some, None, arith}
 use Rattle.std.proofs.Math.ListN.{length-set}
 use Rattle.label_table.specs.declared.judgement.Asked.{Asked}
 use Rattle.label_table.specs.Bodies.{Body, block_write}
@@ -30,12 +30,19 @@ use Rattle.sbp_target.specs.Telling.{orb_of, tell_dead, tell_ended, tell_ran, te
 use Rattle.sbp_target.specs.Units.{announce_at, announce_from, announce_in, announce_to, hears, is_pending, unsolicited_by, unsolicited_from}
 use Rattle.sbp_world.specs.Telling.{told, told_all}
 use Rattle.sbp_world.specs.Worlds.{WorldState}
+use Rattle.sbp_journal.specs.Run.{said}
+use Rattle.sbp_laws.specs.OrderLaw.{is_cut}
+use Rattle.list_terms.proofs.OpenSpares.{SameCuts}
 use Rattle.list_terms.proofs.Follows.{AreSame, are_self, are_then, set_there, told_last, with_same}
 
 -- of all but the agent of a place
 module _ (u : WorldState) (places : List (Option Holder)) (q : ℕ) (machines : ℕ → Machine) (b : q < 8) where
+  pub record SaysBy (side : List Side) : Type 0 where
+    pub is : (told_all 0 side u).places ≡ places
+    pub cuts : SameCuts u.fresh (told_all 0 side u).fresh
+
   abbrev pub Says : OutboxState → Type 0
-  Says o = (told_all 0 o.sides u).places ≡ places
+  Says o = SaysBy o.sides
 
   pub record Beside (s : Scene) : Type 0 where
     pub is : Says s.outbox
@@ -43,26 +50,29 @@ module _ (u : WorldState) (places : List (Option Holder)) (q : ℕ) (machines : 
     pub same : (p : ℕ) → (p ≡ q → ⊥) → (desk_at s.node p).agent ≡ machines p
 
   pub alike : (s t : Scene) → AreSame s.node t.node → t.outbox.sides ≡ s.outbox.sides → Beside s → Beside t
-  alike s t a e m = record { is = ap (λ xs. (told_all 0 xs u).places) e ∙ m.is; desks = a.desks ∙ m.desks; same = λ p f. a.agents p ∙ m.same p f }
+  alike s t a e m = record { is = subst SaysBy (sym e) m.is; desks = a.desks ∙ m.desks; same = λ p f. a.agents p ∙ m.same p f }
 
   -- ---- a side that leaves the places
-  side_says : (side : Side) (o : OutboxState) → ((w : WorldState) → (told 0 side w).places ≡ w.places) → Says o → Says (with_side o side)
-  side_says side o leaves e = ap (λ (w : WorldState). w.places) (told_last o.sides side u) ∙ leaves (told_all 0 o.sides u) ∙ e
+  side_says : (side : Side) (o : OutboxState) → ((w : WorldState) → (told 0 side w).places ≡ w.places) → ((w : WorldState) → SameCuts w.fresh (told 0 side w).fresh) → Says o → Says (with_side o side)
+  side_says side o leaves same e = record {
+    is = ap (λ (w : WorldState). w.places) (told_last o.sides side u) ∙ leaves (told_all 0 o.sides u) ∙ e.is;
+    cuts = λ ms i n. ap (λ (w : WorldState). is_cut (map said w.fresh ++ ms) i n) (told_last o.sides side u) ∙ same (told_all 0 o.sides u) ms i n ∙ e.cuts ms i n;
+  }
 
   ran_says : (x : Option Outcome) (m : Machine) (o : OutboxState) → Says o → Says (tell_ran q m x o)
   unfolding told
   ran_says None m o e = e
-  ran_says (Some outcome) m o e = side_says (sides.Ran q (orb_of m) m.orb.cdb m.payload outcome) o (λ w. refl) e
+  ran_says (Some outcome) m o e = side_says (sides.Ran q (orb_of m) m.orb.cdb m.payload outcome) o (λ w. refl) (λ w ms i n. refl) e
 
   dead_says : (x : Option FailCause) (o : OutboxState) → Says o → Says (tell_dead q x o)
   unfolding told
   dead_says None o e = e
-  dead_says (Some cause) o e = side_says (sides.Dead q cause) o (λ w. refl) e
+  dead_says (Some cause) o e = side_says (sides.Dead q cause) o (λ w. refl) (λ w ms i n. refl) e
 
   ended_says : (x : Option StatusKind) (m : Machine) (o : OutboxState) → Says o → Says (tell_ended q m x o)
   unfolding told
   ended_says None m o e = e
-  ended_says (Some status) m o e = side_says (sides.Ended q (orb_of m) status) o (λ w. refl) e
+  ended_says (Some status) m o e = side_says (sides.Ended q (orb_of m) status) o (λ w. refl) (λ w ms i n. refl) e
 
   step_says : (step : AgentStep) (m : Machine) (o : OutboxState) → Says o → Says (tell_step q m step o)
   unfolding tell_step
@@ -177,8 +187,8 @@ module _ (u : WorldState) (places : List (Option Holder)) (q : ℕ) (machines : 
   -- ---- other logins hear of a disc
   heard_says : (place : ℕ) (x : Bool) (o : OutboxState) → Says o → Says (with_side o (cond x (sides.Unsolicited place) (sides.Unsent place)))
   unfolding told
-  heard_says place true o e = side_says (sides.Unsolicited place) o (λ w. refl) e
-  heard_says place false o e = side_says (sides.Unsent place) o (λ w. refl) e
+  heard_says place true o e = side_says (sides.Unsolicited place) o (λ w. refl) (λ w ms i n. refl) e
+  heard_says place false o e = side_says (sides.Unsent place) o (λ w. refl) (λ w ms i n. refl) e
 
   heard_beside : (place : ℕ) (x : Bool) (s : Scene) → Beside s → Beside (scene s.node (with_side s.outbox (cond x (sides.Unsolicited place) (sides.Unsent place))))
   heard_beside place x s m = record { is = heard_says place x s.outbox m.is; desks = m.desks; same = m.same }

@@ -24,12 +24,8 @@ use Rattle.sbp_laws.specs.Terms.{appends, lists}
 use Rattle.sbp_laws.specs.Turns.{EachMoment}
 use Rattle.sbp_world.specs.Telling.{holder, ticket_at}
 use Rattle.sbp_world.specs.Worlds.{WorldState, initiator_at}
-use Rattle.target_base.specs.declared.address.Access.{Access}
 use Rattle.target_base.specs.declared.address.Access.TheVariants as accesses
-use Rattle.target_base.specs.declared.address.AgentRegister.{AgentRegister}
-use Rattle.target_base.specs.declared.address.Demand.TheVariants as demands
-use Rattle.target_base.specs.Addresses.{demand_of, reached, row_of}
-use Rattle.sbp_target.proofs.Reached.{demand_place}
+use Rattle.target_base.specs.Addresses.{demand_of}
 use Rattle.agent_terms.specs.Holders.{AreHeldAt}
 use Rattle.session_terms.specs.Caught.{HaveCaught}
 use Rattle.host_terms.specs.Fits.{AreRows, IfList, terms_at}
@@ -41,7 +37,12 @@ use Rattle.pointer_terms.specs.Pointers.{PointersAt, pointed_list}
 use Rattle.list_terms.specs.Needs.{IsCalm, IsNamed, IsOpenAt, initiator_in, is_open_at, machine_at}
 use Rattle.list_terms.specs.Opens.{AreOpened, IsOpened}
 use Rattle.list_terms.specs.Places.{ArePlaced, IsNamedFor, IsPlaced, IsStanding, StandsThere}
+use Rattle.list_terms.proofs.OpenHad.{WereAt}
 use Rattle.list_terms.proofs.OpenLists.{latest}
+use Rattle.list_terms.proofs.OpenPlacing.{one_place}
+use Rattle.list_terms.proofs.OpenUncut.{open_uncut}
+use Rattle.sbp_laws.specs.OrderLaw.{is_cut}
+use Rattle.sbp_world.specs.Wire.History.{IsOfWire}
 use Rattle.list_terms.proofs.OpenTurns.{listing_up, up_state}
 
 no : false ≡ true → ⊥
@@ -98,17 +99,8 @@ module _ (past : List Moment) (w : WorldState) (p n k : ℕ) (inside : initiator
   pub is_named : IsNamed past w p n k
   is_named = let x = list_of last named_last in record { list = ap bus.list_in ticket_is ∙ x.0; number = ap bus.orb_in ticket_is ∙ x.1 }
 
--- ---- the place of a pointer
-pub one_place : (packet : Packet) (r q a b : ℕ) (x y : Access) → demand_of r packet ≡ demands.Agent a x → demand_of q packet ≡ demands.Agent b y → a ≡ b
-unfolding demand_of
-one_place packet r q a b x y e f =
-    let c = demand_place (row_of (reached r packet)) r packet a x refl e in
-    let d = demand_place (row_of (reached q packet)) q packet b y refl f in
-    let same : c.found ≡ d.found = some_same c.found d.found (sym c.at ∙ d.at) in
-    sym c.own ∙ ap (λ (z : AgentRegister). z.place) same ∙ d.own
-
 -- ---- at a place of a history
-module _ (start : List Disk) (past : List Moment) (w : WorldState) (opens : AreOpened past w) (placed : ArePlaced past w) (held : AreHeldAt start past w) (caught : HaveCaught start past w) (moments : (i : ℕ) → i < length w.initiators → EachMoment (MayStand i) past) (pointers : (i : ℕ) → i < length w.initiators → PointersAt past i) (rows : (i : ℕ) → i < length w.initiators → AreRows past i (initiator_at w i).lists.slots) (within : (i n : ℕ) → i < length w.initiators → linked past i n ≤ appends past i n) (lasting : (later earlier : List Moment) (serial : ℕ) (sent : Sending) → later ++ said (notes.Got serial) ∷ earlier ≡ past → (terms earlier).sent serial ≡ Some sent → (terms past).sent serial ≡ Some sent) where
+module _ (start : List Disk) (past : List Moment) (w : WorldState) (opens : AreOpened past w) (placed : ArePlaced past w) (held : AreHeldAt start past w) (caught : HaveCaught start past w) (moments : (i : ℕ) → i < length w.initiators → EachMoment (MayStand i) past) (pointers : (i : ℕ) → i < length w.initiators → PointersAt past i) (rows : (i : ℕ) → i < length w.initiators → AreRows past i (initiator_at w i).lists.slots) (within : (i n : ℕ) → i < length w.initiators → linked past i n ≤ appends past i n) (lasting : (later earlier : List Moment) (serial : ℕ) (sent : Sending) → later ++ said (notes.Got serial) ∷ earlier ≡ past → (terms earlier).sent serial ≡ Some sent → (terms past).sent serial ≡ Some sent) (wire : IsOfWire past) (weres : WereAt past w) where
   module _ (p : ℕ) (b : p < 8) (l : is_open_at w p ≡ true) (calm : IsCalm past (initiator_in w p)) where
     abbrev j : ℕ
     j = initiator_in w p
@@ -152,12 +144,15 @@ module _ (start : List Disk) (past : List Moment) (w : WorldState) (opens : AreO
             let f : (terms past).generation 0 < (terms past).generation (suc j) = grind (arith, nat_tests) in
             here.ahead p for_list.list b l refl f list_is
 
+    uncut_one : is_cut past j for_list.list ≡ false
+    uncut_one = open_uncut past (holder w p) p for_list.list here.named (pointers j opened.inside) lasting calm wire list_is (weres.each p b (listing_up (machine_at w p).phase l))
+
     pub open_at : IsOpenAt past w p
     open_at = record {
       inside = opened.inside;
       n = for_list.list;
       list = list_is;
-      still = record { latest = standing.latest; uncut = here.uncut p for_list.list b l refl list_is };
+      still = record { latest = standing.latest; uncut = uncut_one };
       named = λ k e f. is_named past w p for_list.list k opened.inside (rows j opened.inside) (standing.stands k e f);
     }
 

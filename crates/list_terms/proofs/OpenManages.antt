@@ -137,7 +137,7 @@ module _ (u : WorldState) (H : ℕ → Holder) (B : ℕ → Type 0) (table : Tab
   holds_one (Some login) s c = by (is_live login)
     where
       by : (b : Bool) → K (scene s.node (cond b (with_side s.outbox (sides.Held login.login)) s.outbox))
-      by true = side_more u H B table.places sound s (sides.Held login.login) (λ w p b l h. h) c
+      by true = side_more u H B table.places sound s (sides.Held login.login) (λ w p b l h. h) (λ w ms i n. refl) c
       by false = c
 
   holds_from : (left place : ℕ) (places : List (Option Login)) (s : Scene) → K s → K (scene s.node (held_from left place places s.outbox))

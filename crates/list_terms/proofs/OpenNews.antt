@@ -127,17 +127,24 @@ module _ (r : ℕ) where
   all_grow (m ∷ later) past = let a = all_grow later past in let b = moment_grows m (later ++ past) in omega (arith, a, b)
 
   -- a packet that was got
-  got_one : (past : List Moment) (packet : Sending) → (terms past).sent r ≡ Some packet → 0 < (terms (said (notes.Got r) ∷ past)).news r
+  got_one : (past : List Moment) (packet : Sending) → (terms past).sent r ≡ Some packet → (terms past).news r < (terms (said (notes.Got r) ∷ past)).news r
   got_one past packet e =
       let t = terms past in
       let u = is_served r (is_news r (arrives r t)) in
       let x = same u (gets (Some packet) r t) (gets_as_same (part_of packet.bytes) r packet u) in
       let y : t.news r < u.news r = by (nat_eq r r) (grind (arith, nat_tests)) t in
-      subst (λ found. 0 < (gets found r t).news r) (sym e) (omega (arith, x, y))
+      subst (λ found. t.news r < (gets found r t).news r) (sym e) (omega (arith, x, y))
     where
       by : (b : Bool) → b ≡ true → (t : Terms) → t.news r < cond b (t.news r + 1) (t.news r)
       by true f t = omega arith
       by false f t = absurd (let z : false ≡ true = f in cc)
+
+  -- once more than before
+  pub got_more : (later earlier past : List Moment) (packet : Sending) → later ++ said (notes.Got r) ∷ earlier ≡ past → (terms earlier).sent r ≡ Some packet → (terms earlier).news r < (terms past).news r
+  got_more later earlier past packet e f =
+      let a = all_grow later (said (notes.Got r) ∷ earlier) in
+      let b = got_one earlier packet f in
+      subst (λ ms. (terms earlier).news r < (terms ms).news r) e (omega (arith, a, b))
 
   pub got_news : (later earlier past : List Moment) (packet : Sending) → later ++ said (notes.Got r) ∷ earlier ≡ past → (terms earlier).sent r ≡ Some packet → 0 < (terms past).news r
   got_news later earlier past packet e f =

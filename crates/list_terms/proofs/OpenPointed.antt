@@ -41,7 +41,10 @@ use Rattle.list_terms.proofs.OpenListed.{for_list, is_named, one_only, open_at, 
 use Rattle.list_terms.proofs.OpenLists.{latest}
 use Rattle.list_terms.proofs.OpenNews.{got_news}
 use Rattle.list_terms.proofs.OpenOwners.{owner}
+use Rattle.list_terms.proofs.OpenHad.{WereAt}
+use Rattle.list_terms.proofs.OpenUncut.{waits_uncut}
 use Rattle.list_terms.proofs.OpenWorlds.{taken}
+use Rattle.sbp_world.specs.Wire.History.{IsOfWire}
 
 -- a packet that asks for a register came from the initiator of the place
 pub record HasCome (past : List Moment) (w : WorldState) (serial : ℕ) (sent : Sent) (packet : Packet) (place : ℕ) : Type 0 where
@@ -58,7 +61,7 @@ AllCome past w = (serial : ℕ) (sent : Sent) → found_sent serial w.store.kept
 abbrev pub AllNew : List Moment → WorldState → Type 0
 AllNew past w = (serial : ℕ) (sent : Sent) → found_sent serial w.store.kept ≡ Some sent → sent.to ≡ 0 → (label : ℕ) → part_of sent.bytes ≡ request label writing → (terms past).injects sent.from ≡ false → (packet : Packet) → (judging_step w.target.layer sent.generation sent.bytes).0 ≡ of_request packet → sent.generation ≡ (terms past).generation 0 → (terms past).news serial ≡ 0
 
-module _ (start : List Disk) (past : List Moment) (w : WorldState) (opens : AreOpened past w) (placed : ArePlaced past w) (held : AreHeldAt start past w) (caught : HaveCaught start past w) (moments : (i : ℕ) → i < length w.initiators → EachMoment (MayStand i) past) (pointers : (i : ℕ) → i < length w.initiators → PointersAt past i) (rows : (i : ℕ) → i < length w.initiators → AreRows past i (initiator_at w i).lists.slots) (within : (i n : ℕ) → i < length w.initiators → linked past i n ≤ appends past i n) (lasting : (later earlier : List Moment) (serial : ℕ) (sent : Sending) → later ++ said (notes.Got serial) ∷ earlier ≡ past → (terms earlier).sent serial ≡ Some sent → (terms past).sent serial ≡ Some sent) (come : AllCome past w) (new : AllNew past w) where
+module _ (start : List Disk) (past : List Moment) (w : WorldState) (opens : AreOpened past w) (placed : ArePlaced past w) (held : AreHeldAt start past w) (caught : HaveCaught start past w) (moments : (i : ℕ) → i < length w.initiators → EachMoment (MayStand i) past) (pointers : (i : ℕ) → i < length w.initiators → PointersAt past i) (rows : (i : ℕ) → i < length w.initiators → AreRows past i (initiator_at w i).lists.slots) (within : (i n : ℕ) → i < length w.initiators → linked past i n ≤ appends past i n) (lasting : (later earlier : List Moment) (serial : ℕ) (sent : Sending) → later ++ said (notes.Got serial) ∷ earlier ≡ past → (terms earlier).sent serial ≡ Some sent → (terms past).sent serial ≡ Some sent) (wire : IsOfWire past) (weres : WereAt past w) (come : AllCome past w) (new : AllNew past w) where
   module _ (serial : ℕ) (sent : Sent) (found : found_sent serial w.store.kept ≡ Some sent) (to_is : sent.to ≡ 0) (packet : Packet) (judged : (judging_step w.target.layer sent.generation sent.bytes).0 ≡ of_request packet) (bar : is_barred w.target packet ≡ false) (place : ℕ) (pointer : OrbPointer) (ask : Ask) (demand : demand_of (length w.target.rom) packet ≡ demands.Agent place (accesses.Point pointer)) (took : (point_step (machine_at w place) pointer).0 ≡ Ok ask) (calm : IsCalm past (initiator_in w place)) where
     abbrev i : ℕ
     i = initiator_in w place
@@ -137,22 +140,22 @@ module _ (start : List Disk) (past : List Moment) (w : WorldState) (opens : AreO
         also : IsCalm past (initiator_in w other)
         also = subst (IsCalm past) (sym same) calm
 
-        lists_same : (for_list start past w opens placed held caught moments pointers rows within lasting other c m also).list ≡ first_of.list
+        lists_same : (for_list start past w opens placed held caught moments pointers rows within lasting wire weres other c m also).list ≡ first_of.list
         lists_same =
-            let x = (standing start past w opens placed held caught moments pointers rows within lasting other c m also).latest in
+            let x = (standing start past w opens placed held caught moments pointers rows within lasting wire weres other c m also).latest in
             let y = waits_standing.latest in
             let z : lists past (initiator_in w other) ≡ lists past i = ap (lists past) same in
             omega (arith, x, y, z)
 
-        serials_same : (opened start past w opens placed held caught moments pointers rows within lasting other c m also).opened.serial ≡ serial
+        serials_same : (opened start past w opens placed held caught moments pointers rows within lasting wire weres other c m also).opened.serial ≡ serial
         serials_same =
-            (pointers i came.inside).once first_of.list (opened start past w opens placed held caught moments pointers rows within lasting other c m also).opened.serial serial
-            (ap (λ j. pointed_list past (opened start past w opens placed held caught moments pointers rows within lasting other c m also).opened.serial j) (sym same) ∙ (for_list start past w opens placed held caught moments pointers rows within lasting other c m also).pointed ∙ ap Some lists_same)
+            (pointers i came.inside).once first_of.list (opened start past w opens placed held caught moments pointers rows within lasting wire weres other c m also).opened.serial serial
+            (ap (λ j. pointed_list past (opened start past w opens placed held caught moments pointers rows within lasting wire weres other c m also).opened.serial j) (sym same) ∙ (for_list start past w opens placed held caught moments pointers rows within lasting wire weres other c m also).pointed ∙ ap Some lists_same)
             first_of.pointed
 
         got : 0 < (terms past).news serial
         got =
-            let o = (opened start past w opens placed held caught moments pointers rows within lasting other c m also).opened in
+            let o = (opened start past w opens placed held caught moments pointers rows within lasting wire weres other c m also).opened in
             subst (λ n. 0 < (terms past).news n) serials_same (got_news o.serial o.later o.earlier past o.sent o.is o.sent_is)
 
     pub is_pointed : IsPointed past w place pointer
@@ -163,14 +166,14 @@ module _ (start : List Disk) (past : List Moment) (w : WorldState) (opens : AreO
       first = (taken (machine_at w place) pointer ask took).at ∙ ap Some first_of.address_is;
       linked_one = ((pointers i came.inside).each first_of.list serial first_of.pointed).one;
       none = waiting.none;
-      still = record { latest = waits_standing.latest; uncut = waiting.uncut };
+      still = record { latest = waits_standing.latest; uncut = waits_uncut past i (placed i came.inside calm).0.named (pointers i came.inside) lasting (weres.had i) first_of.list serial first_of.pointed fresh };
       named = λ k f. is_named past w place first_of.list k came.inside (rows i came.inside) (waits_standing.stands k (let e = waiting.none in omega (arith, e)) f);
       alone = alone;
     }
 
   pub are_listed : AreListed past w
   are_listed = record {
-    listed = λ place b l calm. open_at start past w opens placed held caught moments pointers rows within lasting place b l calm;
-    one = λ place other b c l m calm same. one_only start past w opens placed held caught moments pointers rows within lasting place other b c l m calm same;
+    listed = λ place b l calm. open_at start past w opens placed held caught moments pointers rows within lasting wire weres place b l calm;
+    one = λ place other b c l m calm same. one_only start past w opens placed held caught moments pointers rows within lasting wire weres place other b c l m calm same;
     points = λ sent f packet judged bar place pointer ask demand took calm. is_pointed f.serial sent f.found f.to packet judged bar place pointer ask demand took calm;
   }

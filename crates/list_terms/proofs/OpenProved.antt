@@ -37,10 +37,12 @@ use Rattle.host_terms.proofs.Runs.{count_after, count_between, run_law}
 use Rattle.host_terms.proofs.StepLaws.{step_law}
 use Rattle.list_terms.specs.Needs.{IsCalm, OpenListsLaw}
 use Rattle.list_terms.proofs.OpenCuts.{is_up}
+use Rattle.list_terms.specs.CutLists.{CutListsLaw}
 use Rattle.list_terms.specs.Opens.{AreOpened, OpensLaw}
 use Rattle.list_terms.proofs.OpenRuns.{AllFacts, Facts, More, all, all_heard, line_were}
 use Rattle.list_terms.proofs.OpenTurns.{up_state}
-use Rattle.list_terms.proofs.OpenWorlds.{AllWere, was_later}
+use Rattle.list_terms.proofs.OpenWorlds.{AllWere}
+use Rattle.list_terms.proofs.OpenHad.{WereAt, same_were}
 use Rattle.list_terms.proofs.Runs.{kept_after}
 use Rattle.target_laws.proofs.Calling.{Good, not_eight}
 use Rattle.agent_terms.proofs.Management.Holding.{good_of}
@@ -57,7 +59,7 @@ closed p b d = no (sym (ap (λ (x : Desk). is_up x.agent) (get_or-replicate 8 p 
 
 first_were : (line n : ℕ) (is_ready : Bool) (units : ℕ) → AllWere (first_past line n is_ready) (new_world n is_ready units)
 unfolding new_world
-first_were line n is_ready units = λ p b d. absurd (closed p b d)
+first_were line n is_ready units = record { each = λ p b d. absurd (closed p b d); had = λ i k e. absurd (no e) }
 
 -- ---- runs
 moments_same : (line : ℕ) (run : Run) (every entries : List Entry) → moments_behind line (record run { entries = every }) entries ≡ moments_behind line run entries
@@ -201,8 +203,8 @@ module _ (line : ℕ) (run : Run) (few : run.initiators ≤ 4) (has : 0 < run.un
 
       -- as it begins the open lists are the same
       begun_were : (next : ℕ) (event : Event) → AllWere past here.world → AllWere (asked next event ∷ hist past here.world) (without_notes here.world)
-      begun_were next event o p b l =
-          was_later (asked next event ∷ []) (hist past here.world) (asked next event ∷ hist past here.world) (holder here.world p).initiator p (holder here.world p).list refl (o p b l)
+      begun_were next event o =
+          same_were (asked next event ∷ []) (hist past here.world) (asked next event ∷ hist past here.world) here.world (without_notes here.world) refl (λ i n. refl) refl (λ p l. l) o
 
   -- ---- behind the lines of a run
   pub record After (entries : List Entry) (w : WorldState) : Type 0 where
@@ -258,7 +260,7 @@ module _ (line : ℕ) (run : Run) (few : run.initiators ≤ 4) (has : 0 < run.un
         there = k.there ∙ ap Some (sym is);
         id_is = ap (λ (x : Holder). x.login) is ∙ k.login_is;
         inside = subst (λ (x : Holder). x.initiator < length w.initiators) (sym is) (k.live s.live).of.small;
-        opened = o p b l';
+        opened = (o.each p b l').opened;
       }
     where
       up_is : (x : Bool) → x ≡ false → not x ≡ true
@@ -277,6 +279,9 @@ module _ (line : ℕ) (run : Run) (r : IsRun run) (has : 0 < run.units) (small :
       let f = facts line run r.few has small size run.entries r.short r.entries r.lines k.past (length run.entries) k.holds k.is in
       subst (λ ms. AreOpened ms last.world) k.is (opened_at line run r.few has small size k.past last.world f k.were)
 
+  pub had_after : WereAt (history_of line run) last.world
+  had_after = let k = known in subst (λ ms. WereAt ms last.world) k.is k.were
+
   module _ (next : ℕ) (event : Event) (d : DeliversMore event) (told : List (Option Told)) (m : MayAll told (begun last)) where
     abbrev end : WorldState
     end = (after_all told (begun last)).world
@@ -291,8 +296,23 @@ module _ (line : ℕ) (run : Run) (r : IsRun run) (has : 0 < run.units) (small :
         let o = all_heard run.units (ready_logins run.initiators run.ready) has run.start.disks now told (begun last) each first in
         subst (λ ms. AreOpened (map said end.fresh ++ asked next event ∷ ms) end) k.is (opened_at line run r.few has small size now end at o)
 
+    pub had_between : WereAt (map said end.fresh ++ asked next event ∷ history_of line run) end
+    had_between =
+        let k = known in
+        let now = asked next event ∷ hist k.past last.world in
+        let each = all_facts line run r.few has small size run.entries r.short r.entries r.lines k.past (length run.entries) k.holds k.is next event d told m in
+        let first = begun_were line run r.few has small size run.entries r.short r.entries r.lines k.past (length run.entries) k.holds k.is next event k.were in
+        let o = all_heard run.units (ready_logins run.initiators run.ready) has run.start.disks now told (begun last) each first in
+        subst (λ ms. WereAt (map said end.fresh ++ asked next event ∷ ms) end) k.is o
+
 pub opens_law : OpensLaw
 opens_law = record {
   after_lines = λ line run r has small size. opens_after line run r has small size;
   between = λ line run r has small size next event d told m. opens_between line run r has small size next event d told m;
+}
+
+pub cut_lists_law : CutListsLaw
+cut_lists_law = record {
+  after_lines = λ line run r has small size. (had_after line run r has small size).had;
+  between = λ line run r has small size next event d told m. (had_between line run r has small size next event d told m).had;
 }

@@ -6,10 +6,8 @@ use Rattle.packet_store.specs.declared.sent.Sent.{Sent}
 use Rattle.packet_store.specs.Kept.{found_sent}
 use Rattle.rbc_disk.specs.Disk.{Disk}
 use Rattle.rbc_disk.specs.Runs.{Told}
-use Rattle.sbp_bus.specs.declared.places.Holder.{Holder}
 use Rattle.sbp_bus.specs.declared.requests.Request.{Request}
 use Rattle.sbp_bus.specs.Packets.{end_note, judged_note, no_packet}
-use Rattle.sbp_bus.specs.Places.{holder_at}
 use Rattle.sbp_bus.specs.Requests.{find}
 use Rattle.sbp_initiator.specs.Initiators.{new_state}
 use Rattle.sbp_initiator.specs.Receiving.{receive_step}
@@ -28,7 +26,6 @@ use Rattle.sbp_world.specs.Nodes.{reset_line, see_line}
 use Rattle.sbp_world.specs.Packets.{MayIf, delivered_if, expires, initiator_expires, inject_line, is_in_flight, lose_line, may_repeat, refused, target_expired, timed_out, timeout_line, timeout_of}
 use Rattle.sbp_world.specs.Packets as packets
 use Rattle.sbp_world.specs.Settling.{after_all, delivered_at, delivered_next, is_settled, lowest}
-use Rattle.sbp_world.specs.Telling.{holder}
 use Rattle.sbp_world.specs.Wire.Lines.{IsLine}
 use Rattle.sbp_world.specs.Worlds.{Scene, WorldState, begun, initiator_at, with_note, with_target, without_notes}
 use Rattle.sbp_world.proofs.Wire.Comes.{own_inside, own_outside, received_is, to_own, to_zero}
@@ -39,7 +36,8 @@ use Rattle.host_terms.specs.Fits.{AreRows}
 use Rattle.list_terms.proofs.Adds.{Stays}
 use Rattle.list_terms.proofs.Lines.{acts, hears, injects, loses, own_lapses, own_sight, refuses, resets}
 use Rattle.list_terms.proofs.OpenCuts.{Listing}
-use Rattle.list_terms.proofs.OpenWorlds.{AllWere, WasOf, delivery_were, key_were, lapse_were, sight_were, tick_were, was_later}
+use Rattle.list_terms.proofs.OpenHad.{same_were}
+use Rattle.list_terms.proofs.OpenWorlds.{AllWere, delivery_were, key_were, lapse_were, sight_were, tick_were}
 use Rattle.list_terms.proofs.Stays.{stays_end}
 
 no : false ≡ true → ⊥
@@ -50,9 +48,7 @@ abbrev pub all : ℕ → Bool
 all i = true
 
 pub by_stays : (past : List Moment) (w v : WorldState) → Stays all past w v → AllWere past w → AllWere past v
-by_stays past w v s o p b l =
-    subst (λ (ps : List (Option Holder)). WasOf (hist past v) (holder_at ps p) p) (sym s.places)
-    (was_later s.adds.later (hist past w) (hist past v) (holder w p).initiator p (holder w p).list s.adds.is (o p b (subst (λ (n : NodeState). Listing n p) s.target l)))
+by_stays past w v s o = same_were s.adds.later (hist past w) (hist past v) w v s.adds.is s.adds.cuts_are s.places (λ p l. subst (λ (n : NodeState). Listing n p) s.target l) o
 
 module _ (units logins : ℕ) (has : 0 < units) (start : List Disk) where
   -- what is known of a world

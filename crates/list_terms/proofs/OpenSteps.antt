@@ -43,6 +43,7 @@ use Rattle.list_terms.proofs.OpenCuts.{Here, Listing, is_up, Open, OwnsLogin, de
 use Rattle.list_terms.proofs.OpenFollows.{Beside, alike, announce_from_beside, follow_beside}
 use Rattle.list_terms.proofs.OpenManages.{answers}
 use Rattle.list_terms.proofs.OpenPlaces.{Has, opened_here, opened_there}
+use Rattle.list_terms.proofs.OpenSpares.{SameCuts}
 use Rattle.list_terms.proofs.OpenTurns.{AreSeated, Before, HasSeat, K, Q, begins, changed_same, first_beside, here, inside, listing_seat, node, of_beside, refused, served_seat, silent_by, sound}
 
 no : false ≡ true → ⊥
@@ -168,16 +169,20 @@ module _ (w : WorldState) (g : Good w.target) (seats : AreSeated w) (u : WorldSt
         abbrev pub After : Scene → Type 0
         After s = Open u Holds Why w.target.logins.places (sound w g seats) s
 
+        -- and no list is cut
+        abbrev pub Opens : Scene → Type 0
+        Opens s = After s × SameCuts u.fresh (told_all 0 s.outbox.sides u).fresh
+
         here_is : Holds q ≡ record (holder w q) { list = opened }
         here_is = ap (λ (x : Bool). cond x (record (holder w q) { list = opened }) (holder w q)) (let e : nat_eq q q ≡ true = grind (arith, nat_tests) in e)
 
         there_is : (p : ℕ) → nat_eq p q ≡ false → Holds p ≡ holder w p
         there_is p e = ap (λ (x : Bool). cond x (record (holder w q) { list = opened }) (holder w p)) e
 
-        pub taken_open : (pointer : OrbPointer) (ask : Ask) → (point_step (Here w.target q) pointer).0 ≡ Ok ask → orb ≡ orb_of (point_step (Here w.target q) pointer).1 → After (point q pointer request bytes first)
+        pub taken_open : (pointer : OrbPointer) (ask : Ask) → (point_step (Here w.target q) pointer).0 ≡ Ok ask → orb ≡ orb_of (point_step (Here w.target q) pointer).1 → Opens (point q pointer request bytes first)
         unfolding point told told_all
         taken_open pointer ask e orb_is =
-            subst (λ (x : Result Ask PointRefusal). After (pointed_by q request bytes (pointed_desk (desk_at there q) (x, m)) first)) (sym e) (after (asked_at q ask x) (asked_beside ask (login_at x.node q) places (Here w.target) x (answered_beside complete [] places (Here w.target) s start)))
+            subst (λ (x : Result Ask PointRefusal). Opens (pointed_by q request bytes (pointed_desk (desk_at there q) (x, m)) first)) (sym e) (after (asked_at q ask x) done, done.is.cuts)
           where
             m : Machine
             m = (point_step (Here w.target q) pointer).1
@@ -195,7 +200,10 @@ module _ (w : WorldState) (g : Good w.target) (seats : AreSeated w) (u : WorldSt
             places = (told_all 0 s.outbox.sides u).places
 
             start : Beside u places q (Here w.target) b s
-            start = record { is = refl; desks = length-set w.target.desks q d ∙ g.mid.size; same = λ p f. ap (λ (y : Desk). y.agent) (set_there there q p d (inside w g seats u same layer q b) f) }
+            start = record { is = record { is = refl; cuts = λ ms i n. refl }; desks = length-set w.target.desks q d ∙ g.mid.size; same = λ p f. ap (λ (y : Desk). y.agent) (set_there there q p d (inside w g seats u same layer q b) f) }
+
+            done : Beside u places q (Here w.target) b (asked_at q ask x)
+            done = asked_beside ask (login_at x.node q) places (Here w.target) x (answered_beside complete [] places (Here w.target) s start)
 
             seat : HasSeat w q
             seat = served_seat w g seats q served
@@ -209,7 +217,7 @@ module _ (w : WorldState) (g : Good w.target) (seats : AreSeated w) (u : WorldSt
             there_has p f h = opened_there u.places q p (list_in (ticket_at u q (orb_of m))) (holder w p) f (subst (λ (ps : List (Option Holder)). Has ps p (holder w p)) (sym same) h.there)
 
             after : (t : Scene) → Beside u places q (Here w.target) b t → After t
-            after t k = record { desks = k.desks; kept = λ p c l. kept_at p c (nat_eq p q) refl l; own = λ p c l. own_for p c (nat_eq p q) refl l }
+            after t k = record { cuts = λ ms i n e. inl (sym (k.is.cuts ms i n) ∙ e); desks = k.desks; kept = λ p c l. kept_at p c (nat_eq p q) refl l; own = λ p c l. own_for p c (nat_eq p q) refl l }
               where
                 apart : (p : ℕ) → nat_eq p q ≡ false → p ≡ q → ⊥
                 apart p y one = no (sym y ∙ (let z : nat_eq p q ≡ true = grind (arith, nat_tests) in z))
@@ -220,9 +228,9 @@ module _ (w : WorldState) (g : Good w.target) (seats : AreSeated w) (u : WorldSt
                 kept_at : (p : ℕ) → p < 8 → (y : Bool) → nat_eq p q ≡ y → Listing t.node p → Has (told_all 0 t.outbox.sides u).places p (Holds p)
                 kept_at p c true y l =
                     let one : q ≡ p = grind (arith, nat_tests) in
-                    subst (λ (ps : List (Option Holder)). Has ps p (Holds p)) (sym k.is) (subst (λ j. Has places j (Holds j)) one (subst (λ (h : Holder). Has places q h) (sym here_is) here_has))
+                    subst (λ (ps : List (Option Holder)). Has ps p (Holds p)) (sym k.is.is) (subst (λ j. Has places j (Holds j)) one (subst (λ (h : Holder). Has places q h) (sym here_is) here_has))
                 kept_at p c false y l =
-                    subst (λ (ps : List (Option Holder)). Has ps p (Holds p)) (sym k.is) (subst (λ (h : Holder). Has places p h) (sym (there_is p y)) (there_has p (apart p y) (listing_seat w g seats p c (before p y l))))
+                    subst (λ (ps : List (Option Holder)). Has ps p (Holds p)) (sym k.is.is) (subst (λ (h : Holder). Has places p h) (sym (there_is p y)) (there_has p (apart p y) (listing_seat w g seats p c (before p y l))))
 
                 own_for : (p : ℕ) → p < 8 → (y : Bool) → nat_eq p q ≡ y → Listing t.node p → OwnsLogin (Why p) w.target.logins.places (Holds p) p
                 own_for p c true y l =

@@ -1,6 +1,6 @@
 -- What a turn of the target leaves of the places whose lists are open: each was open before, and who has it is the same; or the turn is that of a
 -- write of ORB_POINTER, which opens the list of one place.
-use Rattle.std.proofs.Common.{◌≡◌, ◌∙◌, refl, sym, ap, subst, ◌<◌, ◌≤◌, ℕ, zero, suc, nat_eq, nat_lt, not, Bool, true, false, List, [], ◌∷◌, length, Option, Some, None, Ok, Err, arith}
+use Rattle.std.proofs.Common.{◌≡◌, inl, ◌∙◌, refl, sym, ap, subst, ◌<◌, ◌≤◌, ℕ, zero, suc, nat_eq, nat_lt, not, Bool, true, false, List, [], ◌∷◌, length, Option, Some, None, Ok, Err, arith}
 use Rattle.std.specs.Prelude.{slice_index_or}
 use Rattle.std.proofs.lemmas.Bool.Decides.{nat_tests}
 use Rattle.std.proofs.Math.ListN.{length-set}
@@ -184,6 +184,7 @@ module _ (w : WorldState) (g : Good w.target) (seats : AreSeated w) where
     pub begins : K here
     unfolding told_all
     begins = record {
+      cuts = λ ms i n e. inl e;
       desks = g.mid.size;
       kept = λ p b l. there_at p (listing_seat p b l);
       own = λ p b l. own_at p (listing_seat p b l) l;
@@ -202,13 +203,14 @@ module _ (w : WorldState) (g : Good w.target) (seats : AreSeated w) where
 
       pub first_beside : (d : Desk) → Q (scene (with_desk node q d) empty_outbox)
       unfolding told_all
-      first_beside d = record { is = refl; desks = length-set w.target.desks q d ∙ g.mid.size; same = other_set d }
+      first_beside d = record { is = record { is = refl; cuts = λ ms i n. refl }; desks = length-set w.target.desks q d ∙ g.mid.size; same = other_set d }
 
       -- the agent had a list open
       pub of_beside : Listing w.target q → (s : Scene) → Q s → K s
       of_beside l s k =
           let h = listing_seat q b l in
           record {
+            cuts = λ ms i n e. inl (sym (k.is.cuts ms i n) ∙ e);
             desks = k.desks;
             kept = λ p c e. kept_at p c (nat_eq p q) refl e;
             own = λ p c e. own_for p c (nat_eq p q) refl e;
@@ -222,9 +224,9 @@ module _ (w : WorldState) (g : Good w.target) (seats : AreSeated w) where
           kept_at : (p : ℕ) → p < 8 → (x : Bool) → nat_eq p q ≡ x → Listing s.node p → Has (told_all 0 s.outbox.sides u).places p (holder w p)
           kept_at p c true x e =
               let one : q ≡ p = grind (arith, nat_tests) in
-              subst (λ (places : List (Option Holder)). Has places p (holder w p)) (sym k.is) (subst (λ j. Has u.places j (holder w j)) one (there_at q (listing_seat q b l)))
+              subst (λ (places : List (Option Holder)). Has places p (holder w p)) (sym k.is.is) (subst (λ j. Has u.places j (holder w j)) one (there_at q (listing_seat q b l)))
           kept_at p c false x e =
-              subst (λ (places : List (Option Holder)). Has places p (holder w p)) (sym k.is) (there_at p (listing_seat p c (before p x e)))
+              subst (λ (places : List (Option Holder)). Has places p (holder w p)) (sym k.is.is) (there_at p (listing_seat p c (before p x e)))
 
           own_for : (p : ℕ) → p < 8 → (x : Bool) → nat_eq p q ≡ x → Listing s.node p → OwnsLogin (Before p) w.target.logins.places (holder w p) p
           own_for p c true x e =

@@ -32,6 +32,7 @@ use Rattle.sbp_bus.specs.Telling as bus
 use Rattle.sbp_initiator.specs.declared.state.InitiatorState.{InitiatorState}
 use Rattle.sbp_initiator.specs.Initiators.{new_state}
 use Rattle.sbp_journal.specs.declared.cause.Judged.{Judged}
+use Rattle.sbp_journal.specs.declared.cause.Judged.TheVariants as judgements
 use Rattle.sbp_journal.specs.declared.note.Note.{Note}
 use Rattle.sbp_journal.specs.declared.note.Note.TheVariants as notes
 use Rattle.sbp_journal.specs.Outgoings.{OutboxState, empty_outbox}
@@ -62,10 +63,14 @@ use Rattle.agent_terms.proofs.Peers.{all_sent_places}
 use Rattle.host_terms.specs.Fits.{AreRows}
 use Rattle.host_terms.specs.Rows.{name_in}
 use Rattle.host_terms.proofs.Readings.{read_law}
+use Rattle.list_terms.specs.CutLists.{WasHad}
 use Rattle.list_terms.specs.Opens.{WasOpened}
+use Rattle.sbp_laws.specs.OrderLaw.{is_cut}
+use Rattle.list_terms.proofs.Adds.{all_stay}
 use Rattle.list_terms.proofs.Extends.{Extends, handed_extends}
-use Rattle.list_terms.proofs.OpenCuts.{Here, Listing, Open}
+use Rattle.list_terms.proofs.OpenCuts.{CutAt, Here, Listing, Open}
 use Rattle.list_terms.proofs.OpenDeliveries.{Points, delivery_open, lapse_open}
+use Rattle.list_terms.proofs.OpenHad.{Was, WasElse, WereAt, else_later, had_later, joined, same_were, was_on}
 use Rattle.list_terms.proofs.OpenManages as manages
 use Rattle.list_terms.proofs.OpenOwners.{came_from}
 use Rattle.list_terms.proofs.OpenPlaces.{Has}
@@ -74,29 +79,8 @@ use Rattle.list_terms.proofs.OpenTurns.{AreSeated, Before, begins, sound}
 no : false ≡ true → ⊥
 no e = cc
 
--- ---- the list of a place by the world
-abbrev pub WasOf : List Moment → (h : Holder) → ℕ → Type 0
-WasOf past h p = WasOpened past h.initiator p h.list
-
-pub was_later : (more past now : List Moment) (i place : ℕ) (list : Option ℕ) → more ++ past ≡ now → WasOpened past i place list → WasOpened now i place list
-was_later more past now i place list e o = record {
-  later = more ++ o.later;
-  earlier = o.earlier;
-  serial = o.serial;
-  is = joined more o.later (said (notes.Got o.serial) ∷ o.earlier) ∙ ap (λ ms. more ++ ms) o.is ∙ e;
-  sent = o.sent;
-  sent_is = o.sent_is;
-  address = o.address;
-  pointed = o.pointed;
-  list_is = o.list_is;
-}
-  where
-    joined : (a b c : List Moment) → (a ++ b) ++ c ≡ a ++ (b ++ c)
-    joined [] b c = refl
-    joined (m ∷ a) b c = ap (λ ms. m ∷ ms) (joined a b c)
-
 abbrev pub AllWere : List Moment → WorldState → Type 0
-AllWere past w = (p : ℕ) → p < 8 → Listing w.target p → WasOf (hist past w) (holder w p) p
+AllWere past w = WereAt (hist past w) w
 
 split_notes : (a b : List Note) (past : List Moment) → map said (a ++ b) ++ past ≡ map said a ++ (map said b ++ past)
 split_notes [] b past = refl
@@ -109,6 +93,14 @@ pub record GoesOn (before now : List Moment) : Type 0 where
 
 pub hist_on : (past : List Moment) (w v : WorldState) → Extends w.fresh v.fresh → GoesOn (hist past w) (hist past v)
 hist_on past w v e = record { more = map said e.more; is = sym (split_notes e.more w.fresh past) ∙ ap (λ ns. map said ns ++ past) e.is }
+
+goes_then : (one two three : List Moment) → GoesOn one two → GoesOn two three → GoesOn one three
+goes_then one two three a b = record { more = b.more ++ a.more; is = joined b.more a.more one ∙ ap (λ ms. b.more ++ ms) a.is ∙ b.is }
+
+-- a packet that was judged cuts no list
+judged_cuts : (serial : ℕ) (j : Judged) (ms : List Moment) (i n : ℕ) → is_cut (said (judged_note serial j) ∷ ms) i n ≡ is_cut ms i n
+judged_cuts serial judgements.Got ms i n = refl
+judged_cuts serial (judgements.Ignored cause) ms i n = refl
 
 -- ---- the pointer that is taken
 pub record IsTaken (m now : Machine) (pointer : OrbPointer) : Type 0 where
@@ -160,16 +152,58 @@ module _ (units logins : ℕ) (has : 0 < units) (start : List Disk) {past : List
   handed_on : (u : WorldState) (outbox : OutboxState) → GoesOn (hist past u) (hist past (handed_out 0 0 outbox u))
   handed_on u outbox = hist_on past u (handed_out 0 0 outbox u) (handed_extends 0 0 outbox u)
 
+  -- packets that are sent cut no list
+  sent_cuts : (u : WorldState) (outbox : OutboxState) (i n : ℕ) → is_cut (hist past (handed_out 0 0 outbox u)) i n ≡ is_cut (hist past (told_all 0 outbox.sides u)) i n
+  sent_cuts u outbox i n = (all_stay (λ j. true) past 0 outbox.packets (told_all 0 outbox.sides u)).adds.cuts_are i n
+
+  -- a list of a place was cut, which has none now
+  record IsNew (node : NodeState) (i n : ℕ) : Type 0 where
+    had : WasHad (hist past w) i n
+    over : Listing node had.place → ⊥
+
   -- a turn that opens no list
-  stays_open : (u : WorldState) (node : NodeState) (outbox : OutboxState) → u.target ≡ node → GoesOn (hist past w) (hist past u) → Open u (holder w) (Before w g seats) w.target.logins.places (sound w g seats) (scene node outbox) → AllWere past (handed_out 0 0 outbox u)
-  stays_open u node outbox e on o p b l =
-      let v = handed_out 0 0 outbox u in
-      let l' = handed_listing u node outbox e p l in
-      let is = handed_holder u outbox p (holder w p) (o.kept p b l') in
-      let later = handed_on u outbox in
-      let old = were p b (o.own p b l').why in
-      subst (λ (x : Holder). WasOf (hist past v) x p) (sym is)
-      (was_later later.more (hist past u) (hist past v) (holder w p).initiator p (holder w p).list later.is (was_later on.more (hist past w) (hist past u) (holder w p).initiator p (holder w p).list on.is old))
+  module _ (u : WorldState) (node : NodeState) (outbox : OutboxState) (e : u.target ≡ node) (on : GoesOn (hist past w) (hist past u)) (cuts : (i n : ℕ) → is_cut (hist past u) i n ≡ is_cut (hist past w) i n) (o : Open u (holder w) (Before w g seats) w.target.logins.places (sound w g seats) (scene node outbox)) where
+    abbrev v : WorldState
+    v = handed_out 0 0 outbox u
+
+    whole : GoesOn (hist past w) (hist past v)
+    whole = goes_then (hist past w) (hist past u) (hist past v) on (handed_on u outbox)
+
+    new_of : (i n : ℕ) → CutAt u (holder w) (Before w g seats) w.target.logins.places (sound w g seats) node i n → IsNew node i n
+    new_of i n c =
+        let old = (were.each c.place c.small c.own.why).opened in
+        record {
+          had = record { place = c.place; opened = subst (λ list. WasOpened (hist past w) i c.place list) c.list_is (subst (λ j. WasOpened (hist past w) j c.place (holder w c.place).list) c.from_is old) };
+          over = c.over;
+        }
+
+    cuts_now : (i n : ℕ) → is_cut (hist past v) i n ≡ true → (is_cut (hist past w) i n ≡ true) ⊎ IsNew node i n
+    cuts_now i n x = by (o.cuts past i n (sym (sent_cuts u outbox i n) ∙ x))
+      where
+        by : (is_cut (hist past u) i n ≡ true) ⊎ CutAt u (holder w) (Before w g seats) w.target.logins.places (sound w g seats) node i n → (is_cut (hist past w) i n ≡ true) ⊎ IsNew node i n
+        by (inl y) = inl (sym (cuts i n) ∙ y)
+        by (inr c) = inr (new_of i n c)
+
+    spared : (p : ℕ) → Listing node p → (i n : ℕ) → (is_cut (hist past w) i n ≡ true) ⊎ IsNew node i n → (is_cut (hist past w) i n ≡ true) ⊎ WasElse (hist past v) i n p
+    spared p l i n (inl x) = inl x
+    spared p l i n (inr k) =
+        inr (else_later whole.more (hist past w) (hist past v) i n p whole.is (record { had = k.had; other = λ same. k.over (subst (λ j. Listing node j) (sym same) l) }))
+
+    each_open : (p : ℕ) → p < 8 → Listing v.target p → Was (hist past v) (holder v p) p
+    each_open p b l =
+        let l' = handed_listing u node outbox e p l in
+        let is = handed_holder u outbox p (holder w p) (o.kept p b l') in
+        subst (λ (x : Holder). Was (hist past v) x p) (sym is)
+        (was_on whole.more (hist past w) (hist past v) (holder w p) p whole.is
+        (λ n same x. spared p l' (holder w p).initiator n (cuts_now (holder w p).initiator n x))
+        (were.each p b (o.own p b l').why))
+
+    had_open : (i n : ℕ) → (is_cut (hist past w) i n ≡ true) ⊎ IsNew node i n → WasHad (hist past v) i n
+    had_open i n (inl x) = had_later whole.more (hist past w) (hist past v) i n whole.is (were.had i n x)
+    had_open i n (inr k) = had_later whole.more (hist past w) (hist past v) i n whole.is k.had
+
+    stays_open : AllWere past (handed_out 0 0 outbox u)
+    stays_open = record { each = each_open; had = λ i n x. had_open i n (cuts_now i n x) }
 
   -- ---- a packet that the target gets
   module _ (serial : ℕ) (sent : Sent) (found : found_sent serial w.store.kept ≡ Some sent) (zero_to : sent.to ≡ 0) (run : Option Told) (s : Scene) (again : Bool) where
@@ -202,6 +236,9 @@ module _ (units logins : ℕ) (has : 0 < units) (start : List Disk) {past : List
 
     got_on : GoesOn (hist past w) (hist past u)
     got_on = record { more = said (judged_note serial x.0) ∷ []; is = ap (λ ns. map said ns ++ past) (sym marks.fresh) }
+
+    got_cuts : (i n : ℕ) → is_cut (hist past u) i n ≡ is_cut (hist past w) i n
+    got_cuts i n = ap (λ ns. is_cut (map said ns ++ past) i n) marks.fresh ∙ judged_cuts serial x.0 (hist past w) i n
 
     -- one that points
     module _ (o : Points w g seats u marks.places sent run s.media x.0 (scene x.1.node x.1.outbox)) where
@@ -253,33 +290,55 @@ module _ (units logins : ℕ) (has : 0 < units) (start : List Disk) {past : List
             list_is = opened_list c.inside;
           }
 
-      points_open : AllWere past (handed_out 0 0 x.1.outbox u)
-      points_open p b l =
-          let l' = handed_listing u x.1.node x.1.outbox marks.target p l in by p b l' (nat_eq p q) refl ((o.after.own p b l').why)
-        where
-          later : GoesOn (hist past u) (hist past (handed_out 0 0 x.1.outbox u))
-          later = handed_on u x.1.outbox
+      abbrev new : Holder
+      new = record (holder w q) { list = bus.list_in (ticket_at u q orb) }
 
-          by : (p : ℕ) → p < 8 → Listing x.1.node p → (y : Bool) → nat_eq p q ≡ y → Listing w.target p ⊎ (p ≡ q) → WasOf (hist past (handed_out 0 0 x.1.outbox u)) (holder (handed_out 0 0 x.1.outbox u) p) p
+      now_was : Was (hist past u) new q
+      unfolding now_opened
+      now_was = record { opened = now_opened; spared = λ n is x. inl (were.had i n (sym (got_cuts i n) ∙ x)) }
+
+      abbrev end : WorldState
+      end = handed_out 0 0 x.1.outbox u
+
+      later : GoesOn (hist past u) (hist past end)
+      later = handed_on u x.1.outbox
+
+      whole_on : GoesOn (hist past w) (hist past end)
+      whole_on = goes_then (hist past w) (hist past u) (hist past end) got_on later
+
+      since_got : (i n : ℕ) → is_cut (hist past end) i n ≡ is_cut (hist past u) i n
+      since_got i n = sent_cuts u x.1.outbox i n ∙ o.after.1 past i n
+
+      cuts_end : (i n : ℕ) → is_cut (hist past end) i n ≡ is_cut (hist past w) i n
+      cuts_end i n = since_got i n ∙ got_cuts i n
+
+      each_point : (p : ℕ) → p < 8 → Listing end.target p → Was (hist past end) (holder end p) p
+      each_point p b l =
+          let l' = handed_listing u x.1.node x.1.outbox marks.target p l in by p b l' (nat_eq p q) refl ((o.after.0.own p b l').why)
+        where
+          by : (p : ℕ) → p < 8 → Listing x.1.node p → (y : Bool) → nat_eq p q ≡ y → Listing w.target p ⊎ (p ≡ q) → Was (hist past end) (holder end p) p
           by p b l true y why =
               let same : q ≡ p = grind (arith, nat_tests) in
-              let new : Holder = record (holder w q) { list = bus.list_in (ticket_at u q orb) } in
-              let has = subst (λ z. Has (told_all 0 x.1.outbox.sides u).places p (cond z new (holder w p))) y (o.after.kept p b l) in
-              subst (λ (k : Holder). WasOf (hist past (handed_out 0 0 x.1.outbox u)) k p) (sym (handed_holder u x.1.outbox p new has))
-              (was_later later.more (hist past u) (hist past (handed_out 0 0 x.1.outbox u)) i p (bus.list_in (ticket_at u q orb)) later.is (subst (λ j. WasOpened (hist past u) i j (bus.list_in (ticket_at u q orb))) same now_opened))
+              let has = subst (λ z. Has (told_all 0 x.1.outbox.sides u).places p (cond z new (holder w p))) y (o.after.0.kept p b l) in
+              subst (λ (k : Holder). Was (hist past end) k p) (sym (handed_holder u x.1.outbox p new has))
+              (was_on later.more (hist past u) (hist past end) new p later.is (λ n e z. inl (sym (since_got new.initiator n) ∙ z)) (subst (λ j. Was (hist past u) new j) same now_was))
           by p b l false y (inl before) =
-              let new : Holder = record (holder w q) { list = bus.list_in (ticket_at u q orb) } in
-              let has = subst (λ z. Has (told_all 0 x.1.outbox.sides u).places p (cond z new (holder w p))) y (o.after.kept p b l) in
-              let old = were p b before in
-              subst (λ (k : Holder). WasOf (hist past (handed_out 0 0 x.1.outbox u)) k p) (sym (handed_holder u x.1.outbox p (holder w p) has))
-              (was_later later.more (hist past u) (hist past (handed_out 0 0 x.1.outbox u)) (holder w p).initiator p (holder w p).list later.is (was_later got_on.more (hist past w) (hist past u) (holder w p).initiator p (holder w p).list got_on.is old))
+              let has = subst (λ z. Has (told_all 0 x.1.outbox.sides u).places p (cond z new (holder w p))) y (o.after.0.kept p b l) in
+              subst (λ (k : Holder). Was (hist past end) k p) (sym (handed_holder u x.1.outbox p (holder w p) has))
+              (was_on whole_on.more (hist past w) (hist past end) (holder w p) p whole_on.is (λ n e z. inl (sym (cuts_end (holder w p).initiator n) ∙ z)) (were.each p b before))
           by p b l false y (inr same) = absurd (no (sym y ∙ (let z : nat_eq p q ≡ true = grind (arith, nat_tests) in z)))
+
+      points_open : AllWere past end
+      points_open = record {
+        each = each_point;
+        had = λ j n z. had_later whole_on.more (hist past w) (hist past end) j n whole_on.is (were.had j n (sym (cuts_end j n) ∙ z));
+      }
 
     pub delivery_were : AllWere past (handed_out 0 0 x.1.outbox u)
     delivery_were = by (delivery_open w g seats u marks.places sent run s.media)
       where
         by : Open u (holder w) (Before w g seats) w.target.logins.places (sound w g seats) (scene x.1.node x.1.outbox) ⊎ Points w g seats u marks.places sent run s.media x.0 (scene x.1.node x.1.outbox) → AllWere past (handed_out 0 0 x.1.outbox u)
-        by (inl k) = stays_open u x.1.node x.1.outbox marks.target got_on k
+        by (inl k) = stays_open u x.1.node x.1.outbox marks.target got_on got_cuts k
         by (inr o) = points_open o
 
   -- ---- a time-out
@@ -292,8 +351,8 @@ module _ (units logins : ℕ) (has : 0 < units) (start : List Disk) {past : List
         let t = (expired_in (Ok purpose, layer) request.peer request.label (scene w.target empty_outbox)).1 in
         let u = with_note (notes.TimedOut serial) (with_target t.node w) in
         subst (λ n. AllWere past (handed_out n 0 t.outbox u)) (sym zero_node)
-        (stays_open u t.node t.outbox refl (record { more = said (notes.TimedOut serial) ∷ []; is = refl }) (lapse_open w g seats u refl layer request.peer request.label purpose))
-    lapse_by (Err stale, layer) = λ p b l. was_later (said (notes.Refused line no_packet) ∷ []) (hist past w) _ (holder w p).initiator p (holder w p).list refl (were p b l)
+        (stays_open u t.node t.outbox refl (record { more = said (notes.TimedOut serial) ∷ []; is = refl }) (λ i n. refl) (lapse_open w g seats u refl layer request.peer request.label purpose))
+    lapse_by (Err stale, layer) = same_were (said (notes.Refused line no_packet) ∷ []) (hist past w) _ w _ refl (λ i n. refl) refl (λ p l. l) were
 
     pub lapse_were : AllWere past (Left (expired request.peer request.label (scene w.target empty_outbox)))
     unfolding expired
@@ -305,7 +364,7 @@ module _ (units logins : ℕ) (has : 0 < units) (start : List Disk) {past : List
   sight_were =
       let t = alone (sees w.generations.latest.generation (id_of w.generations.latest 0)) w.target in
       let u = with_target t.node (with_seen 0 (told_seen 0 w)) in
-      stays_open u t.node t.outbox refl (record { more = said (notes.Seen 0 w.generations.latest.generation) ∷ []; is = refl })
+      stays_open u t.node t.outbox refl (record { more = said (notes.Seen 0 w.generations.latest.generation) ∷ []; is = refl }) (λ i n. refl)
       (manages.sees u (holder w) (Before w g seats) w.target.logins (sound w g seats) w.generations.latest.generation (id_of w.generations.latest 0) (scene w.target empty_outbox) (begins w g seats u refl w.target.layer))
 
   pub tick_were : AllWere past (tick_line w)
@@ -313,7 +372,7 @@ module _ (units logins : ℕ) (has : 0 < units) (start : List Disk) {past : List
   tick_were =
       let t = alone ticks w.target in
       let u = with_target t.node (with_note notes.Tick w) in
-      stays_open u t.node t.outbox refl (record { more = said notes.Tick ∷ []; is = refl })
+      stays_open u t.node t.outbox refl (record { more = said notes.Tick ∷ []; is = refl }) (λ i n. refl)
       (manages.ticks u (holder w) (Before w g seats) w.target.logins (sound w g seats) (scene w.target empty_outbox) refl (begins w g seats u refl w.target.layer))
 
   pub key_were : (line unit : ℕ) (key : List ℕ) → AllWere past (keyed line unit key w)
@@ -321,5 +380,5 @@ module _ (units logins : ℕ) (has : 0 < units) (start : List Disk) {past : List
   key_were line unit key = by (nat_lt unit (length w.target.units))
     where
       by : (b : Bool) → AllWere past (cond b (with_note (notes.Key unit) (with_target (with_key unit key w.target) w)) (refused line no_unit w))
-      by true = λ p b l. was_later (said (notes.Key unit) ∷ []) (hist past w) _ (holder w p).initiator p (holder w p).list refl (were p b l)
-      by false = λ p b l. was_later (said (notes.Refused line no_unit) ∷ []) (hist past w) _ (holder w p).initiator p (holder w p).list refl (were p b l)
+      by true = same_were (said (notes.Key unit) ∷ []) (hist past w) _ w (with_note (notes.Key unit) (with_target (with_key unit key w.target) w)) refl (λ i n. refl) refl (λ p l. l) were
+      by false = same_were (said (notes.Refused line no_unit) ∷ []) (hist past w) _ w (refused line no_unit w) refl (λ i n. refl) refl (λ p l. l) were

@@ -6,7 +6,9 @@ pub mod Brings
 pub mod Running
 pub mod Names
 pub mod Opens
+pub mod CutLists
 pub mod Places
+pub mod Lasts
 pub mod SentReads
 pub mod Presents
 pub mod SlotsStay

@@ -2,8 +2,8 @@
 -- packets (NCITS 325-1998, ORB_POINTER, status block, bus reset). A write of ORB_POINTER of such an initiator is one that its host named for a list, and the
 -- slot of its first ORB holds that ORB still as the target gets it. While the initiator is in the target's generation an open list is its present one;
 -- and while it is ahead of the target, its latest one, whose ORBs that have not ended stand where they stood. No status is taken of an ORB that has not
--- ended, and a list that is open was not cut. A write of ORB_POINTER has the address of the first ORB of its list; and while it was not taken as new, in
--- the target's generation, its list has no end and was not cut.
+-- ended. A write of ORB_POINTER has the address of the first ORB of its list; and while it was not taken as new, in the target's generation, its list has
+-- no end. That an open list was not cut, nor one whose write waits, is shown: a list that is cut was open before (CutLists), and a write is got once.
 use Rattle.std.specs.Prelude.{◌≡◌, ◌<◌, ◌≤◌, ℕ, suc, true, false, List, ◌∷◌, ◌++◌, length, map, Option, Some, None, Ok}
 use Rattle.async_packet.specs.Packet.{Packet}
 use Rattle.bus_memory.specs.Windows.{slot_of}
@@ -19,7 +19,6 @@ use Rattle.sbp_journal.specs.Wire.{terms}
 use Rattle.sbp_journal.specs.declared.note.Note.TheVariants as notes
 use Rattle.sbp_laws.specs.CarriedBytes.{address_of}
 use Rattle.sbp_laws.specs.Lists.{linked, named_in, orb, prepared_in, present_list, slot_at, taken_at}
-use Rattle.sbp_laws.specs.OrderLaw.{is_cut}
 use Rattle.sbp_laws.specs.Terms.{ends, lists}
 use Rattle.sbp_target.specs.Serving.{is_barred}
 use Rattle.target_base.specs.declared.address.Access.TheVariants as accesses
@@ -56,7 +55,6 @@ pub record IsPlaced (past : List Moment) (w : WorldState) (i : ℕ) : Type 0 whe
   pub present : (place : ℕ) → place < 8 → is_open_at w place ≡ true → initiator_in w place ≡ i → (terms past).generation 0 ≡ (terms past).generation (suc i) → present_list past i ≡ (holder w place).list
   pub ahead : (place n : ℕ) → place < 8 → is_open_at w place ≡ true → initiator_in w place ≡ i → (terms past).generation 0 < (terms past).generation (suc i) → (holder w place).list ≡ Some n → IsStanding past i n
   pub taken : (n k : ℕ) → ends past i n ≤ k → taken_at past i n k ≡ None
-  pub uncut : (place n : ℕ) → place < 8 → is_open_at w place ≡ true → initiator_in w place ≡ i → (holder w place).list ≡ Some n → is_cut past i n ≡ false
 
 -- the list for which a write was named, whose first ORB has this address
 pub record IsFirst (past : List Moment) (i serial address : ℕ) : Type 0 where
@@ -64,10 +62,9 @@ pub record IsFirst (past : List Moment) (i serial address : ℕ) : Type 0 where
   pub pointed : pointed_list past serial i ≡ Some list
   pub address_is : address ≡ address_of past i list 0
 
--- a list whose write waits: none of its ORBs ended, and it was not cut
+-- a list whose write waits: none of its ORBs ended
 pub record IsWaiting (past : List Moment) (i n : ℕ) : Type 0 where
   pub none : ends past i n ≡ 0
-  pub uncut : is_cut past i n ≡ false
   pub ahead : (terms past).generation 0 < (terms past).generation (suc i) → IsStanding past i n
 
 pub record AreWaiting (past : List Moment) (i : ℕ) : Type 0 where

@@ -2,11 +2,13 @@
 ghost use Rattle.list_terms.specs.Along.{AlongLaw};
 ghost use Rattle.list_terms.specs.Brings.{BringsLaw};
 ghost use Rattle.list_terms.specs.Lists.{GrowingLaw};
+ghost use Rattle.list_terms.specs.CutLists.{CutListsLaw};
 ghost use Rattle.list_terms.specs.Opens.{OpensLaw};
 ghost use Rattle.list_terms.specs.Orders.{AppendsLaw, OrderRunLaw};
 ghost use Rattle.list_terms.specs.Names.{NamesLaw};
 ghost use Rattle.list_terms.specs.Running.{ListsRunLaw, RunsRunLaw};
 ghost use Rattle.list_terms.specs.Places.{ListedLaw};
+ghost use Rattle.list_terms.specs.Lasts.{LastLaw};
 ghost use Rattle.list_terms.specs.SentReads.{SentReadsLaw};
 ghost use Rattle.list_terms.specs.Presents.{PresentLaw};
 ghost use Rattle.list_terms.specs.SlotsStay.{SlotsStayLaw};
@@ -89,6 +91,13 @@ pub fn open_lists_were_pointed_to()
     ensures { OpensLaw }
 {}
 
+/// In every run a list that was cut had been open at an agent: a write of ORB_POINTER of its initiator had named an ORB of it
+/// as the target got it. After every line of every run, and behind each delivery of a line that may follow.
+#[tactic(auto, using(crate::proofs::OpenProved::cut_lists_law))]
+pub fn cut_lists_were_open()
+    ensures { CutListsLaw }
+{}
+
 /// Where what open lists stand on holds at a place of a run (`ArePlaced`), an agent that has a list open of an initiator that
 /// injected no packets has the latest list of it, which was not cut, and the ORBs of it that are linked and have not ended are the
 /// ones that their addresses name; no two places have a list open of one such initiator; and a pointer that an agent takes is that
@@ -100,6 +109,18 @@ pub fn open_lists_are_the_latest()
     pointer_terms::moments_stand_as_they_may();
     session_terms::nodes_have_caught_up_with_the_target();
     session_terms::deliveries_keep_nodes_caught_up();
+}
+
+/// And for this it is enough, while the initiator is ahead of the target, that an open list is its latest one (`AreLast`). That its
+/// ORBs which have not ended stand in their slots then holds in every run; and so does that a list whose write of ORB_POINTER
+/// waits in the target's generation is the latest one.
+pub fn latest_lists_stand()
+    ensures { LastLaw }
+{
+    open_lists_are_the_latest();
+    pointer_terms::pointers_are_of_lists();
+    pointer_terms::moments_stand_as_they_may();
+    session_terms::sessions_and_lists_are_of_seen_generations();
 }
 
 /// In every run the present list of an initiator is the latest one, and an ORB of it whose status was not taken is the one that
