@@ -66,4 +66,12 @@ mod Generations
 mod Joins
 mod JoinRuns
 mod JoinLaws
+mod Begun
 mod SlotsHeld
+mod Busy
+mod BusyFollows
+mod BusyCuts
+mod BusyTurns
+mod BusyDeliveries
+mod BusyTold
+mod BusyNotes

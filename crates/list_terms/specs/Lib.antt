@@ -9,6 +9,7 @@ pub mod Opens
 pub mod CutLists
 pub mod Places
 pub mod Lasts
+pub mod Begun
 pub mod SentReads
 pub mod Presents
 pub mod SlotsStay

@@ -9,6 +9,7 @@ ghost use Rattle.list_terms.specs.Names.{NamesLaw};
 ghost use Rattle.list_terms.specs.Running.{ListsRunLaw, RunsRunLaw};
 ghost use Rattle.list_terms.specs.Places.{ListedLaw};
 ghost use Rattle.list_terms.specs.Lasts.{LastLaw};
+ghost use Rattle.list_terms.specs.Begun.{BegunLaw};
 ghost use Rattle.list_terms.specs.SentReads.{SentReadsLaw};
 ghost use Rattle.list_terms.specs.Presents.{PresentLaw};
 ghost use Rattle.list_terms.specs.SlotsStay.{SlotsStayLaw};
@@ -111,9 +112,19 @@ pub fn open_lists_are_the_latest()
     session_terms::deliveries_keep_nodes_caught_up();
 }
 
-/// And for this it is enough, while the initiator is ahead of the target, that an open list is its latest one (`AreLast`). That its
-/// ORBs which have not ended stand in their slots then holds in every run; and so does that a list whose write of ORB_POINTER
-/// waits in the target's generation is the latest one.
+/// In every run an initiator begins its lists in generations that the target has seen, whatever any initiator injected. So of one
+/// that injected no packets a write of ORB_POINTER that was not taken as new yet, in the target's generation, is for its latest list.
+pub fn lists_begin_in_seen_generations()
+    ensures { BegunLaw }
+{
+    pointer_terms::pointers_are_of_lists();
+    pointer_terms::moments_stand_as_they_may();
+    session_terms::sessions_and_lists_are_of_seen_generations();
+}
+
+/// For `open_lists_are_the_latest` it is enough, while the initiator is ahead of the target, that an open list is its latest one
+/// (`AreLast`). That its ORBs which have not ended stand in their slots then holds in every run; and so does that a list whose
+/// write of ORB_POINTER waits in the target's generation is the latest one.
 pub fn latest_lists_stand()
     ensures { LastLaw }
 {
