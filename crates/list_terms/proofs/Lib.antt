@@ -68,10 +68,3 @@ mod JoinRuns
 mod JoinLaws
 mod Begun
 mod SlotsHeld
-mod Busy
-mod BusyFollows
-mod BusyCuts
-mod BusyTurns
-mod BusyDeliveries
-mod BusyTold
-mod BusyNotes

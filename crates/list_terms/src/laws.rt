@@ -45,7 +45,8 @@ pub fn reads_are_sent_behind_appends()
     ensures { SentReadsLaw }
 {}
 
-/// And so what an agent reads along a list of an initiator that injected no packets is what the list holds: the
+/// Where lists are open as they should be in every run (`OpenListsLaw`), what an agent reads along a list of an
+/// initiator that injected no packets is what the list holds: the
 /// response to its read brings the ORB behind those that have ended, or the one behind that; its page table, which is
 /// read as the buffer laid out for its command; the next bytes of its data; or the next pointer of the last ORB.
 /// After every line of every run, and behind each delivery of a line that may follow.
@@ -54,29 +55,30 @@ pub fn agents_read_what_lists_hold()
     ensures { BringsLaw }
 {}
 
-/// And so an agent that has a list open of an initiator that injected no packets is along that list, behind as many of
-/// its ORBs as the history has ends of it: after every line of every run, and behind each delivery of a line that may
+/// Where lists are open as they should be in every run (`OpenListsLaw`), an agent that has a list open of an initiator
+/// that injected no packets is along that list, behind as many of its ORBs as the history has ends of it: after every line of every run, and behind each delivery of a line that may
 /// follow.
 #[tactic(auto, using(crate::proofs::RunLaws::along_law))]
 pub fn agents_are_along_lists()
     ensures { AlongLaw }
 {}
 
-/// And so the order law holds of every run: the ORBs of a list run and end in their order, each behind its
-/// append, and none of a list that was cut or behind which the next one began.
+/// Where lists are open as they should be in every run (`OpenListsLaw`), the order law holds of every run: the ORBs of
+/// a list run and end in their order, each behind its append, and none of a list that was cut or behind which the next
+/// one began.
 #[tactic(auto, using(crate::proofs::RunLaws::order_run_law))]
 pub fn orbs_end_in_order()
     ensures { OrderRunLaw }
 {}
 
-/// And an ORB runs at its turn, with the command of its append, and with no data or with as many of the first
+/// Where lists are open as they should be in every run (`OpenListsLaw`), an ORB runs at its turn, with the command of its append, and with no data or with as many of the first
 /// bytes of its data as the command asks for.
 #[tactic(auto, using(crate::proofs::OnceLaws::lists_run_law))]
 pub fn orbs_run_as_they_were_appended()
     ensures { ListsRunLaw }
 {}
 
-/// And where, besides, an ORB that ran, of a list that was not cut and of which none has ended, is at an agent that
+/// And where, besides that, an ORB that ran, of a list that was not cut and of which none has ended, is at an agent that
 /// has the list open (`UnrunLaw`), an ORB runs at most once; and it ends good or with a check behind its run with
 /// that outcome alone, and as dummy, aborted or illegal without one.
 #[tactic(auto, using(crate::proofs::OnceLaws::runs_run_law))]
@@ -84,7 +86,7 @@ pub fn orbs_run_once()
     ensures { RunsRunLaw }
 {}
 
-/// In every run an agent is not in RESET at the place of a live login alone, whose initiator is the one that the bus has there.
+/// In every run an agent is out of RESET only at the place of a live login, whose initiator is the one that the bus has there.
 /// Its list, then, is that of the ORB which a write of ORB_POINTER of that initiator to that place named, as the target got it:
 /// after every line of every run, and behind each delivery of a line that may follow.
 #[tactic(auto, using(crate::proofs::OpenProved::opens_law))]
@@ -141,6 +143,7 @@ pub fn present_lists_are_the_latest()
 {
     pointer_terms::moments_stand_as_they_may();
 }
+
 /// By every history, and so in every run, a slot of an initiator has its ORB from the append on, used or at rest,
 /// until this ORB is over or the initiator sees another generation: until then no other ORB is prepared there.
 #[tactic(auto, using(crate::proofs::SlotsHeld::slots_stay_law))]
