@@ -13,3 +13,5 @@ pub mod Begun
 pub mod SentReads
 pub mod Presents
 pub mod SlotsStay
+pub mod ManagedFor
+pub mod Managing
