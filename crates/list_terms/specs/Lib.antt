@@ -13,5 +13,8 @@ pub mod Begun
 pub mod SentReads
 pub mod Presents
 pub mod SlotsStay
+pub mod Live
+pub mod Underway
 pub mod ManagedFor
 pub mod Managing
+pub mod Tellings

@@ -1,15 +1,15 @@
 mod Presents
-mod Sessions
-mod Caught
-mod Turns
+pub mod Sessions
+pub mod Caught
+pub mod Turns
 mod Lines
-mod Logins
-mod Tables
-mod Standing
-mod Starting
+pub mod Logins
+pub mod Tables
+pub mod Standing
+pub mod Starting
 mod Single
-mod Decisions
-mod Writing
+pub mod Decisions
+pub mod Writing
 mod Handed
 mod Entering
 mod Places
@@ -17,7 +17,7 @@ mod Buffers
 mod Gears
 mod Mild
 mod Holding
-mod Codes
+pub mod Codes
 mod Blocking
 mod BlockCalls
 mod BlockNotes
@@ -28,4 +28,4 @@ mod HoldingRuns
 mod PlaceNotes
 mod PlaceRuns
 mod PlaceAsks
-mod Runs
+pub mod Runs
