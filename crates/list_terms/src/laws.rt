@@ -1,8 +1,12 @@
 //! The laws of the lists and the agents.
 ghost use Rattle.list_terms.specs.Along.{AlongLaw};
+ghost use Rattle.list_terms.specs.Bases.{BasesLaw};
 ghost use Rattle.list_terms.specs.Brings.{BringsLaw};
 ghost use Rattle.list_terms.specs.Lists.{GrowingLaw};
 ghost use Rattle.list_terms.specs.CutLists.{CutListsLaw};
+ghost use Rattle.list_terms.specs.Closes.{ClosingLaw};
+ghost use Rattle.list_terms.specs.EndedLists.{EndedListsLaw};
+ghost use Rattle.list_terms.specs.Opened.{OpenedLaw};
 ghost use Rattle.list_terms.specs.Opens.{OpensLaw};
 ghost use Rattle.list_terms.specs.Orders.{AppendsLaw, OrderRunLaw};
 ghost use Rattle.list_terms.specs.Names.{NamesLaw};
@@ -13,6 +17,8 @@ ghost use Rattle.list_terms.specs.Begun.{BegunLaw};
 ghost use Rattle.list_terms.specs.SentReads.{SentReadsLaw};
 ghost use Rattle.list_terms.specs.Presents.{PresentLaw};
 ghost use Rattle.list_terms.specs.SlotsStay.{SlotsStayLaw};
+ghost use Rattle.list_terms.specs.Roms.{RomLaw};
+ghost use Rattle.list_terms.specs.Firsts.{FirstLaw};
 
 /// The lists of an initiator, as the run terms have them, are laid out as an agent asks for it: an ORB without
 /// elements of a page table names the buffer of its command. From each moment of every run on a list grows:
@@ -37,16 +43,16 @@ pub fn orbs_stand_in_their_slots()
     ensures { NamesLaw }
 {}
 
-/// Where lists are open as they should be in every run (`OpenListsLaw`), what an agent waits for, to read in a slot of
-/// an initiator that injected no packets, was sent when the ORB that the slot has now had been appended: after every
-/// line of every run, and behind each delivery of a line that may follow.
+/// Where lists were open as they should be before in a run (`OpenBefore`, `OpenBetween`), and are so now, what an agent
+/// waits for, to read in a slot of an initiator that injected no packets, was sent when the ORB that the slot has now had
+/// been appended: after every line of every run, and behind each delivery of a line that may follow.
 #[tactic(auto, using(crate::proofs::RunLaws::sent_reads_law))]
 pub fn reads_are_sent_behind_appends()
     ensures { SentReadsLaw }
 {}
 
-/// Where lists are open as they should be in every run (`OpenListsLaw`), what an agent reads along a list of an
-/// initiator that injected no packets is what the list holds: the
+/// Where lists were open as they should be before in a run (`OpenBefore`, `OpenBetween`), and are so now, what an agent
+/// reads along a list of an initiator that injected no packets is what the list holds: the
 /// response to its read brings the ORB behind those that have ended, or the one behind that; its page table, which is
 /// read as the buffer laid out for its command; the next bytes of its data; or the next pointer of the last ORB.
 /// After every line of every run, and behind each delivery of a line that may follow.
@@ -55,24 +61,24 @@ pub fn agents_read_what_lists_hold()
     ensures { BringsLaw }
 {}
 
-/// Where lists are open as they should be in every run (`OpenListsLaw`), an agent that has a list open of an initiator
-/// that injected no packets is along that list, behind as many of its ORBs as the history has ends of it: after every line of every run, and behind each delivery of a line that may
-/// follow.
+/// Where lists were open as they should be before in a run (`OpenBefore`, `OpenBetween`), an agent that has a list open of
+/// an initiator that injected no packets is along that list, behind as many of its ORBs as the history has ends of it:
+/// after every line of every run, and behind each delivery of a line that may follow.
 #[tactic(auto, using(crate::proofs::RunLaws::along_law))]
 pub fn agents_are_along_lists()
     ensures { AlongLaw }
 {}
 
-/// Where lists are open as they should be in every run (`OpenListsLaw`), the order law holds of every run: the ORBs of
-/// a list run and end in their order, each behind its append, and none of a list that was cut or behind which the next
-/// one began.
+/// Where lists were open as they should be before in a run (`OpenBefore`, `OpenBetween`), the order law holds of it: the
+/// ORBs of a list run and end in their order, each behind its append, and none of a list that was cut or behind which the
+/// next one began.
 #[tactic(auto, using(crate::proofs::RunLaws::order_run_law))]
 pub fn orbs_end_in_order()
     ensures { OrderRunLaw }
 {}
 
-/// Where lists are open as they should be in every run (`OpenListsLaw`), an ORB runs at its turn, with the command of its append, and with no data or with as many of the first
-/// bytes of its data as the command asks for.
+/// Where lists were open as they should be before in a run (`OpenBefore`, `OpenBetween`), an ORB runs at its turn, with
+/// the command of its append, and with no data or with as many of the first bytes of its data as the command asks for.
 #[tactic(auto, using(crate::proofs::OnceLaws::lists_run_law))]
 pub fn orbs_run_as_they_were_appended()
     ensures { ListsRunLaw }
@@ -136,6 +142,27 @@ pub fn latest_lists_stand()
     session_terms::sessions_and_lists_are_of_seen_generations();
 }
 
+/// Where lists were open as they should be before in a run (`OpenBefore`, `OpenBetween`), a list of an initiator that
+/// injected no packets, of which an ORB has ended, had been open at an agent: a write of ORB_POINTER of its initiator had
+/// named an ORB of it as the target got it. After every line of every run, and behind each delivery of a line that may
+/// follow.
+#[tactic(auto, using(crate::proofs::EndedLists::ended_lists_law))]
+pub fn ended_lists_were_open()
+    ensures { EndedListsLaw }
+{}
+
+/// Where at each place of a run, before which lists were open as they should be, what this place needs holds (`PlacesLaw`),
+/// they are so in every run (`OpenListsLaw`): that each write of ORB_POINTER that the target got was named for a list whose
+/// slot held its first ORB then, and that a list whose write waits has no end, is shown. And where they are so in every run,
+/// they were so before each place of it, as the laws of lists ask.
+pub fn lists_stay_open_from_place_to_place()
+    ensures { ClosingLaw }
+{
+    latest_lists_stand();
+    pointer_terms::pointers_are_of_lists();
+    lists_begin_in_seen_generations();
+}
+
 /// In every run the present list of an initiator is the latest one, and an ORB of it whose status was not taken is the one that
 /// was prepared last in its slot: after every line, and behind each delivery of a line that delivers one packet after the other.
 pub fn present_lists_are_the_latest()
@@ -150,3 +177,48 @@ pub fn present_lists_are_the_latest()
 pub fn slots_stay()
     ensures { SlotsStayLaw }
 {}
+
+/// In every run, whatever anyone injected, an initiator that knows where MANAGEMENT_AGENT stands knows it at the one address that
+/// the target has it at, and each packet of an action with a management ORB goes there: in the target's ROM the key of
+/// MANAGEMENT_AGENT stands once, so no quadlet that the target ever gives names another address. After every line, and behind
+/// each delivery of a line that delivers one packet after the other.
+#[tactic(auto, using(crate::proofs::RomHeld::rom_law))]
+pub fn initiators_find_the_management_agent()
+    ensures { RomLaw }
+{}
+
+/// In every run each packet of an initiator that injected none by which an agent is pointed to an ORB is the write of ORB_POINTER
+/// for a list of that initiator, with the address of the first ORB of it: after every line, and behind each delivery of a line
+/// that delivers one packet after the other.
+#[tactic(auto, using(crate::proofs::Firsts::first_law))]
+pub fn pointers_name_first_orbs()
+    ensures { FirstLaw }
+{}
+
+/// In every run an initiator writes and reads at the registers of the agent of its host's login: ORB_POINTER for its present list, and a read of
+/// AGENT_STATE that tells of that list, where no logout of it was refused; and AGENT_RESET while that is under way. A read tells of a list only
+/// behind the answer to the ORB_POINTER write of it.
+pub fn registers_are_of_the_login()
+    ensures { BasesLaw }
+{
+    pointer_terms::registers_are_of_the_session();
+    session_terms::hosts_hold_the_login_of_their_session();
+}
+
+/// In every run, where what the management tells is so (`ManagementLaw`), an agent is out of RESET only for the present list of its
+/// initiator, if this injected no packets, or, while it is ahead of the target, for its latest one: by the write of ORB_POINTER of
+/// that list, which the target got. And none of its agents is out of RESET behind the write of an AGENT_RESET that is under way and
+/// was served, behind the answer 0 to a read of AGENT_STATE that tells of the present list, or behind the status block 00 of an
+/// operation under way that ends lists. After every line, and behind each delivery of a line that delivers one packet after the other.
+pub fn agents_are_out_of_reset_for_present_lists()
+    ensures { OpenedLaw }
+{
+    pointer_terms::pointers_are_of_lists();
+    pointer_terms::moments_stand_as_they_may();
+    session_terms::nodes_have_caught_up_with_the_target();
+    session_terms::deliveries_keep_nodes_caught_up();
+    session_terms::sessions_and_lists_are_of_seen_generations();
+    lists_begin_in_seen_generations();
+    pointers_name_first_orbs();
+    registers_are_of_the_login();
+}

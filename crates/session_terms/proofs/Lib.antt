@@ -1,15 +1,15 @@
 mod Presents
-pub mod Sessions
-pub mod Caught
-pub mod Turns
+mod Sessions
+mod Caught
+mod Turns
 mod Lines
-pub mod Logins
-pub mod Tables
-pub mod Standing
-pub mod Starting
+mod Logins
+mod Tables
+mod Standing
+mod Starting
 mod Single
-pub mod Decisions
-pub mod Writing
+mod Decisions
+mod Writing
 mod Handed
 mod Entering
 mod Places
@@ -17,7 +17,7 @@ mod Buffers
 mod Gears
 mod Mild
 mod Holding
-pub mod Codes
+mod Codes
 mod Blocking
 mod BlockCalls
 mod BlockNotes
@@ -28,4 +28,4 @@ mod HoldingRuns
 mod PlaceNotes
 mod PlaceRuns
 mod PlaceAsks
-pub mod Runs
+mod Runs
