@@ -11,7 +11,7 @@ use Rattle.sbp_journal.specs.declared.event.Event.TheVariants as events
 use Rattle.sbp_journal.specs.declared.note.Note.TheVariants as notes
 
 module _ (r : ℕ) where
-  abbrev Grows : Terms → Terms → Type 0
+  abbrev pub Grows : Terms → Terms → Type 0
   Grows t u = t.news r ≤ u.news r
 
   same : (t u : Terms) → u.news ≡ t.news → Grows t u

@@ -15,7 +15,4 @@ pub mod Begun
 pub mod SentReads
 pub mod Presents
 pub mod SlotsStay
-pub mod Opened
-pub mod Roms
-pub mod Firsts
-pub mod Bases
+pub mod Statuses

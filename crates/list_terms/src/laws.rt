@@ -1,12 +1,10 @@
 //! The laws of the lists and the agents.
 ghost use Rattle.list_terms.specs.Along.{AlongLaw};
-ghost use Rattle.list_terms.specs.Bases.{BasesLaw};
 ghost use Rattle.list_terms.specs.Brings.{BringsLaw};
 ghost use Rattle.list_terms.specs.Lists.{GrowingLaw};
 ghost use Rattle.list_terms.specs.CutLists.{CutListsLaw};
 ghost use Rattle.list_terms.specs.Closes.{ClosingLaw};
 ghost use Rattle.list_terms.specs.EndedLists.{EndedListsLaw};
-ghost use Rattle.list_terms.specs.Opened.{OpenedLaw};
 ghost use Rattle.list_terms.specs.Opens.{OpensLaw};
 ghost use Rattle.list_terms.specs.Orders.{AppendsLaw, OrderRunLaw};
 ghost use Rattle.list_terms.specs.Names.{NamesLaw};
@@ -17,8 +15,7 @@ ghost use Rattle.list_terms.specs.Begun.{BegunLaw};
 ghost use Rattle.list_terms.specs.SentReads.{SentReadsLaw};
 ghost use Rattle.list_terms.specs.Presents.{PresentLaw};
 ghost use Rattle.list_terms.specs.SlotsStay.{SlotsStayLaw};
-ghost use Rattle.list_terms.specs.Roms.{RomLaw};
-ghost use Rattle.list_terms.specs.Firsts.{FirstLaw};
+ghost use Rattle.list_terms.specs.Statuses.{StatusesLaw};
 
 /// The lists of an initiator, as the run terms have them, are laid out as an agent asks for it: an ORB without
 /// elements of a page table names the buffer of its command. From each moment of every run on a list grows:
@@ -178,47 +175,12 @@ pub fn slots_stay()
     ensures { SlotsStayLaw }
 {}
 
-/// In every run, whatever anyone injected, an initiator that knows where MANAGEMENT_AGENT stands knows it at the one address that
-/// the target has it at, and each packet of an action with a management ORB goes there: in the target's ROM the key of
-/// MANAGEMENT_AGENT stands once, so no quadlet that the target ever gives names another address. After every line, and behind
-/// each delivery of a line that delivers one packet after the other.
-#[tactic(auto, using(crate::proofs::RomHeld::rom_law))]
-pub fn initiators_find_the_management_agent()
-    ensures { RomLaw }
+/// Where each write of a status that the target sends to an initiator that injected no packets is, as it is sent, the packet
+/// of an ORB that ended, with the status with which it ended, and its slot has that ORB (`AllSentSo`), statuses are taken so:
+/// the status of an ORB is taken of the packet that its end sent, as it ended, and no status of an ORB that has not ended.
+/// Each in runs in which lists were open as they should be before, after every line, and behind each delivery of a line
+/// that may follow.
+#[tactic(auto, using(crate::proofs::StatusRuns::statuses_law))]
+pub fn statuses_are_taken_as_they_are_sent()
+    ensures { StatusesLaw }
 {}
-
-/// In every run each packet of an initiator that injected none by which an agent is pointed to an ORB is the write of ORB_POINTER
-/// for a list of that initiator, with the address of the first ORB of it: after every line, and behind each delivery of a line
-/// that delivers one packet after the other.
-#[tactic(auto, using(crate::proofs::Firsts::first_law))]
-pub fn pointers_name_first_orbs()
-    ensures { FirstLaw }
-{}
-
-/// In every run an initiator writes and reads at the registers of the agent of its host's login: ORB_POINTER for its present list, and a read of
-/// AGENT_STATE that tells of that list, where no logout of it was refused; and AGENT_RESET while that is under way. A read tells of a list only
-/// behind the answer to the ORB_POINTER write of it.
-pub fn registers_are_of_the_login()
-    ensures { BasesLaw }
-{
-    pointer_terms::registers_are_of_the_session();
-    session_terms::hosts_hold_the_login_of_their_session();
-}
-
-/// In every run, where what the management tells is so (`ManagementLaw`), an agent is out of RESET only for the present list of its
-/// initiator, if this injected no packets, or, while it is ahead of the target, for its latest one: by the write of ORB_POINTER of
-/// that list, which the target got. And none of its agents is out of RESET behind the write of an AGENT_RESET that is under way and
-/// was served, behind the answer 0 to a read of AGENT_STATE that tells of the present list, or behind the status block 00 of an
-/// operation under way that ends lists. After every line, and behind each delivery of a line that delivers one packet after the other.
-pub fn agents_are_out_of_reset_for_present_lists()
-    ensures { OpenedLaw }
-{
-    pointer_terms::pointers_are_of_lists();
-    pointer_terms::moments_stand_as_they_may();
-    session_terms::nodes_have_caught_up_with_the_target();
-    session_terms::deliveries_keep_nodes_caught_up();
-    session_terms::sessions_and_lists_are_of_seen_generations();
-    lists_begin_in_seen_generations();
-    pointers_name_first_orbs();
-    registers_are_of_the_login();
-}

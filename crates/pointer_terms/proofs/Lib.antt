@@ -1,32 +1,24 @@
 mod Pends
 mod PendHears
 mod PendActs
-pub mod Ages
+mod Ages
 mod Names
-pub mod Finds
+mod Finds
 mod Passing
 mod Dropping
-pub mod Waits
+mod Waits
 mod WaitActs
-mod Walks
-mod Showing
-mod ActShows
-mod Resetting
-mod BaseSeats
-mod BaseTold
-mod BaseWalks
 mod Guarded
 mod Statuses
-pub mod Ending
+mod Ending
 mod GuardHears
 mod GuardSees
 mod Steps
 mod GuardActs
-pub mod Asks
+mod Asks
 mod GuardDoes
-pub mod Spelled
+mod Spelled
 mod Guarding
-mod Basing
 mod Naming
 mod Writing
 mod Sending
@@ -35,7 +27,4 @@ mod Calms
 mod CalmRuns
 mod Written
 mod Eight
-pub mod Proved
-mod BaseSteps
-mod BaseActs
-mod Based
+mod Proved
