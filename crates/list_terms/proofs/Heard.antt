@@ -54,10 +54,10 @@ use Rattle.agent_terms.proofs.Handed.{are_handed}
 use Rattle.agent_terms.proofs.Purposes.{Waits, g, held_waits, labels, law}
 
 -- ---- packets
-awaits_same : (k l : ReplyKind) → awaits k ≡ awaits l → k ≡ l
+pub awaits_same : (k l : ReplyKind) → awaits k ≡ awaits l → k ≡ l
 awaits_same k l e = cc
 
-same_kind : (k l : Kind) → k ≡ l → is_same_kind k l ≡ true
+pub same_kind : (k l : Kind) → k ≡ l → is_same_kind k l ≡ true
 same_kind writing l e = subst (λ x. is_same_kind writing x ≡ true) e refl
 same_kind reading_quadlet l e = subst (λ x. is_same_kind reading_quadlet x ≡ true) e refl
 same_kind reading_block l e = subst (λ x. is_same_kind reading_block x ≡ true) e refl
@@ -74,11 +74,11 @@ label_in (read_block_response header rcode payload) l k e = cc
 label_in (lock header offset extended payload) l k e = absurd (let no : request header.label locking ≡ response l k = e in cc)
 label_in (lock_response header rcode extended payload) l k e = cc
 
-record Spells (p : Packet) : Type 0 where
-  kind : Kind
-  part : part_in p ≡ response (header_in p).label kind
+pub record Spells (p : Packet) : Type 0 where
+  pub kind : Kind
+  pub part : part_in p ≡ response (header_in p).label kind
 
-spells : (p : Packet) → is_some (reply_kind p) ≡ true → Spells p
+pub spells : (p : Packet) → is_some (reply_kind p) ≡ true → Spells p
 spells p some = by_case (part_case p)
   where
     by_case : PartOf p → Spells p
@@ -86,12 +86,12 @@ spells p some = by_case (part_case p)
     by_case (replies l k part is) = record { kind = k; part = part ∙ ap (λ x. response x k) (label_in p l k part) }
 
 -- a packet that the store has
-record Owned (serial : ℕ) (kept : List Kept) (sent : Sent) : Type 0 where
-  one : Kept
-  found : found_kept serial kept ≡ Some one
-  is : one.sent ≡ sent
+pub record Owned (serial : ℕ) (kept : List Kept) (sent : Sent) : Type 0 where
+  pub one : Kept
+  pub found : found_kept serial kept ≡ Some one
+  pub is : one.sent ≡ sent
 
-stored_by : (serial : ℕ) (kept : List Kept) (sent : Sent) (so : Option Kept) → found_kept serial kept ≡ so → sent_of so ≡ Some sent → Owned serial kept sent
+pub stored_by : (serial : ℕ) (kept : List Kept) (sent : Sent) (so : Option Kept) → found_kept serial kept ≡ so → sent_of so ≡ Some sent → Owned serial kept sent
 stored_by serial kept sent None e f = absurd (let no : None ≡ Some sent = f in cc)
 stored_by serial kept sent (Some one) e f = record { one = one; found = e; is = (let z : Some one.sent ≡ Some sent = f in cc) }
 

@@ -11,7 +11,7 @@ use Rattle.sbp_journal.specs.declared.event.Event.TheVariants as events
 use Rattle.sbp_journal.specs.declared.note.Note.TheVariants as notes
 
 module _ (r : ℕ) where
-  abbrev pub Grows : Terms → Terms → Type 0
+  abbrev Grows : Terms → Terms → Type 0
   Grows t u = t.news r ≤ u.news r
 
   same : (t u : Terms) → u.news ≡ t.news → Grows t u
@@ -24,11 +24,11 @@ module _ (r : ℕ) where
       by true e = let x : r ≡ s = grind (arith, nat_tests) in let y = ap t.news x in omega (arith, y)
       by false e = omega arith
 
-  judges_same : (u : Option Transaction) (cause : Option Cause) (s : ℕ) (packet : Sending) (t : Terms) → (judges u cause s packet t).news ≡ t.news
+  pub judges_same : (u : Option Transaction) (cause : Option Cause) (s : ℕ) (packet : Sending) (t : Terms) → (judges u cause s packet t).news ≡ t.news
   judges_same None cause s packet t = refl
   judges_same (Some u) cause s packet t = refl
 
-  judges_if_same : (b : Bool) (u : Option Transaction) (s : ℕ) (packet : Sending) (t : Terms) → (judges_if b u s packet t).news ≡ t.news
+  pub judges_if_same : (b : Bool) (u : Option Transaction) (s : ℕ) (packet : Sending) (t : Terms) → (judges_if b u s packet t).news ≡ t.news
   judges_if_same true u s packet t = judges_same u (Some causes.Grammar) s packet t
   judges_if_same false u s packet t = refl
 
@@ -41,7 +41,7 @@ module _ (r : ℕ) where
   closes_same free u other rcode t = refl
   closes_same rests u other rcode t = refl
 
-  gets_as_same : (part : Part) (s : ℕ) (packet : Sending) (t : Terms) → (gets_as part s packet t).news ≡ t.news
+  pub gets_as_same : (part : Part) (s : ℕ) (packet : Sending) (t : Terms) → (gets_as part s packet t).news ≡ t.news
   gets_as_same (request label kind) s packet t = judges_same (asked_by packet) None s packet t
   gets_as_same (response label kind) s packet t = closes_same _ _ kind _ t
   gets_as_same no_packet s packet t = refl
@@ -88,7 +88,7 @@ module _ (r : ℕ) where
   ignores_that_grows None cause s t = same t t refl
   ignores_that_grows (Some packet) cause s t = ignores_grows cause s packet (arrives s t)
 
-  times_out_same : (u : Option Transaction) (t : Terms) → (times_out u t).news ≡ t.news
+  pub times_out_same : (u : Option Transaction) (t : Terms) → (times_out u t).news ≡ t.news
   times_out_same None t = refl
   times_out_same (Some u) t = refl
 
@@ -104,12 +104,12 @@ module _ (r : ℕ) where
   pays_same None sent s packet t = refl
   pays_same (Some owed) sent s packet t = gives_same _ _ t
 
-  sends_same : (s : ℕ) (packet : Sending) (t : Terms) → (sends s packet t).news ≡ t.news
+  pub sends_same : (s : ℕ) (packet : Sending) (t : Terms) → (sends s packet t).news ≡ t.news
   sends_same s packet t =
       let put = puts (begun_by packet) s packet t in
       pays_same t.owes t.sent s packet (begins (begun_by packet) s packet put) ∙ begins_same (begun_by packet) s packet put
 
-  opened_same : (event : Event) (t : Terms) → (opened event t).news ≡ t.news
+  pub opened_same : (event : Event) (t : Terms) → (opened event t).news ≡ t.news
   opened_same (events.Reset physical) t = refl
   opened_same (events.Repeat serial) t = refl
   opened_same _ t = refl
@@ -122,7 +122,7 @@ module _ (r : ℕ) where
   moment_grows (said (notes.TimedOut s)) past = same (terms past) (terms (said (notes.TimedOut s) ∷ past)) (times_out_same _ (terms past))
   moment_grows (said note) past = same (terms past) (terms past) refl
 
-  pub all_grow : (later past : List Moment) → Grows (terms past) (terms (later ++ past))
+  all_grow : (later past : List Moment) → Grows (terms past) (terms (later ++ past))
   all_grow [] past = omega arith
   all_grow (m ∷ later) past = let a = all_grow later past in let b = moment_grows m (later ++ past) in omega (arith, a, b)
 

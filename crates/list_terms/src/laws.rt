@@ -3,8 +3,6 @@ ghost use Rattle.list_terms.specs.Along.{AlongLaw};
 ghost use Rattle.list_terms.specs.Brings.{BringsLaw};
 ghost use Rattle.list_terms.specs.Lists.{GrowingLaw};
 ghost use Rattle.list_terms.specs.CutLists.{CutListsLaw};
-ghost use Rattle.list_terms.specs.Closes.{ClosingLaw};
-ghost use Rattle.list_terms.specs.EndedLists.{EndedListsLaw};
 ghost use Rattle.list_terms.specs.Opens.{OpensLaw};
 ghost use Rattle.list_terms.specs.Orders.{AppendsLaw, OrderRunLaw};
 ghost use Rattle.list_terms.specs.Names.{NamesLaw};
@@ -15,7 +13,12 @@ ghost use Rattle.list_terms.specs.Begun.{BegunLaw};
 ghost use Rattle.list_terms.specs.SentReads.{SentReadsLaw};
 ghost use Rattle.list_terms.specs.Presents.{PresentLaw};
 ghost use Rattle.list_terms.specs.SlotsStay.{SlotsStayLaw};
-ghost use Rattle.list_terms.specs.Statuses.{StatusesLaw};
+ghost use Rattle.list_terms.specs.Underway.{UnderwayLaw};
+ghost use Rattle.list_terms.specs.PlaceReads.{PlaceReadsLaw};
+ghost use Rattle.list_terms.specs.Contents.{ContentsLaw};
+ghost use Rattle.list_terms.specs.ReadOrbs.{ReadOrbsLaw};
+ghost use Rattle.list_terms.specs.InPlace.{InPlaceLaw};
+ghost use Rattle.list_terms.specs.CarriedOrbs.{CarriedOrbsLaw};
 
 /// The lists of an initiator, as the run terms have them, are laid out as an agent asks for it: an ORB without
 /// elements of a page table names the buffer of its command. From each moment of every run on a list grows:
@@ -40,16 +43,16 @@ pub fn orbs_stand_in_their_slots()
     ensures { NamesLaw }
 {}
 
-/// Where lists were open as they should be before in a run (`OpenBefore`, `OpenBetween`), and are so now, what an agent
-/// waits for, to read in a slot of an initiator that injected no packets, was sent when the ORB that the slot has now had
-/// been appended: after every line of every run, and behind each delivery of a line that may follow.
+/// Where lists are open as they should be in every run (`OpenListsLaw`), what an agent waits for, to read in a slot of
+/// an initiator that injected no packets, was sent when the ORB that the slot has now had been appended: after every
+/// line of every run, and behind each delivery of a line that may follow.
 #[tactic(auto, using(crate::proofs::RunLaws::sent_reads_law))]
 pub fn reads_are_sent_behind_appends()
     ensures { SentReadsLaw }
 {}
 
-/// Where lists were open as they should be before in a run (`OpenBefore`, `OpenBetween`), and are so now, what an agent
-/// reads along a list of an initiator that injected no packets is what the list holds: the
+/// Where lists are open as they should be in every run (`OpenListsLaw`), what an agent reads along a list of an
+/// initiator that injected no packets is what the list holds: the
 /// response to its read brings the ORB behind those that have ended, or the one behind that; its page table, which is
 /// read as the buffer laid out for its command; the next bytes of its data; or the next pointer of the last ORB.
 /// After every line of every run, and behind each delivery of a line that may follow.
@@ -58,24 +61,24 @@ pub fn agents_read_what_lists_hold()
     ensures { BringsLaw }
 {}
 
-/// Where lists were open as they should be before in a run (`OpenBefore`, `OpenBetween`), an agent that has a list open of
-/// an initiator that injected no packets is along that list, behind as many of its ORBs as the history has ends of it:
-/// after every line of every run, and behind each delivery of a line that may follow.
+/// Where lists are open as they should be in every run (`OpenListsLaw`), an agent that has a list open of an initiator
+/// that injected no packets is along that list, behind as many of its ORBs as the history has ends of it: after every line of every run, and behind each delivery of a line that may
+/// follow.
 #[tactic(auto, using(crate::proofs::RunLaws::along_law))]
 pub fn agents_are_along_lists()
     ensures { AlongLaw }
 {}
 
-/// Where lists were open as they should be before in a run (`OpenBefore`, `OpenBetween`), the order law holds of it: the
-/// ORBs of a list run and end in their order, each behind its append, and none of a list that was cut or behind which the
-/// next one began.
+/// Where lists are open as they should be in every run (`OpenListsLaw`), the order law holds of every run: the ORBs of
+/// a list run and end in their order, each behind its append, and none of a list that was cut or behind which the next
+/// one began.
 #[tactic(auto, using(crate::proofs::RunLaws::order_run_law))]
 pub fn orbs_end_in_order()
     ensures { OrderRunLaw }
 {}
 
-/// Where lists were open as they should be before in a run (`OpenBefore`, `OpenBetween`), an ORB runs at its turn, with
-/// the command of its append, and with no data or with as many of the first bytes of its data as the command asks for.
+/// Where lists are open as they should be in every run (`OpenListsLaw`), an ORB runs at its turn, with the command of its append, and with no data or with as many of the first
+/// bytes of its data as the command asks for.
 #[tactic(auto, using(crate::proofs::OnceLaws::lists_run_law))]
 pub fn orbs_run_as_they_were_appended()
     ensures { ListsRunLaw }
@@ -139,27 +142,6 @@ pub fn latest_lists_stand()
     session_terms::sessions_and_lists_are_of_seen_generations();
 }
 
-/// Where lists were open as they should be before in a run (`OpenBefore`, `OpenBetween`), a list of an initiator that
-/// injected no packets, of which an ORB has ended, had been open at an agent: a write of ORB_POINTER of its initiator had
-/// named an ORB of it as the target got it. After every line of every run, and behind each delivery of a line that may
-/// follow.
-#[tactic(auto, using(crate::proofs::EndedLists::ended_lists_law))]
-pub fn ended_lists_were_open()
-    ensures { EndedListsLaw }
-{}
-
-/// Where at each place of a run, before which lists were open as they should be, what this place needs holds (`PlacesLaw`),
-/// they are so in every run (`OpenListsLaw`): that each write of ORB_POINTER that the target got was named for a list whose
-/// slot held its first ORB then, and that a list whose write waits has no end, is shown. And where they are so in every run,
-/// they were so before each place of it, as the laws of lists ask.
-pub fn lists_stay_open_from_place_to_place()
-    ensures { ClosingLaw }
-{
-    latest_lists_stand();
-    pointer_terms::pointers_are_of_lists();
-    lists_begin_in_seen_generations();
-}
-
 /// In every run the present list of an initiator is the latest one, and an ORB of it whose status was not taken is the one that
 /// was prepared last in its slot: after every line, and behind each delivery of a line that delivers one packet after the other.
 pub fn present_lists_are_the_latest()
@@ -175,12 +157,45 @@ pub fn slots_stay()
     ensures { SlotsStayLaw }
 {}
 
-/// Where each write of a status that the target sends to an initiator that injected no packets is, as it is sent, the packet
-/// of an ORB that ended, with the status with which it ended, and its slot has that ORB (`AllSentSo`), statuses are taken so:
-/// the status of an ORB is taken of the packet that its end sent, as it ended, and no status of an ORB that has not ended.
-/// Each in runs in which lists were open as they should be before, after every line, and behind each delivery of a line
-/// that may follow.
-#[tactic(auto, using(crate::proofs::StatusRuns::statuses_law))]
-pub fn statuses_are_taken_as_they_are_sent()
-    ensures { StatusesLaw }
+/// In every run the operation that an initiator has under way began with a request that was sent in the line of its action; its
+/// management ORB, as it was made then, stands in its place of the initiator's memory as long as it is under way, and the login of the
+/// initiator's host is that of then. One that is under way later, and had begun by an earlier moment, was under way at that moment.
+#[tactic(auto, using(crate::proofs::UnderwayRuns::underway_law))]
+pub fn operations_keep_their_orbs()
+    ensures { UnderwayLaw }
+{}
+
+/// In every run a response of an initiator that was not injected, and that tells bytes in answer to a block read of the 32 bytes of a
+/// place of management, brings the ORB that stood in that place as the initiator got the read, which had been sent before.
+#[tactic(auto, using(crate::proofs::PlaceBrings::place_reads_law))]
+pub fn places_are_read_as_they_stood()
+    ensures { PlaceReadsLaw }
+{}
+
+/// In every run a packet that the target sent as its management asked for it is what the operation asked for: at the operation's start
+/// a read of the 32 bytes of its ORB, where it stands; at its end a write of the status block that names the ORB.
+#[tactic(auto, using(crate::proofs::ContentAsked::contents_law))]
+pub fn operations_ask_for_their_orbs()
+    ensures { ContentsLaw }
+{}
+
+/// In every run the target has an operation whose ORB it reads, in the place of an operation that an initiator has under way, and the
+/// read was sent behind the first request of that. A response to it that was not injected brings the ORB that stands in that place.
+#[tactic(auto, using(crate::proofs::OrbsRead::read_orbs_law))]
+pub fn the_orb_in_its_place_is_read()
+    ensures { ReadOrbsLaw }
+{}
+
+/// Where one management operation of an initiator is in hand at a time: the target reads the ORB of an operation in the place of the one
+/// that a well-behaved initiator has under way. Then the read was sent behind the first request of that, and the response brings its ORB.
+#[tactic(auto, using(crate::proofs::OrbsInPlace::in_place_law))]
+pub fn the_orb_under_way_is_read()
+    ensures { InPlaceLaw }
+{}
+
+/// In each history the management ORB that the target read last is that of its operation from then on: while the EUI-64 of the source is
+/// read, and behind the decision, which is on this ORB.
+#[tactic(auto, using(crate::proofs::OrbsCarried::carried_orbs_law))]
+pub fn the_orb_that_was_read_is_decided()
+    ensures { CarriedOrbsLaw }
 {}

@@ -5,9 +5,8 @@ mod laws;
 
 pub use laws::{
     agents_are_along_lists, agents_read_what_lists_hold, appends_are_numbered, cut_lists_were_open,
-    ended_lists_were_open, latest_lists_stand, lists_begin_in_seen_generations, lists_grow,
-    lists_stay_open_from_place_to_place, open_lists_are_the_latest, open_lists_were_pointed_to,
-    orbs_end_in_order, orbs_run_as_they_were_appended, orbs_run_once, orbs_stand_in_their_slots,
-    present_lists_are_the_latest, reads_are_sent_behind_appends, slots_stay,
-    statuses_are_taken_as_they_are_sent,
+    latest_lists_stand, lists_begin_in_seen_generations, lists_grow, open_lists_are_the_latest,
+    open_lists_were_pointed_to, orbs_end_in_order, orbs_run_as_they_were_appended, orbs_run_once,
+    orbs_stand_in_their_slots, present_lists_are_the_latest, reads_are_sent_behind_appends,
+    slots_stay,
 };

@@ -25,7 +25,7 @@ mod BlockLines
 mod BlockRuns
 mod HoldingHears
 mod HoldingRuns
-mod PlaceNotes
-mod PlaceRuns
+pub mod PlaceNotes
+pub mod PlaceRuns
 mod PlaceAsks
 mod Runs
