@@ -1,5 +1,5 @@
 -- What the answer to a read of an agent along a list brings, where its bytes are those of the ORB of the number that the agent reads.
-use Rattle.std.proofs.Common.{arith, ◌≡◌, ◌∙◌, refl, sym, ap, subst, inl, inr, ◌⊎◌, ◌<◌, ◌==◌, ℕ, zero, suc, ◌+◌, ◌-◌, ◌*◌, nat_lt, min, Bool, true, false, cond, List, [], ◌∷◌, ◌++◌, length, take, drop, take-take, ◌&&◌, not, Option, Some, None, IfSome, Result, Ok, Err}
+use Rattle.std.proofs.Common.{arith, ◌≡◌, ◌∙◌, refl, sym, ap, subst, inl, inr, ◌⊎◌, ◌<◌, ◌==◌, ℕ, zero, suc, ◌+◌, ◌-◌, ◌*◌, nat_lt, min, Bool, true, false, cond, List, [], ◌∷◌, ◌++◌, length, take, drop, take-take, ◌&&◌, not, Option, Some, None, IfSome, Result, Ok, Err, append-nil}
 use Rattle.std.proofs.lemmas.Bool.Decides.{nat_tests}
 use Rattle.bus_memory.specs.declared.window.Window.TheVariants as windows
 use Rattle.bus_memory.specs.Windows.{start}
@@ -37,7 +37,7 @@ use Rattle.sbp_laws.specs.Lists.{command_at, slot_at}
 use Rattle.agent_terms.specs.AskedRuns.{IsAccessFor, read_access}
 use Rattle.host_terms.specs.Carrying.{Follows, HoldsTable, IsOfOrb, IsOrbOf as IsBytesOf, LeadsOn}
 use Rattle.host_terms.specs.Orbs.{orb_for}
-use Rattle.list_terms.specs.Lists.{IsBufferOf, IsDataOf, IsOrbOf, orbs}
+use Rattle.list_terms.specs.Lists.{IsBufferOf, IsDataIn, IsDataOf, IsOrbOf, orbs}
 
 -- ---- an answer that brings bytes
 abbrev ok_bytes : List ℕ → Result (List ℕ) FailCause
@@ -87,6 +87,9 @@ goes_on held bytes all c e f =
 none_long : (xs : List ℕ) → length xs ≡ 0 → xs ≡ []
 none_long [] e = refl
 none_long (x ∷ xs) e = absurd (omega arith)
+
+none_more : (held bytes : List ℕ) → length bytes ≡ 0 → length (held ++ bytes) ≡ length held
+none_more held bytes e = ap (λ ys. length (held ++ ys)) (none_long bytes e) ∙ ap (λ ys. length ys) (append-nil held)
 
 -- ---- a chunk that is cut short follows the bytes in front of it still
 address_take : (o c j : ℕ) → take j (addresses o c) ≡ addresses o (min j c)
@@ -179,7 +182,7 @@ module _ (past : List Moment) (i n : ℕ) where
   orb_brought k access answer c r = λ bytes e. good_bytes k bytes ((c.of_orb bytes (paid answer 32 bytes e).is).orb r)
 
   -- ---- the main transaction
-  data_of : (p : Progress) (m : Machine) (wanted : ℕ) (f : Filling list p m.present m.orb m.payload m.segments wanted) → m.payload ≡ take (length m.payload) f.awaits.good.own.cmd.payload
+  data_of : (p : Progress) (m : Machine) (wanted : ℕ) (f : Filling list p m.present m.orb m.payload m.segments wanted) → IsDataIn f.awaits.good.own.cmd m.payload
   data_of p m wanted f = subst (λ x. IsDataOf x m.payload) f.awaits.good.own.command f.part
 
   pub buffer_of : (p : Progress) (m : Machine) (wanted : ℕ) (f : Filling list p m.present m.orb m.payload m.segments wanted) → m.segments ≡ laid_out (slot_at past i n p.ended) f.awaits.good.own.cmd f.awaits.good.own.cmd.segments
@@ -212,18 +215,25 @@ module _ (past : List Moment) (i n : ℕ) where
       count : access.count ≡ taken.length
       count = ap (λ (x : Access). x.count) a
 
-      by : (b : Bool) → (taken.length == 0) ≡ b → m.payload ++ bytes ≡ take (length (m.payload ++ bytes)) own.cmd.payload
+      by : (b : Bool) → (taken.length == 0) ≡ b → IsDataIn own.cmd (m.payload ++ bytes)
       by true z =
           let none : taken.length ≡ 0 = grind (arith, nat_tests) in
-          goes_on m.payload bytes own.cmd.payload 0 (data_of p m wanted f) (none_long bytes (pay.size_is ∙ none))
+          let so_far = data_of p m wanted f in
+          record {
+            first = goes_on m.payload bytes own.cmd.payload 0 so_far.first (none_long bytes (pay.size_is ∙ none));
+            outward = λ some. so_far.outward (subst (λ n. 0 < n) (none_more m.payload bytes (pay.size_is ∙ none)) some);
+          }
       by false z =
           let more : 0 < taken.length = grind (arith, nat_tests) in
           let there = count in
           let some : 0 < access.count = omega arith in
           let at = follows p m wanted f access a in
           let came = c (ap (λ (x : Access). x.is_write) a) some in
-          goes_on m.payload bytes own.cmd.payload access.count (data_of p m wanted f)
-          ((came.of_orb bytes pay.is).of_data own.cmd (length m.payload) own.command (came.out bytes pay.is own.cmd (length m.payload) own.command some at) at)
+          let outward = came.out bytes pay.is own.cmd (length m.payload) own.command some at in
+          record {
+            first = goes_on m.payload bytes own.cmd.payload access.count (data_of p m wanted f).first ((came.of_orb bytes pay.is).of_data own.cmd (length m.payload) own.command outward at);
+            outward = λ any. outward;
+          }
 
   table_brought : (p : Progress) (m : Machine) (access : Access) (answer : Answer) → Tabling list p m.present m.orb m.payload → access ≡ read_access m.orb.descriptor (8 * m.orb.data_size) → (access.is_write ≡ false → 0 < access.count → Comes p.ended access answer) → (bytes : List ℕ) → payload_of answer (8 * m.orb.data_size) ≡ Ok bytes → IsBufferOf (command_at past i n p.ended) (slot_at past i n p.ended) (elements_of bytes)
   table_brought p m access answer k a c bytes e =

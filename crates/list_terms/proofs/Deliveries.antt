@@ -1,5 +1,5 @@
 -- Each call of the target keeps what is known of its agents, and what it tells is in the order: a packet that it gets, and a time-out.
-use Rattle.std.proofs.Common.{◌≡◌, ◌∙◌, refl, sym, ap, ◌<◌, ◌≤◌, ℕ, zero, suc, nat_lt, Bool, true, false, cond, List, [], ◌∷◌, length, Option, Some, None, Result, Ok, Err, arith}
+use Rattle.std.proofs.Common.{◌≡◌, ◌∙◌, refl, sym, ap, subst, ◌<◌, ◌≤◌, ℕ, zero, suc, nat_lt, Bool, true, false, cond, List, [], ◌∷◌, length, Option, Some, None, Result, Ok, Err, arith}
 use Rattle.std.specs.Prelude.{slice_index_or}
 use Rattle.std.proofs.lemmas.Bool.Decides.{nat_tests}
 use Rattle.async_packet.specs.Labels.{LabelParts}
@@ -24,7 +24,7 @@ use Rattle.sbp_journal.specs.declared.cause.Judged.TheVariants as judgements
 use Rattle.sbp_journal.specs.declared.note.Note.{Note}
 use Rattle.sbp_journal.specs.declared.note.Note.TheVariants as notes
 use Rattle.sbp_journal.specs.Outgoings.{empty_outbox}
-use Rattle.sbp_journal.specs.Run.{Moment}
+use Rattle.sbp_journal.specs.Run.{Moment, said}
 use Rattle.target_base.specs.Addresses.{address_error, complete, demand_of}
 use Rattle.target_base.specs.declared.address.Access.{Access}
 use Rattle.target_base.specs.declared.address.Access.TheVariants as accesses
@@ -53,6 +53,9 @@ use Rattle.list_terms.proofs.Kept.{Kept, same}
 use Rattle.list_terms.proofs.Looks.{Looks}
 use Rattle.list_terms.proofs.Registers.{point_kept, ring_kept, start_cutting}
 use Rattle.list_terms.proofs.Named.{no}
+use Rattle.agent_terms.proofs.Management.Still.{hist}
+use Rattle.list_terms.specs.CutLists.{WasHad}
+use Rattle.list_terms.proofs.Takings.{Takes}
 use Rattle.list_terms.proofs.Turns.{First, Ready, acting, got_it, ignored_it, late_it, late_kept, reply_kept, sent_has, v}
 
 -- the first note of a delivery
@@ -102,7 +105,7 @@ module _ (wild : ℕ → Bool) (past : List Moment) (w : WorldState) (r : Ready 
       (ahead_of (is_that d.main peer label) (is_sent d.agent.phase) (is_that d.ahead peer label) (is_ahead d.agent.ahead) e)
 
   -- ---- a packet that the target gets
-  module _ (serial : ℕ) (sent : Sent) (is_for : IsFor w sent) (run : Option Told) (media : Held) where
+  module _ (serial : ℕ) (sent : Sent) (is_for : IsFor w sent) (took : Takes wild past w serial sent) (run : Option Told) (media : Held) where
     abbrev layer : Layer Purpose
     layer = (judging_step w.target.layer sent.generation sent.bytes).1
 
@@ -142,26 +145,28 @@ module _ (wild : ℕ → Bool) (past : List Moment) (w : WorldState) (r : Ready 
           (cut_alike wild past u here (scene (settled (header_in p).source node) empty_outbox) (record { desks = refl; agents = λ k. refl }) refl begins).kept
 
       -- ---- a request
-      access_kept : (p : Packet) (place : ℕ) (access : Access) → Found (of_request p) → is_barred w.target p ≡ false → demand_of (length w.target.rom) p ≡ demands.Agent place access → K u (accessed_by access place p sent.bytes here)
-      access_kept p place accesses.State f n d = (answers wild past u p sent.bytes complete _ here begins).kept
-      access_kept p place accesses.Reset f n d = (answers wild past u p sent.bytes complete [] (cut cuts.AgentReset place here) (cuts_one wild past u cuts.AgentReset place here begins)).kept
-      access_kept p place (accesses.Point pointer) f n d =
-          point_kept wild past w r note first u l place (reaches w.target r.good p place (accesses.Point pointer) n d).small layer p sent.bytes pointer
-          (λ own ask e. (r.needs (holder w place).initiator own).lists.points sent is_for p f n place pointer ask d e (r.calm (holder w place).initiator own))
-      access_kept p place accesses.Pointer f n d = (answers wild past u p sent.bytes complete _ here begins).kept
-      access_kept p place accesses.Ring f n d = ring_kept wild past w r note first u l place (reaches w.target r.good p place accesses.Ring n d).small layer p sent.bytes
-      access_kept p place accesses.Enable f n d =
-          (answers wild past u p sent.bytes complete [] (enabled place here) (desk_more wild past u here place (record (desk_at node place) { is_enabled = true }) (same (machine_at w place)) begins)).kept
+      module _ (got : note ≡ notes.Got serial) where
+        access_kept : (p : Packet) (place : ℕ) (access : Access) → Found (of_request p) → is_barred w.target p ≡ false → demand_of (length w.target.rom) p ≡ demands.Agent place access → K u (accessed_by access place p sent.bytes here)
+        access_kept p place accesses.State f n d = (answers wild past u p sent.bytes complete _ here begins).kept
+        access_kept p place accesses.Reset f n d = (answers wild past u p sent.bytes complete [] (cut cuts.AgentReset place here) (cuts_one wild past u cuts.AgentReset place here begins)).kept
+        access_kept p place (accesses.Point pointer) f n d =
+            point_kept wild past w r note first u l place (reaches w.target r.good p place (accesses.Point pointer) n d).small layer p sent.bytes pointer
+            (λ own ask e. (r.needs (holder w place).initiator own).lists.points sent is_for p f n place pointer ask d e (r.calm (holder w place).initiator own))
+            (λ ask e own list there. subst (λ x. WasHad (said x ∷ hist past w) (holder w place).initiator list) (sym got) (took p f n place pointer ask d e own list there))
+        access_kept p place accesses.Pointer f n d = (answers wild past u p sent.bytes complete _ here begins).kept
+        access_kept p place accesses.Ring f n d = ring_kept wild past w r note first u l place (reaches w.target r.good p place accesses.Ring n d).small layer p sent.bytes
+        access_kept p place accesses.Enable f n d =
+            (answers wild past u p sent.bytes complete [] (enabled place here) (desk_more wild past u here place (record (desk_at node place) { is_enabled = true }) (same (machine_at w place)) begins)).kept
 
-      demand_kept : (p : Packet) (demand : Demand) → Found (of_request p) → is_barred w.target p ≡ false → demand_of (length w.target.rom) p ≡ demand → K u (served_as demand p sent.bytes here)
-      demand_kept p (demands.Refused rcode) f n d = (answers wild past u p sent.bytes rcode [] here begins).kept
-      demand_kept p (demands.Rom at len) f n d = (answers wild past u p sent.bytes complete _ here begins).kept
-      demand_kept p (demands.Manage orb) f n d = (starts wild past u orb p sent.bytes here begins).kept
-      demand_kept p (demands.Agent place access) f n d = access_kept p place access f n d
+        demand_kept : (p : Packet) (demand : Demand) → Found (of_request p) → is_barred w.target p ≡ false → demand_of (length w.target.rom) p ≡ demand → K u (served_as demand p sent.bytes here)
+        demand_kept p (demands.Refused rcode) f n d = (answers wild past u p sent.bytes rcode [] here begins).kept
+        demand_kept p (demands.Rom at len) f n d = (answers wild past u p sent.bytes complete _ here begins).kept
+        demand_kept p (demands.Manage orb) f n d = (starts wild past u orb p sent.bytes here begins).kept
+        demand_kept p (demands.Agent place access) f n d = access_kept p place access f n d
 
-      serve_kept : (p : Packet) → Found (of_request p) → is_barred w.target p ≡ false → K u (serve p sent.bytes here)
-      unfolding serve
-      serve_kept p f n = demand_kept p (demand_of (length w.target.rom) p) f n refl
+        serve_kept : (p : Packet) → Found (of_request p) → is_barred w.target p ≡ false → K u (serve p sent.bytes here)
+        unfolding serve
+        serve_kept p f n = demand_kept p (demand_of (length w.target.rom) p) f n refl
 
     -- ---- by what it is found to be
     abbrev Done : Judged × Whole → WorldState → Type 0
@@ -172,7 +177,7 @@ module _ (wild : ℕ → Bool) (past : List Moment) (w : WorldState) (r : Ready 
         let note = judged_note serial (judgements.Ignored ignored.Login) in
         let first = first_of serial (judgements.Ignored ignored.Login) in
         (answers wild past u p sent.bytes address_error [] here (begins u note first l)).kept
-    by_bar u p false f e l = serve_kept u (judged_note serial judgements.Got) (first_of serial judgements.Got) l p f e
+    by_bar u p false f e l = serve_kept u (judged_note serial judgements.Got) (first_of serial judgements.Got) l refl p f e
 
     by_found : (u : WorldState) (f : Finding Purpose) → Found f → Done (received_as run sent.bytes f all) u
     unfolding request_step is_barred

@@ -54,7 +54,7 @@ one_told weight (sides.Cleared unit) w = extends_one _ w.fresh
 one_told weight (sides.Unsolicited place) w = extends_one _ w.fresh
 one_told weight (sides.Unsent place) w = extends_one _ w.fresh
 
-all_told : (weight : ℕ) (side : List Side) (w : WorldState) → Extends w.fresh (told_all weight side w).fresh
+pub all_told : (weight : ℕ) (side : List Side) (w : WorldState) → Extends w.fresh (told_all weight side w).fresh
 unfolding told_all
 all_told weight [] w = extends_none w.fresh
 all_told weight (side ∷ later) w =
@@ -69,7 +69,7 @@ unfolding posted
 to_extends None from packet w = extends_none w.fresh
 to_extends (Some to) from packet w = asked_extends (w.store.last + 1) to from packet.to packet.label w.fresh (posted from to false packet.bytes w) (extends_one _ w.fresh)
 
-all_sent : (from : ℕ) (packets : List Outgoing) (w : WorldState) → Extends w.fresh (sent_all from packets w).fresh
+pub all_sent : (from : ℕ) (packets : List Outgoing) (w : WorldState) → Extends w.fresh (sent_all from packets w).fresh
 unfolding sent_all sent
 all_sent from [] w = extends_none w.fresh
 all_sent from (packet ∷ later) w =

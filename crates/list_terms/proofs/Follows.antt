@@ -22,7 +22,7 @@ use Rattle.agent_lists.specs.Requests.{ahead_beside, main_beside}
 use Rattle.agent_lists.specs.Tried.{disk}
 use Rattle.agent_lists.proofs.Writes.{keeps_along}
 use Rattle.sbp_journal.specs.Outgoings.{OutboxState}
-use Rattle.sbp_journal.specs.Run.{Moment}
+use Rattle.sbp_journal.specs.Run.{Moment, said}
 use Rattle.sbp_journal.specs.declared.note.Note.{Note}
 use Rattle.sbp_journal.specs.declared.note.Note.TheVariants as notes
 use Rattle.sbp_journal.specs.declared.side.Side.{Side}
@@ -41,6 +41,7 @@ use Rattle.sbp_world.specs.Worlds.{WorldState}
 use Rattle.list_terms.specs.Lists.{orbs}
 use Rattle.list_terms.proofs.Looks.{Looks, dead_looks, ended_looks, looks_as, ran_looks, unsent_looks, unsolicited_looks}
 use Rattle.list_terms.proofs.Presents.{lost_presents}
+use Rattle.list_terms.proofs.Later.{had_next}
 use Rattle.list_terms.proofs.Told.{Apart, Behind, Due, Others, behind, dead_fresh, ended_fresh, i, ran_fresh, step_fresh, step_told}
 use Rattle.list_terms.proofs.Passing.{PassLaw}
 
@@ -220,6 +221,7 @@ module _ (wild : ℕ → Bool) (past : List Moment) (u v : WorldState) (q n : �
         ahead = ahead_beside which a;
         keeps = (keeps_along (orbs ms (i wild past v q n machines) n)).loses o.goes.progress a 0 disk which causes.Label o.goes.along;
         present = lost_presents a which causes.Label;
+        had = o.had;
       }
 
   lost_pending : (which : Which) (s : Scene) → Mid s → (let l = lost_step (desk_at s.node q).agent which causes.Label in Pending l.0 (scene (with_agent s.node q l.1) s.outbox))
@@ -314,8 +316,20 @@ module _ (wild : ℕ → Bool) (past : List Moment) (u v : WorldState) (q n : �
 
   -- a note of it
   heard_after : (place : ℕ) (x : Bool) (m : Machine) (fresh : List Note) → Behind wild past v q n machines m fresh → Behind wild past v q n machines m (cond x (notes.Unsolicited (holder v place).initiator) (notes.Unsent (holder v place).initiator) ∷ fresh)
-  heard_after place true m fresh c = record { law = (tt, c.law); others = c.others; own = λ own. let o = c.own own in record { listed = o.listed; goes = o.goes } }
-  heard_after place false m fresh c = record { law = (tt, c.law); others = c.others; own = λ own. let o = c.own own in record { listed = o.listed; goes = o.goes } }
+  heard_after place true m fresh c = record {
+    law = (tt, c.law);
+    others = c.others;
+    own = λ own.
+        let o = c.own own in
+        record { listed = o.listed; goes = o.goes; had = had_next (said (notes.Unsolicited (holder v place).initiator)) (behind wild past v q n machines fresh) (i wild past v q n machines) n o.had };
+  }
+  heard_after place false m fresh c = record {
+    law = (tt, c.law);
+    others = c.others;
+    own = λ own.
+        let o = c.own own in
+        record { listed = o.listed; goes = o.goes; had = had_next (said (notes.Unsent (holder v place).initiator)) (behind wild past v q n machines fresh) (i wild past v q n machines) n o.had };
+  }
 
   heard_says : (place : ℕ) (x : Bool) (o : OutboxState) (fresh : List Note) → Says o fresh → Says (with_side o (cond x (sides.Unsolicited place) (sides.Unsent place))) (cond x (notes.Unsolicited (holder v place).initiator) (notes.Unsent (holder v place).initiator) ∷ fresh)
   heard_says place true o fresh e = unsolicited_says place o fresh e

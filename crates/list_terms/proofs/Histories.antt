@@ -1,5 +1,5 @@
--- What is kept of the history of every run, after each line and behind each delivery of a line that may follow: the law of lists, and that the agents are
--- along them.
+-- What is kept of the history of a run in which lists were open as they should be before, after each line and behind each delivery of a line that may follow:
+-- the law of lists, and that the agents are along them.
 use Rattle.std.proofs.Common.{◌≡◌, sym, ap, subst, ℕ, ◌<◌, ◌≤◌, Bool, false, List, ◌∷◌, ◌++◌, map, length, Option}
 use Rattle.rbc_disk.specs.Runs.{Told}
 use Rattle.sbp_journal.specs.declared.event.Event.{Event}
@@ -12,11 +12,13 @@ use Rattle.sbp_world.specs.Worlds.{Scene, WorldState, begun}
 use Rattle.agent_terms.specs.Management.Terms.{DeliversMore}
 use Rattle.agent_terms.proofs.Management.Still.{hist}
 use Rattle.host_terms.specs.Runs.{IsRun}
-use Rattle.list_terms.specs.Needs.{IsCalm, OpenListsLaw, machine_at}
+use Rattle.list_terms.specs.Needs.{IsCalm, OpenBefore, OpenBetween, machine_at}
 use Rattle.list_terms.proofs.Calm.{asked_calm, calm_before}
 use Rattle.list_terms.proofs.Kept.{Kept}
-use Rattle.list_terms.proofs.Runs.{KeptAfter, at_told, kept_after}
+use Rattle.list_terms.proofs.Runs.{EarlyAfter, KeptAfter, early_after, kept_after, kept_told, lists_here}
 use Rattle.list_terms.proofs.Told.{AgentOn}
+use Rattle.list_terms.specs.Opens.{OpensLaw}
+use Rattle.list_terms.proofs.OpenProved.{opens_law}
 use Rattle.list_terms.proofs.Passing.{PassLaw}
 
 pub record Known (wild : ℕ → Bool) (ms : List Moment) (w : WorldState) : Type 0 where
@@ -29,18 +31,21 @@ at_of wild ms past w is k = record {
   agents = λ p b. subst (λ x. AgentOn wild x (holder w p) (machine_at w p)) is (k.on p b);
 }
 
-module _ (wild : ℕ → Bool) (lists : (i : ℕ) → wild i ≡ false → OpenListsLaw) (line : ℕ) (run : Run) (r : IsRun run) (has : 0 < run.units) (small : run.units ≤ 4) (size : length run.start.disks ≡ run.units) where
+abbrev opened : (wild : ℕ → Bool) → (i : ℕ) → wild i ≡ false → OpensLaw
+opened wild i own = opens_law
+
+module _ (wild : ℕ → Bool) (line : ℕ) (run : Run) (r : IsRun run) (has : 0 < run.units) (small : run.units ≤ 4) (size : length run.start.disks ≡ run.units) where
   abbrev last : Scene
   last = after (beginning run) run.entries
 
-  module _ (calm : (i : ℕ) → wild i ≡ false → IsCalm (history_of line run) i) where
-    abbrev lines : KeptAfter wild lists line run r.few has small size run.entries last.world
-    lines = kept_after wild lists line run r.few has small size run.entries r.short r.entries r.lines calm
+  module _ (so_far : (i : ℕ) → wild i ≡ false → OpenBefore line run run.entries) (calm : (i : ℕ) → wild i ≡ false → IsCalm (history_of line run) i) where
+    lines : KeptAfter wild (opened wild) line run r.few has small size run.entries last.world
+    lines = kept_after wild (opened wild) line run r.few has small size run.entries r.short r.entries r.lines so_far calm
 
     pub after_lines : Known wild (history_of line run) last.world
     after_lines = at_of wild (history_of line run) lines.past last.world lines.is lines.kept
 
-  module _ (next : ℕ) (event : Event) (d : DeliversMore event) (told : List (Option Told)) (m : MayAll told (begun last)) where
+  module _ (next : ℕ) (event : Event) (d : DeliversMore event) (told : List (Option Told)) (m : MayAll told (begun last)) (so_far : (i : ℕ) → wild i ≡ false → OpenBetween line run next event told) where
     abbrev end : WorldState
     end = (after_all told (begun last)).world
 
@@ -51,17 +56,21 @@ module _ (wild : ℕ → Bool) (lists : (i : ℕ) → wild i ≡ false → OpenL
       first_calm : (i : ℕ) → wild i ≡ false → IsCalm (history_of line run) i
       first_calm i own = asked_calm next event (history_of line run) i (calm_before (map said end.fresh) (asked next event ∷ history_of line run) i (calm i own))
 
-      abbrev before : KeptAfter wild lists line run r.few has small size run.entries last.world
-      before = lines first_calm
+      abbrev first : EarlyAfter wild (opened wild) line run r.few has small size run.entries last.world
+      first = early_after wild (opened wild) line run r.few has small size run.entries r.short r.entries r.lines (λ i own. (so_far i own).before) (λ i own. (so_far i own).begins) first_calm
+
+      abbrev before : KeptAfter wild (opened wild) line run r.few has small size run.entries last.world
+      before = first.so_far
 
       ends_is : hist (asked next event ∷ hist before.past last.world) end ≡ ms
       ends_is = ap (λ x. map said end.fresh ++ asked next event ∷ x) before.is
 
       kept_between : Kept wild (asked next event ∷ hist before.past last.world) (machine_at end) end
       kept_between =
-          (at_told wild lists line run r.few has small size run.entries r.short r.entries r.lines before.past (length run.entries) before.holds before.is next event d
+          (kept_told wild (opened wild) line run r.few has small size run.entries r.short r.entries r.lines before.past (length run.entries) before.holds before.is next event d (λ i own. (so_far i own).before)
+          (lists_here wild (opened wild) line run r.few has small size run.entries r.short r.entries r.lines before.past (length run.entries) before.holds before.is (λ i own. (so_far i own).begins))
           (λ i own. subst (λ x. IsCalm x i) (sym before.is) (first_calm i own))
-          before.kept before.early told m
+          before.kept first.early told m (λ i own. (so_far i own).goes)
           (λ i own. subst (λ x. IsCalm x i) (sym ends_is) (calm i own))).kept_there
 
       pub between : Known wild ms end

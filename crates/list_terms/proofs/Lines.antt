@@ -60,6 +60,7 @@ use Rattle.list_terms.proofs.Kept.{Kept, all_kept, as_kept}
 use Rattle.list_terms.proofs.Looks.{Looks}
 use Rattle.list_terms.proofs.Registers.{start_cutting}
 use Rattle.list_terms.proofs.Stays.{stays_handed, stays_judged, stays_marked, stays_with}
+use Rattle.list_terms.proofs.Takings.{Takes}
 use Rattle.list_terms.proofs.Turns.{First, Ready, seen_it, tick_it, v}
 
 -- ---- the target
@@ -79,7 +80,7 @@ module _ (wild : ℕ → Bool) (past : List Moment) (w : WorldState) (r : Ready 
       by false = record { places = refl; initiators = refl; fresh = refl }
 
   -- a packet
-  module _ (serial : ℕ) (sent : Sent) (found : found_sent serial w.store.kept ≡ Some sent) (zero_to : sent.to ≡ 0) (run : Option Told) (s : Scene) (is : s.world ≡ w) (again : Bool) where
+  module _ (serial : ℕ) (sent : Sent) (found : found_sent serial w.store.kept ≡ Some sent) (zero_to : sent.to ≡ 0) (took : Takes wild past w serial sent) (run : Option Told) (s : Scene) (is : s.world ≡ w) (again : Bool) where
     abbrev x : Judged × Whole
     x = received run sent.generation sent.bytes (whole_of w.target s.media)
 
@@ -89,7 +90,7 @@ module _ (wild : ℕ → Bool) (past : List Moment) (w : WorldState) (r : Ready 
     pub delivery_keeps : Kept wild past (machine_at (handed_out 0 0 x.1.outbox u)) (handed_out 0 0 x.1.outbox u)
     delivery_keeps =
         hands u x.1.node x.1.outbox ((handed_alike 0 0 x.1.outbox u).target ∙ (marked_alike (with_target x.1.node w) serial again).target)
-        (delivery_kept wild past w r serial sent (record { serial = serial; found = found; to = zero_to }) run s.media u (looks_marked serial again x.1.node (judged_note serial x.0)))
+        (delivery_kept wild past w r serial sent (record { serial = serial; found = found; to = zero_to }) took run s.media u (looks_marked serial again x.1.node (judged_note serial x.0)))
 
   -- a time-out
   module _ (line serial : ℕ) (request : Request) (zero_node : request.node ≡ 0) where

@@ -45,7 +45,7 @@ buffer_laid found slot orb o e =
     (ap (λ (x : CommandOrb). unread_buffer x) o.orb ∙ unread_by o.cmd.segments slot o.cmd (sym (ap (λ (x : CommandOrb). reads_table x) o.orb) ∙ e))
 
 empty_data : (found : Option Cmd) (slot : ℕ) (orb : CommandOrb) → IsOrbOf found slot orb → IsDataOf found []
-empty_data found slot orb o = subst (λ f. IsDataOf f []) (sym o.command) refl
+empty_data found slot orb o = subst (λ f. IsDataOf f []) (sym o.command) (record { first = refl; outward = λ b. absurd (omega (arith, b)) })
 
 pub laid : (past : List Moment) (i n : ℕ) → IsLaid (orbs past i n)
 laid past i n = record {

@@ -15,7 +15,7 @@ use Rattle.sbp_laws.specs.Lists.{command_at}
 use Rattle.sbp_laws.specs.OrderLaw.{IsNextEnd}
 use Rattle.sbp_laws.specs.Terms.{ends}
 use Rattle.host_terms.proofs.Prepares.{itself}
-use Rattle.list_terms.specs.Lists.{IsDataOf, orbs}
+use Rattle.list_terms.specs.Lists.{IsDataIn, IsDataOf, orbs}
 use Rattle.list_terms.specs.Running.{IsNextRun}
 use Rattle.list_terms.proofs.Passing.{PassAt, EndsNext, RunsNext}
 
@@ -81,7 +81,10 @@ module _ (wild : ℕ → Bool) (ms : List Moment) (i n k : ℕ) where
 -- ---- what is told of an ORB by what was read of it
 -- its command and its data
 data_of : (found : Option Cmd) (cmd : Cmd) (bytes : List ℕ) → found ≡ Some cmd → IsDataOf found bytes → bytes ≡ take (length bytes) cmd.payload
-data_of found cmd bytes e d = subst (λ f. IsDataOf f bytes) e d
+data_of found cmd bytes e d = first_of (subst (λ f. IsDataOf f bytes) e d)
+  where
+    first_of : IsDataIn cmd bytes → bytes ≡ take (length bytes) cmd.payload
+    first_of x = x.first
 
 module _ (ms : List Moment) (i n : ℕ) where
   pub as_read : (p : Progress) (place at : ℕ) (plain : PlainDisk) (orb : CommandOrb) (segments : List Segment) (payload : List ℕ) → IsRun (orbs ms i n) p place plain at orb segments payload → IsNextEnd ms i n p.ended → IsNextRun ms i n p.ended orb.cdb payload

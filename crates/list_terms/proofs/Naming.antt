@@ -96,7 +96,7 @@ module _ (line : ℕ) (run : Run) (r : IsRun run) (has : 0 < run.units) (small :
   named_after : AreNamed (history_of line run) last.world
   named_after =
       all_named (history_of line run) last.world
-      (after_lines all_wild (λ i e. none_of e) line run r has small size (λ i e. none_of e)).law
+      (after_lines all_wild line run r has small size (λ i e. none_of e) (λ i e. none_of e)).law
       (λ i b. (run_law.rows line run r i (inside i b)).rows)
 
   module _ (next : ℕ) (event : Event) (d : DeliversMore event) (told : List (Option Told)) (m : MayAll told (begun last)) where
@@ -118,7 +118,7 @@ module _ (line : ℕ) (run : Run) (r : IsRun run) (has : 0 < run.units) (small :
     named_between : AreNamed ms end
     named_between =
         all_named ms end
-        (between all_wild (λ i e. none_of e) line run r has small size next event d told m (λ i e. none_of e)).law
+        (between all_wild line run r has small size next event d told m (λ i e. none_of e) (λ i e. none_of e)).law
         (λ i b. (host_at i b).rows)
 
 pub names_law : NamesLaw

@@ -1,40 +1,20 @@
 -- The lists that places had, and those that were cut: one that was cut was open at a place; and one that is open was not cut since, but at another place.
-use Rattle.std.proofs.Common.{◌≡◌, ◌⊎◌, inl, inr, ◌∙◌, refl, sym, ap, subst, ◌<◌, ℕ, true, List, [], ◌∷◌, ◌++◌, Option, Some}
+use Rattle.std.proofs.Common.{◌≡◌, ◌⊎◌, inl, inr, ◌∙◌, sym, subst, ◌<◌, ℕ, true, List, ◌++◌, Some}
 use Rattle.sbp_bus.specs.declared.places.Holder.{Holder}
 use Rattle.sbp_bus.specs.Places.{holder_at}
-use Rattle.sbp_journal.specs.declared.note.Note.TheVariants as notes
-use Rattle.sbp_journal.specs.Run.{Moment, said}
+use Rattle.sbp_journal.specs.Run.{Moment}
 use Rattle.sbp_laws.specs.OrderLaw.{is_cut}
 use Rattle.sbp_world.specs.Telling.{holder}
 use Rattle.sbp_world.specs.Worlds.{WorldState}
 use Rattle.list_terms.specs.CutLists.{WasHad}
 use Rattle.list_terms.specs.Opens.{WasOpened}
+use Rattle.list_terms.proofs.Later.{had_later, was_later}
 use Rattle.list_terms.proofs.OpenCuts.{Listing}
-
-pub joined : (a b c : List Moment) → (a ++ b) ++ c ≡ a ++ (b ++ c)
-joined [] b c = refl
-joined (m ∷ a) b c = ap (λ ms. m ∷ ms) (joined a b c)
-
-pub was_later : (more past now : List Moment) (i place : ℕ) (list : Option ℕ) → more ++ past ≡ now → WasOpened past i place list → WasOpened now i place list
-was_later more past now i place list e o = record {
-  later = more ++ o.later;
-  earlier = o.earlier;
-  serial = o.serial;
-  is = joined more o.later (said (notes.Got o.serial) ∷ o.earlier) ∙ ap (λ ms. more ++ ms) o.is ∙ e;
-  sent = o.sent;
-  sent_is = o.sent_is;
-  address = o.address;
-  pointed = o.pointed;
-  list_is = o.list_is;
-}
 
 -- another place had a list
 pub record WasElse (past : List Moment) (i n p : ℕ) : Type 0 where
   pub had : WasHad past i n
   pub other : had.place ≡ p → ⊥
-
-pub had_later : (more past now : List Moment) (i n : ℕ) → more ++ past ≡ now → WasHad past i n → WasHad now i n
-had_later more past now i n e h = record { place = h.place; opened = was_later more past now i h.place (Some n) e h.opened }
 
 pub else_later : (more past now : List Moment) (i n p : ℕ) → more ++ past ≡ now → WasElse past i n p → WasElse now i n p
 unfolding had_later

@@ -13,8 +13,6 @@ use Rattle.sbp_world.specs.Making.{ready_logins}
 use Rattle.sbp_world.specs.Runs.{Run, after, beginning}
 use Rattle.sbp_world.specs.Settling.{MayAll, after_all}
 use Rattle.sbp_world.specs.Worlds.{Scene, WorldState, begun}
-use Rattle.sbp_world.specs.Wire.History.{IsOfWire}
-use Rattle.sbp_world.proofs.Wire.Starts.{laws_of}
 use Rattle.agent_terms.specs.Management.Terms.{DeliversMore}
 use Rattle.agent_terms.proofs.Management.Holding.{was_sent}
 use Rattle.agent_terms.proofs.Management.Still.{hist}
@@ -31,6 +29,7 @@ use Rattle.list_terms.proofs.OpenFresh.{never_new}
 use Rattle.list_terms.proofs.OpenOwners.{came_from}
 use Rattle.list_terms.proofs.OpenPointed.{AllCome, AllNew, are_listed}
 use Rattle.list_terms.proofs.OpenRuns.{Facts}
+use Rattle.list_terms.proofs.OpenWires.{wire_after, wire_between}
 use Rattle.list_terms.proofs.OpenProved.{After, facts, facts_at, had_after, had_between, opens_law, were_after}
 
 -- ---- a packet that was sent stays so
@@ -81,9 +80,6 @@ module _ (pointers_law : PointersLaw) (moments_law : MomentsLaw) (caught_law : C
   inside : (i : ℕ) → i < length last.world.initiators → i < run.initiators
   inside i b = subst (λ n. i < n) (count_after run run.entries) b
 
-  wire_after : IsOfWire past
-  wire_after = let k = known in subst IsOfWire k.is (laws_of k.past last.world k.holds.sound.stands)
-
   pub listed_after : ArePlaced past last.world → AreListed past last.world
   listed_after placed =
       are_listed run.start.disks past last.world (opens_law.after_lines line run r has small size) placed
@@ -93,8 +89,8 @@ module _ (pointers_law : PointersLaw) (moments_law : MomentsLaw) (caught_law : C
       (λ i b. pointers_law.after_lines line run r i (inside i b))
       (λ i b. (run_law.rows line run r i (inside i b)).rows)
       (λ i n b. (lasting_law.lasts line run r i (inside i b) [] past refl).linked_in n)
-      (lasts past wire_after.serials)
-      wire_after
+      (lasts past (wire_after line run r has small size).serials)
+      (wire_after line run r has small size)
       (had_after line run r has small size)
       (let k = known in subst (λ ms. AllCome ms last.world) k.is (comes run.units (ready_logins run.initiators run.ready) has run.start.disks k.past last.world (facts line run r.few has small size run.entries r.short r.entries r.lines k.past (length run.entries) k.holds k.is)))
       (let k = known in subst (λ ms. AllNew ms last.world) k.is (news run.units (ready_logins run.initiators run.ready) has run.start.disks k.past last.world (facts line run r.few has small size run.entries r.short r.entries r.lines k.past (length run.entries) k.holds k.is)))
@@ -112,12 +108,6 @@ module _ (pointers_law : PointersLaw) (moments_law : MomentsLaw) (caught_law : C
     inside_end : (i : ℕ) → i < length end.initiators → i < run.initiators
     inside_end i b = inside i (subst (λ n. i < n) (count_between told last) b)
 
-    wire_between : IsOfWire now
-    wire_between =
-        let k = known in
-        let f = facts_at line run r.few has small size run.entries r.short r.entries r.lines k.past (length run.entries) k.holds k.is next event (delivers most) told m in
-        subst (λ ms. IsOfWire (map said end.fresh ++ asked next event ∷ ms)) k.is (laws_of (asked next event ∷ hist k.past last.world) end f.holds.sound.stands)
-
     pub listed_between : ArePlaced now end → AreListed now end
     listed_between placed =
         are_listed run.start.disks now end (opens_law.between line run r has small size next event (delivers most) told m) placed
@@ -127,8 +117,8 @@ module _ (pointers_law : PointersLaw) (moments_law : MomentsLaw) (caught_law : C
         (λ i b. pointers_law.between line run r next most told m i (inside_end i b))
         (λ i b. (run_law.between line run r next most told m i (inside_end i b)).rows)
         (λ i n b. (lasting_law.between line run r next most told m i (inside_end i b) [] now refl).linked_in n)
-        (lasts now wire_between.serials)
-        wire_between
+        (lasts now (wire_between line run r has small size next event (delivers most) told m).serials)
+        (wire_between line run r has small size next event (delivers most) told m)
         (had_between line run r has small size next event (delivers most) told m)
         (let k = known in subst (λ ms. AllCome (map said end.fresh ++ asked next event ∷ ms) end) k.is (comes run.units (ready_logins run.initiators run.ready) has run.start.disks (asked next event ∷ hist k.past last.world) end (facts_at line run r.few has small size run.entries r.short r.entries r.lines k.past (length run.entries) k.holds k.is next event (delivers most) told m)))
         (let k = known in subst (λ ms. AllNew (map said end.fresh ++ asked next event ∷ ms) end) k.is (news run.units (ready_logins run.initiators run.ready) has run.start.disks (asked next event ∷ hist k.past last.world) end (facts_at line run r.few has small size run.entries r.short r.entries r.lines k.past (length run.entries) k.holds k.is next event (delivers most) told m)))

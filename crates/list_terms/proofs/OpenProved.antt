@@ -35,7 +35,7 @@ use Rattle.host_terms.specs.Runs.{IsRun, more_deliveries}
 use Rattle.host_terms.specs.Worlds.{IsHost}
 use Rattle.host_terms.proofs.Runs.{count_after, count_between, run_law}
 use Rattle.host_terms.proofs.StepLaws.{step_law}
-use Rattle.list_terms.specs.Needs.{IsCalm, OpenListsLaw}
+use Rattle.list_terms.specs.Needs.{IsCalm, OpenBefore}
 use Rattle.list_terms.proofs.OpenCuts.{is_up}
 use Rattle.list_terms.specs.CutLists.{CutListsLaw}
 use Rattle.list_terms.specs.Opens.{AreOpened, OpensLaw}
@@ -105,7 +105,7 @@ module _ (line : ℕ) (run : Run) (few : run.initiators ≤ 4) (has : 0 < run.un
 
     pub law : OrderLaw all (moments entries)
     law =
-        let k = kept_after all (λ i f. nobody_needs OpenListsLaw f) line run few has small size entries short every fit (λ i f. nobody_needs (IsCalm (moments entries) i) f) in
+        let k = kept_after all (λ i f. nobody_needs OpensLaw f) line run few has small size entries short every fit (λ i f. nobody_needs (OpenBefore line run entries) f) (λ i f. nobody_needs (IsCalm (moments entries) i) f) in
         subst (OrderLaw all) k.is k.kept.law
 
     module _ (past : List Moment) (lines : ℕ) (h : H past lines here.world) (is : hist past here.world ≡ moments entries) where

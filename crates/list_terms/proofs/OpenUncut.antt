@@ -17,9 +17,10 @@ use Rattle.pointer_terms.specs.Pointers.{PointersAt, pointed_list}
 use Rattle.list_terms.specs.Needs.{IsCalm}
 use Rattle.list_terms.specs.CutLists.{WasHad}
 use Rattle.list_terms.specs.Opens.{IsPointedBy, WasOpened}
-use Rattle.list_terms.specs.Places.{IsNamedFor}
+use Rattle.list_terms.specs.Places.{AreNamedFor}
 use Rattle.list_terms.proofs.OpenFresh.{writes_of}
-use Rattle.list_terms.proofs.OpenHad.{Was, WasElse, joined}
+use Rattle.list_terms.proofs.Later.{joined}
+use Rattle.list_terms.proofs.OpenHad.{Was, WasElse}
 use Rattle.list_terms.proofs.OpenNews.{got_more, got_news}
 use Rattle.list_terms.proofs.OpenPlacing.{one_place}
 
@@ -29,17 +30,13 @@ no e = cc
 some_same : {A : Type 0} (x y : A) → Some x ≡ Some y → x ≡ y
 some_same x y e = cc
 
--- a write of an initiator was named for a list, as it was got
-abbrev pub AreNamedFor : List Moment → ℕ → Type 0
-AreNamedFor past i = (later earlier : List Moment) (serial : ℕ) (sent : Sending) (place address : ℕ) → later ++ said (notes.Got serial) ∷ earlier ≡ past → (terms earlier).sent serial ≡ Some sent → IsPointedBy sent i place address → IsNamedFor past earlier i serial address
-
 module _ (past : List Moment) (i : ℕ) (named : AreNamedFor past i) (pointers : PointersAt past i) (lasting : (later earlier : List Moment) (serial : ℕ) (sent : Sending) → later ++ said (notes.Got serial) ∷ earlier ≡ past → (terms earlier).sent serial ≡ Some sent → (terms past).sent serial ≡ Some sent) where
   -- the list that a place had is that of the write
   list_for : (later earlier : List Moment) (serial : ℕ) (sent : Sending) (place address n : ℕ) → later ++ said (notes.Got serial) ∷ earlier ≡ past → (terms earlier).sent serial ≡ Some sent → IsPointedBy sent i place address → Some n ≡ list_in (named_in earlier i (slot_of address)) → pointed_list past serial i ≡ Some n
   list_for later earlier serial sent place address n is sent_is pointed list_is =
       let f = named later earlier serial sent place address is sent_is pointed in f.pointed ∙ sym (list_is ∙ ap list_in f.there)
 
-  had_for : (n place : ℕ) (o : WasOpened past i place (Some n)) → pointed_list past o.serial i ≡ Some n
+  pub had_for : (n place : ℕ) (o : WasOpened past i place (Some n)) → pointed_list past o.serial i ≡ Some n
   had_for n place o = list_for o.later o.earlier o.serial o.sent place o.address n o.is o.sent_is o.pointed o.list_is
 
   -- ---- a write that was not taken

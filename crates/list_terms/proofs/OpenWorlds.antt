@@ -70,7 +70,8 @@ use Rattle.list_terms.proofs.Adds.{all_stay}
 use Rattle.list_terms.proofs.Extends.{Extends, handed_extends}
 use Rattle.list_terms.proofs.OpenCuts.{CutAt, Here, Listing, Open}
 use Rattle.list_terms.proofs.OpenDeliveries.{Points, delivery_open, lapse_open}
-use Rattle.list_terms.proofs.OpenHad.{Was, WasElse, WereAt, else_later, had_later, joined, same_were, was_on}
+use Rattle.list_terms.proofs.Later.{had_later, joined}
+use Rattle.list_terms.proofs.OpenHad.{Was, WasElse, WereAt, else_later, same_were, was_on}
 use Rattle.list_terms.proofs.OpenManages as manages
 use Rattle.list_terms.proofs.OpenOwners.{came_from}
 use Rattle.list_terms.proofs.OpenPlaces.{Has}

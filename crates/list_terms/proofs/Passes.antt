@@ -37,7 +37,8 @@ use Rattle.list_terms.proofs.Adds.{Stays}
 use Rattle.list_terms.proofs.Kept.{Kept}
 use Rattle.list_terms.proofs.Lines.{acts, delivery_keeps, hears, injects, key_keeps, lapse_keeps, loses, own_lapses, own_sight, refuses, resets, sight_keeps, tick_keeps}
 use Rattle.list_terms.proofs.Stays.{goes_on, stays_end}
-use Rattle.list_terms.proofs.Turns.{Ready}
+use Rattle.list_terms.proofs.Takings.{AllTake}
+use Rattle.list_terms.proofs.Turns.{AllHad, Ready}
 
 module _ (wild : ℕ → Bool) where
   -- what is known of a history between two turns beside the agents
@@ -46,10 +47,12 @@ module _ (wild : ℕ → Bool) where
     pub needs : (i : ℕ) → wild i ≡ false → Needs (hist past w) w i
     pub calm : (i : ℕ) → wild i ≡ false → IsCalm (hist past w) i
     pub within : (i n : ℕ) → i < length w.initiators → linked (hist past w) i n ≤ appends (hist past w) i n
-    pub unrun : UnrunLaw → Unrun (hist past w) w
+    pub unrun : UnrunLaw → (i : ℕ) → wild i ≡ false → Unrun (hist past w) w
+    pub had : AllHad wild (hist past w) w
+    pub take : AllTake wild past w
 
   pub ready : (past : List Moment) (w : WorldState) → Facts past w → Kept wild past (machine_at w) w → Ready wild past w
-  ready past w f k = record { good = f.good; needs = f.needs; unrun = f.unrun; calm = f.calm; within = f.within; kept = k }
+  ready past w f k = record { good = f.good; needs = f.needs; unrun = f.unrun; had = f.had; calm = f.calm; within = f.within; kept = k }
 
   -- and that the lists of the initiators only grew
   abbrev pub Grown : List Moment → WorldState → WorldState → Type 0
@@ -62,7 +65,7 @@ module _ (wild : ℕ → Bool) where
   by_stays past w v r g s = goes_on wild past w v r s (λ i b. g i b s.adds.later (hist past w) s.adds.is)
 
   -- ---- a packet is delivered
-  module _ (past : List Moment) (s : Scene) (r : Ready wild past s.world) (serial : ℕ) (again : Bool) (run : Option Told) (g : Grown past s.world (delivered serial again run s).world) where
+  module _ (past : List Moment) (s : Scene) (r : Ready wild past s.world) (take : AllTake wild past s.world) (serial : ℕ) (again : Bool) (run : Option Told) (g : Grown past s.world (delivered serial again run s).world) where
     module _ (sent : Sent) (found : found_sent serial s.world.store.kept ≡ Some sent) where
       heard_target : sent.to ≡ 0 → K past (delivered serial again run s).world
       unfolding delivered target_received arrived
@@ -73,7 +76,7 @@ module _ (wild : ℕ → Bool) where
           ap (λ (y : Option Arrival × (OutboxState × Scene)). (delivered_by serial again y).world)
           (received_is run serial s sent found ∙ ap (λ b. cond b (at_target sent.to (target_received run sent w.target s.media) s) (initiator_received sent s)) (to_zero sent.to zero_to))
           ∙ ap (λ n. handed_out n 0 x.1.outbox (with_note (judged_note serial x.0) (marked serial again (with_target x.1.node w)))) zero_to in
-          subst (K past) (sym last_is) (delivery_keeps wild past w r serial sent found zero_to run s refl again)
+          subst (K past) (sym last_is) (delivery_keeps wild past w r serial sent found zero_to (take serial sent found zero_to) run s refl again)
 
       heard_own : (i : ℕ) → sent.to ≡ suc i → i < length s.world.initiators → K past (delivered serial again run s).world
       unfolding delivered initiators_received arrived
@@ -113,15 +116,15 @@ module _ (wild : ℕ → Bool) where
   AllFacts past [] s = Unit {0}
   AllFacts past (one ∷ told) s = (Facts past (after_all told s).world × Grown past (after_all told s).world (after_all (one ∷ told) s).world) × AllFacts past told s
 
-  next_heard : (past : List Moment) (one : Option Told) (t : Scene) → Ready wild past t.world → (o : Option ℕ) → Grown past t.world (delivered_at o one t).world → K past (delivered_at o one t).world
-  next_heard past one t r None h = r.kept
-  next_heard past one t r (Some serial) h = heard past t r serial false one h
+  next_heard : (past : List Moment) (one : Option Told) (t : Scene) → Ready wild past t.world → AllTake wild past t.world → (o : Option ℕ) → Grown past t.world (delivered_at o one t).world → K past (delivered_at o one t).world
+  next_heard past one t r a None h = r.kept
+  next_heard past one t r a (Some serial) h = heard past t r a serial false one h
 
   pub all_heard : (past : List Moment) (told : List (Option Told)) (s : Scene) → AllFacts past told s → K past s.world → K past (after_all told s).world
   unfolding delivered_next
   all_heard past [] s f k = k
   all_heard past (one ∷ told) s f k =
-      let t = after_all told s in next_heard past one t (ready past t.world f.0.0 (all_heard past told s f.1 k)) (lowest t.world) f.0.1
+      let t = after_all told s in next_heard past one t (ready past t.world f.0.0 (all_heard past told s f.1 k)) f.0.0.take (lowest t.world) f.0.1
 
   -- ---- a transaction times out
   module _ (past : List Moment) (w : WorldState) (r : Ready wild past w) (line serial : ℕ) where
@@ -146,24 +149,27 @@ module _ (wild : ℕ → Bool) where
     late g = late_by (find w.requests serial) g
 
   -- ---- a line
-  one_heard : (past : List Moment) (line serial : ℕ) (again b : Bool) (told : List (Option Told)) (s : Scene) → Ready wild past s.world → MayIf b serial told s → Grown past s.world (delivered_if b line serial again told s).world → K past (delivered_if b line serial again told s).world
-  one_heard past line serial again true [] s r m g = absurd m
-  one_heard past line serial again true (one ∷ []) s r m g = heard past s r serial again one g
-  one_heard past line serial again true (one ∷ other ∷ more) s r m g = absurd m
-  one_heard past line serial again false told s r m g = by_stays past s.world (refused line no_packet s.world) r g (refuses wild past line no_packet s.world)
+  one_heard : (past : List Moment) (line serial : ℕ) (again b : Bool) (told : List (Option Told)) (s : Scene) → Ready wild past s.world → AllTake wild past s.world → MayIf b serial told s → Grown past s.world (delivered_if b line serial again told s).world → K past (delivered_if b line serial again told s).world
+  one_heard past line serial again true [] s r a m g = absurd m
+  one_heard past line serial again true (one ∷ []) s r a m g = heard past s r a serial again one g
+  one_heard past line serial again true (one ∷ other ∷ more) s r a m g = absurd m
+  one_heard past line serial again false told s r a m g = by_stays past s.world (refused line no_packet s.world) r g (refuses wild past line no_packet s.world)
 
   sights : (past : List Moment) (w : WorldState) (node : ℕ) → Ready wild past w → Grown past w (see_line node w) → K past (see_line node w)
   sights past w zero r g = sight_keeps wild past w r
   sights past w (suc i) r g = by_stays past w (see_line (suc i) w) r g (own_sight wild past w i)
 
-  -- what is known of the deliveries of a line, if it delivers more than one packet
+  -- what is known of the deliveries of a line that settles
   pub record MoreFacts (past : List Moment) (told : List (Option Told)) (s : Scene) : Type 0 where
     pub all : AllFacts past told s
     pub last : Facts past (after_all told s).world
     pub count : length (after_all told s).world.initiators ≡ length s.world.initiators
 
+  -- and what a line stands on that delivers packets
   abbrev pub More : Event → List Moment → List (Option Told) → Scene → Type 0
-  More (events.Step count) past told s = MoreFacts past told s
+  More (events.Deliver serial) past told s = AllTake wild past s.world
+  More (events.Repeat serial) past told s = AllTake wild past s.world
+  More (events.Step count) past told s = AllFacts past told s
   More events.Settle past told s = MoreFacts past told s
   More event past told s = Unit {0}
 
@@ -185,15 +191,15 @@ module _ (wild : ℕ → Bool) where
       by_stays now w (reset_line physical w) r g (resets wild now w physical)
   line_keeps past line (events.See node) told s q m r h f g = sights (asked line (events.See node) ∷ hist past s.world) (without_notes s.world) node r g
   line_keeps past line (events.Deliver serial) told s q m r h f g =
-      one_heard (asked line (events.Deliver serial) ∷ hist past s.world) line serial false (is_in_flight serial (begun s).world) told (begun s) r m g
+      one_heard (asked line (events.Deliver serial) ∷ hist past s.world) line serial false (is_in_flight serial (begun s).world) told (begun s) r f m g
   line_keeps past line (events.Repeat serial) told s q m r h f g =
-      one_heard (asked line (events.Repeat serial) ∷ hist past s.world) line serial true (may_repeat serial (begun s).world) told (begun s) r m g
+      one_heard (asked line (events.Repeat serial) ∷ hist past s.world) line serial true (may_repeat serial (begun s).world) told (begun s) r f m g
   line_keeps past line (events.Lose serial) told s q m r h f g =
       let now = asked line (events.Lose serial) ∷ hist past s.world in
       let w = without_notes s.world in
       by_stays now w (lose_line line serial w) r g (loses wild now w line serial)
   line_keeps past line (events.Timeout serial) told s q m r h f g = late (asked line (events.Timeout serial) ∷ hist past s.world) (without_notes s.world) r line serial g
-  line_keeps past line (events.Step count) told s q m r h f g = all_heard (asked line (events.Step count) ∷ hist past s.world) told (begun s) f.all r.kept
+  line_keeps past line (events.Step count) told s q m r h f g = all_heard (asked line (events.Step count) ∷ hist past s.world) told (begun s) f r.kept
   line_keeps past line events.Settle told s q m r h f g =
       let now = asked line events.Settle ∷ hist past s.world in
       let t = after_all told (begun s) in

@@ -13,6 +13,7 @@ use Rattle.sbp_laws.specs.Lists.{command_at, linked, slot_at}
 use Rattle.sbp_laws.specs.OrderLaw.{IsNextEnd}
 use Rattle.sbp_laws.specs.Terms.{ends, ran_status, runs, status_of}
 use Rattle.sbp_laws.specs.Turns.{EachMoment}
+use Rattle.list_terms.specs.CutLists.{WasHad}
 use Rattle.list_terms.specs.Lists.{orbs_by}
 use Rattle.list_terms.specs.Orders.{IsAppend}
 use Rattle.list_terms.specs.Running.{IsNextRun, UnrunLaw}
@@ -40,6 +41,7 @@ pub record RunsNext (past : List Moment) (i n k : ℕ) (cdb bytes : List ℕ) : 
 pub record EndsNext (past : List Moment) (i n k : ℕ) (status : StatusKind) : Type 0 where
   pub turn : IsNextEnd past i n k
   pub by : UnrunLaw → MayEndWith status (ran_status past i n k)
+  pub had : WasHad past i n
 
 abbrev pub PassAt : (ℕ → Bool) → Moment → List Moment → Type 0
 PassAt wild (said (Append i n k cdb buffer)) past = IsAppend past i n k

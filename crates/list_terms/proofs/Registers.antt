@@ -54,6 +54,7 @@ use Rattle.list_terms.proofs.Kept.{IsLess, Kept, same}
 use Rattle.list_terms.proofs.Lists.{laid}
 use Rattle.list_terms.proofs.Looks.{Looks, kept_looks, opened_looks}
 use Rattle.list_terms.proofs.Named.{no}
+use Rattle.list_terms.specs.CutLists.{WasHad}
 use Rattle.list_terms.proofs.Told.{AgentOn, Apart, Behind, ListAt, Own}
 use Rattle.list_terms.proofs.Turns.{Acting, First, Lists, Ready, acting, apart, begun, finish, first_goes, first_listed, v}
 use Rattle.list_terms.proofs.Passing.{GoesOn}
@@ -180,6 +181,7 @@ module _ (wild : ℕ → Bool) (past : List Moment) (w : WorldState) (r : Ready 
                 record {
                   listed = o.listed;
                   goes = record { progress = o.goes.progress; is = o.goes.is; ran = o.goes.ran; along = ((keeps_along list).rings o.goes.progress (machine_at w q) o.goes.along).along };
+                  had = o.had;
                 };
           });
         }
@@ -220,7 +222,7 @@ module _ (wild : ℕ → Bool) (past : List Moment) (w : WorldState) (r : Ready 
       by false e = deaf_ring e
 
   -- ---- a pointer
-  module _ (pointer : OrbPointer) (points : wild (holder w q).initiator ≡ false → (ask : Ask) → (point_step (machine_at w q) pointer).0 ≡ Ok ask → IsPointed (hist past w) w q pointer) where
+  module _ (pointer : OrbPointer) (points : wild (holder w q).initiator ≡ false → (ask : Ask) → (point_step (machine_at w q) pointer).0 ≡ Ok ask → IsPointed (hist past w) w q pointer) (took : (ask : Ask) → (point_step (machine_at w q) pointer).0 ≡ Ok ask → wild (holder w q).initiator ≡ false → (n : ℕ) → list_in (ticket_at w q (orb_of (point_step (machine_at w q) pointer).1)) ≡ Some n → WasHad (said note ∷ hist past w) (holder w q).initiator n) where
     abbrev i : ℕ
     i = (holder w q).initiator
 
@@ -262,7 +264,7 @@ module _ (wild : ℕ → Bool) (past : List Moment) (w : WorldState) (r : Ready 
 
       unrun : wild i ≡ false → (o : IsPointed (hist past w) w q pointer) → UnrunLaw → runs (hist past w) i o.n 0 ≡ 0
       unrun f o u =
-          (r.unrun u).held i o.n (r.calm i f) o.still o.none
+          (r.unrun u i f).held i o.n (r.calm i f) o.still o.none
           (λ place c h at. let same : place ≡ q = o.alone place c h at in shut f o (subst (λ p. has_list (machine_at w p).phase ≡ true) same h))
 
       honest : wild i ≡ false → (o : IsPointed (hist past w) w q pointer) → Chosen
@@ -288,6 +290,7 @@ module _ (wild : ℕ → Bool) (past : List Moment) (w : WorldState) (r : Ready 
             own = λ own. record {
               listed = subst (λ j. Lists ms j o.n wild past x q (machine_at w) (said note ∷ ms)) (sym initiator_is) (first_listed ms i o.n wild past x q (machine_at w) note first listed);
               goes = subst (λ j. GoesOn (said note ∷ ms) j o.n now) (sym initiator_is) (first_goes ms i o.n note now first (record { progress = at_start; is = sym o.none; ran = λ t. unrun f o t; along = begins }));
+              had = subst (λ j. WasHad (said note ∷ ms) j o.n) (sym initiator_is) (took ask e f o.n found);
             };
           }
 

@@ -28,6 +28,7 @@ use Rattle.list_terms.specs.Needs.{IsNamed, IsOpenAt, Needs, OpenLists, machine_
 use Rattle.list_terms.proofs.Adds.{IsGood, Stays, adds_none, all_stay, stays_note, stays_same, stays_then, stays_told}
 use Rattle.list_terms.proofs.Calm.{asked_calm, calm_asked}
 use Rattle.list_terms.proofs.Kept.{Kept, keeps}
+use Rattle.list_terms.proofs.Later.{had_next}
 use Rattle.list_terms.proofs.Lists.{grows_by}
 use Rattle.list_terms.proofs.Running.{same_run}
 use Rattle.list_terms.proofs.Told.{AgentOn}
@@ -88,7 +89,8 @@ module _ (wild : ℕ → Bool) where
     calm = λ i own. calm_asked line event (hist past w) i (r.calm i own);
     within = r.within;
     kept = keeps (tt, r.kept.passes) r.kept.on;
-    unrun = λ t. unrun_now line event (hist past w) w (r.unrun t);
+    unrun = λ t i own. unrun_now line event (hist past w) w (r.unrun t i own);
+    had = λ q b h own n list. had_next (asked line event) (hist past w) (holder w q).initiator n (r.had q b h own n list);
   }
 
   -- ---- what others do leaves it so, as the lists grow

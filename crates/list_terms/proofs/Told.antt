@@ -26,10 +26,12 @@ use Rattle.sbp_target.specs.Telling.{or_zero, orb_of}
 use Rattle.sbp_world.specs.Telling.{holder, ticket_at}
 use Rattle.sbp_world.specs.Worlds.{WorldState}
 use Rattle.agent_terms.specs.Alike.{has_list}
+use Rattle.list_terms.specs.CutLists.{WasHad}
 use Rattle.list_terms.specs.Running.{UnrunLaw}
 use Rattle.list_terms.specs.Lists.{orbs}
 use Rattle.list_terms.proofs.Running.{ends_with, later_unrun, none_ran, runs_other, same_run, status_here, status_other}
 use Rattle.list_terms.specs.Along.{GoesAlong}
+use Rattle.list_terms.proofs.Later.{had_next}
 use Rattle.list_terms.proofs.Passing.{PassLaw, EndsNext, GoesOn, HasRun}
 use Rattle.list_terms.proofs.Named.{IsTurn, as_read, ended_more, ended_other, no, order_ended, order_ran}
 
@@ -98,6 +100,7 @@ module _ (wild : ℕ → Bool) (past : List Moment) (v : WorldState) (q n : ℕ)
   pub record Own (ms : List Moment) (m : Machine) : Type 0 where
     pub listed : IsListed ms
     pub goes : GoesOn ms i n m
+    pub had : WasHad ms i n
 
   pub record Behind (m : Machine) (fresh : List Note) : Type 0 where
     pub law : PassLaw wild (behind fresh)
@@ -180,6 +183,7 @@ module _ (wild : ℕ → Bool) (past : List Moment) (v : WorldState) (q n : ℕ)
       ran : UnrunLaw → HasRun outcome (runs (behind fresh) i n before.ended) (ran_status (behind fresh) i n before.ended)
       faces : due ≡ true → Faces (linked (behind fresh) i n) (slot_at (behind fresh) i n) before.ended m
       along : Along (orbs (behind fresh) i n) after m
+      had : WasHad (behind fresh) i n
       closes : IfSome ending (λ kind. IsEnd (orbs (behind fresh) i n) middle kind m.present m.orb m.outgoing step.ask)
 
     turn : (outcome : Option Outcome) (ending : Option StatusKind) (fresh : List Note) → Stage outcome ending fresh → due ≡ true → IsTurn wild (behind fresh) i n before.ended (list_in (ticket_at v q (orb_of m))) (orb_in (ticket_at v q (orb_of m)))
@@ -216,6 +220,7 @@ module _ (wild : ℕ → Bool) (past : List Moment) (v : WorldState) (q n : ℕ)
           ran = λ e. status_here ms i unit m.orb.cdb m.payload (check_of outcome) (list_in t) (orb_in t) n before.ended u.list u.number;
           faces = s.faces;
           along = s.along;
+          had = had_next (said (ran_note (holder v q) t m.orb.cdb m.payload outcome)) ms i n s.had;
           closes = closes_on ending s.closes;
         }
       where
@@ -233,6 +238,7 @@ module _ (wild : ℕ → Bool) (past : List Moment) (v : WorldState) (q n : ℕ)
       ran = s.ran;
       faces = s.faces;
       along = s.along;
+      had = had_next (said (dead_note (holder v q) cause)) (behind fresh) i n s.had;
       closes = closes_on ending s.closes;
     }
       where
@@ -254,6 +260,7 @@ module _ (wild : ℕ → Bool) (past : List Moment) (v : WorldState) (q n : ℕ)
               ran = λ g. subst (λ k. HasRun after.outcome (runs ms i n k) (ran_status ms i n k)) (sym e) (subst (λ o. HasRun o (runs ms i n before.ended) (ran_status ms i n before.ended)) (sym f) (s.ran g));
               along = s.along;
             };
+            had = s.had;
           };
         }
     stage_ended apart own (Some status) fresh e f d s =
@@ -266,6 +273,7 @@ module _ (wild : ℕ → Bool) (past : List Moment) (v : WorldState) (q n : ℕ)
         let over : EndsNext ms i n k status = record {
           turn = u.next;
           by = λ g. ends_with status middle.outcome (runs ms i n k) (ran_status ms i n k) (none_ran ms i n k) s.closes.by (s.ran g);
+          had = s.had;
         } in
         let at : after.ended ≡ suc (ends ms i n) = e ∙ ap suc s.is in
         let later : runs ms i n after.ended ≡ 0 = later_unrun wild ms s.law i n after.ended own (omega (arith, at)) in
@@ -280,6 +288,7 @@ module _ (wild : ℕ → Bool) (past : List Moment) (v : WorldState) (q n : ℕ)
               ran = λ g. subst (λ o. HasRun o (runs ms i n after.ended) (ran_status ms i n after.ended)) (sym f) later;
               along = s.along;
             };
+            had = had_next (said (ended_note (holder v q) t status)) ms i n s.had;
           };
         }
 
@@ -316,6 +325,7 @@ module _ (wild : ℕ → Bool) (past : List Moment) (v : WorldState) (q n : ℕ)
     pub ahead : Ask
     pub keeps : Keeps (orbs ms i n) progress place plain main ahead (step, m)
     pub present : is_some step.ran || is_some step.ended ≡ true → has_present m.phase ≡ true
+    pub had : WasHad ms i n
 
   due_faces : (step : AgentStep) (m : Machine) (ms : List Moment) (d : Due step m ms) → is_some step.ran || is_some step.ended ≡ true → Faces (linked ms i n) (slot_at ms i n) d.progress.ended m
   due_faces step m ms d e =
@@ -336,6 +346,7 @@ module _ (wild : ℕ → Bool) (past : List Moment) (v : WorldState) (q n : ℕ)
         ran = d.ran;
         faces = λ e. due_faces step m (behind fresh) d e;
         along = d.keeps.along;
+        had = d.had;
         closes = d.keeps.ends;
       } in
       let q = run_by step.ran m.answer p in

@@ -53,6 +53,8 @@ use Rattle.list_terms.proofs.Looks.{Looks, kept_looks, looks_as}
 use Rattle.list_terms.proofs.Presents.{lost_presents, replied_presents}
 use Rattle.list_terms.proofs.Running.{as_run}
 use Rattle.list_terms.proofs.Named.{no}
+use Rattle.list_terms.proofs.Later.{had_next}
+use Rattle.list_terms.specs.CutLists.{WasHad}
 use Rattle.list_terms.proofs.Told.{AgentOn, Apart, Due, ListAt, Own}
 use Rattle.list_terms.proofs.Passing.{PassLaw, GoesOn}
 
@@ -130,7 +132,7 @@ main_ended phases.WritingStatus m answer p = status_ended (write_failure answer)
 main_ended phases.WritingLastStatus m answer p = status_ended (write_failure answer) p
 main_ended _ m answer p = refl
 
-heard_ended : (which : Which) (m : Machine) (answer : Answer) (p : Progress) → (heard_by which m answer p).ended ≡ p.ended
+pub heard_ended : (which : Which) (m : Machine) (answer : Answer) (p : Progress) → (heard_by which m answer p).ended ≡ p.ended
 heard_ended Main m answer p = main_ended m.phase m answer p
 heard_ended Ahead m answer p = refl
 
@@ -160,13 +162,18 @@ sent_has phases.Dead e = absurd (no e)
 sent_has phases.Suspended e = absurd (no e)
 sent_has _ e = refl
 
+-- the lists that are open were so from a write of ORB_POINTER on
+abbrev pub AllHad : (ℕ → Bool) → List Moment → WorldState → Type 0
+AllHad wild ms w = (q : ℕ) → q < 8 → has_list (machine_at w q).phase ≡ true → wild (holder w q).initiator ≡ false → (n : ℕ) → (holder w q).list ≡ Some n → WasHad ms (holder w q).initiator n
+
 -- what is known of all, as a turn begins
 pub record Ready (wild : ℕ → Bool) (past : List Moment) (w : WorldState) : Type 0 where
   pub good : Good w.target
   pub needs : (i : ℕ) → wild i ≡ false → Needs (hist past w) w i
   pub calm : (i : ℕ) → wild i ≡ false → IsCalm (hist past w) i
   pub within : (i n : ℕ) → i < length w.initiators → linked (hist past w) i n ≤ appends (hist past w) i n
-  pub unrun : UnrunLaw → Unrun (hist past w) w
+  pub unrun : UnrunLaw → (i : ℕ) → wild i ≡ false → Unrun (hist past w) w
+  pub had : AllHad wild (hist past w) w
   pub kept : Kept wild past (machine_at w) w
 
 module _ (wild : ℕ → Bool) (past : List Moment) (w : WorldState) (r : Ready wild past w) (note : Note) (first : First note) where
@@ -212,6 +219,7 @@ module _ (wild : ℕ → Bool) (past : List Moment) (w : WorldState) (r : Ready 
             own = λ f. record {
               listed = first_listed ms i o.n wild past v q M note first (listed_for q o);
               goes = first_goes ms i o.n note (M q) first (r.kept.on q b h o.n o.list f);
+              had = had_next (said note) ms i o.n (r.had q b h f o.n o.list);
             };
           }
 
@@ -290,6 +298,7 @@ module _ (wild : ℕ → Bool) (past : List Moment) (w : WorldState) (r : Ready 
           ahead = ahead_beside which (M q);
           keeps = (keeps_along list).replies p (M q) q plain told which answer (laid (said note ∷ ms) i act.n) o.goes.along brought;
           present = replied_presents (M q) q plain told which answer;
+          had = o.had;
         }
 
     changed_same : (x : Bool) (unit place : ℕ) (one : NodeState) → AreSame one (changed_by x unit place one)
@@ -354,6 +363,7 @@ module _ (wild : ℕ → Bool) (past : List Moment) (w : WorldState) (r : Ready 
           ahead = ahead_beside which (M q);
           keeps = (keeps_along (orbs (said note ∷ ms) i late_act.n)).loses o.goes.progress (M q) 0 disk which causes.Timeout o.goes.along;
           present = lost_presents (M q) which causes.Timeout;
+          had = o.had;
         }
 
     pub late_kept : (let x = expired_by q (Some login) (Some which) (scene late_node empty_outbox) in Kept wild past (λ p. (desk_at x.node p).agent) (told_all 0 x.outbox.sides u))

@@ -18,7 +18,7 @@ use Rattle.sbp_world.specs.Worlds.{WorldState, begun}
 use Rattle.agent_terms.specs.Management.Terms.{DeliversMore}
 use Rattle.host_terms.specs.Runs.{IsRun}
 use Rattle.list_terms.specs.Lists.{orbs_by}
-use Rattle.list_terms.specs.Needs.{IsCalm, OpenListsLaw, initiator_in, is_open_at, machine_at}
+use Rattle.list_terms.specs.Needs.{IsCalm, OpenBefore, OpenBetween, initiator_in, is_open_at, machine_at}
 
 -- It is along a list of which so many ORBs have ended.
 pub record IsAlong (linked : ℕ) (slot : ℕ → ℕ) (command : ℕ → Option Cmd) (ended : ℕ) (m : Machine) : Type 0 where
@@ -33,7 +33,7 @@ GoesAlong past i n m = IsAlong (linked past i n) (slot_at past i n) (command_at 
 pub record AreAlong (past : List Moment) (w : WorldState) : Type 0 where
   pub all : (place : ℕ) → place < 8 → is_open_at w place ≡ true → IsCalm past (initiator_in w place) → (n : ℕ) → (holder w place).list ≡ Some n → GoesAlong past (initiator_in w place) n (machine_at w place)
 
--- After every line of every run, and behind each delivery of a line that may follow, where lists are open as they should be in every run.
+-- After every line of every run, and behind each delivery of a line that may follow, where lists were open as they should be before in this run.
 pub record AlongLaw : Type 0 where
-  pub after_lines : OpenListsLaw → (line : ℕ) (run : Run) → IsRun run → 0 < run.units → run.units ≤ 4 → length run.start.disks ≡ run.units → AreAlong (history_of line run) (after (beginning run) run.entries).world
-  pub between : OpenListsLaw → (line : ℕ) (run : Run) → IsRun run → 0 < run.units → run.units ≤ 4 → length run.start.disks ≡ run.units → (next : ℕ) (event : Event) → DeliversMore event → (told : List (Option Told)) → MayAll told (begun (after (beginning run) run.entries)) → (let w = (after_all told (begun (after (beginning run) run.entries))).world in AreAlong (map said w.fresh ++ asked next event ∷ history_of line run) w)
+  pub after_lines : (line : ℕ) (run : Run) → IsRun run → 0 < run.units → run.units ≤ 4 → length run.start.disks ≡ run.units → OpenBefore line run run.entries → AreAlong (history_of line run) (after (beginning run) run.entries).world
+  pub between : (line : ℕ) (run : Run) → IsRun run → 0 < run.units → run.units ≤ 4 → length run.start.disks ≡ run.units → (next : ℕ) (event : Event) → DeliversMore event → (told : List (Option Told)) → MayAll told (begun (after (beginning run) run.entries)) → OpenBetween line run next event told → (let w = (after_all told (begun (after (beginning run) run.entries))).world in AreAlong (map said w.fresh ++ asked next event ∷ history_of line run) w)

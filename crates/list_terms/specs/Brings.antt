@@ -12,9 +12,9 @@ use Rattle.sbp_world.specs.Settling.{MayAll, after_all}
 use Rattle.sbp_world.specs.Worlds.{begun}
 use Rattle.agent_terms.specs.Management.Terms.{DeliversMore}
 use Rattle.host_terms.specs.Runs.{IsRun}
-use Rattle.list_terms.specs.Needs.{AllBrought, IsCalm, OpenListsLaw}
+use Rattle.list_terms.specs.Needs.{AllBrought, IsCalm, OpenAfter, OpenBefore, OpenBehind, OpenBetween}
 
--- where lists are open as they should be
+-- where lists were open as they should be before in this run, and are so now
 pub record BringsLaw : Type 0 where
-  pub after_lines : OpenListsLaw → (line : ℕ) (run : Run) → IsRun run → 0 < run.units → run.units ≤ 4 → length run.start.disks ≡ run.units → (i : ℕ) → IsCalm (history_of line run) i → AllBrought (history_of line run) (after (beginning run) run.entries).world i
-  pub between : OpenListsLaw → (line : ℕ) (run : Run) → IsRun run → 0 < run.units → run.units ≤ 4 → length run.start.disks ≡ run.units → (next : ℕ) (event : Event) → DeliversMore event → (told : List (Option Told)) → MayAll told (begun (after (beginning run) run.entries)) → (i : ℕ) → (let w = (after_all told (begun (after (beginning run) run.entries))).world in let now = map said w.fresh ++ asked next event ∷ history_of line run in IsCalm now i → AllBrought now w i)
+  pub after_lines : (line : ℕ) (run : Run) → IsRun run → 0 < run.units → run.units ≤ 4 → length run.start.disks ≡ run.units → OpenBefore line run run.entries → OpenAfter line run run.entries → (i : ℕ) → IsCalm (history_of line run) i → AllBrought (history_of line run) (after (beginning run) run.entries).world i
+  pub between : (line : ℕ) (run : Run) → IsRun run → 0 < run.units → run.units ≤ 4 → length run.start.disks ≡ run.units → (next : ℕ) (event : Event) → DeliversMore event → (told : List (Option Told)) → MayAll told (begun (after (beginning run) run.entries)) → OpenBetween line run next event told → OpenBehind (asked next event ∷ history_of line run) told (begun (after (beginning run) run.entries)) → (i : ℕ) → (let w = (after_all told (begun (after (beginning run) run.entries))).world in let now = map said w.fresh ++ asked next event ∷ history_of line run in IsCalm now i → AllBrought now w i)

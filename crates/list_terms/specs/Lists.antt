@@ -1,8 +1,8 @@
 -- A list of an initiator by the run terms, as an agent of the target is led along it (NCITS 325-1998, linked lists of ORBs, command block ORB and page
 -- tables): the address of an ORB is that of its slot, and no next pointer names one that is not linked. What may be read of it is the ORB of its
 -- command, but for the next pointer, and for the format where it was made a dummy; its buffer is the one that is laid out for its command; and its data
--- are the first bytes of those of its append.
-use Rattle.std.specs.Prelude.{◌≡◌, ◌⊎◌, ◌<◌, ℕ, List, ◌∷◌, ◌++◌, length, map, take, Option, Some, None}
+-- are the first bytes of those of its append, and none where its buffer goes to the initiator.
+use Rattle.std.specs.Prelude.{◌≡◌, ◌⊎◌, ◌<◌, ℕ, false, List, ◌∷◌, ◌++◌, length, map, take, Option, Some, None}
 use Rattle.orb_layout.specs.declared.command.CommandOrb.{CommandOrb}
 use Rattle.page_table.specs.declared.segment.Segment.{Segment}
 use Rattle.rbc_disk.specs.Runs.{Told}
@@ -33,10 +33,14 @@ abbrev pub IsBufferOf : Option Cmd → (slot : ℕ) → List Segment → Type 0
 IsBufferOf None slot segments = ⊥
 IsBufferOf (Some cmd) slot segments = segments ≡ laid_out slot cmd cmd.segments
 
--- bytes are the first ones of a command's data
+-- bytes are the first ones of a command's data, where there are any of one whose buffer goes to the target
+pub record IsDataIn (cmd : Cmd) (bytes : List ℕ) : Type 0 where
+  pub first : bytes ≡ take (length bytes) cmd.payload
+  pub outward : 0 < length bytes → cmd.to_initiator ≡ false
+
 abbrev pub IsDataOf : Option Cmd → List ℕ → Type 0
 IsDataOf None bytes = ⊥
-IsDataOf (Some cmd) bytes = bytes ≡ take (length bytes) cmd.payload
+IsDataOf (Some cmd) bytes = IsDataIn cmd bytes
 
 -- a list of which so many ORBs are linked, by the slots and the commands of its ORBs
 abbrev pub orbs_by : (linked : ℕ) → (slot : ℕ → ℕ) → (command : ℕ → Option Cmd) → OrbList

@@ -4,7 +4,7 @@
 -- name. A pointer that is taken is that to the first ORB of such a list, of which none has ended. While an agent reads the next pointer of the last ORB
 -- again, the address of that ORB still names it. And the response to a read that such an agent has under way along the list brings what the list holds:
 -- this follows from the rest.
-use Rattle.std.specs.Prelude.{◌≡◌, ◌<◌, ◌≤◌, ℕ, suc, Bool, true, false, List, ◌∷◌, ◌++◌, length, map, Option, Some, Ok}
+use Rattle.std.specs.Prelude.{◌≡◌, ◌<◌, ◌≤◌, ℕ, suc, Bool, true, false, List, [], ◌∷◌, ◌++◌, length, map, Option, Some, Ok}
 use Rattle.async_packet.specs.Labels.{LabelParts}
 use Rattle.async_packet.specs.Packet.{Packet, header_in}
 use Rattle.orb_layout.specs.declared.ask.Ask.{Ask}
@@ -23,6 +23,7 @@ use Rattle.sbp_bus.specs.Places.{place_in}
 use Rattle.sbp_bus.specs.Telling.{list_in, orb_in}
 use Rattle.sbp_journal.specs.Run.{Moment, asked, said}
 use Rattle.sbp_journal.specs.declared.event.Event.{Event}
+use Rattle.sbp_journal.specs.declared.event.Event.TheVariants as events
 use Rattle.sbp_laws.specs.CarriedBytes.{address_of}
 use Rattle.sbp_laws.specs.Lawful.{injectors}
 use Rattle.sbp_laws.specs.Lists.{linked}
@@ -36,11 +37,11 @@ use Rattle.sbp_target.specs.Desks.{which_in}
 use Rattle.sbp_target.specs.Nodes.{desk_at}
 use Rattle.sbp_target.specs.Receiving.{answer_in}
 use Rattle.sbp_target.specs.Serving.{is_barred}
-use Rattle.sbp_world.specs.Histories.{history_of}
-use Rattle.sbp_world.specs.Runs.{Run, after, beginning}
+use Rattle.sbp_world.specs.Histories.{history_of, moments_behind}
+use Rattle.sbp_world.specs.Runs.{Entry, Run, after, beginning}
 use Rattle.sbp_world.specs.Settling.{MayAll, after_all}
 use Rattle.sbp_world.specs.Telling.{holder, ticket_at}
-use Rattle.sbp_world.specs.Worlds.{WorldState, begun}
+use Rattle.sbp_world.specs.Worlds.{Scene, WorldState, begun}
 use Rattle.agent_terms.specs.Management.Terms.{DeliversMore}
 use Rattle.agent_terms.specs.Alike.{has_list}
 use Rattle.host_terms.specs.Runs.{IsRun}
@@ -107,6 +108,43 @@ pub record OpenLists (past : List Moment) (w : WorldState) : Type 0 where
 pub record OpenListsLaw : Type 0 where
   pub after_lines : (line : ℕ) (run : Run) → IsRun run → 0 < run.units → run.units ≤ 4 → length run.start.disks ≡ run.units → OpenLists (history_of line run) (after (beginning run) run.entries).world
   pub between : (line : ℕ) (run : Run) → IsRun run → 0 < run.units → run.units ≤ 4 → length run.start.disks ≡ run.units → (next : ℕ) (event : Event) → DeliversMore event → (told : List (Option Told)) → MayAll told (begun (after (beginning run) run.entries)) → (let w = (after_all told (begun (after (beginning run) run.entries))).world in OpenLists (map said w.fresh ++ asked next event ∷ history_of line run) w)
+
+-- ---- before a moment of one run
+
+-- Lists are as they should be after these lines of a run.
+abbrev pub OpenAfter : (line : ℕ) → Run → List Entry → Type 0
+OpenAfter line run entries = OpenLists (moments_behind line run entries) (after (beginning run) entries).world
+
+-- They are so behind these deliveries of a line, as which it began with this history.
+abbrev pub OpenBehind : List Moment → List (Option Told) → Scene → Type 0
+OpenBehind past told s = OpenLists (map said (after_all told s).world.fresh ++ past) (after_all told s).world
+
+-- They were so before the last of these deliveries: as the line began, and behind each delivery but the last.
+abbrev pub OpenWhile : List Moment → List (Option Told) → Scene → Type 0
+OpenWhile past [] s = Unit {0}
+OpenWhile past (one ∷ told) s = OpenBehind past told s × OpenWhile past told s
+
+-- and before the end of a line: of one that settles, before its last note too
+abbrev pub OpenIn : Event → List Moment → List (Option Told) → Scene → Type 0
+OpenIn (events.Step count) past told s = OpenWhile past told s
+OpenIn events.Settle past told s = OpenBehind past told s × OpenWhile past told s
+OpenIn event past told s = Unit {0}
+
+-- of a line of a run, behind these
+pub record OpenLine (line : ℕ) (run : Run) (e : Entry) (before : List Entry) : Type 0 where
+  pub begins : OpenAfter line run before
+  pub goes : OpenIn e.event (asked e.line e.event ∷ moments_behind line run before) e.told (begun (after (beginning run) before))
+
+-- They were so at each place before the end of the last of these lines of a run.
+abbrev pub OpenBefore : (line : ℕ) → Run → List Entry → Type 0
+OpenBefore line run [] = Unit {0}
+OpenBefore line run (e ∷ before) = OpenLine line run e before × OpenBefore line run before
+
+-- And they were so at each place of a run before the last of these deliveries of a line that follows.
+pub record OpenBetween (line : ℕ) (run : Run) (next : ℕ) (event : Event) (told : List (Option Told)) : Type 0 where
+  pub before : OpenBefore line run run.entries
+  pub begins : OpenAfter line run run.entries
+  pub goes : OpenWhile (asked next event ∷ history_of line run) told (begun (after (beginning run) run.entries))
 
 -- ---- what holds between two turns
 

@@ -16,12 +16,12 @@ use Rattle.sbp_world.specs.Settling.{MayAll, after_all}
 use Rattle.sbp_world.specs.Worlds.{begun}
 use Rattle.agent_terms.specs.Management.Terms.{DeliversMore}
 use Rattle.host_terms.specs.Runs.{IsRun}
-use Rattle.list_terms.specs.Needs.{OpenListsLaw}
+use Rattle.list_terms.specs.Needs.{OpenBefore, OpenBetween}
 
--- where lists are open as they should be in every run
+-- where lists were open as they should be before in this run
 pub record OrderRunLaw : Type 0 where
-  pub after_lines : OpenListsLaw → (line : ℕ) (run : Run) → IsRun run → 0 < run.units → run.units ≤ 4 → length run.start.disks ≡ run.units → OrderLaw (injectors (history_of line run)) (history_of line run)
-  pub between : OpenListsLaw → (line : ℕ) (run : Run) → IsRun run → 0 < run.units → run.units ≤ 4 → length run.start.disks ≡ run.units → (next : ℕ) (event : Event) → DeliversMore event → (told : List (Option Told)) → MayAll told (begun (after (beginning run) run.entries)) → (let w = (after_all told (begun (after (beginning run) run.entries))).world in let now = map said w.fresh ++ asked next event ∷ history_of line run in OrderLaw (injectors now) now)
+  pub after_lines : (line : ℕ) (run : Run) → IsRun run → 0 < run.units → run.units ≤ 4 → length run.start.disks ≡ run.units → OpenBefore line run run.entries → OrderLaw (injectors (history_of line run)) (history_of line run)
+  pub between : (line : ℕ) (run : Run) → IsRun run → 0 < run.units → run.units ≤ 4 → length run.start.disks ≡ run.units → (next : ℕ) (event : Event) → DeliversMore event → (told : List (Option Told)) → MayAll told (begun (after (beginning run) run.entries)) → OpenBetween line run next event told → (let w = (after_all told (begun (after (beginning run) run.entries))).world in let now = map said w.fresh ++ asked next event ∷ history_of line run in OrderLaw (injectors now) now)
 
 -- An ORB that is appended has the next number of the latest list of its initiator, or begins the next list with number 0; and it is prepared in one of
 -- the 32 slots, in which no ORB of its list waits.

@@ -40,6 +40,10 @@ pub record IsNamedFor (past earlier : List Moment) (i serial address : ℕ) : Ty
   pub pointed : pointed_list past serial i ≡ Some list
   pub there : named_in earlier i (slot_of address) ≡ Some (orb list 0)
 
+-- so it is of each of its writes that was got
+abbrev pub AreNamedFor : List Moment → ℕ → Type 0
+AreNamedFor past i = (later earlier : List Moment) (serial : ℕ) (sent : Sending) (place address : ℕ) → later ++ said (notes.Got serial) ∷ earlier ≡ past → (terms earlier).sent serial ≡ Some sent → IsPointedBy sent i place address → IsNamedFor past earlier i serial address
+
 -- an ORB stands in its slot
 pub record StandsThere (past : List Moment) (i n k : ℕ) : Type 0 where
   pub small : slot_at past i n k < 32

@@ -20,7 +20,7 @@ use Rattle.sbp_world.specs.Settling.{MayAll, after_all}
 use Rattle.sbp_world.specs.Worlds.{WorldState, begun}
 use Rattle.agent_terms.specs.Management.Terms.{DeliversMore}
 use Rattle.host_terms.specs.Runs.{IsRun}
-use Rattle.list_terms.specs.Needs.{IsCalm, OpenListsLaw, initiator_in, is_open_at}
+use Rattle.list_terms.specs.Needs.{IsCalm, OpenBefore, OpenBetween, initiator_in, is_open_at}
 
 -- ---- runs and ends in order
 -- The ORB that runs is the next one of its list.
@@ -40,10 +40,10 @@ ListsAt wild moment past = Unit {0}
 abbrev pub ListsLaw : (ℕ → Bool) → List Moment → Type 0
 ListsLaw wild past = EachMoment (ListsAt wild) past
 
--- After every line of every run, and behind each delivery of a line that may follow, where lists are open as they should be in every run.
+-- After every line of every run, and behind each delivery of a line that may follow, where lists were open as they should be before in this run.
 pub record ListsRunLaw : Type 0 where
-  pub after_lines : OpenListsLaw → (line : ℕ) (run : Run) → IsRun run → 0 < run.units → run.units ≤ 4 → length run.start.disks ≡ run.units → ListsLaw (injectors (history_of line run)) (history_of line run)
-  pub between : OpenListsLaw → (line : ℕ) (run : Run) → IsRun run → 0 < run.units → run.units ≤ 4 → length run.start.disks ≡ run.units → (next : ℕ) (event : Event) → DeliversMore event → (told : List (Option Told)) → MayAll told (begun (after (beginning run) run.entries)) → (let w = (after_all told (begun (after (beginning run) run.entries))).world in let now = map said w.fresh ++ asked next event ∷ history_of line run in ListsLaw (injectors now) now)
+  pub after_lines : (line : ℕ) (run : Run) → IsRun run → 0 < run.units → run.units ≤ 4 → length run.start.disks ≡ run.units → OpenBefore line run run.entries → ListsLaw (injectors (history_of line run)) (history_of line run)
+  pub between : (line : ℕ) (run : Run) → IsRun run → 0 < run.units → run.units ≤ 4 → length run.start.disks ≡ run.units → (next : ℕ) (event : Event) → DeliversMore event → (told : List (Option Told)) → MayAll told (begun (after (beginning run) run.entries)) → OpenBetween line run next event told → (let w = (after_all told (begun (after (beginning run) run.entries))).world in let now = map said w.fresh ++ asked next event ∷ history_of line run in ListsLaw (injectors now) now)
 
 -- ---- runs once, and ends by how it ran
 abbrev pub RunsAt : (ℕ → Bool) → Moment → List Moment → Type 0
@@ -54,14 +54,14 @@ RunsAt wild moment past = Unit {0}
 abbrev pub RunsLaw : (ℕ → Bool) → List Moment → Type 0
 RunsLaw wild past = EachMoment (RunsAt wild) past
 
--- This stands on one thing more: an ORB that ran, of a list that was not cut and of which none has ended, is at an agent that has the list open.
+-- It stands on this: an ORB that ran, of a list that was not cut and of which none has ended, is at an agent that has the list open.
 pub record Unrun (past : List Moment) (w : WorldState) : Type 0 where
   pub held : (i n : ℕ) → IsCalm past i → IsOpen past i n → ends past i n ≡ 0 → ((place : ℕ) → place < 8 → is_open_at w place ≡ true → initiator_in w place ≡ i → ⊥) → runs past i n 0 ≡ 0
 
 pub record UnrunLaw : Type 0 where
-  pub after_lines : (line : ℕ) (run : Run) → IsRun run → 0 < run.units → run.units ≤ 4 → length run.start.disks ≡ run.units → Unrun (history_of line run) (after (beginning run) run.entries).world
-  pub between : (line : ℕ) (run : Run) → IsRun run → 0 < run.units → run.units ≤ 4 → length run.start.disks ≡ run.units → (next : ℕ) (event : Event) → DeliversMore event → (told : List (Option Told)) → MayAll told (begun (after (beginning run) run.entries)) → (let w = (after_all told (begun (after (beginning run) run.entries))).world in Unrun (map said w.fresh ++ asked next event ∷ history_of line run) w)
+  pub after_lines : (line : ℕ) (run : Run) → IsRun run → 0 < run.units → run.units ≤ 4 → length run.start.disks ≡ run.units → OpenBefore line run run.entries → Unrun (history_of line run) (after (beginning run) run.entries).world
+  pub between : (line : ℕ) (run : Run) → IsRun run → 0 < run.units → run.units ≤ 4 → length run.start.disks ≡ run.units → (next : ℕ) (event : Event) → DeliversMore event → (told : List (Option Told)) → MayAll told (begun (after (beginning run) run.entries)) → OpenBetween line run next event told → (let w = (after_all told (begun (after (beginning run) run.entries))).world in Unrun (map said w.fresh ++ asked next event ∷ history_of line run) w)
 
 pub record RunsRunLaw : Type 0 where
-  pub after_lines : OpenListsLaw → UnrunLaw → (line : ℕ) (run : Run) → IsRun run → 0 < run.units → run.units ≤ 4 → length run.start.disks ≡ run.units → RunsLaw (injectors (history_of line run)) (history_of line run)
-  pub between : OpenListsLaw → UnrunLaw → (line : ℕ) (run : Run) → IsRun run → 0 < run.units → run.units ≤ 4 → length run.start.disks ≡ run.units → (next : ℕ) (event : Event) → DeliversMore event → (told : List (Option Told)) → MayAll told (begun (after (beginning run) run.entries)) → (let w = (after_all told (begun (after (beginning run) run.entries))).world in let now = map said w.fresh ++ asked next event ∷ history_of line run in RunsLaw (injectors now) now)
+  pub after_lines : (line : ℕ) (run : Run) → IsRun run → 0 < run.units → run.units ≤ 4 → length run.start.disks ≡ run.units → OpenBefore line run run.entries → RunsLaw (injectors (history_of line run)) (history_of line run)
+  pub between : (line : ℕ) (run : Run) → IsRun run → 0 < run.units → run.units ≤ 4 → length run.start.disks ≡ run.units → (next : ℕ) (event : Event) → DeliversMore event → (told : List (Option Told)) → MayAll told (begun (after (beginning run) run.entries)) → OpenBetween line run next event told → (let w = (after_all told (begun (after (beginning run) run.entries))).world in let now = map said w.fresh ++ asked next event ∷ history_of line run in RunsLaw (injectors now) now)

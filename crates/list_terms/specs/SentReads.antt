@@ -24,7 +24,7 @@ use Rattle.sbp_world.specs.Worlds.{begun}
 use Rattle.agent_terms.specs.Management.Terms.{DeliversMore}
 use Rattle.agent_terms.specs.AskedRuns.{serial_of}
 use Rattle.host_terms.specs.Runs.{IsRun}
-use Rattle.list_terms.specs.Needs.{IsCalm, OpenListsLaw}
+use Rattle.list_terms.specs.Needs.{IsCalm, OpenAfter, OpenBefore, OpenBehind, OpenBetween}
 
 -- the slot in which an address stands
 abbrev pub slot_in : Option Window → Option ℕ
@@ -48,7 +48,7 @@ pub record ReadsIn (start : List Disk) (past : List Moment) (place : ℕ) (which
 abbrev pub AreSentBehind : List Disk → List Moment → Type 0
 AreSentBehind start past = (place : ℕ) → place < 8 → (which : Which) (serial i slot n k : ℕ) → ReadsIn start past place which serial i slot n k → k < appends (before_sent past serial) i n
 
--- After every line of every run, and behind each delivery of a line that may follow, where lists are open as they should be in every run.
+-- After every line of every run, and behind each delivery of a line that may follow, where lists were open as they should be before in this run, and are so now.
 pub record SentReadsLaw : Type 0 where
-  pub after_lines : OpenListsLaw → (line : ℕ) (run : Run) → IsRun run → 0 < run.units → run.units ≤ 4 → length run.start.disks ≡ run.units → AreSentBehind run.start.disks (history_of line run)
-  pub between : OpenListsLaw → (line : ℕ) (run : Run) → IsRun run → 0 < run.units → run.units ≤ 4 → length run.start.disks ≡ run.units → (next : ℕ) (event : Event) → DeliversMore event → (told : List (Option Told)) → MayAll told (begun (after (beginning run) run.entries)) → AreSentBehind run.start.disks (map said (after_all told (begun (after (beginning run) run.entries))).world.fresh ++ asked next event ∷ history_of line run)
+  pub after_lines : (line : ℕ) (run : Run) → IsRun run → 0 < run.units → run.units ≤ 4 → length run.start.disks ≡ run.units → OpenBefore line run run.entries → OpenAfter line run run.entries → AreSentBehind run.start.disks (history_of line run)
+  pub between : (line : ℕ) (run : Run) → IsRun run → 0 < run.units → run.units ≤ 4 → length run.start.disks ≡ run.units → (next : ℕ) (event : Event) → DeliversMore event → (told : List (Option Told)) → MayAll told (begun (after (beginning run) run.entries)) → OpenBetween line run next event told → OpenBehind (asked next event ∷ history_of line run) told (begun (after (beginning run) run.entries)) → AreSentBehind run.start.disks (map said (after_all told (begun (after (beginning run) run.entries))).world.fresh ++ asked next event ∷ history_of line run)

@@ -1,23 +1,28 @@
 //! The laws of the lists and the agents.
 ghost use Rattle.list_terms.specs.Along.{AlongLaw};
+ghost use Rattle.list_terms.specs.Bases.{BasesLaw};
 ghost use Rattle.list_terms.specs.Brings.{BringsLaw};
 ghost use Rattle.list_terms.specs.Lists.{GrowingLaw};
 ghost use Rattle.list_terms.specs.CutLists.{CutListsLaw};
+ghost use Rattle.list_terms.specs.Closes.{ClosingLaw};
+ghost use Rattle.list_terms.specs.EndedLists.{EndedListsLaw};
 ghost use Rattle.list_terms.specs.Opens.{OpensLaw};
 ghost use Rattle.list_terms.specs.Orders.{AppendsLaw, OrderRunLaw};
 ghost use Rattle.list_terms.specs.Names.{NamesLaw};
-ghost use Rattle.list_terms.specs.Running.{ListsRunLaw, RunsRunLaw};
+ghost use Rattle.list_terms.specs.Running.{ListsRunLaw, RunsRunLaw, UnrunLaw};
+ghost use Rattle.list_terms.specs.Execution.{ExecutionRunLaw, LoginsRunLaw, OutcomesRunLaw};
 ghost use Rattle.list_terms.specs.Places.{ListedLaw};
 ghost use Rattle.list_terms.specs.Lasts.{LastLaw};
 ghost use Rattle.list_terms.specs.Begun.{BegunLaw};
 ghost use Rattle.list_terms.specs.SentReads.{SentReadsLaw};
 ghost use Rattle.list_terms.specs.Presents.{PresentLaw};
 ghost use Rattle.list_terms.specs.SlotsStay.{SlotsStayLaw};
+ghost use Rattle.list_terms.specs.Roms.{RomLaw};
+ghost use Rattle.list_terms.specs.Firsts.{FirstLaw};
 ghost use Rattle.list_terms.specs.Underway.{UnderwayLaw};
 ghost use Rattle.list_terms.specs.PlaceReads.{PlaceReadsLaw};
 ghost use Rattle.list_terms.specs.Contents.{ContentsLaw};
 ghost use Rattle.list_terms.specs.ReadOrbs.{ReadOrbsLaw};
-ghost use Rattle.list_terms.specs.InPlace.{InPlaceLaw};
 ghost use Rattle.list_terms.specs.CarriedOrbs.{CarriedOrbsLaw};
 
 /// The lists of an initiator, as the run terms have them, are laid out as an agent asks for it: an ORB without
@@ -43,16 +48,16 @@ pub fn orbs_stand_in_their_slots()
     ensures { NamesLaw }
 {}
 
-/// Where lists are open as they should be in every run (`OpenListsLaw`), what an agent waits for, to read in a slot of
-/// an initiator that injected no packets, was sent when the ORB that the slot has now had been appended: after every
-/// line of every run, and behind each delivery of a line that may follow.
+/// Where lists were open as they should be before in a run (`OpenBefore`, `OpenBetween`), and are so now, what an agent
+/// waits for, to read in a slot of an initiator that injected no packets, was sent when the ORB that the slot has now had
+/// been appended: after every line of every run, and behind each delivery of a line that may follow.
 #[tactic(auto, using(crate::proofs::RunLaws::sent_reads_law))]
 pub fn reads_are_sent_behind_appends()
     ensures { SentReadsLaw }
 {}
 
-/// Where lists are open as they should be in every run (`OpenListsLaw`), what an agent reads along a list of an
-/// initiator that injected no packets is what the list holds: the
+/// Where lists were open as they should be before in a run (`OpenBefore`, `OpenBetween`), and are so now, what an agent
+/// reads along a list of an initiator that injected no packets is what the list holds: the
 /// response to its read brings the ORB behind those that have ended, or the one behind that; its page table, which is
 /// read as the buffer laid out for its command; the next bytes of its data; or the next pointer of the last ORB.
 /// After every line of every run, and behind each delivery of a line that may follow.
@@ -61,35 +66,66 @@ pub fn agents_read_what_lists_hold()
     ensures { BringsLaw }
 {}
 
-/// Where lists are open as they should be in every run (`OpenListsLaw`), an agent that has a list open of an initiator
-/// that injected no packets is along that list, behind as many of its ORBs as the history has ends of it: after every line of every run, and behind each delivery of a line that may
-/// follow.
+/// Where lists were open as they should be before in a run (`OpenBefore`, `OpenBetween`), an agent that has a list open of
+/// an initiator that injected no packets is along that list, behind as many of its ORBs as the history has ends of it:
+/// after every line of every run, and behind each delivery of a line that may follow.
 #[tactic(auto, using(crate::proofs::RunLaws::along_law))]
 pub fn agents_are_along_lists()
     ensures { AlongLaw }
 {}
 
-/// Where lists are open as they should be in every run (`OpenListsLaw`), the order law holds of every run: the ORBs of
-/// a list run and end in their order, each behind its append, and none of a list that was cut or behind which the next
-/// one began.
+/// Where lists were open as they should be before in a run (`OpenBefore`, `OpenBetween`), the order law holds of it: the
+/// ORBs of a list run and end in their order, each behind its append, and none of a list that was cut or behind which the
+/// next one began.
 #[tactic(auto, using(crate::proofs::RunLaws::order_run_law))]
 pub fn orbs_end_in_order()
     ensures { OrderRunLaw }
 {}
 
-/// Where lists are open as they should be in every run (`OpenListsLaw`), an ORB runs at its turn, with the command of its append, and with no data or with as many of the first
-/// bytes of its data as the command asks for.
+/// Where lists were open as they should be before in a run (`OpenBefore`, `OpenBetween`), an ORB runs at its turn, with
+/// the command of its append, and with no data or with as many of the first bytes of its data as the command asks for.
 #[tactic(auto, using(crate::proofs::OnceLaws::lists_run_law))]
 pub fn orbs_run_as_they_were_appended()
     ensures { ListsRunLaw }
 {}
 
-/// And where, besides that, an ORB that ran, of a list that was not cut and of which none has ended, is at an agent that
-/// has the list open (`UnrunLaw`), an ORB runs at most once; and it ends good or with a check behind its run with
-/// that outcome alone, and as dummy, aborted or illegal without one.
+/// Where lists were open as they should be before in a run (`OpenBefore`, `OpenBetween`), an ORB that ran, of a list that was
+/// not cut and of which none has ended, is at an agent that has the list open: after every line of the run, and behind each
+/// delivery of a line that may follow. Of the initiators that injected no packets.
+#[tactic(auto, using(crate::proofs::UnrunLaws::unrun_law))]
+pub fn orbs_that_ran_are_at_agents()
+    ensures { UnrunLaw }
+{}
+
+/// Where lists were open as they should be before in a run (`OpenBefore`, `OpenBetween`), an ORB runs at most once; and it
+/// ends good or with a check behind its run with that outcome alone, and as dummy, aborted or illegal without one.
 #[tactic(auto, using(crate::proofs::OnceLaws::runs_run_law))]
 pub fn orbs_run_once()
     ensures { RunsRunLaw }
+{}
+
+/// In every run, whatever anyone injected, a command runs on the unit of a live login of the initiator that its note names:
+/// after every line of every run, and behind each delivery of a line that may follow.
+#[tactic(auto, using(crate::proofs::Executes::logins_run_law))]
+pub fn commands_run_at_live_logins()
+    ensures { LoginsRunLaw }
+{}
+
+/// Where lists were open as they should be before in a run (`OpenBefore`, `OpenBetween`), the command of an ORB of an
+/// initiator that injected no packets runs as its append asks for: with its command, and with no data or, for a WRITE of one
+/// block or more, with its whole data, on the disk fold as it stands, with the place of its initiator's login. Where a check
+/// holds, that is the outcome; where none does, a WRITE of one block or more has its data, and the outcome is good, or the
+/// check of a medium call that failed.
+#[tactic(auto, using(crate::proofs::Executes::outcomes_run_law))]
+pub fn commands_end_as_the_disk_allows()
+    ensures { OutcomesRunLaw }
+{}
+
+/// Where lists were open as they should be before in a run (`OpenBefore`, `OpenBetween`), the execution law holds of it: after
+/// every line of every run, and behind each delivery of a line that may follow.
+#[tactic(auto, using(crate::proofs::Executes::execution_run_law))]
+pub fn orbs_execute_as_the_law_says()
+    ensures { ExecutionRunLaw }
 {}
 
 /// In every run an agent is out of RESET only at the place of a live login, whose initiator is the one that the bus has there.
@@ -142,6 +178,27 @@ pub fn latest_lists_stand()
     session_terms::sessions_and_lists_are_of_seen_generations();
 }
 
+/// Where lists were open as they should be before in a run (`OpenBefore`, `OpenBetween`), a list of an initiator that
+/// injected no packets, of which an ORB has ended, had been open at an agent: a write of ORB_POINTER of its initiator had
+/// named an ORB of it as the target got it. After every line of every run, and behind each delivery of a line that may
+/// follow.
+#[tactic(auto, using(crate::proofs::EndedLists::ended_lists_law))]
+pub fn ended_lists_were_open()
+    ensures { EndedListsLaw }
+{}
+
+/// Where at each place of a run, before which lists were open as they should be, what this place needs holds (`PlacesLaw`),
+/// they are so in every run (`OpenListsLaw`): that each write of ORB_POINTER that the target got was named for a list whose
+/// slot held its first ORB then, and that a list whose write waits has no end, is shown. And where they are so in every run,
+/// they were so before each place of it, as the laws of lists ask.
+pub fn lists_stay_open_from_place_to_place()
+    ensures { ClosingLaw }
+{
+    latest_lists_stand();
+    pointer_terms::pointers_are_of_lists();
+    lists_begin_in_seen_generations();
+}
+
 /// In every run the present list of an initiator is the latest one, and an ORB of it whose status was not taken is the one that
 /// was prepared last in its slot: after every line, and behind each delivery of a line that delivers one packet after the other.
 pub fn present_lists_are_the_latest()
@@ -156,6 +213,33 @@ pub fn present_lists_are_the_latest()
 pub fn slots_stay()
     ensures { SlotsStayLaw }
 {}
+
+/// In every run, whatever anyone injected, an initiator that knows where MANAGEMENT_AGENT stands knows it at the one address that
+/// the target has it at, and each packet of an action with a management ORB goes there: in the target's ROM the key of
+/// MANAGEMENT_AGENT stands once, so no quadlet that the target ever gives names another address. After every line, and behind
+/// each delivery of a line that delivers one packet after the other.
+#[tactic(auto, using(crate::proofs::RomHeld::rom_law))]
+pub fn initiators_find_the_management_agent()
+    ensures { RomLaw }
+{}
+
+/// In every run each packet of an initiator that injected none by which an agent is pointed to an ORB is the write of ORB_POINTER
+/// for a list of that initiator, with the address of the first ORB of it: after every line, and behind each delivery of a line
+/// that delivers one packet after the other.
+#[tactic(auto, using(crate::proofs::Firsts::first_law))]
+pub fn pointers_name_first_orbs()
+    ensures { FirstLaw }
+{}
+
+/// In every run an initiator writes and reads at the registers of the agent of its host's login: ORB_POINTER for its present list, and a read of
+/// AGENT_STATE that tells of that list, where no logout of it was refused; and AGENT_RESET while that is under way. A read tells of a list only
+/// behind the answer to the ORB_POINTER write of it.
+pub fn registers_are_of_the_login()
+    ensures { BasesLaw }
+{
+    pointer_terms::registers_are_of_the_session();
+    session_terms::hosts_hold_the_login_of_their_session();
+}
 
 /// In every run the operation that an initiator has under way began with a request that was sent in the line of its action; its
 /// management ORB, as it was made then, stands in its place of the initiator's memory as long as it is under way, and the login of the
@@ -184,13 +268,6 @@ pub fn operations_ask_for_their_orbs()
 #[tactic(auto, using(crate::proofs::OrbsRead::read_orbs_law))]
 pub fn the_orb_in_its_place_is_read()
     ensures { ReadOrbsLaw }
-{}
-
-/// Where one management operation of an initiator is in hand at a time: the target reads the ORB of an operation in the place of the one
-/// that a well-behaved initiator has under way. Then the read was sent behind the first request of that, and the response brings its ORB.
-#[tactic(auto, using(crate::proofs::OrbsInPlace::in_place_law))]
-pub fn the_orb_under_way_is_read()
-    ensures { InPlaceLaw }
 {}
 
 /// In each history the management ORB that the target read last is that of its operation from then on: while the EUI-64 of the source is

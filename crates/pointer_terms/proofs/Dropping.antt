@@ -68,7 +68,7 @@ no_more : (b : Bool) → b ≡ false → (b || false) ≡ false
 no_more true e = e
 no_more false e = refl
 
-more : (j : ℕ) (told : List Side) (side : Side) → is_drop j side ≡ false → drops_of j (told ++ side ∷ []) ≡ drops_of j told
+pub more : (j : ℕ) (told : List Side) (side : Side) → is_drop j side ≡ false → drops_of j (told ++ side ∷ []) ≡ drops_of j told
 more j [] side e = no_more (is_drop j side) e
 more j (first ∷ told) side e = ap (λ b. is_drop j first || b) (more j told side e)
 

@@ -27,7 +27,7 @@ use Rattle.sbp_initiator.specs.declared.purpose.Purpose.TheVariants as purposes
 use Rattle.sbp_initiator.specs.declared.state.InitiatorState.{InitiatorState}
 use Rattle.sbp_initiator.specs.Receiving.{receive_step, received}
 use Rattle.sbp_initiator.specs.Refusals.{ends_list}
-use Rattle.sbp_initiator.specs.States.{counts_for, ending_of, operation_in}
+use Rattle.sbp_initiator.specs.States.{counts_for, ending_of, is_list, operation_in}
 use Rattle.sbp_bus.specs.Packets.{judged_note}
 use Rattle.initiator_laws.specs.Drops.{ends_the_list, state_drops}
 use Rattle.host_terms.proofs.Aimed.{Aims}
@@ -43,6 +43,8 @@ use Rattle.pointer_terms.proofs.Dropping.{drops_of, may_drop, receive_drops}
 use Rattle.pointer_terms.proofs.Finds.{closed_over, closes_at, reset_ends}
 use Rattle.pointer_terms.proofs.GuardActs.{cutting_is}
 use Rattle.pointer_terms.proofs.Guarded.{receive_got}
+use Rattle.pointer_terms.proofs.Resetting.{Resets}
+use Rattle.pointer_terms.proofs.Showing.{IsShowing}
 use Rattle.pointer_terms.proofs.Statuses.{GotOr, no_drop, request_got, was_got}
 
 pub other_number : (i j number : ℕ) → number ≡ i → (j == i) ≡ false → (number == j) ≡ false
@@ -65,7 +67,7 @@ judged_read by_response layer bytes (Err fault) p label purpose f = cc
 judged_read by_again layer bytes (Err fault) p label purpose f = cc
 judged_read by_request layer bytes (Err fault) p label purpose f = cc
 
-read_in : (layer : Layer Purpose) (generation : ℕ) (bytes : List ℕ) (p : Packet) (label : LabelParts) (purpose : Option Purpose) → (judging_step layer generation bytes).0 ≡ of_response p label purpose → reading bytes ≡ Ok p
+pub read_in : (layer : Layer Purpose) (generation : ℕ) (bytes : List ℕ) (p : Packet) (label : LabelParts) (purpose : Option Purpose) → (judging_step layer generation bytes).0 ≡ of_response p label purpose → reading bytes ≡ Ok p
 unfolding judging_step
 read_in layer generation bytes p label purpose f = judged_read (row_of (facts_of layer generation bytes)) layer bytes (reading bytes) p label purpose f
 
@@ -79,6 +81,25 @@ zero_ends list (endings.Complete value) present e = by (counts_for present list)
     by false c f g = untrue g
 zero_ends list (endings.Refused rcode) present e = untrue e
 zero_ends list endings.Expired present e = untrue e
+
+-- and counts for it
+record CountsFor (list : Option ℕ) (present : Option PresentList) : Type 0 where
+  number : ℕ
+  is : list ≡ Some number
+  there : is_list present number ≡ true
+
+counts_by : (list : Option ℕ) (present : Option PresentList) → counts_for present list ≡ true → CountsFor list present
+counts_by None present e = untrue e
+counts_by (Some list) present e = record { number = list; is = refl; there = e }
+
+first_of : (a b : Bool) → (a && b) ≡ true → a ≡ true
+first_of true b e = refl
+first_of false b e = untrue e
+
+counts_of : (list : Option ℕ) (ending : Ending) (present : Option PresentList) → state_drops list ending present ≡ true → CountsFor list present
+counts_of list (endings.Complete value) present e = counts_by list present (first_of (counts_for present list) (value == 0) e)
+counts_of list (endings.Refused rcode) present e = untrue e
+counts_of list endings.Expired present e = untrue e
 
 -- a complete answer to an AGENT_RESET
 complete_ends : (act : ℕ) (ending : Ending) (present : Option PresentList) → ends_the_list (purposes.AgentReset act) ending present ≡ true → (value : ℕ) × (ending ≡ endings.Complete value)
@@ -95,7 +116,7 @@ makes_state : (action : Action) (act : ℕ) (list : Option ℕ) → makes action
 makes_state actions.State act list e = refl
 makes_state _ act list e = untrue e
 
-module _ (ready : Bool) (serial generation : ℕ) (bytes : List ℕ) (past : List Moment) (i : ℕ) (s : InitiatorState) (heard : IsHeard past i serial generation bytes) (after_it : IsShown (said (judged_note serial (receive_step generation bytes empty_outbox s).0) ∷ past) i s.target (judging_step s.layer generation bytes).1) (c : Cored ready past i s) (aims : Aims s.layer s.target) (asks : Asks past i s.target s.layer) (now_is : s.layer.generation ≡ (terms past).generation (suc i)) where
+module _ (ready : Bool) (serial generation : ℕ) (bytes : List ℕ) (past : List Moment) (i : ℕ) (s : InitiatorState) (heard : IsHeard past i serial generation bytes) (after_it : IsShown (said (judged_note serial (receive_step generation bytes empty_outbox s).0) ∷ past) i s.target (judging_step s.layer generation bytes).1) (c : Cored ready past i s) (aims : Aims s.layer s.target) (asks : Asks past i s.target s.layer) (resets : Resets past i s.target s.layer) (shows : IsShowing past i s) (now_is : s.layer.generation ≡ (terms past).generation (suc i)) where
   abbrev judged : Judged
   judged = (receive_step generation bytes empty_outbox s).0
 
@@ -138,7 +159,7 @@ module _ (ready : Bool) (serial generation : ℕ) (bytes : List ℕ) (past : Lis
         let b : At l s.target label.number (purpose_for l.peers s.target label.number) = record { kind = u.kind; serial = u.serial; state = u.is; is_for = refl } in
         closed_over s.layer generation bytes p label (Some purpose) (called_of c) f (purpose_for l.peers s.target label.number) (subst (λ x. At l x label.number (purpose_for l.peers s.target label.number)) (sym peer) b)
 
-    answers : (value : ℕ) → ending_of p ≡ endings.Complete value → (action : Action) → w.action ≡ action → Answers (behind judgements.Got) i action value
+    abbrev answers : (value : ℕ) → ending_of p ≡ endings.Complete value → (action : Action) → w.action ≡ action → Answers (behind judgements.Got) i action value
     answers value e action is = record {
       serial = serial;
       earlier = past;
@@ -162,9 +183,13 @@ module _ (ready : Bool) (serial generation : ℕ) (bytes : List ℕ) (past : Lis
       let b = closes_at s.layer generation bytes p label (Some (purposes.AgentReset act)) (called_of c) f in
       let r = reset_ends act s.operation ((pointing_of c).resets act (record { peer = (header_in p).source; number = label.number; serial = b.serial; kind = b.kind; state = b.state; is_for = b.is_for })) in
       let k = complete_ends act (ending_of p) s.lists.slots.present e in
-      by_reset k.0 (answers p label (purposes.AgentReset act) f refl k.0 k.1 actions.AgentReset (makes_reset _ act (w p label (purposes.AgentReset act) f refl).for)) (cutting judgements.Got r)
+      let x = w p label (purposes.AgentReset act) f refl in
+      let there = subst (λ y. At s.layer y label.number (Some (purposes.AgentReset act))) (peer p label (purposes.AgentReset act) f refl) (a p label (purposes.AgentReset act) f refl) in
+      by_reset k.0 (answers p label (purposes.AgentReset act) f refl k.0 k.1 actions.AgentReset (makes_reset _ act x.for)) (resets.first label.number act x.kind x.serial there x.held) (cutting judgements.Got r)
   closed_ends p label (purposes.State act list) f e =
-      by_state (answers p label (purposes.State act list) f refl 0 (zero_ends list (ending_of p) s.lists.slots.present e) actions.State (makes_state _ act list (w p label (purposes.State act list) f refl).for))
+      let x = w p label (purposes.State act list) f refl in
+      let n = counts_of list (ending_of p) s.lists.slots.present e in
+      by_state (answers p label (purposes.State act list) f refl 0 (zero_ends list (ending_of p) s.lists.slots.present e) actions.State (makes_state _ act list x.for)) (record { list = n.number; present = shows n.number n.there; told = x.told n.number n.is })
   closed_ends p label (purposes.Pointer list) f e = untrue e
   closed_ends p label purposes.Doorbell f e = untrue e
   closed_ends p label (purposes.Enable act) f e = untrue e

@@ -1,7 +1,8 @@
 -- What is carried on of an initiator, as it does an action.
 use Rattle.std.specs.Prelude.{unwrap_or}
-use Rattle.std.proofs.Common.{arith, ◌≡◌, ◌⊎◌, inl, inr, refl, sym, ◌∙◌, ap, subst, ℕ, suc, ◌+◌, ◌≤◌, ◌==◌, nat_eq, is_some, not, Bool, true, false, List, [], ◌∷◌, Option, Some, None}
+use Rattle.std.proofs.Common.{arith, ◌≡◌, ◌⊎◌, inl, inr, refl, sym, ◌∙◌, ap, subst, ℕ, suc, ◌+◌, ◌≤◌, ◌==◌, nat_eq, is_some, not, Bool, true, false, cond, List, [], ◌∷◌, Option, Some, None}
 use Rattle.std.proofs.lemmas.Bool.Decides.{nat_tests}
+use Rattle.bus_transactions.specs.Wire.{transaction}
 use Rattle.bus_memory.specs.declared.window.Window.TheVariants as windows
 use Rattle.bus_memory.specs.Windows.{start}
 use Rattle.label_table.specs.declared.judgement.Asked.{Asked}
@@ -24,19 +25,20 @@ use Rattle.sbp_initiator.specs.declared.purpose.Pointing.TheVariants as pointing
 use Rattle.sbp_initiator.specs.declared.purpose.Purpose.{Purpose}
 use Rattle.sbp_initiator.specs.declared.purpose.Wanted.{Wanted}
 use Rattle.sbp_initiator.specs.declared.state.InitiatorState.{InitiatorState}
-use Rattle.sbp_initiator.specs.Acting.{act_step, asked_for, demand_of, ring_demand}
+use Rattle.sbp_initiator.specs.Acting.{act_step, asked_for, counted_list, demand_of, ring_demand}
 use Rattle.sbp_initiator.specs.Effects.{Turn}
 use Rattle.sbp_initiator.specs.Refusals.{is_in_live, rings}
-use Rattle.sbp_initiator.specs.States.{is_answered, is_unwritten, place_of, session_of, wanted_body}
+use Rattle.sbp_initiator.specs.States.{is_answered, is_list, is_unwritten, place_of, session_of, wanted_body}
 use Rattle.sbp_laws.specs.Actions.{action_notes, cuts_list, running_operation}
 use Rattle.sbp_laws.specs.Hosts.{host_at, live, operation_of}
+use Rattle.sbp_laws.specs.Lists.{present_list}
 use Rattle.sbp_laws.specs.Packets.{access_in_bytes}
 use Rattle.sbp_laws.specs.Turns.{event_of}
 use Rattle.initiator_laws.specs.Ends.{own}
 use Rattle.initiator_laws.specs.Laws.{acts}
 use Rattle.initiator_laws.proofs.Actions.{Allowed}
 use Rattle.initiator_laws.proofs.Effects.{HasMarks}
-use Rattle.host_terms.specs.Calls.{behind}
+use Rattle.host_terms.specs.Calls.{Pins, behind}
 use Rattle.host_terms.specs.Core.{Core}
 use Rattle.host_terms.specs.Fits.{AreRows}
 use Rattle.host_terms.proofs.ActLeft.{ActLeft, act_left}
@@ -51,7 +53,7 @@ use Rattle.host_terms.proofs.PointerNotes.{Fit, asked_pointer, pointer, pointer_
 use Rattle.host_terms.proofs.Pointing.{asked_generation, called_of, wrote_is}
 use Rattle.host_terms.proofs.Shown.{IsShown}
 use Rattle.host_terms.proofs.Telling.{action_law}
-use Rattle.pointer_terms.specs.Moments.{MayPoint, MaySend, MayWrite, NonePoints, pointer_write, writes_bell, writes_enable, writes_management, writes_pointer, writes_reset}
+use Rattle.pointer_terms.specs.Moments.{MayPoint, is_answered as is_answered_at, names_answered, MaySend, MayWrite, NonePoints, pointer_write, writes_bell, writes_enable, writes_management, writes_pointer, writes_reset}
 use Rattle.pointer_terms.proofs.Ages.{moment_closes, moment_generation, untrue}
 use Rattle.pointer_terms.proofs.Asks.{Asking, Cutting, act_allowed, act_bytes, asked_write, asks_enable, asks_for, asks_management, asks_reset, asks_ring, cutting, live_session, ring_list, ring_rings, ring_wanted, ringing}
 use Rattle.pointer_terms.proofs.GuardActs.{Told, action_told, cutting_is, none_underway}
@@ -60,13 +62,17 @@ use Rattle.pointer_terms.proofs.Guarded.{Guarded, Kept, firsts, firsts_same, unw
 use Rattle.pointer_terms.proofs.Passing.{AreApart, Goes, current_goes, none_goes, others_stand, told_goes}
 use Rattle.pointer_terms.proofs.PendActs.{act_pends, ends_none}
 use Rattle.pointer_terms.proofs.Pends.{Pend}
-use Rattle.pointer_terms.proofs.WaitActs.{asking_asks}
-use Rattle.pointer_terms.proofs.Waits.{Asks, told_asks}
+use Rattle.pointer_terms.proofs.ActShows.{act_showing}
+use Rattle.pointer_terms.proofs.Resetting.{Resets, asking_resets, quiet_resets, still_resets, told_fades}
+use Rattle.pointer_terms.proofs.Showing.{IsShowing, aparts_present}
+use Rattle.pointer_terms.proofs.WaitActs.{asking_asks, counts_now}
+use Rattle.pointer_terms.proofs.Waits.{Asks, counted_in, told_asks}
 use Rattle.pointer_terms.proofs.Steps.{ToldAs, told_apart, told_as, told_left}
 
 -- What is known of an initiator as a line begins: the run terms are its rows, and what an action asks for is spelled in the bytes of its request.
 pub record Ready (past : List Moment) (i : ℕ) (s : InitiatorState) : Type 0 where
   pub rows : AreRows past i s.lists.slots
+  pub pin : Pins s.operation s.lists.slots.pinned
   pub spelled : (action : Action) (demand : Demand) (asked : Asked) → demand_of action s ≡ Some demand → (asked_for demand s).0 ≡ Some asked → access_in_bytes asked.bytes ≡ access_of (request_with (header_to 0 0 0) (wanted_body demand.wanted))
 
 -- what is named behind a request
@@ -174,7 +180,41 @@ module _ (ready : Bool) (action : Action) (past : List Moment) (i : ℕ) (s : In
               told = others_stand t.0.sides past j apart k.told;
             };
         asks = λ f. told_asks t.0.sides past j x.target x.layer left.told (g.asks ((tame_told t.0.sides past j left.told).fit f));
+        resets = λ f.
+            let k = tame_told t.0.sides past j left.told in
+            still_resets past ms j x (told_fades t.0.sides past j left.told) (λ v m. ap (λ (y : Terms). y.held (transaction v (suc j) 0 m)) k.wire) (d.others j x e g.pointed).cored (g.resets (k.fit f));
+        shown = λ n f. aparts_present t.0.sides past j apart ∙ g.shown n f;
       }
+
+  shown_now : IsShowing ms i t.1
+  shown_now = act_showing action past i s fit.0 done (record { number = cored.own.number; rows = known.rows; pin = known.pin })
+
+  -- a read of AGENT_STATE that counts for a list tells of it
+  state_tells : Fit past → (demand : Demand) → demand_of action s ≡ Some demand → (n : ℕ) → counted_in demand.purpose ≡ Some n → (names_answered ms (pointer ms i) ≡ true) × (present_list ms i ≡ Some n)
+  state_tells f demand d n e =
+      let c = counts_now action s demand n d e in
+      let l = listed s.lists.slots.present n c.counted in
+      let same : ms ≡ past = ap (λ told_sides. behind told_sides past) (sides_are ∙ ap (λ x. own (action_notes x past i)) c.is) in
+      let wrote : is_some (pointer past i) ≡ true = wrote_is cored ∙ written s.marks.pointing l.0 in
+      subst (λ x. (names_answered x (pointer x i) ≡ true) × (present_list x i ≡ Some n)) (sym same)
+      (named_answered (pointer past i) wrote (((h.kept f).answered l.0).answered), h.shown n l.1)
+    where
+      is_this : (b : Bool) (list : PresentList) (m : ℕ) → cond b (Some list.tail.list) None ≡ Some m → (b ≡ true) × (is_list (Some list) m ≡ true)
+      is_this true list m f = (refl, (let same : list.tail.list ≡ m = cc in (let z : nat_eq list.tail.list m ≡ true = grind (arith, nat_tests) in z)))
+      is_this false list m f = absurd (let differ : None ≡ Some m = f in cc)
+
+      listed : (present : Option PresentList) (m : ℕ) → counted_list present s ≡ Some m → (is_answered s.marks.pointing ≡ true) × (is_list present m ≡ true)
+      listed None m f = absurd (let differ : None ≡ Some m = f in cc)
+      listed (Some list) m f = is_this (is_answered s.marks.pointing) list m f
+
+      written : (mark : Pointing) → is_answered mark ≡ true → not (is_unwritten mark) ≡ true
+      written pointings.Answered f = refl
+      written pointings.Unwritten f = untrue f
+      written pointings.Written f = untrue f
+
+      named_answered : (p : Option ℕ) → is_some p ≡ true → ((m : ℕ) → p ≡ Some m → is_answered_at past m ≡ true) → names_answered past p ≡ true
+      named_answered None f g = untrue f
+      named_answered (Some m) f g = g m refl
 
   -- ---- an action that sends nothing
 
@@ -342,6 +382,10 @@ module _ (ready : Bool) (action : Action) (past : List Moment) (i : ℕ) (s : In
           asks = λ f.
               subst (λ (l : Layer Purpose). Asks ms i t.1.target l) (sym (left.quiet none))
               (subst (λ x. Asks ms i x s.layer) (sym left.target_is) (told_asks t.0.sides past i s.target s.layer left.told (h.asks ((tame_told t.0.sides past i left.told).fit f))));
+          resets = λ f.
+              let k = tame_told t.0.sides past i left.told in
+              quiet_resets past ms i s t (left.quiet none) left.target_is (told_fades t.0.sides past i left.told) (λ v m. ap (λ (y : Terms). y.held (transaction v (suc i) 0 m)) k.wire) (d.quiet none).cored (h.resets (k.fit f));
+          shown = shown_now;
         };
         asking = λ packet one serial generation f q. record {
           pointed = d.asking packet one serial generation f q;
@@ -355,6 +399,12 @@ module _ (ready : Bool) (action : Action) (past : List Moment) (i : ℕ) (s : In
           kept = asking_kept packet one serial generation f q;
           asks = λ g.
               subst (λ x. Asks (said (notes.Sent serial generation (suc i) 0 packet.bytes) ∷ ms) i x t.1.layer) (sym left.target_is)
-              (asking_asks action past i s t under shown (called_of cored) (h.asks ((tame_told t.0.sides past i left.told).fit (record { serials = g.serials.1; sent = g.sent.1 }))) left packet one serial generation f q g);
+              (asking_asks action past i s t under shown (called_of cored) (h.asks ((tame_told t.0.sides past i left.told).fit (record { serials = g.serials.1; sent = g.sent.1 }))) left packet one serial generation f q g (state_tells ((tame_told t.0.sides past i left.told).fit (record { serials = g.serials.1; sent = g.sent.1 }))));
+          resets = λ g.
+              let old = (tame_told t.0.sides past i left.told).fit (record { serials = g.serials.1; sent = g.sent.1 }) in
+              subst (λ x. Resets (said (notes.Sent serial generation (suc i) 0 packet.bytes) ∷ ms) i x t.1.layer) (sym left.target_is)
+              (asking_resets action past i s t under shown cored a.free (h.asks old) (h.resets old) left told.operation packet one serial generation f q g
+              (asking_asks action past i s t under shown (called_of cored) (h.asks old) left packet one serial generation f q g (state_tells old)));
+          shown = shown_now;
         };
       }

@@ -41,8 +41,10 @@ use Rattle.pointer_terms.proofs.Finds.{alone, if_closed, if_expired, is_pended, 
 use Rattle.pointer_terms.proofs.Guarded.{Guarded, Kept, answer_of, answered_now, firsts, firsts_same, left_generation, not_false, not_true, others_guarded, then_answered}
 use Rattle.pointer_terms.proofs.Passing.{Goes, Stand, current_goes, judged_goes, judged_stands, none_goes, timed_goes, told_goes, told_stands}
 use Rattle.pointer_terms.proofs.Pends.{Pend}
-use Rattle.pointer_terms.proofs.Waits.{Asks, ended_asks, judged_asked, judged_count, judged_ends, timed_count, timed_ends}
+use Rattle.pointer_terms.proofs.Waits.{Asks, ended_asks, ended_held, judged_asked, judged_count, judged_ends, judged_state, timed_count, timed_ends}
 use Rattle.pointer_terms.proofs.PendHears.{expire_pends, receive_pends}
+use Rattle.pointer_terms.proofs.Resetting.{ended_resets, judged_fades, note_fades, told_fades}
+use Rattle.pointer_terms.proofs.Showing.{expire_lasts, judged_present, lasts_showing, receive_lasts}
 
 -- ---- what counts as answered behind a call
 
@@ -126,12 +128,19 @@ module _ (ready : Bool) where
           aimed = aimed.own;
           pend = firsts_same past (behind t.0.sides now) i t.1 (still_left t.0.sides now i still ∙ orbs_apart (judged_note serial judged) past i (judged_apart serial judged i)) (loosened t.1 pend);
           generation = left_generation l s.target t.1.layer left.layer ∙ after_it.generation ∙ sym (told_goes t.0.sides now i left.told).generation;
-          kept = ends_kept ready past now i s h goes (judged_stands serial judged past i) (judged_fits serial judged past) t left.told still tells.own pend (λ f. heard_ends ready serial generation bytes past i s heard after_it c h.aimed.aims (h.asks f) h.generation) answers;
+          kept = ends_kept ready past now i s h goes (judged_stands serial judged past i) (judged_fits serial judged past) t left.told still tells.own pend (λ f. heard_ends ready serial generation bytes past i s heard after_it c h.aimed.aims (h.asks f) (h.resets f) h.shown h.generation) answers;
           asks = λ f.
               subst (λ x. Asks (behind t.0.sides now) i x t.1.layer) (sym left.target_is)
-              (ended_asks past (judged_note serial judged) i s.target s.layer l (judged_ends serial judged past) (judged_count serial judged past) (judged_asked serial judged past)
+              (ended_asks past (judged_note serial judged) i s.target s.layer l (judged_ends serial judged past) (judged_count serial judged past) (judged_asked serial judged past) (judged_state serial judged past)
               (h.asks (judged_fits serial judged past ((tame_told t.0.sides now i left.told).fit f))) (judged_called ready s.layer generation bytes (called_of c)) (judging_stays s.layer generation bytes)
               (λ m q a. judge_at s.layer generation bytes s.target m q (called_of c) a) after_it t.0.sides left.told t.1.layer left.layer);
+          resets = λ f.
+              let g = judged_fits serial judged past ((tame_told t.0.sides now i left.told).fit f) in
+              ended_resets past (behind t.0.sides now) i s t (λ u e. judged_fades serial judged past i u (told_fades t.0.sides now i left.told u e)) tells.own.cored left.target_is (h.resets g)
+              (ended_held past (judged_note serial judged) i s.target s.layer l (judged_ends serial judged past) (judged_count serial judged past) (judged_asked serial judged past) (judged_state serial judged past)
+              (h.asks g) (judged_called ready s.layer generation bytes (called_of c)) (judging_stays s.layer generation bytes)
+              (λ m q a. judge_at s.layer generation bytes s.target m q (called_of c) a) after_it t.0.sides left.told t.1.layer left.layer);
+          shown = lasts_showing past now i s t (judged_present serial judged past i) left.told still (receive_lasts i generation bytes s) h.shown;
         };
         others = λ j x e g. others_guarded ready now t.0.sides left.told still j x (tells.others j x e g.pointed) g (receive_drops j generation bytes s (λ d. other_number i j s.number c.own.number e));
       }
@@ -161,9 +170,17 @@ module _ (ready : Bool) where
           asks = λ f.
               let g = (tame_told t.0.sides now i left.told).fit f in
               subst (λ x. Asks (behind t.0.sides now) i x t.1.layer) (sym left.target_is)
-              (ended_asks past (notes.TimedOut serial) i s.target s.layer l (timed_ends serial past) (timed_count serial past) refl
+              (ended_asks past (notes.TimedOut serial) i s.target s.layer l (timed_ends serial past) (timed_count serial past) refl refl
               (h.asks (record { serials = g.serials; sent = g.sent })) (expired_called ready s.layer s.target label (called_of c)) (after_it.generation ∙ goes.generation ∙ sym h.generation)
               (λ m q a. expire_at s.layer s.target label s.target m q (called_of c) a) after_it t.0.sides left.told t.1.layer left.layer);
+          resets = λ f.
+              let x = (tame_told t.0.sides now i left.told).fit f in
+              let g : Fit past = record { serials = x.serials; sent = x.sent } in
+              ended_resets past (behind t.0.sides now) i s t (λ u e. note_fades (notes.TimedOut serial) past i refl u (told_fades t.0.sides now i left.told u e)) tells.own.cored left.target_is (h.resets g)
+              (ended_held past (notes.TimedOut serial) i s.target s.layer l (timed_ends serial past) (timed_count serial past) refl refl
+              (h.asks g) (expired_called ready s.layer s.target label (called_of c)) (after_it.generation ∙ goes.generation ∙ sym h.generation)
+              (λ m q a. expire_at s.layer s.target label s.target m q (called_of c) a) after_it t.0.sides left.told t.1.layer left.layer);
+          shown = lasts_showing past now i s t refl left.told still (expire_lasts i label s) h.shown;
         };
         others = λ j x e g. others_guarded ready now t.0.sides left.told still j x (tells.others j x e g.pointed) g (expire_drops j label s);
       }

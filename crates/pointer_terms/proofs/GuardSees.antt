@@ -29,6 +29,8 @@ use Rattle.pointer_terms.proofs.WaitActs.{seen_asks}
 use Rattle.pointer_terms.proofs.Guarded.{Guarded, Kept, firsts, firsts_same, others_guarded, unwritten_answered}
 use Rattle.pointer_terms.proofs.Passing.{Goes, current_goes, none_goes, told_goes, told_stands}
 use Rattle.pointer_terms.proofs.PendHears.{see_pends}
+use Rattle.pointer_terms.proofs.Resetting.{seen_resets}
+use Rattle.pointer_terms.proofs.Showing.{see_showing}
 
 module _ (ready : Bool) (generation : ℕ) (past : List Moment) (i : ℕ) (s : InitiatorState) (h : Guarded ready past i s) where
   abbrev now : List Moment
@@ -132,6 +134,10 @@ sees_guarded ready generation id target past i s e h =
         generation = seen_generation ready generation past i s h t flag left.told still tells.own as_seen;
         kept = seen_kept ready generation past i s h t flag left.told still tells.own as_seen;
         asks = λ f. let g = (tame_told t.0.sides now i left.told).fit f in seen_asks ready generation id target past i s e h.aimed (h.asks (record { serials = g.serials; sent = g.sent }));
+        resets = λ f.
+            let g = (tame_told t.0.sides now i left.told).fit f in
+            seen_resets ready generation id target past i s e h.aimed (λ n. (let z : not (generation == (terms past).generation (suc i)) ≡ false = sym flag ∙ n in grind (arith, nat_tests))) (h.resets (record { serials = g.serials; sent = g.sent }));
+        shown = see_showing generation id target past i s h.shown;
       };
       others = λ j x d g. others_guarded ready now t.0.sides left.told still j x (tells.others j x d g.pointed) g (see_drops j generation id target s (ap (λ k. k == j) h.pointed.cored.own.number ∙ far j d));
     }

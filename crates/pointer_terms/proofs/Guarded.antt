@@ -12,7 +12,7 @@ use Rattle.sbp_bus.specs.Packets.{judged_note}
 use Rattle.sbp_journal.specs.Outgoings.{empty_outbox}
 use Rattle.sbp_journal.specs.Run.{Moment, said}
 use Rattle.sbp_journal.specs.Transactions.{Kind, Transaction}
-use Rattle.sbp_journal.specs.Wire.{terms, waits}
+use Rattle.sbp_journal.specs.Wire.{Terms, terms, waits}
 use Rattle.sbp_journal.specs.declared.cause.Judged.TheVariants as judgements
 use Rattle.sbp_journal.specs.declared.note.Note.TheVariants as notes
 use Rattle.sbp_journal.specs.declared.side.Side.{Side}
@@ -46,6 +46,8 @@ use Rattle.pointer_terms.proofs.Finds.{closes_at, is_pended}
 use Rattle.pointer_terms.proofs.Pends.{Pend}
 use Rattle.pointer_terms.proofs.Waits.{Asks, told_asks}
 use Rattle.pointer_terms.proofs.Passing.{IsCurrent, Stand, current_goes, judged_goes, none_goes, told_goes, told_stands}
+use Rattle.pointer_terms.proofs.Resetting.{Resets, still_resets, told_fades}
+use Rattle.pointer_terms.proofs.Showing.{IsShowing, told_present}
 
 -- Where ORB_POINTER counts as answered, the write that is named was; that is of the generation of its initiator; and each note stands as it may.
 pub record Kept (past : List Moment) (i : ℕ) (s : InitiatorState) : Type 0 where
@@ -64,6 +66,8 @@ pub record Guarded (ready : Bool) (past : List Moment) (i : ℕ) (s : InitiatorS
   pub generation : s.layer.generation ≡ (terms past).generation (suc i)
   pub kept : Fit past → Kept past i s
   pub asks : Fit past → Asks past i s.target s.layer
+  pub resets : Fit past → Resets past i s.target s.layer
+  pub shown : IsShowing past i s
 
 -- the terms of the ORBs are the same
 pub firsts_same : {pended : Bool} (past now : List Moment) (i : ℕ) (s : InitiatorState) → orb_terms now i ≡ orb_terms past i → Pend pended (firsts past i) s → Pend pended (firsts now i) s
@@ -122,6 +126,8 @@ module _ (ready : Bool) (past : List Moment) (told : List Side) (tame : AreTame 
               told = told_stands told past j tame still (λ d. untrue (sym far ∙ d)) old.told;
             };
         asks = λ f. told_asks told past j x.target x.layer tame (h.asks (k.fit f));
+        resets = λ f. still_resets past (behind told past) j x (told_fades told past j tame) (λ g m. ap (λ (t : Terms). t.held (transaction g (suc j) 0 m)) k.wire) now.cored (h.resets (k.fit f));
+        shown = λ n e. told_present told past j tame still far ∙ h.shown n e;
       }
 
 -- ---- an ORB_POINTER is answered

@@ -1,10 +1,12 @@
 -- In every run each moment of an initiator stands as it may.
 use Rattle.std.proofs.Common.{arith, ◌≡◌, inl, refl, sym, ◌∙◌, ap, subst, ℕ, suc, ◌+◌, ◌<◌, ◌≤◌, nat_eq, is_some, not, Bool, true, false, List, [], ◌∷◌, ◌++◌, map, Option, Some}
 use Rattle.std.proofs.lemmas.Bool.Decides.{nat_tests}
+use Rattle.bus_transactions.specs.Wire.{transaction}
 use Rattle.bus_transactions.proofs.Fits.{request_fits}
 use Rattle.rbc_disk.specs.Runs.{Told}
 use Rattle.sbp_journal.specs.Run.{Moment, asked, said}
-use Rattle.sbp_journal.specs.Wire.{terms}
+use Rattle.sbp_journal.specs.Transactions.{Transaction}
+use Rattle.sbp_journal.specs.Wire.{Held, terms}
 use Rattle.sbp_journal.specs.declared.event.Action.{Action}
 use Rattle.sbp_journal.specs.declared.event.Event.{Event}
 use Rattle.sbp_journal.specs.declared.event.Event.TheVariants as events
@@ -34,7 +36,7 @@ use Rattle.host_terms.proofs.Cores.{sent_core}
 use Rattle.host_terms.proofs.Held.{sent_old}
 use Rattle.host_terms.proofs.OrbTerms.{orbs_apart, orbs_left}
 use Rattle.host_terms.proofs.Pointed.{first_pointed, pointed_carried, stale_is}
-use Rattle.host_terms.proofs.PointerNotes.{Fit, apart_passes, pointer, sent_fades}
+use Rattle.host_terms.proofs.PointerNotes.{Fit, apart_passes, opens, pointer, sent_fades}
 use Rattle.host_terms.proofs.Pointing.{keeps_is, wrote_is}
 use Rattle.host_terms.proofs.Runs.{are_after}
 use Rattle.host_terms.proofs.Shown.{IsElsewhere}
@@ -46,8 +48,10 @@ use Rattle.pointer_terms.proofs.GuardSees.{sees_guarded}
 use Rattle.pointer_terms.proofs.Guarded.{Guarded, firsts_same}
 use Rattle.pointer_terms.proofs.Passing.{apart_sight, apart_stands, asked_goes, current_by, current_goes, none_by, none_goes}
 use Rattle.pointer_terms.proofs.Pends.{unwritten_not}
+use Rattle.pointer_terms.proofs.Resetting.{apart_fades, first_resets, sent_resets, still_resets}
+use Rattle.pointer_terms.proofs.Showing.{apart_present}
 use Rattle.pointer_terms.proofs.WaitActs.{first_asks}
-use Rattle.pointer_terms.proofs.Waits.{asked_apart, line_asks, sent_asks, still_asks}
+use Rattle.pointer_terms.proofs.Waits.{asked_apart, line_asks, sent_asks, state_apart, still_asks}
 use Rattle.pointer_terms.proofs.Spelled.{spelled_by}
 
 -- ---- what others tell and send
@@ -64,6 +68,8 @@ asked_guarded ready line event past i s h =
           let k = h.kept (record { serials = f.serials; sent = f.sent }) in
           record { answered = λ e. none_goes goes (k.answered e); current = current_goes goes k.current; told = (tt, k.told) };
       asks = λ f. line_asks line event past i s.target s.layer (h.asks (record { serials = f.serials; sent = f.sent }));
+      resets = λ f. still_resets past (asked line event ∷ past) i s (λ u e. e) (λ g m. ap (λ (x : Transaction → Held). x (transaction g (suc i) 0 m)) (opens event (terms past)).held) ((pointed_carried ready).asked line event past i s h.pointed).cored (h.resets (record { serials = f.serials; sent = f.sent }));
+      shown = h.shown;
     }
 
 apart_guarded : (ready : Bool) (note : Note) (past : List Moment) (i : ℕ) (s : InitiatorState) → is_apart i note ≡ true → IsElsewhere past i note → Guarded ready past i s → Guarded ready (said note ∷ past) i s
@@ -83,7 +89,9 @@ apart_guarded ready note past i s e w h =
             current = current_by past (said note ∷ past) i passes.fades (λ n p. passes.sent f n (points.below n p)) stays k.current;
             told = (apart_stands note past i e, k.told);
           };
-      asks = λ f. still_asks past (said note ∷ past) i s.target s.layer passes.held passes.count (λ n l. asked_apart note past i e n) (h.asks (passes.fit f));
+      asks = λ f. still_asks past (said note ∷ past) i s.target s.layer passes.held passes.count (λ n l. asked_apart note past i e n) (λ n l. state_apart note past i e n) (h.asks (passes.fit f));
+      resets = λ f. still_resets past (said note ∷ past) i s (apart_fades note past i e) passes.held ((pointed_carried ready).apart note past i s e w h.pointed).cored (h.resets (passes.fit f));
+      shown = λ n f. apart_present note past i e ∙ h.shown n f;
     }
 
 no_act : {A : Type 0} (i : ℕ) (action : Action) (event : Option Event) → IsNoAct i event → event ≡ Some (events.Act i action) → A
@@ -119,6 +127,8 @@ sent_guarded ready serial generation from to bytes past i s n h =
             told = ((λ same honest. may_send below f), k.told);
           };
       asks = λ f. sent_asks serial generation from to bytes past i s.target s.layer f (h.asks (record { serials = f.serials.1; sent = f.sent.1 }));
+      resets = λ f. let g : Fit past = record { serials = f.serials.1; sent = f.sent.1 } in sent_resets serial generation from to bytes past i s.target s.layer n f (h.asks g) (h.resets g);
+      shown = h.shown;
     }
   where
     wrote_on : is_some (pointer (said (notes.Sent serial generation (suc i) to bytes) ∷ past) i) ≡ is_some (pointer past i)
@@ -136,7 +146,7 @@ sent_guarded ready serial generation from to bytes past i s n h =
 
 pub guarded_carried : (ready : Bool) → Carries Ready (Guarded ready)
 guarded_carried ready = record {
-  known = λ line event past i s r. record { rows = r.rows; spelled = r.spelled };
+  known = λ line event past i s r. record { rows = r.rows; pin = r.pin; spelled = r.spelled };
   number = λ past i s h. h.pointed.cored.own.number;
   asked = asked_guarded ready;
   apart = apart_guarded ready;
@@ -169,6 +179,8 @@ first_guarded line i initiators ready b =
         told = (refl, (tt, tt));
       };
       asks = λ f. first_asks (said (notes.Begin initiators ready) ∷ asked line (events.Begin initiators ready) ∷ []) i ready;
+      resets = λ f. first_resets (said (notes.Begin initiators ready) ∷ asked line (events.Begin initiators ready) ∷ []) i ready;
+      shown = λ n e. untrue e;
     }
 
 -- ---- what is known as a line begins
@@ -183,6 +195,7 @@ ready_known line run entries few short all fit i b =
     let small = h.fits.running_fits in
     record {
       rows = (are_after line run entries few short all fit i b).rows;
+      pin = (are_after line run entries few short all fit i b).pin;
       spelled = λ action demand asked e f.
           let fits : IfDemand (Some demand) = subst IfDemand e (demand_fits (TargetOf w.generations.seen i) s.counts.acts (s.counts.acts + 1) s h.fits (omega arith) action) in
           let peer = target_small w.generations.seen i s.target h.fits.target_known in

@@ -1,24 +1,32 @@
 mod Pends
 mod PendHears
 mod PendActs
-mod Ages
+pub mod Ages
 mod Names
-mod Finds
+pub mod Finds
 mod Passing
 mod Dropping
-mod Waits
+pub mod Waits
 mod WaitActs
+mod Walks
+mod Showing
+mod ActShows
+mod Resetting
+mod BaseSeats
+mod BaseTold
+mod BaseWalks
 mod Guarded
 mod Statuses
-mod Ending
+pub mod Ending
 mod GuardHears
 mod GuardSees
 mod Steps
 mod GuardActs
-mod Asks
+pub mod Asks
 mod GuardDoes
-mod Spelled
+pub mod Spelled
 mod Guarding
+mod Basing
 mod Naming
 mod Writing
 mod Sending
@@ -27,4 +35,7 @@ mod Calms
 mod CalmRuns
 mod Written
 mod Eight
-mod Proved
+pub mod Proved
+mod BaseSteps
+mod BaseActs
+mod Based

@@ -35,7 +35,7 @@ use Rattle.pointer_terms.proofs.Pends.{IfEnding, Pend, dead_pends, for_pends, li
 
 -- ---- a status is taken, and a write is tried: the list that was present is
 
-abbrev SameList : ListState → ListState → Type 0
+abbrev pub SameList : ListState → ListState → Type 0
 SameList old new = (n : ℕ) → is_list new.slots.present n ≡ is_list old.slots.present n
 
 passed_list : (present : Option PresentList) (number n : ℕ) → is_list (passed_for present number) n ≡ is_list present n
@@ -50,11 +50,11 @@ for_list : (slot : Option ℕ) (block : StatusBlock) (lists : ListState) → Sam
 for_list None block lists = λ n. refl
 for_list (Some slot) block lists = status_list (waiting (slot_in lists.slots.slots slot)) slot block lists
 
-take_list : (lists : ListState) (block : StatusBlock) → SameList lists (take_lists lists block).1
+pub take_list : (lists : ListState) (block : StatusBlock) → SameList lists (take_lists lists block).1
 unfolding take_lists slot_step
 take_list lists block = for_list (slot_of block.orb) block lists
 
-write_list : (lists : ListState) (offset : ℕ) (bytes : List ℕ) → SameList lists (write_lists lists offset bytes).1
+pub write_list : (lists : ListState) (offset : ℕ) (bytes : List ℕ) → SameList lists (write_lists lists offset bytes).1
 unfolding write_lists
 write_list lists offset bytes = λ n. refl
 

@@ -117,7 +117,7 @@ module _ (ready : Bool) (past : List Moment) (i : ℕ) (s : InitiatorState) (g :
   once_by n serial other e f false false x y = grind (arith, nat_tests)
 
   -- one that was not judged was not answered
-  not_closed : (n serial : ℕ) → pointed_list past serial i ≡ Some n → injectors past i ≡ false → (terms past).news serial ≡ 0 → (terms past).closed serial ≡ None
+  pub not_closed : (n serial : ℕ) → pointed_list past serial i ≡ Some n → injectors past i ≡ false → (terms past).news serial ≡ 0 → (terms past).closed serial ≡ None
   not_closed n serial e h none =
       let p = naming.each n serial e in
       let w = writes_of p.packet.bytes _ p.spelled refl in
@@ -170,10 +170,10 @@ module _ (line : ℕ) (run : Run) (r : IsRun run) (i : ℕ) (b : i < run.initiat
   sound : SoundAfter line run run.entries last
   sound = sound_after fitting_law own_fitting_law line run run.entries r.few r.short r.entries r.lines
 
-  wire_of : IsOfWire past
+  pub wire_of : IsOfWire past
   wire_of = subst IsOfWire sound.is (laws_of sound.past last sound.sound.stands)
 
-  fair_of : (terms past).injects 0 ≡ false
+  pub fair_of : (terms past).injects 0 ≡ false
   fair_of = fair_at past last sound.sound.stands sound.is
 
   guard : Guarded run.ready past i (initiator_of run i)
@@ -200,7 +200,7 @@ module _ (line : ℕ) (run : Run) (r : IsRun run) (next : ℕ) (most : Option �
   between_guard : Guarded run.ready now i (initiator_at w i)
   between_guard = guarded_between line run r next most told m i b
 
-  between_wire : IsOfWire now × ((terms now).injects 0 ≡ false)
+  pub between_wire : IsOfWire now × ((terms now).injects 0 ≡ false)
   between_wire =
       let k = stands_between (Guarded run.ready) (guarded_carried run.ready) line run (ready_known line run) (λ j c. first_guarded line j run.initiators run.ready c) r next most told m in
       (subst IsOfWire k.is (laws_of k.past w k.sound.stands), fair_at now w k.sound.stands k.is)

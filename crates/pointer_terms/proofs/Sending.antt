@@ -270,7 +270,7 @@ moment_names (said (notes.Seen node generation)) past i c own s k =
 moment_names (said note) past i c own s k =
     plain_step (said note) past i c (plain note past i refl) (pointer_same note past i refl) (stays_in (said note) past i refl) k
 
-sent_behind : (m : Moment) (past : List Moment) → AreSent (m ∷ past) → AreSent past
+pub sent_behind : (m : Moment) (past : List Moment) → AreSent (m ∷ past) → AreSent past
 sent_behind (said (notes.Sent s generation from to bytes)) past c = c.1
 sent_behind (said note) past c = c
 sent_behind (asked line event) past c = c

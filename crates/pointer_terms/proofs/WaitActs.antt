@@ -1,5 +1,5 @@
 -- The request of an action is one of those that are under way behind it, and a later generation leaves none.
-use Rattle.std.proofs.Common.{arith, ◌≡◌, refl, sym, ◌∙◌, ap, subst, ℕ, suc, ◌+◌, ◌≤◌, ◌==◌, nat_eq, nat_lt, not, Bool, true, false, cond, List, [], ◌∷◌, Option, Some, None}
+use Rattle.std.proofs.Common.{arith, ◌≡◌, refl, sym, ◌∙◌, ap, subst, ℕ, suc, ◌+◌, ◌≤◌, ◌==◌, ◌&&◌, nat_eq, nat_lt, not, Bool, true, false, cond, List, [], ◌∷◌, Option, Some, None}
 use Rattle.std.proofs.lemmas.Bool.Decides.{nat_tests}
 use Rattle.bus_transactions.specs.Wire.{transaction}
 use Rattle.bus_transactions.proofs.Facts.{asked_begun, request_asked}
@@ -17,12 +17,15 @@ use Rattle.sbp_journal.specs.declared.note.Note.TheVariants as notes
 use Rattle.sbp_journal.specs.declared.outbox.Outgoing.{Outgoing}
 use Rattle.sbp_initiator.specs.declared.purpose.Demand.{Demand}
 use Rattle.sbp_initiator.specs.declared.purpose.Purpose.{Purpose}
+use Rattle.sbp_initiator.specs.declared.purpose.Purpose.TheVariants as purposes
 use Rattle.sbp_initiator.specs.declared.state.InitiatorState.{InitiatorState}
-use Rattle.sbp_initiator.specs.Acting.{demand_of, ring_demand}
+use Rattle.sbp_initiator.specs.Acting.{counted_list, demand_of, ring_demand}
 use Rattle.sbp_initiator.specs.Effects.{Turn}
 use Rattle.sbp_initiator.specs.Initiators.{new_state}
 use Rattle.sbp_initiator.specs.Seeing.{interrupted, resets_told, see_step, seen_as}
 use Rattle.sbp_initiator.specs.States.{is_unwritten, wanted_body}
+use Rattle.sbp_laws.specs.Hosts.{host_at, told_of}
+use Rattle.sbp_laws.specs.Lists.{present_list}
 use Rattle.sbp_laws.specs.Turns.{event_of}
 use Rattle.initiator_laws.proofs.Effects.{list_drops}
 use Rattle.host_terms.specs.Calls.{behind}
@@ -34,14 +37,20 @@ use Rattle.host_terms.proofs.Lives.{At, AskedAt, Called, ask_at, asked_now, at_l
 use Rattle.host_terms.proofs.PointerNotes.{Fit, Told, tame_told}
 use Rattle.host_terms.proofs.Pointing.{asked_generation, sent_waits}
 use Rattle.host_terms.proofs.Shown.{IsShown}
-use Rattle.pointer_terms.specs.Moments.{asked_in, own_action}
+use Rattle.pointer_terms.specs.Moments.{asked_in, is_state, names_answered, own_action, state_list}
 use Rattle.pointer_terms.proofs.Ages.{untrue}
-use Rattle.pointer_terms.proofs.Waits.{AskedFor, Asks, asked_sent, asked_told, is_cared, makes, still_asks}
+use Rattle.pointer_terms.proofs.Waits.{AskedFor, Asks, asked_sent, asked_told, counted_in, is_cared, makes, state_sent, state_told, still_asks}
 
 -- ---- what an action asks for
 
 purpose_is : (own demand : Demand) → Some own ≡ Some demand → own.purpose ≡ demand.purpose
 purpose_is own demand e = let f : own ≡ demand = cc in ap (λ (d : Demand). d.purpose) f
+
+none_is : {A : Type 0} {n : ℕ} → None ≡ Some n → A
+none_is e = absurd (differ e)
+  where
+    differ : {n : ℕ} → None ≡ Some n → ⊥
+    differ e = cc
 
 none_demand : {A : Type 0} (demand : Demand) → None ≡ Some demand → A
 none_demand demand e = absurd (differ e)
@@ -60,7 +69,7 @@ module _ (s : InitiatorState) (demand : Demand) (purpose : Purpose) (for : deman
   rings_for : {A : Type 0} → Some (ring_demand s) ≡ Some demand → A
   rings_for e = not_cared (ring_demand s) demand purpose (ring_cared (is_unwritten s.marks.pointing) _ _ refl refl) e for c
 
-  makes_for : (action : Action) → demand_of action s ≡ Some demand → makes action purpose ≡ true
+  pub makes_for : (action : Action) → demand_of action s ≡ Some demand → makes action purpose ≡ true
   makes_for actions.AgentReset e = subst (λ p. makes actions.AgentReset p ≡ true) (purpose_is _ demand e ∙ for) refl
   makes_for actions.State e = subst (λ p. makes actions.State p ≡ true) (purpose_is _ demand e ∙ for) refl
   makes_for (actions.Append cmd) e = rings_for e
@@ -80,6 +89,39 @@ module _ (s : InitiatorState) (demand : Demand) (purpose : Purpose) (for : deman
   makes_for actions.Link e = none_demand demand e
   makes_for (actions.Dummy orb) e = none_demand demand e
 
+-- a read of AGENT_STATE that counts for a list
+counted_cared : (purpose : Purpose) (n : ℕ) → counted_in purpose ≡ Some n → is_cared purpose ≡ true
+counted_cared (purposes.State act list) n e = refl
+counted_cared (purposes.AgentReset act) n e = none_is e
+counted_cared (purposes.Pointer list) n e = none_is e
+counted_cared purposes.Doorbell n e = none_is e
+counted_cared (purposes.Enable act) n e = none_is e
+counted_cared (purposes.Management act) n e = none_is e
+counted_cared (purposes.Rom act) n e = none_is e
+
+made_state : (action : Action) (act : ℕ) (list : Option ℕ) → makes action (purposes.State act list) ≡ true → action ≡ actions.State
+made_state actions.State act list m = refl
+made_state _ act list m = untrue m
+
+state_made : (action : Action) (purpose : Purpose) (n : ℕ) → makes action purpose ≡ true → counted_in purpose ≡ Some n → action ≡ actions.State
+state_made action (purposes.State act list) n m e = made_state action act list m
+state_made action (purposes.AgentReset act) n m e = none_is e
+state_made action (purposes.Pointer list) n m e = none_is e
+state_made action purposes.Doorbell n m e = none_is e
+state_made action (purposes.Enable act) n m e = none_is e
+state_made action (purposes.Management act) n m e = none_is e
+state_made action (purposes.Rom act) n m e = none_is e
+
+-- it is asked for by such an action, for the list that counts then
+pub record CountsNow (action : Action) (s : InitiatorState) (n : ℕ) : Type 0 where
+  pub is : action ≡ actions.State
+  pub counted : counted_list s.lists.slots.present s ≡ Some n
+
+pub counts_now : (action : Action) (s : InitiatorState) (demand : Demand) (n : ℕ) → demand_of action s ≡ Some demand → counted_in demand.purpose ≡ Some n → CountsNow action s n
+counts_now action s demand n d e =
+    let is = state_made action demand.purpose n (makes_for s demand demand.purpose refl (counted_cared demand.purpose n e) action d) e in
+    record { is = is; counted = ap counted_in (purpose_is _ demand (ap (λ a. demand_of a s) (sym is) ∙ d)) ∙ e }
+
 this : {A : Type 0} (b : Bool) (x y : A) → b ≡ true → cond b x y ≡ x
 this true x y e = refl
 this false x y e = untrue e
@@ -87,7 +129,7 @@ this false x y e = untrue e
 itself : (n : ℕ) → nat_eq n n ≡ true
 itself n = grind (arith, nat_tests)
 
-module _ (action : Action) (past : List Moment) (i : ℕ) (s : InitiatorState) (t : Turn) (under : event_of past ≡ Some (events.Act i action)) (shown : IsShown past i s.target s.layer) (called : Called s.layer) (k : Asks past i s.target s.layer) (left : ActLeft action s t) (packet : Outgoing) (one : t.0.packets ≡ packet ∷ []) (serial generation : ℕ) (injected : (terms past).injected serial ≡ false) (q : IsRequest (number_in packet.label) packet.bytes) (fit : Fit (said (notes.Sent serial generation (suc i) 0 packet.bytes) ∷ behind t.0.sides past)) where
+module _ (action : Action) (past : List Moment) (i : ℕ) (s : InitiatorState) (t : Turn) (under : event_of past ≡ Some (events.Act i action)) (shown : IsShown past i s.target s.layer) (called : Called s.layer) (k : Asks past i s.target s.layer) (left : ActLeft action s t) (packet : Outgoing) (one : t.0.packets ≡ packet ∷ []) (serial generation : ℕ) (injected : (terms past).injected serial ≡ false) (q : IsRequest (number_in packet.label) packet.bytes) (fit : Fit (said (notes.Sent serial generation (suc i) 0 packet.bytes) ∷ behind t.0.sides past)) (tells : (demand : Demand) → demand_of action s ≡ Some demand → (n : ℕ) → counted_in demand.purpose ≡ Some n → (names_answered (behind t.0.sides past) (host_at (behind t.0.sides past) i).pointer ≡ true) × (present_list (behind t.0.sides past) i ≡ Some n)) where
   abbrev ms : List Moment
   ms = behind t.0.sides past
 
@@ -137,6 +179,18 @@ module _ (action : Action) (past : List Moment) (i : ℕ) (s : InitiatorState) (
       ∙ this (nat_eq i i) (own_action i (event_of ms)) (asked_in ms serial i) (itself i)
       ∙ line
 
+  -- the list that it tells of
+  new_told : (n : ℕ) → counted_in x.demand.purpose ≡ Some n → state_list now serial i ≡ Some n
+  new_told n e =
+      let k = tells x.demand x.is n e in
+      let list = told_of (is_state (own_action i (event_of ms)) && names_answered ms (host_at ms i).pointer) (present_list ms i) in
+      let c = counts_now action s x.demand n x.is e in
+      this (nat_eq serial serial) (cond (nat_eq i i) list (state_list ms serial i)) (state_list ms serial i) (itself serial)
+      ∙ this (nat_eq i i) list (state_list ms serial i) (itself i)
+      ∙ ap (λ a. told_of (is_state a && names_answered ms (host_at ms i).pointer) (present_list ms i)) (line ∙ ap Some c.is)
+      ∙ ap (λ b. told_of (true && b) (present_list ms i)) k.0
+      ∙ k.1
+
   count_is : T.count ≡ (terms past).count
   count_is = ap (λ (y : Terms). y.count) told.wire
 
@@ -149,6 +203,7 @@ module _ (action : Action) (past : List Moment) (i : ℕ) (s : InitiatorState) (
     asked = new_asked;
     for = makes_for s x.demand p (let f : p ≡ x.demand.purpose = cc in sym f) c action x.is;
     below = (let f = fit.serials.0 in let d = sent_count serial sending T in omega arith);
+    told = λ n f. new_told n (ap counted_in (let g : p ≡ x.demand.purpose = cc in sym g) ∙ f);
   }
   waits_by m p c (was_asked b) =
       let w = k.waits_for m p c b in
@@ -160,6 +215,7 @@ module _ (action : Action) (past : List Moment) (i : ℕ) (s : InitiatorState) (
         asked = asked_sent serial generation (suc i) 0 packet.bytes ms i w.serial (let l = w.below in let e = count_is in omega arith) fit.serials.0 ∙ ap (λ (f : ℕ → ℕ → Option Action). f w.serial i) (asked_told t.0.sides past left.told) ∙ w.asked;
         for = w.for;
         below = (let l = w.below in let e = count_is in let d = sent_count serial sending T in omega arith);
+        told = λ n f. state_sent serial generation (suc i) 0 packet.bytes ms i w.serial (let l = w.below in let e = count_is in omega arith) fit.serials.0 ∙ ap (λ (g : ℕ → ℕ → Option ℕ). g w.serial i) (state_told t.0.sides past left.told) ∙ w.told n f;
       }
 
   pub asking_asks : Asks now i s.target t.1.layer
@@ -207,7 +263,7 @@ seen_asks ready generation id target past i s flag h k = by (nat_lt s.layer.gene
     by true e = record { waits_for = λ m p c a. absurd (none_seen ready generation id target past i s flag h e (see_step generation id target empty_outbox s).1.target m (Some p) a) }
     by false e =
         subst (λ (t : Turn). Asks (behind t.0.sides (said (notes.Seen (suc i) generation) ∷ past)) i t.1.target t.1.layer) (sym (see_old generation id target s e))
-        (still_asks past (said (notes.Seen (suc i) generation) ∷ past) i s.target s.layer (λ g m. refl) (let l : (terms past).count ≤ (terms past).count = omega arith in l) (λ n l. refl) k)
+        (still_asks past (said (notes.Seen (suc i) generation) ∷ past) i s.target s.layer (λ g m. refl) (let l : (terms past).count ≤ (terms past).count = omega arith in l) (λ n l. refl) (λ n l. refl) k)
 
 -- nothing is under way at first
 pub first_asks : (past : List Moment) (i : ℕ) (ready : Bool) → Asks past i (new_state i ready).target (new_state i ready).layer

@@ -1,6 +1,6 @@
--- A request of an AGENT_RESET or of a read of AGENT_STATE that is under way: the bus knows it under its label, and it was sent in the line of such an
--- action.
-use Rattle.std.proofs.Common.{arith, ◌≡◌, refl, sym, ◌∙◌, ap, ℕ, zero, suc, ◌+◌, ◌≤◌, ◌==◌, nat_eq, not, Bool, true, false, cond, List, [], ◌∷◌, Option, Some}
+-- A request of an AGENT_RESET or of a read of AGENT_STATE that is under way: the bus knows it under its label, it was sent in the line of such an
+-- action, and a read that counts for a list tells of it.
+use Rattle.std.proofs.Common.{arith, ◌≡◌, refl, sym, ◌∙◌, ap, ℕ, zero, suc, ◌+◌, ◌≤◌, ◌==◌, nat_eq, not, Bool, true, false, cond, List, [], ◌∷◌, Option, Some, None}
 use Rattle.std.proofs.lemmas.Bool.Decides.{nat_tests}
 use Rattle.bus_transactions.specs.Rows.{awaits, shape, shape_of}
 use Rattle.bus_transactions.specs.Wire.{transaction}
@@ -31,7 +31,7 @@ use Rattle.host_terms.proofs.Lives.{At, AskedAt, Called, ask_at, asked_now, was_
 use Rattle.host_terms.proofs.PointerNotes.{Fit, opens, tame_told}
 use Rattle.host_terms.proofs.Pointing.{asked_generation, at_same, sent_waits}
 use Rattle.host_terms.proofs.Shown.{IsShown}
-use Rattle.pointer_terms.specs.Moments.{asked_in}
+use Rattle.pointer_terms.specs.Moments.{asked_in, state_list}
 use Rattle.pointer_terms.proofs.Ages.{untrue}
 
 -- what such a request is for, and the action that makes it
@@ -45,6 +45,11 @@ makes actions.AgentReset (purposes.AgentReset act) = true
 makes actions.State (purposes.State act list) = true
 makes _ _ = false
 
+-- the list that a read of AGENT_STATE counts for
+abbrev pub counted_in : Purpose → Option ℕ
+counted_in (purposes.State act list) = list
+counted_in _ = None
+
 pub record AskedFor (past : List Moment) (i generation number : ℕ) (purpose : Purpose) : Type 0 where
   pub kind : Kind
   pub serial : ℕ
@@ -53,18 +58,19 @@ pub record AskedFor (past : List Moment) (i generation number : ℕ) (purpose : 
   pub asked : asked_in past serial i ≡ Some action
   pub for : makes action purpose ≡ true
   pub below : serial ≤ (terms past).count
+  pub told : (n : ℕ) → counted_in purpose ≡ Some n → state_list past serial i ≡ Some n
 
 pub record Asks (past : List Moment) (i target : ℕ) (layer : Layer Purpose) : Type 0 where
   pub waits_for : (number : ℕ) (purpose : Purpose) → is_cared purpose ≡ true → At layer target number (Some purpose) → AskedFor past i layer.generation number purpose
 
 -- ---- what leaves the labels
 
-module _ (past now : List Moment) (i target : ℕ) (layer : Layer Purpose) (held : (g m : ℕ) → (terms now).held (transaction g (suc i) 0 m) ≡ (terms past).held (transaction g (suc i) 0 m)) (count : (terms past).count ≤ (terms now).count) (asked_same : (n : ℕ) → n ≤ (terms past).count → asked_in now n i ≡ asked_in past n i) where
+module _ (past now : List Moment) (i target : ℕ) (layer : Layer Purpose) (held : (g m : ℕ) → (terms now).held (transaction g (suc i) 0 m) ≡ (terms past).held (transaction g (suc i) 0 m)) (count : (terms past).count ≤ (terms now).count) (asked_same : (n : ℕ) → n ≤ (terms past).count → asked_in now n i ≡ asked_in past n i) (told_same : (n : ℕ) → n ≤ (terms past).count → state_list now n i ≡ state_list past n i) where
   pub still_asks : Asks past i target layer → Asks now i target layer
   still_asks k = record {
     waits_for = λ m p c a.
         let w = k.waits_for m p c a in
-        record { kind = w.kind; serial = w.serial; held = held layer.generation m ∙ w.held; action = w.action; asked = asked_same w.serial w.below ∙ w.asked; for = w.for; below = (let b = w.below in omega arith) };
+        record { kind = w.kind; serial = w.serial; held = held layer.generation m ∙ w.held; action = w.action; asked = asked_same w.serial w.below ∙ w.asked; for = w.for; below = (let b = w.below in omega arith); told = λ n e. told_same w.serial w.below ∙ w.told n e };
   }
 
 -- a note of an initiator is no packet
@@ -86,6 +92,24 @@ asked_told [] past t = refl
 asked_told (sides.Own note ∷ later) past t = asked_told later (said note ∷ past) t.1 ∙ asked_note note past t.0
 asked_told (_ ∷ later) past t = absurd t.0
 
+state_note : (note : Note) (past : List Moment) → is_tame note ≡ true → state_list (said note ∷ past) ≡ state_list past
+state_note (notes.Append j n k cdb buffer) past e = refl
+state_note (notes.Low j n k) past e = refl
+state_note (notes.Linked j n k) past e = refl
+state_note (notes.Rung j n k) past e = refl
+state_note (notes.Dummied j n k) past e = refl
+state_note (notes.Taken j n k status answer) past e = refl
+state_note (notes.Drop j n) past e = refl
+state_note (notes.Op j operation word) past e = refl
+state_note (notes.Stuck j) past e = refl
+state_note (notes.Told j) past e = refl
+state_note _ past e = untrue e
+
+pub state_told : (told : List Side) (past : List Moment) → AreTame told → state_list (behind told past) ≡ state_list past
+state_told [] past t = refl
+state_told (sides.Own note ∷ later) past t = state_told later (said note ∷ past) t.1 ∙ state_note note past t.0
+state_told (_ ∷ later) past t = absurd t.0
+
 other : {A : Type 0} (b c : Bool) (x y : A) → c ≡ false → cond b (cond c x y) y ≡ y
 other true true x y e = untrue (sym e)
 other true false x y e = refl
@@ -101,6 +125,12 @@ asked_apart (notes.Sent s generation (suc j) to bytes) past i e n =
     other (nat_eq n s) (nat_eq i j) _ (asked_in past n i) (let f : (suc j == suc i) ≡ false = not_so (suc j == suc i) e in grind (arith, nat_tests))
 asked_apart note past i e n = refl
 
+pub state_apart : (note : Note) (past : List Moment) (i : ℕ) → is_apart i note ≡ true → (n : ℕ) → state_list (said note ∷ past) n i ≡ state_list past n i
+state_apart (notes.Sent s generation zero to bytes) past i e n = refl
+state_apart (notes.Sent s generation (suc j) to bytes) past i e n =
+    other (nat_eq n s) (nat_eq i j) _ (state_list past n i) (let f : (suc j == suc i) ≡ false = not_so (suc j == suc i) e in grind (arith, nat_tests))
+state_apart note past i e n = refl
+
 apart : {A : Type 0} (b : Bool) (x y : A) → b ≡ false → cond b x y ≡ y
 apart true x y e = untrue (sym e)
 apart false x y e = refl
@@ -109,6 +139,10 @@ apart false x y e = refl
 pub asked_sent : (serial generation from to : ℕ) (bytes : List ℕ) (past : List Moment) (i n : ℕ) → n ≤ (terms past).count → serial ≡ (terms past).count + 1 → asked_in (said (notes.Sent serial generation from to bytes) ∷ past) n i ≡ asked_in past n i
 asked_sent serial generation zero to bytes past i n l e = refl
 asked_sent serial generation (suc j) to bytes past i n l e = apart (nat_eq n serial) _ (asked_in past n i) (grind (arith, nat_tests))
+
+pub state_sent : (serial generation from to : ℕ) (bytes : List ℕ) (past : List Moment) (i n : ℕ) → n ≤ (terms past).count → serial ≡ (terms past).count + 1 → state_list (said (notes.Sent serial generation from to bytes) ∷ past) n i ≡ state_list past n i
+state_sent serial generation zero to bytes past i n l e = refl
+state_sent serial generation (suc j) to bytes past i n l e = apart (nat_eq n serial) _ (state_list past n i) (grind (arith, nat_tests))
 
 pub sent_asks : (serial generation from to : ℕ) (bytes : List ℕ) (past : List Moment) (i target : ℕ) (layer : Layer Purpose) → Fit (said (notes.Sent serial generation from to bytes) ∷ past) → Asks past i target layer → Asks (said (notes.Sent serial generation from to bytes) ∷ past) i target layer
 sent_asks serial generation from to bytes past i target layer fit k = record {
@@ -124,6 +158,7 @@ sent_asks serial generation from to bytes past i target layer fit k = record {
         asked = asked_sent serial generation from to bytes past i w.serial w.below fit.serials.0 ∙ w.asked;
         for = w.for;
         below = (let b = w.below in let d = sent_count serial packet t in omega arith);
+        told = λ n e. state_sent serial generation from to bytes past i w.serial w.below fit.serials.0 ∙ w.told n e;
       };
 }
 
@@ -143,7 +178,7 @@ timed_ends serial past = λ v kind e. timed_waits ((terms past).sent serial) (te
 none_rom : {A : Type 0} (purpose : Purpose) (act : ℕ) → is_cared purpose ≡ true → Some purpose ≡ Some (purposes.Rom act) → A
 none_rom purpose act c e = untrue (let f : purpose ≡ purposes.Rom act = cc in sym (ap is_cared f) ∙ c)
 
-module _ (past : List Moment) (note : Note) (i target : ℕ) (old l : Layer Purpose) (e : Ends past note) (count : (terms past).count ≤ (terms (said note ∷ past)).count) (asked_same : asked_in (said note ∷ past) ≡ asked_in past) (k : Asks past i target old) (c : Called l) (generation_is : l.generation ≡ old.generation) (back : (number : ℕ) (purpose : Option Purpose) → At l target number purpose → At old target number purpose) (shown : IsShown (said note ∷ past) i target l) (told : List Side) (tame : AreTame told) where
+module _ (past : List Moment) (note : Note) (i target : ℕ) (old l : Layer Purpose) (e : Ends past note) (count : (terms past).count ≤ (terms (said note ∷ past)).count) (asked_same : asked_in (said note ∷ past) ≡ asked_in past) (told_same : state_list (said note ∷ past) ≡ state_list past) (k : Asks past i target old) (c : Called l) (generation_is : l.generation ≡ old.generation) (back : (number : ℕ) (purpose : Option Purpose) → At l target number purpose → At old target number purpose) (shown : IsShown (said note ∷ past) i target l) (told : List Side) (tame : AreTame told) where
   abbrev ended : List Moment
   ended = said note ∷ past
 
@@ -183,8 +218,17 @@ module _ (past : List Moment) (note : Note) (i target : ℕ) (old l : Layer Purp
               asked = ap (λ (f : ℕ → ℕ → Option Action). f w.serial i) (asked_told told ended tame ∙ asked_same) ∙ w.asked;
               for = w.for;
               below = (let x = w.below in let y = ap (λ (z : Terms). z.count) wire in omega arith);
+              told = λ n e. ap (λ (f : ℕ → ℕ → Option ℕ). f w.serial i) (state_told told ended tame ∙ told_same) ∙ w.told n e;
             };
       }
+
+  -- what waits then did so before
+  pub ended_held : (new : Layer Purpose) → LayerLeft l target new → (m : ℕ) (p : Purpose) → is_cared p ≡ true → At new target m (Some p) → (kind : Kind) (serial : ℕ) → (terms later).held (transaction new.generation (suc i) 0 m) ≡ waits kind serial → At old target m (Some p) × ((terms past).held (transaction old.generation (suc i) 0 m) ≡ waits kind serial)
+  ended_held new left m p d a kind serial w =
+      let b = from_left new left m p d a in
+      let wire = (tame_told told ended i tame).wire in
+      let v = transaction old.generation (suc i) 0 m in
+      (back m (Some p) b, sym (ap (λ x. (terms later).held (transaction x (suc i) 0 m)) (stays new left) ∙ ap (λ (x : Terms). x.held v) wire ∙ here m b.kind (ap shape b.state)) ∙ w)
 
 least : (a b : ℕ) → b ≡ a → a ≤ b
 least a b e = omega arith
@@ -197,6 +241,10 @@ pub judged_asked : (serial : ℕ) (judged : Judged) (past : List Moment) → ask
 judged_asked serial judgements.Got past = refl
 judged_asked serial (judgements.Ignored cause) past = refl
 
+pub judged_state : (serial : ℕ) (judged : Judged) (past : List Moment) → state_list (said (judged_note serial judged) ∷ past) ≡ state_list past
+judged_state serial judgements.Got past = refl
+judged_state serial (judgements.Ignored cause) past = refl
+
 pub timed_count : (serial : ℕ) (past : List Moment) → (terms past).count ≤ (terms (said (notes.TimedOut serial) ∷ past)).count
 timed_count serial past = least _ _ (timed_agrees ((terms past).sent serial) (terms past)).count
 
@@ -204,10 +252,10 @@ timed_count serial past = least _ _ (timed_agrees ((terms past).sent serial) (te
 pub line_asks : (line : ℕ) (event : Event) (past : List Moment) (i target : ℕ) (layer : Layer Purpose) → Asks past i target layer → Asks (asked line event ∷ past) i target layer
 line_asks line event past i target layer k =
     let o = opens event (terms past) in
-    still_asks past (asked line event ∷ past) i target layer (λ g m. ap (λ (x : Transaction → Held). x (transaction g (suc i) 0 m)) o.held) (least _ _ o.count) (λ n l. refl) k
+    still_asks past (asked line event ∷ past) i target layer (λ g m. ap (λ (x : Transaction → Held). x (transaction g (suc i) 0 m)) o.held) (least _ _ o.count) (λ n l. refl) (λ n l. refl) k
 
 -- what is told that is no packet
 pub told_asks : (told : List Side) (past : List Moment) (i target : ℕ) (layer : Layer Purpose) → AreTame told → Asks past i target layer → Asks (behind told past) i target layer
 told_asks told past i target layer tame k =
     let x = tame_told told past i tame in
-    still_asks past (behind told past) i target layer (λ g m. ap (λ (t : Terms). t.held (transaction g (suc i) 0 m)) x.wire) (least _ _ (ap (λ (t : Terms). t.count) x.wire)) (λ n l. ap (λ (f : ℕ → ℕ → Option Action). f n i) (asked_told told past tame)) k
+    still_asks past (behind told past) i target layer (λ g m. ap (λ (t : Terms). t.held (transaction g (suc i) 0 m)) x.wire) (least _ _ (ap (λ (t : Terms). t.count) x.wire)) (λ n l. ap (λ (f : ℕ → ℕ → Option Action). f n i) (asked_told told past tame)) (λ n l. ap (λ (f : ℕ → ℕ → Option ℕ). f n i) (state_told told past tame)) k

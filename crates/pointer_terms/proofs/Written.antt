@@ -88,7 +88,7 @@ goes_on past now i x access e f (of_pointer n p) = of_pointer n (e ∙ p)
 goes_on past now i x access e f (of_bell base p) = of_bell base p
 goes_on past now i x access e f (of_reset base a p) = of_reset base (f ∙ a) p
 goes_on past now i x access e f (of_enable base p) = of_enable base p
-goes_on past now i x access e f (of_management offset place p) = of_management offset place p
+goes_on past now i x access e f (of_management action a m offset place p) = of_management action (f ∙ a) m offset place p
 
 module _ (i serial generation from to : ℕ) (bytes : List ℕ) (past : List Moment) where
   abbrev now : List Moment
@@ -117,7 +117,7 @@ module _ (i serial generation from to : ℕ) (bytes : List ℕ) (past : List Mom
       by (writes_bell r list other base present p e) = of_bell base e
       by (writes_reset a base e) = of_reset base (asks actions.AgentReset a) e
       by (writes_enable a base e) = of_enable base e
-      by (writes_management a offset place e) = of_management offset place e
+      by (writes_management a offset place e) = of_management w.action (asks w.action refl) a offset place e
 
 older_list : (i serial generation from to : ℕ) (bytes : List ℕ) (past : List Moment) (x : ℕ) → nat_eq x serial ≡ false → pointed_list (said (notes.Sent serial generation from to bytes) ∷ past) x i ≡ pointed_list past x i
 older_list i serial generation zero to bytes past x e = refl

@@ -3,7 +3,7 @@
 -- begins while there is none, in one of 32 slots. Such an operation begins in a live session, beside no other, and only once the ORB_POINTER write of the
 -- present list was answered. A list is dropped only once that was answered, or as a later generation is seen. ORB_POINTER is written for the
 -- present list, with the address of its first ORB.
-use Rattle.std.specs.Prelude.{◌≡◌, ◌⊎◌, ◌<◌, ◌≤◌, ℕ, suc, ◌+◌, ◌%◌, ◌^◌, ◌==◌, if◌then◌else◌, is_some, Bool, true, false, List, [], ◌∷◌, length, Option, Some, None, Ok}
+use Rattle.std.specs.Prelude.{◌≡◌, ◌⊎◌, ◌<◌, ◌≤◌, ℕ, suc, ◌+◌, ◌%◌, ◌^◌, ◌==◌, ◌&&◌, if◌then◌else◌, is_some, Bool, true, false, List, [], ◌∷◌, length, Option, Some, None, Ok}
 use Rattle.async_packet.specs.Packet.{Packet}
 use Rattle.async_packet.specs.Reading.{reading}
 use Rattle.byteorder.specs.Endian.{big_bytes}
@@ -21,11 +21,12 @@ use Rattle.sbp_journal.specs.declared.event.Event.{Event}
 use Rattle.sbp_journal.specs.declared.event.Event.TheVariants as events
 use Rattle.sbp_journal.specs.declared.note.Note.TheVariants as notes
 use Rattle.sbp_journal.specs.declared.operation.Operation.{Operation}
+use Rattle.sbp_journal.specs.declared.operation.Operation.TheVariants as operations
 use Rattle.sbp_initiator.specs.declared.purpose.Ending.TheVariants as endings
 use Rattle.sbp_initiator.specs.Refusals.{rings}
 use Rattle.sbp_initiator.specs.States.{ending_of}
 use Rattle.sbp_laws.specs.Actions.{cuts_list, running_operation}
-use Rattle.sbp_laws.specs.Hosts.{host_at, is_management, live, operation_of}
+use Rattle.sbp_laws.specs.Hosts.{Underway, host_at, is_management, live, operation_of, told_of}
 use Rattle.sbp_laws.specs.Lists.{lowest_vacant, present_list, slot_at, slots}
 use Rattle.sbp_laws.specs.Packets.{access_in_bytes}
 use Rattle.sbp_laws.specs.Terms.{lists}
@@ -60,6 +61,21 @@ asked_in [] = λ serial i. None
 asked_in (said (notes.Sent serial generation (suc i) to bytes) ∷ past) = upd2 (asked_in past) serial i (own_action i (event_of past))
 asked_in (_ ∷ past) = asked_in past
 
+-- The list that a read of AGENT_STATE tells of: the one that was present as the read was sent, where its ORB_POINTER write was answered then.
+abbrev pub names_answered : List Moment → Option ℕ → Bool
+names_answered past None = false
+names_answered past (Some serial) = is_answered past serial
+
+abbrev pub is_state : Option Action → Bool
+is_state (Some actions.State) = true
+is_state _ = false
+
+abbrev pub state_list : List Moment → (serial i : ℕ) → Option ℕ
+state_list [] = λ serial i. None
+state_list (said (notes.Sent serial generation (suc i) to bytes) ∷ past) =
+    upd2 (state_list past) serial i (told_of (is_state (own_action i (event_of past)) && names_answered past (host_at past i).pointer) (present_list past i))
+state_list (_ ∷ past) = state_list past
+
 -- the history to the moment that began a turn, behind which initiators told something
 abbrev pub turn_of : List Moment → List Moment
 turn_of [] = []
@@ -88,12 +104,26 @@ pub record Answers (past : List Moment) (i : ℕ) (action : Action) (value : ℕ
   pub waited : (terms earlier).held (transaction ((terms earlier).generation (suc i)) (suc i) 0 label) ≡ waits kind request
   pub answered : is_answered past request ≡ true
 
--- Why a list is dropped, by the moment that began the turn: AGENT_RESET is answered complete; or a packet is got, as the status block of an operation is, while one
--- that ends lists is under way; or a read of AGENT_STATE is answered complete with 0, which is RESET; or a later generation is seen.
+-- a request is the one by which an AGENT_RESET began that is under way
+pub record IsResetting (past : List Moment) (i serial : ℕ) : Type 0 where
+  pub underway : Underway
+  pub is : (host_at past i).operation ≡ Some underway
+  pub resets : underway.operation ≡ operations.AgentReset
+  pub first : underway.first ≡ serial
+
+-- a read of AGENT_STATE tells of the list that is present
+pub record TellsOfPresent (past : List Moment) (i serial : ℕ) : Type 0 where
+  pub list : ℕ
+  pub present : present_list past i ≡ Some list
+  pub told : state_list past serial i ≡ Some list
+
+-- Why a list is dropped, by the moment that began the turn: the AGENT_RESET that is under way is answered complete; or a packet is got, as the status block of an
+-- operation is, while one that ends lists is under way; or a read of AGENT_STATE that tells of this list is answered complete with 0, which is RESET; or a later
+-- generation is seen.
 pub data MayEnd (past : List Moment) (i : ℕ) : Type 0 where
-  by_reset : (value : ℕ) → Answers past i actions.AgentReset value → is_cutting past i ≡ true → MayEnd past i
+  by_reset : (value : ℕ) (answers : Answers past i actions.AgentReset value) → IsResetting answers.earlier i answers.request → is_cutting past i ≡ true → MayEnd past i
   by_status : (serial : ℕ) (earlier : List Moment) (packet : Sending) → past ≡ said (notes.Got serial) ∷ earlier → (terms earlier).sent serial ≡ Some packet → is_cutting past i ≡ true → MayEnd past i
-  by_state : Answers past i actions.State 0 → MayEnd past i
+  by_state : (answers : Answers past i actions.State 0) → TellsOfPresent answers.earlier i answers.request → MayEnd past i
   by_sight : (generation : ℕ) (earlier : List Moment) → past ≡ said (notes.Seen (suc i) generation) ∷ earlier → (terms earlier).generation (suc i) < generation → MayEnd past i
 
 -- A list is dropped: the ORB_POINTER write that was sent for it in the initiator's generation was answered; and why.

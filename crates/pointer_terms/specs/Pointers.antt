@@ -15,9 +15,10 @@ use Rattle.sbp_journal.specs.Addresses.{Access}
 use Rattle.sbp_journal.specs.Run.{Moment, asked, said}
 use Rattle.sbp_journal.specs.Transactions.{Sending}
 use Rattle.sbp_journal.specs.Wire.{terms}
+use Rattle.sbp_journal.specs.declared.event.Action.{Action}
 use Rattle.sbp_journal.specs.declared.event.Action.TheVariants as actions
 use Rattle.sbp_journal.specs.declared.note.Note.TheVariants as notes
-use Rattle.sbp_laws.specs.Hosts.{host_at, is_serial}
+use Rattle.sbp_laws.specs.Hosts.{host_at, is_serial, operation_of}
 use Rattle.sbp_laws.specs.Lawful.{injectors}
 use Rattle.sbp_laws.specs.Lists.{linked, present_list, slot_at}
 use Rattle.sbp_laws.specs.Packets.{access_in_bytes}
@@ -28,7 +29,7 @@ use Rattle.sbp_world.specs.Runs.{Run, after, beginning}
 use Rattle.sbp_world.specs.Settling.{MayAll, after_all}
 use Rattle.sbp_world.specs.Worlds.{begun}
 use Rattle.host_terms.specs.Runs.{IsRun, more_deliveries}
-use Rattle.pointer_terms.specs.Moments.{MayAsk, MayStand, asked_in, is_cutting, managed_write, pointer_write, register_write}
+use Rattle.pointer_terms.specs.Moments.{MayAsk, MayStand, asked_in, is_cutting, managed_write, manages, pointer_write, register_write}
 
 -- ---- the list for which an initiator wrote ORB_POINTER by a packet: the one that was present as its host came to name this packet
 
@@ -65,13 +66,13 @@ pub record IsPointer (past : List Moment) (i n serial : ℕ) : Type 0 where
   pub one : 0 < linked past i n
 
 -- What a write is, by its packet: that of ORB_POINTER for a list; or of DOORBELL, AGENT_RESET or UNSOLICITED_STATUS_ENABLE, a quadlet; or of the address
--- of a management ORB.
+-- of a management ORB, in the line of an action that has one.
 pub data IsWrite (past : List Moment) (i serial : ℕ) (access : Access) : Type 0 where
   of_pointer : (n : ℕ) → pointed_list past serial i ≡ Some n → IsWrite past i serial access
   of_bell : (base : ℕ) → access ≡ register_write base 0x10 → IsWrite past i serial access
   of_reset : (base : ℕ) → asked_in past serial i ≡ Some actions.AgentReset → access ≡ register_write base 0x04 → IsWrite past i serial access
   of_enable : (base : ℕ) → access ≡ register_write base 0x14 → IsWrite past i serial access
-  of_management : (offset place : ℕ) → access ≡ managed_write offset place → IsWrite past i serial access
+  of_management : (action : Action) → asked_in past serial i ≡ Some action → manages (operation_of action) ≡ true → (offset place : ℕ) → access ≡ managed_write offset place → IsWrite past i serial access
 
 -- the list of a write is the present one, and no operation that ends it is under way
 pub record IsPointing (past : List Moment) (i n serial : ℕ) : Type 0 where

@@ -1,4 +1,5 @@
 //! The laws of the writes of ORB_POINTER of the initiators, and of the moments of their lists.
+ghost use Rattle.pointer_terms.specs.Bases.{RegistersLaw};
 ghost use Rattle.pointer_terms.specs.Pointers.{MomentsLaw, PointersLaw, WritesLaw};
 
 /// In every run, after each line and behind each delivery of a line that delivers one packet after the other: each write of
@@ -25,4 +26,12 @@ pub fn moments_stand_as_they_may()
 #[tactic(auto, using(crate::proofs::Proved::writes_law))]
 pub fn writes_are_of_actions()
     ensures { WritesLaw }
+{}
+
+/// And each initiator writes and reads at the agent of the response that its session carries: ORB_POINTER for its present list and a read of
+/// AGENT_STATE that tells of that list, where no logout of it was refused, which leaves the list; and AGENT_RESET while that is under way. Then a
+/// session that has a list is live, or is being left, or became stuck so.
+#[tactic(auto, using(crate::proofs::Based::registers_law))]
+pub fn registers_are_of_the_session()
+    ensures { RegistersLaw }
 {}

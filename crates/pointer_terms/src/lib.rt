@@ -3,4 +3,4 @@
 
 mod laws;
 
-pub use laws::{moments_stand_as_they_may, pointers_are_of_lists, writes_are_of_actions};
+pub use laws::{moments_stand_as_they_may, pointers_are_of_lists, registers_are_of_the_session, writes_are_of_actions};
