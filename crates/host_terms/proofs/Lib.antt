@@ -135,8 +135,4 @@ pub mod Quadlets
 pub mod GatherPlaces
 pub mod Gathers
 pub mod Gathered
-pub mod PlaceTerms
-pub mod PlaceCalls
-pub mod PlaceRuns
-pub mod PlaceReads
 pub mod Statuses

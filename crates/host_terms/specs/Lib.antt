@@ -31,5 +31,4 @@ pub mod DataReads
 pub mod Answers
 pub mod Quadlets
 pub mod Sources
-pub mod Places
 pub mod Statuses

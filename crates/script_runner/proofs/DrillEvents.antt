@@ -1,5 +1,5 @@
 -- Each line of a drill is one that a world of two initiators takes.
-use Rattle.std.proofs.Common.{◌≡◌, refl, ℕ, zero, suc, ◌+◌, ◌*◌, ◌%◌, ◌/◌, ◌^◌, ◌<◌, ◌≤◌, ◌==◌, Bool, true, false, cond, List, [], ◌∷◌, ◌++◌, length, replicate, arith}
+use Rattle.std.proofs.Common.{◌≡◌, ◌∙◌, refl, sym, ℕ, zero, suc, ◌+◌, ◌*◌, ◌%◌, ◌/◌, ◌^◌, ◌<◌, ◌≤◌, ◌==◌, Bool, true, false, cond, List, [], ◌∷◌, ◌++◌, length, replicate, arith}
 use Rattle.std.specs.List.{AllByRecursion}
 use Rattle.std.proofs.lemmas.List.{length-append, length-replicate}
 use Rattle.byteorder.specs.Endian.{big_bytes}
@@ -14,6 +14,7 @@ use Rattle.bus_transactions.specs.Fitting.{AreBytes}
 use Rattle.bus_transactions.proofs.Fits.{bytes_append, bytes_quad, no_bytes}
 use Rattle.sbp_world.specs.FitInitiator.{BytesCommand}
 use Rattle.sbp_world.specs.Wire.Lines.{FillsBuffer, IsLine}
+use Rattle.script_runner.proofs.Brings.{reads_ten, writes_ten}
 
 drawn_two : (x : ℕ) → drawn x 2 < 2
 unfolding drawn
@@ -79,11 +80,21 @@ read_bytes lba = record { cdb = block_bytes 0x28 lba 1 (omega arith); payload = 
 
 write_fills : (lba byte : ℕ) → FillsBuffer (block_write lba byte)
 unfolding block_write block_of
-write_fills lba byte = record { payload = λ t. length-replicate 512 byte; segments = λ t. absurd (omega arith) }
+write_fills lba byte = record {
+  payload = λ t. length-replicate 512 byte;
+  segments = λ t. absurd (omega arith);
+  brought = λ is_bay t. writes_ten is_bay lba 1 (omega arith) ∙ sym (length-replicate 512 byte);
+  answered = λ is_bay t. absurd (cc t);
+}
 
 read_fills : (lba : ℕ) → FillsBuffer (block_read lba)
 unfolding block_read
-read_fills lba = record { payload = λ t. absurd (cc t); segments = λ t. absurd (omega arith) }
+read_fills lba = record {
+  payload = λ t. absurd (cc t);
+  segments = λ t. absurd (omega arith);
+  brought = λ is_bay t. absurd (cc t);
+  answered = λ is_bay t. (reads_ten lba 1 (omega arith)).answer is_bay;
+}
 
 turn_of_is : (x1 x2 x3 : ℕ) → IsLine (turn_of x1 x2 x3).event 2
 turn_of_is x1 x2 x3 =

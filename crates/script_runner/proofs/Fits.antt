@@ -1,5 +1,5 @@
 -- The event of a line that has no fault is one that a world takes.
-use Rattle.std.proofs.Common.{◌≡◌, ◌∙◌, refl, sym, ap, subst, ℕ, zero, suc, ◌+◌, ◌*◌, ◌^◌, ◌%◌, ◌<◌, ◌≤◌, ◌==◌, ◌&&◌, ◌||◌, nat_lt, nat_le, Bool, true, false, not, cond, List, [], ◌∷◌, map, sum, length, replicate, bytes_eq, codes, Option, Some, None, Result, Ok, Err, append-nil, arith}
+use Rattle.std.proofs.Common.{◌≡◌, ◌∙◌, refl, sym, ap, subst, ℕ, zero, suc, ◌+◌, ◌*◌, ◌/◌, ◌^◌, ◌%◌, ◌<◌, ◌≤◌, ◌==◌, ◌&&◌, ◌||◌, nat_lt, nat_le, Bool, true, false, not, cond, List, [], ◌∷◌, map, sum, length, replicate, bytes_eq, codes, Option, Some, None, Result, Ok, Err, append-nil, arith}
 use Rattle.std.specs.Prelude.{IfOk}
 use Rattle.std.specs.List.{list_all, flat_map, find}
 use Rattle.std.proofs.lemmas.List.{length-map}
@@ -38,6 +38,8 @@ use Rattle.sbp_initiator.specs.Acting.{IsAction}
 use Rattle.sbp_world.specs.Lines.{IsEvent}
 use Rattle.sbp_world.specs.Wire.Lines.{FillsAction, FillsBuffer, IsLine}
 use Rattle.script_runner.specs.Runner.{HasBytes, IsBeginning}
+use Rattle.script_runner.proofs.Brings.{IsAnswered, allows, blocks_in, ejects, inquires, loads, prevents, reads_ten, reads_twelve, starts, stops, synchronizes, tells_capacity, tests_ready, verifies, writes_ten, writes_twelve}
+use Rattle.rbc_disk.specs.Runs.{answer_length_of, data_length_of}
 use Rattle.script_runner.proofs.OwnIds.{AreAtMost, HasOwn, ids_apart, is_line}
 
 -- ---- words
@@ -69,66 +71,86 @@ record IsPlain (cmd : Cmd) : Type 0 where
   short : cmd.length ≤ 16384
   payload : length cmd.payload ≤ cmd.length
   fills : cmd.to_initiator ≡ false → length cmd.payload ≡ cmd.length
+  brought : (is_bay : Bool) → cmd.to_initiator ≡ false → data_length_of is_bay cmd.cdb ≡ cmd.length
+  answered : (is_bay : Bool) → cmd.to_initiator ≡ true → answer_length_of is_bay cmd.cdb ≡ cmd.length
 
 addressed_length : (form : Form) (opcode lba count : ℕ) → length (addressed_block form opcode lba count) ≡ 12
 addressed_length Ten opcode lba count = refl
 addressed_length Twelve opcode lba count = refl
 
-plain_bringing : (cdb : List ℕ) (len : ℕ) → length cdb ≡ 12 → len ≤ 16384 → IsPlain (bringing cdb len)
-plain_bringing cdb len e few = record { block = e; short = few; payload = omega arith; fills = λ t. let none = ltb-false 0 len t in omega arith }
+plain_bringing : (cdb : List ℕ) (len : ℕ) → length cdb ≡ 12 → len ≤ 16384 → IsAnswered cdb len → IsPlain (bringing cdb len)
+plain_bringing cdb len e few a = record {
+  block = e;
+  short = few;
+  payload = omega arith;
+  fills = λ t. let none = ltb-false 0 len t in omega arith;
+  brought = λ is_bay t. let none = ltb-false 0 len t in let f = a.none is_bay in omega (arith, none, f);
+  answered = λ is_bay t. a.answer is_bay;
+}
 
-plain_reading : (form : Form) (opcode : ℕ) (ws : List (List ℕ)) → IfOk (reading_blocks form opcode ws) IsPlain
-plain_reading form opcode [] = tt
-plain_reading form opcode (lba ∷ []) = tt
-plain_reading form opcode (lba ∷ count ∷ tail) =
+plain_reading : (form : Form) (opcode : ℕ) (ws : List (List ℕ)) → ((lba count : ℕ) → count ≤ 32 → IsAnswered (addressed_block form opcode lba count) (512 * count)) → IfOk (reading_blocks form opcode ws) IsPlain
+plain_reading form opcode [] a = tt
+plain_reading form opcode (lba ∷ []) a = tt
+plain_reading form opcode (lba ∷ count ∷ tail) a =
     then_fits IsPlain (number 0 4294967295 lba) _ (λ l e. then_fits IsPlain (number 0 32 count) _ (λ n k.
     let few = (within 0 32 n count k).1 in
-    plain_bringing (addressed_block form opcode l n) (512 * n) (addressed_length form opcode l n) (omega arith)))
+    plain_bringing (addressed_block form opcode l n) (512 * n) (addressed_length form opcode l n) (omega arith) (a l n few)))
 
 plain_verifying : (ws : List (List ℕ)) → IfOk (verifying_blocks ws) IsPlain
 plain_verifying [] = tt
 plain_verifying (lba ∷ []) = tt
 plain_verifying (lba ∷ count ∷ tail) =
-    then_fits IsPlain (number 0 4294967295 lba) _ (λ l e. then_fits IsPlain (number 0 32 count) _ (λ n k. plain_bringing (addressed_block Ten 0x2F l n) 0 (addressed_length Ten 0x2F l n) (omega arith)))
+    then_fits IsPlain (number 0 4294967295 lba) _ (λ l e. then_fits IsPlain (number 0 32 count) _ (λ n k. plain_bringing (addressed_block Ten 0x2F l n) 0 (addressed_length Ten 0x2F l n) (omega arith) (verifies l n)))
 
-bytes_few : (ps : List (List ℕ)) (bytes : List ℕ) → bytes_of ps ≡ Ok bytes → length bytes ≤ 16384
-bytes_few ps bytes e =
+-- the bytes of a write are whole blocks, 32 at most
+record AreBlocks (bytes : List ℕ) : Type 0 where
+  whole : length bytes % 512 ≡ 0
+  few : length bytes ≤ 16384
+
+are_blocks : (ps : List (List ℕ)) (bytes : List ℕ) → bytes_of ps ≡ Ok bytes → AreBlocks bytes
+are_blocks ps bytes e =
     let all = flat_map piece_bytes ps in
     let c = chosen_is (list_all has_count ps && is_whole (length all)) all bytes faults.Range e in
     let whole = (both (list_all has_count ps) (is_whole (length all)) c.0).1 in
-    subst (λ x. length x ≤ 16384) c.1 (leb-true (length all) 16384 (last_of (length all % 512 == 0) (nat_le 512 (length all)) (nat_le (length all) 16384) whole))
-  where
-    last_of : (a b c : Bool) → (a && b && c) ≡ true → c ≡ true
-    last_of true true c e = e
-    last_of true false c e = absurd (cc e)
-    last_of false b c e = absurd (cc e)
+    let parts = both (length all % 512 == 0 && nat_le 512 (length all)) (nat_le (length all) 16384) whole in
+    let blocks = (both (length all % 512 == 0) (nat_le 512 (length all)) parts.0).0 in
+    subst AreBlocks c.1 (record { whole = eqb-true (length all % 512) 0 blocks; few = leb-true (length all) 16384 parts.1 })
 
-plain_writing : (form : Form) (opcode : ℕ) (ws : List (List ℕ)) → IfOk (writing_blocks form opcode ws) IsPlain
-plain_writing form opcode [] = tt
-plain_writing form opcode (lba ∷ []) = tt
-plain_writing form opcode (lba ∷ content ∷ tail) =
+plain_writing : (form : Form) (opcode : ℕ) (ws : List (List ℕ)) → ((is_bay : Bool) (lba count : ℕ) → count ≤ 32 → data_length_of is_bay (addressed_block form opcode lba count) ≡ 512 * count) → IfOk (writing_blocks form opcode ws) IsPlain
+plain_writing form opcode [] d = tt
+plain_writing form opcode (lba ∷ []) d = tt
+plain_writing form opcode (lba ∷ content ∷ tail) d =
     then_fits IsPlain (number 0 4294967295 lba) _ (λ l e. then_fits IsPlain (bytes_of (pieces content)) _ (λ bytes k.
-    record { block = addressed_length form opcode l _; short = bytes_few (pieces content) bytes k; payload = omega arith; fills = λ t. refl }))
+    let b = are_blocks (pieces content) bytes k in
+    let few = b.few in
+    record {
+      block = addressed_length form opcode l _;
+      short = b.few;
+      payload = omega arith;
+      fills = λ t. refl;
+      brought = λ is_bay t. d is_bay l (length bytes / 512) (omega arith) ∙ blocks_in (length bytes) b.whole;
+      answered = λ is_bay t. absurd (cc t);
+    }))
 
-plain_block_fits : (opcode fourth len : ℕ) → len ≤ 16384 → IsPlain (bringing (plain_block opcode fourth) len)
-plain_block_fits opcode fourth len few = plain_bringing (plain_block opcode fourth) len refl few
+plain_block_fits : (opcode fourth len : ℕ) → len ≤ 16384 → IsAnswered (plain_block opcode fourth) len → IsPlain (bringing (plain_block opcode fourth) len)
+plain_block_fits opcode fourth len few a = plain_bringing (plain_block opcode fourth) len refl few a
 
 plain_command : (verb : Verb) (ws : List (List ℕ)) → IfOk (command verb ws) IsPlain
-plain_command verbs.Ready ws = plain_block_fits 0x00 0 0 (omega arith)
-plain_command verbs.Inquiry ws = plain_block_fits 0x12 36 36 (omega arith)
-plain_command verbs.Start ws = plain_block_fits 0x1B 1 0 (omega arith)
-plain_command verbs.Stop ws = plain_block_fits 0x1B 0 0 (omega arith)
-plain_command verbs.Eject ws = plain_block_fits 0x1B 2 0 (omega arith)
-plain_command verbs.Load ws = plain_block_fits 0x1B 3 0 (omega arith)
-plain_command verbs.Prevent ws = plain_block_fits 0x1E 1 0 (omega arith)
-plain_command verbs.Allow ws = plain_block_fits 0x1E 0 0 (omega arith)
-plain_command verbs.Capacity ws = plain_block_fits 0x25 0 8 (omega arith)
-plain_command verbs.Sync ws = plain_block_fits 0x35 0 0 (omega arith)
-plain_command verbs.Read ws = plain_reading Ten 0x28 ws
-plain_command verbs.Read12 ws = plain_reading Twelve 0xA8 ws
+plain_command verbs.Ready ws = plain_block_fits 0x00 0 0 (omega arith) tests_ready
+plain_command verbs.Inquiry ws = plain_block_fits 0x12 36 36 (omega arith) inquires
+plain_command verbs.Start ws = plain_block_fits 0x1B 1 0 (omega arith) starts
+plain_command verbs.Stop ws = plain_block_fits 0x1B 0 0 (omega arith) stops
+plain_command verbs.Eject ws = plain_block_fits 0x1B 2 0 (omega arith) ejects
+plain_command verbs.Load ws = plain_block_fits 0x1B 3 0 (omega arith) loads
+plain_command verbs.Prevent ws = plain_block_fits 0x1E 1 0 (omega arith) prevents
+plain_command verbs.Allow ws = plain_block_fits 0x1E 0 0 (omega arith) allows
+plain_command verbs.Capacity ws = plain_block_fits 0x25 0 8 (omega arith) tells_capacity
+plain_command verbs.Sync ws = plain_block_fits 0x35 0 0 (omega arith) synchronizes
+plain_command verbs.Read ws = plain_reading Ten 0x28 ws reads_ten
+plain_command verbs.Read12 ws = plain_reading Twelve 0xA8 ws reads_twelve
 plain_command verbs.Verify ws = plain_verifying ws
-plain_command verbs.Write ws = plain_writing Ten 0x2A ws
-plain_command verbs.Write12 ws = plain_writing Twelve 0xAA ws
+plain_command verbs.Write ws = plain_writing Ten 0x2A ws writes_ten
+plain_command verbs.Write12 ws = plain_writing Twelve 0xAA ws writes_twelve
 
 -- segments that are given: 64 at most, and together they are the buffer
 record AreSegments (total : ℕ) (segs : List ℕ) : Type 0 where
@@ -186,7 +208,7 @@ end_fits ws cmd p =
   where
     then_segments : (r : Result (List ℕ) LineFault) → IfOk r (AreSegments cmd.length) → IfOk (r >>= λ segs. max_payload (behind Pay ws) >>= λ most. Ok (record cmd { segments = segs; max_payload = most })) FitsBuffer
     then_segments (Ok segs) s =
-        then_fits FitsBuffer (max_payload (behind Pay ws)) _ (λ most k. (command_is cmd segs most p s (max_payload_fits (behind Pay ws) most k), record { payload = p.fills; segments = s.sums }))
+        then_fits FitsBuffer (max_payload (behind Pay ws)) _ (λ most k. (command_is cmd segs most p s (max_payload_fits (behind Pay ws) most k), record { payload = p.fills; segments = s.sums; brought = p.brought; answered = p.answered }))
     then_segments (Err fault) s = tt
 
 cmd_fits : (verb : Option Verb) (ws : List (List ℕ)) → IfOk (cmd_of verb ws) FitsBuffer

@@ -1,5 +1,6 @@
 pub mod EventBytes
 pub mod OwnIds
+pub mod Brings
 pub mod Fits
 pub mod Entries
 pub mod Kept

@@ -1,8 +1,9 @@
 -- The laws of the wire over every run of a world: each line of it is a list of moves of the wire.
-use Rattle.std.specs.Prelude.{◌≡◌, ◌≤◌, ◌<◌, ℕ, suc, ◌+◌, ◌^◌, Bool, false, List, [], ◌∷◌, ◌++◌, length, map, sum, slice_index_or}
+use Rattle.std.specs.Prelude.{◌≡◌, ◌≤◌, ◌<◌, ℕ, suc, ◌+◌, ◌^◌, Bool, true, false, List, [], ◌∷◌, ◌++◌, length, map, sum, slice_index_or}
 use Rattle.std.specs.List.{All}
 use Rattle.sbp_initiator.specs.Acting.{IsAction}
 use Rattle.sbp_world.specs.FitInitiator.{BytesAction}
+use Rattle.rbc_disk.specs.Runs.{answer_length_of, data_length_of}
 use Rattle.sbp_journal.specs.Run.{Moment, asked, said, history}
 use Rattle.sbp_journal.specs.declared.event.Action.{Action}
 use Rattle.sbp_journal.specs.declared.event.Action.TheVariants as actions
@@ -25,10 +26,13 @@ pub record HasIds (physical : List ℕ) (nodes : ℕ) : Type 0 where
   pub small : (i : ℕ) → i < length physical → slice_index_or physical i 0 ≤ 62
   pub apart : (i j : ℕ) → i < length physical → j < length physical → slice_index_or physical i 0 ≡ slice_index_or physical j 0 → i ≡ j
 
--- A command fills its buffer: the data that it brings to the target, and its segments, where it has any.
+-- A command fills its buffer, whether its unit is a bay or not (NCITS 325-1998, data descriptor): to the target it brings as many data as its command
+-- block says; to the initiator as many bytes as the answer to that block has are brought; and its segments, where it has any, make up the buffer.
 pub record FillsBuffer (cmd : Cmd) : Type 0 where
   pub payload : cmd.to_initiator ≡ false → length cmd.payload ≡ cmd.length
   pub segments : 0 < length cmd.segments → sum cmd.segments ≡ cmd.length
+  pub brought : (is_bay : Bool) → cmd.to_initiator ≡ false → data_length_of is_bay cmd.cdb ≡ cmd.length
+  pub answered : (is_bay : Bool) → cmd.to_initiator ≡ true → answer_length_of is_bay cmd.cdb ≡ cmd.length
 
 abbrev pub FillsAction : Action → Type 0
 FillsAction (actions.Put cmd) = FillsBuffer cmd
