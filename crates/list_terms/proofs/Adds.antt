@@ -2,13 +2,12 @@
 use Rattle.std.proofs.Common.{◌≡◌, ◌∙◌, refl, sym, ap, not, ◌==◌, ◌+◌, ℕ, Bool, true, false, List, [], ◌∷◌, ◌++◌, length, Option, Some, None}
 use Rattle.async_packet.specs.Labels.{LabelParts}
 use Rattle.sbp_bus.specs.Generations.{node_of}
-use Rattle.sbp_journal.specs.declared.event.Event.{Event}
 use Rattle.sbp_journal.specs.declared.note.Note.{Note}
 use Rattle.sbp_journal.specs.declared.note.Note.TheVariants as notes
 use Rattle.sbp_journal.specs.declared.outbox.Outgoing.{Outgoing}
 use Rattle.sbp_journal.specs.declared.side.Side.{Side}
 use Rattle.sbp_journal.specs.declared.side.Side.TheVariants as sides
-use Rattle.sbp_journal.specs.Run.{Moment, asked, said}
+use Rattle.sbp_journal.specs.Run.{Moment, said}
 use Rattle.sbp_laws.specs.Terms.{ends, ran_status, runs}
 use Rattle.sbp_world.specs.Sending.{asked as under_way, posted, sent, sent_all, sent_to}
 use Rattle.sbp_world.specs.Telling.{told, told_all}
@@ -65,9 +64,6 @@ module _ (wild : ℕ → Bool) where
     law = λ l. b.law (a.law l);
     passes = λ l. b.passes (a.passes l);
   }
-
-  pub adds_asked : (line : ℕ) (event : Event) (ms : List Moment) → Adds ms (asked line event ∷ ms)
-  adds_asked line event ms = record { later = asked line event ∷ []; is = refl; ends_are = λ i n. refl; cuts_are = λ i n. refl; runs_are = λ i n k. refl; ran_are = λ i n k. refl; law = λ l. (tt, l); passes = λ l. (tt, l) }
 
   pub adds_note : (note : Note) (ms : List Moment) → IsGood ms note → Adds ms (said note ∷ ms)
   adds_note (notes.Begin a b) ms g = record { later = said (notes.Begin a b) ∷ []; is = refl; ends_are = λ j m. refl; cuts_are = λ j m. refl; runs_are = λ j m k. refl; ran_are = λ j m k. refl; law = λ l. (tt, l); passes = λ l. (tt, l) }

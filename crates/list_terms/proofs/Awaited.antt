@@ -1,5 +1,5 @@
 -- What an agent of the terms waits for is what it waited for before, or a packet that was sent since.
-use Rattle.std.proofs.Common.{arith, ◌≡◌, ◌∙◌, refl, sym, ap, subst, inl, inr, ◌⊎◌, ◌<◌, ◌≤◌, ◌==◌, ◌||◌, not, ℕ, zero, suc, ◌+◌, Bool, true, false, cond, List, [], ◌∷◌, ◌++◌, map, Option, Some, None, Result, Ok, Err}
+use Rattle.std.proofs.Common.{arith, ◌≡◌, ◌∙◌, refl, sym, ap, inl, inr, ◌⊎◌, ◌<◌, ◌≤◌, ◌==◌, ◌||◌, not, ℕ, zero, suc, ◌+◌, Bool, true, false, cond, List, [], ◌∷◌, ◌++◌, map, Option, Some, None, Result, Ok, Err}
 use Rattle.std.specs.Prelude.{is_none, position, slice_set, unwrap_or}
 use Rattle.bus_transactions.specs.Packets.{SerialsCount}
 use Rattle.command_agent.specs.declared.step.AgentStep.{AgentStep}
@@ -32,7 +32,7 @@ use Rattle.sbp_journal.specs.declared.note.Note.{Note}
 use Rattle.sbp_journal.specs.declared.note.Note.TheVariants as notes
 use Rattle.sbp_journal.specs.declared.operation.FunctionWord.TheVariants as functions
 use Rattle.sbp_laws.specs.Packets.{access_in_bytes, access_at, answer_in, answered_at, id_for, packet_at, receiver_in, sender_in}
-use Rattle.sbp_laws.specs.Targets.{Agent, Decided, Purpose, Reply, Target, agent_at, agent_over, ahead_lost, closed, cut_agent, cut_where, decided_by, keep_decided, plain_for, reply_of, untold_by, effect_on, enters_in, for_agent, for_manager, for_nobody, going_on, got_by, is_nothing, is_serial, is_write_access, key_by, known_at, main_lost, managed_by, manager_step, moved, new_agent, on_unit, over, pointed_by, points, purpose_of, register_got, replied, replied_to, request_got, reset_seen, rings, sends_of, sent_as, sent_for, start_got, started_by, taken_on, target_at, target_by, told_in, wants, wants_it, with_untold}
+use Rattle.sbp_laws.specs.Targets.{Agent, Decided, Purpose, Reply, Target, agent_at, agent_over, closed, cut_agent, cut_where, decided_by, keep_decided, plain_for, reply_of, untold_by, effect_on, enters_in, for_agent, for_manager, for_nobody, going_on, got_by, is_nothing, is_serial, is_write_access, key_by, known_at, main_lost, managed_by, manager_step, moved, new_agent, on_unit, over, pointed_by, points, purpose_of, register_got, replied, replied_to, request_got, reset_seen, rings, sends_of, sent_as, sent_for, start_got, started_by, taken_on, target_at, target_by, told_in, wants, wants_it, with_untold}
 use Rattle.sbp_laws.specs.Turns.{event_of}
 use Rattle.agent_terms.specs.AskedRuns.{serial_of}
 use Rattle.agent_terms.specs.Crews.{agent_in}
@@ -115,13 +115,6 @@ module _ (n : ℕ) where
       by true = self n a
       by false = moves (steps.lost_step a.machine Main causes.Label) a
 
-  loses_ahead : (a : Agent) → Newer n a (ahead_lost a)
-  loses_ahead a = by (is_nothing a.asks_ahead)
-    where
-      by : (b : Bool) → Newer n a (cond b a (record a { machine = (steps.lost_step a.machine Ahead causes.Label).1; asks_ahead = Nothing }))
-      by true = self n a
-      by false = self n a
-
   ends : (a : Agent) → Newer n a (agent_over a)
   ends a = then_newer n a (main_lost a) (agent_over a) (loses a) (both_same n (main_lost a) (agent_over a) (main_same (is_nothing (main_lost a).asks_ahead)) (ahead_same (is_nothing (main_lost a).asks_ahead)))
     where
@@ -168,9 +161,6 @@ module _ (n : ℕ) where
 
   pub then_goes : (a b c : List Agent) → Goes a b → Goes b c → Goes a c
   then_goes a b c f g = λ p. then_newer n (agent_in a p) (agent_in b p) (agent_in c p) (f p) (g p)
-
-  as_goes : (a b c : List Agent) → c ≡ b → Goes a b → Goes a c
-  as_goes a b c e g = subst (Goes a) (sym e) g
 
   set_goes : (agents : List Agent) (k : ℕ) (x : Agent) → Newer n (agent_in agents k) x → Goes agents (slice_set agents k x)
   set_goes [] k x h p = self n (agent_in [] p)

@@ -1,5 +1,5 @@
 -- A packet is delivered to the target: behind the whole turn each packet of an operation asks for what the operation asked for.
-use Rattle.std.proofs.Common.{arith, ◌≡◌, ◌≢◌, ◌∙◌, refl, sym, ap, subst, ℕ, ◌^◌, ◌<◌, ◌≤◌, not, is_some, Bool, true, false, cond, List, [], ◌∷◌, ◌++◌, length, Option, Some, None, Result, Ok, Err}
+use Rattle.std.proofs.Common.{arith, ◌≡◌, ◌≢◌, ◌∙◌, refl, sym, ap, subst, ℕ, ◌^◌, ◌<◌, ◌≤◌, not, is_some, Bool, true, false, cond, List, [], ◌∷◌, ◌++◌, length, Option, Some, None, Result, Ok}
 use Rattle.std.specs.Prelude.{unwrap_or}
 use Rattle.std.proofs.lemmas.Bool.Decides.{nat_tests}
 use Rattle.async_packet.specs.declared.fault.PacketFault.{PacketFault}
@@ -16,7 +16,6 @@ use Rattle.label_table.specs.Requests.{reply_kind}
 use Rattle.login_table.specs.Table.{Table}
 use Rattle.mgmt_agent.specs.declared.decision.ManagerStep.{ManagerStep}
 use Rattle.mgmt_agent.specs.Machine as management
-use Rattle.mgmt_agent.specs.Machine.{source_in}
 use Rattle.packet_store.specs.declared.sent.Sent.{Sent}
 use Rattle.packet_store.specs.Kept.{found_sent}
 use Rattle.rbc_disk.specs.Disk.{Disk}
@@ -40,8 +39,6 @@ use Rattle.bus_transactions.proofs.MoveAnswer.{answer_packet}
 use Rattle.label_table.specs.Bodies.{Gives, response_to}
 use Rattle.label_table.specs.Judging.{row_of}
 use Rattle.label_table.specs.Layer.{answering_step}
-use Rattle.mgmt_agent.specs.declared.operation.Busy.{Busy}
-use Rattle.orb_layout.specs.declared.ask.Ask.{Ask}
 use Rattle.sbp_journal.specs.Addresses.{start_at, start_serves}
 use Rattle.sbp_laws.specs.Packets as laws
 use Rattle.sbp_laws.specs.Targets.{start_got}
@@ -132,12 +129,7 @@ manage_of (demands.Refused rcode) node p bytes layer source before m = absurd m
 manage_of (demands.Rom at len) node p bytes layer source before m = absurd m
 manage_of (demands.Agent place access) node p bytes layer source before m = absurd m
 
--- an operation that is started keeps what the terms have of a request
-started_manages : (r : Result Ask Busy × management.Machine) (o : Office) → (started_by r o).manages ≡ o.manages
-started_manages (Ok ask, m) o = refl
-started_manages (Err busy, m) o = refl
-
--- and asks for the ORB
+-- an operation that is started asks for the ORB
 started_asks : (m : management.Machine) (source orb : ℕ) (o : Office) → m.operation ≡ None → orb < 2 ^ 48 → FitsAsk (started_by (management.start_with m.operation m source orb) o).asks
 started_asks m source orb o e small = subst (λ x. FitsAsk (started_by (management.start_with x m source orb) o).asks) (sym e) small
 

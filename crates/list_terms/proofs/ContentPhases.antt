@@ -34,7 +34,7 @@ use Rattle.sbp_journal.specs.Wire.{Terms}
 use Rattle.sbp_laws.specs.Packets.{access_at, access_in_bytes, answer_in, answered_at, id_for, packet_at, receiver_in, sender_in}
 use Rattle.sbp_laws.specs.Targets.{Decided, Target, got_by, is_nothing, is_serial, is_write_access, key_by, known_at, over, replied as laws_replied, request_got, reset_seen, sent_as, sent_for, taken_on, target_at, target_by, wants, wants_it}
 use Rattle.sbp_laws.specs.Turns.{event_of}
-use Rattle.agent_terms.specs.Management.Offices.{Office, at_rest, by_managed, by_note, office_of, placed, placed_by, replied, started, started_by}
+use Rattle.agent_terms.specs.Management.Offices.{Office, by_managed, by_note, office_of, placed, placed_by, replied, started, started_by}
 use Rattle.agent_terms.proofs.Management.Firsts.{other_reply, own_reply, request_keeps, served_office, start_office}
 use Rattle.agent_terms.proofs.Management.Offices.{IsBehind, note_changes, over_keeps, taken_keeps}
 
@@ -157,9 +157,6 @@ behind_sits note past wire t h s = subst Sits (sym (note_changes note past wire 
 -- ---- the first note of a turn, and packets
 rests : (t : Target) → Sits (office_of (over t))
 rests t = subst Sits (sym (over_keeps t)) (sits_nothing t.manager.operation Nothing t.manager.outgoing refl)
-
-rest_office : (t : Target) → Sits (at_rest (office_of t))
-rest_office t = sits_nothing t.manager.operation Nothing t.manager.outgoing refl
 
 replied_here : (serial : ℕ) (answer : Answer) (t : Target) → Sits (office_of (laws_replied serial answer (over t)))
 replied_here serial answer t = by (is_serial (over t).manages serial) refl

@@ -1,5 +1,5 @@
 -- Two worlds that look alike: who has the places, the initiators and the notes of the line. What is told of an agent leaves them so.
-use Rattle.std.proofs.Common.{◌≡◌, ◌∙◌, refl, sym, ap, subst, ℕ, nat_lt, Bool, false, cond, List, ◌∷◌, length, map, ◌++◌, Option, None}
+use Rattle.std.proofs.Common.{◌≡◌, ◌∙◌, sym, ap, subst, ℕ, nat_lt, Bool, false, cond, List, ◌∷◌, length, map, ◌++◌, Option, None}
 use Rattle.std.specs.Prelude.{slice_index_or}
 use Rattle.command_agent.specs.Machine.{Machine}
 use Rattle.orb_layout.specs.declared.ask.FailCause.{FailCause}
@@ -26,9 +26,6 @@ pub record Looks (x y : WorldState) : Type 0 where
   pub places : x.places ≡ y.places
   pub initiators : x.initiators ≡ y.initiators
   pub fresh : x.fresh ≡ y.fresh
-
-pub looks_self : (x : WorldState) → Looks x x
-looks_self x = record { places = refl; initiators = refl; fresh = refl }
 
 pub looks_as : (x y z : WorldState) → x ≡ y → Looks y z → Looks x z
 looks_as x y z e l = subst (λ (a : WorldState). Looks a z) (sym e) l

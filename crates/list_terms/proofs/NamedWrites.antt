@@ -41,9 +41,6 @@ use Rattle.list_terms.proofs.Walks.{Walks}
 no : false ≡ true → ⊥
 no e = cc
 
-none_packet : (packet : Sending) → None ≡ Some packet → ⊥
-none_packet packet e = cc
-
 -- ---- the list of a write stays
 other_serial : (x serial count : ℕ) → x ≤ count → serial ≡ count + 1 → nat_eq x serial ≡ false
 other_serial x serial count l e = by (nat_eq x serial) refl

@@ -107,9 +107,6 @@ some_place (Some other) place b e = refl
 some_login : (one other : Login) → Some one ≡ Some other → one ≡ other
 some_login one other e = cc
 
-some_command : (A : Type 0) (x y : A) → Some x ≡ Some y → x ≡ y
-some_command A x y e = cc
-
 ids_of : (t u : Terms) → u.generation 0 ≡ t.generation 0 → ((peer : ℕ) → u.ids (t.generation 0) peer ≡ t.ids (t.generation 0) peer) → (peer : ℕ) → id_for u 0 peer ≡ id_for t 0 peer
 ids_of t u g i peer = ap (λ n. u.ids n peer) g ∙ i peer
 

@@ -23,7 +23,6 @@ use Rattle.host_terms.proofs.Runs.{count_after, count_between}
 use Rattle.list_terms.specs.Closes.{Always, Under}
 use Rattle.list_terms.specs.Needs.{IsCalm, OpenAfter, OpenBefore, OpenBetween, OpenIn, OpenLists, OpenWhile, machine_at}
 use Rattle.list_terms.proofs.Calm.{asked_calm, calm_before}
-use Rattle.list_terms.proofs.EarlyTurns.{Stood}
 use Rattle.list_terms.proofs.Kept.{Kept}
 use Rattle.list_terms.specs.Opens.{OpensLaw}
 use Rattle.list_terms.proofs.OpenProved.{opens_law}
@@ -51,9 +50,6 @@ pub record Reached (wild : ℕ → Bool) (units ready : ℕ) (start : List Disk)
 pub record Standing (wild : ℕ → Bool) (units ready : ℕ) (start : List Disk) (past : List Moment) (lines : ℕ) (w : WorldState) : Type 0 where
   pub reached : Reached wild units ready start past lines w
   pub lists : (i : ℕ) → wild i ≡ false → OpenLists (hist past w) w
-
-pub stood_of : (wild : ℕ → Bool) (units ready : ℕ) (start : List Disk) (past : List Moment) (lines : ℕ) (w : WorldState) → Standing wild units ready start past lines w → Stood wild units ready start past lines w
-stood_of wild units ready start past lines w s = record { holds = s.reached.holds; site = s.reached.site; lists = s.lists; calm = s.reached.calm; agents = s.reached.kept.agents }
 
 -- A turn, with what is known of the place before and of the one behind.
 pub record Step (wild : ℕ → Bool) (units ready : ℕ) (start : List Disk) (Q U : List Moment → WorldState → Type 0) (past : List Moment) (s : Scene) (later : List Moment) (t : Scene) : Type 0 where
