@@ -3,3 +3,4 @@ pub mod Places
 pub mod Ahead
 pub mod Lists
 pub mod Order
+pub mod Along

@@ -5,3 +5,4 @@ pub mod Transactions
 pub mod Wire
 pub mod Bells
 pub mod Deaths
+pub mod Along

@@ -13,9 +13,9 @@ use Rattle.sbp_world.specs.Wire.Journal.{journal_run}
 use Rattle.sbp_world.specs.Wire.Lines.{AreLines}
 use Rattle.sbp_world.proofs.Wire.Entries.{bus_law}
 use Rattle.sbp_world.proofs.Wire.Runs.{all_runs}
-use Rattle.host_terms.specs.Runs.{IsRun}
-use Rattle.host_terms.specs.Statuses.Finished.{TakesStatuses}
-use Rattle.host_terms.proofs.Statuses.Finished.{finished_law, once_taken_law}
+use Rattle.sbp_world.specs.Hosts.Runs.{IsRun}
+use Rattle.sbp_world.specs.Hosts.Statuses.Finished.{TakesStatuses}
+use Rattle.sbp_world.proofs.Hosts.Statuses.Finished.{finished_law, once_taken_law}
 use Rattle.script_runner.specs.Events.{events_in, events_of, journal}
 use Rattle.script_runner.specs.Runner.{scene_of}
 use Rattle.sbp_command.specs.Machine.{HasRun}

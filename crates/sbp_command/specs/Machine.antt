@@ -10,7 +10,7 @@ use Rattle.sbp_laws.specs.Lawful.{injectors}
 use Rattle.sbp_laws.specs.OnTheBus.{LawfulOnTheBus}
 use Rattle.sbp_world.specs.Wire.History.{IsOfWire}
 use Rattle.sbp_world.specs.Wire.Journal.{journal_run}
-use Rattle.host_terms.specs.Statuses.Finished.{TakesStatuses}
+use Rattle.sbp_world.specs.Hosts.Statuses.Finished.{TakesStatuses}
 use Rattle.script_runner.specs.Events.{events_of, journal}
 
 -- A run of the machine, over exactly these events and from what the media held at first: its notes, and what it leaves of the media. That is

@@ -6,3 +6,4 @@ pub mod Sound
 pub mod Answered
 pub mod Refused
 pub mod FirstRow
+pub mod Histories

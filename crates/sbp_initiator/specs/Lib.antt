@@ -10,3 +10,4 @@ pub mod Judged
 pub mod Initiators
 pub mod Refusing
 pub mod Steps
+pub mod Histories

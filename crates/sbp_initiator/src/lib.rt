@@ -7,6 +7,7 @@ mod commands;
 mod effects;
 mod fault;
 mod initiator;
+mod laws;
 mod purpose;
 mod receiving;
 mod refusals;
@@ -16,5 +17,11 @@ mod state;
 
 pub use fault::ActFault;
 pub use initiator::Initiator;
+pub use laws::{
+    calls_tell, deliveries_are_judged, first_row_refuses, lists_are_known, no_number_comes_back,
+    packets_are_the_layers, pointers_are_written, pointing_is_a_write_under_way,
+    session_goes_by_its_table, slots_and_rom_are_read, slots_take_their_calls, values_rise,
+    waiting_orbs_are_taken,
+};
 pub use purpose::{Demand, Ending, ListMarks, Pointing, Purpose, Running, Wanted};
 pub use state::{Counts, InitiatorState};

@@ -8,3 +8,4 @@ pub mod Leaving
 pub mod Faults
 pub mod Acting
 pub mod Reached
+pub mod Histories

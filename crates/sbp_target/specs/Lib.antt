@@ -13,3 +13,4 @@ pub mod Targets
 pub mod Counting
 pub mod Faults
 pub mod Calls
+pub mod Histories

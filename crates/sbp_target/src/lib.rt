@@ -3,6 +3,7 @@
 #![tactic(auto)]
 
 mod desk;
+mod laws;
 mod media;
 mod node;
 mod purpose;
@@ -11,6 +12,10 @@ mod target;
 mod telling;
 
 pub use desk::Desk;
+pub use laws::{
+    calls_are_steps_of_the_layer, changes_are_told_in_order, first_row_has_its_rcode,
+    labels_are_the_lowest, requests_are_answered_first, transactions_are_waited_for,
+};
 pub use node::Node;
 pub use purpose::{Purpose, Sent};
 pub use target::Target;

@@ -19,3 +19,8 @@ pub mod LineForms
 pub mod FitTarget
 pub mod FitInitiator
 pub mod Wire
+pub mod Hosts
+pub mod Agents
+pub mod Sessions
+pub mod Pointers
+pub mod Lists

@@ -14,3 +14,8 @@ pub mod Histories
 pub mod FitTarget
 pub mod FitInitiator
 pub mod Wire
+pub mod Hosts
+pub mod Agents
+pub mod Sessions
+pub mod Pointers
+pub mod Lists

@@ -1,6 +1,0 @@
--- Each call keeps an agent along its list.
-use Rattle.agent_lists.proofs.Tested.{calls_keep_along}
-use Rattle.agent_lists.proofs.laws.calls_keep_agents_along.Goals as goal
-
-pub returns : goal.returns
-returns c = calls_keep_along

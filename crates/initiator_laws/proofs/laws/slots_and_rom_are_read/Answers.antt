@@ -1,6 +1,0 @@
-use Rattle.initiator_laws.proofs.Served.{reads_law}
-use Rattle.initiator_laws.proofs.laws.slots_and_rom_are_read.Goals as goal
-
--- src/laws.rt:36:1
-pub returns : goal.returns
-returns c = reads_law

@@ -1,9 +1,0 @@
--- What is known of the moments of lists gives the law.
-use Rattle.list_terms.proofs.OpenPresents.{present_law}
-use Rattle.list_terms.proofs.laws.present_lists_are_the_latest.Goals as goal
-
-pub moments_stand_as_they_may-requires : goal.moments_stand_as_they_may-requires
-moments_stand_as_they_may-requires c = tt
-
-pub returns : goal.returns
-returns c = present_law c.moments_stand_as_they_may.ensures

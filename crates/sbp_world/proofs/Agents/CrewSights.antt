@@ -1,0 +1,156 @@
+-- The target sees a generation, a second passes, or a unit gets a key: behind the turn the agents of the terms are the target's.
+use Rattle.std.proofs.Common.{arith, ◌≡◌, ◌∙◌, refl, sym, ap, subst, ℕ, ◌<◌, ◌≤◌, not, nat_eq, nat_lt, Bool, true, false, cond, List, [], length}
+use Rattle.std.proofs.lemmas.Bool.Decides.{nat_tests}
+use Rattle.bus_transactions.specs.Wire.{Node}
+use Rattle.label_table.specs.Layer.{Layer, seeing_step, seen_in_generation}
+use Rattle.rbc_disk.specs.Disk.{Disk}
+use Rattle.sbp_bus.specs.Generations.{id_of}
+use Rattle.sbp_journal.specs.Run.{Moment}
+use Rattle.sbp_journal.specs.Wire.{Terms, terms}
+use Rattle.sbp_journal.specs.declared.note.Note.TheVariants as notes
+use Rattle.sbp_journal.specs.declared.outbox.Outgoing.{Outgoing}
+use Rattle.sbp_laws.specs.Targets.{Agent, Target, over, reset_seen, target_by}
+use Rattle.sbp_target.specs.declared.purpose.Purpose.{Purpose}
+use Rattle.sbp_target.specs.Calls.{alone, sees, ticks}
+use Rattle.sbp_target.specs.Nodes.{Scene as TargetScene}
+use Rattle.sbp_target.specs.Receiving.{with_key}
+use Rattle.sbp_world.specs.Handing.{handed_out}
+use Rattle.sbp_world.specs.Nodes.{told_seen, with_seen}
+use Rattle.sbp_world.specs.Worlds.{WorldState, with_note, with_target}
+use Rattle.sbp_world.specs.Wire.Wires.{Stands}
+use Rattle.sbp_world.proofs.Wire.Bus.{aged, holds}
+use Rattle.sbp_world.proofs.Wire.Forgets.{seen_stays, ticked_stays}
+use Rattle.sbp_target.proofs.Histories.Calling.{Good}
+use Rattle.sbp_world.specs.Agents.Management.Calls as management
+use Rattle.sbp_world.specs.Agents.Management.Offices.{Office, office_of, ticked}
+use Rattle.sbp_world.proofs.Agents.Management.Calls.{forgets_if}
+use Rattle.sbp_world.proofs.Agents.Management.Firsts.{wire_is}
+use Rattle.sbp_world.proofs.Agents.Management.Holding.{Holding, target_generation}
+use Rattle.sbp_world.proofs.Agents.Management.Resting.{second_rests, sight_rests}
+use Rattle.sbp_world.proofs.Agents.Management.Still.{hist}
+use Rattle.sbp_world.proofs.Agents.Management.Told.{term_in}
+use Rattle.sbp_world.specs.Agents.Calls.{AreOf, seen}
+use Rattle.sbp_world.specs.Agents.Crews.{Request, with_requests}
+use Rattle.sbp_world.specs.Agents.Hands.{AllLeave}
+use Rattle.sbp_world.proofs.Agents.CrewFirsts.{T, agrees, before, crew_keeps, none_waits, o}
+use Rattle.sbp_world.proofs.Agents.CrewTurns.{Begins, quiet_begins, turned_crew}
+use Rattle.sbp_world.proofs.Agents.Notes.{notes_law}
+use Rattle.sbp_world.proofs.Agents.Purposes.{g}
+
+seen_test : (l g t : ℕ) → l ≤ g → t ≡ l → not (nat_eq g t) ≡ nat_lt l g
+seen_test l g t a e = by_case (nat_lt l g) refl
+  where
+    by_case : (b : Bool) → nat_lt l g ≡ b → not (nat_eq g t) ≡ nat_lt l g
+    by_case true f = let z : nat_eq g t ≡ false = grind (arith, nat_tests) in ap not z ∙ sym f
+    by_case false f = let z : nat_eq g t ≡ true = grind (arith, nat_tests) in ap not z ∙ sym f
+
+flag_by : (b : Bool) (x y : Layer Purpose) → (cond {A = Bool × Layer Purpose} b (true, x) (false, y)).0 ≡ b
+flag_by true x y = refl
+flag_by false x y = refl
+
+step_flag : (layer : Layer Purpose) (g id : ℕ) → (seeing_step layer g id).0 ≡ nat_lt layer.generation g
+unfolding seeing_step
+step_flag layer g id = flag_by (nat_lt layer.generation g) (seen_in_generation layer g id) layer
+
+-- a reset that is seen
+seen_office : (later : Bool) (t : Target) → office_of (reset_seen later t) ≡ management.seen later (office_of t)
+seen_office true t = refl
+seen_office false t = refl
+
+seen_rests : (later : Bool) (t : Target) → (reset_seen later t).reply ≡ t.reply
+seen_rests true t = refl
+seen_rests false t = refl
+
+none_leave : (packets : List Outgoing) (v : WorldState) → packets ≡ [] → AllLeave v.generations packets
+none_leave packets v e = subst (AllLeave v.generations) (sym e) tt
+
+module _ (units ready : ℕ) (has : 0 < units) (start : List Disk) {past : List Moment} {lines : ℕ} (w : WorldState) (h : Holding units ready start past lines w) where
+  abbrev stands : Stands past w
+  stands = h.sound.stands
+
+  abbrev G : Good w.target
+  G = g units ready has start w h
+
+  abbrev own_office : Office
+  own_office = o units ready has start w h
+
+  abbrev own_terms : Target
+  own_terms = T units ready has start w h
+
+  abbrev t : Terms
+  t = terms (hist past w)
+
+  -- ---- a second
+  abbrev second : TargetScene
+  second = alone ticks w.target
+
+  abbrev second_world : WorldState
+  second_world = with_target second.node (with_note notes.Tick w)
+
+  second_begins : Begins (ticked own_office) own_terms.agents second.outbox.sides (term_in start past second_world)
+  second_begins = quiet_begins (ticked own_office) own_terms.agents second.outbox.sides (term_in start past second_world) (none_waits units ready has start w h) refl refl
+
+  pub second_crew : (requests : List Request) → AreOf requests own_terms.agents w.target → AreOf (with_requests second_world.store.last second.outbox.packets requests) (over (term_in start past (handed_out 0 0 second.outbox second_world))).agents second.node
+  second_crew requests are =
+      turned_crew start past requests (ticked own_office) own_terms.agents second second_world second_begins
+      (second_rests own_office w.target (agrees units ready has start w h) G.table.sound).says.behind
+      (none_leave second.outbox.packets second_world (ticked_stays w.target).silent.unsent)
+      ((crew_keeps units ready has start w h requests are).seconds)
+
+  -- ---- a sight of the latest generation
+  abbrev now : ℕ
+  now = w.generations.latest.generation
+
+  abbrev own_id : ℕ
+  own_id = id_of w.generations.latest 0
+
+  abbrev sight : TargetScene
+  sight = alone (sees now own_id) w.target
+
+  abbrev sight_world : WorldState
+  sight_world = with_target sight.node (with_seen 0 (told_seen 0 w))
+
+  abbrev is_later : Bool
+  is_later = (seeing_step w.target.layer now own_id).0
+
+  record Ages : Type 0 where
+    below : w.target.layer.generation ≤ now
+    same : t.generation 0 ≡ w.target.layer.generation
+
+  ages : Ages
+  ages =
+      let there : 0 ≤ length w.initiators = omega arith in
+      let layer_is : (stands.wire.layer 0).generation ≡ w.target.layer.generation = ap (λ (l : Node). l.generation) (stands.is.layers_are 0 there) in
+      let a = aged stands.wire 0 stands.reached in
+      let b = stands.is.bus_is in
+      let c = (holds stands.wire stands.reached).bus_is in
+      record {
+        below = omega arith;
+        same = target_generation w stands ∙ sym (stands.is.sights 0 there) ∙ layer_is;
+      }
+
+  later_is : not (nat_eq now (t.generation 0)) ≡ is_later
+  later_is = seen_test w.target.layer.generation now (t.generation 0) ages.below ages.same ∙ sym (step_flag w.target.layer now own_id)
+
+  sight_is : term_in start past sight_world ≡ reset_seen is_later own_terms
+  sight_is =
+      ap (λ (x : Terms). target_by (notes.Seen 0 now) (hist past w) x (before units ready has start w h)) (wire_is start (hist past w))
+      ∙ ap (λ b. reset_seen b own_terms) later_is
+
+  sight_begins : Begins (management.seen is_later own_office) (seen is_later own_terms.agents) sight.outbox.sides (term_in start past sight_world)
+  sight_begins =
+      subst (Begins (management.seen is_later own_office) (seen is_later own_terms.agents) sight.outbox.sides) (sym sight_is)
+      (quiet_begins (management.seen is_later own_office) (seen is_later own_terms.agents) sight.outbox.sides (reset_seen is_later own_terms)
+      (seen_rests is_later own_terms ∙ none_waits units ready has start w h) (notes_law.resets is_later own_terms) (seen_office is_later own_terms))
+
+  pub sight_crew : (requests : List Request) → AreOf requests own_terms.agents w.target → AreOf (with_requests sight_world.store.last sight.outbox.packets requests) (over (term_in start past (handed_out 0 0 sight.outbox sight_world))).agents sight.node
+  sight_crew requests are =
+      turned_crew start past requests (management.seen is_later own_office) (seen is_later own_terms.agents) sight sight_world sight_begins
+      (sight_rests now own_id own_office w.target G.lives (forgets_if w.target G now own_id (nat_lt w.target.layer.generation now) refl) (agrees units ready has start w h) G.table.sound).says.behind
+      (none_leave sight.outbox.packets sight_world (seen_stays now own_id w.target).silent.unsent)
+      ((crew_keeps units ready has start w h requests are).sights now own_id)
+
+  -- ---- a key: the desks are as before
+  pub key_crew : (requests : List Request) (unit : ℕ) (key : List ℕ) (agents : List Agent) → agents ≡ own_terms.agents → AreOf requests own_terms.agents w.target → AreOf requests agents (with_key unit key w.target)
+  key_crew requests unit key agents e are =
+      subst (λ xs. AreOf requests xs (with_key unit key w.target)) (sym e) (record { size = are.size; each = are.each })

@@ -1,0 +1,111 @@
+-- A request that was made of a body writes where its body does.
+use Rattle.std.proofs.Common.{◌≡◌, ◌∙◌, refl, ap, subst, ℕ, ◌+◌, ◌*◌, ◌/◌, ◌%◌, ◌^◌, ◌<◌, nat_le, Bool, true, false, cond, List, [], ◌∷◌, ◌++◌, length, Option, Some, None, arith}
+use Rattle.std.proofs.lemmas.Bool.Decides.{nat_tests}
+use Rattle.async_packet.specs.Canon.{canon, four, three}
+use Rattle.async_packet.specs.Fields.{largest, tcode_of}
+use Rattle.byteorder.specs.Endian.{big_bytes, big_number}
+use Rattle.byteorder.specs.Numbers.{big_from-bytes}
+use Rattle.label_table.specs.declared.judgement.Asked.{Asked}
+use Rattle.label_table.specs.Bodies.{Body, block_read, block_write, header_to, quadlet_read, quadlet_write, request_with}
+use Rattle.label_table.specs.Layer.{Layer, asked_at, asking_in, asking_step, peer_at, peer_place, unlabelled}
+use Rattle.label_table.specs.Peers.{begun_for}
+use Rattle.label_table.specs.Requests.{is_write, with_label}
+use Rattle.label_table.specs.Table.{begin_at, begin_step, lowest_from}
+use Rattle.orb_layout.specs.declared.ask.Ask.{Ask}
+use Rattle.orb_layout.specs.declared.ask.Ask.TheVariants as ask
+use Rattle.sbp_laws.specs.Targets.{wants}
+use Rattle.sbp_target.specs.declared.purpose.Purpose.{Purpose}
+use Rattle.sbp_target.specs.Agents.{agent_body}
+use Rattle.sbp_target.proofs.Histories.Stepped.{Carries, is_asked}
+use Rattle.sbp_world.proofs.Agents.Management.Requests.{writes_body}
+
+-- ---- the bytes of a request are its body's with its label in them
+
+abbrev Has : List ℕ → Option Asked → Type 0
+Has plain None = Unit {0}
+Has plain (Some asked) = asked.bytes ≡ with_label asked.label.number plain
+
+found_has : (layer : Layer Purpose) (k peer : ℕ) (plain : List ℕ) (purpose : Purpose) (number : Option ℕ) → Has plain (asked_at k layer (begun_for (peer_at layer k) peer purpose (begin_at number (peer_at layer k).table plain))).0
+found_has layer k peer plain purpose None = tt
+found_has layer k peer plain purpose (Some number) = refl
+
+in_has : (found : Option ℕ) (layer : Layer Purpose) (peer : ℕ) (plain : List ℕ) (purpose : Purpose) → Has plain (asking_in found layer peer plain purpose).0
+unfolding begin_step
+in_has None layer peer plain purpose = tt
+in_has (Some k) layer peer plain purpose = found_has layer k peer plain purpose (lowest_from 0 plain (peer_at layer k).table.places)
+
+step_has : (layer : Layer Purpose) (peer : ℕ) (body : Body) (purpose : Purpose) → Has (unlabelled layer peer body) (asking_step layer peer body purpose).0
+unfolding asking_step
+step_has layer peer body purpose = in_has (peer_place peer layer) layer peer (unlabelled layer peer body) purpose
+
+-- ---- they begin with a tcode of 0 or 1 where the body writes
+
+tcode_same : (number : ℕ) (bytes : List ℕ) → tcode_of (with_label number bytes) ≡ tcode_of bytes
+unfolding with_label tcode_of
+tcode_same number [] = refl
+tcode_same number (x ∷ []) = refl
+tcode_same number (x ∷ y ∷ []) = refl
+tcode_same number (x ∷ y ∷ z ∷ bytes) = omega arith
+
+abbrev tcode_for : Body → ℕ
+tcode_for (quadlet_write offset value) = 0
+tcode_for (block_write offset payload) = 1
+tcode_for (quadlet_read offset) = 4
+tcode_for (block_read offset asked) = 5
+
+first_tcode : (peer tcode : ℕ) → tcode < 16 → (peer * 2 ^ 16 + 0 * 2 ^ 10 + 1 * 2 ^ 8 + tcode * 2 ^ 4 + 0) % 256 ^ 4 / 2 ^ 4 % 2 ^ 4 ≡ tcode
+first_tcode peer tcode small = omega arith
+
+quad_tcode : (peer tcode : ℕ) (bytes rest : List ℕ) → tcode < 16 → bytes ≡ big_bytes 4 (peer * 2 ^ 16 + 0 * 2 ^ 10 + 1 * 2 ^ 8 + tcode * 2 ^ 4 + 0) ++ rest → tcode_of bytes ≡ tcode
+unfolding tcode_of
+quad_tcode peer tcode bytes rest small e =
+    ap (λ xs. big_number 4 xs / 2 ^ 4 % 2 ^ 4) e
+    ∙ ap (λ n. n / 2 ^ 4 % 2 ^ 4) (big_from-bytes 4 (peer * 2 ^ 16 + 0 * 2 ^ 10 + 1 * 2 ^ 8 + tcode * 2 ^ 4 + 0) rest)
+    ∙ first_tcode peer tcode small
+
+body_tcode : (node peer : ℕ) (body : Body) → tcode_of (canon (request_with (header_to node peer 0) body)) ≡ tcode_for body
+unfolding three four
+body_tcode node peer (quadlet_write offset value) = quad_tcode peer 0 (canon (request_with (header_to node peer 0) (quadlet_write offset value))) _ (omega arith) refl
+body_tcode node peer (block_write offset payload) = quad_tcode peer 1 (canon (request_with (header_to node peer 0) (block_write offset payload))) _ (omega arith) refl
+body_tcode node peer (quadlet_read offset) = quad_tcode peer 4 (canon (request_with (header_to node peer 0) (quadlet_read offset))) _ (omega arith) refl
+body_tcode node peer (block_read offset asked) = quad_tcode peer 5 (canon (request_with (header_to node peer 0) (block_read offset asked))) _ (omega arith) refl
+
+for_writes : (body : Body) → nat_le (tcode_for body) 1 ≡ writes_body body
+for_writes (quadlet_write offset value) = refl
+for_writes (block_write offset payload) = refl
+for_writes (quadlet_read offset) = refl
+for_writes (block_read offset asked) = refl
+
+pub asked_writes : (layer now : Layer Purpose) (peer : ℕ) (body : Body) (purpose : Purpose) (asked : Asked) → asking_step layer peer body purpose ≡ (Some asked, now) → is_write asked.bytes ≡ writes_body body
+unfolding is_write
+asked_writes layer now peer body purpose asked e =
+    let h : asked.bytes ≡ with_label asked.label.number (unlabelled layer peer body)
+    = subst (λ (r : Option Asked × Layer Purpose). Has (unlabelled layer peer body) r.0) e (step_has layer peer body purpose) in
+    ap (λ bytes. nat_le (tcode_of bytes) 1) h
+    ∙ ap (λ t. nat_le t 1) (tcode_same asked.label.number (unlabelled layer peer body) ∙ body_tcode layer.node peer body)
+    ∙ for_writes body
+
+-- ---- what an agent asks for has a body that does what it wants
+
+pub record HasBody (a : Ask) (b : Option Body) : Type 0 where
+  pub body : Body
+  pub is : b ≡ Some body
+  pub wanted : wants a (writes_body body) ≡ true
+
+read_body : (b : Bool) (offset len : ℕ) → b ≡ true → HasBody (ask.Read offset len) (cond b (Some (block_read offset len)) None)
+read_body true offset len e = record { body = block_read offset len; is = refl; wanted = refl }
+read_body false offset len e = absurd (let no : false ≡ true = e in cc)
+
+write_body : (b : Bool) (offset len at : ℕ) (outgoing : List ℕ) → b ≡ true → HasBody (ask.Write offset len) (cond b (Some (block_write at outgoing)) None)
+write_body true offset len at outgoing e = record { body = block_write at outgoing; is = refl; wanted = refl }
+write_body false offset len at outgoing e = absurd (let no : false ≡ true = e in cc)
+
+pub has_body : (a : Ask) (fin : Bool) (fifo : ℕ) (outgoing : List ℕ) → Carries a outgoing → is_asked a ≡ true → HasBody a (agent_body a fin fifo outgoing)
+has_body ask.Nothing fin fifo outgoing c e = absurd (let no : false ≡ true = e in cc)
+has_body (ask.Read offset len) fin fifo outgoing c e = read_body (nat_le len largest) offset len (grind (arith, nat_tests))
+has_body (ask.Write offset len) fin fifo outgoing c e = write_body (nat_le (length outgoing) largest) offset len (cond fin fifo offset) outgoing (grind (arith, nat_tests))
+
+pub no_body : (a : Ask) (fin : Bool) (fifo : ℕ) (outgoing : List ℕ) → is_asked a ≡ false → agent_body a fin fifo outgoing ≡ None
+no_body ask.Nothing fin fifo outgoing e = refl
+no_body (ask.Read offset len) fin fifo outgoing e = absurd (let no : true ≡ false = e in cc)
+no_body (ask.Write offset len) fin fifo outgoing e = absurd (let no : true ≡ false = e in cc)

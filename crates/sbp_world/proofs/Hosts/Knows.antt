@@ -1,0 +1,105 @@
+-- What the wire that a world stands for tells of its initiators: what a packet is that the store has, the generation that an initiator is in,
+-- and that its target is a node.
+use Rattle.std.proofs.Common.{arith, ◌≡◌, refl, sym, ◌∙◌, ap, ℕ, suc, ◌<◌, ◌≤◌, not, nat_eq, nat_lt, Bool, true, false, List, length, Option, Some, None}
+use Rattle.std.proofs.lemmas.Bool.Decides.{nat_tests}
+use Rattle.bus_transactions.specs.Wire.{Node, as_sending}
+use Rattle.bus_transactions.proofs.Follows.{found_kept}
+use Rattle.bus_transactions.proofs.Reaches.{goes_on}
+use Rattle.label_table.specs.Layer.{Layer, seeing_step}
+use Rattle.packet_store.specs.declared.sent.Sent.{Sent}
+use Rattle.packet_store.specs.Kept.{found_sent, is_flying}
+use Rattle.packet_store.specs.Stored.{Stored}
+use Rattle.sbp_journal.specs.Run.{Moment}
+use Rattle.sbp_journal.specs.Transactions.{Kind, Part, Sending, Transaction, asked_by, between, no_packet, part_of, request, response}
+use Rattle.sbp_journal.specs.Wire.{Held, Terms, arrives, closes, closes_if, free, gets, gets_as, is_news, is_served, judges, rests, terms, waits}
+use Rattle.sbp_journal.specs.declared.cause.Cause.{Cause}
+use Rattle.sbp_initiator.specs.declared.purpose.Purpose.{Purpose}
+use Rattle.sbp_bus.specs.Generations.{id_of, node_of}
+use Rattle.sbp_world.specs.Worlds.{WorldState, initiator_at}
+use Rattle.sbp_world.specs.Wire.Wires.{Stands}
+use Rattle.sbp_world.proofs.Wire.Bus.{aged, holds}
+use Rattle.sbp_world.proofs.Wire.Found.{node_found}
+use Rattle.sbp_world.proofs.Wire.Holding.{NodesOf, to_target}
+use Rattle.sbp_world.specs.Hosts.Handing.{history}
+use Rattle.sbp_world.specs.Hosts.Lines.{MaySee}
+
+-- ---- a packet that is got stays as it was sent
+
+sent_judged : (begun : Option Transaction) (cause : Option Cause) (s : ℕ) (packet : Sending) (t : Terms) → (judges begun cause s packet t).sent ≡ t.sent
+sent_judged None cause s packet t = refl
+sent_judged (Some u) cause s packet t = refl
+
+sent_if : (b : Bool) (s : ℕ) (u : Transaction) (rcode : ℕ) (t : Terms) → (closes_if b s u rcode t).sent ≡ t.sent
+sent_if true s u rcode t = refl
+sent_if false s u rcode t = refl
+
+sent_closed : (held : Held) (u : Transaction) (other : Kind) (rcode : ℕ) (t : Terms) → (closes held u other rcode t).sent ≡ t.sent
+sent_closed (waits kind s) u other rcode t = sent_if _ s u rcode t
+sent_closed free u other rcode t = refl
+sent_closed rests u other rcode t = refl
+
+sent_got : (part : Part) (s : ℕ) (packet : Sending) (t : Terms) → (gets_as part s packet t).sent ≡ t.sent
+sent_got (request label kind) s packet t = sent_judged (asked_by packet) None s packet t
+sent_got (response label kind) s packet t = sent_closed (t.held (between packet packet.to packet.from label)) (between packet packet.to packet.from label) kind _ t
+sent_got no_packet s packet t = refl
+
+pub sent_stays : (found : Option Sending) (s : ℕ) (t : Terms) → (gets found s t).sent ≡ t.sent
+sent_stays None s t = refl
+sent_stays (Some packet) s t = sent_got (part_of packet.bytes) s packet (is_served s (is_news s (arrives s t)))
+
+-- ---- a sight
+
+seen_flag : (layer : Layer Purpose) (generation node : ℕ) → (seeing_step layer generation node).0 ≡ nat_lt layer.generation generation
+unfolding seeing_step
+seen_flag layer generation node = by_test (nat_lt layer.generation generation) refl
+  where
+    by_test : (b : Bool) → nat_lt layer.generation generation ≡ b → (seeing_step layer generation node).0 ≡ b
+    by_test true e = rw e refl
+    by_test false e = rw e refl
+
+is_later : (own seen known : ℕ) → own ≡ known → own ≤ seen → nat_lt own seen ≡ not (nat_eq seen known)
+is_later own seen known e l = by_tests (nat_lt own seen) (nat_eq seen known) refl refl
+  where
+    by_tests : (c d : Bool) → nat_lt own seen ≡ c → nat_eq seen known ≡ d → c ≡ not d
+    by_tests true false f g = refl
+    by_tests false true f g = refl
+    by_tests true true f g = absurd (grind (arith, nat_tests))
+    by_tests false false f g = absurd (grind (arith, nat_tests))
+
+-- ---- of a world
+
+module _ {past : List Moment} (w : WorldState) (h : Stands past w) where
+  past_terms : terms h.wire.past ≡ terms (history w past)
+  past_terms = ap terms h.is.past_is
+
+  pub was_sent : (serial : ℕ) (sent : Sent) → found_sent serial w.store.kept ≡ Some sent → (terms (history w past)).sent serial ≡ Some (as_sending sent)
+  was_sent serial sent found =
+      let wire_found = goes_on.finds h.wire serial sent h.reached (ap (λ (st : Stored). found_sent serial st.kept) h.is.store_is ∙ found) in
+      let k = found_kept (holds h.wire h.reached).follows serial (record { serial = serial; in_flight = is_flying serial h.wire.store.kept; sent = sent }) wire_found in
+      ap (λ (t : Terms). t.sent serial) (sym past_terms) ∙ k.sent ∙ ap Some (sym (ap as_sending k.is))
+
+  -- the generation that an initiator is in
+  own_generation : (i : ℕ) → suc i ≤ length w.initiators → (initiator_at w i).layer.generation ≡ (terms (history w past)).generation (suc i)
+  own_generation i l =
+      sym (ap (λ (n : Node). n.generation) (h.is.layers_are (suc i) l))
+      ∙ ((holds h.wire h.reached).nodes (suc i)).generation
+      ∙ ap (λ (t : Terms). t.generation (suc i)) past_terms
+
+  own_aged : (i : ℕ) → suc i ≤ length w.initiators → (initiator_at w i).layer.generation ≤ w.generations.latest.generation
+  own_aged i l =
+      let a = aged h.wire (suc i) h.reached in
+      let b : (initiator_at w i).layer.generation ≡ (h.wire.layer (suc i)).generation = sym (ap (λ (n : Node). n.generation) (h.is.layers_are (suc i) l)) in
+      let c = (holds h.wire h.reached).bus_is in
+      let d = h.is.bus_is in
+      omega arith
+
+  pub may_see : (i : ℕ) → suc i ≤ length w.initiators → MaySee past i w
+  may_see i l =
+      seen_flag (initiator_at w i).layer w.generations.latest.generation (id_of w.generations.latest (suc i))
+      ∙ is_later (initiator_at w i).layer.generation w.generations.latest.generation ((terms (history w past)).generation (suc i)) (own_generation i l) (own_aged i l)
+
+  -- the target of an initiator is node 0
+  pub target_there : {lines : ℕ} (i : ℕ) → i < length w.initiators → NodesOf w lines → node_of w.generations (suc i) (initiator_at w i).target ≡ Some 0
+  target_there i b n =
+      node_found w h (suc i) (omega arith) (initiator_at w i).target
+      (record { node = 0; there = omega arith; id_is = to_target w.generations.seen i (initiator_at w i).target (n.own.holds i b).fits.target_known })

@@ -1,0 +1,447 @@
+-- An initiator uses one login number at most for each of its actions.
+use Rattle.std.proofs.Common.{arith, ℕ, ◌+◌, ◌≤◌, ◌==◌, ◌&&◌, Bool, true, false, cond, List, [], ◌∷◌, length, replicate, Option, Some, None, Result, Ok, Err}
+use Rattle.async_packet.specs.Labels.{LabelParts}
+use Rattle.async_packet.specs.Packet.{Packet, header_in, lock, read_block, read_block_response, read_quadlet, read_quadlet_response, lock_response, write_block, write_quadlet, write_response}
+use Rattle.label_table.specs.declared.judgement.Asked.{Asked}
+use Rattle.label_table.specs.declared.reply.Stale.{Stale}
+use Rattle.label_table.specs.Layer.{Layer, Finding, of_generation, of_grammar, of_label, of_response, of_again, of_request, answering_step, asking_step, expiring_step, judging_step, seeing_step}
+use Rattle.byteorder.specs.Endian.{big_bytes}
+use Rattle.bus_memory.specs.Access.{read_step}
+use Rattle.config_rom.specs.declared.fault.RomFault.{RomFault}
+use Rattle.config_rom.specs.declared.unit.SbpUnit.{SbpUnit}
+use Rattle.config_rom.specs.Reading.{Tree, reading}
+use Rattle.config_rom.specs.Unit.{sbp_unit_of}
+use Rattle.media_bay.specs.Unsolicited.{is_block}
+use Rattle.orb_layout.specs.declared.fault.OrbFault.{OrbFault}
+use Rattle.orb_layout.specs.declared.status.StatusBlock.{StatusBlock}
+use Rattle.orb_layout.specs.declared.status.StatusKind.{StatusKind}
+use Rattle.orb_layout.specs.declared.status.StatusKind.TheVariants as kinds
+use Rattle.orb_list.specs.Tickets.{TicketParts}
+use Rattle.sbp_session.specs.Moves.{Event, bad, conflict, goes, pointed, pointing}
+use Rattle.sbp_journal.specs.declared.cause.Cause.TheVariants as ignored
+use Rattle.sbp_journal.specs.declared.cause.Judged.{Judged}
+use Rattle.sbp_journal.specs.declared.note.Note.TheVariants as notes
+use Rattle.sbp_journal.specs.declared.operation.Operation.{Operation}
+use Rattle.sbp_journal.specs.declared.operation.Operation.TheVariants as operations
+use Rattle.sbp_journal.specs.declared.operation.OpWord.{OpWord}
+use Rattle.sbp_journal.specs.declared.operation.OpWord.TheVariants as words
+use Rattle.sbp_journal.specs.Outgoings.{OutboxState}
+use Rattle.initiator_base.specs.declared.fifos.Fifo.{Fifo}
+use Rattle.initiator_base.specs.declared.fifos.Fifo.TheVariants as fifos
+use Rattle.sbp_initiator.specs.declared.purpose.Ending.{Ending}
+use Rattle.sbp_initiator.specs.declared.purpose.Ending.TheVariants as endings
+use Rattle.sbp_initiator.specs.declared.purpose.Purpose.{Purpose}
+use Rattle.sbp_initiator.specs.declared.purpose.Purpose.TheVariants as purposes
+use Rattle.sbp_initiator.specs.declared.purpose.Running.{Running}
+use Rattle.sbp_initiator.specs.declared.state.InitiatorState.{InitiatorState}
+use Rattle.orb_list.specs.Lists.{ListState, drop_lists, high_lists, low_lists, take_lists, write_lists}
+use Rattle.sbp_initiator.specs.Refusals.{ends_list}
+use Rattle.sbp_initiator.specs.States.{counts_for, is_list, is_unwritten, no_marks, ending_of, status_in}
+use Rattle.sbp_initiator.specs.Effects.{Turn, ask_quad, asked_quad, conflict_for, conflict_step, doorbell_ended, drop_list_step, drop_where, dropped_as, enable_ended, end_own_for, end_own_step, end_step, ended_for, ended_step, fail_step, fault_number, finish_rom, good_end, good_event, good_word, is_address, is_conflict, known_where, managed_step, management_ended, moved, moves_session, next_quad, pointed_step, pointer_ended, quad_got, reset_ended, response_of, rom_ended, state_ended, state_told, stick_step, then_step, told, with_answered, with_dead, with_rom, with_unit}
+use Rattle.initiator_base.specs.Quads.{with_quad}
+use Rattle.sbp_initiator.specs.Receiving.{addressed, block_at, block_by, block_step, called, expire_step, expired_as, fifo_of, got_step, ignored_step, is_foreign, managed_for, present_for, quadlet_at, read_as, receive_step, received, request_step, respond_step, responded_as, serve_step, status_step, taken_as, taken_by, written_as}
+use Rattle.sbp_initiator.specs.Seeing.{interrupted, reset_step, resets_told, see_step, seen_as}
+use Rattle.initiator_base.specs.Fifos.{is_dead_kind}
+use Rattle.orb_list.specs.declared.list.PresentList.{PresentList}
+use Rattle.orb_list.specs.Table.{find_in}
+use Rattle.sbp_journal.specs.declared.event.Action.{Action}
+use Rattle.sbp_journal.specs.declared.event.Action.TheVariants as actions
+use Rattle.sbp_journal.specs.declared.event.Cmd.{Cmd}
+use Rattle.sbp_initiator.specs.declared.purpose.Demand.{Demand}
+use Rattle.sbp_initiator.specs.declared.purpose.Pointing.TheVariants as pointings
+use Rattle.sbp_initiator.specs.Commands.{put_lists}
+use Rattle.sbp_initiator.specs.Initiators.{new_state}
+use Rattle.sbp_initiator.specs.Refusals.{refusal}
+use Rattle.sbp_initiator.specs.Acting.{act_step, asked_as, asked_for, demand_of, demanded_as, done_step, dummy_for, facts_with, judged_as, link_as, link_step, login_id, low_as, low_step, managed_by, orb_by, pinned_for, put_as, put_step, ring_for, ring_step, with_running}
+use Rattle.sbp_initiator.specs.Histories.Laws.{Call, after, done}
+use Rattle.sbp_initiator.specs.Histories.Laws as laws
+
+-- how many login numbers an initiator used: one at most for each of its actions, and one where it began with a login
+abbrev pub Few : InitiatorState → Type 0
+Few s = s.counts.logins ≤ s.counts.acts + 1
+
+abbrev pub At : Turn → Type 0
+At t = Few t.1
+
+pick : (b : Bool) (x y : Turn) → At x → At y → At (cond b x y)
+pick true x y h i = h
+pick false x y h i = i
+
+moves : (operation : Operation) (event : Event) (s : InitiatorState) → Few s → Few (moved operation event s)
+moves operation event s h = by_session (moves_session operation)
+  where
+    by_session : (b : Bool) → Few (cond b (record s { seat = goes event s.seat }) s)
+    by_session true = h
+    by_session false = h
+
+dead : (b : Bool) (s : InitiatorState) → Few s → Few (cond b (with_dead s) s)
+dead true s h = h
+dead false s h = h
+
+points : (list : ℕ) (s : InitiatorState) → Few s → Few (pointed_step list s)
+points list s h = by_list (is_list s.lists.slots.present list)
+  where
+    by_list : (b : Bool) → Few (cond b (with_answered (record s { seat = goes pointed s.seat })) (record s { seat = goes pointed s.seat }))
+    by_list true = h
+    by_list false = h
+
+-- ---- the end of a transaction
+
+sticks : (o : OutboxState) (s : InitiatorState) → Few s → At (stick_step o s)
+sticks o s h = h
+
+drops_as : (r : Option ℕ × ListState) (o : OutboxState) (s : InitiatorState) → Few s → At (dropped_as r o s)
+drops_as (None, lists) o s h = h
+drops_as (Some n, lists) o s h = h
+
+drops : (o : OutboxState) (s : InitiatorState) → Few s → At (drop_list_step o s)
+drops o s h = drops_as (drop_lists s.lists) o s h
+
+ends : (operation : Operation) (word : OpWord) (o : OutboxState) (s : InitiatorState) → Few s → At (end_step operation word o s)
+ends operation word o s h = h
+
+owns_for : (running : Option Running) (act : ℕ) (word : OpWord) (o : OutboxState) (s : InitiatorState) → Few s → At (end_own_for running act word o s)
+owns_for None act word o s h = h
+owns_for (Some running) act word o s h =
+    pick (running.act == act) (end_step running.operation word o s) (o, s) (ends running.operation word o s h) h
+
+owns : (act : ℕ) (word : OpWord) (o : OutboxState) (s : InitiatorState) → Few s → At (end_own_step act word o s)
+owns act word o s h = owns_for s.operation act word o s h
+
+fails : (act : ℕ) (o : OutboxState) (s : InitiatorState) → Few s → At (fail_step act o s)
+fails act o s h =
+    let t = end_own_step act words.Error o s in sticks t.0 t.1 (owns act words.Error o s h)
+
+pointer_tells : (list : ℕ) (ending : Ending) (o : OutboxState) (s : InitiatorState) → Few s → At (pointer_ended list ending o s)
+pointer_tells list (endings.Complete value) o s h = points list s h
+pointer_tells list (endings.Refused rcode) o s h = sticks o s h
+pointer_tells list endings.Expired o s h = sticks o s h
+
+doorbell_tells : (ending : Ending) (o : OutboxState) (s : InitiatorState) → Few s → At (doorbell_ended ending o s)
+doorbell_tells (endings.Complete value) o s h = h
+doorbell_tells (endings.Refused rcode) o s h = sticks o s h
+doorbell_tells endings.Expired o s h = sticks o s h
+
+reset_tells : (act : ℕ) (ending : Ending) (o : OutboxState) (s : InitiatorState) → Few s → At (reset_ended act ending o s)
+reset_tells act (endings.Complete value) o s h =
+    let t = drop_list_step o s in owns act words.Done t.0 t.1 (drops o s h)
+reset_tells act (endings.Refused rcode) o s h = fails act o s h
+reset_tells act endings.Expired o s h = fails act o s h
+
+enable_tells : (act : ℕ) (ending : Ending) (o : OutboxState) (s : InitiatorState) → Few s → At (enable_ended act ending o s)
+enable_tells act (endings.Complete value) o s h = owns act words.Done o s h
+enable_tells act (endings.Refused rcode) o s h = fails act o s h
+enable_tells act endings.Expired o s h = fails act o s h
+
+conflicts_for : (running : Option Running) (act : ℕ) (o : OutboxState) (s : InitiatorState) → Few s → At (conflict_for running act o s)
+conflicts_for None act o s h = h
+conflicts_for (Some running) act o s h =
+    let t = moved running.operation conflict s in
+    pick (running.act == act) (end_step running.operation words.Conflict o t) (o, s) (ends running.operation words.Conflict o t (moves running.operation conflict s h)) h
+
+management_tells : (act : ℕ) (ending : Ending) (o : OutboxState) (s : InitiatorState) → Few s → At (management_ended act ending o s)
+management_tells act (endings.Complete value) o s h = h
+management_tells act (endings.Refused rcode) o s h =
+    pick (is_conflict rcode) (conflict_step act o s) (fail_step act o s) (conflicts_for s.operation act o s h) (fails act o s h)
+management_tells act endings.Expired o s h = fails act o s h
+
+drops_where : (b : Bool) (o : OutboxState) (s : InitiatorState) → Few s → At (drop_where b o s)
+drops_where true o s h = drops o s h
+drops_where false o s h = h
+
+ends_good : (running : Running) (o : OutboxState) (s : InitiatorState) → Few s → At (good_end running o s)
+ends_good running o s h =
+    let response = response_of running s in
+    ends running.operation (good_word running.operation response) o (moved running.operation (good_event running.operation response) s) (moves running.operation (good_event running.operation response) s h)
+
+manages : (running : Running) (status : ℕ) (o : OutboxState) (s : InitiatorState) → Few s → At (managed_step running status o s)
+manages running status o s h =
+    let t = drop_where (ends_list (Some running.operation)) o s in
+    let u = moved running.operation bad s in
+    pick (status == 0) (then_step (good_end running) t) (end_step running.operation (words.Refused status) o u)
+    (ends_good running t.0 t.1 (drops_where (ends_list (Some running.operation)) o s h))
+    (ends running.operation (words.Refused status) o u (moves running.operation bad s h))
+
+unit_tells : (unit : Option SbpUnit) (act : ℕ) (o : OutboxState) (s : InitiatorState) → Few s → At (with_unit unit act o s)
+unit_tells None act o s h = owns act words.NoUnit o s h
+unit_tells (Some unit) act o s h = owns_for s.operation act words.Done o _ h
+
+rom_tells : (r : Result Tree RomFault) (act : ℕ) (o : OutboxState) (s : InitiatorState) → Few s → At (with_rom r act o s)
+rom_tells (Ok tree) act o s h = unit_tells (sbp_unit_of tree.blocks tree.entries) act o s h
+rom_tells (Err fault) act o s h = owns act (words.Bad (fault_number fault)) o s h
+
+finishes : (act : ℕ) (o : OutboxState) (s : InitiatorState) → Few s → At (finish_rom act o s)
+finishes act o s h = rom_tells (reading s.quads) act o s h
+
+quad_asked : (r : Option Asked × Layer Purpose) (act : ℕ) (o : OutboxState) (s : InitiatorState) → Few s → At (asked_quad r act o s)
+quad_asked (Some asked, layer) act o s h = h
+quad_asked (None, layer) act o s h = owns act words.Error o (record s { layer = layer }) h
+
+quad_tells : (act : ℕ) (o : OutboxState) (s : InitiatorState) → Few s → At (quad_got act o s)
+quad_tells act o s h =
+    pick (length s.quads == 256) (finish_rom act o s) (ask_quad act o s) (finishes act o s h)
+    (quad_asked (asking_step s.layer s.target (next_quad s.quads) (purposes.Rom act)) act o s h)
+
+rom_ends : (act : ℕ) (ending : Ending) (o : OutboxState) (s : InitiatorState) → Few s → At (rom_ended act ending o s)
+rom_ends act (endings.Complete value) o s h = quad_tells act o (record s { quads = with_quad s.quads value }) h
+rom_ends act (endings.Refused rcode) o s h =
+    pick (is_address rcode) (finish_rom act o s) (end_own_step act words.Error o s) (finishes act o s h) (owns act words.Error o s h)
+rom_ends act endings.Expired o s h = owns act words.Error o s h
+
+known : (b : Bool) (value : ℕ) (o : OutboxState) (s : InitiatorState) → Few s → At (known_where b value o s)
+known true value o s h = pick (value == 0) (drop_list_step o s) (o, cond (value == 3) (with_dead s) s) (drops o s h) (dead (value == 3) s h)
+known false value o s h = h
+
+state_tells : (act : ℕ) (word : OpWord) (o : OutboxState) (s : InitiatorState) → Few s → At (state_told act word o s)
+state_tells act word o s h = h
+
+state_ends : (act : ℕ) (list : Option ℕ) (ending : Ending) (o : OutboxState) (s : InitiatorState) → Few s → At (state_ended act list ending o s)
+state_ends act list (endings.Complete value) o s h =
+    let t = known_where (counts_for s.lists.slots.present list) value o s in
+    state_tells act (words.State value) t.0 t.1 (known (counts_for s.lists.slots.present list) value o s h)
+state_ends act list (endings.Refused rcode) o s h = state_tells act words.Error o s h
+state_ends act list endings.Expired o s h = state_tells act words.Error o s h
+
+ended_tells : (purpose : Purpose) (ending : Ending) (o : OutboxState) (s : InitiatorState) → Few s → At (ended_step purpose ending o s)
+unfolding ended_step
+ended_tells (purposes.Pointer list) ending o s h = pointer_tells list ending o s h
+ended_tells purposes.Doorbell ending o s h = doorbell_tells ending o s h
+ended_tells (purposes.AgentReset act) ending o s h = reset_tells act ending o s h
+ended_tells (purposes.Enable act) ending o s h = enable_tells act ending o s h
+ended_tells (purposes.Management act) ending o s h = management_tells act ending o s h
+ended_tells (purposes.Rom act) ending o s h = rom_ends act ending o s h
+ended_tells (purposes.State act list) ending o s h = state_ends act list ending o s h
+
+ends_for : (purpose : Option Purpose) (ending : Ending) (o : OutboxState) (s : InitiatorState) → Few s → At (ended_for purpose ending o s)
+ends_for None ending o s h = h
+ends_for (Some purpose) ending o s h = ended_tells purpose ending o s h
+
+-- ---- packets
+
+responds_as : (r : List ℕ × Layer Purpose) (source : ℕ) (o : OutboxState) (s : InitiatorState) → Few s → At (responded_as r source o s)
+responds_as (response, layer) source o s h = h
+
+responds : (p : Packet) (bytes : List ℕ) (rcode : ℕ) (given : List ℕ) (t : Turn) → At t → At (respond_step p bytes rcode given t)
+responds p bytes rcode given t h = responds_as (answering_step t.1.layer p bytes rcode given) (header_in p).source t.0 t.1 h
+
+takes_as : (r : Option TicketParts × ListState) (kind : StatusKind) (p : Packet) (bytes : List ℕ) (o : OutboxState) (s : InitiatorState) → Few s → At (taken_as r kind p bytes o s).1
+takes_as (None, lists) kind p bytes o s h = responds p bytes 0 [] (o, record s { lists = lists }) h
+takes_as (Some ticket, lists) kind p bytes o s h =
+    responds p bytes 0 [] (taken_by ticket lists kind o (called s)) (dead (is_dead_kind kind) (record (called s) { lists = lists }) h)
+
+manages_for : (running : Option Running) (status : ℕ) (p : Packet) (bytes : List ℕ) (o : OutboxState) (s : InitiatorState) → Few s → At (managed_for running status p bytes o s).1
+manages_for None status p bytes o s h = responds p bytes 0 [] (o, s) h
+manages_for (Some running) status p bytes o s h = responds p bytes 0 [] (managed_step running status o (called s)) (manages running status o (called s) h)
+
+blocks_by : (kind : StatusKind) (block : StatusBlock) (p : Packet) (bytes : List ℕ) (o : OutboxState) (s : InitiatorState) → Few s → At (block_by kind block p bytes o s).1
+blocks_by (kinds.Management status) block p bytes o s h = manages_for (present_for block.orb s.operation) status p bytes o s h
+blocks_by kinds.Good block p bytes o s h = takes_as (take_lists s.lists block) kinds.Good p bytes o s h
+blocks_by (kinds.Check sense) block p bytes o s h = takes_as (take_lists s.lists block) (kinds.Check sense) p bytes o s h
+blocks_by kinds.Dummy block p bytes o s h = takes_as (take_lists s.lists block) kinds.Dummy p bytes o s h
+blocks_by kinds.Aborted block p bytes o s h = takes_as (take_lists s.lists block) kinds.Aborted p bytes o s h
+blocks_by (kinds.Illegal meaning) block p bytes o s h = takes_as (take_lists s.lists block) (kinds.Illegal meaning) p bytes o s h
+blocks_by kinds.Failed block p bytes o s h = takes_as (take_lists s.lists block) kinds.Failed p bytes o s h
+
+blocks : (r : Result StatusBlock OrbFault) (p : Packet) (bytes : List ℕ) (o : OutboxState) (s : InitiatorState) → Few s → At (block_step r p bytes o s).1
+blocks (Err fault) p bytes o s h = responds p bytes 5 [] (o, s) h
+blocks (Ok block) p bytes o s h = blocks_by block.kind block p bytes o s h
+
+pick_judged : (b : Bool) (x y : Judged × Turn) → At x.1 → At y.1 → At (cond b x y).1
+pick_judged true x y h i = h
+pick_judged false x y h i = i
+
+statuses : (is_login : Bool) (payload : List ℕ) (p : Packet) (bytes : List ℕ) (o : OutboxState) (s : InitiatorState) → Few s → At (status_step is_login payload p bytes o s).1
+statuses is_login payload p bytes o s h =
+    pick_judged (is_login && is_block payload) (got_step p bytes (told o (notes.Told s.number), called s)) (block_step (status_in payload) p bytes o s)
+    (responds p bytes 0 [] (told o (notes.Told s.number), called s) h)
+    (blocks (status_in payload) p bytes o s h)
+
+reads_as : (r : ℕ × List ℕ) (p : Packet) (bytes : List ℕ) (o : OutboxState) (s : InitiatorState) → Few s → At (read_as r p bytes o s).1
+reads_as (rcode, out) p bytes o s h = responds p bytes rcode out (o, called s) h
+
+writes_as : (r : ℕ × ListState) (p : Packet) (bytes : List ℕ) (o : OutboxState) (s : InitiatorState) → Few s → At (written_as r p bytes o s).1
+writes_as (rcode, lists) p bytes o s h = responds p bytes rcode [] (o, record (called s) { lists = lists }) h
+
+serves : (p : Packet) (bytes : List ℕ) (o : OutboxState) (s : InitiatorState) → Few s → At (serve_step p bytes o s).1
+serves (read_quadlet header offset) bytes o s h = reads_as (read_step s.lists.memory offset (replicate 4 0)) (read_quadlet header offset) bytes o s h
+serves (read_block header offset asked) bytes o s h = reads_as (read_step s.lists.memory offset (replicate asked 0)) (read_block header offset asked) bytes o s h
+serves (write_quadlet header offset value) bytes o s h = writes_as (write_lists s.lists offset (big_bytes 4 value)) (write_quadlet header offset value) bytes o s h
+serves (write_block header offset payload) bytes o s h = writes_as (write_lists s.lists offset payload) (write_block header offset payload) bytes o s h
+serves (write_response header rcode) bytes o s h = responds (write_response header rcode) bytes 6 [] (o, called s) h
+serves (read_quadlet_response header rcode value) bytes o s h = responds (read_quadlet_response header rcode value) bytes 6 [] (o, called s) h
+serves (read_block_response header rcode payload) bytes o s h = responds (read_block_response header rcode payload) bytes 6 [] (o, called s) h
+serves (lock header offset extended payload) bytes o s h = responds (lock header offset extended payload) bytes 6 [] (o, called s) h
+serves (lock_response header rcode extended payload) bytes o s h = responds (lock_response header rcode extended payload) bytes 6 [] (o, called s) h
+
+blocks_at : (fifo : Option Fifo) (payload : List ℕ) (p : Packet) (bytes : List ℕ) (o : OutboxState) (s : InitiatorState) → Few s → At (block_at fifo payload p bytes o s).1
+blocks_at None payload p bytes o s h = serves p bytes o s h
+blocks_at (Some fifos.Closed) payload p bytes o s h = responds p bytes 7 [] (o, s) h
+blocks_at (Some fifos.Login) payload p bytes o s h = statuses true payload p bytes o s h
+blocks_at (Some fifos.Place) payload p bytes o s h = statuses false payload p bytes o s h
+
+quadlets_at : (fifo : Option Fifo) (p : Packet) (bytes : List ℕ) (o : OutboxState) (s : InitiatorState) → Few s → At (quadlet_at fifo p bytes o s).1
+quadlets_at None p bytes o s h = serves p bytes o s h
+quadlets_at (Some fifos.Closed) p bytes o s h = responds p bytes 7 [] (o, s) h
+quadlets_at (Some fifos.Login) p bytes o s h = serves p bytes o s h
+quadlets_at (Some fifos.Place) p bytes o s h = serves p bytes o s h
+
+reaches : (p : Packet) (bytes : List ℕ) (o : OutboxState) (s : InitiatorState) → Few s → At (addressed p bytes o s).1
+reaches (read_quadlet header offset) bytes o s h = serves (read_quadlet header offset) bytes o s h
+reaches (read_block header offset asked) bytes o s h = serves (read_block header offset asked) bytes o s h
+reaches (write_quadlet header offset value) bytes o s h = quadlets_at (fifo_of s offset) (write_quadlet header offset value) bytes o s h
+reaches (write_block header offset payload) bytes o s h = blocks_at (fifo_of s offset) payload (write_block header offset payload) bytes o s h
+reaches (write_response header rcode) bytes o s h = serves (write_response header rcode) bytes o s h
+reaches (read_quadlet_response header rcode value) bytes o s h = serves (read_quadlet_response header rcode value) bytes o s h
+reaches (read_block_response header rcode payload) bytes o s h = serves (read_block_response header rcode payload) bytes o s h
+reaches (lock header offset extended payload) bytes o s h = serves (lock header offset extended payload) bytes o s h
+reaches (lock_response header rcode extended payload) bytes o s h = serves (lock_response header rcode extended payload) bytes o s h
+
+requests : (p : Packet) (bytes : List ℕ) (o : OutboxState) (s : InitiatorState) → Few s → At (request_step p bytes o s).1
+requests p bytes o s h =
+    pick_judged (is_foreign p s) (ignored_step ignored.Source 7 p bytes (o, s)) (addressed p bytes o s) (responds p bytes 7 [] (o, s) h) (reaches p bytes o s h)
+
+receives_as : (r : Finding Purpose × Layer Purpose) (bytes : List ℕ) (o : OutboxState) (s : InitiatorState) → Few s → At (received r bytes o s).1
+receives_as (of_generation, layer) bytes o s h = h
+receives_as (of_grammar, layer) bytes o s h = h
+receives_as (of_label, layer) bytes o s h = h
+receives_as (of_response p label purpose, layer) bytes o s h = ends_for purpose (ending_of p) o (called (record s { layer = layer })) h
+receives_as (of_again p rcode, layer) bytes o s h = responds p bytes rcode [] (o, record s { layer = layer }) h
+receives_as (of_request p, layer) bytes o s h = requests p bytes o (record s { layer = layer }) h
+
+pub receives : (generation : ℕ) (bytes : List ℕ) (o : OutboxState) (s : InitiatorState) → Few s → At (receive_step generation bytes o s).1
+unfolding receive_step
+receives generation bytes o s h = receives_as (judging_step s.layer generation bytes) bytes o s h
+
+expires_as : (r : Result (Option Purpose) Stale × Layer Purpose) (o : OutboxState) (s : InitiatorState) → Few s → At (expired_as r o s).1
+expires_as (Err stale, layer) o s h = h
+expires_as (Ok purpose, layer) o s h = ends_for purpose endings.Expired o (called (record s { layer = layer })) h
+
+pub expires : (label : LabelParts) (o : OutboxState) (s : InitiatorState) → Few s → At (expire_step label o s).1
+unfolding expire_step
+expires label o s h = expires_as (expiring_step s.layer s.target label) o s h
+
+-- ---- resets
+
+reset_tells_all : (target : ℕ) (o : OutboxState) (s : InitiatorState) → Few s → At (reset_step target o s)
+reset_tells_all target o s h = drops (resets_told s.number s.operation s.states o) (interrupted s target) h
+
+sees_as : (r : Bool × Layer Purpose) (target : ℕ) (o : OutboxState) (s : InitiatorState) → Few s → At (seen_as r target o s)
+sees_as (false, layer) target o s h = h
+sees_as (true, layer) target o s h = reset_tells_all target o (record s { layer = layer }) h
+
+pub sees : (generation id target : ℕ) (o : OutboxState) (s : InitiatorState) → Few s → At (see_step generation id target o s)
+unfolding see_step
+sees generation id target o s h = sees_as (seeing_step s.layer generation id) target o s h
+
+-- ---- an action
+
+puts_as : (r : Option TicketParts × ListState) (cmd : Cmd) (o : OutboxState) (s : InitiatorState) → Few s → At (put_as r cmd o s)
+puts_as (None, lists) cmd o s h = h
+puts_as (Some t, lists) cmd o s h = by_number (t.number == 0)
+  where
+    by_number : (b : Bool) → Few (cond b (record s { lists = lists; marks = record no_marks { first = t.slot } }) (record s { lists = lists }))
+    by_number true = h
+    by_number false = h
+
+lows_as : (r : Option TicketParts × ListState) (o : OutboxState) (s : InitiatorState) → Few s → At (low_as r o s)
+lows_as (None, lists) o s h = h
+lows_as (Some t, lists) o s h = h
+
+links_as : (r : Option TicketParts × ListState) (o : OutboxState) (s : InitiatorState) → Few s → At (link_as r o s)
+links_as (None, lists) o s h = h
+links_as (Some t, lists) o s h = h
+
+rings_for : (present : Option PresentList) (o : OutboxState) (s : InitiatorState) → Few s → At (ring_for present o s)
+rings_for None o s h = h
+rings_for (Some list) o s h = by_pointing (is_unwritten s.marks.pointing)
+  where
+    by_pointing : (b : Bool) → Few (cond b (record s { marks = record s.marks { pointing = pointings.Written }; seat = goes pointing s.seat }) (with_running s))
+    by_pointing true = h
+    by_pointing false = h
+
+puts : (cmd : Cmd) (o : OutboxState) (s : InitiatorState) → Few s → At (put_step cmd o s)
+puts cmd o s h = puts_as (put_lists s.lists cmd s.layer.node (login_id s)) cmd o s h
+
+lows : (t : Turn) → At t → At (then_step low_step t)
+lows t h = lows_as (low_lists t.1.lists) t.0 t.1 h
+
+links : (t : Turn) → At t → At (then_step link_step t)
+links t h = links_as (high_lists t.1.lists) t.0 t.1 h
+
+rings : (t : Turn) → At t → At (then_step ring_step t)
+rings t h = rings_for t.1.lists.slots.present t.0 t.1 h
+
+dummies : (found : Option TicketParts) (o : OutboxState) (s : InitiatorState) → Few s → At (dummy_for found o s)
+dummies None o s h = h
+dummies (Some t) o s h = h
+
+pins : (found : Option TicketParts) (s : InitiatorState) → Few s → Few (pinned_for found s)
+pins None s h = h
+pins (Some t) s h = h
+
+-- before the action is counted
+abbrev Nearly : InitiatorState → Type 0
+Nearly s = s.counts.logins ≤ s.counts.acts + 1 + 1
+
+nearly : (s : InitiatorState) → Few s → Nearly s
+nearly s h = omega arith
+
+does : (action : Action) (o : OutboxState) (s : InitiatorState) → Few s → Nearly (done_step action o s).1
+unfolding done_step
+does (actions.Put cmd) o s h = nearly (put_step cmd o s).1 (puts cmd o s h)
+does (actions.Append cmd) o s h =
+    let put = put_step cmd o s in
+    let low = then_step low_step put in
+    let link = then_step link_step low in
+    nearly (then_step ring_step link).1 (rings link (links low (lows put (puts cmd o s h))))
+does actions.Low o s h = nearly (low_step o s).1 (lows_as (low_lists s.lists) o s h)
+does actions.Link o s h = nearly (link_step o s).1 (links_as (high_lists s.lists) o s h)
+does actions.Ring o s h = nearly (ring_step o s).1 (rings_for s.lists.slots.present o s h)
+does (actions.Dummy orb) o s h = nearly (dummy_for (find_in s.lists.slots.slots orb) o s).1 (dummies (find_in s.lists.slots.slots orb) o s h)
+does actions.Rom o s h = nearly s h
+does actions.AgentReset o s h = nearly s h
+does actions.State o s h = nearly s h
+does actions.Enable o s h = nearly s h
+does (actions.Login unit reconnect exclusive password) o s h = omega arith
+does (actions.Query unit) o s h = nearly s h
+does actions.Reconnect o s h = nearly s h
+does actions.Logout o s h = nearly s h
+does (actions.Abort orb) o s h =
+    let begins = managed_by (orb_by (actions.Abort orb) s) operations.Abort s in
+    nearly (pinned_for (find_in begins.lists.slots.slots orb) begins) (pins (find_in begins.lists.slots.slots orb) begins h)
+does actions.AbortSet o s h = nearly s h
+does actions.UnitReset o s h = nearly s h
+does actions.TargetReset o s h = nearly s h
+
+asks : (r : Option Asked × Layer Purpose) (action : Action) (o : OutboxState) (s : InitiatorState) → Few s → At (asked_as r action o s).1
+asks (None, layer) action o s h = h
+asks (Some asked, layer) action o s h = does action o (record s { layer = layer }) h
+
+demands : (demand : Option Demand) (action : Action) (o : OutboxState) (s : InitiatorState) → Few s → At (demanded_as demand action o s).1
+demands None action o s h = does action o s h
+demands (Some demand) action o s h = asks (asked_for demand s) action o s h
+
+judges : (refused : Option ℕ) (action : Action) (o : OutboxState) (s : InitiatorState) → Few s → At (judged_as refused action o s).1
+judges (Some number) action o s h = h
+judges None action o s h = demands (demand_of action s) action o s h
+
+acts_few : (action : Action) (o : OutboxState) (s : InitiatorState) → Few s → At (act_step action o s).1
+unfolding act_step
+acts_few action o s h = judges (refusal action (facts_with true s action)) action o s h
+
+-- ---- after every list of calls
+
+first_few : (number : ℕ) (ready : Bool) → Few (new_state number ready)
+unfolding new_state
+first_few number true = omega arith
+first_few number false = omega arith
+
+call_few : (call : Call) (t : Turn) → At t → At (done call t)
+call_few (laws.acts action) t h = acts_few action t.0 t.1 h
+call_few (laws.receives generation bytes) t h = receives generation bytes t.0 t.1 h
+call_few (laws.lets_expire label) t h = expires label t.0 t.1 h
+call_few (laws.sees generation id target) t h = sees generation id target t.0 t.1 h
+
+pub logins_few : (number : ℕ) (ready : Bool) (calls : List Call) → Few (after number ready calls).1
+logins_few number ready [] = first_few number ready
+logins_few number ready (call ∷ calls) = call_few call (after number ready calls) (logins_few number ready calls)

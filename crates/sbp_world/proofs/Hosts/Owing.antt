@@ -1,0 +1,285 @@
+-- A response that tells bytes in answer to a block read stands behind the note that the read was got.
+use Rattle.std.proofs.Common.{arith, ◌≡◌, refl, sym, ◌∙◌, ap, subst, ℕ, suc, ◌+◌, ◌≤◌, ◌==◌, Bool, true, false, cond, List, [], ◌∷◌, ◌++◌, map, Option, Some, None, Result, Ok, Err, append_assoc}
+use Rattle.std.proofs.lemmas.Bool.Decides.{nat_tests}
+use Rattle.async_packet.specs.Fields.{rcode_of}
+use Rattle.async_packet.specs.Packet.{Packet, lock, read_block, read_block_response, read_quadlet, read_quadlet_response, lock_response, write_block, write_quadlet, write_response}
+use Rattle.async_packet.specs.Reading.{reading}
+use Rattle.async_packet.specs.Spells.{Spells}
+use Rattle.async_packet.specs.declared.fault.PacketFault.{PacketFault}
+use Rattle.bus_transactions.specs.Answers.{AreAnswered, IsOwed, IsSentFor}
+use Rattle.bus_transactions.specs.Packets.{SerialsCount}
+use Rattle.bus_transactions.specs.Judging.{AreJudged, facts_of, is_repeated, may_ignore_by}
+use Rattle.bus_transactions.specs.Wire.{is_stated}
+use Rattle.bus_transactions.proofs.Facts.{IsReply}
+use Rattle.bus_transactions.proofs.FitJudged.{spelled}
+use Rattle.bus_transactions.proofs.PacketParts.{asking_read, part_read}
+use Rattle.label_table.specs.Judging.{row_of}
+use Rattle.label_table.specs.Requests.{is_write}
+use Rattle.orb_layout.specs.Replies.{Done, Payload, Refused}
+use Rattle.sbp_journal.specs.Addresses.{Access, access_of}
+use Rattle.sbp_journal.specs.Run.{Moment, asked, said}
+use Rattle.sbp_journal.specs.Transactions.{Kind, Sending, between, is_same_kind, part_in, part_of, reading_block, request, response, writing}
+use Rattle.sbp_journal.specs.Wire.{Owed, Terms, terms}
+use Rattle.sbp_journal.specs.declared.cause.Cause.{Cause}
+use Rattle.sbp_journal.specs.declared.cause.Cause.TheVariants as causes
+use Rattle.sbp_journal.specs.declared.note.Note.{Note}
+use Rattle.sbp_journal.specs.declared.note.Note.TheVariants as notes
+use Rattle.sbp_laws.specs.Packets.{access_in, answer_in, answer_of, packet_in, receiver_in, spelled_by}
+use Rattle.sbp_world.specs.Hosts.Carrying.{IsResponse}
+use Rattle.sbp_world.specs.Hosts.Remaining.{Remains}
+use Rattle.sbp_world.specs.Hosts.Standing.{IsOwedThere, note_of}
+use Rattle.sbp_world.proofs.Hosts.Between.{OfWire}
+use Rattle.sbp_world.proofs.Hosts.Finished.{next_serial}
+use Rattle.sbp_world.proofs.Hosts.MemoryRcodes.{and_true}
+use Rattle.sbp_world.proofs.Hosts.Remaining.{gets_same, ignores_that_same, remains}
+use Rattle.sbp_world.proofs.Hosts.ResponseBytes.{IsBlockRead, block_read_of, tells_read}
+use Rattle.sbp_world.proofs.Hosts.ResponseTerms.{plain_all}
+use Rattle.sbp_world.proofs.Hosts.SentMoments.{WasSent, answers_now, count_now, now, sent_below, sent_moment, serials_from}
+use Rattle.sbp_world.proofs.Hosts.SlotIgnored.{AllWrites, writes_there}
+use Rattle.sbp_world.proofs.Hosts.Standing.{answered_from, stands_there}
+
+-- ---- a packet that tells bytes, and one that asks for something
+
+pub record IsTelling (packet : Sending) (bytes : List ℕ) : Type 0 where
+  pub spells : Packet
+  pub read : reading packet.bytes ≡ Ok spells
+  pub tells : answer_of spells ≡ Payload bytes
+
+tells_by : (packet : Sending) (bytes : List ℕ) (r : Result Packet PacketFault) → reading packet.bytes ≡ r → answer_in (spelled_by r) ≡ Payload bytes → IsTelling packet bytes
+tells_by packet bytes (Ok p) e f = record { spells = p; read = e; tells = f }
+tells_by packet bytes (Err fault) e f = absurd (differ f)
+  where
+    differ : Done ≡ Payload bytes → ⊥
+    differ e = cc
+
+pub telling : (packet : Sending) (bytes : List ℕ) → answer_in (packet_in (Some packet)) ≡ Payload bytes → IsTelling packet bytes
+telling packet bytes e = tells_by packet bytes (reading packet.bytes) refl e
+
+pub record IsAsking (packet : Sending) (access : Access) : Type 0 where
+  pub spells : Packet
+  pub read : reading packet.bytes ≡ Ok spells
+  pub asks : access_of spells ≡ Some access
+
+asks_by : (packet : Sending) (access : Access) (r : Result Packet PacketFault) → reading packet.bytes ≡ r → access_in (spelled_by r) ≡ Some access → IsAsking packet access
+asks_by packet access (Ok p) e f = record { spells = p; read = e; asks = f }
+asks_by packet access (Err fault) e f = absurd (differ f)
+  where
+    differ : None ≡ Some access → ⊥
+    differ e = cc
+
+pub asking : (packet : Sending) (access : Access) → access_in (packet_in (Some packet)) ≡ Some access → IsAsking packet access
+asking packet access e = asks_by packet access (reading packet.bytes) refl e
+
+-- ---- its rcode
+
+done_or : (b : Bool) (rcode : ℕ) (bytes : List ℕ) → cond b Done (Refused rcode) ≡ Payload bytes → ⊥
+done_or true rcode bytes e = cc
+done_or false rcode bytes e = cc
+
+zero_by : (b : Bool) (rcode : ℕ) (given bytes : List ℕ) → (rcode == 0) ≡ b → cond b (Payload given) (Refused rcode) ≡ Payload bytes → rcode ≡ 0
+zero_by true rcode given bytes e f = grind (arith, nat_tests)
+zero_by false rcode given bytes e f = cc
+
+-- one that tells bytes is complete
+complete_by : (bytes : List ℕ) (p : Packet) (told : List ℕ) → Spells bytes p → answer_of p ≡ Payload told → rcode_of bytes ≡ 0
+complete_by bytes (read_quadlet_response header rcode value) told s e = sym s.1 ∙ zero_by (rcode == 0) rcode _ told refl e
+complete_by bytes (read_block_response header rcode payload) told s e = sym s.1 ∙ zero_by (rcode == 0) rcode payload told refl e
+complete_by bytes (write_response header rcode) told s e = absurd (done_or (rcode == 0) rcode told e)
+complete_by bytes (write_quadlet header offset value) told s e = cc
+complete_by bytes (write_block header offset payload) told s e = cc
+complete_by bytes (read_quadlet header offset) told s e = cc
+complete_by bytes (read_block header offset count) told s e = cc
+complete_by bytes (lock header offset extended payload) told s e = cc
+complete_by bytes (lock_response header rcode extended payload) told s e = cc
+
+-- ---- a request that comes again
+
+row_again : (c n r a e : Bool) → may_ignore_by (row_of (record { is_current = c; is_for_node = n; is_response = r; is_awaited = a; is_repeated = e })) causes.Again ≡ true → e ≡ true
+row_again false n r a e f = cc
+row_again true false r a e f = cc
+row_again true true true false e f = cc
+row_again true true true true e f = cc
+row_again true true false a false f = cc
+row_again true true false a true f = refl
+
+judged_there : (later past : List Moment) (s : ℕ) (cause : Cause) → AreJudged (later ++ said (notes.Ignored s cause) ∷ past) → (packet : Sending) → (terms past).sent s ≡ Some packet → may_ignore_by (row_of (facts_of (terms past) packet)) cause ≡ true
+judged_there [] past s cause h = h.0
+judged_there (said (notes.Got other) ∷ later) past s cause h = judged_there later past s cause h.1
+judged_there (said (notes.Ignored other reason) ∷ later) past s cause h = judged_there later past s cause h.1
+judged_there (said note ∷ later) past s cause h = judged_there later past s cause h
+judged_there (asked line event ∷ later) past s cause h = judged_there later past s cause h
+
+repeats_write : (t : Terms) (packet : Sending) (label : ℕ) (kind : Kind) → part_of packet.bytes ≡ request label kind → may_ignore_by (row_of (facts_of t packet)) causes.Again ≡ true → is_write packet.bytes ≡ true
+repeats_write t packet label kind part e =
+    let f = facts_of t packet in
+    let again : f.is_repeated ≡ true = row_again f.is_current f.is_for_node f.is_response f.is_awaited f.is_repeated e in
+    and_true (is_write packet.bytes) _ (sym (ap (λ p. is_repeated t p packet) part) ∙ again)
+
+-- ---- a response to a block read
+
+-- the history in which the read was got, and the response right behind it
+pub record GotBehind (all : List Moment) (reply ask : ℕ) (asks : Sending) : Type 0 where
+  pub later : List Moment
+  pub past : List Moment
+  pub is : later ++ said (notes.Got ask) ∷ past ≡ all
+  pub was : (terms past).sent ask ≡ Some asks
+  pub below : ask ≤ (terms past).count
+  pub next : reply ≡ (terms past).count + 1
+
+some_number : (m n : ℕ) → Some m ≡ Some n → m ≡ n
+some_number m n e = cc
+
+untrue : false ≡ true → ⊥
+untrue e = cc
+
+read_kind : (p : Packet) (address count label : ℕ) (kind : Kind) → IsBlockRead p address count → part_in p ≡ request label kind → is_same_kind kind writing ≡ false
+read_kind p address count label kind b e = by_kind (sym (ap part_in b.is) ∙ e)
+  where
+    by_kind : request b.header.label reading_block ≡ request label kind → is_same_kind kind writing ≡ false
+    by_kind f = let is : reading_block ≡ kind = cc in sym (ap (λ k. is_same_kind k writing) is)
+
+module _ (all : List Moment) (i : ℕ) (wire : OfWire all) (writes : AllWrites all i) (reply ask : ℕ) (access : Access) (bytes : List ℕ) (r : IsResponse all i reply ask access bytes) where
+  pub replied : IsReply ((terms all).sent reply) ((terms all).sent ask)
+  replied = wire.facts.replied reply ask r.answers
+
+  abbrev q : Sending
+  q = replied.reply
+
+  tell : IsTelling q bytes
+  tell = telling q bytes (sym (ap (λ o. answer_in (packet_in o)) replied.reply_is) ∙ r.tells)
+
+  pub asks : IsAsking replied.asking access
+  asks = asking replied.asking access (sym (ap (λ o. access_in (packet_in o)) replied.asking_is) ∙ r.asks)
+
+  asks_part : part_in asks.spells ≡ request replied.label replied.kind
+  asks_part = sym (part_read replied.asking.bytes asks.spells asks.read) ∙ replied.asking_part
+
+  tells_part : part_in tell.spells ≡ response replied.label replied.kind
+  tells_part = sym (part_read q.bytes tell.spells tell.read) ∙ replied.reply_part
+
+  pub block : IsBlockRead asks.spells access.offset access.count
+  block = block_read_of asks.spells access replied.label replied.kind asks.asks r.reads r.block asks_part (tells_read tell.spells replied.label replied.kind bytes tell.tells tells_part)
+
+  pub to_it : replied.asking.to ≡ suc i
+  to_it = some_number replied.asking.to (suc i) (sym (ap receiver_in replied.asking_is) ∙ r.of_initiator)
+
+  -- ---- where the response stands
+
+  sent : WasSent all reply q
+  sent = sent_moment all reply q replied.reply_is
+
+  abbrev here : List Moment
+  here = now sent.before reply q.generation q.from q.to q.bytes
+
+  serials_here : SerialsCount here
+  serials_here = serials_from sent.later here (subst SerialsCount (sym sent.is) wire.laws.serials)
+
+  answered : AreAnswered here
+  answered = answered_from sent.later here (subst AreAnswered (sym sent.is) wire.laws.answered)
+
+  there : IsOwedThere sent.before
+  there = stands_there sent.before reply q.generation q.from q.to q.bytes answered (sent.injected ∙ r.own q replied.reply_is) replied.label replied.kind replied.reply_part
+
+  abbrev owed : Owed
+  owed = there.owed
+
+  owed_is : owed.serial ≡ ask
+  owed_is =
+      let remain : Remains here all = subst (Remains here) sent.is (remains sent.later here (subst SerialsCount (sym sent.is) wire.laws.serials)) in
+      let serial : reply ≡ (terms sent.before).count + 1 = serials_here.0 in
+      let counted : (terms here).count ≡ (terms sent.before).count + 1 = count_now sent.before reply q.generation q.from q.to q.bytes in
+      let first = answers_now sent.before reply q.generation q.from q.to q.bytes owed there.owes in
+      some_number owed.serial ask (sym first ∙ (sym (remain.answers reply (omega arith)) ∙ r.answers))
+
+  owing : IsOwed (terms sent.before) owed (record { generation = q.generation; from = q.from; to = q.to; bytes = q.bytes; injected = (terms sent.before).injected reply })
+  owing = subst (λ o. IsSentFor o (terms sent.before) (record { generation = q.generation; from = q.from; to = q.to; bytes = q.bytes; injected = (terms sent.before).injected reply })) there.owes answered.0
+
+  -- ---- the request, as it was judged
+
+  abbrev past : List Moment
+  past = there.stands.past
+
+  abbrev effects : List Note
+  effects = there.stands.effects
+
+  abbrev note : Note
+  note = note_of owed.serial owed.cause
+
+  abbrev later : List Moment
+  later = sent.later ++ said (notes.Sent reply q.generation q.from q.to q.bytes) ∷ map said effects
+
+  position : later ++ said note ∷ past ≡ all
+  position =
+      append_assoc sent.later (said (notes.Sent reply q.generation q.from q.to q.bytes) ∷ map said effects) (said note ∷ past)
+      ∙ (ap (λ ms. sent.later ++ said (notes.Sent reply q.generation q.from q.to q.bytes) ∷ ms) (sym there.stands.is) ∙ sent.is)
+
+  behind : (later ++ said note ∷ []) ++ past ≡ all
+  behind = append_assoc later (said note ∷ []) past ∙ position
+
+  serials_all : SerialsCount ((later ++ said note ∷ []) ++ past)
+  serials_all = subst SerialsCount (sym behind) wire.laws.serials
+
+  remain_past : Remains past all
+  remain_past = subst (Remains past) behind (remains (later ++ said note ∷ []) past serials_all)
+
+  judged_sent : (c : Option Cause) → (terms (said (note_of owed.serial c) ∷ past)).sent ≡ (terms past).sent
+  judged_sent None = (gets_same ((terms past).sent owed.serial) owed.serial (terms past)).sent
+  judged_sent (Some cause) = (ignores_that_same ((terms past).sent owed.serial) cause owed.serial (terms past)).sent
+
+  sent_before : (terms sent.before).sent ≡ (terms past).sent
+  sent_before = ap (λ (t : Terms). t.sent) (ap terms there.stands.is ∙ plain_all effects (said note ∷ past) there.stands.plain) ∙ judged_sent owed.cause
+
+  was_owed : (terms past).sent owed.serial ≡ Some owing.asking
+  was_owed = ap (λ f. f owed.serial) (sym sent_before) ∙ owing.sent
+
+  below_past : owed.serial ≤ (terms past).count
+  below_past = sent_below past owed.serial owing.asking (serials_from (later ++ said note ∷ []) past serials_all) was_owed
+
+  was_sent : (terms past).sent owed.serial ≡ Some replied.asking
+  was_sent = sym (remain_past.sent owed.serial below_past) ∙ (ap (λ n. (terms all).sent n) owed_is ∙ replied.asking_is)
+
+  -- ---- it was got
+
+  abbrev given : ℕ
+  given = (terms sent.before).given (between owing.asking owing.asking.from owing.asking.to owing.responds.label)
+
+  stated : (cause : Cause) → owed.cause ≡ Some cause → is_stated (Some cause) given 0 ≡ true
+  stated cause e =
+      sym (ap (λ n. is_stated (Some cause) given n) (complete_by q.bytes tell.spells bytes (spelled q.bytes tell.spells tell.read) tell.tells))
+      ∙ (sym (ap (λ c. is_stated c given (rcode_of q.bytes)) e) ∙ owing.stated)
+
+  ignored_there : (cause : Cause) → owed.cause ≡ Some cause → later ++ said (notes.Ignored owed.serial cause) ∷ past ≡ all
+  ignored_there cause e = ap (λ c. later ++ said (note_of owed.serial c) ∷ past) (sym e) ∙ position
+
+  not_ignored : (cause : Cause) → owed.cause ≡ Some cause → ⊥
+  not_ignored causes.Generation e = untrue (stated causes.Generation e)
+  not_ignored causes.Label e = untrue (stated causes.Label e)
+  not_ignored causes.Grammar e = untrue (stated causes.Grammar e)
+  not_ignored causes.Source e = untrue (stated causes.Source e)
+  not_ignored causes.Login e = untrue (stated causes.Login e)
+  not_ignored causes.Slot e =
+      let w = writes_there later past i owed.serial (subst (λ ms. AllWrites ms i) (sym (ignored_there causes.Slot e)) writes) in
+      untrue (sym r.reads ∙ w replied.asking was_sent to_it asks.spells asks.read access asks.asks)
+  not_ignored causes.Again e =
+      let j = judged_there later past owed.serial causes.Again (subst AreJudged (sym (ignored_there causes.Again e)) wire.laws.judged) replied.asking was_sent in
+      let w = repeats_write (terms past) replied.asking replied.label replied.kind replied.asking_part j in
+      let k = asking_read replied.asking.bytes asks.spells replied.label replied.kind asks.read asks_part in
+      untrue (sym (read_kind asks.spells access.offset access.count replied.label replied.kind block asks_part) ∙ (sym k.writes ∙ w))
+
+  no_cause : (c : Option Cause) → owed.cause ≡ c → owed.cause ≡ None
+  no_cause None e = e
+  no_cause (Some cause) e = absurd (not_ignored cause e)
+
+  got_note : note ≡ notes.Got ask
+  got_note = ap (λ c. note_of owed.serial c) (no_cause owed.cause refl) ∙ ap (λ n. notes.Got n) owed_is
+
+  pub got_behind : GotBehind all reply ask replied.asking
+  got_behind = record {
+    later = later;
+    past = past;
+    is = ap (λ x. later ++ said x ∷ past) (sym got_note) ∙ position;
+    was = subst (λ n. (terms past).sent n ≡ Some replied.asking) owed_is was_sent;
+    below = subst (λ n. n ≤ (terms past).count) owed_is below_past;
+    next = next_serial past ask effects there.stands.plain reply q.generation q.from q.to q.bytes
+        (subst (λ ms. SerialsCount (said (notes.Sent reply q.generation q.from q.to q.bytes) ∷ ms)) (there.stands.is ∙ ap (λ x. map said effects ++ said x ∷ past) got_note) serials_here);
+  }

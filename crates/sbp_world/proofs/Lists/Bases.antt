@@ -1,0 +1,70 @@
+-- In every run an initiator writes and reads at the registers of the agent of its host's login.
+use Rattle.std.proofs.Common.{◌≡◌, refl, sym, ap, subst, is_some, ℕ, true, false, List, Option, Some, None}
+use Rattle.orb_layout.specs.declared.login.LoginResponse.{LoginResponse}
+use Rattle.sbp_journal.specs.Run.{Moment}
+use Rattle.sbp_initiator.specs.declared.state.InitiatorState.{InitiatorState}
+use Rattle.bus_memory.specs.declared.window.Window.TheVariants as windows
+use Rattle.bus_memory.specs.Windows.{start}
+use Rattle.sbp_laws.specs.Lists.{slot_at}
+use Rattle.sbp_session.specs.Laws.{carried}
+use Rattle.sbp_session.specs.declared.seat.Origin.{Origin}
+use Rattle.sbp_session.specs.declared.seat.Origin.TheVariants as origins
+use Rattle.sbp_session.specs.declared.seat.Seat.{Seat}
+use Rattle.sbp_session.specs.declared.seat.Seat.TheVariants as seats
+use Rattle.sbp_world.specs.Sessions.Holding.{HoldingLaw, HoldsLogin}
+use Rattle.sbp_world.specs.Pointers.Bases.{AreAtAgent, IsAsked, RegistersLaw, is_seated, register_read}
+use Rattle.sbp_world.specs.Pointers.Moments.{pointer_write, register_write}
+use Rattle.sbp_world.specs.Lists.Bases.{AreBased, BasesLaw}
+
+no : false ≡ true → ⊥
+no e = cc
+
+-- a response that is carried
+record Carries (seat : Seat) : Type 0 where
+  response : LoginResponse
+  is : carried seat ≡ Some response
+
+carries_by : (seat : Seat) (found : Option LoginResponse) → carried seat ≡ found → is_some found ≡ true → Carries seat
+carries_by seat None e f = absurd (no f)
+carries_by seat (Some response) e f = record { response = response; is = e }
+
+carries : (seat : Seat) → is_some (carried seat) ≡ true → Carries seat
+carries seat e = carries_by seat (carried seat) refl e
+
+seated : (seat : Seat) → is_seated seat ≡ true → is_some (carried seat) ≡ true
+seated (seats.Live x) e = refl
+seated (seats.Leaving response) e = refl
+seated (seats.Stuck origin) e = stuck origin e
+  where
+    stuck : (origin : Origin) → is_seated (seats.Stuck origin) ≡ true → is_some (carried (seats.Stuck origin)) ≡ true
+    stuck (origins.Live x) e = refl
+    stuck (origins.Leaving response) e = refl
+    stuck (origins.Out out) e = absurd (no e)
+    stuck (origins.Entering entering) e = absurd (no e)
+    stuck (origins.Held response) e = absurd (no e)
+    stuck (origins.Returning response) e = absurd (no e)
+seated (seats.Out out) e = absurd (no e)
+seated (seats.Entering entering) e = absurd (no e)
+seated (seats.Held response) e = absurd (no e)
+seated (seats.Returning response) e = absurd (no e)
+
+are_based : (past : List Moment) (i : ℕ) (s : InitiatorState) → AreAtAgent past i s → HoldsLogin past i s → AreBased past i
+are_based past i s h k = record {
+  pointer = λ u n serial l p.
+      let c = carries s.seat (seated s.seat (h.seated u (ap is_some l))) in
+      subst (λ (r : LoginResponse). IsAsked past i serial (pointer_write r.agent (start (windows.Orb (slot_at past i n 0))))) (sym (k.login c.response c.is)) (h.pointer u n serial l p c.response c.is);
+  reset = λ underway e r.
+      let c = carries s.seat (h.armed underway e r) in
+      subst (λ (x : LoginResponse). IsAsked past i underway.first (register_write x.agent 0x04)) (sym (k.login c.response c.is)) (h.reset underway e r c.response c.is);
+  states = λ u n serial l p.
+      let c = carries s.seat (seated s.seat (h.seated u (ap is_some l))) in
+      subst (λ (r : LoginResponse). IsAsked past i serial (register_read r.agent 0x00)) (sym (k.login c.response c.is)) (h.states u n serial l p c.response c.is);
+  behind = h.behind;
+  judged = h.judged;
+}
+
+pub bases_law : RegistersLaw → HoldingLaw → BasesLaw
+bases_law registers holding = record {
+  after_lines = λ line run r i b. are_based _ i _ (registers.after_lines line run r i b) (holding.after_lines line run r i b);
+  between = λ line run r next most told m i b. are_based _ i _ (registers.between line run r next most told m i b) (holding.between line run r next most told m i b);
+}

@@ -1,0 +1,196 @@
+-- A packet that the target gets, and a time-out: each agent stays in its phase or is cut; or the agent of one place makes a step, or is pointed to an ORB.
+use Rattle.std.proofs.Common.{◌≡◌, ◌∙◌, refl, sym, ap, subst, inl, ◌<◌, ℕ, Bool, true, false, cond, List, [], length, Option, Some, None, Result, Ok, Err}
+use Rattle.async_packet.specs.Labels.{LabelParts}
+use Rattle.async_packet.specs.Packet.{Packet, header_in}
+use Rattle.label_table.specs.Layer.{Finding, Layer, judging_step, of_again, of_generation, of_grammar, of_label, of_request, of_response}
+use Rattle.login_table.specs.declared.login.Login.{Login}
+use Rattle.orb_layout.specs.declared.ask.Ask.{Ask}
+use Rattle.orb_layout.specs.declared.pointer.OrbPointer.{OrbPointer}
+use Rattle.orb_layout.specs.Replies.{Expired}
+use Rattle.packet_store.specs.declared.sent.Sent.{Sent}
+use Rattle.rbc_disk.specs.Held.{Held}
+use Rattle.rbc_disk.specs.Runs.{Told}
+use Rattle.command_agent.specs.declared.step.PointRefusal.{PointRefusal}
+use Rattle.command_agent.specs.declared.step.Which.{Which}
+use Rattle.command_agent.specs.Steps.{point_step}
+use Rattle.sbp_journal.specs.declared.cause.CutCause.TheVariants as cuts
+use Rattle.sbp_journal.specs.declared.cause.Cause.TheVariants as ignored
+use Rattle.sbp_journal.specs.declared.cause.Judged.{Judged}
+use Rattle.sbp_journal.specs.declared.cause.Judged.TheVariants as judgements
+use Rattle.sbp_journal.specs.Outgoings.{empty_outbox}
+use Rattle.target_base.specs.Addresses.{address_error, complete, demand_of}
+use Rattle.target_base.specs.declared.address.Access.{Access}
+use Rattle.target_base.specs.declared.address.Access.TheVariants as accesses
+use Rattle.target_base.specs.declared.address.Demand.{Demand}
+use Rattle.target_base.specs.declared.address.Demand.TheVariants as demands
+use Rattle.sbp_target.specs.declared.purpose.Purpose.{Purpose}
+use Rattle.sbp_target.specs.declared.purpose.Purpose.TheVariants as purposes
+use Rattle.sbp_target.specs.Agents.{cut}
+use Rattle.sbp_target.specs.Desks.{which_in}
+use Rattle.sbp_target.specs.Nodes.{Scene, desk_at, login_at, scene}
+use Rattle.sbp_target.specs.Receiving.{answer_in, concluded, expire_agent, expired_by, judged_scene, received, received_as, settled, timed_out}
+use Rattle.sbp_target.specs.Replies.{Whole, replied_by, replied_to, served_login, whole}
+use Rattle.sbp_target.specs.Serving.{accessed_by, answered, enabled, is_barred, point, request_step, serve, served_as}
+use Rattle.sbp_world.specs.Delivering.{whole_of}
+use Rattle.sbp_world.specs.Worlds.{WorldState}
+use Rattle.sbp_target.proofs.Histories.Calling.{Good}
+use Rattle.sbp_target.proofs.Histories.Settled.{reaches}
+use Rattle.command_agent.specs.Machine.{Machine, is_ahead, is_sent}
+use Rattle.command_agent.specs.declared.step.Which.TheVariants.{Ahead, Main}
+use Rattle.command_agent.specs.declared.phase.Phase.{Phase}
+use Rattle.command_agent.specs.declared.phase.Phase.TheVariants as phases
+use Rattle.sbp_target.specs.Desks.{is_that, pointed_desk}
+use Rattle.sbp_target.proofs.Histories.Calling.{not_eight}
+use Rattle.sbp_target.proofs.Histories.Stepped.{is_bare}
+use Rattle.sbp_world.specs.Agents.Alike.{has_list}
+use Rattle.sbp_world.proofs.Agents.AskedLate.{ahead_of, main_of}
+use Rattle.sbp_target.specs.Nodes.{with_desk}
+use Rattle.sbp_target.specs.Serving.{pointed_by, rcode_of}
+use Rattle.sbp_world.proofs.Lists.Turns.{sent_has}
+use Rattle.sbp_world.proofs.Lists.BusyCuts.{Cutting, First, answers, cuts_one, desk_more, manages, same_desks, sees, starts, ticks}
+use Rattle.sbp_world.proofs.Lists.BusyFollows.{Acts}
+use Rattle.sbp_world.proofs.Lists.BusyTurns.{M, first, late_acts, reply_acts, rung_acts, silent_rests, taken_acts, there}
+use Rattle.sbp_world.proofs.Lists.OpenTurns.{AreSeated, refused, waits_place}
+use Rattle.sbp_world.proofs.Lists.Busy.{is_busy}
+use Rattle.sbp_target.specs.Serving.{ring}
+use Rattle.sbp_target.specs.Receiving.{seen, ticked}
+
+no : false ≡ true → ⊥
+no e = cc
+
+ahead_lists : (phase : Phase) (x : Bool) → (is_bare phase ≡ true → x ≡ false) → x ≡ true → has_list phase ≡ true
+ahead_lists phases.Reset x f e = absurd (no (sym (f refl) ∙ e))
+ahead_lists phases.Dead x f e = absurd (no (sym (f refl) ∙ e))
+ahead_lists _ x f e = refl
+
+module _ (w : WorldState) (g : Good w.target) where
+  -- what a call does
+  pub data Called (layer : Layer Purpose) (s : Scene) : Type 0 where
+    rests : Cutting (M w g layer) s → Called layer s
+    acts : (q : ℕ) (b : q < 8) → has_list (M w g layer q).phase ≡ true → Acts q b (is_busy (M w g layer q).phase ≡ true) (M w g layer) s → Called layer s
+    points : (q : ℕ) (b : q < 8) → Acts q b (Unit {0}) (M w g layer) s → Called layer s
+
+  begins : (layer : Layer Purpose) → First (M w g layer) (first w g layer)
+  begins layer = record { cutting = record { desks = g.mid.size; beside = tt; stays = λ p. inl refl }; plain = tt }
+
+  starting : (layer : Layer Purpose) → Cutting (M w g layer) (first w g layer)
+  starting layer = (begins layer).cutting
+
+  waits_has : (place : ℕ) → place < 8 → (peer : ℕ) (label : LabelParts) (which : Which) → which_in (desk_at w.target place) peer label ≡ Some which → has_list (desk_at w.target place).agent.phase ≡ true
+  waits_has place b peer label Main e =
+      let d = desk_at w.target place in
+      sent_has d.agent.phase (main_of (is_that d.main peer label) (is_sent d.agent.phase) (is_that d.ahead peer label) (is_ahead d.agent.ahead) e)
+  waits_has place b peer label Ahead e =
+      let d = desk_at w.target place in
+      ahead_lists d.agent.phase (is_ahead d.agent.ahead) (g.mid.fits place b (not_eight place b)).agent.bare
+      (ahead_of (is_that d.main peer label) (is_sent d.agent.phase) (is_that d.ahead peer label) (is_ahead d.agent.ahead) e)
+
+  module _ (seats : AreSeated w) (sent : Sent) (run : Option Told) (media : Held) where
+    abbrev layer : Layer Purpose
+    layer = (judging_step w.target.layer sent.generation sent.bytes).1
+
+    abbrev N : ℕ → Machine
+    N = M w g layer
+
+    abbrev here : Scene
+    here = first w g layer
+
+    abbrev all : Whole
+    all = whole here media.disks
+
+    abbrev Now : Scene → Type 0
+    Now s = Called layer s
+
+    answer : (p : Packet) (rcode : ℕ) (given : List ℕ) (s : Scene) → Cutting N s → Now (answered p sent.bytes rcode given s)
+    answer p rcode given s k = rests (answers N p sent.bytes rcode given s k)
+
+    reply_by : (p : Packet) (label : LabelParts) (place : ℕ) (login : Option Login) (which : Option Which) → which_in (desk_at w.target place) (header_in p).source label ≡ which → (let x = replied_by run place (answer_in p) login which all in Now (scene x.node x.outbox))
+    reply_by p label place None which e = rests (starting layer)
+    reply_by p label place (Some login) None e = rests (starting layer)
+    reply_by p label place (Some login) (Some which) e =
+        let b = waits_place w g seats place (header_in p).source label which e in
+        acts place b (waits_has place b (header_in p).source label which e) (reply_acts w g layer place b login which run (answer_in p) media.disks)
+
+    concludes : (p : Packet) (label : LabelParts) (purpose : Option Purpose) → (let x = concluded run purpose (header_in p).source label (answer_in p) all in Now (scene x.node x.outbox))
+    unfolding concluded replied_to
+    concludes p label None = rests (starting layer)
+    concludes p label (Some (purposes.Agent place)) = reply_by p label place (served_login (there w g layer) place) (which_in (desk_at w.target place) (header_in p).source label) refl
+    concludes p label (Some purposes.Management) = rests (manages N (answer_in p) here (begins layer))
+    concludes p label (Some purposes.Unsolicited) = rests (same_desks N here (settled (header_in p).source here.node) empty_outbox refl refl (starting layer))
+
+    -- ---- a request
+    point_by : (p : Packet) (place : ℕ) (pointer : OrbPointer) → place < 8 → (x : Result Ask PointRefusal) → (point_step (N place) pointer).0 ≡ x → Now (point place pointer p sent.bytes here)
+    unfolding point
+    point_by p place pointer small (Ok ask) e = points place small (taken_acts w g layer place small p sent.bytes pointer ask e)
+    point_by p place pointer small (Err refusal) e =
+        let now = (point_step (N place) pointer).1 in
+        let d = record (desk_at here.node place) { agent = now } in
+        let t = scene (with_desk here.node place d) empty_outbox in
+        subst (λ (x : Result Ask PointRefusal). Now (pointed_by place p sent.bytes (pointed_desk (desk_at here.node place) (x, now)) here)) (sym e)
+        (answer p (rcode_of refusal) [] t (desk_more N here place d (ap (λ (m : Machine). m.phase) (refused (N place) pointer refusal e)) (starting layer)))
+
+    ring_by : (p : Packet) (place : ℕ) → place < 8 → (x : Bool) → has_list (N place).phase ≡ x → Now (ring place p sent.bytes here)
+    ring_by p place small true e = acts place small e (rung_acts w g layer place small p sent.bytes)
+    ring_by p place small false e = rests (silent_rests w g layer place small p sent.bytes e (starting layer))
+
+    access_by : (p : Packet) (place : ℕ) (access : Access) → is_barred w.target p ≡ false → demand_of (length w.target.rom) p ≡ demands.Agent place access → Now (accessed_by access place p sent.bytes here)
+    access_by p place accesses.State n d = answer p complete _ here (starting layer)
+    access_by p place accesses.Reset n d = answer p complete [] (cut cuts.AgentReset place here) (cuts_one N cuts.AgentReset place here (begins layer)).cutting
+    access_by p place (accesses.Point pointer) n d = point_by p place pointer (reaches w.target g p place (accesses.Point pointer) n d).small (point_step (N place) pointer).0 refl
+    access_by p place accesses.Pointer n d = answer p complete _ here (starting layer)
+    access_by p place accesses.Ring n d = ring_by p place (reaches w.target g p place accesses.Ring n d).small (has_list (N place).phase) refl
+    access_by p place accesses.Enable n d =
+        answer p complete [] (enabled place here) (desk_more N here place (record (desk_at here.node place) { is_enabled = true }) refl (starting layer))
+
+    demand_by : (p : Packet) (demand : Demand) → is_barred w.target p ≡ false → demand_of (length w.target.rom) p ≡ demand → Now (served_as demand p sent.bytes here)
+    demand_by p (demands.Refused rcode) n d = answer p rcode [] here (starting layer)
+    demand_by p (demands.Rom at len) n d = answer p complete _ here (starting layer)
+    demand_by p (demands.Manage orb) n d = rests (starts N orb p sent.bytes here (starting layer))
+    demand_by p (demands.Agent place access) n d = access_by p place access n d
+
+    serve_by : (p : Packet) → is_barred w.target p ≡ false → Now (serve p sent.bytes here)
+    unfolding serve
+    serve_by p n = demand_by p (demand_of (length w.target.rom) p) n refl
+
+    -- ---- by what it is found to be
+    abbrev Done : Judged × Whole → Type 0
+    Done x = Now (scene x.1.node x.1.outbox)
+
+    by_bar : (p : Packet) (b : Bool) → is_barred w.target p ≡ b → Done (judged_scene (cond b (judgements.Ignored ignored.Login, answered p sent.bytes address_error [] here) (judgements.Got, serve p sent.bytes here)) all)
+    by_bar p true e = answer p address_error [] here (starting layer)
+    by_bar p false e = serve_by p e
+
+    by_found : (f : Finding Purpose) → Done (received_as run sent.bytes f all)
+    unfolding request_step is_barred
+    by_found of_generation = rests (starting layer)
+    by_found of_grammar = rests (starting layer)
+    by_found of_label = rests (starting layer)
+    by_found (of_again p rcode) = answer p rcode [] here (starting layer)
+    by_found (of_response p label purpose) = concludes p label purpose
+    by_found (of_request p) = by_bar p (is_barred w.target p) refl
+
+    pub delivery_called : Done (received run sent.generation sent.bytes (whole_of w.target media))
+    unfolding received
+    delivery_called = by_found (judging_step w.target.layer sent.generation sent.bytes).0
+
+  -- ---- a transaction that times out
+  module _ (seats : AreSeated w) (layer : Layer Purpose) (peer : ℕ) (label : LabelParts) where
+    late_by : (place : ℕ) (login : Option Login) (which : Option Which) → which_in (desk_at w.target place) peer label ≡ which → Called layer (expired_by place login which (first w g layer))
+    late_by place None which e = rests (starting layer)
+    late_by place (Some login) None e = rests (starting layer)
+    late_by place (Some login) (Some which) e =
+        let b = waits_place w g seats place peer label which e in acts place b (waits_has place b peer label which e) (late_acts w g layer place b login which)
+
+    pub lapse_called : (purpose : Option Purpose) → Called layer (timed_out purpose peer label (first w g layer))
+    unfolding expire_agent
+    lapse_called None = rests (starting layer)
+    lapse_called (Some (purposes.Agent place)) = late_by place (login_at w.target place) (which_in (desk_at w.target place) peer label) refl
+    lapse_called (Some purposes.Management) = rests (manages (M w g layer) Expired (first w g layer) (begins layer))
+    lapse_called (Some purposes.Unsolicited) = rests (starting layer)
+
+  -- ---- a generation that it sees, and a second
+  pub sight_called : (generation id : ℕ) → Called w.target.layer (seen generation id (first w g w.target.layer)).1
+  sight_called generation id = rests (sees (M w g w.target.layer) generation id (first w g w.target.layer) (begins w.target.layer))
+
+  pub tick_called : Called w.target.layer (ticked (first w g w.target.layer))
+  tick_called = rests (ticks (M w g w.target.layer) (first w g w.target.layer) (starting w.target.layer))

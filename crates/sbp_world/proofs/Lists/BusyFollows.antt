@@ -1,0 +1,325 @@
+-- What follows a step of the agent of a place, which has an ORB that has not ended: it has it still, or an end of it is told; and nothing is told but of runs,
+-- ends and deaths of that place, and of unsolicited statuses.
+use Rattle.std.proofs.Common.{◌≡◌, ◌∙◌, refl, sym, ap, subst, inl, inr, ◌⊎◌, ◌<◌, ◌≤◌, ℕ, zero, suc, ◌+◌, is_some, Bool, true, false, cond, List, [], ◌∷◌, ◌++◌, length, Option, Some, None, arith}
+use Rattle.std.proofs.Math.ListN.{length-set}
+use Rattle.label_table.specs.declared.judgement.Asked.{Asked}
+use Rattle.label_table.specs.Bodies.{Body, block_write}
+use Rattle.label_table.specs.Layer.{Layer, asking_step}
+use Rattle.login_table.specs.declared.login.Login.{Login}
+use Rattle.media_bay.specs.Unsolicited.{block}
+use Rattle.orb_layout.specs.declared.ask.Ask.{Ask}
+use Rattle.orb_layout.specs.declared.ask.FailCause.{FailCause}
+use Rattle.orb_layout.specs.declared.ask.FailCause.TheVariants as causes
+use Rattle.orb_layout.specs.declared.status.StatusKind.{StatusKind}
+use Rattle.rbc_disk.specs.declared.command.Outcome.{Outcome}
+use Rattle.command_agent.specs.declared.step.AgentStep.{AgentStep}
+use Rattle.command_agent.specs.declared.step.Which.{Which}
+use Rattle.command_agent.specs.declared.step.Which.TheVariants.{Ahead, Main}
+use Rattle.command_agent.specs.Machine.{Machine, is_under_way}
+use Rattle.command_agent.specs.Steps.{lost_step}
+use Rattle.sbp_journal.specs.Outgoings.{OutboxState}
+use Rattle.sbp_journal.specs.declared.side.Side.{Side}
+use Rattle.sbp_journal.specs.declared.side.Side.TheVariants as sides
+use Rattle.sbp_target.specs.declared.desk.Desk.{Desk}
+use Rattle.sbp_target.specs.declared.purpose.Purpose.{Purpose}
+use Rattle.sbp_target.specs.declared.purpose.Purpose.TheVariants as purposes
+use Rattle.sbp_target.specs.Agents.{after_ahead, after_loss, after_main, agent_body, ahead_asked, ahead_sent, ask_main, dropped_by, follow, lose, lose_main, lost_by, main_asked, main_sent, noted, promoted_by, send_ahead, without_ahead}
+use Rattle.sbp_target.specs.Nodes.{NodeState, Scene, desk_at, login_at, scene, with_agent}
+use Rattle.sbp_target.specs.Sending.{request_step, sent_by, with_side}
+use Rattle.sbp_target.specs.Telling.{orb_of, tell_dead, tell_ended, tell_ran, tell_step}
+use Rattle.sbp_target.specs.Units.{announce_at, announce_from, announce_in, announce_to, hears, is_pending, unsolicited_by, unsolicited_from}
+use Rattle.sbp_world.proofs.Lists.Follows.{AreSame, are_self, are_then, set_here, set_there, with_same}
+use Rattle.sbp_world.proofs.Lists.Busy.{is_busy, lost_busy}
+use Rattle.command_agent.specs.Steps as steps
+
+-- ---- what is told of the step of an agent
+abbrev pub IsOf : ℕ → Side → Type 0
+IsOf q (sides.Opened place orb) = place ≡ q
+IsOf q (sides.Ran place orb cdb payload outcome) = place ≡ q
+IsOf q (sides.Ended place orb status) = place ≡ q
+IsOf q (sides.Dead place cause) = place ≡ q
+IsOf q (sides.Unsolicited place) = Unit {0}
+IsOf q (sides.Unsent place) = Unit {0}
+IsOf q side = ⊥
+
+abbrev pub AreOf : ℕ → List Side → Type 0
+AreOf q [] = Unit {0}
+AreOf q (side ∷ later) = IsOf q side × AreOf q later
+
+-- an end among it
+abbrev pub is_end : Side → Bool
+is_end (sides.Ended place orb status) = true
+is_end side = false
+
+abbrev pub has_end : List Side → Bool
+has_end [] = false
+has_end (side ∷ later) = cond (is_end side) true (has_end later)
+
+of_more : (q : ℕ) (told : List Side) (side : Side) → AreOf q told → IsOf q side → AreOf q (told ++ side ∷ [])
+of_more q [] side a h = (h, tt)
+of_more q (one ∷ later) side a h = (a.0, of_more q later side a.1 h)
+
+end_by : (x y : Bool) → x ≡ true → cond y true x ≡ true
+end_by x true e = refl
+end_by x false e = e
+
+ends_by : (x rest more : Bool) → (rest ≡ true → more ≡ true) → cond x true rest ≡ true → cond x true more ≡ true
+ends_by true rest more f e = refl
+ends_by false rest more f e = f e
+
+ends_more : (told : List Side) (side : Side) → has_end told ≡ true → has_end (told ++ side ∷ []) ≡ true
+ends_more [] side e = absurd (let no : false ≡ true = e in cc)
+ends_more (one ∷ later) side e = ends_by (is_end one) (has_end later) (has_end (later ++ side ∷ [])) (λ f. ends_more later side f) e
+
+ends_now : (told : List Side) (place orb : ℕ) (status : StatusKind) → has_end (told ++ sides.Ended place orb status ∷ []) ≡ true
+ends_now [] place orb status = refl
+ends_now (one ∷ later) place orb status = end_by (has_end (later ++ sides.Ended place orb status ∷ [])) (is_end one) (ends_now later place orb status)
+
+-- of the agent of a place
+-- and what is known as it begins
+module _ (q : ℕ) (b : q < 8) (Known : Type 0) (machines : ℕ → Machine) where
+  pub record Acts (s : Scene) : Type 0 where
+    pub of : AreOf q s.outbox.sides
+    pub desks : length s.node.desks ≡ 8
+    pub same : (p : ℕ) → (p ≡ q → ⊥) → (desk_at s.node p).agent ≡ machines p
+    pub busy : Known → (is_busy (desk_at s.node q).agent.phase ≡ true) ⊎ (has_end s.outbox.sides ≡ true)
+
+  alike_busy : (s t : Scene) → AreSame s.node t.node → t.outbox.sides ≡ s.outbox.sides → (is_busy (desk_at s.node q).agent.phase ≡ true) ⊎ (has_end s.outbox.sides ≡ true) → (is_busy (desk_at t.node q).agent.phase ≡ true) ⊎ (has_end t.outbox.sides ≡ true)
+  alike_busy s t a e (inl h) = inl (ap (λ (m : Machine). is_busy m.phase) (a.agents q) ∙ h)
+  alike_busy s t a e (inr h) = inr (ap has_end e ∙ h)
+
+  pub alike : (s t : Scene) → AreSame s.node t.node → t.outbox.sides ≡ s.outbox.sides → Acts s → Acts t
+  alike s t a e m = record { of = subst (AreOf q) (sym e) m.of; desks = a.desks ∙ m.desks; same = λ p f. a.agents p ∙ m.same p f; busy = λ known. alike_busy s t a e (m.busy known) }
+
+  -- ---- a step is told
+  ran_of : (x : Option Outcome) (m : Machine) (o : OutboxState) → AreOf q o.sides → AreOf q (tell_ran q m x o).sides
+  ran_of None m o a = a
+  ran_of (Some outcome) m o a = of_more q o.sides (sides.Ran q (orb_of m) m.orb.cdb m.payload outcome) a refl
+
+  dead_of : (x : Option FailCause) (o : OutboxState) → AreOf q o.sides → AreOf q (tell_dead q x o).sides
+  dead_of None o a = a
+  dead_of (Some cause) o a = of_more q o.sides (sides.Dead q cause) a refl
+
+  ended_of : (x : Option StatusKind) (m : Machine) (o : OutboxState) → AreOf q o.sides → AreOf q (tell_ended q m x o).sides
+  ended_of None m o a = a
+  ended_of (Some status) m o a = of_more q o.sides (sides.Ended q (orb_of m) status) a refl
+
+  step_of : (step : AgentStep) (m : Machine) (o : OutboxState) → AreOf q o.sides → AreOf q (tell_step q m step o).sides
+  unfolding tell_step
+  step_of step m o a = ended_of step.ended m (tell_dead q step.dead (tell_ran q m step.ran o)) (dead_of step.dead (tell_ran q m step.ran o) (ran_of step.ran m o a))
+
+  ran_ends : (x : Option Outcome) (m : Machine) (o : OutboxState) → has_end o.sides ≡ true → has_end (tell_ran q m x o).sides ≡ true
+  ran_ends None m o a = a
+  ran_ends (Some outcome) m o a = ends_more o.sides (sides.Ran q (orb_of m) m.orb.cdb m.payload outcome) a
+
+  dead_ends : (x : Option FailCause) (o : OutboxState) → has_end o.sides ≡ true → has_end (tell_dead q x o).sides ≡ true
+  dead_ends None o a = a
+  dead_ends (Some cause) o a = ends_more o.sides (sides.Dead q cause) a
+
+  ended_ends : (x : Option StatusKind) (m : Machine) (o : OutboxState) → has_end o.sides ≡ true → has_end (tell_ended q m x o).sides ≡ true
+  ended_ends None m o a = a
+  ended_ends (Some status) m o a = ends_more o.sides (sides.Ended q (orb_of m) status) a
+
+  step_keeps : (step : AgentStep) (m : Machine) (o : OutboxState) → has_end o.sides ≡ true → has_end (tell_step q m step o).sides ≡ true
+  unfolding tell_step
+  step_keeps step m o a = ended_ends step.ended m (tell_dead q step.dead (tell_ran q m step.ran o)) (dead_ends step.dead (tell_ran q m step.ran o) (ran_ends step.ran m o a))
+
+  ended_tells : (x : Option StatusKind) (m : Machine) (o : OutboxState) → is_some x ≡ true → has_end (tell_ended q m x o).sides ≡ true
+  ended_tells None m o e = absurd (let no : false ≡ true = e in cc)
+  ended_tells (Some status) m o e = ends_now o.sides q (orb_of m) status
+
+  step_ends : (step : AgentStep) (m : Machine) (o : OutboxState) → is_some step.ended ≡ true → has_end (tell_step q m step o).sides ≡ true
+  unfolding tell_step
+  step_ends step m o e = ended_tells step.ended m (tell_dead q step.dead (tell_ran q m step.ran o)) e
+
+  dropped_same : (dead : Option FailCause) (node : NodeState) → length node.desks ≡ 8 → AreSame node (dropped_by dead q node)
+  unfolding without_ahead
+  dropped_same None node e = are_self node
+  dropped_same (Some cause) node e = let w = with_same node q (record (desk_at node q) { ahead = None }) (omega (arith, e)) refl in record { desks = w.desks; agents = w.agents }
+
+  promoted_same : (x : Bool) (node : NodeState) → length node.desks ≡ 8 → AreSame node (promoted_by x q node)
+  promoted_same false node e = are_self node
+  promoted_same true node e = with_same node q (record (desk_at node q) { main = (desk_at node q).ahead; ahead = None }) (omega (arith, e)) refl
+
+  noted_same : (step : AgentStep) (s : Scene) → length s.node.desks ≡ 8 → AreSame s.node (noted q step s).node
+  unfolding noted
+  noted_same step s e =
+      let d = dropped_same step.dead s.node e in
+      are_then s.node (dropped_by step.dead q s.node) (promoted_by step.promoted q (dropped_by step.dead q s.node)) d (promoted_same step.promoted (dropped_by step.dead q s.node) (d.desks ∙ e))
+
+  noted_outbox : (step : AgentStep) (s : Scene) → (noted q step s).outbox ≡ tell_step q (desk_at s.node q).agent step s.outbox
+  unfolding noted
+  noted_outbox step s = refl
+
+  -- a step that is not told yet: the agent has the ORB still, or it ends now or ended before
+  pub record Steps (step : AgentStep) (s : Scene) : Type 0 where
+    pub of : AreOf q s.outbox.sides
+    pub desks : length s.node.desks ≡ 8
+    pub same : (p : ℕ) → (p ≡ q → ⊥) → (desk_at s.node p).agent ≡ machines p
+    pub busy : Known → ((is_busy (desk_at s.node q).agent.phase ≡ true) ⊎ (is_some step.ended ≡ true)) ⊎ (has_end s.outbox.sides ≡ true)
+
+  pub noted_acts : (step : AgentStep) (s : Scene) → Steps step s → Acts (noted q step s)
+  noted_acts step s m =
+      let a = noted_same step s m.desks in
+      let e : (noted q step s).outbox.sides ≡ (tell_step q (desk_at s.node q).agent step s.outbox).sides = ap (λ (o : OutboxState). o.sides) (noted_outbox step s) in
+      record { of = subst (AreOf q) (sym e) (step_of step (desk_at s.node q).agent s.outbox m.of); desks = a.desks ∙ m.desks; same = λ p f. a.agents p ∙ m.same p f; busy = λ known. by (m.busy known) }
+    where
+      by : ((is_busy (desk_at s.node q).agent.phase ≡ true) ⊎ (is_some step.ended ≡ true)) ⊎ (has_end s.outbox.sides ≡ true) → (is_busy (desk_at (noted q step s).node q).agent.phase ≡ true) ⊎ (has_end (noted q step s).outbox.sides ≡ true)
+      by (inl (inl h)) = inl (ap (λ (m : Machine). is_busy m.phase) ((noted_same step s m.desks).agents q) ∙ h)
+      by (inl (inr h)) = inr (ap (λ (o : OutboxState). has_end o.sides) (noted_outbox step s) ∙ step_ends step (desk_at s.node q).agent s.outbox h)
+      by (inr h) = inr (ap (λ (o : OutboxState). has_end o.sides) (noted_outbox step s) ∙ step_keeps step (desk_at s.node q).agent s.outbox h)
+
+  -- ---- requests
+  sent_acts : (s : Scene) (peer : ℕ) (r : Option Asked × Layer Purpose) → Acts s → Acts (main_sent q peer s.node (sent_by r s.outbox peer)).1
+  sent_acts s peer (None, layer) m = alike s _ (record { desks = refl; agents = λ p. refl }) refl m
+  sent_acts s peer (Some asked, layer) m =
+      let node = record s.node { layer = layer } in
+      let w = with_same node q (record (desk_at node q) { main = Some (record { peer = peer; label = asked.label }) }) (let e = m.desks in omega (arith, e)) refl in
+      alike s _ (record { desks = w.desks; agents = w.agents }) refl m
+
+  main_acts : (body : Option Body) (login : Login) (s : Scene) → Acts s → Acts (main_asked body q login s).1
+  unfolding request_step
+  main_acts None login s m = m
+  main_acts (Some body) login s m = sent_acts s login.node (asking_step s.node.layer login.node body (purposes.Agent q)) m
+
+  ask_acts : (login : Login) (step : AgentStep) (s : Scene) → Acts s → Acts (ask_main q login step s).1
+  unfolding ask_main
+  ask_acts login step s m = main_acts (agent_body step.ask (is_some step.ended) login.fifo (desk_at s.node q).agent.outgoing) login s m
+
+  -- ---- a transaction that finds no label
+  lost_steps : (s : Scene) (which : Which) → Acts s → (let l = lost_step (desk_at s.node q).agent which causes.Label in Steps l.0 (scene (with_agent s.node q l.1) s.outbox))
+  lost_steps s which m =
+      let l = lost_step (desk_at s.node q).agent which causes.Label in
+      let d = record (desk_at s.node q) { agent = l.1 } in
+      record { of = m.of; desks = length-set s.node.desks q d ∙ m.desks; same = λ p f. ap (λ (x : Desk). x.agent) (set_there s.node q p d (let e = m.desks in omega (arith, e)) f) ∙ m.same p f; busy = λ known. by (m.busy known) }
+    where
+      l : AgentStep × Machine
+      l = lost_step (desk_at s.node q).agent which causes.Label
+
+      d : Desk
+      d = record (desk_at s.node q) { agent = l.1 }
+
+      is_set : (desk_at (with_agent s.node q l.1) q).agent ≡ l.1
+      is_set = ap (λ (x : Desk). x.agent) (set_here s.node q d (let e = m.desks in omega (arith, e)))
+
+      done : (is_busy l.1.phase ≡ true) ⊎ (is_some l.0.ended ≡ true) → (is_busy (desk_at (with_agent s.node q l.1) q).agent.phase ≡ true) ⊎ (is_some l.0.ended ≡ true)
+      done (inl h) = inl (ap (λ (x : Machine). is_busy x.phase) is_set ∙ h)
+      done (inr h) = inr h
+
+      by : (is_busy (desk_at s.node q).agent.phase ≡ true) ⊎ (has_end s.outbox.sides ≡ true) → ((is_busy (desk_at (with_agent s.node q l.1) q).agent.phase ≡ true) ⊎ (is_some l.0.ended ≡ true)) ⊎ (has_end s.outbox.sides ≡ true)
+      by (inl h) = inl (done (lost_busy (desk_at s.node q).agent which causes.Label h))
+      by (inr h) = inr h
+
+  lost_acts : (x : Bool) (login : Login) (which : Which) (s : Scene) → Acts s → Acts (lost_by x q login which s).1
+  lost_acts false login which s m = m
+  lost_acts true login which s m =
+      let l = lost_step (desk_at s.node q).agent which causes.Label in
+      let t = scene (with_agent s.node q l.1) s.outbox in
+      ask_acts login l.0 (noted q l.0 t) (noted_acts l.0 t (lost_steps s which m))
+
+  lose_acts : (login : Login) (which : Which) (s : Scene) → Acts s → Acts (lose q login which s).1
+  unfolding lose
+  lose_acts login which s m = lost_acts (is_under_way which (desk_at s.node q).agent) login which s m
+
+  loss_acts : (login : Login) (r : Bool × Scene) → Acts r.1 → Acts (after_loss q login r)
+  loss_acts login (true, s) m = m
+  loss_acts login (false, s) m = lose_acts login Main s m
+
+  lose_main_acts : (login : Login) (s : Scene) → Acts s → Acts (lose_main q login s)
+  unfolding lose_main
+  lose_main_acts login s m = loss_acts login (lose q login Main s) (lose_acts login Main s m)
+
+  -- ---- the read ahead
+  ahead_sent_acts : (s : Scene) (peer : ℕ) (r : Option Asked × Layer Purpose) → Acts s → Acts (ahead_sent q peer s.node (sent_by r s.outbox peer)).1
+  ahead_sent_acts s peer (None, layer) m = alike s _ (record { desks = refl; agents = λ p. refl }) refl m
+  ahead_sent_acts s peer (Some asked, layer) m =
+      let node = record s.node { layer = layer } in
+      let w = with_same node q (record (desk_at node q) { ahead = Some (record { peer = peer; label = asked.label }) }) (let e = m.desks in omega (arith, e)) refl in
+      alike s _ (record { desks = w.desks; agents = w.agents }) refl m
+
+  pick_acts : (x : Bool) (s t : Bool × Scene) → Acts s.1 → Acts t.1 → Acts (cond x s t).1
+  pick_acts true s t m k = m
+  pick_acts false s t m k = k
+
+  ahead_acts : (body : Option Body) (login : Login) (s : Scene) → Acts s → Acts (ahead_asked body q login s).1
+  unfolding request_step
+  ahead_acts None login s m = m
+  ahead_acts (Some body) login s m =
+      pick_acts _ (false, s) (ahead_sent q login.node s.node (request_step s.node.layer s.outbox login.node body (purposes.Agent q))) m
+      (ahead_sent_acts s login.node (asking_step s.node.layer login.node body (purposes.Agent q)) m)
+
+  send_ahead_acts : (login : Login) (ask : Ask) (s : Scene) → Acts s → Acts (send_ahead q login ask s).1
+  unfolding send_ahead
+  send_ahead_acts login ask s m = ahead_acts (agent_body ask false login.fifo (desk_at s.node q).agent.outgoing) login s m
+
+  after_ahead_acts : (login : Login) (r : Bool × Scene) → Acts r.1 → Acts (after_ahead q login r)
+  after_ahead_acts login (true, s) m = m
+  after_ahead_acts login (false, s) m = lose_acts login Ahead s m
+
+  after_main_acts : (login : Login) (step : AgentStep) (r : Bool × Scene) → Acts r.1 → Acts (after_main q login step r)
+  after_main_acts login step (true, s) m = after_ahead_acts login (send_ahead q login step.ahead s) (send_ahead_acts login step.ahead s m)
+  after_main_acts login step (false, s) m = lose_main_acts login s m
+
+  -- ---- what follows a step
+  pub follow_acts : (login : Login) (step : AgentStep) (s : Scene) → Steps step s → Acts (follow q login step s)
+  unfolding follow
+  follow_acts login step s m =
+      let t = noted q step s in after_main_acts login step (ask_main q login step t) (ask_acts login step t (noted_acts step s m))
+
+  -- a step that tells nothing
+  pub asks_acts : (login : Login) (ask : Ask) (s : Scene) → Acts s → Acts (follow q login (steps.asks ask) s)
+  asks_acts login ask s m = follow_acts login (steps.asks ask) s (record { of = m.of; desks = m.desks; same = m.same; busy = λ known. by (m.busy known) })
+    where
+      by : (is_busy (desk_at s.node q).agent.phase ≡ true) ⊎ (has_end s.outbox.sides ≡ true) → ((is_busy (desk_at s.node q).agent.phase ≡ true) ⊎ (false ≡ true)) ⊎ (has_end s.outbox.sides ≡ true)
+      by (inl h) = inl (inl h)
+      by (inr h) = inr h
+
+  -- ---- other logins hear of a disc
+  heard_acts : (place : ℕ) (x : Bool) (s : Scene) → Acts s → Acts (scene s.node (with_side s.outbox (cond x (sides.Unsolicited place) (sides.Unsent place))))
+  heard_acts place x s m = record { of = of_more q s.outbox.sides (heard x) m.of (heard_of x); desks = m.desks; same = m.same; busy = λ known. by (m.busy known) }
+    where
+      heard : Bool → Side
+      heard x = cond x (sides.Unsolicited place) (sides.Unsent place)
+
+      heard_of : (x : Bool) → IsOf q (heard x)
+      heard_of true = tt
+      heard_of false = tt
+
+      by : (is_busy (desk_at s.node q).agent.phase ≡ true) ⊎ (has_end s.outbox.sides ≡ true) → (is_busy (desk_at s.node q).agent.phase ≡ true) ⊎ (has_end (s.outbox.sides ++ heard x ∷ []) ≡ true)
+      by (inl h) = inl h
+      by (inr h) = inr (ends_more s.outbox.sides (heard x) h)
+
+  unsolicited_acts : (place : ℕ) → place < 8 → (s : Scene) (peer : ℕ) (r : Option Asked × Layer Purpose) → Acts s → Acts (unsolicited_by place peer s.node (sent_by r s.outbox peer))
+  unsolicited_acts place c s peer (None, layer) m =
+      let t = scene (record s.node { layer = layer }) s.outbox in heard_acts place false t (alike s t (record { desks = refl; agents = λ p. refl }) refl m)
+  unsolicited_acts place c s peer (Some asked, layer) m =
+      let o = (sent_by (Some asked, layer) s.outbox peer).1.1 in
+      let t = scene (unsolicited_from place peer layer s.node) o in
+      let w = with_same s.node place (record (desk_at s.node place) { is_enabled = false }) (let e = m.desks in omega (arith, e)) refl in
+      heard_acts place true t (alike s t (record { desks = w.desks; agents = w.agents }) refl m)
+
+  pick_scene : (x : Bool) (s t : Scene) → Acts s → Acts t → Acts (cond x s t)
+  pick_scene true s t m k = m
+  pick_scene false s t m k = k
+
+  announce_acts : (place : ℕ) → place < 8 → (login : Login) (s : Scene) → Acts s → Acts (announce_to place login s)
+  unfolding announce_to request_step
+  announce_acts place c login s m =
+      pick_scene (is_pending login.node s.node.pending) (scene s.node (with_side s.outbox (sides.Unsent place)))
+      (unsolicited_by place login.node s.node (request_step s.node.layer s.outbox login.node (block_write login.fifo block) purposes.Unsolicited)) (heard_acts place false s m)
+      (unsolicited_acts place c s login.node (asking_step s.node.layer login.node (block_write login.fifo block) purposes.Unsolicited) m)
+
+  announce_in_acts : (unit from place : ℕ) → place < 8 → (login : Option Login) (s : Scene) → Acts s → Acts (announce_in unit from place login s)
+  announce_in_acts unit from place c None s m = m
+  announce_in_acts unit from place c (Some login) s m =
+      pick_scene (hears unit from place (desk_at s.node place) login) (announce_to place login s) s (announce_acts place c login s m) m
+
+  announce_at_acts : (unit from place : ℕ) → place < 8 → (s : Scene) → Acts s → Acts (announce_at unit from place s)
+  unfolding announce_at
+  announce_at_acts unit from place c s m = announce_in_acts unit from place c (login_at s.node place) s m
+
+  pub announce_from_acts : (left place unit from : ℕ) → left + place ≤ 8 → (s : Scene) → Acts s → Acts (announce_from left place unit from s)
+  unfolding announce_from
+  announce_from_acts zero place unit from c s m = m
+  announce_from_acts (suc left) place unit from c s m =
+      announce_from_acts left (place + 1) unit from (omega arith) (announce_at unit from place s) (announce_at_acts unit from place (omega arith) s m)

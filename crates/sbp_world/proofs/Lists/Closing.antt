@@ -1,0 +1,184 @@
+-- From place to place of a run: where each place has what it needs as lists were open as they should be before, they are so at every place; and where they are so in
+-- every run, they were so before each place of it.
+use Rattle.std.proofs.Common.{arith, ◌≡◌, sym, subst, ℕ, ◌+◌, ◌^◌, ◌<◌, ◌≤◌, List, [], ◌∷◌, ◌++◌, map, length, Option, Some, None}
+use Rattle.rbc_disk.specs.Runs.{Told}
+use Rattle.sbp_journal.specs.declared.event.Event.{Event}
+use Rattle.sbp_journal.specs.declared.event.Event.TheVariants as events
+use Rattle.sbp_journal.specs.declared.note.Note.TheVariants as notes
+use Rattle.sbp_journal.specs.Run.{Moment, asked, said}
+use Rattle.sbp_journal.specs.Transactions.{Sending}
+use Rattle.sbp_journal.specs.Wire.{terms}
+use Rattle.sbp_world.specs.Histories.{history_of, moments_behind}
+use Rattle.sbp_world.specs.Lines.{MayHappen}
+use Rattle.sbp_world.specs.Runs.{AreEntries, Entry, Run, after, beginning}
+use Rattle.sbp_world.specs.Settling.{MayAll, after_all}
+use Rattle.sbp_world.specs.Wire.Lines.{AreLines}
+use Rattle.sbp_world.specs.Worlds.{Scene, WorldState, begun}
+use Rattle.sbp_world.specs.Agents.Management.Terms.{DeliversMore}
+use Rattle.sbp_world.specs.Hosts.Runs.{IsRun, more_deliveries}
+use Rattle.sbp_world.proofs.Hosts.Runs.{count_after, count_between}
+use Rattle.sbp_world.specs.Pointers.Pointers.{PointersAt, PointersLaw}
+use Rattle.sbp_world.specs.Lists.Begun.{BegunLaw}
+use Rattle.sbp_world.specs.Lists.Closes.{ClosingLaw}
+use Rattle.sbp_world.specs.Lists.EndedLists.{AreEnded}
+use Rattle.sbp_world.specs.Lists.Lasts.{AreLast, LastLaw}
+use Rattle.sbp_world.specs.Lists.Needs.{OpenAfter, OpenBefore, OpenBehind, OpenBetween, OpenIn, OpenLists, OpenListsLaw, OpenWhile}
+use Rattle.sbp_world.specs.Lists.Places.{AreListed}
+use Rattle.sbp_world.proofs.Lists.Closes.{Closes, ClosesLaw, closes_law}
+use Rattle.sbp_world.proofs.Lists.EndedLists.{ended_lists_law, none_ended}
+use Rattle.sbp_world.proofs.Lists.OpenLasting.{lasts}
+use Rattle.sbp_world.proofs.Lists.OpenWires.{wire_after, wire_between}
+use Rattle.sbp_world.proofs.Lists.Runs.{as_front, lines_same, moments_same}
+use Rattle.sbp_world.proofs.Lists.RunSites.{more_by}
+
+-- ---- at a place
+module _ (past : List Moment) (w : WorldState) (c : Closes past w) where
+  -- a list whose write waits has no end
+  are_last : ((i : ℕ) → i < length w.initiators → PointersAt past i) → ((later earlier : List Moment) (serial : ℕ) (sent : Sending) → later ++ said (notes.Got serial) ∷ earlier ≡ past → (terms earlier).sent serial ≡ Some sent → (terms past).sent serial ≡ Some sent) → AreEnded past → AreLast past w
+  are_last pointers lasting ended i inside calm = (
+    c.last i inside calm,
+    record {
+      first = c.first i inside calm;
+      waiting = λ serial n sent e f g h. record { none = none_ended past i (c.last i inside calm).named (pointers i inside) lasting n (λ b. ended i n calm b) serial f h };
+    },
+  )
+
+  open_lists : AreListed past w → OpenLists past w
+  open_lists l = record { listed = l.listed; one = l.one; points = l.points; behind = c.behind }
+
+-- what gives that lists are as they should be at a place, where they were so before
+record Gives : Type 0 where
+  ends : (line : ℕ) (run : Run) → IsRun run → 0 < run.units → run.units ≤ 4 → length run.start.disks ≡ run.units → OpenBefore line run run.entries → OpenAfter line run run.entries
+  meets : (line : ℕ) (run : Run) → IsRun run → 0 < run.units → run.units ≤ 4 → length run.start.disks ≡ run.units → (next : ℕ) (most : Option ℕ) (told : List (Option Told)) → MayAll told (begun (after (beginning run) run.entries)) → OpenBetween line run next (more_deliveries most) told → OpenBehind (asked next (more_deliveries most) ∷ history_of line run) told (begun (after (beginning run) run.entries))
+
+delivers : (most : Option ℕ) → DeliversMore (more_deliveries most)
+delivers (Some count) = tt
+delivers None = tt
+
+-- ---- over a run
+module _ (gives : Gives) (line : ℕ) (run : Run) (few : run.initiators ≤ 4) (has : 0 < run.units) (small : run.units ≤ 4) (size : length run.start.disks ≡ run.units) where
+  abbrev front : List Entry → Run
+  front entries = record run { entries = entries }
+
+  module _ (entries : List Entry) (short : length entries + 2 < 2 ^ 32) (all : AreEntries (beginning run) entries) (fit : AreLines run entries) (so_far : OpenBefore line run entries) where
+    abbrev here : Scene
+    here = after (beginning run) entries
+
+    is_run : IsRun (front entries)
+    is_run = record { few = few; short = short; entries = all; lines = lines_same run entries entries fit }
+
+    same : history_of line (front entries) ≡ moments_behind line run entries
+    same = moments_same line run entries entries
+
+    open_after : OpenAfter line run entries
+    open_after = subst (λ ms. OpenLists ms here.world) same (gives.ends line (front entries) is_run has small size (as_front line run entries entries so_far))
+
+    -- between deliveries of a line that follows
+    module _ (next : ℕ) (most : Option ℕ) where
+      abbrev now : List Moment
+      now = asked next (more_deliveries most) ∷ moments_behind line run entries
+
+      open_there : (told : List (Option Told)) → MayAll told (begun here) → OpenWhile now told (begun here) → OpenBehind now told (begun here)
+      open_there told m before =
+          let w = (after_all told (begun here)).world in
+          subst (λ ms. OpenLists (map said w.fresh ++ asked next (more_deliveries most) ∷ ms) w) same
+          (gives.meets line (front entries) is_run has small size next most told m (record {
+            before = as_front line run entries entries so_far;
+            begins = subst (λ ms. OpenLists ms here.world) (sym same) open_after;
+            goes = subst (λ ms. OpenWhile (asked next (more_deliveries most) ∷ ms) told (begun here)) (sym same) before;
+          }))
+
+      open_while : (told : List (Option Told)) → MayAll told (begun here) → OpenWhile now told (begun here)
+      open_while [] m = tt
+      open_while (one ∷ told) m = let before = open_while told m.1 in (open_there told m.1 before, before)
+
+      open_behind : (told : List (Option Told)) → MayAll told (begun here) → OpenBehind now told (begun here)
+      open_behind told m = open_there told m (open_while told m)
+
+    -- in a line that follows
+    open_in : (next : ℕ) (event : Event) (told : List (Option Told)) → MayHappen event told here → OpenIn event (asked next event ∷ moments_behind line run entries) told (begun here)
+    unfolding MayHappen
+    open_in next (events.Begin initiators is_ready) told m = tt
+    open_in next (events.Act initiator action) told m = tt
+    open_in next (events.Reset physical) told m = tt
+    open_in next (events.See node) told m = tt
+    open_in next (events.Deliver serial) told m = tt
+    open_in next (events.Repeat serial) told m = tt
+    open_in next (events.Lose serial) told m = tt
+    open_in next (events.Timeout serial) told m = tt
+    open_in next (events.Step count) told m = open_while next (Some count) told m.may
+    open_in next events.Settle told m = (open_behind next None told m.may, open_while next None told m.may)
+    open_in next events.Tick told m = tt
+    open_in next (events.Inject initiator bytes) told m = tt
+    open_in next (events.Key unit key) told m = tt
+
+  open_before : (entries : List Entry) → length entries + 2 < 2 ^ 32 → AreEntries (beginning run) entries → AreLines run entries → OpenBefore line run entries
+  open_before [] short all fit = tt
+  open_before (e ∷ before) short all fit =
+      let few_lines : length before + 2 < 2 ^ 32 = omega arith in
+      let so_far = open_before before few_lines all.1 fit.1 in (
+        record { begins = open_after before few_lines all.1 fit.1 so_far; goes = open_in before few_lines all.1 fit.1 so_far e.line e.event e.told all.0.may },
+        so_far,
+      )
+
+-- ---- so it is in every run
+module _ (gives : Gives) (line : ℕ) (run : Run) (r : IsRun run) (has : 0 < run.units) (small : run.units ≤ 4) (size : length run.start.disks ≡ run.units) where
+  all_before : OpenBefore line run run.entries
+  all_before = open_before gives line run r.few has small size run.entries r.short r.entries r.lines
+
+  all_after : OpenAfter line run run.entries
+  all_after = open_after gives line run r.few has small size run.entries r.short r.entries r.lines all_before
+
+  module _ (next : ℕ) (event : Event) (d : DeliversMore event) (told : List (Option Told)) (m : MayAll told (begun (after (beginning run) run.entries))) where
+    all_behind : OpenBehind (asked next event ∷ history_of line run) told (begun (after (beginning run) run.entries))
+    all_behind =
+        more_by (λ x. OpenBehind (asked next x ∷ history_of line run) told (begun (after (beginning run) run.entries)))
+        (λ o. open_behind gives line run r.few has small size run.entries r.short r.entries r.lines all_before next o told m) event d
+
+    all_while : OpenWhile (asked next event ∷ history_of line run) told (begun (after (beginning run) run.entries))
+    all_while =
+        more_by (λ x. OpenWhile (asked next x ∷ history_of line run) told (begun (after (beginning run) run.entries)))
+        (λ o. open_while gives line run r.few has small size run.entries r.short r.entries r.lines all_before next o told m) event d
+
+-- by what each place needs
+by_places : LastLaw → PointersLaw → ClosesLaw → Gives
+by_places last pointers closes = record {
+  ends = λ line run r has small size so_far.
+      let past = history_of line run in
+      let w = (after (beginning run) run.entries).world in
+      let c = closes.after_lines line run r has small size so_far in
+      open_lists past w c (last.after_lines line run r has small size (are_last past w c
+      (λ i b. pointers.after_lines line run r i (subst (λ n. i < n) (count_after run run.entries) b))
+      (lasts past (wire_after line run r has small size).serials)
+      (ended_lists_law.after_lines line run r has small size so_far)));
+  meets = λ line run r has small size next most told m so_far.
+      let s = after (beginning run) run.entries in
+      let w = (after_all told (begun s)).world in
+      let past = map said w.fresh ++ asked next (more_deliveries most) ∷ history_of line run in
+      let c = closes.between line run r has small size next most told m so_far in
+      open_lists past w c (last.between line run r has small size next most told m (are_last past w c
+      (λ i b. pointers.between line run r next most told m i (subst (λ n. i < n) (count_after run run.entries) (subst (λ n. i < n) (count_between told s) b)))
+      (lasts past (wire_between line run r has small size next (more_deliveries most) (delivers most) told m).serials)
+      (ended_lists_law.between line run r has small size next (more_deliveries most) (delivers most) told m so_far)));
+}
+
+-- where they are so anyhow
+by_all : OpenListsLaw → Gives
+by_all lists = record {
+  ends = λ line run r has small size so_far. lists.after_lines line run r has small size;
+  meets = λ line run r has small size next most told m so_far. lists.between line run r has small size next (more_deliveries most) (delivers most) told m;
+}
+
+pub closing_law : LastLaw → PointersLaw → BegunLaw → ClosingLaw
+closing_law last pointers begun_law = record {
+  closes = λ places. record {
+    after_lines = λ line run r has small size. all_after (by_places last pointers (closes_law pointers begun_law places)) line run r has small size;
+    between = λ line run r has small size next event d told m. all_behind (by_places last pointers (closes_law pointers begun_law places)) line run r has small size next event d told m;
+  };
+  before = λ lists line run r has small size. all_before (by_all lists) line run r has small size;
+  between = λ lists line run r has small size next event d told m. record {
+    before = all_before (by_all lists) line run r has small size;
+    begins = all_after (by_all lists) line run r has small size;
+    goes = all_while (by_all lists) line run r has small size next event d told m;
+  };
+}

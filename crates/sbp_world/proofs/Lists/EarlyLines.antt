@@ -1,0 +1,135 @@
+-- Each line and each delivery keeps that what agents wait for to read in a slot was sent when the ORB that the slot has had been appended.
+use Rattle.std.proofs.Common.{◌≡◌, ◌∙◌, refl, sym, ap, subst, ◌<◌, ℕ, zero, suc, Bool, true, false, List, [], ◌∷◌, ◌++◌, map, Option, Some, None}
+use Rattle.std.specs.Prelude.{slice_set}
+use Rattle.command_agent.specs.declared.step.Which.{Which}
+use Rattle.rbc_disk.specs.Disk.{Disk}
+use Rattle.rbc_disk.specs.Runs.{Told}
+use Rattle.sbp_journal.specs.Run.{Moment, asked, said}
+use Rattle.sbp_journal.specs.declared.event.Event.{Event}
+use Rattle.sbp_journal.specs.declared.event.Event.TheVariants as events
+use Rattle.sbp_bus.specs.Packets.{end_note}
+use Rattle.sbp_journal.specs.declared.note.Note.{Note}
+use Rattle.sbp_journal.specs.declared.note.Note.TheVariants as notes
+use Rattle.sbp_laws.specs.Targets.{Agent, Reply, Target, going_on, over, taken_on, target_at, told_in, with_untold}
+use Rattle.sbp_world.specs.Settling.{delivered_at, delivered_next, lowest}
+use Rattle.sbp_world.specs.Worlds.{Scene, WorldState, without_notes}
+use Rattle.sbp_world.proofs.Agents.Management.Still.{hist}
+use Rattle.sbp_world.specs.Agents.AskedRuns.{serial_of}
+use Rattle.sbp_world.specs.Agents.Crews.{agent_in}
+use Rattle.sbp_world.proofs.Agents.Asides.{settled_over}
+use Rattle.sbp_world.proofs.Hosts.LastingTerms.{AllLast}
+use Rattle.sbp_world.specs.Lists.Needs.{initiator_in}
+use Rattle.sbp_world.proofs.Lists.Awaited.{Starts, line_starts}
+use Rattle.sbp_world.proofs.Lists.Early.{Early, IsRead, stays_early, turn, whole as whole_of}
+use Rattle.sbp_world.proofs.Lists.EarlyTurns.{Leaves, Stood, leaves_hosts, leaves_target, same_before}
+use Rattle.sbp_world.proofs.Lists.Sites.{waiting}
+use Rattle.sbp_world.proofs.Lists.Turned.{Delivers, Turned, by_other, by_target, delivers, nothing, turned}
+
+-- the history of notes that go on behind some
+split : (a b : List Note) (past : List Moment) → map said (a ++ b) ++ past ≡ map said a ++ (map said b ++ past)
+split [] b past = refl
+split (n ∷ a) b past = ap (λ ms. said n ∷ ms) (split a b past)
+
+module _ (wild : ℕ → Bool) (units ready : ℕ) (has : 0 < units) (start : List Disk) where
+  -- a turn keeps it, from a place between two turns to the next one
+  pub turn_early : (past : List Moment) (lines : ℕ) (w : WorldState) (a : Stood wild units ready start past lines w) (later : List Moment) (more : ℕ) (v : WorldState) (b : Stood wild units ready start later more v) (rest : List Moment) (m : Moment) → rest ++ m ∷ hist past w ≡ hist later v → Starts m → Leaves (hist past w) (hist later v) w v → Early wild start (hist past w) → Early wild start (hist later v)
+  turn_early past lines w a later more v b rest m is starts leaves early =
+      stays_early wild start (hist past w) rest (hist later v) m is starts b.site.serials a.site.asked early
+      (λ place c which serial i slot n k r. last_of place c which serial i slot n k r)
+      (λ place c which serial i slot n k r. same_before wild units ready has start past lines w a later more v b (turn wild start (hist past w) rest (hist later v) m is starts b.site.serials) (whole_of wild start (hist past w) rest (hist later v) m is starts b.site.serials) place c which serial i slot n k r leaves)
+    where
+      same_number : (i j : ℕ) → Some (suc i) ≡ Some (suc j) → i ≡ j
+      same_number i j e = cc
+
+      last_of : (place : ℕ) (c : place < 8) (which : Which) (serial i slot n k : ℕ) → IsRead wild start (hist later v) place which serial i slot n k → AllLast (hist later v) i
+      last_of place c which serial i slot n k r =
+          let x = waiting units ready has start v b.holds b.site place c which serial r.waits in
+          subst (AllLast (hist later v)) (sym (same_number i (initiator_in v place) (sym r.to ∙ x.to))) (b.site.last (initiator_in v place) x.inside)
+
+  -- what a line leaves, as the line began behind this history
+  leaves_line : (line : ℕ) (event : Event) (past : List Moment) (w v : WorldState) → Turned wild (asked line event ∷ hist past w) (without_notes w) v → Leaves (hist past w) (hist (asked line event ∷ hist past w) v) w v
+  leaves_line line event past w v (by_target e) = leaves_hosts e
+  leaves_line line event past w v (by_other s) = leaves_target s.target s.places s.count s.adds.ends_are
+
+  leaves_turn : (past : List Moment) (w v : WorldState) → Turned wild past w v → Leaves (hist past w) (hist past v) w v
+  leaves_turn past w v (by_target e) = leaves_hosts e
+  leaves_turn past w v (by_other s) = leaves_target s.target s.places s.count s.adds.ends_are
+
+  pub line_early : (line : ℕ) (event : Event) (past : List Moment) (lines : ℕ) (w : WorldState) → Stood wild units ready start past lines w → (more : ℕ) (v : WorldState) → Stood wild units ready start (asked line event ∷ hist past w) more v → Turned wild (asked line event ∷ hist past w) (without_notes w) v → Early wild start (hist past w) → Early wild start (hist (asked line event ∷ hist past w) v)
+  line_early line event past lines w a more v b t early =
+      turn_early past lines w a (asked line event ∷ hist past w) more v b (map said v.fresh) (asked line event) refl (line_starts line event) (leaves_line line event past w v t) early
+
+  module _ (past : List Moment) (lines : ℕ) where
+    abbrev S : WorldState → Type 0
+    S w = Stood wild units ready start past lines w
+
+    delivery_early : (w v : WorldState) → S w → S v → Delivers wild past w v → Early wild start (hist past w) → Early wild start (hist past v)
+    delivery_early w v a b (nothing e) early = subst (λ (x : WorldState). Early wild start (hist past x)) (sym e) early
+    delivery_early w v a b (delivers more note starts is t) early =
+        turn_early past lines w a past lines v b (map said more) (said note) (sym (split more (note ∷ w.fresh) past) ∙ ap (λ ns. map said ns ++ past) is) starts (leaves_turn past w v t) early
+
+    next_by : (one : Option Told) (s : Scene) (o : Option ℕ) → S s.world → S (delivered_at o one s).world → Early wild start (hist past s.world) → Early wild start (hist past (delivered_at o one s).world)
+    next_by one s None a b early = early
+    next_by one s (Some serial) a b early = delivery_early s.world (delivered_at (Some serial) one s).world a b (turned wild past s serial false one) early
+
+    pub next_early : (one : Option Told) (s : Scene) → S s.world → S (delivered_next one s).world → Early wild start (hist past s.world) → Early wild start (hist past (delivered_next one s).world)
+    unfolding delivered_next
+    next_early one s a b early = next_by one s (lowest s.world) a b early
+
+-- no agent waits as a run begins
+pub first_early : (wild : ℕ → Bool) (start : List Disk) (line n : ℕ) (is_ready : Bool) → Early wild start (said (notes.Begin n is_ready) ∷ asked line (events.Begin n is_ready) ∷ [])
+first_early wild start line n is_ready place b which serial i slot m k r = absurd (let no : None ≡ Some (suc i) = r.to in cc)
+
+-- ---- the end of a line that settles
+set_same : (agents : List Agent) (k : ℕ) → slice_set agents k (agent_in agents k) ≡ agents
+set_same [] k = refl
+set_same (a ∷ agents) zero = refl
+set_same (a ∷ agents) (suc k) = ap (λ xs. a ∷ xs) (set_same agents k)
+
+module _ (t : Target) where
+  stays_same : (reply : Reply) → record t { agents = slice_set t.agents reply.place (agent_in t.agents reply.place) } ≡ t
+  stays_same reply = ap (λ (xs : List Agent). record t { agents = xs }) (set_same t.agents reply.place)
+
+  settled_by : (reply : Option Reply) → t.reply ≡ reply → going_on notes.Settled t ≡ taken_on None t.reply t
+  settled_by None e = ap (λ (r : Option Reply). taken_on (told_in r notes.Settled t) r (with_untold notes.Settled r t)) e ∙ sym (ap (λ (r : Option Reply). taken_on None r t) e)
+  settled_by (Some reply) e =
+      ap (λ (r : Option Reply). taken_on (told_in r notes.Settled t) r (with_untold notes.Settled r t)) e
+      ∙ (ap (λ (x : Target). taken_on None (Some reply) x) (stays_same reply) ∙ sym (ap (λ (r : Option Reply). taken_on None r t) e))
+
+  stopped_by : (reply : Option Reply) → t.reply ≡ reply → going_on notes.Stopped t ≡ taken_on None t.reply t
+  stopped_by None e = ap (λ (r : Option Reply). taken_on (told_in r notes.Stopped t) r (with_untold notes.Stopped r t)) e ∙ sym (ap (λ (r : Option Reply). taken_on None r t) e)
+  stopped_by (Some reply) e =
+      ap (λ (r : Option Reply). taken_on (told_in r notes.Stopped t) r (with_untold notes.Stopped r t)) e
+      ∙ (ap (λ (x : Target). taken_on None (Some reply) x) (stays_same reply) ∙ sym (ap (λ (r : Option Reply). taken_on None r t) e))
+
+  settled_same : (over (going_on notes.Settled t)).agents ≡ (over t).agents
+  settled_same = ap (λ (x : Target). (over x).agents) (settled_by t.reply refl) ∙ settled_over t
+
+  stopped_same : (over (going_on notes.Stopped t)).agents ≡ (over t).agents
+  stopped_same = ap (λ (x : Target). (over x).agents) (stopped_by t.reply refl) ∙ settled_over t
+
+pub end_early : (wild : ℕ → Bool) (start : List Disk) (b : Bool) (ms : List Moment) → Early wild start ms → Early wild start (said (end_note b) ∷ ms)
+end_early wild start true ms early place c which serial i slot n k r =
+    early place c which serial i slot n k (record {
+      waits = ap (λ (xs : List Agent). serial_of which (agent_in xs place)) (sym (settled_same (target_at start ms))) ∙ r.waits;
+      to = r.to;
+      own = r.own;
+      access = r.access;
+      is = r.is;
+      reads = r.reads;
+      some = r.some;
+      stands = r.stands;
+      there = r.there;
+    })
+end_early wild start false ms early place c which serial i slot n k r =
+    early place c which serial i slot n k (record {
+      waits = ap (λ (xs : List Agent). serial_of which (agent_in xs place)) (sym (stopped_same (target_at start ms))) ∙ r.waits;
+      to = r.to;
+      own = r.own;
+      access = r.access;
+      is = r.is;
+      reads = r.reads;
+      some = r.some;
+      stands = r.stands;
+      there = r.there;
+    })

@@ -1,0 +1,423 @@
+-- In every run a command runs on the unit of a live login of its initiator; where lists were open as they should be before, the command of an ORB of an initiator that
+-- injected no packets has the outcome that the plain disk allows for its request; and with the laws of lists this is the execution law.
+use Rattle.std.proofs.Common.{arith, ◌≡◌, ◌∙◌, refl, sym, ap, subst, ℕ, ◌+◌, ◌^◌, ◌<◌, ◌≤◌, Bool, true, false, List, [], ◌∷◌, ◌++◌, map, length, Option, Some, None}
+use Rattle.bus_transactions.specs.May.{is_reset}
+use Rattle.rbc_disk.specs.Disk.{Disk}
+use Rattle.rbc_disk.specs.Runs.{Told}
+use Rattle.sbp_bus.specs.Packets.{end_note}
+use Rattle.sbp_bus.specs.Places.{or_nobody}
+use Rattle.sbp_bus.specs.declared.places.Holder.{Holder}
+use Rattle.sbp_journal.specs.declared.event.Event.{Event}
+use Rattle.sbp_journal.specs.declared.event.Event.TheVariants as events
+use Rattle.sbp_journal.specs.declared.note.Note.{Note}
+use Rattle.sbp_journal.specs.declared.note.Note.TheVariants as notes
+use Rattle.sbp_journal.specs.Run.{Moment, asked, said}
+use Rattle.sbp_journal.specs.Wire.{terms}
+use Rattle.sbp_laws.specs.ExecutionLaw.{ExecutionAt, ExecutionLaw}
+use Rattle.sbp_laws.specs.Lawful.{injectors}
+use Rattle.sbp_laws.specs.Lists.{linked, orb, slot_at}
+use Rattle.sbp_laws.specs.Terms.{ends}
+use Rattle.sbp_laws.specs.Turns.{EachMoment}
+use Rattle.sbp_world.specs.Histories.{history_of, moments_behind}
+use Rattle.sbp_world.specs.Lines.{MayHappen, happens}
+use Rattle.sbp_world.specs.Making.{ready_logins}
+use Rattle.sbp_world.specs.Packets.{is_in_flight, may_repeat}
+use Rattle.sbp_world.specs.Runs.{AreEntries, Entry, Run, after, beginning}
+use Rattle.sbp_world.specs.Settling.{MayAll, MayAt, MayNext, after_all, delivered_at, delivered_next, is_settled, lowest}
+use Rattle.sbp_world.specs.Telling.{holder}
+use Rattle.sbp_world.specs.Wire.Lines.{AreLines, IsLine}
+use Rattle.sbp_world.specs.Worlds.{Scene, WorldState, begun, initiator_at, without_notes}
+use Rattle.sbp_world.specs.Agents.Management.Terms.{DeliversMore}
+use Rattle.sbp_world.proofs.Agents.Management.Holding.{Holding}
+use Rattle.sbp_world.proofs.Agents.Management.Lines.{opens}
+use Rattle.sbp_world.proofs.Agents.Management.Runs.{are_told, no_repeats, not_reset}
+use Rattle.sbp_world.proofs.Agents.Management.Still.{hist}
+use Rattle.sbp_world.proofs.Agents.Holders.{are_held, seats_after}
+use Rattle.sbp_world.proofs.Agents.Seating.{all_seats, opened as seats_opened}
+use Rattle.sbp_world.proofs.Agents.Seats.{Seats}
+use Rattle.sbp_world.proofs.Agents.Units.{AreThe, units_after}
+use Rattle.sbp_world.proofs.Agents.UnitsLines.{Units, all_units, opened as units_opened}
+use Rattle.sbp_world.proofs.Agents.UnitsTold.{AreFound, IsFoundBy}
+use Rattle.sbp_world.specs.Hosts.Orbs.{HoldsOrbs}
+use Rattle.sbp_world.specs.Hosts.Runs.{IsRun, more_deliveries}
+use Rattle.sbp_world.proofs.Hosts.Orbs.{orbs_law}
+use Rattle.sbp_world.proofs.Hosts.Runs.{count_after, count_between}
+use Rattle.sbp_world.specs.Lists.Execution.{ExecutionRunLaw, LoginAt, LoginsLaw, LoginsRunLaw, OutcomeAt, OutcomesLaw, OutcomesRunLaw}
+use Rattle.sbp_world.specs.Lists.Needs.{IsCalm, IsNamed, OpenAfter, OpenBefore, OpenBetween, OpenIn, OpenLists, OpenWhile}
+use Rattle.sbp_world.specs.Lists.Opens.{OpensLaw}
+use Rattle.sbp_world.specs.Lists.Running.{ListsAt, ListsLaw, RunsAt, RunsLaw}
+use Rattle.sbp_world.proofs.Lists.Calm.{asked_calm, calm_before}
+use Rattle.sbp_world.proofs.Lists.OpenProved.{opens_law}
+use Rattle.sbp_world.proofs.Lists.Passes.{Facts, ready}
+use Rattle.sbp_world.proofs.Lists.Passing.{PassLaw}
+use Rattle.sbp_world.proofs.Lists.RunFits.{stands_asked}
+use Rattle.sbp_world.proofs.Lists.Runless.{AllPlain, Delivers, IsPlain, IsRunBy, OneRan, Plainly, acts, delivery_comes, injects, keys, late, loses, no_run, one_comes, one_run, resets, sights, ticks}
+use Rattle.sbp_world.proofs.Lists.OnceLaws.{lists_run_law, runs_run_law}
+use Rattle.sbp_world.proofs.Lists.RunOutcomes.{AreAsked, IsSet, run_so}
+use Rattle.sbp_world.proofs.Lists.RunSites.{more_by}
+use Rattle.sbp_world.proofs.Lists.Runs.{At, EarlyAfter, KeptAfter, at_told, calm_at, calm_back, early_after, facts, facts_at, history_is, holds_at, is_run, kept_told, lists_at, lists_here, next_is, next_kept, site, site_at}
+use Rattle.sbp_world.proofs.Lists.Sites.{Site, named_prepared}
+use Rattle.sbp_world.proofs.Lists.Stays.{ready_now}
+use Rattle.sbp_world.proofs.Lists.Turns.{Ready}
+
+-- ---- the law at a moment
+abbrev RunAt : (ℕ → Bool) → List Disk → Moment → List Moment → Type 0
+RunAt wild start moment past = LoginAt start moment past × OutcomeAt wild start moment past
+
+abbrev Law : (ℕ → Bool) → List Disk → List Moment → Type 0
+Law wild start past = EachMoment (RunAt wild start) past
+
+split : (a b : List Note) (past : List Moment) → map said (a ++ b) ++ past ≡ map said a ++ (map said b ++ past)
+split [] b past = refl
+split (n ∷ a) b past = ap (λ ms. said n ∷ ms) (split a b past)
+
+module _ (wild : ℕ → Bool) (start : List Disk) where
+  plain_at : (note : Note) → IsPlain note → (past : List Moment) → RunAt wild start (said note) past
+  plain_at (notes.Ran i n k unit cdb bytes check) h past = absurd h
+  plain_at note h past = (tt, tt)
+
+  plain_law : (more : List Note) → AllPlain more → (past : List Moment) → Law wild start past → Law wild start (map said more ++ past)
+  plain_law [] h past l = l
+  plain_law (note ∷ more) h past l = (plain_at note h.0 (map said more ++ past), plain_law more h.1 past l)
+
+  -- notes of no run
+  plainly_law : (past : List Moment) (old new : List Note) → Plainly old new → Law wild start (map said old ++ past) → Law wild start (map said new ++ past)
+  plainly_law past old new q l =
+      subst (λ ns. Law wild start (map said ns ++ past)) q.is (subst (Law wild start) (sym (split q.more old past)) (plain_law q.more q.plain (map said old ++ past) l))
+
+  passed : (more : List Note) (past : List Moment) → PassLaw wild (map said more ++ past) → PassLaw wild past
+  passed [] past p = p
+  passed (note ∷ more) past p = passed more past p.1
+
+  -- a packet is delivered
+  delivers_law : (past : List Moment) (Ran : Note → Type 0) (old new : List Note) → ((serial : ℕ) (ran : Note) → Ran ran → (let now = said (notes.Got serial) ∷ (map said old ++ past) in PassLaw wild (said ran ∷ now) → RunAt wild start (said ran) now)) → Delivers Ran old new → PassLaw wild (map said new ++ past) → Law wild start (map said old ++ past) → Law wild start (map said new ++ past)
+  delivers_law past Ran old new f (no_run q) passes l = plainly_law past old new q l
+  delivers_law past Ran old new f (one_run serial ran r q) passes l =
+      let front = ran ∷ notes.Got serial ∷ old in
+      let before : PassLaw wild (map said front ++ past) = passed q.more (map said front ++ past) (subst (PassLaw wild) (split q.more front past) (subst (λ ns. PassLaw wild (map said ns ++ past)) (sym q.is) passes)) in
+      plainly_law past front new q (f serial ran r before, ((tt, tt), l))
+
+  run_told : (past : List Moment) (s : Scene) → IsSet wild start past s → (run : Option Told) (serial : ℕ) (ran : Note) → IsRunBy s run ran → (let now = said (notes.Got serial) ∷ hist past s.world in PassLaw wild (said ran ∷ now) → RunAt wild start (said ran) now)
+  run_told past s set run serial ran r passes = run_so wild start past s set run ran r serial passes.0
+
+  one_told : (past : List Moment) (s : Scene) (set : IsSet wild start past s) (line packet : ℕ) (again : Bool) (run : List (Option Told)) (serial : ℕ) (ran : Note) → OneRan s set.ready.good line packet again run ran → (let now = said (notes.Got serial) ∷ hist past s.world in PassLaw wild (said ran ∷ now) → RunAt wild start (said ran) now)
+  one_told past s set line packet again [] serial ran r passes = absurd r
+  one_told past s set line packet again (one ∷ more) serial ran r passes = run_told past s set one serial ran r passes
+
+  lowest_law : (past : List Moment) (s : Scene) → IsSet wild start past s → (one : Option Told) (o : Option ℕ) → MayAt o one s → PassLaw wild (hist past (delivered_at o one s).world) → Law wild start (hist past s.world) → Law wild start (hist past (delivered_at o one s).world)
+  lowest_law past s set one None m passes l = absurd m
+  lowest_law past s set one (Some serial) m passes l =
+      delivers_law past (IsRunBy s one) s.world.fresh (delivered_at (Some serial) one s).world.fresh (run_told past s set one) (delivery_comes s set.ready.good serial false one m) passes l
+
+  next_law : (past : List Moment) (s : Scene) → IsSet wild start past s → (one : Option Told) → MayNext one s → PassLaw wild (hist past (delivered_next one s).world) → Law wild start (hist past s.world) → Law wild start (hist past (delivered_next one s).world)
+  unfolding delivered_next MayNext
+  next_law past s set one m passes l = lowest_law past s set one (lowest s.world) m passes l
+
+  end_law : (past : List Moment) (done : Bool) → RunAt wild start (said (end_note done)) past
+  end_law past true = (tt, tt)
+  end_law past false = (tt, tt)
+
+  -- ---- what is known as a turn begins
+  module _ (units logins : ℕ) (has : 0 < units) {past : List Moment} {lines : ℕ} (w : WorldState) (h : Holding units logins start past lines w) where
+    found_of : Seats w → AreFound start past w w.target.logins.places
+    found_of q place login e live =
+        let i = (are_held units logins has start w h q).held place login e in
+        subst (λ (x : Holder). IsFoundBy start (hist past w) x place login) (sym (ap or_nobody i.there)) (record { unit_is = i.unit_is; found = (i.live live).place_is })
+
+    some_same : (a b : ℕ) → Some a ≡ Some b → a ≡ b
+    some_same a b e = cc
+
+    asked_of : Site start past w → ((i : ℕ) → wild i ≡ false → OpenLists (hist past w) w) → ((i : ℕ) → wild i ≡ false → IsCalm (hist past w) i) → ((i : ℕ) → i < length w.initiators → HoldsOrbs (hist past w) i (initiator_at w i)) → AreAsked wild (hist past w) w
+    asked_of s lists calm orbs place b is_open own n list number from below =
+        let ms = hist past w in
+        let i = (holder w place).initiator in
+        let o = (lists i own).listed place b is_open (calm i own) in
+        let same : o.n ≡ n = some_same o.n n (sym o.list ∙ list) in
+        let named : (j : ℕ) → ends ms i n ≤ j → j < linked ms i n → IsNamed ms w place n j = subst (λ x. (j : ℕ) → ends ms i x ≤ j → j < linked ms i x → IsNamed ms w place x j) same o.named in
+        let slot = slot_at ms i n number in
+        let prepared = named_prepared units logins has start w h s place n number o.inside (named number from below) in
+        stands_asked ms i (initiator_at w i).lists.memory slot (orb n number) ((orbs i o.inside).stands slot (orb n number) prepared.small prepared.there)
+
+-- ---- over a run
+abbrev opened : (wild : ℕ → Bool) → (i : ℕ) → wild i ≡ false → OpensLaw
+opened wild i own = opens_law
+
+module _ (wild : ℕ → Bool) (line : ℕ) (run : Run) (few : run.initiators ≤ 4) (has : 0 < run.units) (small : run.units ≤ 4) (size : length run.start.disks ≡ run.units) where
+  abbrev start : List Disk
+  start = run.start.disks
+
+  abbrev logins : ℕ
+  logins = ready_logins run.initiators run.ready
+
+  abbrev Given : Type 0 → Type 0
+  Given known = (i : ℕ) → wild i ≡ false → known
+
+  abbrev AllCalm : List Moment → Type 0
+  AllCalm ms = (i : ℕ) → wild i ≡ false → IsCalm ms i
+
+  abbrev L : List Moment → Type 0
+  L ms = Law wild start ms
+
+  -- behind some of its lines
+  module _ (entries : List Entry) (short : length entries + 2 < 2 ^ 32) (all : AreEntries (beginning run) entries) (fit : AreLines run entries) (so_far : Given (OpenBefore line run entries)) (x : EarlyAfter wild (opened wild) line run few has small size entries (after (beginning run) entries).world) (ends : Given (OpenAfter line run entries)) (calm : AllCalm (moments_behind line run entries)) where
+    abbrev here : Scene
+    here = after (beginning run) entries
+
+    abbrev b : KeptAfter wild (opened wild) line run few has small size entries here.world
+    b = x.so_far
+
+    abbrev front : Run
+    front = record run { entries = entries }
+
+    front_run : IsRun front
+    front_run = is_run wild (opened wild) line run few has small size entries short all fit
+
+    open_here : (i : ℕ) → wild i ≡ false → OpenLists (hist b.past here.world) here.world
+    open_here = lists_here wild (opened wild) line run few has small size entries short all fit b.past (length entries) b.holds b.is ends
+
+    past_calm : AllCalm (hist b.past here.world)
+    past_calm i own = subst (λ ms. IsCalm ms i) (sym b.is) (calm i own)
+
+    same_history : history_of line front ≡ hist b.past here.world
+    same_history = history_is wild (opened wild) line run few has small size entries short all fit b.past (length entries) b.holds b.is
+
+    facts_here : Facts wild b.past here.world
+    facts_here = facts wild (opened wild) line run few has small size entries short all fit b.past (length entries) b.holds b.is so_far open_here past_calm x.early
+
+    ready_here : Ready wild b.past here.world
+    ready_here = ready wild b.past here.world facts_here b.kept
+
+    seats_here : Seats here.world
+    seats_here = seats_after line run entries few has small size short all fit
+
+    units_here : Units start b.past here.world here.media.disks
+    units_here = subst (λ ms. AreThe start ms here.world here.media.disks) (sym b.is) (units_after line run entries few has small size short all fit)
+
+    inside : (i : ℕ) → i < length here.world.initiators → i < run.initiators
+    inside i c = subst (λ n. i < n) (count_after front entries) c
+
+    orbs_here : (i : ℕ) → i < length here.world.initiators → HoldsOrbs (hist b.past here.world) i (initiator_at here.world i)
+    orbs_here i c = subst (λ ms. HoldsOrbs ms i (initiator_at here.world i)) same_history (orbs_law.orbs line front front_run i (inside i c))
+
+    asked_here : AreAsked wild (hist b.past here.world) here.world
+    asked_here =
+        asked_of wild start run.units logins has here.world b.holds (site wild (opened wild) line run few has small size entries short all fit b.past (length entries) b.holds b.is)
+        open_here past_calm orbs_here
+
+    -- as a line begins
+    module _ (next : ℕ) (event : Event) (e : is_reset event ≡ false) where
+      begins : Holding run.units logins start (asked next event ∷ hist b.past here.world) (length entries + 1) (without_notes here.world)
+      begins = opens run.units logins has start next event here.world e b.holds
+
+      begin_seats : Seats (without_notes here.world)
+      begin_seats = seats_opened run.units logins has start here.world seats_here
+
+      begin_units : Units start (asked next event ∷ hist b.past here.world) (without_notes here.world) here.media.disks
+      begin_units = units_opened run.units logins has start b.past next event here.world here.media.disks units_here
+
+      set_open : IsSet wild start (asked next event ∷ hist b.past here.world) (begun here)
+      set_open = record {
+        ready = ready_now wild next event b.past here.world ready_here;
+        units = begin_units.each;
+        found = found_of wild start run.units logins has (without_notes here.world) begins begin_seats;
+        appended = λ place c is_open own n list number from below. asked_here place c is_open own n list number from below;
+      }
+
+    -- between deliveries of a line that follows
+    module _ (next : ℕ) (event : Event) (d : DeliversMore event) where
+      abbrev now : List Moment
+      now = asked next event ∷ hist b.past here.world
+
+      abbrev at : List (Option Told) → WorldState
+      at told = (after_all told (begun here)).world
+
+      abbrev Before : List (Option Told) → Type 0
+      Before told = Given (OpenWhile (asked next event ∷ moments_behind line run entries) told (begun here))
+
+      -- where lists are open there as they should be
+      module _ (told : List (Option Told)) (m : MayAll told (begun here)) (before : Before told) (lists : (i : ℕ) → wild i ≡ false → OpenLists (hist now (at told)) (at told)) (c : AllCalm (hist now (at told))) where
+        holds_there : Holding run.units logins start now (length entries + 1) (at told)
+        holds_there = holds_at wild (opened wild) line run few has small size entries short all fit b.past (length entries) b.holds b.is next event d told m
+
+        repeats : (terms (asked next event ∷ hist b.past here.world)).repeats ≡ false
+        repeats = no_repeats event (hist b.past here.world) next d
+
+        seats_there : Seats (at told)
+        seats_there = all_seats run.units logins has start told (are_told told here m) (begun here) (begins next event (not_reset event d)) (begin_seats next event (not_reset event d)) repeats
+
+        units_there : Units start now (at told) (after_all told (begun here)).media.disks
+        units_there = all_units run.units logins has start told (are_told told here m) (begun here) (begins next event (not_reset event d)) (begin_seats next event (not_reset event d)) (begin_units next event (not_reset event d)) repeats
+
+        known_there : At wild (opened wild) line run few has small size entries short all fit b.past (length entries) b.holds b.is next event d so_far open_here past_calm b.kept x.early told
+        known_there = at_told wild (opened wild) line run few has small size entries short all fit b.past (length entries) b.holds b.is next event d so_far open_here past_calm b.kept x.early told m before lists c
+
+        ready_there : Ready wild now (at told)
+        ready_there =
+            ready wild now (at told)
+            (facts_at wild (opened wild) line run few has small size entries short all fit b.past (length entries) b.holds b.is next event d so_far open_here told m before lists c known_there.early_there)
+            known_there.kept_at.kept_there
+
+        inside_there : (i : ℕ) → i < length (at told).initiators → i < run.initiators
+        inside_there i a = inside i (subst (λ n. i < n) (count_between told here) a)
+
+        orbs_there : (i : ℕ) → i < length (at told).initiators → HoldsOrbs (hist now (at told)) i (initiator_at (at told) i)
+        orbs_there i a =
+            more_by (λ y. HoldsOrbs (map said (at told).fresh ++ asked next y ∷ hist b.past here.world) i (initiator_at (at told) i))
+            (λ o. subst (λ ms. HoldsOrbs (map said (at told).fresh ++ asked next (more_deliveries o) ∷ ms) i (initiator_at (at told) i)) same_history
+            (orbs_law.between line front front_run next o told m i (inside_there i a))) event d
+
+        set_there : IsSet wild start now (after_all told (begun here))
+        set_there = record {
+          ready = ready_there;
+          units = units_there.each;
+          found = found_of wild start run.units logins has (at told) holds_there seats_there;
+          appended =
+              asked_of wild start run.units logins has (at told) holds_there
+              (site_at wild (opened wild) line run few has small size entries short all fit b.past (length entries) b.holds b.is next event d told m)
+              lists c orbs_there;
+        }
+
+      law_at : (told : List (Option Told)) → MayAll told (begun here) → Before told → AllCalm (hist now (at told)) → L (hist b.past here.world) → L (hist now (at told))
+      law_at [] m before c l = ((tt, tt), l)
+      law_at (one ∷ told) m before c l =
+          let back = calm_at wild (opened wild) line run few has small size entries short all fit b.past (length entries) b.holds b.is next event d one told c in
+          let rest : Before told = λ i own. (before i own).1 in
+          let lists = lists_at wild (opened wild) line run few has small size entries short all fit b.past (length entries) b.holds b.is next event d told (λ i own. (before i own).0) in
+          let kept = (kept_told wild (opened wild) line run few has small size entries short all fit b.past (length entries) b.holds b.is next event d so_far open_here past_calm b.kept x.early (one ∷ told) m before c).kept_there in
+          next_law wild start now (after_all told (begun here)) (set_there told m.1 rest lists back) one m.0 kept.passes (law_at told m.1 rest back l)
+
+    -- a line that follows
+    abbrev Goes : ℕ → Event → List (Option Told) → Type 0
+    Goes next event told =
+        MayHappen event told here → Given (OpenIn event (asked next event ∷ moments_behind line run entries) told (begun here)) → AllCalm (hist (asked next event ∷ hist b.past here.world) (happens next event told here).world) → PassLaw wild (hist (asked next event ∷ hist b.past here.world) (happens next event told here).world) → L (hist b.past here.world) → L (hist (asked next event ∷ hist b.past here.world) (happens next event told here).world)
+
+    plain_line : (next : ℕ) (event : Event) (new : List Note) → Plainly [] new → L (hist b.past here.world) → L (map said new ++ asked next event ∷ hist b.past here.world)
+    plain_line next event new q l = plainly_law wild start (asked next event ∷ hist b.past here.world) [] new q ((tt, tt), l)
+
+    law_line : (next : ℕ) (event : Event) (told : List (Option Told)) → IsLine event (length here.world.initiators) → Goes next event told
+    unfolding happens MayHappen
+    law_line next (events.Step count) told q m before c p l = law_at next (events.Step count) tt told m.may before c l
+    law_line next events.Settle told q m before c p l =
+        let now = asked next events.Settle ∷ hist b.past here.world in
+        let t = after_all told (begun here) in
+        let rest : Given (OpenWhile (asked next events.Settle ∷ moments_behind line run entries) told (begun here)) = λ i own. (before i own).1 in
+        let back : AllCalm (hist now t.world) = λ i own. calm_before (said (end_note (is_settled t.world)) ∷ []) (hist now t.world) i (c i own) in
+        (end_law wild start (hist now t.world) (is_settled t.world), law_at next events.Settle tt told m.may rest back l)
+    law_line next (events.Begin initiators is_ready) told q m before c p l = absurd q
+    law_line next (events.Act i action) told q m before c p l = plain_line next (events.Act i action) _ (acts (without_notes here.world) next i action) l
+    law_line next (events.Reset physical) told q m before c p l = plain_line next (events.Reset physical) _ (resets (without_notes here.world) physical) l
+    law_line next (events.See node) told q m before c p l = plain_line next (events.See node) _ (sights (without_notes here.world) node) l
+    law_line next (events.Deliver serial) told q m before c p l =
+        let e = events.Deliver serial in
+        let set = set_open next e refl in
+        delivers_law wild start (asked next e ∷ hist b.past here.world) (OneRan (begun here) set.ready.good next serial false told) [] _ (one_told wild start (asked next e ∷ hist b.past here.world) (begun here) set next serial false told)
+        (one_comes (begun here) set.ready.good next serial false (is_in_flight serial (begun here).world) told m) p ((tt, tt), l)
+    law_line next (events.Repeat serial) told q m before c p l =
+        let e = events.Repeat serial in
+        let set = set_open next e refl in
+        delivers_law wild start (asked next e ∷ hist b.past here.world) (OneRan (begun here) set.ready.good next serial true told) [] _ (one_told wild start (asked next e ∷ hist b.past here.world) (begun here) set next serial true told)
+        (one_comes (begun here) set.ready.good next serial true (may_repeat serial (begun here).world) told m) p ((tt, tt), l)
+    law_line next (events.Lose serial) told q m before c p l = plain_line next (events.Lose serial) _ (loses (without_notes here.world) next serial) l
+    law_line next (events.Timeout serial) told q m before c p l = plain_line next (events.Timeout serial) _ (late (without_notes here.world) next serial) l
+    law_line next events.Tick told q m before c p l = plain_line next events.Tick _ (ticks (without_notes here.world)) l
+    law_line next (events.Inject i bytes) told q m before c p l = plain_line next (events.Inject i bytes) _ (injects (without_notes here.world) next i bytes) l
+    law_line next (events.Key unit key) told q m before c p l = plain_line next (events.Key unit key) _ (keys (without_notes here.world) next unit key) l
+
+  law_after : (entries : List Entry) → length entries + 2 < 2 ^ 32 → AreEntries (beginning run) entries → AreLines run entries → Given (OpenBefore line run entries) → AllCalm (moments_behind line run entries) → L (moments_behind line run entries)
+  law_after [] short all fit lists calm = ((tt, tt), ((tt, tt), tt))
+  law_after (e ∷ before) short all fit lists calm =
+      let s = after (beginning run) before in
+      let few_lines : length before + 2 < 2 ^ 32 = omega arith in
+      let begins : Given (OpenAfter line run before) = λ i own. (lists i own).0.begins in
+      let goes : Given (OpenIn e.event (asked e.line e.event ∷ moments_behind line run before) e.told (begun s)) = λ i own. (lists i own).0.goes in
+      let rest : Given (OpenBefore line run before) = λ i own. (lists i own).1 in
+      let back : AllCalm (moments_behind line run before) = calm_back wild (opened wild) line run few has small size e before calm in
+      let x = early_after wild (opened wild) line run few has small size before few_lines all.1 fit.1 rest begins back in
+      let is = next_is wild (opened wild) line run few has small size e before few_lines short all fit rest x begins goes calm in
+      let kept = next_kept wild (opened wild) line run few has small size e before few_lines short all fit rest x begins goes calm in
+      let there = subst L (sym x.so_far.is) (law_after before few_lines all.1 fit.1 rest back) in
+      subst L is
+      (law_line before few_lines all.1 fit.1 rest x begins back e.line e.event e.told fit.0 all.0.may goes (λ i own. subst (λ ms. IsCalm ms i) (sym is) (calm i own)) kept.passes there)
+
+-- ---- so it is of every run
+module _ (line : ℕ) (run : Run) (r : IsRun run) (has : 0 < run.units) (small : run.units ≤ 4) (size : length run.start.disks ≡ run.units) (wild : ℕ → Bool) where
+  abbrev Known : Type 0 → Type 0
+  Known known = (i : ℕ) → wild i ≡ false → known
+
+  abbrev last : Scene
+  last = after (beginning run) run.entries
+
+  lines_law : Known (OpenBefore line run run.entries) → ((i : ℕ) → wild i ≡ false → IsCalm (history_of line run) i) → Law wild run.start.disks (history_of line run)
+  lines_law so_far calm = law_after wild line run r.few has small size run.entries r.short r.entries r.lines so_far calm
+
+  module _ (next : ℕ) (event : Event) (d : DeliversMore event) (told : List (Option Told)) (m : MayAll told (begun last)) where
+    abbrev end : WorldState
+    end = (after_all told (begun last)).world
+
+    abbrev ms : List Moment
+    ms = map said end.fresh ++ asked next event ∷ history_of line run
+
+    between_law : Known (OpenBetween line run next event told) → ((i : ℕ) → wild i ≡ false → IsCalm ms i) → Law wild run.start.disks ms
+    between_law so_far calm =
+        let first_calm : (i : ℕ) → wild i ≡ false → IsCalm (history_of line run) i = λ i own. asked_calm next event (history_of line run) i (calm_before (map said end.fresh) (asked next event ∷ history_of line run) i (calm i own)) in
+        let x = early_after wild (opened wild) line run r.few has small size run.entries r.short r.entries r.lines (λ i own. (so_far i own).before) (λ i own. (so_far i own).begins) first_calm in
+        let l = subst (Law wild run.start.disks) (sym x.so_far.is) (lines_law (λ i own. (so_far i own).before) first_calm) in
+        subst (λ h. Law wild run.start.disks (map said end.fresh ++ asked next event ∷ h)) x.so_far.is
+        (law_at wild line run r.few has small size run.entries r.short r.entries r.lines (λ i own. (so_far i own).before) x (λ i own. (so_far i own).begins) first_calm next event d told m (λ i own. (so_far i own).goes)
+        (λ i own. subst (λ h. IsCalm (map said end.fresh ++ asked next event ∷ h) i) (sym x.so_far.is) (calm i own)) l)
+
+-- ---- its parts
+module _ (wild : ℕ → Bool) (start : List Disk) where
+  logins_part : (past : List Moment) → Law wild start past → LoginsLaw start past
+  logins_part [] l = tt
+  logins_part (m ∷ past) l = (l.0.0, logins_part past l.1)
+
+  outcomes_part : (past : List Moment) → Law wild start past → OutcomesLaw wild start past
+  outcomes_part [] l = tt
+  outcomes_part (m ∷ past) l = (l.0.1, outcomes_part past l.1)
+
+  -- with the laws of lists
+  execution_at : (m : Moment) (past : List Moment) → ListsAt wild m past → RunsAt wild m past → RunAt wild start m past → ExecutionAt wild start m past
+  execution_at (said (notes.Ran i (Some n) (Some k) unit cdb bytes check)) past l r o = λ own. (record { once = r own; order = (l own).turn.number; login = o.0 }, o.1 own)
+  execution_at (said (notes.Ended i (Some n) (Some k) status)) past l r o = r
+  execution_at _ past l r o = tt
+
+  execution_of : (past : List Moment) → ListsLaw wild past → RunsLaw wild past → Law wild start past → ExecutionLaw wild start past
+  execution_of [] l r o = tt
+  execution_of (m ∷ past) l r o = (execution_at m past l.0 r.0 o.0, execution_of past l.1 r.1 o.1)
+
+nobody : (A : Type 0) → true ≡ false → A
+nobody A e = absurd (let no : true ≡ false = e in cc)
+
+pub logins_run_law : LoginsRunLaw
+logins_run_law = record {
+  after_lines = λ line run r has small size.
+      let wild : ℕ → Bool = λ i. true in
+      logins_part wild run.start.disks (history_of line run) (lines_law line run r has small size wild (λ i f. nobody (OpenBefore line run run.entries) f) (λ i f. nobody (IsCalm (history_of line run) i) f));
+  between = λ line run r has small size next event d told m.
+      let wild : ℕ → Bool = λ i. true in
+      let now = map said (after_all told (begun (after (beginning run) run.entries))).world.fresh ++ asked next event ∷ history_of line run in
+      logins_part wild run.start.disks now (between_law line run r has small size wild next event d told m (λ i f. nobody (OpenBetween line run next event told) f) (λ i f. nobody (IsCalm now i) f));
+}
+
+pub outcomes_run_law : OutcomesRunLaw
+outcomes_run_law = record {
+  after_lines = λ line run r has small size so_far.
+      let wild = injectors (history_of line run) in
+      outcomes_part wild run.start.disks (history_of line run) (lines_law line run r has small size wild (λ i own. so_far) (λ i own. own));
+  between = λ line run r has small size next event d told m so_far.
+      let now = map said (after_all told (begun (after (beginning run) run.entries))).world.fresh ++ asked next event ∷ history_of line run in
+      outcomes_part (injectors now) run.start.disks now (between_law line run r has small size (injectors now) next event d told m (λ i own. so_far) (λ i own. own));
+}
+
+pub execution_run_law : ExecutionRunLaw
+execution_run_law = record {
+  after_lines = λ line run r has small size so_far.
+      let wild = injectors (history_of line run) in
+      execution_of wild run.start.disks (history_of line run) (lists_run_law.after_lines line run r has small size so_far) (runs_run_law.after_lines line run r has small size so_far)
+      (lines_law line run r has small size wild (λ i own. so_far) (λ i own. own));
+  between = λ line run r has small size next event d told m so_far.
+      let now = map said (after_all told (begun (after (beginning run) run.entries))).world.fresh ++ asked next event ∷ history_of line run in
+      execution_of (injectors now) run.start.disks now (lists_run_law.between line run r has small size next event d told m so_far) (runs_run_law.between line run r has small size next event d told m so_far)
+      (between_law line run r has small size (injectors now) next event d told m (λ i own. so_far) (λ i own. own));
+}

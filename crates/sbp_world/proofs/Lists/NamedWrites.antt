@@ -1,0 +1,223 @@
+-- A write of ORB_POINTER that the target got is one that its initiator named for a list, whose first ORB its slot held as the write was got: as no ORB of the list had
+-- ended then, and no status of it was taken.
+use Rattle.std.proofs.Common.{arith, ◌≡◌, ◌∙◌, refl, sym, ap, subst, ℕ, zero, suc, ◌<◌, ◌≤◌, ◌+◌, ◌==◌, nat_eq, Bool, true, false, cond, List, [], ◌∷◌, ◌++◌, length, Option, Some, None}
+use Rattle.std.proofs.lemmas.Bool.Decides.{nat_tests}
+use Rattle.bus_memory.specs.Windows.{slot_of, start}
+use Rattle.bus_memory.proofs.Found.{slot_of_law}
+use Rattle.bus_transactions.specs.Judging.{AreJudged, facts_of, may_get}
+use Rattle.bus_transactions.specs.Packets.{SerialsCount}
+use Rattle.label_table.specs.Judging.{Facts, row_of}
+use Rattle.rbc_disk.specs.Disk.{Disk}
+use Rattle.sbp_journal.specs.Run.{Moment, asked, said}
+use Rattle.sbp_journal.specs.Transactions.{Sending}
+use Rattle.sbp_journal.specs.Wire.{terms}
+use Rattle.sbp_journal.specs.declared.event.Event.{Event}
+use Rattle.sbp_journal.specs.declared.event.Event.TheVariants as events
+use Rattle.sbp_journal.specs.declared.note.Note.TheVariants as notes
+use Rattle.sbp_laws.specs.Lists.{linked, named_in, prepared_in, slot_at, taken_at}
+use Rattle.sbp_laws.specs.Terms.{appends, ends}
+use Rattle.sbp_world.specs.Histories.{moments_behind}
+use Rattle.sbp_world.specs.Runs.{Run, beginning}
+use Rattle.sbp_world.specs.Wire.History.{IsOfWire}
+use Rattle.sbp_world.specs.Worlds.{WorldState}
+use Rattle.sbp_world.proofs.Agents.Management.Still.{hist}
+use Rattle.sbp_world.proofs.Hosts.Remaining.{remains, serials_behind}
+use Rattle.sbp_world.proofs.Hosts.SentMoments.{sent_below, serials_from}
+use Rattle.sbp_world.specs.Pointers.Pointers.{PointersAt, pointed_list}
+use Rattle.sbp_world.specs.Lists.Begun.{AreBegun}
+use Rattle.sbp_world.specs.Lists.Closes.{AreFirsts, AreUntaken}
+use Rattle.sbp_world.specs.Lists.Names.{AreNamed}
+use Rattle.sbp_world.specs.Lists.Needs.{IsCalm}
+use Rattle.sbp_world.specs.Lists.Opens.{IsPointedBy}
+use Rattle.sbp_world.specs.Lists.Places.{AreNamedFor, IsNamedFor, IsFirst}
+use Rattle.sbp_world.proofs.Lists.EndedLists.{ended_had, none_ended}
+use Rattle.sbp_world.proofs.Lists.Gots.{WhereGot, got_before, got_here, got_in_line, got_where, turn_next}
+use Rattle.sbp_world.proofs.Lists.OpenFresh.{writes_of}
+use Rattle.sbp_world.proofs.Lists.OpenLasting.{lasts}
+use Rattle.sbp_world.proofs.Lists.OpenNews.{got_more}
+use Rattle.sbp_world.proofs.Lists.Passing.{PassLaw}
+use Rattle.sbp_world.proofs.Lists.Walks.{Walks}
+
+no : false ≡ true → ⊥
+no e = cc
+
+-- ---- the list of a write stays
+other_serial : (x serial count : ℕ) → x ≤ count → serial ≡ count + 1 → nat_eq x serial ≡ false
+other_serial x serial count l e = by (nat_eq x serial) refl
+  where
+    by : (b : Bool) → nat_eq x serial ≡ b → b ≡ false
+    by true f = let same : x ≡ serial = grind (arith, nat_tests) in absurd (omega (arith, same, l, e))
+    by false f = refl
+
+apart : {A : Type 0} (b : Bool) (x y : A) → b ≡ false → cond b x y ≡ y
+apart true x y e = absurd (no (sym e))
+apart false x y e = refl
+
+pointed_step : (m : Moment) (past : List Moment) (s i : ℕ) → SerialsCount (m ∷ past) → s ≤ (terms past).count → pointed_list (m ∷ past) s i ≡ pointed_list past s i
+pointed_step (said (notes.Sent serial generation (suc j) to bytes)) past s i c l = apart (nat_eq s serial) _ (pointed_list past s i) (other_serial s serial (terms past).count l c.0)
+pointed_step (said (notes.Sent serial generation zero to bytes)) past s i c l = refl
+pointed_step (said note) past s i c l = refl
+pointed_step (asked line event) past s i c l = refl
+
+pointed_stays : (later past : List Moment) (s i : ℕ) → SerialsCount (later ++ past) → s ≤ (terms past).count → pointed_list (later ++ past) s i ≡ pointed_list past s i
+pointed_stays [] past s i c l = refl
+pointed_stays (m ∷ later) past s i c l =
+    let whole = later ++ past in
+    let rest : SerialsCount whole = serials_behind m whole c in
+    let more = (remains later past rest).count in
+    pointed_step m whole s i c (omega (arith, l, more)) ∙ pointed_stays later past s i rest l
+
+-- ---- a packet that is got is of the receiver's generation
+current_at : (c n r a x : Bool) → may_get (row_of (record { is_current = c; is_for_node = n; is_response = r; is_awaited = a; is_repeated = x })) ≡ true → c ≡ true
+current_at true n r a x e = refl
+current_at false n r a x e = absurd (no e)
+
+current_of : (f : Facts) → may_get (row_of f) ≡ true → f.is_current ≡ true
+current_of f e = current_at f.is_current f.is_for_node f.is_response f.is_awaited f.is_repeated e
+
+judged_from : (later past : List Moment) → AreJudged (later ++ past) → AreJudged past
+judged_from [] past h = h
+judged_from (said (notes.Got serial) ∷ later) past h = judged_from later past h.1
+judged_from (said (notes.Ignored serial cause) ∷ later) past h = judged_from later past h.1
+judged_from (asked line event ∷ later) past h = judged_from later past h
+judged_from (said note ∷ later) past h = judged_from later past h
+
+got_current : (serial : ℕ) (past : List Moment) (packet : Sending) → AreJudged (said (notes.Got serial) ∷ past) → (terms past).sent serial ≡ Some packet → packet.generation ≡ (terms past).generation packet.to
+got_current serial past packet h e =
+    let same : (packet.generation == (terms past).generation packet.to) ≡ true = current_of (facts_of (terms past) packet) (h.0 packet e) in
+    grind (arith, nat_tests)
+
+-- ---- a line that begins changes nothing of it
+record Like (before earlier : List Moment) : Type 0 where
+  sent : (terms earlier).sent ≡ (terms before).sent
+  news : (terms earlier).news ≡ (terms before).news
+  generation : (terms earlier).generation ≡ (terms before).generation
+  pointed : (serial i : ℕ) → pointed_list earlier serial i ≡ pointed_list before serial i
+  prepared : (i slot : ℕ) → prepared_in earlier i slot ≡ prepared_in before i slot
+
+like_self : (ms : List Moment) → Like ms ms
+like_self ms = record { sent = refl; news = refl; generation = refl; pointed = λ serial i. refl; prepared = λ i slot. refl }
+
+like_asked : (line : ℕ) (event : Event) (ms : List Moment) → Like ms (asked line event ∷ ms)
+like_asked line (events.Reset physical) ms = record { sent = refl; news = refl; generation = refl; pointed = λ serial i. refl; prepared = λ i slot. refl }
+like_asked line (events.Repeat serial) ms = record { sent = refl; news = refl; generation = refl; pointed = λ serial i. refl; prepared = λ i slot. refl }
+like_asked line _ ms = record { sent = refl; news = refl; generation = refl; pointed = λ serial i. refl; prepared = λ i slot. refl }
+
+-- ---- what is known of every run at a place
+pub record Known (ms : List Moment) (w : WorldState) : Type 0 where
+  pub pointers : (i : ℕ) → i < length w.initiators → PointersAt ms i
+  pub first : AreFirsts ms w
+  pub begun : (i : ℕ) → i < length w.initiators → AreBegun ms i
+  pub names : AreNamed ms w
+  pub within : (i n : ℕ) → i < length w.initiators → linked ms i n ≤ appends ms i n
+  pub wire : IsOfWire ms
+
+abbrev pub AllNamed : (ℕ → Bool) → List Moment → WorldState → Type 0
+AllNamed wild ms w = (i : ℕ) → i < length w.initiators → wild i ≡ false → AreNamedFor ms i
+
+-- ---- over a turn
+module _ (wild : ℕ → Bool) (i : ℕ) (own : wild i ≡ false) (before : List Moment) (w : WorldState) (inside : i < length w.initiators) (calm : IsCalm before i) (passes : PassLaw wild before) (known : Known before w) (taken : (n k : ℕ) → ends before i n ≤ k → taken_at before i n k ≡ None) (named : AreNamedFor before i) (now : List Moment) (wire : IsOfWire now) (pointers : PointersAt now i) (calm_now : IsCalm now i) where
+  -- a packet that is got
+  module _ (front earlier : List Moment) (serial : ℕ) (sent : Sending) (place address : ℕ) (is : front ++ said (notes.Got serial) ∷ earlier ≡ now) (sent_is : (terms earlier).sent serial ≡ Some sent) (pointed : IsPointedBy sent i place address) where
+    abbrev one : List Moment
+    one = said (notes.Got serial) ∷ []
+
+    joined : (a : List Moment) → (a ++ one) ++ earlier ≡ a ++ said (notes.Got serial) ∷ earlier
+    joined [] = refl
+    joined (m ∷ a) = ap (λ ms. m ∷ ms) (joined a)
+
+    -- the list that it was named for stays that
+    list_stays : (later whole : List Moment) → SerialsCount whole → later ++ said (notes.Got serial) ∷ earlier ≡ whole → pointed_list whole serial i ≡ pointed_list earlier serial i
+    list_stays later whole counted e =
+        let same = joined later ∙ e in
+        let c : SerialsCount ((later ++ one) ++ earlier) = subst SerialsCount (sym same) counted in
+        subst (λ ms. pointed_list ms serial i ≡ pointed_list earlier serial i) same
+        (pointed_stays (later ++ one) earlier serial i c (sent_below earlier serial sent (serials_from (later ++ one) earlier c) sent_is))
+
+    list_now : pointed_list now serial i ≡ pointed_list earlier serial i
+    list_now = list_stays front now wire.serials is
+
+    -- it was got before
+    old : (later : List Moment) → later ++ said (notes.Got serial) ∷ earlier ≡ before → IsNamedFor now earlier i serial address
+    old later e =
+        let n = named later earlier serial sent place address e sent_is pointed in
+        record { list = n.list; pointed = list_now ∙ (sym (list_stays later before known.wire.serials e) ∙ n.pointed); there = n.there }
+
+    -- it is got now
+    module _ (like : Like before earlier) where
+      sent_before : (terms before).sent serial ≡ Some sent
+      sent_before = ap (λ (f : ℕ → Option Sending). f serial) (sym like.sent) ∙ sent_is
+
+      first_is : IsFirst before i serial address
+      first_is = known.first i inside calm serial sent place address sent_before pointed
+
+      abbrev n : ℕ
+      n = first_is.list
+
+      is_now : pointed_list now serial i ≡ Some n
+      is_now = list_now ∙ (like.pointed serial i ∙ first_is.pointed)
+
+      fresh : (terms before).news serial ≡ 0
+      fresh =
+          let k = pointers.each n serial is_now in
+          let x = writes_of k.packet.bytes _ k.spelled refl in
+          let most = (wire.once serial x.label k.packet k.sent k.honest x.part).most (ap (λ j. (terms now).injects j) k.from_is ∙ calm_now) in
+          let more = got_more serial front earlier now sent is sent_is in
+          let same : (terms earlier).news serial ≡ (terms before).news serial = ap (λ (f : ℕ → ℕ). f serial) like.news in
+          omega (arith, most, more, same)
+
+      current : sent.generation ≡ (terms before).generation 0
+      current =
+          got_current serial earlier sent (judged_from front (said (notes.Got serial) ∷ earlier) (subst AreJudged (sym is) wire.judged)) sent_is
+          ∙ (ap (λ k. (terms earlier).generation k) pointed.to_is ∙ ap (λ (f : ℕ → ℕ). f 0) like.generation)
+
+      none : ends before i n ≡ 0
+      none = none_ended before i named (known.pointers i inside) (lasts before known.wire.serials) n (λ b. ended_had wild i n own before passes b) serial first_is.pointed fresh
+
+      new : IsNamedFor now earlier i serial address
+      new =
+          let latest = (known.begun i inside).waiting calm serial n sent sent_before first_is.pointed current fresh in
+          let linked_one = ((known.pointers i inside).each n serial first_is.pointed).one in
+          let within = known.within i n inside in
+          let stands = known.names.stands i n 0 latest (omega (arith, linked_one, within)) (taken n 0 (let e = none in omega (arith, e))) in
+          let slot = slot_at before i n 0 in
+          record {
+            list = n;
+            pointed = is_now;
+            there = ap (λ a. named_in earlier i (slot_of a)) first_is.address_is ∙ (ap (named_in earlier i) (slot_of_law.found slot stands.small) ∙ (like.prepared i slot ∙ stands.last));
+          }
+
+    got_so : WhereGot before serial earlier → IsNamedFor now earlier i serial address
+    got_so (got_before later e) = old later e
+    got_so (got_here e) = new (subst (Like before) (sym e) (like_self before))
+    got_so (got_in_line line event e) = new (subst (Like before) (sym e) (like_asked line event before))
+
+-- each turn keeps it
+pub names_walk : (wild : ℕ → Bool) (units ready : ℕ) → 0 < units → (start : List Disk) → Walks wild units ready start Known AreUntaken (AllNamed wild)
+names_walk wild units ready has start past s later t step p i b own front earlier serial sent place address is sent_is pointed =
+    let before = hist past s.world in
+    let now = hist later t.world in
+    let inside : i < length s.world.initiators = subst (λ n. i < n) step.count b in
+    let calm = step.stands.reached.calm i own in
+    got_so wild i own before s.world inside calm step.stands.reached.kept.passes step.known (λ n k e. step.so_far i own i inside calm n k e) (p i inside own) now step.known_then.wire (step.known_then.pointers i b) (step.reaches.calm i own)
+    front earlier serial sent place address is sent_is pointed
+    (got_where serial earlier before now (turn_next past s later t step.turn) front is)
+
+-- as a run begins, no packet was got
+pub first_names : (wild : ℕ → Bool) (line : ℕ) (run : Run) → AllNamed wild (moments_behind line run []) (beginning run).world
+first_names wild line run i b own front earlier serial sent place address is sent_is pointed = absurd (by front is)
+  where
+    by : (front : List Moment) → front ++ said (notes.Got serial) ∷ earlier ≡ said (notes.Begin run.initiators run.ready) ∷ asked line (events.Begin run.initiators run.ready) ∷ [] → ⊥
+    by [] e = first_no (let z : said (notes.Got serial) ∷ earlier ≡ said (notes.Begin run.initiators run.ready) ∷ (asked line (events.Begin run.initiators run.ready) ∷ []) = e in cc)
+      where
+        first_no : said (notes.Got serial) ≡ said (notes.Begin run.initiators run.ready) → ⊥
+        first_no f = cc
+    by (a ∷ []) e = then_no (let z : a ∷ (said (notes.Got serial) ∷ earlier) ≡ said (notes.Begin run.initiators run.ready) ∷ (asked line (events.Begin run.initiators run.ready) ∷ []) = e in cc)
+      where
+        then_no : said (notes.Got serial) ≡ asked line (events.Begin run.initiators run.ready) → ⊥
+        then_no f = cc
+    by (a ∷ c ∷ front) e = longer front (let z : a ∷ (c ∷ (front ++ said (notes.Got serial) ∷ earlier)) ≡ said (notes.Begin run.initiators run.ready) ∷ (asked line (events.Begin run.initiators run.ready) ∷ []) = e in cc)
+      where
+        longer : (front : List Moment) → front ++ said (notes.Got serial) ∷ earlier ≡ [] → ⊥
+        longer [] e = cc
+        longer (x ∷ front) e = cc

@@ -1,0 +1,385 @@
+-- Whose list is open at each place, behind each turn of a world.
+use Rattle.std.proofs.Common.{arith, ◌≡◌, ◌∙◌, refl, sym, ap, subst, inl, inr, ◌⊎◌, ◌<◌, ◌||◌, not, ℕ, nat_eq, nat_lt, Bool, true, false, cond, List, [], ◌∷◌, ◌++◌, map, length, Option, Some, None, Result, Ok, Err}
+use Rattle.std.specs.Prelude.{slice_index_or}
+use Rattle.std.proofs.lemmas.Bool.Decides.{nat_tests}
+use Rattle.bus_memory.specs.Windows.{slot_of}
+use Rattle.bus_memory.proofs.Found.{slot_of_law}
+use Rattle.bus_transactions.specs.Wire.{as_sending}
+use Rattle.label_table.specs.declared.reply.Stale.{Stale}
+use Rattle.label_table.specs.Layer.{Layer, expiring_step}
+use Rattle.orb_layout.specs.declared.ask.Ask.{Ask}
+use Rattle.orb_layout.specs.declared.pointer.OrbPointer.{OrbPointer}
+use Rattle.orb_layout.specs.declared.pointer.OrbPointer.TheVariants.{Null, At}
+use Rattle.orb_list.specs.Lists.{ListState, last_at, last_in}
+use Rattle.orb_list.specs.Table.{slot_in}
+use Rattle.orb_list.specs.Tickets.{TicketParts}
+use Rattle.packet_store.specs.declared.sent.Sent.{Sent}
+use Rattle.packet_store.specs.Kept.{found_sent, is_flying}
+use Rattle.packet_store.specs.Stored.{deliver_step}
+use Rattle.rbc_disk.specs.Disk.{Disk}
+use Rattle.rbc_disk.specs.Runs.{Told}
+use Rattle.command_agent.specs.declared.step.AgentState.{AgentState}
+use Rattle.command_agent.specs.declared.step.AgentState.TheVariants as states
+use Rattle.command_agent.specs.declared.step.PointRefusal.{PointRefusal}
+use Rattle.command_agent.specs.Machine.{Machine, named, state_in}
+use Rattle.command_agent.specs.Steps.{point_in, point_step}
+use Rattle.sbp_bus.specs.declared.places.Holder.{Holder}
+use Rattle.sbp_bus.specs.declared.requests.Request.{Request}
+use Rattle.sbp_bus.specs.Generations.{id_of}
+use Rattle.sbp_bus.specs.Packets.{judged_note, no_packet}
+use Rattle.sbp_bus.specs.Places.{holder_at, or_nobody, place_in}
+use Rattle.sbp_bus.specs.Telling as bus
+use Rattle.sbp_initiator.specs.declared.state.InitiatorState.{InitiatorState}
+use Rattle.sbp_initiator.specs.Initiators.{new_state}
+use Rattle.sbp_journal.specs.declared.cause.Judged.{Judged}
+use Rattle.sbp_journal.specs.declared.cause.Judged.TheVariants as judgements
+use Rattle.sbp_journal.specs.declared.note.Note.{Note}
+use Rattle.sbp_journal.specs.declared.note.Note.TheVariants as notes
+use Rattle.sbp_journal.specs.Outgoings.{OutboxState, empty_outbox}
+use Rattle.sbp_journal.specs.Run.{Moment, said}
+use Rattle.sbp_laws.specs.Lists.{list_in, named_in}
+use Rattle.target_base.specs.declared.address.Access.TheVariants as accesses
+use Rattle.sbp_target.specs.Calls.{alone, sees, ticks}
+use Rattle.sbp_target.specs.declared.purpose.Purpose.{Purpose}
+use Rattle.sbp_target.specs.Nodes.{NodeState, Scene as TargetScene, scene}
+use Rattle.sbp_target.specs.Receiving.{expired, expired_in, received, with_key}
+use Rattle.sbp_target.specs.Replies.{Whole}
+use Rattle.sbp_target.specs.Telling.{orb_of}
+use Rattle.sbp_world.specs.Delivering.{marked, whole_of}
+use Rattle.sbp_world.specs.Handing.{handed_out}
+use Rattle.sbp_world.specs.Lines.{keyed, no_unit}
+use Rattle.sbp_world.specs.Nodes.{see_line, target_sees, target_ticks, tick_line, told_seen, with_seen}
+use Rattle.sbp_world.specs.Nodes as nodes
+use Rattle.sbp_world.specs.Packets.{refused, target_left, timed_out}
+use Rattle.sbp_world.specs.Packets as packets
+use Rattle.sbp_world.specs.Telling.{holder, ticket_at, ticket_of, told_all}
+use Rattle.sbp_world.specs.Worlds.{Scene, WorldState, initiator_at, with_note, with_target}
+use Rattle.sbp_world.proofs.Wire.Nodes.{handed_alike}
+use Rattle.sbp_target.proofs.Histories.Calling.{Good}
+use Rattle.sbp_world.proofs.Agents.Management.Holding.{Holding, good_of, was_sent}
+use Rattle.sbp_world.proofs.Agents.Management.Still.{hist}
+use Rattle.sbp_world.specs.Agents.Holders.{AreHeldAt}
+use Rattle.sbp_world.proofs.Agents.Peers.{all_sent_places}
+use Rattle.sbp_world.specs.Hosts.Fits.{AreRows}
+use Rattle.sbp_world.specs.Hosts.Rows.{name_in}
+use Rattle.sbp_world.proofs.Hosts.Readings.{read_law}
+use Rattle.sbp_world.specs.Lists.CutLists.{WasHad}
+use Rattle.sbp_world.specs.Lists.Opens.{WasOpened}
+use Rattle.sbp_laws.specs.OrderLaw.{is_cut}
+use Rattle.sbp_world.proofs.Lists.Adds.{all_stay}
+use Rattle.sbp_world.proofs.Lists.Extends.{Extends, handed_extends}
+use Rattle.sbp_world.proofs.Lists.OpenCuts.{CutAt, Here, Listing, Open}
+use Rattle.sbp_world.proofs.Lists.OpenDeliveries.{Points, delivery_open, lapse_open}
+use Rattle.sbp_world.proofs.Lists.Later.{had_later, joined}
+use Rattle.sbp_world.proofs.Lists.OpenHad.{Was, WasElse, WereAt, else_later, same_were, was_on}
+use Rattle.sbp_world.proofs.Lists.OpenManages as manages
+use Rattle.sbp_world.proofs.Lists.OpenOwners.{came_from}
+use Rattle.sbp_world.proofs.Lists.OpenPlaces.{Has}
+use Rattle.sbp_world.proofs.Lists.OpenTurns.{AreSeated, Before, begins, sound}
+
+no : false ≡ true → ⊥
+no e = cc
+
+abbrev pub AllWere : List Moment → WorldState → Type 0
+AllWere past w = WereAt (hist past w) w
+
+split_notes : (a b : List Note) (past : List Moment) → map said (a ++ b) ++ past ≡ map said a ++ (map said b ++ past)
+split_notes [] b past = refl
+split_notes (n ∷ a) b past = ap (λ ms. said n ∷ ms) (split_notes a b past)
+
+-- a history goes on with notes
+pub record GoesOn (before now : List Moment) : Type 0 where
+  pub more : List Moment
+  pub is : more ++ before ≡ now
+
+pub hist_on : (past : List Moment) (w v : WorldState) → Extends w.fresh v.fresh → GoesOn (hist past w) (hist past v)
+hist_on past w v e = record { more = map said e.more; is = sym (split_notes e.more w.fresh past) ∙ ap (λ ns. map said ns ++ past) e.is }
+
+goes_then : (one two three : List Moment) → GoesOn one two → GoesOn two three → GoesOn one three
+goes_then one two three a b = record { more = b.more ++ a.more; is = joined b.more a.more one ∙ ap (λ ms. b.more ++ ms) a.is ∙ b.is }
+
+-- a packet that was judged cuts no list
+judged_cuts : (serial : ℕ) (j : Judged) (ms : List Moment) (i n : ℕ) → is_cut (said (judged_note serial j) ∷ ms) i n ≡ is_cut ms i n
+judged_cuts serial judgements.Got ms i n = refl
+judged_cuts serial (judgements.Ignored cause) ms i n = refl
+
+-- ---- the pointer that is taken
+pub record IsTaken (m now : Machine) (pointer : OrbPointer) : Type 0 where
+  pub at : named pointer ≡ Some (orb_of now)
+
+not_taken : (refusal : PointRefusal) (ask : Ask) → Err refusal ≡ Ok ask → ⊥
+not_taken refusal ask e = cc
+
+taken_in : (state : AgentState) (m : Machine) (pointer : OrbPointer) (ask : Ask) → (point_in state m pointer).0 ≡ Ok ask → IsTaken m (point_in state m pointer).1 pointer
+taken_in states.Reset m Null ask e = absurd (not_taken _ ask e)
+taken_in states.Reset m (At next) ask e = record { at = refl }
+taken_in states.Suspended m Null ask e = absurd (not_taken _ ask e)
+taken_in states.Suspended m (At next) ask e = record { at = refl }
+taken_in states.Active m pointer ask e = absurd (not_taken _ ask e)
+taken_in states.Dead m pointer ask e = absurd (not_taken _ ask e)
+
+pub taken : (m : Machine) (pointer : OrbPointer) (ask : Ask) → (point_step m pointer).0 ≡ Ok ask → IsTaken m (point_step m pointer).1 pointer
+unfolding point_step
+taken m pointer ask e = taken_in (state_in m.phase) m pointer ask e
+
+-- ---- the ORB that an address names, by the run
+name_list : (t : Option TicketParts) → bus.list_in t ≡ list_in (name_in t)
+name_list None = refl
+name_list (Some t) = refl
+
+module _ (past : List Moment) (i : ℕ) (lists : ListState) (rows : AreRows past i lists.slots) where
+  named_by : (slot : Option ℕ) → ((k : ℕ) → slot ≡ Some k → k < 32) → bus.list_in (last_in lists slot) ≡ list_in (named_in past i slot)
+  named_by None small = refl
+  named_by (Some k) small = name_list (slot_in lists.slots.slots k).last ∙ ap list_in (sym ((read_law past i lists.slots rows).named k (small k refl)))
+
+  pub named_list : (address : ℕ) → bus.list_in (last_at lists address) ≡ list_in (named_in past i (slot_of address))
+  named_list address = named_by (slot_of address) (λ k e. (slot_of_law.begins address k e).0)
+
+-- ---- a world
+module _ (units logins : ℕ) (has : 0 < units) (start : List Disk) {past : List Moment} {lines : ℕ} (w : WorldState) (h : Holding units logins start past lines w) (held : AreHeldAt start (hist past w) w) (rows : (i : ℕ) → i < length w.initiators → AreRows (hist past w) i (initiator_at w i).lists.slots) (were : AllWere past w) where
+  abbrev g : Good w.target
+  g = good_of units logins h.calls w.target has h.made
+
+  abbrev seats : AreSeated w
+  seats = λ p login e. let k = held.held p login e in record { holder_is = k.holder; there = k.there; id_is = k.login_is }
+
+  -- what the target hands out behind what is told
+  handed_holder : (u : WorldState) (outbox : OutboxState) (p : ℕ) (x : Holder) → Has (told_all 0 outbox.sides u).places p x → holder (handed_out 0 0 outbox u) p ≡ x
+  handed_holder u outbox p x e = ap or_nobody (ap (λ ps. place_in ps p) (all_sent_places 0 outbox.packets (told_all 0 outbox.sides u)) ∙ e)
+
+  handed_listing : (u : WorldState) (node : NodeState) (outbox : OutboxState) → u.target ≡ node → (p : ℕ) → Listing (handed_out 0 0 outbox u).target p → Listing node p
+  handed_listing u node outbox e p l = subst (λ (n : NodeState). Listing n p) ((handed_alike 0 0 outbox u).target ∙ e) l
+
+  handed_on : (u : WorldState) (outbox : OutboxState) → GoesOn (hist past u) (hist past (handed_out 0 0 outbox u))
+  handed_on u outbox = hist_on past u (handed_out 0 0 outbox u) (handed_extends 0 0 outbox u)
+
+  -- packets that are sent cut no list
+  sent_cuts : (u : WorldState) (outbox : OutboxState) (i n : ℕ) → is_cut (hist past (handed_out 0 0 outbox u)) i n ≡ is_cut (hist past (told_all 0 outbox.sides u)) i n
+  sent_cuts u outbox i n = (all_stay (λ j. true) past 0 outbox.packets (told_all 0 outbox.sides u)).adds.cuts_are i n
+
+  -- a list of a place was cut, which has none now
+  record IsNew (node : NodeState) (i n : ℕ) : Type 0 where
+    had : WasHad (hist past w) i n
+    over : Listing node had.place → ⊥
+
+  -- a turn that opens no list
+  module _ (u : WorldState) (node : NodeState) (outbox : OutboxState) (e : u.target ≡ node) (on : GoesOn (hist past w) (hist past u)) (cuts : (i n : ℕ) → is_cut (hist past u) i n ≡ is_cut (hist past w) i n) (o : Open u (holder w) (Before w g seats) w.target.logins.places (sound w g seats) (scene node outbox)) where
+    abbrev v : WorldState
+    v = handed_out 0 0 outbox u
+
+    whole : GoesOn (hist past w) (hist past v)
+    whole = goes_then (hist past w) (hist past u) (hist past v) on (handed_on u outbox)
+
+    new_of : (i n : ℕ) → CutAt u (holder w) (Before w g seats) w.target.logins.places (sound w g seats) node i n → IsNew node i n
+    new_of i n c =
+        let old = (were.each c.place c.small c.own.why).opened in
+        record {
+          had = record { place = c.place; opened = subst (λ list. WasOpened (hist past w) i c.place list) c.list_is (subst (λ j. WasOpened (hist past w) j c.place (holder w c.place).list) c.from_is old) };
+          over = c.over;
+        }
+
+    cuts_now : (i n : ℕ) → is_cut (hist past v) i n ≡ true → (is_cut (hist past w) i n ≡ true) ⊎ IsNew node i n
+    cuts_now i n x = by (o.cuts past i n (sym (sent_cuts u outbox i n) ∙ x))
+      where
+        by : (is_cut (hist past u) i n ≡ true) ⊎ CutAt u (holder w) (Before w g seats) w.target.logins.places (sound w g seats) node i n → (is_cut (hist past w) i n ≡ true) ⊎ IsNew node i n
+        by (inl y) = inl (sym (cuts i n) ∙ y)
+        by (inr c) = inr (new_of i n c)
+
+    spared : (p : ℕ) → Listing node p → (i n : ℕ) → (is_cut (hist past w) i n ≡ true) ⊎ IsNew node i n → (is_cut (hist past w) i n ≡ true) ⊎ WasElse (hist past v) i n p
+    spared p l i n (inl x) = inl x
+    spared p l i n (inr k) =
+        inr (else_later whole.more (hist past w) (hist past v) i n p whole.is (record { had = k.had; other = λ same. k.over (subst (λ j. Listing node j) (sym same) l) }))
+
+    each_open : (p : ℕ) → p < 8 → Listing v.target p → Was (hist past v) (holder v p) p
+    each_open p b l =
+        let l' = handed_listing u node outbox e p l in
+        let is = handed_holder u outbox p (holder w p) (o.kept p b l') in
+        subst (λ (x : Holder). Was (hist past v) x p) (sym is)
+        (was_on whole.more (hist past w) (hist past v) (holder w p) p whole.is
+        (λ n same x. spared p l' (holder w p).initiator n (cuts_now (holder w p).initiator n x))
+        (were.each p b (o.own p b l').why))
+
+    had_open : (i n : ℕ) → (is_cut (hist past w) i n ≡ true) ⊎ IsNew node i n → WasHad (hist past v) i n
+    had_open i n (inl x) = had_later whole.more (hist past w) (hist past v) i n whole.is (were.had i n x)
+    had_open i n (inr k) = had_later whole.more (hist past w) (hist past v) i n whole.is k.had
+
+    stays_open : AllWere past (handed_out 0 0 outbox u)
+    stays_open = record { each = each_open; had = λ i n x. had_open i n (cuts_now i n x) }
+
+  -- ---- a packet that the target gets
+  module _ (serial : ℕ) (sent : Sent) (found : found_sent serial w.store.kept ≡ Some sent) (zero_to : sent.to ≡ 0) (run : Option Told) (s : Scene) (again : Bool) where
+    abbrev x : Judged × Whole
+    x = received run sent.generation sent.bytes (whole_of w.target s.media)
+
+    abbrev u : WorldState
+    u = with_note (judged_note serial x.0) (marked serial again (with_target x.1.node w))
+
+    record Marks : Type 0 where
+      places : u.places ≡ w.places
+      initiators : u.initiators ≡ w.initiators
+      fresh : u.fresh ≡ judged_note serial x.0 ∷ w.fresh
+      target : u.target ≡ x.1.node
+
+    marks : Marks
+    marks = by (again || not (is_flying serial w.store.kept))
+      where
+        Of : Bool → Type 0
+        Of b =
+            let y = cond b (with_target x.1.node w) (record (with_target x.1.node w) { store = deliver_step w.store serial }) in
+            (y.places ≡ w.places) × ((y.initiators ≡ w.initiators) × ((y.fresh ≡ w.fresh) × (y.target ≡ x.1.node)))
+
+        of : (b : Bool) → Of b
+        of true = (refl, (refl, (refl, refl)))
+        of false = (refl, (refl, (refl, refl)))
+
+        by : Bool → Marks
+        by b = let m = of (again || not (is_flying serial w.store.kept)) in record { places = m.0; initiators = m.1.0; fresh = ap (λ ns. judged_note serial x.0 ∷ ns) m.1.1.0; target = m.1.1.1 }
+
+    got_on : GoesOn (hist past w) (hist past u)
+    got_on = record { more = said (judged_note serial x.0) ∷ []; is = ap (λ ns. map said ns ++ past) (sym marks.fresh) }
+
+    got_cuts : (i n : ℕ) → is_cut (hist past u) i n ≡ is_cut (hist past w) i n
+    got_cuts i n = ap (λ ns. is_cut (map said ns ++ past) i n) marks.fresh ∙ judged_cuts serial x.0 (hist past w) i n
+
+    -- one that points
+    module _ (o : Points w g seats u marks.places sent run s.media x.0 (scene x.1.node x.1.outbox)) where
+      abbrev q : ℕ
+      q = o.place
+
+      abbrev i : ℕ
+      i = (holder w q).initiator
+
+      abbrev orb : ℕ
+      orb = orb_of (point_step (Here w.target q) o.pointer).1
+
+      holder_same : holder u q ≡ holder w q
+      holder_same = ap (λ ps. holder_at ps q) marks.places
+
+      is_got : hist past u ≡ said (notes.Got serial) ∷ hist past w
+      is_got = ap (λ ns. map said ns ++ past) marks.fresh ∙ ap (λ (j : Judged). said (judged_note serial j) ∷ hist past w) o.got
+
+      list_by : (b : Bool) → nat_lt i (length u.initiators) ≡ b → i < length w.initiators → bus.list_in (cond b (last_at (initiator_at u i).lists orb) None) ≡ list_in (named_in (hist past w) i (slot_of orb))
+      list_by true e l =
+          let same : (initiator_at u i).lists ≡ (initiator_at w i).lists = ap (λ (is : List InitiatorState). (slice_index_or is i (new_state 0 false)).lists) marks.initiators in
+          ap (λ (k : ListState). bus.list_in (last_at k orb)) same ∙ named_list (hist past w) i (initiator_at w i).lists (rows i l) orb
+      list_by false e l = absurd (no (sym e ∙ (let z : nat_lt i (length u.initiators) ≡ true = (let y = ap length marks.initiators in grind (arith, nat_tests)) in z)))
+
+      opened_list : i < length w.initiators → bus.list_in (ticket_at u q orb) ≡ list_in (named_in (hist past w) i (slot_of orb))
+      opened_list l = ap (λ (k : Holder). bus.list_in (ticket_of u k.initiator orb)) holder_same ∙ list_by (nat_lt i (length u.initiators)) refl l
+
+      now_opened : WasOpened (hist past u) i q (bus.list_in (ticket_at u q orb))
+      now_opened =
+          let c = came_from units logins start w h held serial sent found o.packet q (accesses.Point o.pointer) o.found o.bar o.asks in
+          record {
+            later = [];
+            earlier = hist past w;
+            serial = serial;
+            is = sym is_got;
+            sent = as_sending sent;
+            sent_is = was_sent w h.sound.stands serial sent found;
+            address = orb;
+            pointed = record {
+              from_is = c.from_is;
+              to_is = zero_to;
+              packet = o.packet;
+              read = c.read;
+              rom = length w.target.rom;
+              pointer = o.pointer;
+              asks = o.asks;
+              address_is = (taken (Here w.target q) o.pointer o.ask o.took).at;
+            };
+            list_is = opened_list c.inside;
+          }
+
+      abbrev new : Holder
+      new = record (holder w q) { list = bus.list_in (ticket_at u q orb) }
+
+      now_was : Was (hist past u) new q
+      unfolding now_opened
+      now_was = record { opened = now_opened; spared = λ n is x. inl (were.had i n (sym (got_cuts i n) ∙ x)) }
+
+      abbrev end : WorldState
+      end = handed_out 0 0 x.1.outbox u
+
+      later : GoesOn (hist past u) (hist past end)
+      later = handed_on u x.1.outbox
+
+      whole_on : GoesOn (hist past w) (hist past end)
+      whole_on = goes_then (hist past w) (hist past u) (hist past end) got_on later
+
+      since_got : (i n : ℕ) → is_cut (hist past end) i n ≡ is_cut (hist past u) i n
+      since_got i n = sent_cuts u x.1.outbox i n ∙ o.after.1 past i n
+
+      cuts_end : (i n : ℕ) → is_cut (hist past end) i n ≡ is_cut (hist past w) i n
+      cuts_end i n = since_got i n ∙ got_cuts i n
+
+      each_point : (p : ℕ) → p < 8 → Listing end.target p → Was (hist past end) (holder end p) p
+      each_point p b l =
+          let l' = handed_listing u x.1.node x.1.outbox marks.target p l in by p b l' (nat_eq p q) refl ((o.after.0.own p b l').why)
+        where
+          by : (p : ℕ) → p < 8 → Listing x.1.node p → (y : Bool) → nat_eq p q ≡ y → Listing w.target p ⊎ (p ≡ q) → Was (hist past end) (holder end p) p
+          by p b l true y why =
+              let same : q ≡ p = grind (arith, nat_tests) in
+              let has = subst (λ z. Has (told_all 0 x.1.outbox.sides u).places p (cond z new (holder w p))) y (o.after.0.kept p b l) in
+              subst (λ (k : Holder). Was (hist past end) k p) (sym (handed_holder u x.1.outbox p new has))
+              (was_on later.more (hist past u) (hist past end) new p later.is (λ n e z. inl (sym (since_got new.initiator n) ∙ z)) (subst (λ j. Was (hist past u) new j) same now_was))
+          by p b l false y (inl before) =
+              let has = subst (λ z. Has (told_all 0 x.1.outbox.sides u).places p (cond z new (holder w p))) y (o.after.0.kept p b l) in
+              subst (λ (k : Holder). Was (hist past end) k p) (sym (handed_holder u x.1.outbox p (holder w p) has))
+              (was_on whole_on.more (hist past w) (hist past end) (holder w p) p whole_on.is (λ n e z. inl (sym (cuts_end (holder w p).initiator n) ∙ z)) (were.each p b before))
+          by p b l false y (inr same) = absurd (no (sym y ∙ (let z : nat_eq p q ≡ true = grind (arith, nat_tests) in z)))
+
+      points_open : AllWere past end
+      points_open = record {
+        each = each_point;
+        had = λ j n z. had_later whole_on.more (hist past w) (hist past end) j n whole_on.is (were.had j n (sym (cuts_end j n) ∙ z));
+      }
+
+    pub delivery_were : AllWere past (handed_out 0 0 x.1.outbox u)
+    delivery_were = by (delivery_open w g seats u marks.places sent run s.media)
+      where
+        by : Open u (holder w) (Before w g seats) w.target.logins.places (sound w g seats) (scene x.1.node x.1.outbox) ⊎ Points w g seats u marks.places sent run s.media x.0 (scene x.1.node x.1.outbox) → AllWere past (handed_out 0 0 x.1.outbox u)
+        by (inl k) = stays_open u x.1.node x.1.outbox marks.target got_on got_cuts k
+        by (inr o) = points_open o
+
+  -- ---- a time-out
+  module _ (line serial : ℕ) (request : Request) (zero_node : request.node ≡ 0) where
+    abbrev Left : Result (Unit {0}) Stale × TargetScene → WorldState
+    Left y = timed_out line serial request.node (packets.at_target (target_left y w.target) w)
+
+    lapse_by : (x : Result (Option Purpose) Stale × Layer Purpose) → AllWere past (Left (expired_in x request.peer request.label (scene w.target empty_outbox)))
+    lapse_by (Ok purpose, layer) =
+        let t = (expired_in (Ok purpose, layer) request.peer request.label (scene w.target empty_outbox)).1 in
+        let u = with_note (notes.TimedOut serial) (with_target t.node w) in
+        subst (λ n. AllWere past (handed_out n 0 t.outbox u)) (sym zero_node)
+        (stays_open u t.node t.outbox refl (record { more = said (notes.TimedOut serial) ∷ []; is = refl }) (λ i n. refl) (lapse_open w g seats u refl layer request.peer request.label purpose))
+    lapse_by (Err stale, layer) = same_were (said (notes.Refused line no_packet) ∷ []) (hist past w) _ w _ refl (λ i n. refl) refl (λ p l. l) were
+
+    pub lapse_were : AllWere past (Left (expired request.peer request.label (scene w.target empty_outbox)))
+    unfolding expired
+    lapse_were = lapse_by (expiring_step w.target.layer request.peer request.label)
+
+  -- ---- a generation that it sees, a second, a key
+  pub sight_were : AllWere past (see_line 0 w)
+  unfolding see_line nodes.sees target_sees
+  sight_were =
+      let t = alone (sees w.generations.latest.generation (id_of w.generations.latest 0)) w.target in
+      let u = with_target t.node (with_seen 0 (told_seen 0 w)) in
+      stays_open u t.node t.outbox refl (record { more = said (notes.Seen 0 w.generations.latest.generation) ∷ []; is = refl }) (λ i n. refl)
+      (manages.sees u (holder w) (Before w g seats) w.target.logins (sound w g seats) w.generations.latest.generation (id_of w.generations.latest 0) (scene w.target empty_outbox) (begins w g seats u refl w.target.layer))
+
+  pub tick_were : AllWere past (tick_line w)
+  unfolding tick_line target_ticks
+  tick_were =
+      let t = alone ticks w.target in
+      let u = with_target t.node (with_note notes.Tick w) in
+      stays_open u t.node t.outbox refl (record { more = said notes.Tick ∷ []; is = refl }) (λ i n. refl)
+      (manages.ticks u (holder w) (Before w g seats) w.target.logins (sound w g seats) (scene w.target empty_outbox) refl (begins w g seats u refl w.target.layer))
+
+  pub key_were : (line unit : ℕ) (key : List ℕ) → AllWere past (keyed line unit key w)
+  unfolding keyed
+  key_were line unit key = by (nat_lt unit (length w.target.units))
+    where
+      by : (b : Bool) → AllWere past (cond b (with_note (notes.Key unit) (with_target (with_key unit key w.target) w)) (refused line no_unit w))
+      by true = same_were (said (notes.Key unit) ∷ []) (hist past w) _ w (with_note (notes.Key unit) (with_target (with_key unit key w.target) w)) refl (λ i n. refl) refl (λ p l. l) were
+      by false = same_were (said (notes.Refused line no_unit) ∷ []) (hist past w) _ w (refused line no_unit w) refl (λ i n. refl) refl (λ p l. l) were

@@ -1,0 +1,98 @@
+-- The target reads the management ORB that stands in its place.
+use Rattle.std.proofs.Common.{arith, ◌≡◌, ◌∙◌, refl, sym, ap, subst, ℕ, zero, ◌+◌, ◌≤◌, List, [], ◌∷◌, ◌++◌, map, Option, Some, None, append_assoc}
+use Rattle.bus_transactions.specs.Packets.{SerialsCount}
+use Rattle.mgmt_agent.specs.declared.operation.Operation.{Operation}
+use Rattle.mgmt_agent.specs.declared.operation.Phase.{Phase}
+use Rattle.mgmt_agent.specs.declared.operation.Phase.TheVariants as phases
+use Rattle.rbc_disk.specs.Disk.{Disk}
+use Rattle.sbp_journal.specs.Addresses.{Access}
+use Rattle.sbp_journal.specs.declared.note.Note.TheVariants as notes
+use Rattle.sbp_journal.specs.Run.{Moment, asked, said}
+use Rattle.sbp_journal.specs.Wire.{terms}
+use Rattle.sbp_laws.specs.Hosts.{Underway}
+use Rattle.sbp_laws.specs.Packets.{access_at, access_in, packet_in}
+use Rattle.sbp_laws.specs.Served.{place_bytes, place_held}
+use Rattle.sbp_world.specs.Histories.{history_of}
+use Rattle.sbp_world.specs.Runs.{after, beginning}
+use Rattle.sbp_world.specs.Settling.{after_all}
+use Rattle.sbp_world.specs.Worlds.{begun}
+use Rattle.sbp_world.specs.Agents.AskedRuns.{read_access}
+use Rattle.sbp_world.specs.Agents.Management.Terms.{DeliversMore}
+use Rattle.sbp_world.specs.Hosts.Runs.{more_deliveries}
+use Rattle.sbp_world.proofs.Hosts.Between.{of_wire_there}
+use Rattle.sbp_world.proofs.Hosts.Remaining.{remains, serials}
+use Rattle.sbp_world.proofs.Hosts.SentMoments.{count_now, sent_there, serials_from}
+use Rattle.sbp_world.specs.Lists.Contents.{AccessOf, AreAsked, WasAsked}
+use Rattle.sbp_world.specs.Lists.PlaceReads.{BringPlaces}
+use Rattle.sbp_world.specs.Lists.ReadOrbs.{IsAnswered, IsReading, ReadOrbsLaw}
+use Rattle.sbp_world.specs.Lists.Underway.{OperationsLast}
+use Rattle.sbp_world.proofs.Lists.ContentAsked.{contents_law}
+use Rattle.sbp_world.proofs.Lists.ContentManages.{bound}
+use Rattle.sbp_world.proofs.Lists.PlaceBrings.{place_reads_law}
+use Rattle.sbp_world.proofs.Lists.UnderwayRuns.{delivering, underway_law}
+
+-- ---- what a packet of an operation asks for, as the terms have it
+pub access_there : (start : List Disk) (past : List Moment) → SerialsCount past → (serial : ℕ) (op : Operation) (w : WasAsked start past serial op) → access_at (terms past) serial ≡ Some w.access
+access_there start past c serial op w =
+    let sent = said (notes.Sent serial w.generation zero w.to w.bytes) in
+    let here = sent ∷ w.before in
+    let counts : SerialsCount (w.later ++ here) = subst SerialsCount (sym w.is) c in
+    let first : SerialsCount here = serials_from w.later here counts in
+    let few : serial ≤ (terms here).count = below w.before serial w.generation w.to w.bytes first.0 in
+    let kept = (remains w.later here counts).sent serial few in
+    ap (λ ms. access_at (terms ms) serial) (sym w.is)
+    ∙ (ap (λ so. access_in (packet_in so)) (kept ∙ sent_there w.before serial w.generation zero w.to w.bytes)
+    ∙ w.spelled)
+  where
+    below : (before : List Moment) (serial generation to : ℕ) (bytes : List ℕ) → serial ≡ (terms before).count + 1 → serial ≤ (terms (said (notes.Sent serial generation zero to bytes) ∷ before)).count
+    below before serial generation to bytes e = let k = count_now before serial generation zero to bytes in omega (arith, e, k)
+
+in_phase : (phase other : Phase) (op : Operation) (access : Access) → phase ≡ other → AccessOf phase op access → AccessOf other op access
+in_phase phase other op access e a = subst (λ p. AccessOf p op access) e a
+
+module _ (start : List Disk) (past : List Moment) (i : ℕ) (counts : SerialsCount past) (are : AreAsked start past) (places : BringPlaces past i) (lasts : OperationsLast past i) where
+  module _ (read response : ℕ) (underway : Underway) (bytes : List ℕ) (r : IsReading start past i read underway) (behind : underway.first ≤ read) (answered : IsAnswered past i response read bytes) where
+    was : WasAsked start past read r.op
+    was = are.each read r.op (((bound start past counts).own read r.manages).0 ∙ r.operation)
+
+    reads : was.access ≡ read_access r.op.orb 32
+    reads = in_phase r.op.phase phases.Orb r.op was.access r.phase was.content
+
+    pub reads_orb : bytes ≡ place_bytes (place_held past i underway.place)
+    reads_orb =
+        let is = access_there start past counts read r.op was in
+        let own = lasts.each [] past refl underway r.has in
+        let b = places response read underway.place was.access bytes own.small
+        (record {
+          read = ap (λ (a : Access). a.is_write) reads;
+          block = ap (λ (a : Access). a.is_block) reads;
+          from = ap (λ (a : Access). a.offset) reads ∙ r.orb;
+          size = ap (λ (a : Access). a.count) reads;
+        })
+        (record {
+          own = answered.own;
+          answers = answered.answers;
+          of_initiator = answered.of_initiator;
+          asks = is;
+          reads = ap (λ (a : Access). a.is_write) reads;
+          block = ap (λ (a : Access). a.is_block) reads;
+          tells = answered.tells;
+        }) in
+        let at : (b.later ++ said (notes.Got read) ∷ []) ++ b.before ≡ past = append_assoc b.later (said (notes.Got read) ∷ []) b.before ∙ b.is in
+        let below = b.below in
+        let before = lasts.was (b.later ++ said (notes.Got read) ∷ []) b.before at underway r.has (omega (arith, behind, below)) in
+        b.held ∙ ap place_bytes (sym (before.places underway.place))
+
+pub delivers : (most : Option ℕ) → DeliversMore (more_deliveries most)
+delivers (Some count) = tt
+delivers None = tt
+
+pub read_orbs_law : ReadOrbsLaw
+read_orbs_law = record {
+  after_lines = λ line run r has small size i b.
+      λ read response underway bytes is behind answered. reads_orb run.start.disks (history_of line run) i (serials line run r) (contents_law.after_lines line run r has small size) (place_reads_law.after_lines line run r i b) (underway_law.after_lines line run r i b) read response underway bytes is behind answered;
+  between = λ line run r has small size next most told m i b.
+      let w = (after_all told (begun (after (beginning run) run.entries))).world in
+      λ read response underway bytes is behind answered.
+      reads_orb run.start.disks (map said w.fresh ++ asked next (more_deliveries most) ∷ history_of line run) i (of_wire_there line run r next (more_deliveries most) told (delivering told most) m).laws.serials (contents_law.between line run r has small size next (more_deliveries most) (delivers most) told m) (place_reads_law.between line run r next (more_deliveries most) told (delivering told most) m i b) (underway_law.between line run r next most told m i b) read response underway bytes is behind answered;
+}

@@ -1,0 +1,223 @@
+-- In every run each packet of the target that gives a quadlet gives one that may stand in its ROM: after each line, and behind each delivery of a line that may follow.
+use Rattle.std.proofs.Common.{arith, ◌≡◌, ◌∙◌, refl, sym, ap, subst, ℕ, zero, suc, ◌+◌, ◌<◌, ◌≤◌, ◌^◌, ◌||◌, nat_lt, Bool, true, false, cond, List, [], ◌∷◌, ◌++◌, length, map, Option, Some, None, not}
+use Rattle.std.specs.Prelude.{slice_set}
+use Rattle.config_rom.specs.Make.{made}
+use Rattle.sbp_world.specs.Hosts.Handing.{history}
+use Rattle.sbp_world.specs.Hosts.Runs.{IsRun, more_deliveries}
+use Rattle.sbp_world.proofs.Hosts.Hands.{target_tells}
+use Rattle.sbp_world.proofs.Hosts.Layered.{receive_left}
+use Rattle.orb_layout.specs.Pointers.{quad_bytes}
+use Rattle.packet_store.specs.declared.sent.Sent.{Sent}
+use Rattle.packet_store.specs.Kept.{found_sent, is_flying}
+use Rattle.packet_store.specs.Stored.{deliver_step}
+use Rattle.rbc_disk.specs.Disk.{Disk}
+use Rattle.rbc_disk.specs.Runs.{Told}
+use Rattle.sbp_bus.specs.Packets.{end_note, judged_note, no_node, no_packet}
+use Rattle.sbp_initiator.specs.Receiving.{receive_step}
+use Rattle.sbp_journal.specs.Outgoings.{OutboxState, empty_outbox}
+use Rattle.sbp_journal.specs.Run.{Moment, asked, said}
+use Rattle.sbp_journal.specs.Wire.{terms}
+use Rattle.sbp_journal.specs.declared.cause.Judged.{Judged}
+use Rattle.sbp_journal.specs.declared.event.Event.{Event}
+use Rattle.sbp_journal.specs.declared.event.Event.TheVariants as events
+use Rattle.sbp_journal.specs.declared.note.Note.TheVariants as notes
+use Rattle.sbp_target.specs.Nodes.{NodeState}
+use Rattle.sbp_target.specs.Receiving.{received}
+use Rattle.sbp_world.specs.declared.parts.delivering.Arrival.{Arrival}
+use Rattle.sbp_world.specs.Delivering.{MayAt, MayReceive, MayTell, MayTold, arrived, at_target, delivered, delivered_by, initiator_received, initiators_received, marked, received_by, received_step, target_received, whole_of, with_initiators}
+use Rattle.sbp_world.specs.Handing.{handed_out}
+use Rattle.sbp_world.specs.Histories.{history_of, moments_behind}
+use Rattle.sbp_world.specs.Lines.{MayHappen, happens, keyed, no_unit}
+use Rattle.sbp_world.specs.Making.{ready_logins}
+use Rattle.sbp_world.specs.Nodes.{reset_line}
+use Rattle.sbp_world.specs.Packets.{MayIf, delivered_if, inject_line, injected, injected_to, is_in_flight, lose_line, lost, may_repeat, refused}
+use Rattle.sbp_world.specs.Runs.{AreEntries, Entry, Run, after, beginning}
+use Rattle.sbp_world.specs.Sending.{posted}
+use Rattle.sbp_world.specs.Settling.{MayAll, MayNext, after_all, delivered_at, delivered_next, is_settled, lowest}
+use Rattle.sbp_world.specs.Settling as settling
+use Rattle.sbp_world.specs.Worlds.{Scene, WorldState, begun, initiator_at, with_note, with_target, without_notes}
+use Rattle.sbp_world.specs.Wire.Lines.{AreLines, IsLine}
+use Rattle.sbp_world.proofs.Wire.Comes.{own_inside, own_outside, received_is, to_own, to_zero}
+use Rattle.sbp_world.proofs.Wire.ToldBytes.{AreTold, happened_fits}
+use Rattle.target_base.specs.Beginning.{target_eui}
+use Rattle.sbp_world.specs.Agents.Management.Terms.{DeliversMore}
+use Rattle.sbp_world.proofs.Agents.Management.Holding.{Holding}
+use Rattle.sbp_world.proofs.Agents.Management.Lines.{all_heard, opens}
+use Rattle.sbp_world.proofs.Agents.Management.Runs.{are_told, holds_after, no_repeats, not_reset}
+use Rattle.sbp_world.proofs.Lists.RomBytes.{IsRom, is_rom}
+use Rattle.sbp_world.proofs.Lists.RomCalls.{delivery_fair}
+use Rattle.sbp_world.proofs.Lists.RomLines.{B, acts, notes_on, own_hands, seconds, sights, target_hands, times_out}
+use Rattle.sbp_world.proofs.Lists.RomNotes.{SentFair, judged_on, plain_on}
+use Rattle.sbp_world.proofs.Lists.RomStays.{rom_stays}
+
+-- ---- a delivery
+
+module _ (past : List Moment) (s : Scene) (rom : IsRom s.world.target.rom) (h : B past s.world) (serial : ℕ) (again : Bool) (run : Option Told) (may : MayReceive run serial s) where
+  abbrev w : WorldState
+  w = s.world
+
+  -- the note of how it was judged
+  judges : (judged : Judged) (v : WorldState) → SentFair (said (judged_note serial judged) ∷ history v past) → B past (with_note (judged_note serial judged) (marked serial again v))
+  judges judged v k = by (again || not (is_flying serial v.store.kept))
+    where
+      by : (b : Bool) → B past (with_note (judged_note serial judged) (cond b v (record v { store = deliver_step v.store serial })))
+      by true = k
+      by false = k
+
+  module _ (sent : Sent) (found : found_sent serial w.store.kept ≡ Some sent) where
+    told_by : sent.to ≡ 0 → MayTell run sent w.target s.media
+    unfolding MayReceive
+    told_by zero_to =
+        let at : MayAt run (Some sent) s = subst (λ o. MayAt run o s) found may in subst (λ b. MayTold b run sent s) (to_zero sent.to zero_to) at
+
+    heard_target : sent.to ≡ 0 → B past (delivered serial again run s).world
+    unfolding delivered target_received arrived
+    heard_target zero_to =
+        let r = received run sent.generation sent.bytes (whole_of w.target s.media) in
+        let v = with_note (judged_note serial r.0) (marked serial again (with_target r.1.node w)) in
+        let last_is : (delivered serial again run s).world ≡ handed_out 0 0 r.1.outbox v =
+        ap (λ (x : Option Arrival × (OutboxState × Scene)). (delivered_by serial again x).world)
+        (received_is run serial s sent found ∙ ap (λ b. cond b (at_target sent.to (target_received run sent w.target s.media) s) (initiator_received sent s)) (to_zero sent.to zero_to))
+        ∙ ap (λ n. handed_out n 0 r.1.outbox v) zero_to in
+        subst (B past) (sym last_is)
+        (target_hands past 0 r.1.outbox v (target_tells run sent w.target s.media (told_by zero_to)) (delivery_fair run sent.generation sent.bytes w.target s.media.disks rom)
+        (judges r.0 (with_target r.1.node w) (judged_on serial r.0 (history w past) h)))
+
+    heard_own : (i : ℕ) → i < length w.initiators → sent.to ≡ suc i → B past (delivered serial again run s).world
+    unfolding delivered initiators_received arrived
+    heard_own i inside to_is =
+        let r = receive_step sent.generation sent.bytes empty_outbox (initiator_at w i) in
+        let x = with_initiators (slice_set w.initiators i r.1.1) w in
+        let v = with_note (judged_note serial r.0) (marked serial again x) in
+        let last_is : (delivered serial again run s).world ≡ handed_out sent.to 0 r.1.0 v =
+        ap (λ (x : Option Arrival × (OutboxState × Scene)). (delivered_by serial again x).world) (to_own run serial i s sent found to_is ∙ own_inside sent i s inside) in
+        subst (B past) (sym (last_is ∙ ap (λ n. handed_out n 0 r.1.0 v) to_is))
+        (own_hands past i 0 r.1.0 v (receive_left sent.generation sent.bytes (initiator_at w i)).told (judges r.0 x (judged_on serial r.0 (history w past) h)))
+
+    heard_none : (i : ℕ) → sent.to ≡ suc i → length w.initiators ≤ i → B past (delivered serial again run s).world
+    unfolding delivered
+    heard_none i to_is outside =
+        subst (B past) (sym (ap (λ (x : Option Arrival × (OutboxState × Scene)). (delivered_by serial again x).world) (to_own run serial i s sent found to_is ∙ own_outside sent i s outside))) h
+
+    heard_at : (to : ℕ) → sent.to ≡ to → B past (delivered serial again run s).world
+    heard_at zero e = heard_target e
+    heard_at (suc i) e = by (nat_lt i (length w.initiators)) refl
+      where
+        by : (b : Bool) → nat_lt i (length w.initiators) ≡ b → B past (delivered serial again run s).world
+        by true f = heard_own i (grind arith) e
+        by false f = heard_none i e (grind arith)
+
+  heard_by : (so : Option Sent) → found_sent serial w.store.kept ≡ so → B past (delivered serial again run s).world
+  unfolding delivered received_step
+  heard_by None e = subst (B past) (sym (ap (λ o. (delivered_by serial again (received_by run o s)).world) e)) h
+  heard_by (Some sent) e = heard_at sent e sent.to refl
+
+  heard : B past (delivered serial again run s).world
+  heard = heard_by (found_sent serial w.store.kept) refl
+
+-- ---- deliveries of a line
+
+one_heard : (past : List Moment) (serial line : ℕ) (again b : Bool) (told : List (Option Told)) (s : Scene) → MayIf b serial told s → IsRom s.world.target.rom → B past s.world → B past (delivered_if b line serial again told s).world
+one_heard past serial line again true [] s m rom h = absurd m
+one_heard past serial line again true (told ∷ []) s m rom h = heard past s rom h serial again told m
+one_heard past serial line again true (told ∷ other ∷ more) s m rom h = absurd m
+one_heard past serial line again false told s m rom h = notes_on past (notes.Refused line no_packet) s.world refl h
+
+next_told : (past : List Moment) (told : Option Told) (s : Scene) → IsRom s.world.target.rom → B past s.world → (o : Option ℕ) → settling.MayAt o told s → B past (delivered_at o told s).world
+next_told past told s rom h None m = absurd m
+next_told past told s rom h (Some serial) m = heard past s rom h serial false told m
+
+module _ (units ready : ℕ) (has : 0 < units) (few : units ≤ 4) (start : List Disk) where
+  -- the target's ROM is the one that was made
+  rom_there : {past : List Moment} {lines : ℕ} {w : WorldState} → Holding units ready start past lines w → IsRom w.target.rom
+  rom_there {w = w} h =
+      let is : quad_bytes (made target_eui units) ≡ w.target.rom = sym (rom_stays units ready h.calls) ∙ ap (λ (n : NodeState). n.rom) h.made in
+      subst IsRom is (is_rom units has few)
+
+  all_told : {past : List Moment} {lines : ℕ} (told : List (Option Told)) → AreTold told → (s : Scene) → MayAll told s → Holding units ready start past lines s.world → (terms past).repeats ≡ false → B past s.world → B past (after_all told s).world
+  unfolding delivered_next MayNext
+  all_told [] t s m holds r h = h
+  all_told {past = past} (told ∷ before) t s m holds r h =
+      let there = after_all before s in
+      next_told past told there (rom_there (all_heard units ready has start before t.1 s holds r)) (all_told before t.1 s m.1 holds r h) (lowest there.world) m.0
+
+  -- ---- a line
+
+  opened : (past : List Moment) (line : ℕ) (event : Event) (w : WorldState) → B past w → B (asked line event ∷ history w past) (without_notes w)
+  opened past line event w h = h
+
+  injects : (past : List Moment) (line i : ℕ) (bytes : List ℕ) (w : WorldState) (to : Option ℕ) → B past w → B past (injected to line (i + 1) bytes w)
+  unfolding posted
+  injects past line i bytes w None h = notes_on past (notes.Refused line no_node) w refl h
+  injects past line i bytes w (Some to) h = (λ e. absurd (omega (arith, e)), (tt, h))
+
+  loses : (past : List Moment) (line serial : ℕ) (w : WorldState) (b : Bool) → B past w → B past (cond b (lost serial w) (refused line no_packet w))
+  loses past line serial w true h = notes_on past (notes.Lost serial) w refl h
+  loses past line serial w false h = notes_on past (notes.Refused line no_packet) w refl h
+
+  keys : (past : List Moment) (line unit : ℕ) (w x : WorldState) (b : Bool) → x.fresh ≡ w.fresh → B past w → B past (cond b (with_note (notes.Key unit) x) (refused line no_unit w))
+  keys past line unit w x true e h = plain_on (notes.Key unit) (history x past) refl (subst (λ fresh. SentFair (map said fresh ++ past)) (sym e) h)
+  keys past line unit w x false e h = notes_on past (notes.Refused line no_unit) w refl h
+
+  ends : (past : List Moment) (w : WorldState) (b : Bool) → B past w → B past (with_note (end_note b) w)
+  ends past w true h = notes_on past notes.Settled w refl h
+  ends past w false h = notes_on past notes.Stopped w refl h
+
+  line_keeps : {past : List Moment} {lines : ℕ} (line : ℕ) (event : Event) (told : List (Option Told)) (s : Scene) → IsLine event (length s.world.initiators) → AreTold told → MayHappen event told s → Holding units ready start past lines s.world → B past s.world → B (asked line event ∷ history s.world past) (happens line event told s).world
+  unfolding happens MayHappen reset_line lose_line inject_line keyed
+  line_keeps line (events.Begin initiators ready) told s q t m holds h = absurd q
+  line_keeps {past = past} line (events.Act i action) told s q t m holds h = let e = events.Act i action in acts (asked line e ∷ history s.world past) (without_notes s.world) line i action (opened past line e s.world h)
+  line_keeps {past = past} line (events.Reset physical) told s q t m holds h = let e = events.Reset physical in (tt, opened past line e s.world h)
+  line_keeps {past = past} line (events.See node) told s q t m holds h = let e = events.See node in sights (asked line e ∷ history s.world past) (without_notes s.world) node (opened past line e s.world h)
+  line_keeps {past = past} line (events.Deliver serial) told s q t m holds h =
+      let e = events.Deliver serial in one_heard (asked line e ∷ history s.world past) serial line false (is_in_flight serial (begun s).world) told (begun s) m (rom_there holds) (opened past line e s.world h)
+  line_keeps {past = past} line (events.Repeat serial) told s q t m holds h =
+      let e = events.Repeat serial in one_heard (asked line e ∷ history s.world past) serial line true (may_repeat serial (begun s).world) told (begun s) m (rom_there holds) (opened past line e s.world h)
+  line_keeps {past = past} line (events.Lose serial) told s q t m holds h =
+      let e = events.Lose serial in loses (asked line e ∷ history s.world past) line serial (without_notes s.world) (is_in_flight serial (without_notes s.world)) (opened past line e s.world h)
+  line_keeps {past = past} line (events.Timeout serial) told s q t m holds h = let e = events.Timeout serial in times_out (asked line e ∷ history s.world past) (without_notes s.world) line serial (opened past line e s.world h)
+  line_keeps {past = past} line (events.Step count) told s q t m holds h =
+      let e = events.Step count in all_told told t (begun s) m.may (opens units ready has start line e s.world refl holds) refl (opened past line e s.world h)
+  line_keeps {past = past} line events.Settle told s q t m holds h =
+      let e = events.Settle in
+      ends (asked line e ∷ history s.world past) (after_all told (begun s)).world (is_settled (after_all told (begun s)).world)
+      (all_told told t (begun s) m.may (opens units ready has start line e s.world refl holds) refl (opened past line e s.world h))
+  line_keeps {past = past} line events.Tick told s q t m holds h = let e = events.Tick in seconds (asked line e ∷ history s.world past) (without_notes s.world) (opened past line e s.world h)
+  line_keeps {past = past} line (events.Inject initiator bytes) told s q t m holds h =
+      let e = events.Inject initiator bytes in
+      injects (asked line e ∷ history s.world past) line initiator bytes (without_notes s.world) (injected_to (initiator + 1) bytes (without_notes s.world)) (opened past line e s.world h)
+  line_keeps {past = past} line (events.Key unit key) told s q t m holds h =
+      let e = events.Key unit key in keys (asked line e ∷ history s.world past) line unit (without_notes s.world) _ (nat_lt unit (length s.world.target.units)) refl (opened past line e s.world h)
+
+-- ---- a run
+
+module _ (line : ℕ) (run : Run) (has : 0 < run.units) (units_few : run.units ≤ 4) (size : length run.start.disks ≡ run.units) where
+  abbrev logins : ℕ
+  logins = ready_logins run.initiators run.ready
+
+  are_after : (entries : List Entry) → run.initiators ≤ 4 → length entries + 2 < 2 ^ 32 → AreEntries (beginning run) entries → AreLines run entries → SentFair (moments_behind line run entries)
+  are_after [] few short all fit = (tt, tt)
+  are_after (e ∷ before) few short all fit =
+      let b = holds_after line run before few has units_few size (omega arith) all.1 fit.1 in
+      let s = after (beginning run) before in
+      let so_far : B b.past s.world = subst SentFair (sym b.is) (are_after before few (omega arith) all.1 fit.1) in
+      subst SentFair
+      (ap (λ ns. map said ns ++ asked e.line e.event ∷ (map said s.world.fresh ++ b.past)) (sym all.0.notes_are)
+      ∙ ap (λ ms. map said e.notes ++ asked e.line e.event ∷ ms) b.is)
+      (line_keeps run.units logins has units_few run.start.disks e.line e.event e.told s fit.0 (happened_fits e.event e.told s all.0.may) all.0.may b.holds so_far)
+
+  pub fair_after : IsRun run → SentFair (history_of line run)
+  fair_after r = are_after run.entries r.few r.short r.entries r.lines
+
+  between_by : IsRun run → (next : ℕ) (event : Event) → DeliversMore event → (told : List (Option Told)) → MayAll told (begun (after (beginning run) run.entries)) → SentFair (map said (after_all told (begun (after (beginning run) run.entries))).world.fresh ++ asked next event ∷ history_of line run)
+  between_by r next event d told m =
+      let b = holds_after line run run.entries r.few has units_few size r.short r.entries r.lines in
+      let s = after (beginning run) run.entries in
+      let so_far : B b.past s.world = subst SentFair (sym b.is) (fair_after r) in
+      let w = (after_all told (begun s)).world in
+      subst (λ ms. SentFair (map said w.fresh ++ asked next event ∷ ms)) b.is
+      (all_told run.units logins has units_few run.start.disks told (are_told told s m) (begun s) m (opens run.units logins has run.start.disks next event s.world (not_reset event d) b.holds) (no_repeats event (history s.world b.past) next d) so_far)
+
+  pub fair_between : IsRun run → (next : ℕ) (most : Option ℕ) (told : List (Option Told)) → MayAll told (begun (after (beginning run) run.entries)) → SentFair (map said (after_all told (begun (after (beginning run) run.entries))).world.fresh ++ asked next (more_deliveries most) ∷ history_of line run)
+  fair_between r next (Some count) told m = between_by r next (events.Step count) tt told m
+  fair_between r next None told m = between_by r next events.Settle tt told m

@@ -1,0 +1,19 @@
+-- The law of open lists, with what is known of the writes of ORB_POINTER, of the moments of lists and of the sessions, gives the one
+-- that asks for less.
+use Rattle.sbp_world.proofs.Lists.Lasts.{last_law}
+use Rattle.sbp_world.proofs.of_lists.latest_lists_stand.Goals as goal
+
+pub open_lists_are_the_latest-requires : goal.open_lists_are_the_latest-requires
+open_lists_are_the_latest-requires c = tt
+
+pub pointers_are_of_lists-requires : goal.pointers_are_of_lists-requires
+pointers_are_of_lists-requires c = tt
+
+pub moments_stand_as_they_may-requires : goal.moments_stand_as_they_may-requires
+moments_stand_as_they_may-requires c = tt
+
+pub sessions_and_lists_are_of_seen_generations-requires : goal.sessions_and_lists_are_of_seen_generations-requires
+sessions_and_lists_are_of_seen_generations-requires c = tt
+
+pub returns : goal.returns
+returns c = last_law c.open_lists_are_the_latest.ensures c.pointers_are_of_lists.ensures c.moments_stand_as_they_may.ensures c.sessions_and_lists_are_of_seen_generations.ensures

@@ -1,0 +1,278 @@
+//! The laws of the lists and the agents.
+ghost use Rattle.sbp_world.specs.Lists.Along.{AlongLaw};
+ghost use Rattle.sbp_world.specs.Lists.Bases.{BasesLaw};
+ghost use Rattle.sbp_world.specs.Lists.Brings.{BringsLaw};
+ghost use Rattle.sbp_world.specs.Lists.Lists.{GrowingLaw};
+ghost use Rattle.sbp_world.specs.Lists.CutLists.{CutListsLaw};
+ghost use Rattle.sbp_world.specs.Lists.Closes.{ClosingLaw};
+ghost use Rattle.sbp_world.specs.Lists.EndedLists.{EndedListsLaw};
+ghost use Rattle.sbp_world.specs.Lists.Opens.{OpensLaw};
+ghost use Rattle.sbp_world.specs.Lists.Orders.{AppendsLaw, OrderRunLaw};
+ghost use Rattle.sbp_world.specs.Lists.Names.{NamesLaw};
+ghost use Rattle.sbp_world.specs.Lists.Running.{ListsRunLaw, RunsRunLaw, UnrunLaw};
+ghost use Rattle.sbp_world.specs.Lists.Execution.{ExecutionRunLaw, LoginsRunLaw, OutcomesRunLaw};
+ghost use Rattle.sbp_world.specs.Lists.Places.{ListedLaw};
+ghost use Rattle.sbp_world.specs.Lists.Lasts.{LastLaw};
+ghost use Rattle.sbp_world.specs.Lists.Begun.{BegunLaw};
+ghost use Rattle.sbp_world.specs.Lists.SentReads.{SentReadsLaw};
+ghost use Rattle.sbp_world.specs.Lists.Presents.{PresentLaw};
+ghost use Rattle.sbp_world.specs.Lists.SlotsStay.{SlotsStayLaw};
+ghost use Rattle.sbp_world.specs.Lists.Roms.{RomLaw};
+ghost use Rattle.sbp_world.specs.Lists.Firsts.{FirstLaw};
+ghost use Rattle.sbp_world.specs.Lists.Underway.{UnderwayLaw};
+ghost use Rattle.sbp_world.specs.Lists.PlaceReads.{PlaceReadsLaw};
+ghost use Rattle.sbp_world.specs.Lists.Contents.{ContentsLaw};
+ghost use Rattle.sbp_world.specs.Lists.ReadOrbs.{ReadOrbsLaw};
+ghost use Rattle.sbp_world.specs.Lists.CarriedOrbs.{CarriedOrbsLaw};
+
+/// The lists of an initiator, as the run terms have them, are laid out as an agent asks for it: an ORB without
+/// elements of a page table names the buffer of its command. From each moment of every run on a list grows:
+/// more of its ORBs are linked, and those that were linked keep their addresses, their commands, their buffers
+/// and their data.
+#[tactic(auto, using(crate::proofs::Lists::Lists::growing_law))]
+pub fn lists_grow()
+    ensures { GrowingLaw }
+{}
+
+/// In every run an ORB that is appended has the next number of the latest list of its initiator, or begins the
+/// next list with number 0; and it is prepared in one of the 32 slots, in which no ORB of its list waits.
+#[tactic(auto, using(crate::proofs::Lists::RunLaws::appends_law))]
+pub fn appends_are_numbered()
+    ensures { AppendsLaw }
+{}
+
+/// In every run an ORB of an initiator's latest list of which no status was taken is the one that was prepared
+/// last in its slot, one of 32; and it is the one that the bus has for its address at a place of that initiator.
+#[tactic(auto, using(crate::proofs::Lists::Naming::names_law))]
+pub fn orbs_stand_in_their_slots()
+    ensures { NamesLaw }
+{}
+
+/// Where lists were open as they should be before in a run (`OpenBefore`, `OpenBetween`), and are so now, what an agent
+/// waits for, to read in a slot of an initiator that injected no packets, was sent when the ORB that the slot has now had
+/// been appended: after every line of every run, and behind each delivery of a line that may follow.
+#[tactic(auto, using(crate::proofs::Lists::RunLaws::sent_reads_law))]
+pub fn reads_are_sent_behind_appends()
+    ensures { SentReadsLaw }
+{}
+
+/// Where lists were open as they should be before in a run (`OpenBefore`, `OpenBetween`), and are so now, what an agent
+/// reads along a list of an initiator that injected no packets is what the list holds: the
+/// response to its read brings the ORB behind those that have ended, or the one behind that; its page table, which is
+/// read as the buffer laid out for its command; the next bytes of its data; or the next pointer of the last ORB.
+/// After every line of every run, and behind each delivery of a line that may follow.
+#[tactic(auto, using(crate::proofs::Lists::RunLaws::brings_law))]
+pub fn agents_read_what_lists_hold()
+    ensures { BringsLaw }
+{}
+
+/// Where lists were open as they should be before in a run (`OpenBefore`, `OpenBetween`), an agent that has a list open of
+/// an initiator that injected no packets is along that list, behind as many of its ORBs as the history has ends of it:
+/// after every line of every run, and behind each delivery of a line that may follow.
+#[tactic(auto, using(crate::proofs::Lists::RunLaws::along_law))]
+pub fn agents_are_along_lists()
+    ensures { AlongLaw }
+{}
+
+/// Where lists were open as they should be before in a run (`OpenBefore`, `OpenBetween`), the order law holds of it: the
+/// ORBs of a list run and end in their order, each behind its append, and none of a list that was cut or behind which the
+/// next one began.
+#[tactic(auto, using(crate::proofs::Lists::RunLaws::order_run_law))]
+pub fn orbs_end_in_order()
+    ensures { OrderRunLaw }
+{}
+
+/// Where lists were open as they should be before in a run (`OpenBefore`, `OpenBetween`), an ORB runs at its turn, with
+/// the command of its append, and with no data or with as many of the first bytes of its data as the command asks for.
+#[tactic(auto, using(crate::proofs::Lists::OnceLaws::lists_run_law))]
+pub fn orbs_run_as_they_were_appended()
+    ensures { ListsRunLaw }
+{}
+
+/// Where lists were open as they should be before in a run (`OpenBefore`, `OpenBetween`), an ORB that ran, of a list that was
+/// not cut and of which none has ended, is at an agent that has the list open: after every line of the run, and behind each
+/// delivery of a line that may follow. Of the initiators that injected no packets.
+#[tactic(auto, using(crate::proofs::Lists::UnrunLaws::unrun_law))]
+pub fn orbs_that_ran_are_at_agents()
+    ensures { UnrunLaw }
+{}
+
+/// Where lists were open as they should be before in a run (`OpenBefore`, `OpenBetween`), an ORB runs at most once; and it
+/// ends good or with a check behind its run with that outcome alone, and as dummy, aborted or illegal without one.
+#[tactic(auto, using(crate::proofs::Lists::OnceLaws::runs_run_law))]
+pub fn orbs_run_once()
+    ensures { RunsRunLaw }
+{}
+
+/// In every run, whatever anyone injected, a command runs on the unit of a live login of the initiator that its note names:
+/// after every line of every run, and behind each delivery of a line that may follow.
+#[tactic(auto, using(crate::proofs::Lists::Executes::logins_run_law))]
+pub fn commands_run_at_live_logins()
+    ensures { LoginsRunLaw }
+{}
+
+/// Where lists were open as they should be before in a run (`OpenBefore`, `OpenBetween`), the command of an ORB of an
+/// initiator that injected no packets runs as its append asks for: with its command, and with no data or, for a WRITE of one
+/// block or more, with its whole data, on the disk fold as it stands, with the place of its initiator's login. Where a check
+/// holds, that is the outcome; where none does, a WRITE of one block or more has its data, and the outcome is good, or the
+/// check of a medium call that failed.
+#[tactic(auto, using(crate::proofs::Lists::Executes::outcomes_run_law))]
+pub fn commands_end_as_the_disk_allows()
+    ensures { OutcomesRunLaw }
+{}
+
+/// Where lists were open as they should be before in a run (`OpenBefore`, `OpenBetween`), the execution law holds of it: after
+/// every line of every run, and behind each delivery of a line that may follow.
+#[tactic(auto, using(crate::proofs::Lists::Executes::execution_run_law))]
+pub fn orbs_execute_as_the_law_says()
+    ensures { ExecutionRunLaw }
+{}
+
+/// In every run an agent is out of RESET only at the place of a live login, whose initiator is the one that the bus has there.
+/// Its list, then, is that of the ORB which a write of ORB_POINTER of that initiator to that place named, as the target got it:
+/// after every line of every run, and behind each delivery of a line that may follow.
+#[tactic(auto, using(crate::proofs::Lists::OpenProved::opens_law))]
+pub fn open_lists_were_pointed_to()
+    ensures { OpensLaw }
+{}
+
+/// In every run a list that was cut had been open at an agent: a write of ORB_POINTER of its initiator had named an ORB of it
+/// as the target got it. After every line of every run, and behind each delivery of a line that may follow.
+#[tactic(auto, using(crate::proofs::Lists::OpenProved::cut_lists_law))]
+pub fn cut_lists_were_open()
+    ensures { CutListsLaw }
+{}
+
+/// Where what open lists stand on holds at a place of a run (`ArePlaced`), an agent that has a list open of an initiator that
+/// injected no packets has the latest list of it, which was not cut, and the ORBs of it that are linked and have not ended are the
+/// ones that their addresses name; no two places have a list open of one such initiator; and a pointer that an agent takes is that
+/// to the first ORB of the latest list, of which none has ended, and which no other agent has open.
+pub fn open_lists_are_the_latest()
+    ensures { ListedLaw }
+{
+    crate::of_pointers::pointers_are_of_lists();
+    crate::of_pointers::moments_stand_as_they_may();
+    crate::of_sessions::nodes_have_caught_up_with_the_target();
+    crate::of_sessions::deliveries_keep_nodes_caught_up();
+}
+
+/// In every run an initiator begins its lists in generations that the target has seen, whatever any initiator injected. So of one
+/// that injected no packets a write of ORB_POINTER that was not taken as new yet, in the target's generation, is for its latest list.
+pub fn lists_begin_in_seen_generations()
+    ensures { BegunLaw }
+{
+    crate::of_pointers::pointers_are_of_lists();
+    crate::of_pointers::moments_stand_as_they_may();
+    crate::of_sessions::sessions_and_lists_are_of_seen_generations();
+}
+
+/// For `open_lists_are_the_latest` it is enough, while the initiator is ahead of the target, that an open list is its latest one
+/// (`AreLast`). That its ORBs which have not ended stand in their slots then holds in every run; and so does that a list whose
+/// write of ORB_POINTER waits in the target's generation is the latest one.
+pub fn latest_lists_stand()
+    ensures { LastLaw }
+{
+    open_lists_are_the_latest();
+    crate::of_pointers::pointers_are_of_lists();
+    crate::of_pointers::moments_stand_as_they_may();
+    crate::of_sessions::sessions_and_lists_are_of_seen_generations();
+}
+
+/// Where lists were open as they should be before in a run (`OpenBefore`, `OpenBetween`), a list of an initiator that
+/// injected no packets, of which an ORB has ended, had been open at an agent: a write of ORB_POINTER of its initiator had
+/// named an ORB of it as the target got it. After every line of every run, and behind each delivery of a line that may
+/// follow.
+#[tactic(auto, using(crate::proofs::Lists::EndedLists::ended_lists_law))]
+pub fn ended_lists_were_open()
+    ensures { EndedListsLaw }
+{}
+
+/// Where at each place of a run, before which lists were open as they should be, what this place needs holds (`PlacesLaw`),
+/// they are so in every run (`OpenListsLaw`): that each write of ORB_POINTER that the target got was named for a list whose
+/// slot held its first ORB then, and that a list whose write waits has no end, is shown. And where they are so in every run,
+/// they were so before each place of it, as the laws of lists ask.
+pub fn lists_stay_open_from_place_to_place()
+    ensures { ClosingLaw }
+{
+    latest_lists_stand();
+    crate::of_pointers::pointers_are_of_lists();
+    lists_begin_in_seen_generations();
+}
+
+/// In every run the present list of an initiator is the latest one, and an ORB of it whose status was not taken is the one that
+/// was prepared last in its slot: after every line, and behind each delivery of a line that delivers one packet after the other.
+pub fn present_lists_are_the_latest()
+    ensures { PresentLaw }
+{
+    crate::of_pointers::moments_stand_as_they_may();
+}
+
+/// By every history, and so in every run, a slot of an initiator has its ORB from the append on, used or at rest,
+/// until this ORB is over or the initiator sees another generation: until then no other ORB is prepared there.
+#[tactic(auto, using(crate::proofs::Lists::SlotsHeld::slots_stay_law))]
+pub fn slots_stay()
+    ensures { SlotsStayLaw }
+{}
+
+/// In every run, whatever anyone injected, an initiator that knows where MANAGEMENT_AGENT stands knows it at the one address that
+/// the target has it at, and each packet of an action with a management ORB goes there: in the target's ROM the key of
+/// MANAGEMENT_AGENT stands once, so no quadlet that the target ever gives names another address. After every line, and behind
+/// each delivery of a line that delivers one packet after the other.
+#[tactic(auto, using(crate::proofs::Lists::RomHeld::rom_law))]
+pub fn initiators_find_the_management_agent()
+    ensures { RomLaw }
+{}
+
+/// In every run each packet of an initiator that injected none by which an agent is pointed to an ORB is the write of ORB_POINTER
+/// for a list of that initiator, with the address of the first ORB of it: after every line, and behind each delivery of a line
+/// that delivers one packet after the other.
+#[tactic(auto, using(crate::proofs::Lists::Firsts::first_law))]
+pub fn pointers_name_first_orbs()
+    ensures { FirstLaw }
+{}
+
+/// In every run an initiator writes and reads at the registers of the agent of its host's login: ORB_POINTER for its present list, and a read of
+/// AGENT_STATE that tells of that list, where no logout of it was refused; and AGENT_RESET while that is under way. A read tells of a list only
+/// behind the answer to the ORB_POINTER write of it.
+pub fn registers_are_of_the_login()
+    ensures { BasesLaw }
+{
+    crate::of_pointers::registers_are_of_the_session();
+    crate::of_sessions::hosts_hold_the_login_of_their_session();
+}
+
+/// In every run the operation that an initiator has under way began with a request that was sent in the line of its action; its
+/// management ORB, as it was made then, stands in its place of the initiator's memory as long as it is under way, and the login of the
+/// initiator's host is that of then. One that is under way later, and had begun by an earlier moment, was under way at that moment.
+#[tactic(auto, using(crate::proofs::Lists::UnderwayRuns::underway_law))]
+pub fn operations_keep_their_orbs()
+    ensures { UnderwayLaw }
+{}
+
+/// In every run a response of an initiator that was not injected, and that tells bytes in answer to a block read of the 32 bytes of a
+/// place of management, brings the ORB that stood in that place as the initiator got the read, which had been sent before.
+#[tactic(auto, using(crate::proofs::Lists::PlaceBrings::place_reads_law))]
+pub fn places_are_read_as_they_stood()
+    ensures { PlaceReadsLaw }
+{}
+
+/// In every run a packet that the target sent as its management asked for it is what the operation asked for: at the operation's start
+/// a read of the 32 bytes of its ORB, where it stands; at its end a write of the status block that names the ORB.
+#[tactic(auto, using(crate::proofs::Lists::ContentAsked::contents_law))]
+pub fn operations_ask_for_their_orbs()
+    ensures { ContentsLaw }
+{}
+
+/// In every run the target has an operation whose ORB it reads, in the place of an operation that an initiator has under way, and the
+/// read was sent behind the first request of that. A response to it that was not injected brings the ORB that stands in that place.
+#[tactic(auto, using(crate::proofs::Lists::OrbsRead::read_orbs_law))]
+pub fn the_orb_in_its_place_is_read()
+    ensures { ReadOrbsLaw }
+{}
+
+/// In each history the management ORB that the target read last is that of its operation from then on: while the EUI-64 of the source is
+/// read, and behind the decision, which is on this ORB.
+#[tactic(auto, using(crate::proofs::Lists::OrbsCarried::carried_orbs_law))]
+pub fn the_orb_that_was_read_is_decided()
+    ensures { CarriedOrbsLaw }
+{}
