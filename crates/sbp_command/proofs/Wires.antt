@@ -1,5 +1,5 @@
 -- The history of a run of the machine keeps the laws of the wire, and those of the bus, where its events are those of lines.
-use Rattle.std.proofs.Common.{◌≡◌, ◌∙◌, refl, sym, ap, ℕ, ◌+◌, ◌^◌, ◌<◌, ◌≤◌, List, [], ◌∷◌, length, arith}
+use Rattle.std.proofs.Common.{◌≡◌, ◌∙◌, refl, sym, ap, subst, ℕ, ◌+◌, ◌^◌, ◌<◌, ◌≤◌, List, [], ◌∷◌, length, arith}
 use Rattle.std.proofs.lemmas.List.{length-append}
 use Rattle.sbp_journal.specs.declared.event.Event.{Event}
 use Rattle.sbp_world.specs.Histories.{history_of}
@@ -7,7 +7,11 @@ use Rattle.sbp_world.specs.Runs.{AreEntries, Entry, Run, StandsFor, after, begin
 use Rattle.sbp_world.specs.Worlds.{WorldState}
 use Rattle.rbc_disk.specs.Held.{Held}
 use Rattle.sbp_laws.specs.Lawful.{injectors}
+use Rattle.sbp_laws.specs.OnLists.{LawfulOnLists}
 use Rattle.sbp_laws.specs.OnTheBus.{LawfulOnTheBus}
+use Rattle.sbp_laws.proofs.InTime.{in_time_law}
+use Rattle.sbp_world.proofs.Lists.Clauses.{lists_law}
+use Rattle.sbp_world.specs.Lists.OwnLogins.{IsTame}
 use Rattle.sbp_world.specs.Wire.History.{IsOfWire}
 use Rattle.sbp_world.specs.Wire.Journal.{journal_run}
 use Rattle.sbp_world.specs.Wire.Lines.{AreLines}
@@ -58,13 +62,21 @@ run_takes line run few count all lines =
       once = once_taken_law.once line run is;
     }
 
+pub run_on_lists : (line : ℕ) (run : Run) (start : Held) → run.start ≡ start → run.units ≡ length start.disks → 0 < run.units → run.units ≤ 4 → run.initiators ≤ 4 → length run.entries ≤ 65535 → AreEntries (beginning run) run.entries → AreLines run run.entries
+    → IsTame (history_of line run) → LawfulOnLists (injectors (history_of line run)) start.disks (history_of line run)
+run_on_lists line run start same units some most few count all lines tame =
+    let is : IsRun run = record { few = few; short = omega arith; entries = all; lines = lines } in
+    subst (λ s. LawfulOnLists (injectors (history_of line run)) s (history_of line run)) (ap (λ (h : Held). h.disks) same)
+    (lists_law.lists line run is some most (ap (λ (h : Held). length h.disks) same ∙ sym units) tame)
+
 -- ---- a run of the machine
 
 -- it is one over its events, whose notes are its journal
-pub has_run : (line : ℕ) (run : Run) (start media : Held) (world : WorldState) (happened : List (ℕ × Event)) → run.start ≡ start → run.units ≡ length start.disks → run.initiators ≤ 4 → length run.entries ≤ 65535 → events_of line run ≡ happened
+pub has_run : (line : ℕ) (run : Run) (start media : Held) (world : WorldState) (happened : List (ℕ × Event)) → run.start ≡ start → run.units ≡ length start.disks → 0 < run.units → run.units ≤ 4 → run.initiators ≤ 4 → length run.entries ≤ 65535 → events_of line run ≡ happened
     → StandsFor run (scene_of world media) → AreLines run run.entries → HasRun start happened (journal run) media
-has_run line run start media world happened same units few count events stands lines =
+has_run line run start media world happened same units some most few count events stands lines =
     let left : media ≡ (after (beginning run) run.entries).media = ap (λ s. s.media) stands.state in
+    let lawful = run_on_lists line run start same units some most few count stands.lines lines in
     record {
       line = line;
       run = run;
@@ -79,4 +91,6 @@ has_run line run start media world happened same units few count events stands l
       of_wire = run_of_wire line run few count stands.lines lines;
       on_the_bus = run_on_bus line run start same units few count stands.lines lines;
       statuses = run_takes line run few count stands.lines lines;
+      on_lists = lawful;
+      in_time = λ tame. in_time_law (injectors (history_of line run)) start.disks (history_of line run) (lawful tame);
     }

@@ -17,3 +17,4 @@ mod RunsTries
 mod BudgetTries
 mod Forms
 mod OthersTries
+pub mod InTime

@@ -40,3 +40,5 @@ pub mod WorkedRuns
 pub mod RareRuns
 pub mod Refused
 pub mod Tried
+pub mod OnLists
+pub mod InTime

@@ -5,7 +5,10 @@
 mod laws;
 mod tried;
 
-pub use laws::{ends_in_order, lawful_entry_by_entry, lawful_runs_are_so_on_the_bus};
+pub use laws::{
+    ends_in_order, lawful_entry_by_entry, lawful_runs_are_so_on_lists,
+    lawful_runs_are_so_on_the_bus, lists_read_in_time,
+};
 pub use tried::{
     action_law_tried, answer_law_tried, budget_tried, carried_law_tried, cause_law_tried,
     execution_law_tried, judgement_law_tried, login_law_tried, media_law_tried, once_law_tried,

@@ -1,6 +1,6 @@
 -- What the bus of a world does is what the world does by it. The fields of the world are seen one by one (`view`).
 use Rattle.std.specs.Prelude.{◌≡◌, ℕ, ◌+◌, ◌||◌, not, Bool, true, false, if◌then◌else◌, List, [], ◌∷◌, Option, Some, None, refl}
-use Rattle.std.proofs.Common.{◌∙◌, ap, sym}
+use Rattle.std.proofs.Common.{◌∙◌, ap}
 use Rattle.async_packet.specs.Labels.{LabelParts}
 use Rattle.orb_list.specs.Tickets.{TicketParts}
 use Rattle.packet_store.specs.Kept.{is_flying}

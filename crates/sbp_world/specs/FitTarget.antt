@@ -30,7 +30,7 @@ use Rattle.sbp_target.specs.declared.purpose.Sent.{Sent}
 use Rattle.sbp_target.specs.Nodes.{NodeState, scene, desk_at, login_at}
 use Rattle.sbp_target.specs.Receiving.{new_node, received}
 use Rattle.sbp_target.specs.Replies.{whole}
-use Rattle.sbp_target.specs.Calls.{Call, lets_expire, sees, ticks, sets_key, alone}
+use Rattle.sbp_target.specs.Calls.{lets_expire, sees, ticks, sets_key, alone}
 
 -- ---- command agents
 -- the addresses that an ORB names have 48 bits

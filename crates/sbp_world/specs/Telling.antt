@@ -1,6 +1,6 @@
 -- The notes of what nodes tell. An ORB that the target names by its address has the name of the latest ORB that the initiator prepared in
 -- the slot of that address.
-use Rattle.std.specs.Prelude.{ℕ, nat_lt, if◌then◌else◌, List, [], ◌∷◌, length, Option, Some, None}
+use Rattle.std.specs.Prelude.{ℕ, nat_lt, if◌then◌else◌, List, [], ◌∷◌, length, Option, None}
 use Rattle.orb_list.specs.Tickets.{TicketParts}
 use Rattle.sbp_bus.specs.declared.places.Holder.{Holder}
 use Rattle.sbp_bus.specs.Places.{holder_at, left_step, opened_step}

@@ -2,9 +2,10 @@
 ghost use Rattle.sbp_world.specs.Lists.Along.{AlongLaw};
 ghost use Rattle.sbp_world.specs.Lists.Bases.{BasesLaw};
 ghost use Rattle.sbp_world.specs.Lists.Brings.{BringsLaw};
+ghost use Rattle.sbp_world.specs.Lists.CarriedRuns.{RunsReadLaw};
 ghost use Rattle.sbp_world.specs.Lists.Lists.{GrowingLaw};
 ghost use Rattle.sbp_world.specs.Lists.CutLists.{CutListsLaw};
-ghost use Rattle.sbp_world.specs.Lists.Closes.{ClosingLaw};
+ghost use Rattle.sbp_world.specs.Lists.Closes.{ClosingLaw, OpenListsLaw};
 ghost use Rattle.sbp_world.specs.Lists.EndedLists.{EndedListsLaw};
 ghost use Rattle.sbp_world.specs.Lists.Opens.{OpensLaw};
 ghost use Rattle.sbp_world.specs.Lists.Orders.{AppendsLaw, OrderRunLaw};
@@ -23,6 +24,13 @@ ghost use Rattle.sbp_world.specs.Lists.Underway.{UnderwayLaw};
 ghost use Rattle.sbp_world.specs.Lists.PlaceReads.{PlaceReadsLaw};
 ghost use Rattle.sbp_world.specs.Lists.Contents.{ContentsLaw};
 ghost use Rattle.sbp_world.specs.Lists.ReadOrbs.{ReadOrbsLaw};
+ghost use Rattle.sbp_world.specs.Lists.AnswerLengths.{AnswerLengthsLaw};
+ghost use Rattle.sbp_world.specs.Lists.AnsweredReads.{AnsweredReadsLaw};
+ghost use Rattle.sbp_world.specs.Lists.FifoWrites.{FifoWritesLaw};
+ghost use Rattle.sbp_world.specs.Lists.Live.{LiveLaw};
+ghost use Rattle.sbp_world.specs.Lists.Managing.{ManagingLaw};
+ghost use Rattle.sbp_world.specs.Lists.Opened.{LogoutsLaw};
+ghost use Rattle.sbp_world.specs.Lists.TameLists.{ListsLaw};
 ghost use Rattle.sbp_world.specs.Lists.CarriedOrbs.{CarriedOrbsLaw};
 
 /// The lists of an initiator, as the run terms have them, are laid out as an agent asks for it: an ORB without
@@ -121,6 +129,23 @@ pub fn commands_end_as_the_disk_allows()
     ensures { OutcomesRunLaw }
 {}
 
+/// Where lists were open as they should be before in a run (`OpenBefore`, `OpenBetween`), each ORB that runs, of an
+/// initiator that injected no packets, was read: the target got a response that brought the 32 bytes of the ORB's slot, to
+/// the read of it by the agent of a place. They are no dummy's, and have the command and the direction of the append, and
+/// that command runs. After every line of every run, and behind each delivery of a line that may follow.
+#[tactic(auto, using(crate::proofs::Lists::Executes::runs_read_law))]
+pub fn orbs_that_run_were_read()
+    ensures { RunsReadLaw }
+{}
+
+/// Where besides no initiator injected packets, by the terms of the run: before each run of an ORB the target got a response of 32
+/// bytes, which answers a read that the target sent, of the 32 bytes of the ORB's slot; what the response carries spells no dummy, and
+/// has the command and the direction of the append. After every line of every run, and behind each delivery of a line that may follow.
+#[tactic(auto, using(crate::proofs::Lists::AnsweredReads::answered_reads_law))]
+pub fn orbs_that_run_were_answered()
+    ensures { AnsweredReadsLaw }
+{}
+
 /// Where lists were open as they should be before in a run (`OpenBefore`, `OpenBetween`), the execution law holds of it: after
 /// every line of every run, and behind each delivery of a line that may follow.
 #[tactic(auto, using(crate::proofs::Lists::Executes::execution_run_law))]
@@ -187,10 +212,10 @@ pub fn ended_lists_were_open()
     ensures { EndedListsLaw }
 {}
 
-/// Where at each place of a run, before which lists were open as they should be, what this place needs holds (`PlacesLaw`),
-/// they are so in every run (`OpenListsLaw`): that each write of ORB_POINTER that the target got was named for a list whose
-/// slot held its first ORB then, and that a list whose write waits has no end, is shown. And where they are so in every run,
-/// they were so before each place of it, as the laws of lists ask.
+/// Where no initiator injected packets (`IsTame`): if at each place of a run, before which lists were open as they should be,
+/// what this place needs holds (`PlacesLaw`), they are so in every run (`OpenListsLaw`): that each write of ORB_POINTER that
+/// the target got was named for a list whose slot held its first ORB then, and that a list whose write waits has no end, is
+/// shown. And where they are so in every run, they were so before each place of it, as the laws of lists ask.
 pub fn lists_stay_open_from_place_to_place()
     ensures { ClosingLaw }
 {
@@ -275,4 +300,56 @@ pub fn the_orb_in_its_place_is_read()
 #[tactic(auto, using(crate::proofs::Lists::OrbsCarried::carried_orbs_law))]
 pub fn the_orb_that_was_read_is_decided()
     ensures { CarriedOrbsLaw }
+{}
+
+/// Where lists were open as they should be before in a run (`OpenBefore`, `OpenBetween`), a status block that names a management
+/// ORB of an initiator that injected no packets is written to a FIFO of it for the operation of the target alone whose ORB that
+/// is, at its end.
+#[tactic(auto, using(crate::proofs::Lists::FifoProved::fifo_writes_law))]
+pub fn places_hear_of_their_operations()
+    ensures { FifoWritesLaw }
+{}
+
+/// Where lists were open as they should be before in a run (`OpenBefore`, `OpenBetween`), one management operation of an initiator
+/// that injected no packets is in hand at a time, at both ends: the write of the operation that it has under way alone may wait;
+/// as that is judged the target handles the ORB in its place alone, or refuses; and the one status block that then waits is of
+/// that place.
+#[tactic(auto, using(crate::proofs::Lists::ManageProved::one_managed_law))]
+pub fn one_operation_is_in_hand()
+    ensures { ManagingLaw }
+{}
+
+/// In every run in which no initiator injected packets, where lists were open as they should be before: while an initiator is in
+/// the target's generation its node has one live login at most, and none but that of its session; a live session has its login,
+/// and one that is out or held has none. Of a session that is stuck with no operation under way this is not said.
+#[tactic(auto, using(crate::proofs::Lists::Clauses::sessions_law))]
+pub fn sessions_have_their_logins()
+    ensures { LiveLaw }
+{}
+
+/// In every run in which no initiator injected packets, where lists were open as they should be before, no logout is refused.
+#[tactic(auto, using(crate::proofs::Lists::Clauses::logouts_law))]
+pub fn logouts_are_not_refused()
+    ensures { LogoutsLaw }
+{}
+
+/// In every run in which no initiator injected packets lists are open as they should be: after every line, and behind each
+/// delivery of a line that delivers one packet after the other. So what is said where they were so before holds of these runs.
+#[tactic(auto, using(crate::proofs::Lists::Clauses::open_lists_law))]
+pub fn lists_are_open_as_they_should_be()
+    ensures { OpenListsLaw }
+{}
+
+/// In every run in which no initiator injected packets the order law, the execution law and the status law hold, after its lines.
+#[tactic(auto, using(crate::proofs::Lists::Clauses::lists_law))]
+pub fn lists_are_lawful()
+    ensures { ListsLaw }
+{}
+
+/// In every run in which no initiator injected packets a good status that is taken is of an ORB that ran, and its answer has as many
+/// bytes as the answer to its command, on the medium as that was before the run. Where the data of the command do not go to its
+/// initiator it has none, and is the answer that the medium tells. So of the answer law what is left are the bytes of the others.
+#[tactic(auto, using(crate::proofs::Lists::Clauses::lengths_law))]
+pub fn answers_have_their_length()
+    ensures { AnswerLengthsLaw }
 {}

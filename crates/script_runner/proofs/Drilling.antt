@@ -1,5 +1,5 @@
 -- A drill is run line by line.
-use Rattle.std.proofs.Common.{◌≡◌, ◌∙◌, refl, sym, ap, subst, ℕ, suc, ◌+◌, ◌≤◌, true, List, [], ◌∷◌, ◌++◌, drop, length, reverse, Some, None, append_assoc, arith}
+use Rattle.std.proofs.Common.{◌≡◌, ◌∙◌, refl, sym, ap, subst, ℕ, suc, ◌+◌, ◌<◌, ◌≤◌, true, List, [], ◌∷◌, ◌++◌, drop, length, reverse, Some, None, append_assoc, arith}
 use Rattle.std.specs.List.{AllByRecursion, slice_get}
 use Rattle.rbc_disk.specs.Held.{Held}
 use Rattle.sbp_journal.specs.declared.event.Event.{Event}
@@ -47,12 +47,14 @@ left_behind line n m left rest event e same h = record {
 -- ---- one more line
 
 -- the run begins
-pub drill_begins : (seed count units : ℕ) (start : Held) (tally : TallyState) → units ≡ length start.disks → tally ≡ tally_of (notes_begin 2 true ∷ [])
+pub drill_begins : (seed count units : ℕ) (start : Held) (tally : TallyState) → units ≡ length start.disks → 1 ≤ length start.disks → length start.disks ≤ 4 → tally ≡ tally_of (notes_begin 2 true ∷ [])
     → InDrill start (generated seed count) 1 (turns count 1 seed) tally (new_world 2 true units) start
-drill_begins seed count units start tally u e = record {
+drill_begins seed count units start tally u one four e = record {
   run = record { initiators = 2; ready = true; units = units; start = start; entries = [] };
   start_is = refl;
   units_are = u;
+  some = subst (λ n. 0 < n) (sym u) (omega (arith, one));
+  most = subst (λ n. n ≤ 4) (sym u) four;
   few = omega arith;
   events_are = refl;
   tally_is = e;
@@ -62,11 +64,11 @@ drill_begins seed count units start tally u e = record {
 }
 
 -- the same, of a script, a world and a tally that are these
-pub drill_begun : (seed count units : ℕ) (start : Held) (script : List Event) (tally : TallyState) (world : WorldState) (said : List Note) → script ≡ turns count 1 seed → world ≡ new_world 2 true units → units ≡ length start.disks → tally ≡ tally_of said → said ≡ reverse world.fresh
+pub drill_begun : (seed count units : ℕ) (start : Held) (script : List Event) (tally : TallyState) (world : WorldState) (said : List Note) → script ≡ turns count 1 seed → world ≡ new_world 2 true units → units ≡ length start.disks → 1 ≤ length start.disks → length start.disks ≤ 4 → tally ≡ tally_of said → said ≡ reverse world.fresh
     → InDrill start (generated seed count) 1 script tally world start
-drill_begun seed count units start script tally world said s w u t n =
+drill_begun seed count units start script tally world said s w u one four t n =
     let first : said ≡ notes_begin 2 true ∷ [] = n ∙ ap reverse (ap (λ v. v.fresh) w ∙ world_fresh 2 true units) in
-    let begun = drill_begins seed count units start tally u (t ∙ ap tally_of first) in
+    let begun = drill_begins seed count units start tally u one four (t ∙ ap tally_of first) in
     subst (λ v. InDrill start (generated seed count) 1 script tally v start) (sym w) (subst (λ es. InDrill start (generated seed count) 1 es tally (new_world 2 true units) start) (sym s) begun)
 
 -- a line was run
@@ -76,6 +78,8 @@ drill_more start old media all left rest line event before after w v l k t i h =
   run = with_entry h.run (entry (line + 1) event k.told v.fresh);
   start_is = h.start_is;
   units_are = h.units_are;
+  some = h.some;
+  most = h.most;
   few = h.few;
   events_are = append_assoc (events_of 1 h.run) ((line + 1, event) ∷ []) (numbered_from (line + 1 + 1) rest) ∙ subst (λ es. events_of 1 h.run ++ numbered_from (line + 1) es ≡ numbered_from 1 all) l h.events_are;
   tally_is = t (journal h.run) h.tally_is;

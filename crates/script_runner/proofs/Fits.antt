@@ -291,12 +291,12 @@ row_login n (i ∷ []) = tt
 row_login n (i ∷ u ∷ []) = tt
 row_login n (i ∷ u ∷ r ∷ options) =
     then_fits (Fits n) (number 0 3 i) _ (λ a e. then_fits (Fits n) (number 0 3 u) _ (λ b f. then_fits (Fits n) (number 0 15 r) _ (λ c g.
-    let few = (within 0 15 c r g).1 in let below : c < 2 ^ 4 = omega arith in act_fits n a (actions.Login b c (is_exclusive options) (password options)) (below, tt))))
+    let few = (within 0 15 c r g).1 in let below : c < 2 ^ 4 = omega arith in let unit = (within 0 3 b u f).1 in let named : b < 4 = omega (arith, unit) in act_fits n a (actions.Login b c (is_exclusive options) (password options)) (below, named))))
 
 row_query : (n : ℕ) (ws : List (List ℕ)) → IfOk (event_of rows.Query ws) (Fits n)
 row_query n [] = tt
 row_query n (i ∷ []) = tt
-row_query n (i ∷ u ∷ []) = then_fits (Fits n) (number 0 3 i) _ (λ a e. then_fits (Fits n) (number 0 3 u) _ (λ b f. act_fits n a (actions.Query b) (tt, tt)))
+row_query n (i ∷ u ∷ []) = then_fits (Fits n) (number 0 3 i) _ (λ a e. then_fits (Fits n) (number 0 3 u) _ (λ b f. let unit = (within 0 3 b u f).1 in let named : b < 4 = omega (arith, unit) in act_fits n a (actions.Query b) (tt, named)))
 row_query n (i ∷ u ∷ w ∷ ws) = tt
 
 row_orb : (n : ℕ) (act : OrbAct) (ws : List (List ℕ)) → IfOk (event_of (rows.OnOrb act) ws) (Fits n)

@@ -1,5 +1,5 @@
 -- A script is run line by line.
-use Rattle.std.proofs.Common.{◌≡◌, ◌∙◌, refl, sym, ap, subst, ℕ, Bool, ◌+◌, ◌≤◌, List, [], ◌∷◌, ◌++◌, length, map, reverse, Option, Some, None, Result, Ok, Err, append_assoc, append-nil, arith}
+use Rattle.std.proofs.Common.{◌≡◌, ◌∙◌, refl, sym, ap, subst, ℕ, Bool, ◌+◌, ◌<◌, ◌≤◌, List, [], ◌∷◌, ◌++◌, length, map, reverse, Option, Some, None, Result, Ok, Err, append_assoc, append-nil, arith}
 use Rattle.std.specs.Prelude.{OnOk}
 use Rattle.std.specs.Str.Lines.{lines}
 use Rattle.std.proofs.lemmas.List.{length-append, length-map}
@@ -48,13 +48,15 @@ can_begin f boxes faults some few =
 -- ---- the first event
 
 -- a run begins
-pub begun_so : (initiators units : ℕ) (ready : Bool) (start media : Held) (happened : List (ℕ × Event)) (front out next : List ℕ) (number : ℕ) → initiators ≤ 4 → units ≡ length media.disks → next ≡ out ++ text_of (notes_begin initiators ready ∷ [])
+pub begun_so : (initiators units : ℕ) (ready : Bool) (start media : Held) (happened : List (ℕ × Event)) (front out next : List ℕ) (number : ℕ) → initiators ≤ 4 → units ≡ length media.disks → CanRun not_begun media → next ≡ out ++ text_of (notes_begin initiators ready ∷ [])
     → Stands start happened (front ++ out) None media → Stands start (happened ++ (number, events.Begin initiators ready) ∷ []) (front ++ next) (Some (new_world initiators ready units)) media
-begun_so initiators units ready start media happened front out next number few u e h = record {
+begun_so initiators units ready start media happened front out next number few u can e h = record {
   line = number;
   run = record { initiators = initiators; ready = ready; units = units; start = media; entries = [] };
   start_is = h.media_are;
   units_are = u ∙ ap (λ m. length m.disks) h.media_are;
+  some = subst (λ n. 0 < n) (sym u) (let one = can.some in omega (arith, one));
+  most = subst (λ n. n ≤ 4) (sym u) can.few;
   few = few;
   lines = tt;
   events_are = ap (λ es. es ++ (number, events.Begin initiators ready) ∷ []) (sym h.events_are);
@@ -86,6 +88,8 @@ went_on start old media happened front out next number event w v k e l h = recor
   run = with_entry h.run (entry number event k.told v.fresh);
   start_is = h.start_is;
   units_are = h.units_are;
+  some = h.some;
+  most = h.most;
   few = h.few;
   events_are = ap (λ es. es ++ (number, event) ∷ []) h.events_are;
   text_is = ap (λ t. front ++ t) e ∙ sym (append_assoc front out _) ∙ ap (λ t. t ++ text_of (reverse v.fresh)) h.text_is ∙ entry_text (journal h.run) (reverse v.fresh);
@@ -161,11 +165,11 @@ pub began_can : (before after : RunnerState) (i units : ℕ) (ready : Bool) (med
 began_can before after i units ready media e some u h = subst (λ s. CanRun s media) (sym e) (can_go i units ready media some u h.some h.few)
 
 pub began_ran : (before after : RunnerState) (i units : ℕ) (ready : Bool) (start media : Held) (happened : List (ℕ × Event)) (front out next : List ℕ) (number : ℕ) (event : Event) → after ≡ running i (new_world i ready units)
-    → before.world ≡ None → i ≤ 4 → next ≡ out ++ text_of (notes_begin i ready ∷ []) → event ≡ events.Begin i ready → units ≡ length media.disks
+    → before.world ≡ None → i ≤ 4 → next ≡ out ++ text_of (notes_begin i ready ∷ []) → event ≡ events.Begin i ready → units ≡ length media.disks → CanRun before media
     → Stands start happened (front ++ out) before.world media → Stands start (happened ++ (number, event) ∷ []) (front ++ next) after.world media
-began_ran before after i units ready start media happened front out next number event a none few e is u h =
+began_ran before after i units ready start media happened front out next number event a none few e is u can h =
     let begun : Stands start (happened ++ (number, events.Begin i ready) ∷ []) (front ++ next) (Some (new_world i ready units)) media
-    = begun_so i units ready start media happened front out next number few u e (subst (λ o. Stands start happened (front ++ out) o media) none h) in
+    = begun_so i units ready start media happened front out next number few u (record { some = can.some; few = can.few; world = refl }) e (subst (λ o. Stands start happened (front ++ out) o media) none h) in
     subst (λ x. Stands start (happened ++ (number, x) ∷ []) (front ++ next) after.world media) (sym is)
     (subst (λ s. Stands start (happened ++ (number, events.Begin i ready) ∷ []) (front ++ next) s.world media) (sym a) begun)
 

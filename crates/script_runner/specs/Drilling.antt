@@ -1,5 +1,5 @@
 -- What a drill has come to, line by line.
-use Rattle.std.specs.Prelude.{◌≡◌, ℕ, ◌+◌, ◌≤◌, List, [], ◌++◌, length}
+use Rattle.std.specs.Prelude.{◌≡◌, ℕ, ◌+◌, ◌<◌, ◌≤◌, List, [], ◌++◌, length}
 use Rattle.std.specs.List.{AllByRecursion}
 use Rattle.rbc_disk.specs.Held.{Held}
 use Rattle.sbp_journal.specs.declared.event.Event.{Event}
@@ -17,6 +17,8 @@ pub record InDrill (start : Held) (all : List Event) (line : ℕ) (left : List E
   pub run : Run
   pub start_is : run.start ≡ start
   pub units_are : run.units ≡ length start.disks
+  pub some : 0 < run.units
+  pub most : run.units ≤ 4
   pub few : run.initiators ≤ 4
   pub events_are : events_of 1 run ++ numbered_from (line + 1) left ≡ numbered_from 1 all
   pub tally_is : tally ≡ tally_of (journal run)

@@ -29,12 +29,14 @@ running initiators world = record { initiators = initiators; world = Some world 
 abbrev pub scene_of : WorldState → Held → Scene
 scene_of world media = record { world = world; media = media }
 
--- The world and the media stand for a run of the machine over these events, whose journal has this text.
+-- The world and the media stand for a run of the machine over these events, of one to four units, whose journal has this text.
 pub record InRun (start : Held) (happened : List (ℕ × Event)) (text : List ℕ) (world : WorldState) (media : Held) : Type 0 where
   pub line : ℕ
   pub run : Run
   pub start_is : run.start ≡ start
   pub units_are : run.units ≡ length start.disks
+  pub some : 0 < run.units
+  pub most : run.units ≤ 4
   pub few : run.initiators ≤ 4
   pub events_are : events_of line run ≡ happened
   pub text_is : text ≡ text_of (journal run)

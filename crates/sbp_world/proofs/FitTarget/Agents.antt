@@ -1,5 +1,5 @@
 -- The addresses of agents: each step of an agent asks for addresses of 48 bits, and leaves it with such.
-use Rattle.std.proofs.Common.{arith, ◌≡◌, refl, sym, ap, ◌∙◌, subst, ℕ, zero, suc, ◌+◌, ◌-◌, ◌*◌, ◌/◌, ◌%◌, ◌^◌, ◌<◌, ◌≤◌, ◌==◌, ◌&&◌, ◌||◌, not, nat_eq, nat_lt, min, Bool, true, false, cond, List, [], ◌∷◌, ◌++◌, length, take, drop, Option, Some, None, Result, Ok, Err}
+use Rattle.std.proofs.Common.{arith, ◌≡◌, refl, subst, ℕ, ◌+◌, ◌-◌, ◌*◌, ◌%◌, ◌^◌, ◌<◌, ◌≤◌, ◌==◌, ◌&&◌, not, nat_lt, min, Bool, true, false, cond, List, [], ◌∷◌, ◌++◌, length, drop, Option, Some, None, Result, Ok, Err}
 use Rattle.std.proofs.lemmas.Bool.Decides.{nat_tests}
 use Rattle.std.specs.List.{AllByRecursion}
 use Rattle.bus_transactions.specs.Fitting.{AreBytes}
@@ -20,7 +20,7 @@ use Rattle.command_agent.specs.declared.step.Which.{Which}
 use Rattle.command_agent.specs.declared.step.Which.TheVariants.{Main, Ahead}
 use Rattle.command_agent.specs.Checks.{death_by, plain_length, reads_table, refusal, verdict}
 use Rattle.command_agent.specs.Machine.{Machine, aligned, chunk_of, cut_to, limit_of, is_ahead, new_machine, plan_of, state_in}
-use Rattle.command_agent.specs.Steps.{abort_step, advanced, ahead_lost, ahead_of, ahead_read, ahead_step, answer_chunk, answer_grown, answer_step, block_of, check_step, checked, chunk_written, data_grown, data_read, data_step, dead_step, doorbell_in, doorbell_step, elements_read, end_step, fail_step, fetch_step, follow_step, judge_step, judged, kept_ahead, lost, lost_step, main_lost, next_read, orb_read, passed_step, point_in, point_step, pointed, quiet, ran_as, replied, reply_step, reread_step, reset_step, run_step, served, status_written, table_read, told_or, turn_step, unread_buffer, wait_step, with_ahead}
+use Rattle.command_agent.specs.Steps.{abort_step, advanced, ahead_lost, ahead_of, ahead_read, ahead_step, answer_chunk, answer_step, block_of, check_step, checked, chunk_written, data_read, data_step, dead_step, doorbell_in, doorbell_step, elements_read, end_step, fail_step, fetch_step, follow_step, judge_step, judged, kept_ahead, lost_step, main_lost, next_read, orb_read, passed_step, point_in, point_step, pointed, quiet, ran_as, replied, reply_step, reread_step, reset_step, run_step, served, status_written, table_read, told_or, turn_step, unread_buffer, wait_step, with_ahead}
 use Rattle.orb_layout.specs.declared.ask.Ask.{Ask}
 use Rattle.orb_layout.specs.declared.ask.Ask.TheVariants.{Read, Write, Nothing}
 use Rattle.orb_layout.specs.declared.ask.FailCause.{FailCause}
@@ -39,7 +39,7 @@ use Rattle.page_table.specs.declared.fault.PageFault.{PageFault}
 use Rattle.page_table.specs.declared.fault.PageFault.TheVariants.{ZeroSegment, PastEnd}
 use Rattle.page_table.specs.declared.segment.Chunk.{Chunk}
 use Rattle.page_table.specs.declared.segment.Segment.{Segment}
-use Rattle.page_table.specs.Buffer.{chunk, chunk_from, single}
+use Rattle.page_table.specs.Buffer.{chunk, chunk_from}
 use Rattle.page_table.specs.Elements.{elements_of, first_fault}
 use Rattle.rbc_disk.specs.declared.command.Need.{Need}
 use Rattle.rbc_disk.specs.declared.command.Need.TheVariants as needs

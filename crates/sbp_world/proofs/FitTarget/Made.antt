@@ -1,5 +1,5 @@
 -- What is said of a call of a target so far is kept by its steps.
-use Rattle.std.proofs.Common.{◌≡◌, ℕ, ◌^◌, ◌<◌, List}
+use Rattle.std.proofs.Common.{ℕ, ◌^◌, ◌<◌, List}
 use Rattle.async_packet.specs.Packet.{Packet, header_in}
 use Rattle.bus_transactions.specs.Wire.{Reply, is_reply}
 use Rattle.bus_transactions.proofs.FitCalls.{Answering, Asking, Calm, answering_answers, answering_asks, answering_disowns, answering_tells, asking_asks, asking_disowns, asking_tells, calm_disowns, calm_tells}

@@ -1,13 +1,12 @@
 -- The management agent asks for addresses of 48 bits, of the node whose operation is under way; and what it makes of the logins.
-use Rattle.std.proofs.Common.{arith, ◌≡◌, refl, sym, ap, ◌∙◌, subst, ℕ, zero, suc, ◌+◌, ◌-◌, ◌*◌, ◌^◌, ◌<◌, ◌≤◌, ◌==◌, not, is_none, Bool, true, false, cond, List, [], ◌∷◌, ◌++◌, length, map, position, replicate, take, set, get_or, slice_set, slice_index_or, Option, Some, None, Result, Ok, Err}
+use Rattle.std.proofs.Common.{arith, ◌≡◌, refl, sym, ap, ◌∙◌, subst, ℕ, ◌+◌, ◌-◌, ◌*◌, ◌^◌, ◌<◌, ◌==◌, not, is_none, Bool, true, false, cond, List, [], ◌∷◌, length, position, Option, Some, None, Result, Ok, Err}
 use Rattle.std.proofs.Math.ListN.{get_or-map}
-use Rattle.std.specs.List.{flat_map}
 use Rattle.sbp_base.specs.Quadlets.{quad}
 use Rattle.bus_transactions.specs.Fitting.{AreBytes}
 use Rattle.bus_transactions.proofs.Fits.{bytes_append, bytes_take, no_bytes, put_or}
 use Rattle.login_table.specs.declared.login.Login.{Login}
 use Rattle.login_table.specs.Requests.{LoginRequest}
-use Rattle.login_table.specs.Table.{Table, back_at, back_step, back_to, enter_at, enter_step, entered, find, held, hold_step, id_at, is_barred, is_denied, is_held, is_last, is_live, is_live_of, is_old, one_less, leave_at, leave_step, left_for, place_at, revived, tick_step, ticked, without}
+use Rattle.login_table.specs.Table.{Table, back_at, back_step, back_to, enter_at, enter_step, find, id_at, is_barred, is_denied, is_held, is_last, is_live_of, is_old, one_less, leave_at, leave_step, left_for, place_at, tick_step, ticked, without}
 use Rattle.mgmt_agent.specs.declared.decision.ManagerStep.{ManagerStep}
 use Rattle.mgmt_agent.specs.declared.decision.Outcome.{Outcome}
 use Rattle.mgmt_agent.specs.declared.decision.Response.{Response}
@@ -22,7 +21,7 @@ use Rattle.mgmt_agent.specs.declared.status.Status.{Status}
 use Rattle.mgmt_agent.specs.declared.status.Status.TheVariants as statuses
 use Rattle.mgmt_agent.specs.Statuses.{function_of, number_of}
 use Rattle.mgmt_agent.specs.Decisions.{asked_by, decide, decide_function, entries_of, key_at, lacks_key, reads_eui, response_bytes, unit_exists}
-use Rattle.mgmt_agent.specs.Machine.{Machine, beside, cut_response, decide_step, decided_as, eui_step, fail_step, high_eui_at, high_got, low_eui_at, low_got, orb_got, reply_in, reply_step, reply_to, respond_step, response_written, start_step, start_with, status_block, status_step, status_written, telling}
+use Rattle.mgmt_agent.specs.Machine.{Machine, beside, cut_response, decide_step, decided_as, eui_step, fail_step, high_eui_at, high_got, low_eui_at, low_got, orb_got, reply_in, reply_step, reply_to, respond_step, response_written, start_step, start_with, status_step, status_written}
 use Rattle.orb_layout.specs.declared.ask.Ask.{Ask}
 use Rattle.orb_layout.specs.declared.ask.Ask.TheVariants as asks
 use Rattle.orb_layout.specs.declared.ask.FailCause.{FailCause}

@@ -1,37 +1,26 @@
 -- What is kept by telling, by giving up a transaction with a known node, and by asking a known node for what fits a packet, is kept by all
 -- that a target does behind its answer; and what fits stays so.
-use Rattle.std.proofs.Common.{arith, ◌≡◌, refl, sym, ap, ◌∙◌, subst, ℕ, zero, suc, ◌+◌, ◌^◌, ◌<◌, ◌≤◌, ◌&&◌, nat_lt, is_some, Bool, true, false, cond, List, [], ◌∷◌, ◌++◌, length, Option, Some, None, Result, Ok, Err}
+use Rattle.std.proofs.Common.{arith, ◌≡◌, refl, subst, ℕ, zero, suc, ◌+◌, ◌^◌, ◌<◌, ◌≤◌, ◌&&◌, nat_lt, is_some, Bool, true, false, cond, List, [], ◌∷◌, ◌++◌, length, Option, Some, None}
 use Rattle.async_packet.specs.Labels.{LabelParts}
 use Rattle.bus_transactions.specs.Fitting.{AreBytes, FitsRequest}
 use Rattle.bus_transactions.specs.Steps.{IsPlainSide, with_asked}
-use Rattle.bus_transactions.proofs.Fits.{bytes_append}
 use Rattle.label_table.specs.declared.judgement.Asked.{Asked}
-use Rattle.label_table.specs.declared.reply.Stale.{Stale}
 use Rattle.label_table.specs.Bodies.{Body, block_write}
 use Rattle.label_table.specs.Layer.{Layer, asking_step, disowning_step, free_labels}
 use Rattle.login_table.specs.declared.login.Login.{Login}
-use Rattle.login_table.specs.Table.{Table, is_live, place_at}
+use Rattle.login_table.specs.Table.{is_live}
 use Rattle.media_bay.specs.Unsolicited.{block, block_head}
 use Rattle.orb_layout.specs.declared.ask.Ask.{Ask}
 use Rattle.orb_layout.specs.declared.ask.FailCause.{FailCause}
 use Rattle.orb_layout.specs.declared.ask.FailCause.TheVariants as causes
 use Rattle.orb_layout.specs.declared.status.StatusKind.{StatusKind}
-use Rattle.orb_layout.specs.Replies.{Answer, NoLabel, Expired}
 use Rattle.rbc_disk.specs.declared.command.Outcome.{Outcome}
-use Rattle.rbc_disk.specs.Disk.{disk_at}
-use Rattle.rbc_disk.specs.Runs.{Told}
 use Rattle.command_agent.specs.declared.step.AgentStep.{AgentStep}
 use Rattle.command_agent.specs.declared.step.Which.{Which}
 use Rattle.command_agent.specs.declared.step.Which.TheVariants.{Main, Ahead}
 use Rattle.command_agent.specs.Machine.{Machine, is_under_way, state_in}
-use Rattle.command_agent.specs.Steps.{abort_step, is_reset, lost_step, reply_step}
-use Rattle.mgmt_agent.specs.declared.decision.Decision.{Decision}
-use Rattle.mgmt_agent.specs.declared.decision.Effect.{Effect}
-use Rattle.mgmt_agent.specs.declared.decision.Effect.TheVariants as effects
-use Rattle.mgmt_agent.specs.declared.decision.ManagerStep.{ManagerStep}
-use Rattle.mgmt_agent.specs.Machine as management
+use Rattle.command_agent.specs.Steps.{is_reset, lost_step}
 use Rattle.sbp_journal.specs.declared.cause.CutCause.{CutCause}
-use Rattle.sbp_journal.specs.declared.cause.CutCause.TheVariants as cuts
 use Rattle.sbp_journal.specs.declared.outbox.Outgoing.{Outgoing}
 use Rattle.sbp_journal.specs.declared.side.Side.{Side}
 use Rattle.sbp_journal.specs.declared.side.Side.TheVariants as sides
@@ -40,15 +29,14 @@ use Rattle.sbp_target.specs.declared.desk.Desk.{Desk}
 use Rattle.sbp_target.specs.declared.purpose.Purpose.{Purpose}
 use Rattle.sbp_target.specs.declared.purpose.Purpose.TheVariants as purposes
 use Rattle.sbp_target.specs.declared.purpose.Sent.{Sent}
-use Rattle.sbp_target.specs.Desks.{is_that, promoted_desk, reset_desk, taken, which_in}
+use Rattle.sbp_target.specs.Desks.{promoted_desk, reset_desk}
 use Rattle.sbp_target.specs.Sending.{request_step, sent_by, with_side}
-use Rattle.sbp_target.specs.Telling.{orb_of, tell_step, tell_ran, tell_dead, tell_ended}
-use Rattle.sbp_target.specs.Nodes.{NodeState, Scene, scene, desk_at, login_at, with_desk, with_agent}
-use Rattle.sbp_target.specs.Agents.{agent_body, disowned, without_ahead, dropped_by, promoted, promoted_by, noted, main_sent, main_asked, ask_main, lost_by, lose, ahead_sent, ahead_asked, after_ahead, send_ahead, after_loss, lose_main, after_main, follow, sent_to, told_cut, cut_node, cut}
-use Rattle.sbp_target.specs.Units.{is_pending, unsolicited_by, unsolicited_from, announce_to, announce_in, announce_at, announce_from, hears, is_cut, cut_at, cut_from, cut_all, clear_unit, clear_from}
-use Rattle.target_base.specs.Places.{is_of_unit}
-use Rattle.sbp_world.specs.FitTarget.{Fits, FitsAgent, FitsLogin, FitsSeat, IsOfKnown}
-use Rattle.sbp_world.proofs.FitTarget.Agents.{FitsAsk, FitsStep, lost_fits, quads_bytes, reset_fits}
+use Rattle.sbp_target.specs.Telling.{tell_step, tell_ran, tell_dead, tell_ended}
+use Rattle.sbp_target.specs.Nodes.{NodeState, Scene, scene, desk_at, login_at, with_agent}
+use Rattle.sbp_target.specs.Agents.{agent_body, disowned, without_ahead, dropped_by, promoted_by, noted, main_sent, main_asked, ask_main, lost_by, lose, ahead_sent, ahead_asked, after_ahead, send_ahead, after_loss, lose_main, after_main, follow, sent_to, told_cut, cut}
+use Rattle.sbp_target.specs.Units.{is_pending, unsolicited_by, announce_to, announce_in, announce_at, announce_from, hears, is_cut, cut_at, cut_from, cut_all}
+use Rattle.sbp_world.specs.FitTarget.{Fits, FitsAgent, FitsLogin, IsOfKnown}
+use Rattle.sbp_world.proofs.FitTarget.Agents.{FitsAsk, lost_fits, quads_bytes, reset_fits}
 use Rattle.sbp_world.proofs.FitTarget.Nodes.{IfBody, agent_body_fits, fits_desk, fits_layer, none_main, seat_reset}
 
 -- what is said of a layer, the packets handed out, and what was told

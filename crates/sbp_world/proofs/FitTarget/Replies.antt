@@ -1,22 +1,16 @@
 -- What is kept by telling, giving up and asking is kept by all that a target does behind a response, a time-out, and the start of an operation.
-use Rattle.std.proofs.Common.{arith, ◌≡◌, refl, sym, ap, ◌∙◌, subst, ℕ, zero, suc, ◌+◌, ◌^◌, ◌<◌, ◌&&◌, nat_lt, nat_eq, is_some, Bool, true, false, cond, List, [], ◌∷◌, ◌++◌, length, Option, Some, None, Result, Ok, Err}
-use Rattle.std.proofs.lemmas.Bool.Decides.{nat_tests}
+use Rattle.std.proofs.Common.{◌≡◌, refl, sym, ◌∙◌, subst, ℕ, zero, suc, ◌+◌, ◌&&◌, nat_lt, is_some, Bool, true, false, cond, length, Option, Some, None}
 use Rattle.async_packet.specs.Labels.{LabelParts}
-use Rattle.async_packet.specs.Packet.{Packet, header_in, lock, lock_response, read_block, read_block_response, read_quadlet, read_quadlet_response, write_block, write_quadlet, write_response}
-use Rattle.async_packet.specs.Reading.{reading}
-use Rattle.bus_transactions.specs.Fitting.{AreBytes, FitsRequest}
-use Rattle.bus_transactions.proofs.Fits.{bytes_drop, bytes_quad, bytes_take}
-use Rattle.label_table.specs.declared.reply.Stale.{Stale}
 use Rattle.label_table.specs.Bodies.{Body}
 use Rattle.label_table.specs.Layer.{Layer}
 use Rattle.login_table.specs.declared.login.Login.{Login}
-use Rattle.login_table.specs.Table.{Table, is_live, place_at}
+use Rattle.login_table.specs.Table.{Table}
 use Rattle.orb_layout.specs.declared.ask.Ask.{Ask}
 use Rattle.orb_layout.specs.declared.ask.FailCause.{FailCause}
 use Rattle.orb_layout.specs.declared.ask.FailCause.TheVariants as causes
 use Rattle.orb_layout.specs.Replies.{Answer, NoLabel, Expired}
-use Rattle.rbc_disk.specs.Disk.{Disk, disk_at}
-use Rattle.rbc_disk.specs.Runs.{Told, left_by}
+use Rattle.rbc_disk.specs.Disk.{disk_at}
+use Rattle.rbc_disk.specs.Runs.{Told}
 use Rattle.command_agent.specs.declared.step.AgentStep.{AgentStep}
 use Rattle.command_agent.specs.declared.step.Which.{Which}
 use Rattle.command_agent.specs.declared.step.Which.TheVariants.{Main, Ahead}
@@ -30,26 +24,25 @@ use Rattle.mgmt_agent.specs.declared.operation.Operation.{Operation}
 use Rattle.mgmt_agent.specs.Machine as management
 use Rattle.sbp_journal.specs.declared.cause.CutCause.{CutCause}
 use Rattle.sbp_journal.specs.declared.cause.CutCause.TheVariants as cuts
-use Rattle.sbp_journal.specs.declared.side.Side.TheVariants as sides
 use Rattle.sbp_journal.specs.Outgoings.{OutboxState}
 use Rattle.sbp_target.specs.declared.desk.Desk.{Desk}
 use Rattle.sbp_target.specs.declared.purpose.Purpose.{Purpose}
 use Rattle.sbp_target.specs.declared.purpose.Purpose.TheVariants as purposes
 use Rattle.sbp_target.specs.declared.purpose.Sent.{Sent}
-use Rattle.sbp_target.specs.Desks.{expired_desk, is_that, taken, which_in}
-use Rattle.sbp_target.specs.Sending.{request_step, with_side}
-use Rattle.sbp_target.specs.Nodes.{NodeState, Scene, scene, desk_at, login_at, with_desk, with_agent}
-use Rattle.sbp_target.specs.Agents.{cut, follow}
+use Rattle.sbp_target.specs.Desks.{is_that, taken, which_in}
+use Rattle.sbp_target.specs.Sending.{request_step}
+use Rattle.sbp_target.specs.Nodes.{Scene, scene, desk_at, login_at, with_desk}
+use Rattle.sbp_target.specs.Agents.{follow}
 use Rattle.sbp_target.specs.Units.{clear_from, clear_unit, cut_all}
 use Rattle.target_base.specs.Logins.{if_served}
-use Rattle.sbp_target.specs.Replies.{Stage, stage, Whole, scene_of, came, changed_by, announced_by, follow_all, advanced_with, advance, plain_at, replied, replied_with, served_login, replied_by, replied_to}
-use Rattle.sbp_target.specs.Management.{manager_body, place_in, cut_placed, fresh_desk, left_desk, tell_left, tell_failed, clear_one, effect_by, decided_by, with_manager, manager_lost, lost_in, lose_operation, manager_sent, manager_asked, ask_manager, managed_with, managed_in, manage}
-use Rattle.sbp_target.specs.Receiving.{answer_in, answer_by, concluded, expired_with, expired_by, expire_agent, settled, timed_out, expired_in, expired_from, ticked_by}
-use Rattle.sbp_world.specs.FitTarget.{BytesTold, Fits, FitsAgent, FitsLogin, FitsManager, FitsOperation, FitsSeat, IsOfKnown}
+use Rattle.sbp_target.specs.Replies.{stage, Whole, scene_of, came, changed_by, announced_by, follow_all, advanced_with, advance, plain_at, replied, replied_with, served_login, replied_by, replied_to}
+use Rattle.sbp_target.specs.Management.{manager_body, place_in, cut_placed, tell_left, tell_failed, effect_by, decided_by, with_manager, manager_lost, lost_in, lose_operation, manager_sent, manager_asked, ask_manager, managed_with, managed_in, manage}
+use Rattle.sbp_target.specs.Receiving.{concluded, expired_with, expired_by, expire_agent, timed_out}
+use Rattle.sbp_world.specs.FitTarget.{BytesTold, FitsAgent, FitsLogin, FitsOperation, FitsSeat, IsOfKnown}
 use Rattle.sbp_world.proofs.FitTarget.Agents.{BytesIn, FitsAsk, FitsStep, abort_fits, lost_fits, reply_fits}
-use Rattle.sbp_world.proofs.FitTarget.Manager.{AllTurn, FitsReply, managed_fits, ticks}
+use Rattle.sbp_world.proofs.FitTarget.Manager.{FitsReply, managed_fits}
 use Rattle.sbp_world.proofs.FitTarget.Nodes.{IfBody, fits_desk, fits_layer, fits_manager, manager_body_fits, none_main}
-use Rattle.sbp_world.proofs.FitTarget.Pass.{At, In, IsServed, Keeps, Leaves, Said, announces_all, anywhere, cuts_all, cuts_at, follows, pick, requests}
+use Rattle.sbp_world.proofs.FitTarget.Pass.{At, In, IsServed, Keeps, Said, announces_all, anywhere, cuts_all, cuts_at, follows, pick, requests}
 
 module _ (known : ℕ → Type 0) (P : Said) where
   abbrev Of : Layer Purpose → OutboxState → Type 0

@@ -1,5 +1,5 @@
 -- A request that is served takes what is said before its answer to what is said behind it, by an answer that fits.
-use Rattle.std.proofs.Common.{arith, ◌≡◌, ◌≢◌, refl, sym, ap, ◌∙◌, subst, ℕ, ◌+◌, ◌^◌, ◌<◌, ◌≤◌, ◌&&◌, not, is_none, Bool, true, false, cond, List, [], ◌∷◌, ◌++◌, length, take, drop, Option, Some, None, Result, Ok, Err}
+use Rattle.std.proofs.Common.{arith, ◌≡◌, refl, sym, ap, ◌∙◌, subst, ℕ, ◌+◌, ◌^◌, ◌<◌, ◌≤◌, ◌&&◌, not, is_none, Bool, true, false, cond, List, [], ◌∷◌, ◌++◌, length, take, drop, Option, Some, None, Result, Ok, Err}
 use Rattle.std.proofs.lemmas.List.{length-drop, length-take}
 use Rattle.byteorder.specs.Endian.{big_bytes}
 use Rattle.async_packet.specs.Packet.{Packet, header_in}
@@ -20,9 +20,6 @@ use Rattle.command_agent.specs.declared.step.PointRefusal.TheVariants as refusal
 use Rattle.command_agent.specs.Machine.{Machine, present_of, state_in}
 use Rattle.command_agent.specs.Steps.{asks, doorbell_step, point_step}
 use Rattle.sbp_journal.specs.declared.cause.CutCause.TheVariants as cuts
-use Rattle.sbp_journal.specs.declared.cause.Cause.TheVariants as ignored
-use Rattle.sbp_journal.specs.declared.cause.Judged.{Judged}
-use Rattle.sbp_journal.specs.declared.cause.Judged.TheVariants as judged
 use Rattle.sbp_journal.specs.declared.outbox.Outgoing.{Outgoing}
 use Rattle.sbp_journal.specs.declared.side.Side.{Side}
 use Rattle.sbp_journal.specs.declared.side.Side.TheVariants as sides
@@ -34,23 +31,23 @@ use Rattle.target_base.specs.declared.address.Demand.{Demand}
 use Rattle.target_base.specs.declared.address.Demand.TheVariants as demands
 use Rattle.sbp_target.specs.declared.desk.Desk.{Desk}
 use Rattle.sbp_target.specs.declared.purpose.Purpose.{Purpose}
-use Rattle.target_base.specs.Addresses.{complete, conflict_error, address_error, demand_of, is_lock, offset_in, reached, register_at, row_of}
-use Rattle.sbp_target.specs.Desks.{point_desk, pointed_desk}
+use Rattle.target_base.specs.Addresses.{complete, conflict_error, demand_of, is_lock, offset_in, reached, register_at, row_of}
+use Rattle.sbp_target.specs.Desks.{pointed_desk}
 use Rattle.sbp_target.specs.Sending.{answer_step, answered_by, with_side}
 use Rattle.sbp_target.specs.Nodes.{NodeState, Scene, scene, desk_at, login_at, with_desk, with_agent}
 use Rattle.sbp_target.specs.Agents.{cut}
 use Rattle.sbp_target.specs.Telling.{orb_of}
 use Rattle.target_base.specs.Logins.{is_barred_at}
-use Rattle.sbp_target.specs.Serving.{answered, state_number, last_pointer, pointer_bytes, asked_in, rcode_of, pointed_by, point, rung_by, ring, enabled, accessed_by, started_by, start, served_as, serve, is_barred}
-use Rattle.sbp_world.specs.FitTarget.{Fits, FitsAgent, FitsLogin, FitsSeat, IsOfKnown}
+use Rattle.sbp_target.specs.Serving.{answered, state_number, last_pointer, pointer_bytes, asked_in, pointed_by, point, rung_by, ring, enabled, accessed_by, started_by, start, served_as, serve, is_barred}
+use Rattle.sbp_world.specs.FitTarget.{Fits, FitsAgent, FitsLogin, IsOfKnown}
 use Rattle.sbp_world.proofs.FitTarget.Agents.{FitsAsk, FitsPoint, FitsRing, point_fits, ring_fits}
 use Rattle.bus_transactions.proofs.FitJudged.{BytesOf, no_gives}
 use Rattle.sbp_world.proofs.FitTarget.Demands.{FitsAccess, FitsDemand, demand_fits}
 use Rattle.sbp_world.proofs.FitTarget.Manager.{FitsStart, start_fits}
 use Rattle.sbp_world.proofs.FitTarget.Nodes.{fits_desk, fits_layer}
-use Rattle.sbp_world.proofs.FitTarget.Pass.{At, In, IsServed, Keeps, Leaves, Said, anywhere, cuts_at, follows}
+use Rattle.sbp_world.proofs.FitTarget.Pass.{In, IsServed, Keeps, Leaves, Said, anywhere, cuts_at, follows}
 use Rattle.sbp_world.proofs.FitTarget.Replies.{asks_manager}
-use Rattle.sbp_target.proofs.Reached.{IsAt, demand_place}
+use Rattle.sbp_target.proofs.Reached.{demand_place}
 
 -- an answer to this request with such an rcode takes P to Q
 pub record Answers (P Q : Said) (request : Packet) (bytes : List ℕ) (stated : ℕ → Bool) : Type 0 where

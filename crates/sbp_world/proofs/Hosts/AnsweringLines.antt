@@ -1,5 +1,5 @@
 -- In every run an initiator answers each request that it gets as the run terms say.
-use Rattle.std.proofs.Common.{arith, ◌≡◌, refl, sym, subst, ℕ, ◌+◌, ◌-◌, ◌^◌, ◌<◌, ◌≤◌, Bool, false, List, [], ◌∷◌, ◌++◌, length, map, Option, Some, None}
+use Rattle.std.proofs.Common.{arith, ◌≡◌, refl, sym, subst, ℕ, ◌+◌, ◌^◌, ◌<◌, ◌≤◌, Bool, false, List, [], ◌∷◌, ◌++◌, length, map, Option, Some, None}
 use Rattle.bus_transactions.specs.May.{is_reset}
 use Rattle.rbc_disk.specs.Runs.{Told}
 use Rattle.sbp_journal.specs.Run.{Moment, asked, said}
@@ -21,14 +21,12 @@ use Rattle.sbp_world.proofs.Wire.ToldBytes.{AreTold}
 use Rattle.sbp_initiator.specs.Histories.Laws.{Call, after as laws_after}
 use Rattle.sbp_world.specs.Hosts.Answering.{AnsweringLaw, GetsRequest, IsAnswered, IsDelivering}
 use Rattle.sbp_world.specs.Hosts.Bytes.{took_quadlet}
-use Rattle.sbp_world.specs.Hosts.Calls.{behind}
 use Rattle.sbp_world.specs.Hosts.Handing.{history}
 use Rattle.sbp_world.specs.Hosts.Refusing.{initiator_of}
 use Rattle.sbp_world.specs.Hosts.Responses.{ResponsesLaw}
 use Rattle.sbp_world.specs.Hosts.Runs.{IsRun}
 use Rattle.sbp_world.proofs.Hosts.AnsweringRuns.{is_answered_here}
 use Rattle.sbp_world.proofs.Hosts.AnsweringSends.{Gets}
-use Rattle.sbp_world.proofs.Hosts.AnsweringBlocks.{answers}
 use Rattle.sbp_world.proofs.Hosts.ByteReads.{all_send}
 use Rattle.sbp_world.proofs.Hosts.ByteRuns.{Bytes, bytes_between, bytes_carried, bytes_of_runs}
 use Rattle.sbp_world.proofs.Hosts.LoginCounts.{logins_few}

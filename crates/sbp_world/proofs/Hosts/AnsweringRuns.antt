@@ -1,5 +1,5 @@
 -- What an initiator answers to a request that it gets in a delivery is what the run terms say.
-use Rattle.std.proofs.Common.{◌≡◌, refl, sym, ap, subst, ◌∙◌, ℕ, suc, ◌+◌, ◌-◌, ◌^◌, ◌<◌, ◌≤◌, Bool, true, false, cond, List, [], ◌∷◌, length, Option, Some}
+use Rattle.std.proofs.Common.{◌≡◌, refl, sym, ap, subst, ◌∙◌, ℕ, suc, ◌+◌, ◌^◌, ◌<◌, ◌≤◌, Bool, true, false, cond, List, [], ◌∷◌, length, Option, Some}
 use Rattle.std.specs.List.{AllByRecursion}
 use Rattle.async_packet.specs.Canon.{canon}
 use Rattle.async_packet.specs.Packet.{Packet}
@@ -24,7 +24,6 @@ use Rattle.sbp_laws.specs.SentAnswers.{Begins, answers_to, is_answered, reply_in
 use Rattle.sbp_laws.specs.Served.{Reply, host_reply}
 use Rattle.sbp_laws.specs.Turns.{is_sent, sends_of, turn}
 use Rattle.sbp_world.specs.Delivering.{delivered}
-use Rattle.sbp_world.specs.Sending.{sent}
 use Rattle.sbp_world.specs.Worlds.{Scene, initiator_at}
 use Rattle.sbp_world.proofs.Wire.Holding.{Sound}
 use Rattle.sbp_world.specs.Hosts.Answering.{GetsRequest, IsAnswered, in_order}

@@ -39,7 +39,7 @@ use Rattle.sbp_laws.specs.Served.{Reply}
 use Rattle.sbp_world.specs.declared.parts.delivering.Arrival.{Arrival}
 use Rattle.sbp_world.specs.Delivering.{arrived, at_initiator, at_none, at_target, delivered, delivered_by, initiator_received, initiators_received, listed, received_by, received_step, target_received}
 use Rattle.sbp_world.specs.Handing.{handed_out}
-use Rattle.sbp_world.specs.Sending.{sent, sent_all}
+use Rattle.sbp_world.specs.Sending.{sent_all}
 use Rattle.sbp_world.specs.Telling.{told_all}
 use Rattle.sbp_world.specs.Worlds.{Scene, WorldState, initiator_at, with_note}
 use Rattle.sbp_world.specs.Wire.Wires.{Stands}
@@ -53,7 +53,6 @@ use Rattle.sbp_world.specs.Hosts.Handing.{AreNotes, history}
 use Rattle.sbp_world.specs.Hosts.Responses.{IsReadWith, payload_of}
 use Rattle.sbp_world.proofs.Hosts.AnsweringTold.{asks_part, behind_on, none_on, notes_on, one_sent, plain_on}
 use Rattle.sbp_world.proofs.Hosts.Answering.{IsRequestFound, answer, request_of}
-use Rattle.sbp_world.proofs.Hosts.AnsweringBlocks.{answers}
 use Rattle.sbp_world.proofs.Hosts.Hands.{all_own}
 use Rattle.sbp_world.proofs.Hosts.Knows.{was_sent}
 use Rattle.sbp_world.proofs.Hosts.Liners.{own_notes}

@@ -1,6 +1,6 @@
 -- What the lines of a run know beside the statements that they carry on: that a layer is what the history says of its labels, which packet is
 -- heard, and that a packet is delivered or a transaction times out elsewhere.
-use Rattle.std.specs.Prelude.{◌≡◌, ℕ, suc, ◌==◌, false, List, Some, Result, Ok}
+use Rattle.std.specs.Prelude.{◌≡◌, ℕ, suc, ◌==◌, false, List, Some, Ok}
 use Rattle.async_packet.specs.Packet.{Packet, header_in}
 use Rattle.async_packet.specs.Reading.{reading}
 use Rattle.bus_transactions.specs.Rows.{shape, shape_of}

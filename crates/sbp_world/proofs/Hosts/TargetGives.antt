@@ -57,7 +57,7 @@ use Rattle.sbp_target.specs.Management.{manager_body, place_in, cut_placed, tell
 use Rattle.sbp_target.specs.Replies.{Stage, stage, Tells, TellsBy, Whole, scene_of, came, changed_by, announced_by, follow_all, advanced_with, advance, agent_step, plain_at, replied, replied_by, replied_to, served_login}
 use Rattle.sbp_target.specs.Serving.{accessed_by, answered, asked_in, enabled, is_barred, point, pointed_by, request_step as served_step, ring, rung_by, serve, served_as, start, started_by}
 use Rattle.sbp_target.specs.Receiving.{TellsAt, TellsIn, answer_in, concluded, expired, expired_with, expired_by, expire_agent, expired_in, expired_from, held_from, judged_scene, received, received_as, reset_by, seen, tell_held, ticked, ticked_by, timed_out, cleared_node, with_layer}
-use Rattle.sbp_world.specs.Hosts.Handing.{AreOthers, IsOther}
+use Rattle.sbp_world.specs.Hosts.Handing.{IsOther}
 use Rattle.sbp_world.proofs.Hosts.Mild.{AreMild, FromTarget, IsMild, IsMildAsked, IsMildBody, asked_mild, response_mild}
 use Rattle.sbp_world.proofs.Hosts.Others.{more}
 use Rattle.sbp_world.proofs.AgentForms.{FitsEnd, FitsRun, IsFit, lost_fits, reply_fits}

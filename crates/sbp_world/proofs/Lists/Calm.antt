@@ -112,6 +112,10 @@ before_one : (m : Moment) (past : List Moment) (i : ℕ) → IsCalm (m ∷ past)
 before_one (asked line event) past i e = from_same (opened event (terms past)) (terms past) (suc i) (opened_same event (terms past)) e
 before_one (said note) past i e = noted_before note (terms past) (suc i) e
 
+pub injects_before : (m : Moment) (past : List Moment) (n : ℕ) → (terms (m ∷ past)).injects n ≡ false → (terms past).injects n ≡ false
+injects_before (asked line event) past n e = from_same (opened event (terms past)) (terms past) n (opened_same event (terms past)) e
+injects_before (said note) past n e = noted_before note (terms past) n e
+
 pub calm_before : (later past : List Moment) (i : ℕ) → IsCalm (later ++ past) i → IsCalm past i
 calm_before [] past i e = e
 calm_before (m ∷ later) past i e = calm_before later past i (before_one m (later ++ past) i e)

@@ -13,7 +13,7 @@ use Rattle.sbp_world.proofs.Hosts.Lasting.{lasting_law}
 use Rattle.sbp_world.proofs.Hosts.Runs.{count_after, count_between}
 use Rattle.sbp_world.specs.Pointers.Pointers.{PointersLaw}
 use Rattle.sbp_world.specs.Lists.Begun.{BegunLaw}
-use Rattle.sbp_world.specs.Lists.Closes.{Always, AreBehind, AreFirsts, AreHere, AreUntaken, PlacesLaw, Under}
+use Rattle.sbp_world.specs.Lists.Closes.{Always, AreBehind, AreFirsts, AreHere, AreUntaken, PlacesLaw, Under, WhereTame}
 use Rattle.sbp_world.proofs.Lists.Firsts.{first_law}
 use Rattle.sbp_world.specs.Lists.Lasts.{IsLast}
 use Rattle.sbp_world.specs.Lists.Needs.{IsCalm, OpenBefore, OpenBetween}
@@ -21,7 +21,8 @@ use Rattle.sbp_world.specs.Lists.Places.{AreNamedFor}
 use Rattle.sbp_world.proofs.Lists.NamedWrites.{AllNamed, Known, first_names, names_walk}
 use Rattle.sbp_world.proofs.Lists.Naming.{names_law}
 use Rattle.sbp_world.proofs.Lists.OpenWires.{wire_after, wire_between}
-use Rattle.sbp_world.proofs.Lists.Walks.{walked_after, walked_between}
+use Rattle.sbp_world.proofs.Lists.TameWalks.{tame_after, tame_between}
+use Rattle.sbp_world.specs.Lists.OwnLogins.{IsTame}
 
 -- ---- what open lists stand on at a place
 pub record Closes (past : List Moment) (w : WorldState) : Type 0 where
@@ -29,9 +30,10 @@ pub record Closes (past : List Moment) (w : WorldState) : Type 0 where
   pub first : AreFirsts past w
   pub behind : AreBehind past w
 
+-- where no initiator injected packets
 pub record ClosesLaw : Type 0 where
-  pub after_lines : (line : ℕ) (run : Run) → IsRun run → 0 < run.units → run.units ≤ 4 → length run.start.disks ≡ run.units → OpenBefore line run run.entries → Closes (history_of line run) (after (beginning run) run.entries).world
-  pub between : (line : ℕ) (run : Run) → IsRun run → 0 < run.units → run.units ≤ 4 → length run.start.disks ≡ run.units → (next : ℕ) (most : Option ℕ) (told : List (Option Told)) → MayAll told (begun (after (beginning run) run.entries)) → OpenBetween line run next (more_deliveries most) told → (let w = (after_all told (begun (after (beginning run) run.entries))).world in Closes (map said w.fresh ++ asked next (more_deliveries most) ∷ history_of line run) w)
+  pub after_lines : (line : ℕ) (run : Run) → IsRun run → 0 < run.units → run.units ≤ 4 → length run.start.disks ≡ run.units → OpenBefore line run run.entries → IsTame (history_of line run) → Closes (history_of line run) (after (beginning run) run.entries).world
+  pub between : (line : ℕ) (run : Run) → IsRun run → 0 < run.units → run.units ≤ 4 → length run.start.disks ≡ run.units → (next : ℕ) (most : Option ℕ) (told : List (Option Told)) → MayAll told (begun (after (beginning run) run.entries)) → OpenBetween line run next (more_deliveries most) told → (let w = (after_all told (begun (after (beginning run) run.entries))).world in let now = map said w.fresh ++ asked next (more_deliveries most) ∷ history_of line run in IsTame now → Closes now w)
 
 -- the writes that were got were named for lists
 abbrev AreNames : List Moment → WorldState → Type 0
@@ -41,9 +43,9 @@ delivers : (most : Option ℕ) → DeliversMore (more_deliveries most)
 delivers (Some count) = tt
 delivers None = tt
 
--- ---- together
-module _ (pointers : PointersLaw) (begun_law : BegunLaw) (places : PlacesLaw) where
-  known : Always Known
+-- ---- what is known of every run
+module _ (pointers : PointersLaw) (begun_law : BegunLaw) where
+  pub known : Always Known
   known = record {
     after_lines = λ line run r has small size.
         let inside : (i : ℕ) → i < length (after (beginning run) run.entries).world.initiators → i < run.initiators = λ i b. subst (λ n. i < n) (count_after run run.entries) b in
@@ -68,10 +70,12 @@ module _ (pointers : PointersLaw) (begun_law : BegunLaw) (places : PlacesLaw) wh
         };
   }
 
-  names : Under AreNames
+-- ---- together
+module _ (pointers : PointersLaw) (begun_law : BegunLaw) (places : PlacesLaw) where
+  names : Under (WhereTame AreNames)
   names = record {
-    after_lines = λ line run r has small size so_far. walked_after Known AreUntaken AllNamed known places.untaken names_walk first_names line run r has small size so_far;
-    between = λ line run r has small size next most told m so_far. walked_between Known AreUntaken AllNamed known places.untaken names_walk first_names line run r has small size next (more_deliveries most) (delivers most) told m so_far;
+    after_lines = λ line run r has small size so_far tame. tame_after Known AreUntaken AllNamed (known pointers begun_law) places.untaken names_walk first_names line run r has small size so_far tame;
+    between = λ line run r has small size next most told m so_far tame. tame_between Known AreUntaken AllNamed (known pointers begun_law) places.untaken names_walk first_names line run r has small size next (more_deliveries most) (delivers most) told m so_far tame;
   }
 
   closes_at : (ms : List Moment) (w : WorldState) → AreFirsts ms w → AreHere ms w → AreNames ms w → AreUntaken ms w → AreBehind ms w → Closes ms w
@@ -83,11 +87,11 @@ module _ (pointers : PointersLaw) (begun_law : BegunLaw) (places : PlacesLaw) wh
 
   pub closes_law : ClosesLaw
   closes_law = record {
-    after_lines = λ line run r has small size so_far.
-        closes_at (history_of line run) (after (beginning run) run.entries).world (first_law.after_lines line run r has small size) (places.here.after_lines line run r has small size)
-        (names.after_lines line run r has small size so_far) (places.untaken.after_lines line run r has small size so_far) (places.behind.after_lines line run r has small size so_far);
-    between = λ line run r has small size next most told m so_far.
+    after_lines = λ line run r has small size so_far tame.
+        closes_at (history_of line run) (after (beginning run) run.entries).world (first_law.after_lines line run r has small size) (places.here.after_lines line run r has small size so_far tame)
+        (names.after_lines line run r has small size so_far tame) (places.untaken.after_lines line run r has small size so_far tame) (places.behind.after_lines line run r has small size so_far tame);
+    between = λ line run r has small size next most told m so_far tame.
         let w = (after_all told (begun (after (beginning run) run.entries))).world in
-        closes_at (map said w.fresh ++ asked next (more_deliveries most) ∷ history_of line run) w (first_law.between line run r has small size next most told m) (places.here.between line run r has small size next most told m)
-        (names.between line run r has small size next most told m so_far) (places.untaken.between line run r has small size next most told m so_far) (places.behind.between line run r has small size next most told m so_far);
+        closes_at (map said w.fresh ++ asked next (more_deliveries most) ∷ history_of line run) w (first_law.between line run r has small size next most told m) (places.here.between line run r has small size next most told m so_far tame)
+        (names.between line run r has small size next most told m so_far tame) (places.untaken.between line run r has small size next most told m so_far tame) (places.behind.between line run r has small size next most told m so_far tame);
   }

@@ -1,5 +1,5 @@
--- From place to place of a run: where each place has what it needs as lists were open as they should be before, they are so at every place; and where they are so in
--- every run, they were so before each place of it.
+-- From place to place of a run in which no initiator injected packets: where each place has what it needs as lists were open as they should be before, they are so at
+-- every place; and where they are so in every such run, they were so before each place of it.
 use Rattle.std.proofs.Common.{arith, ◌≡◌, sym, subst, ℕ, ◌+◌, ◌^◌, ◌<◌, ◌≤◌, List, [], ◌∷◌, ◌++◌, map, length, Option, Some, None}
 use Rattle.rbc_disk.specs.Runs.{Told}
 use Rattle.sbp_journal.specs.declared.event.Event.{Event}
@@ -9,9 +9,10 @@ use Rattle.sbp_journal.specs.Run.{Moment, asked, said}
 use Rattle.sbp_journal.specs.Transactions.{Sending}
 use Rattle.sbp_journal.specs.Wire.{terms}
 use Rattle.sbp_world.specs.Histories.{history_of, moments_behind}
-use Rattle.sbp_world.specs.Lines.{MayHappen}
+use Rattle.sbp_bus.specs.Packets.{end_note}
+use Rattle.sbp_world.specs.Lines.{MayHappen, happens}
 use Rattle.sbp_world.specs.Runs.{AreEntries, Entry, Run, after, beginning}
-use Rattle.sbp_world.specs.Settling.{MayAll, after_all}
+use Rattle.sbp_world.specs.Settling.{MayAll, after_all, delivered_next, is_settled}
 use Rattle.sbp_world.specs.Wire.Lines.{AreLines}
 use Rattle.sbp_world.specs.Worlds.{Scene, WorldState, begun}
 use Rattle.sbp_world.specs.Agents.Management.Terms.{DeliversMore}
@@ -19,16 +20,18 @@ use Rattle.sbp_world.specs.Hosts.Runs.{IsRun, more_deliveries}
 use Rattle.sbp_world.proofs.Hosts.Runs.{count_after, count_between}
 use Rattle.sbp_world.specs.Pointers.Pointers.{PointersAt, PointersLaw}
 use Rattle.sbp_world.specs.Lists.Begun.{BegunLaw}
-use Rattle.sbp_world.specs.Lists.Closes.{ClosingLaw}
+use Rattle.sbp_world.specs.Lists.Closes.{ClosingLaw, OpenListsLaw}
 use Rattle.sbp_world.specs.Lists.EndedLists.{AreEnded}
 use Rattle.sbp_world.specs.Lists.Lasts.{AreLast, LastLaw}
-use Rattle.sbp_world.specs.Lists.Needs.{OpenAfter, OpenBefore, OpenBehind, OpenBetween, OpenIn, OpenLists, OpenListsLaw, OpenWhile}
+use Rattle.sbp_world.specs.Lists.Needs.{OpenAfter, OpenBefore, OpenBehind, OpenBetween, OpenIn, OpenLists, OpenWhile}
 use Rattle.sbp_world.specs.Lists.Places.{AreListed}
 use Rattle.sbp_world.proofs.Lists.Closes.{Closes, ClosesLaw, closes_law}
 use Rattle.sbp_world.proofs.Lists.EndedLists.{ended_lists_law, none_ended}
 use Rattle.sbp_world.proofs.Lists.OpenLasting.{lasts}
 use Rattle.sbp_world.proofs.Lists.OpenWires.{wire_after, wire_between}
-use Rattle.sbp_world.proofs.Lists.Runs.{as_front, lines_same, moments_same}
+use Rattle.sbp_world.proofs.Lists.Runs.{as_front, lines_same, moments_same, next_extends, said_more}
+use Rattle.sbp_world.specs.Lists.OwnLogins.{IsTame}
+use Rattle.sbp_world.proofs.Lists.OwnFifos.{tame_before}
 use Rattle.sbp_world.proofs.Lists.RunSites.{more_by}
 
 -- ---- at a place
@@ -46,14 +49,27 @@ module _ (past : List Moment) (w : WorldState) (c : Closes past w) where
   open_lists : AreListed past w → OpenLists past w
   open_lists l = record { listed = l.listed; one = l.one; points = l.points; behind = c.behind }
 
--- what gives that lists are as they should be at a place, where they were so before
+-- what gives that lists are as they should be at a place, where they were so before and no initiator injected packets
 record Gives : Type 0 where
-  ends : (line : ℕ) (run : Run) → IsRun run → 0 < run.units → run.units ≤ 4 → length run.start.disks ≡ run.units → OpenBefore line run run.entries → OpenAfter line run run.entries
-  meets : (line : ℕ) (run : Run) → IsRun run → 0 < run.units → run.units ≤ 4 → length run.start.disks ≡ run.units → (next : ℕ) (most : Option ℕ) (told : List (Option Told)) → MayAll told (begun (after (beginning run) run.entries)) → OpenBetween line run next (more_deliveries most) told → OpenBehind (asked next (more_deliveries most) ∷ history_of line run) told (begun (after (beginning run) run.entries))
+  ends : (line : ℕ) (run : Run) → IsRun run → 0 < run.units → run.units ≤ 4 → length run.start.disks ≡ run.units → OpenBefore line run run.entries → IsTame (history_of line run) → OpenAfter line run run.entries
+  meets : (line : ℕ) (run : Run) → IsRun run → 0 < run.units → run.units ≤ 4 → length run.start.disks ≡ run.units → (next : ℕ) (most : Option ℕ) (told : List (Option Told)) → MayAll told (begun (after (beginning run) run.entries)) → OpenBetween line run next (more_deliveries most) told → (let s = after_all told (begun (after (beginning run) run.entries)) in let past = asked next (more_deliveries most) ∷ history_of line run in IsTame (map said s.world.fresh ++ past) → OpenBehind past told (begun (after (beginning run) run.entries)))
 
 delivers : (most : Option ℕ) → DeliversMore (more_deliveries most)
 delivers (Some count) = tt
 delivers None = tt
+
+-- ---- no initiator injected packets before, where none did
+module _ (now : List Moment) where
+  abbrev TameAt : Scene → Type 0
+  TameAt s = IsTame (map said s.world.fresh ++ now)
+
+  tame_first : (s : Scene) → TameAt s → IsTame now
+  tame_first s tame = tame_before (map said s.world.fresh) now tame
+
+  tame_less : (one : Option Told) (s : Scene) → TameAt (delivered_next one s) → TameAt s
+  tame_less one s tame =
+      let e = next_extends one s in
+      tame_before (map said e.more) (map said s.world.fresh ++ now) (subst IsTame (said_more s.world.fresh (delivered_next one s).world.fresh now e) tame)
 
 -- ---- over a run
 module _ (gives : Gives) (line : ℕ) (run : Run) (few : run.initiators ≤ 4) (has : 0 < run.units) (small : run.units ≤ 4) (size : length run.start.disks ≡ run.units) where
@@ -70,92 +86,112 @@ module _ (gives : Gives) (line : ℕ) (run : Run) (few : run.initiators ≤ 4) (
     same : history_of line (front entries) ≡ moments_behind line run entries
     same = moments_same line run entries entries
 
-    open_after : OpenAfter line run entries
-    open_after = subst (λ ms. OpenLists ms here.world) same (gives.ends line (front entries) is_run has small size (as_front line run entries entries so_far))
+    open_after : IsTame (moments_behind line run entries) → OpenAfter line run entries
+    open_after tame =
+        subst (λ ms. OpenLists ms here.world) same (gives.ends line (front entries) is_run has small size (as_front line run entries entries so_far) (subst IsTame (sym same) tame))
 
     -- between deliveries of a line that follows
     module _ (next : ℕ) (most : Option ℕ) where
       abbrev now : List Moment
       now = asked next (more_deliveries most) ∷ moments_behind line run entries
 
-      open_there : (told : List (Option Told)) → MayAll told (begun here) → OpenWhile now told (begun here) → OpenBehind now told (begun here)
-      open_there told m before =
+      open_there : (told : List (Option Told)) → MayAll told (begun here) → TameAt now (after_all told (begun here)) → OpenWhile now told (begun here) → OpenBehind now told (begun here)
+      open_there told m tame before =
           let w = (after_all told (begun here)).world in
           subst (λ ms. OpenLists (map said w.fresh ++ asked next (more_deliveries most) ∷ ms) w) same
-          (gives.meets line (front entries) is_run has small size next most told m (record {
+          (gives.meets line (front entries) is_run has small size next most told m
+          (record {
             before = as_front line run entries entries so_far;
-            begins = subst (λ ms. OpenLists ms here.world) (sym same) open_after;
+            begins =
+                subst (λ ms. OpenLists ms here.world) (sym same)
+                (open_after (tame_before (asked next (more_deliveries most) ∷ []) (moments_behind line run entries) (tame_first now (after_all told (begun here)) tame)));
             goes = subst (λ ms. OpenWhile (asked next (more_deliveries most) ∷ ms) told (begun here)) (sym same) before;
-          }))
+          })
+          (subst (λ ms. IsTame (map said w.fresh ++ asked next (more_deliveries most) ∷ ms)) (sym same) tame))
 
-      open_while : (told : List (Option Told)) → MayAll told (begun here) → OpenWhile now told (begun here)
-      open_while [] m = tt
-      open_while (one ∷ told) m = let before = open_while told m.1 in (open_there told m.1 before, before)
+      open_while : (told : List (Option Told)) → MayAll told (begun here) → TameAt now (after_all told (begun here)) → OpenWhile now told (begun here)
+      open_while [] m tame = tt
+      open_while (one ∷ told) m tame =
+          let less = tame_less now one (after_all told (begun here)) tame in let before = open_while told m.1 less in (open_there told m.1 less before, before)
 
-      open_behind : (told : List (Option Told)) → MayAll told (begun here) → OpenBehind now told (begun here)
-      open_behind told m = open_there told m (open_while told m)
+      open_behind : (told : List (Option Told)) → MayAll told (begun here) → TameAt now (after_all told (begun here)) → OpenBehind now told (begun here)
+      open_behind told m tame = open_there told m tame (open_while told m tame)
 
     -- in a line that follows
-    open_in : (next : ℕ) (event : Event) (told : List (Option Told)) → MayHappen event told here → OpenIn event (asked next event ∷ moments_behind line run entries) told (begun here)
-    unfolding MayHappen
-    open_in next (events.Begin initiators is_ready) told m = tt
-    open_in next (events.Act initiator action) told m = tt
-    open_in next (events.Reset physical) told m = tt
-    open_in next (events.See node) told m = tt
-    open_in next (events.Deliver serial) told m = tt
-    open_in next (events.Repeat serial) told m = tt
-    open_in next (events.Lose serial) told m = tt
-    open_in next (events.Timeout serial) told m = tt
-    open_in next (events.Step count) told m = open_while next (Some count) told m.may
-    open_in next events.Settle told m = (open_behind next None told m.may, open_while next None told m.may)
-    open_in next events.Tick told m = tt
-    open_in next (events.Inject initiator bytes) told m = tt
-    open_in next (events.Key unit key) told m = tt
+    open_in : (next : ℕ) (event : Event) (told : List (Option Told)) → MayHappen event told here → TameAt (asked next event ∷ moments_behind line run entries) (happens next event told here) → OpenIn event (asked next event ∷ moments_behind line run entries) told (begun here)
+    unfolding MayHappen happens
+    open_in next (events.Begin initiators is_ready) told m tame = tt
+    open_in next (events.Act initiator action) told m tame = tt
+    open_in next (events.Reset physical) told m tame = tt
+    open_in next (events.See node) told m tame = tt
+    open_in next (events.Deliver serial) told m tame = tt
+    open_in next (events.Repeat serial) told m tame = tt
+    open_in next (events.Lose serial) told m tame = tt
+    open_in next (events.Timeout serial) told m tame = tt
+    open_in next (events.Step count) told m tame = open_while next (Some count) told m.may tame
+    open_in next events.Settle told m tame =
+        let s = after_all told (begun here) in
+        let now = asked next events.Settle ∷ moments_behind line run entries in
+        let before = tame_before (said (end_note (is_settled s.world)) ∷ []) (map said s.world.fresh ++ now) tame in
+        (open_behind next None told m.may before, open_while next None told m.may before)
+    open_in next events.Tick told m tame = tt
+    open_in next (events.Inject initiator bytes) told m tame = tt
+    open_in next (events.Key unit key) told m tame = tt
 
-  open_before : (entries : List Entry) → length entries + 2 < 2 ^ 32 → AreEntries (beginning run) entries → AreLines run entries → OpenBefore line run entries
-  open_before [] short all fit = tt
-  open_before (e ∷ before) short all fit =
+  open_before : (entries : List Entry) → length entries + 2 < 2 ^ 32 → AreEntries (beginning run) entries → AreLines run entries → IsTame (moments_behind line run entries) → OpenBefore line run entries
+  open_before [] short all fit tame = tt
+  open_before (e ∷ before) short all fit tame =
       let few_lines : length before + 2 < 2 ^ 32 = omega arith in
-      let so_far = open_before before few_lines all.1 fit.1 in (
-        record { begins = open_after before few_lines all.1 fit.1 so_far; goes = open_in before few_lines all.1 fit.1 so_far e.line e.event e.told all.0.may },
+      let now = asked e.line e.event ∷ moments_behind line run before in
+      let s = happens e.line e.event e.told (after (beginning run) before) in
+      let there : TameAt now s = subst (λ ns. IsTame (map said ns ++ now)) all.0.notes_are tame in
+      let behind = tame_before (asked e.line e.event ∷ []) (moments_behind line run before) (tame_first now s there) in
+      let so_far = open_before before few_lines all.1 fit.1 behind in (
+        record { begins = open_after before few_lines all.1 fit.1 so_far behind; goes = open_in before few_lines all.1 fit.1 so_far e.line e.event e.told all.0.may there },
         so_far,
       )
 
--- ---- so it is in every run
+-- ---- so it is in every run in which no initiator injected packets
 module _ (gives : Gives) (line : ℕ) (run : Run) (r : IsRun run) (has : 0 < run.units) (small : run.units ≤ 4) (size : length run.start.disks ≡ run.units) where
-  all_before : OpenBefore line run run.entries
-  all_before = open_before gives line run r.few has small size run.entries r.short r.entries r.lines
+  all_before : IsTame (history_of line run) → OpenBefore line run run.entries
+  all_before tame = open_before gives line run r.few has small size run.entries r.short r.entries r.lines tame
 
-  all_after : OpenAfter line run run.entries
-  all_after = open_after gives line run r.few has small size run.entries r.short r.entries r.lines all_before
+  all_after : IsTame (history_of line run) → OpenAfter line run run.entries
+  all_after tame = open_after gives line run r.few has small size run.entries r.short r.entries r.lines (all_before tame) tame
 
-  module _ (next : ℕ) (event : Event) (d : DeliversMore event) (told : List (Option Told)) (m : MayAll told (begun (after (beginning run) run.entries))) where
+  module _ (next : ℕ) (event : Event) (d : DeliversMore event) (told : List (Option Told)) (m : MayAll told (begun (after (beginning run) run.entries))) (tame : TameAt (asked next event ∷ history_of line run) (after_all told (begun (after (beginning run) run.entries)))) where
+    tame_lines : IsTame (history_of line run)
+    tame_lines =
+        tame_before (asked next event ∷ []) (history_of line run) (tame_first (asked next event ∷ history_of line run) (after_all told (begun (after (beginning run) run.entries))) tame)
+
     all_behind : OpenBehind (asked next event ∷ history_of line run) told (begun (after (beginning run) run.entries))
     all_behind =
-        more_by (λ x. OpenBehind (asked next x ∷ history_of line run) told (begun (after (beginning run) run.entries)))
-        (λ o. open_behind gives line run r.few has small size run.entries r.short r.entries r.lines all_before next o told m) event d
+        more_by
+        (λ x. TameAt (asked next x ∷ history_of line run) (after_all told (begun (after (beginning run) run.entries))) → OpenBehind (asked next x ∷ history_of line run) told (begun (after (beginning run) run.entries)))
+        (λ o t. open_behind gives line run r.few has small size run.entries r.short r.entries r.lines (all_before tame_lines) next o told m t) event d tame
 
     all_while : OpenWhile (asked next event ∷ history_of line run) told (begun (after (beginning run) run.entries))
     all_while =
-        more_by (λ x. OpenWhile (asked next x ∷ history_of line run) told (begun (after (beginning run) run.entries)))
-        (λ o. open_while gives line run r.few has small size run.entries r.short r.entries r.lines all_before next o told m) event d
+        more_by
+        (λ x. TameAt (asked next x ∷ history_of line run) (after_all told (begun (after (beginning run) run.entries))) → OpenWhile (asked next x ∷ history_of line run) told (begun (after (beginning run) run.entries)))
+        (λ o t. open_while gives line run r.few has small size run.entries r.short r.entries r.lines (all_before tame_lines) next o told m t) event d tame
 
 -- by what each place needs
 by_places : LastLaw → PointersLaw → ClosesLaw → Gives
 by_places last pointers closes = record {
-  ends = λ line run r has small size so_far.
+  ends = λ line run r has small size so_far tame.
       let past = history_of line run in
       let w = (after (beginning run) run.entries).world in
-      let c = closes.after_lines line run r has small size so_far in
+      let c = closes.after_lines line run r has small size so_far tame in
       open_lists past w c (last.after_lines line run r has small size (are_last past w c
       (λ i b. pointers.after_lines line run r i (subst (λ n. i < n) (count_after run run.entries) b))
       (lasts past (wire_after line run r has small size).serials)
       (ended_lists_law.after_lines line run r has small size so_far)));
-  meets = λ line run r has small size next most told m so_far.
+  meets = λ line run r has small size next most told m so_far tame.
       let s = after (beginning run) run.entries in
       let w = (after_all told (begun s)).world in
       let past = map said w.fresh ++ asked next (more_deliveries most) ∷ history_of line run in
-      let c = closes.between line run r has small size next most told m so_far in
+      let c = closes.between line run r has small size next most told m so_far tame in
       open_lists past w c (last.between line run r has small size next most told m (are_last past w c
       (λ i b. pointers.between line run r next most told m i (subst (λ n. i < n) (count_after run run.entries) (subst (λ n. i < n) (count_between told s) b)))
       (lasts past (wire_between line run r has small size next (more_deliveries most) (delivers most) told m).serials)
@@ -165,20 +201,22 @@ by_places last pointers closes = record {
 -- where they are so anyhow
 by_all : OpenListsLaw → Gives
 by_all lists = record {
-  ends = λ line run r has small size so_far. lists.after_lines line run r has small size;
-  meets = λ line run r has small size next most told m so_far. lists.between line run r has small size next (more_deliveries most) (delivers most) told m;
+  ends = λ line run r has small size so_far tame. lists.after_lines line run r has small size tame;
+  meets = λ line run r has small size next most told m so_far tame. lists.between line run r has small size next (more_deliveries most) (delivers most) told m tame;
 }
 
 pub closing_law : LastLaw → PointersLaw → BegunLaw → ClosingLaw
 closing_law last pointers begun_law = record {
   closes = λ places. record {
-    after_lines = λ line run r has small size. all_after (by_places last pointers (closes_law pointers begun_law places)) line run r has small size;
-    between = λ line run r has small size next event d told m. all_behind (by_places last pointers (closes_law pointers begun_law places)) line run r has small size next event d told m;
+    after_lines = λ line run r has small size tame. all_after (by_places last pointers (closes_law pointers begun_law places)) line run r has small size tame;
+    between = λ line run r has small size next event d told m tame. all_behind (by_places last pointers (closes_law pointers begun_law places)) line run r has small size next event d told m tame;
   };
-  before = λ lists line run r has small size. all_before (by_all lists) line run r has small size;
-  between = λ lists line run r has small size next event d told m. record {
-    before = all_before (by_all lists) line run r has small size;
-    begins = all_after (by_all lists) line run r has small size;
-    goes = all_while (by_all lists) line run r has small size next event d told m;
-  };
+  before = λ lists line run r has small size tame. all_before (by_all lists) line run r has small size tame;
+  between = λ lists line run r has small size next event d told m tame.
+      let past = tame_lines (by_all lists) line run r has small size next event d told m tame in
+      record {
+        before = all_before (by_all lists) line run r has small size past;
+        begins = all_after (by_all lists) line run r has small size past;
+        goes = all_while (by_all lists) line run r has small size next event d told m tame;
+      };
 }

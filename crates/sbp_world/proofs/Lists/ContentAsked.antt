@@ -28,7 +28,7 @@ written true fifo out body e =
     ap access_for (sym is)
 written false fifo out body e = absurd (none_some body e)
 
-content : (phase : Phase) (op : Operation) (ask : Ask) (out : List ℕ) (body : Body) → AskOf phase op ask out → manager_body ask out ≡ Some body → AccessOf phase op (access_for body)
+pub content : (phase : Phase) (op : Operation) (ask : Ask) (out : List ℕ) (body : Body) → AskOf phase op ask out → manager_body ask out ≡ Some body → AccessOf phase op (access_for body)
 content phases.Orb op ask out body a e =
     let f : Some (block_read op.orb 32) ≡ Some body = sym (ap (λ x. manager_body x out) a) ∙ e in
     let is : block_read op.orb 32 ≡ body = cc in

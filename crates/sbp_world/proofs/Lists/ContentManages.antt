@@ -5,7 +5,7 @@ use Rattle.std.specs.Prelude.{is_none, position, unwrap_or}
 use Rattle.std.proofs.lemmas.Bool.Decides.{nat_tests}
 use Rattle.bus_transactions.specs.Packets.{SerialsCount}
 use Rattle.mgmt_agent.specs.declared.operation.Operation.{Operation}
-use Rattle.mgmt_agent.specs.Machine.{start_step, start_with}
+use Rattle.mgmt_agent.specs.Machine.{Machine, start_step, start_with}
 use Rattle.orb_layout.specs.declared.ask.Ask.{Ask}
 use Rattle.orb_layout.specs.declared.ask.Ask.TheVariants as asks
 use Rattle.orb_layout.specs.declared.ask.Ask.TheVariants.{Nothing}
@@ -44,9 +44,12 @@ same_serial m n e = cc
 
 -- ---- what a moment does to the operation and its request
 data Moves (before now : Office) (m : Moment) : Type 0 where
-  keeps : now.manager.operation ≡ before.manager.operation → now.manages ≡ before.manages → Moves before now m
+  keeps : now.manager ≡ before.manager → now.decided ≡ before.decided → now.manages ≡ before.manages → Moves before now m
   drops : now.manages ≡ None → Moves before now m
-  puts : (serial generation to : ℕ) (bytes : List ℕ) → m ≡ said (notes.Sent serial generation zero to bytes) → now.manager.operation ≡ before.manager.operation → now.manages ≡ Some serial → is_nothing now.asks ≡ true → is_nothing before.asks ≡ false → Moves before now m
+  puts : (serial generation to : ℕ) (bytes : List ℕ) → m ≡ said (notes.Sent serial generation zero to bytes) → now.manager ≡ before.manager → now.decided ≡ before.decided → now.manages ≡ Some serial → is_nothing now.asks ≡ true → is_nothing before.asks ≡ false → Moves before now m
+
+op_is : {x y : Machine} → x ≡ y → x.operation ≡ y.operation
+op_is e = ap (λ (m : Machine). m.operation) e
 
 -- no request is that of no operation
 abbrev pub Bare : Office → Type 0
@@ -65,26 +68,26 @@ module _ (before : Office) (m : Moment) where
 
 -- ---- notes behind the first of a turn
 placed_moves : (place : Option ℕ) (decided : Option Decided) (id : ℕ) (o : Office) (m : Moment) → Moves o (placed place decided id o) m
-placed_moves None decided id o m = keeps refl refl
-placed_moves (Some place) None id o m = keeps refl refl
-placed_moves (Some place) (Some decided) id o m = keeps refl refl
+placed_moves None decided id o m = keeps refl refl refl
+placed_moves (Some place) None id o m = keeps refl refl refl
+placed_moves (Some place) (Some decided) id o m = keeps refl refl refl
 
 entered_moves : (login : Option ℕ) (o : Office) (m : Moment) → Moves o (placed_by login o) m
-entered_moves None o m = keeps refl refl
+entered_moves None o m = keeps refl refl refl
 entered_moves (Some id) o m = placed_moves (position is_none o.table.places) o.decided id o m
 
 managed_moves : (word : FunctionWord) (login : Option ℕ) (o : Office) (m : Moment) → Moves o (by_managed word login o) m
 managed_moves functions.Login login o m = entered_moves login o m
-managed_moves _ login o m = keeps refl refl
+managed_moves _ login o m = keeps refl refl refl
 
 by_moves : (note : Note) (o : Office) (m : Moment) → Moves o (by_note note o) m
 by_moves (notes.ManageFailed i cause) o m = drops refl
 by_moves (notes.Managed i word subject status login) o m = managed_moves word login o m
-by_moves (notes.Held id) o m = keeps refl refl
-by_moves (notes.Back id) o m = keeps refl refl
-by_moves (notes.Left id) o m = keeps refl refl
-by_moves (notes.Expired id) o m = keeps refl refl
-by_moves _ o m = keeps refl refl
+by_moves (notes.Held id) o m = keeps refl refl refl
+by_moves (notes.Back id) o m = keeps refl refl refl
+by_moves (notes.Left id) o m = keeps refl refl refl
+by_moves (notes.Expired id) o m = keeps refl refl refl
+by_moves _ o m = keeps refl refl refl
 
 behind_moves : (note : Note) (past : List Moment) (wire : Terms) (t : Target) → IsBehind note → Moves (office_of t) (office_of (target_by note past wire t)) (said note)
 behind_moves note past wire t h = by_office (office_of t) (said note) (office_of (target_by note past wire t)) (by_note note (office_of t)) (note_changes note past wire t h) (by_moves note (office_of t) (said note))
@@ -95,7 +98,7 @@ module _ (t : Target) (m : Moment) where
   From now = Moves (office_of t) now m
 
   rest_moves : From (office_of (over t))
-  rest_moves = by_office (office_of t) m (office_of (over t)) (at_rest (office_of t)) (over_keeps t) (keeps refl refl)
+  rest_moves = by_office (office_of t) m (office_of (over t)) (at_rest (office_of t)) (over_keeps t) (keeps refl refl refl)
 
   replied_moves : (serial : ℕ) (answer : Answer) → From (office_of (laws_replied serial answer (over t)))
   replied_moves serial answer = by (is_serial (over t).manages serial) refl
@@ -110,7 +113,7 @@ module _ (t : Target) (m : Moment) where
 
     started_by_it : (operation : Option Operation) → t.manager.operation ≡ operation → (source orb : ℕ) → From (started_by (start_with operation t.manager source orb) rested)
     started_by_it None e source orb = drops (bare e)
-    started_by_it (Some own) e source orb = keeps refl refl
+    started_by_it (Some own) e source orb = keeps refl refl refl
 
     started_moves : (source orb : ℕ) → From (started source orb rested)
     unfolding start_step
@@ -118,13 +121,13 @@ module _ (t : Target) (m : Moment) where
 
     start_moves : (start : Start) (source : ℕ) (access : Access) → From (start_office start source access rested)
     start_moves management_agent source access = started_moves source (offset_at access.payload 0)
-    start_moves (register place name) source access = keeps refl refl
-    start_moves rom_start source access = keeps refl refl
-    start_moves no_start source access = keeps refl refl
+    start_moves (register place name) source access = keeps refl refl refl
+    start_moves rom_start source access = keeps refl refl refl
+    start_moves no_start source access = keeps refl refl refl
 
     served_moves : (b : Bool) (start : Start) (source : ℕ) (access : Access) → From (served_office b start source access rested)
     served_moves true start source access = start_moves start source access
-    served_moves false start source access = keeps refl refl
+    served_moves false start source access = keeps refl refl refl
 
     request_moves : (access : Option Access) (source : ℕ) → From (office_of (request_got access source (over t)))
     request_moves None source = rest_moves
@@ -144,20 +147,20 @@ module _ (t : Target) (m : Moment) where
   seen_moves false = rest_moves
 
   key_moves : (event : Option Event) (unit : ℕ) → From (office_of (key_by event unit t))
-  key_moves None unit = keeps refl refl
-  key_moves (Some (events.Key other key)) unit = keeps refl refl
-  key_moves (Some (events.Begin a b)) unit = keeps refl refl
-  key_moves (Some (events.Act a b)) unit = keeps refl refl
-  key_moves (Some (events.Reset a)) unit = keeps refl refl
-  key_moves (Some (events.See a)) unit = keeps refl refl
-  key_moves (Some (events.Deliver a)) unit = keeps refl refl
-  key_moves (Some (events.Repeat a)) unit = keeps refl refl
-  key_moves (Some (events.Lose a)) unit = keeps refl refl
-  key_moves (Some (events.Timeout a)) unit = keeps refl refl
-  key_moves (Some (events.Step a)) unit = keeps refl refl
-  key_moves (Some events.Settle) unit = keeps refl refl
-  key_moves (Some events.Tick) unit = keeps refl refl
-  key_moves (Some (events.Inject a b)) unit = keeps refl refl
+  key_moves None unit = keeps refl refl refl
+  key_moves (Some (events.Key other key)) unit = keeps refl refl refl
+  key_moves (Some (events.Begin a b)) unit = keeps refl refl refl
+  key_moves (Some (events.Act a b)) unit = keeps refl refl refl
+  key_moves (Some (events.Reset a)) unit = keeps refl refl refl
+  key_moves (Some (events.See a)) unit = keeps refl refl refl
+  key_moves (Some (events.Deliver a)) unit = keeps refl refl refl
+  key_moves (Some (events.Repeat a)) unit = keeps refl refl refl
+  key_moves (Some (events.Lose a)) unit = keeps refl refl refl
+  key_moves (Some (events.Timeout a)) unit = keeps refl refl refl
+  key_moves (Some (events.Step a)) unit = keeps refl refl refl
+  key_moves (Some events.Settle) unit = keeps refl refl refl
+  key_moves (Some events.Tick) unit = keeps refl refl refl
+  key_moves (Some (events.Inject a b)) unit = keeps refl refl refl
 
 -- ---- a packet
 wants_some : (ask : Ask) (is_write : Bool) → wants ask is_write ≡ true → is_nothing ask ≡ false
@@ -170,11 +173,11 @@ module _ (serial generation from to : ℕ) (bytes : List ℕ) (o : Office) where
   Puts now = Moves o now (said (notes.Sent serial generation from to bytes))
 
   settled_puts : (t : Target) → office_of t ≡ o → Puts (office_of t)
-  settled_puts t e = keeps (ap (λ (x : Office). x.manager.operation) e) (ap (λ (x : Office). x.manages) e)
+  settled_puts t e = keeps (ap (λ (x : Office). x.manager) e) (ap (λ (x : Office). x.decided) e) (ap (λ (x : Office). x.manages) e)
 
   module _ (zero_from : from ≡ 0) where
     wanted : (t : Target) → office_of t ≡ o → (is_write : Bool) → (b : Bool) → wants t.manager_asks is_write ≡ b → Puts (office_of (cond b (record t { manages = Some serial; manager_asks = Nothing }) (record t { pushes = serial ∷ t.pushes })))
-    wanted t e is_write true f = puts serial generation to bytes (ap (λ x. said (notes.Sent serial generation x to bytes)) zero_from) (ap (λ (x : Office). x.manager.operation) e) refl refl (ap (λ (x : Office). is_nothing x.asks) (sym e) ∙ wants_some t.manager_asks is_write f)
+    wanted t e is_write true f = puts serial generation to bytes (ap (λ x. said (notes.Sent serial generation x to bytes)) zero_from) (ap (λ (x : Office). x.manager) e) (ap (λ (x : Office). x.decided) e) refl refl (ap (λ (x : Office). is_nothing x.asks) (sym e) ∙ wants_some t.manager_asks is_write f)
     wanted t e is_write false f = settled_puts t e
 
     for_puts : (place : Option ℕ) (is_write : Bool) (t : Target) → office_of t ≡ o → Puts (office_of (sent_for place is_write serial t))
@@ -191,7 +194,7 @@ module _ (serial generation from to : ℕ) (bytes : List ℕ) (o : Office) where
   sent_puts part is_write t e false f = settled_puts t e
 
 note_moves : (note : Note) (past : List Moment) (wire : Terms) (t : Target) → Bare (office_of t) → Moves (office_of t) (office_of (target_by note past wire t)) (said note)
-note_moves (notes.Begin initiators ready) past wire t b = keeps refl refl
+note_moves (notes.Begin initiators ready) past wire t b = keeps refl refl refl
 note_moves (notes.Got serial) past wire t b =
     let m = said (notes.Got serial) in
     pick_moves (office_of t) m (is_serial (receiver_in (wire.sent serial)) 0) (got_by (answered_at wire serial) wire serial (over t)) (over t) (got_moves t m b (answered_at wire serial) wire serial) (rest_moves t m)
@@ -203,7 +206,7 @@ note_moves (notes.Seen node generation) past wire t b =
     let m = said (notes.Seen node generation) in
     let seen = not (generation == wire.generation 0) in
     pick_moves (office_of t) m (node == 0) (reset_seen seen (over t)) (over t) (seen_moves t m seen) (rest_moves t m)
-note_moves notes.Tick past wire t b = by_office (office_of t) (said notes.Tick) (office_of (target_by notes.Tick past wire t)) (ticked (at_rest (office_of t))) (ap ticked (over_keeps t)) (keeps refl refl)
+note_moves notes.Tick past wire t b = by_office (office_of t) (said notes.Tick) (office_of (target_by notes.Tick past wire t)) (ticked (at_rest (office_of t))) (ap ticked (over_keeps t)) (keeps refl refl refl)
 note_moves (notes.Key unit) past wire t b = key_moves t (said (notes.Key unit)) (event_of past) unit
 note_moves (notes.Sent serial generation from to bytes) past wire t b =
     sent_puts serial generation from to bytes (office_of t) (part_of bytes) (is_write_access (access_in_bytes bytes)) (taken_on None t.reply t) (taken_keeps None t.reply t) (from == 0) refl
@@ -254,31 +257,31 @@ module _ (start : List Disk) where
   moment_moves (said note) past b = note_moves note past (known_at start past).wire (target_at start past) b
 
   -- a packet sent before stands for the same
-  kept_for : (m : Moment) (past : List Moment) → SerialsCount (m ∷ past) → (r : ℕ) → r ≤ (terms past).count → managed_for start (m ∷ past) r ≡ managed_for start past r
+  pub kept_for : (m : Moment) (past : List Moment) → SerialsCount (m ∷ past) → (r : ℕ) → r ≤ (terms past).count → managed_for start (m ∷ past) r ≡ managed_for start past r
   kept_for (said (notes.Sent serial generation zero to bytes)) past c r l =
       let other : nat_eq r serial ≡ false = (let s = c.0 in grind (arith, nat_tests)) in
       ap (λ b. cond b (operation_if (is_its_packet (target_at start past) (target_at start (said (notes.Sent serial generation zero to bytes) ∷ past)) serial) (target_at start past).manager.operation) (managed_for start past r)) other
   kept_for m past c r l = refl
 
   bare_now : (m : Moment) (past : List Moment) → Bare (office_of (target_at start past)) → Moves (office_of (target_at start past)) (office_of (target_at start (m ∷ past))) m → Bare (office_of (target_at start (m ∷ past)))
-  bare_now m past b (keeps operation manages) e = manages ∙ b (sym operation ∙ e)
+  bare_now m past b (keeps manager decided manages) e = manages ∙ b (sym (op_is manager) ∙ e)
   bare_now m past b (drops none) e = none
-  bare_now m past b (puts serial generation to bytes at operation manages asks some) e = untrue (sym some ∙ ap is_nothing ((sits start past).1 (sym operation ∙ e)))
+  bare_now m past b (puts serial generation to bytes at manager decided manages asks some) e = untrue (sym some ∙ ap is_nothing ((sits start past).1 (sym (op_is manager) ∙ e)))
 
   own_now : (m : Moment) (past : List Moment) → SerialsCount (m ∷ past) → Bound start past → Moves (office_of (target_at start past)) (office_of (target_at start (m ∷ past))) m → (r : ℕ) → (target_at start (m ∷ past)).manages ≡ Some r → (managed_for start (m ∷ past) r ≡ (target_at start (m ∷ past)).manager.operation) × (r ≤ (terms (m ∷ past)).count)
-  own_now m past c b (keeps operation manages) r e =
+  own_now m past c b (keeps manager decided manages) r e =
       let was = b.own r (sym manages ∙ e) in
       let l = was.1 in
       let k = (remains (m ∷ []) past c).count in
-      (kept_for m past c r l ∙ (was.0 ∙ sym operation), omega (arith, l, k))
+      (kept_for m past c r l ∙ (was.0 ∙ sym (op_is manager)), omega (arith, l, k))
   own_now m past c b (drops none) r e = absurd (none_some r (sym none ∙ e))
-  own_now m past c b (puts serial generation to bytes at operation manages asks some) r e =
+  own_now m past c b (puts serial generation to bytes at manager decided manages asks some) r e =
       let same : serial ≡ r = same_serial serial r (sym manages ∙ e) in
       let sent = said (notes.Sent serial generation zero to bytes) in
       let counts : SerialsCount (sent ∷ past) = subst (λ x. SerialsCount (x ∷ past)) at c in
       let is : serial ≡ (terms past).count + 1 = counts.0 in
       let counted : (terms (m ∷ past)).count ≡ (terms past).count + 1 = ap (λ x. (terms (x ∷ past)).count) at ∙ count_now past serial generation zero to bytes in (
-        ap (λ x. managed_for start (x ∷ past) r) at ∙ (put past serial generation to bytes r same (ap (λ x. is_nothing (target_at start (x ∷ past)).manager_asks) (sym at) ∙ asks) (ap (λ x. (target_at start (x ∷ past)).manages) (sym at) ∙ manages) some ∙ sym operation),
+        ap (λ x. managed_for start (x ∷ past) r) at ∙ (put past serial generation to bytes r same (ap (λ x. is_nothing (target_at start (x ∷ past)).manager_asks) (sym at) ∙ asks) (ap (λ x. (target_at start (x ∷ past)).manages) (sym at) ∙ manages) some ∙ sym (op_is manager)),
         omega (arith, same, is, counted),
       )
     where
@@ -302,18 +305,20 @@ bound start (m ∷ past) c =
 pub record IsSoBefore (start : List Disk) (before past : List Moment) (r : ℕ) : Type 0 where
   pub manages : (target_at start before).manages ≡ Some r
   pub operation : (target_at start before).manager.operation ≡ (target_at start past).manager.operation
+  pub manager : (target_at start before).manager ≡ (target_at start past).manager
+  pub decided : (target_at start before).decided ≡ (target_at start past).decided
 
 one_back : (start : List Disk) (m : Moment) (past : List Moment) (r : ℕ) → SerialsCount (m ∷ past) → r ≤ (terms past).count → Moves (office_of (target_at start past)) (office_of (target_at start (m ∷ past))) m → (target_at start (m ∷ past)).manages ≡ Some r → IsSoBefore start past (m ∷ past) r
-one_back start m past r c l (keeps operation manages) e = record { manages = sym manages ∙ e; operation = sym operation }
+one_back start m past r c l (keeps manager decided manages) e = record { manages = sym manages ∙ e; operation = sym (op_is manager); manager = sym manager; decided = sym decided }
 one_back start m past r c l (drops none) e = absurd (none_some r (sym none ∙ e))
-one_back start m past r c l (puts serial generation to bytes at operation manages asks some) e =
+one_back start m past r c l (puts serial generation to bytes at manager decided manages asks some) e =
     let same : serial ≡ r = same_serial serial r (sym manages ∙ e) in
     let counts : SerialsCount (said (notes.Sent serial generation zero to bytes) ∷ past) = subst (λ x. SerialsCount (x ∷ past)) at c in
     let is : serial ≡ (terms past).count + 1 = counts.0 in
     absurd (omega (arith, same, is, l))
 
 pub so_before : (start : List Disk) (later before : List Moment) (r : ℕ) → SerialsCount (later ++ before) → r ≤ (terms before).count → (target_at start (later ++ before)).manages ≡ Some r → IsSoBefore start before (later ++ before) r
-so_before start [] before r c l e = record { manages = e; operation = refl }
+so_before start [] before r c l e = record { manages = e; operation = refl; manager = refl; decided = refl }
 so_before start (m ∷ later) before r c l e =
     let past = later ++ before in
     let serials = serials_behind m past c in
@@ -321,4 +326,17 @@ so_before start (m ∷ later) before r c l e =
     let b = bound start past serials in
     let one = one_back start m past r c (omega (arith, k, l)) (moment_moves start m past b.bare) e in
     let more = so_before start later before r serials l one.manages in
-    record { manages = more.manages; operation = more.operation ∙ one.operation }
+    record { manages = more.manages; operation = more.operation ∙ one.operation; manager = more.manager ∙ one.manager; decided = more.decided ∙ one.decided }
+
+-- as it was sent, where the management waits for it behind that
+abbrev pub SameDecided : Target → Target → Type 0
+SameDecided t u = (t.manager ≡ u.manager) × (t.decided ≡ u.decided)
+
+decided_back : (m : Moment) (t u : Target) (r : ℕ) → u.manages ≡ Some r → Moves (office_of t) (office_of u) m → SameDecided t u
+decided_back m t u r e (keeps manager decided manages) = (sym manager, sym decided)
+decided_back m t u r e (drops none) = absurd (none_some r (sym none ∙ e))
+decided_back m t u r e (puts serial other node content at manager decided manages asks some) = (sym manager, sym decided)
+
+pub sent_back : (start : List Disk) (m : Moment) (past : List Moment) (r : ℕ) → SerialsCount (m ∷ past) → (target_at start (m ∷ past)).manages ≡ Some r → SameDecided (target_at start past) (target_at start (m ∷ past))
+sent_back start m past r c e =
+    decided_back m (target_at start past) (target_at start (m ∷ past)) r e (moment_moves start m past (bound start past (serials_behind m past c)).bare)

@@ -171,7 +171,7 @@ module _ (start : List Disk) (past : List Moment) where
 -- ---- a turn of the operation
 
 -- what a body asks for, as its packet is read
-body_access : (n node peer : ℕ) (body : Body) → access_of (relabelled n (plain node peer body)) ≡ Some (access_for body)
+pub body_access : (n node peer : ℕ) (body : Body) → access_of (relabelled n (plain node peer body)) ≡ Some (access_for body)
 body_access n node peer (quadlet_write offset value) = refl
 body_access n node peer (block_write offset payload) = refl
 body_access n node peer (quadlet_read offset) = refl

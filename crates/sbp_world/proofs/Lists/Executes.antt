@@ -42,27 +42,33 @@ use Rattle.sbp_world.specs.Hosts.Orbs.{HoldsOrbs}
 use Rattle.sbp_world.specs.Hosts.Runs.{IsRun, more_deliveries}
 use Rattle.sbp_world.proofs.Hosts.Orbs.{orbs_law}
 use Rattle.sbp_world.proofs.Hosts.Runs.{count_after, count_between}
+use Rattle.sbp_world.specs.Lists.CarriedRuns.{ReadAt, RunsAreRead, RunsReadLaw}
 use Rattle.sbp_world.specs.Lists.Execution.{ExecutionRunLaw, LoginAt, LoginsLaw, LoginsRunLaw, OutcomeAt, OutcomesLaw, OutcomesRunLaw}
 use Rattle.sbp_world.specs.Lists.Needs.{IsCalm, IsNamed, OpenAfter, OpenBefore, OpenBetween, OpenIn, OpenLists, OpenWhile}
 use Rattle.sbp_world.specs.Lists.Opens.{OpensLaw}
+use Rattle.sbp_world.specs.Lists.OrbReads.{AskedAsGot}
 use Rattle.sbp_world.specs.Lists.Running.{ListsAt, ListsLaw, RunsAt, RunsLaw}
 use Rattle.sbp_world.proofs.Lists.Calm.{asked_calm, calm_before}
 use Rattle.sbp_world.proofs.Lists.OpenProved.{opens_law}
+use Rattle.sbp_world.proofs.Lists.OrbLines.{line_reads}
+use Rattle.sbp_world.proofs.Lists.OrbPlaces.{HasReads, has_reads}
+use Rattle.sbp_world.proofs.Lists.OrbWaits.{asked_everywhere}
 use Rattle.sbp_world.proofs.Lists.Passes.{Facts, ready}
 use Rattle.sbp_world.proofs.Lists.Passing.{PassLaw}
 use Rattle.sbp_world.proofs.Lists.RunFits.{stands_asked}
 use Rattle.sbp_world.proofs.Lists.Runless.{AllPlain, Delivers, IsPlain, IsRunBy, OneRan, Plainly, acts, delivery_comes, injects, keys, late, loses, no_run, one_comes, one_run, resets, sights, ticks}
 use Rattle.sbp_world.proofs.Lists.OnceLaws.{lists_run_law, runs_run_law}
 use Rattle.sbp_world.proofs.Lists.RunOutcomes.{AreAsked, IsSet, run_so}
+use Rattle.sbp_world.proofs.Lists.RunReads.{read_so}
 use Rattle.sbp_world.proofs.Lists.RunSites.{more_by}
-use Rattle.sbp_world.proofs.Lists.Runs.{At, EarlyAfter, KeptAfter, at_told, calm_at, calm_back, early_after, facts, facts_at, history_is, holds_at, is_run, kept_told, lists_at, lists_here, next_is, next_kept, site, site_at}
+use Rattle.sbp_world.proofs.Lists.Runs.{At, EarlyAfter, KeptAfter, as_front, at_told, calm_at, calm_back, early_after, facts, facts_at, history_is, holds_at, is_run, kept_told, lists_at, lists_here, moments_same, next_is, next_kept, site, site_at}
 use Rattle.sbp_world.proofs.Lists.Sites.{Site, named_prepared}
 use Rattle.sbp_world.proofs.Lists.Stays.{ready_now}
 use Rattle.sbp_world.proofs.Lists.Turns.{Ready}
 
 -- ---- the law at a moment
 abbrev RunAt : (ℕ → Bool) → List Disk → Moment → List Moment → Type 0
-RunAt wild start moment past = LoginAt start moment past × OutcomeAt wild start moment past
+RunAt wild start moment past = LoginAt start moment past × (OutcomeAt wild start moment past × ReadAt wild start moment past)
 
 abbrev Law : (ℕ → Bool) → List Disk → List Moment → Type 0
 Law wild start past = EachMoment (RunAt wild start) past
@@ -74,7 +80,7 @@ split (n ∷ a) b past = ap (λ ms. said n ∷ ms) (split a b past)
 module _ (wild : ℕ → Bool) (start : List Disk) where
   plain_at : (note : Note) → IsPlain note → (past : List Moment) → RunAt wild start (said note) past
   plain_at (notes.Ran i n k unit cdb bytes check) h past = absurd h
-  plain_at note h past = (tt, tt)
+  plain_at note h past = (tt, (tt, tt))
 
   plain_law : (more : List Note) → AllPlain more → (past : List Moment) → Law wild start past → Law wild start (map said more ++ past)
   plain_law [] h past l = l
@@ -90,17 +96,17 @@ module _ (wild : ℕ → Bool) (start : List Disk) where
   passed (note ∷ more) past p = passed more past p.1
 
   -- a packet is delivered
-  delivers_law : (past : List Moment) (Ran : Note → Type 0) (old new : List Note) → ((serial : ℕ) (ran : Note) → Ran ran → (let now = said (notes.Got serial) ∷ (map said old ++ past) in PassLaw wild (said ran ∷ now) → RunAt wild start (said ran) now)) → Delivers Ran old new → PassLaw wild (map said new ++ past) → Law wild start (map said old ++ past) → Law wild start (map said new ++ past)
+  delivers_law : (past : List Moment) (Ran : ℕ → Note → Type 0) (old new : List Note) → ((serial : ℕ) (ran : Note) → Ran serial ran → (let now = said (notes.Got serial) ∷ (map said old ++ past) in PassLaw wild (said ran ∷ now) → RunAt wild start (said ran) now)) → Delivers Ran old new → PassLaw wild (map said new ++ past) → Law wild start (map said old ++ past) → Law wild start (map said new ++ past)
   delivers_law past Ran old new f (no_run q) passes l = plainly_law past old new q l
   delivers_law past Ran old new f (one_run serial ran r q) passes l =
       let front = ran ∷ notes.Got serial ∷ old in
       let before : PassLaw wild (map said front ++ past) = passed q.more (map said front ++ past) (subst (PassLaw wild) (split q.more front past) (subst (λ ns. PassLaw wild (map said ns ++ past)) (sym q.is) passes)) in
-      plainly_law past front new q (f serial ran r before, ((tt, tt), l))
+      plainly_law past front new q (f serial ran r before, ((tt, (tt, tt)), l))
 
-  run_told : (past : List Moment) (s : Scene) → IsSet wild start past s → (run : Option Told) (serial : ℕ) (ran : Note) → IsRunBy s run ran → (let now = said (notes.Got serial) ∷ hist past s.world in PassLaw wild (said ran ∷ now) → RunAt wild start (said ran) now)
-  run_told past s set run serial ran r passes = run_so wild start past s set run ran r serial passes.0
+  run_told : (past : List Moment) (s : Scene) → IsSet wild start past s → (run : Option Told) (serial : ℕ) (ran : Note) → IsRunBy s run serial ran → (let now = said (notes.Got serial) ∷ hist past s.world in PassLaw wild (said ran ∷ now) → RunAt wild start (said ran) now)
+  run_told past s set run serial ran r passes = let x = run_so wild start past s set run ran serial r passes.0 in (x.0, (x.1, read_so wild start past s set run ran serial r passes.0))
 
-  one_told : (past : List Moment) (s : Scene) (set : IsSet wild start past s) (line packet : ℕ) (again : Bool) (run : List (Option Told)) (serial : ℕ) (ran : Note) → OneRan s set.ready.good line packet again run ran → (let now = said (notes.Got serial) ∷ hist past s.world in PassLaw wild (said ran ∷ now) → RunAt wild start (said ran) now)
+  one_told : (past : List Moment) (s : Scene) (set : IsSet wild start past s) (line packet : ℕ) (again : Bool) (run : List (Option Told)) (serial : ℕ) (ran : Note) → OneRan s set.ready.good line packet again run serial ran → (let now = said (notes.Got serial) ∷ hist past s.world in PassLaw wild (said ran ∷ now) → RunAt wild start (said ran) now)
   one_told past s set line packet again [] serial ran r passes = absurd r
   one_told past s set line packet again (one ∷ more) serial ran r passes = run_told past s set one serial ran r passes
 
@@ -114,8 +120,8 @@ module _ (wild : ℕ → Bool) (start : List Disk) where
   next_law past s set one m passes l = lowest_law past s set one (lowest s.world) m passes l
 
   end_law : (past : List Moment) (done : Bool) → RunAt wild start (said (end_note done)) past
-  end_law past true = (tt, tt)
-  end_law past false = (tt, tt)
+  end_law past true = (tt, (tt, tt))
+  end_law past false = (tt, (tt, tt))
 
   -- ---- what is known as a turn begins
   module _ (units logins : ℕ) (has : 0 < units) {past : List Moment} {lines : ℕ} (w : WorldState) (h : Holding units logins start past lines w) where
@@ -127,7 +133,7 @@ module _ (wild : ℕ → Bool) (start : List Disk) where
     some_same : (a b : ℕ) → Some a ≡ Some b → a ≡ b
     some_same a b e = cc
 
-    asked_of : Site start past w → ((i : ℕ) → wild i ≡ false → OpenLists (hist past w) w) → ((i : ℕ) → wild i ≡ false → IsCalm (hist past w) i) → ((i : ℕ) → i < length w.initiators → HoldsOrbs (hist past w) i (initiator_at w i)) → AreAsked wild (hist past w) w
+    pub asked_of : Site start past w → ((i : ℕ) → wild i ≡ false → OpenLists (hist past w) w) → ((i : ℕ) → wild i ≡ false → IsCalm (hist past w) i) → ((i : ℕ) → i < length w.initiators → HoldsOrbs (hist past w) i (initiator_at w i)) → AreAsked wild (hist past w) w
     asked_of s lists calm orbs place b is_open own n list number from below =
         let ms = hist past w in
         let i = (holder w place).initiator in
@@ -204,6 +210,12 @@ module _ (wild : ℕ → Bool) (line : ℕ) (run : Run) (few : run.initiators �
         asked_of wild start run.units logins has here.world b.holds (site wild (opened wild) line run few has small size entries short all fit b.past (length entries) b.holds b.is)
         open_here past_calm orbs_here
 
+    -- what agents have read
+    reads_here : Given (HasReads start b.past here.world)
+    reads_here i own =
+        has_reads run.units logins has start here.world b.holds (site wild (opened wild) line run few has small size entries short all fit b.past (length entries) b.holds b.is)
+        (subst (λ ms. EachMoment (AskedAsGot start) ms) same_history (asked_everywhere.after_lines line front front_run has small size (as_front line run entries entries (so_far i own))))
+
     -- as a line begins
     module _ (next : ℕ) (event : Event) (e : is_reset event ≡ false) where
       begins : Holding run.units logins start (asked next event ∷ hist b.past here.world) (length entries + 1) (without_notes here.world)
@@ -215,12 +227,13 @@ module _ (wild : ℕ → Bool) (line : ℕ) (run : Run) (few : run.initiators �
       begin_units : Units start (asked next event ∷ hist b.past here.world) (without_notes here.world) here.media.disks
       begin_units = units_opened run.units logins has start b.past next event here.world here.media.disks units_here
 
-      set_open : IsSet wild start (asked next event ∷ hist b.past here.world) (begun here)
-      set_open = record {
+      set_open : Given (HasReads start (asked next event ∷ hist b.past here.world) (without_notes here.world)) → IsSet wild start (asked next event ∷ hist b.past here.world) (begun here)
+      set_open reads = record {
         ready = ready_now wild next event b.past here.world ready_here;
         units = begin_units.each;
         found = found_of wild start run.units logins has (without_notes here.world) begins begin_seats;
         appended = λ place c is_open own n list number from below. asked_here place c is_open own n list number from below;
+        reads = reads;
       }
 
     -- between deliveries of a line that follows
@@ -266,6 +279,23 @@ module _ (wild : ℕ → Bool) (line : ℕ) (run : Run) (few : run.initiators �
             (λ o. subst (λ ms. HoldsOrbs (map said (at told).fresh ++ asked next (more_deliveries o) ∷ ms) i (initiator_at (at told) i)) same_history
             (orbs_law.between line front front_run next o told m i (inside_there i a))) event d
 
+        asked_there : (i : ℕ) → wild i ≡ false → EachMoment (AskedAsGot start) (hist now (at told))
+        asked_there i own =
+            more_by (λ y. OpenWhile (asked next y ∷ moments_behind line run entries) told (begun here) → EachMoment (AskedAsGot start) (map said (at told).fresh ++ asked next y ∷ hist b.past here.world))
+            (λ o goes.
+            let same = sym (moments_same line run entries entries) in
+            subst (λ ms. EachMoment (AskedAsGot start) (map said (at told).fresh ++ asked next (more_deliveries o) ∷ ms)) same_history
+            (asked_everywhere.between line front front_run has small size next o told m (record {
+              before = as_front line run entries entries (so_far i own);
+              begins = subst (λ ms. OpenLists ms here.world) same (ends i own);
+              goes = subst (λ ms. OpenWhile (asked next (more_deliveries o) ∷ ms) told (begun here)) same goes;
+            })))
+            event d (before i own)
+
+        reads_there : (i : ℕ) → wild i ≡ false → HasReads start now (at told)
+        reads_there i own =
+            has_reads run.units logins has start (at told) holds_there (site_at wild (opened wild) line run few has small size entries short all fit b.past (length entries) b.holds b.is next event d told m) (asked_there i own)
+
         set_there : IsSet wild start now (after_all told (begun here))
         set_there = record {
           ready = ready_there;
@@ -275,10 +305,11 @@ module _ (wild : ℕ → Bool) (line : ℕ) (run : Run) (few : run.initiators �
               asked_of wild start run.units logins has (at told) holds_there
               (site_at wild (opened wild) line run few has small size entries short all fit b.past (length entries) b.holds b.is next event d told m)
               lists c orbs_there;
+          reads = reads_there;
         }
 
       law_at : (told : List (Option Told)) → MayAll told (begun here) → Before told → AllCalm (hist now (at told)) → L (hist b.past here.world) → L (hist now (at told))
-      law_at [] m before c l = ((tt, tt), l)
+      law_at [] m before c l = ((tt, (tt, tt)), l)
       law_at (one ∷ told) m before c l =
           let back = calm_at wild (opened wild) line run few has small size entries short all fit b.past (length entries) b.holds b.is next event d one told c in
           let rest : Before told = λ i own. (before i own).1 in
@@ -292,7 +323,7 @@ module _ (wild : ℕ → Bool) (line : ℕ) (run : Run) (few : run.initiators �
         MayHappen event told here → Given (OpenIn event (asked next event ∷ moments_behind line run entries) told (begun here)) → AllCalm (hist (asked next event ∷ hist b.past here.world) (happens next event told here).world) → PassLaw wild (hist (asked next event ∷ hist b.past here.world) (happens next event told here).world) → L (hist b.past here.world) → L (hist (asked next event ∷ hist b.past here.world) (happens next event told here).world)
 
     plain_line : (next : ℕ) (event : Event) (new : List Note) → Plainly [] new → L (hist b.past here.world) → L (map said new ++ asked next event ∷ hist b.past here.world)
-    plain_line next event new q l = plainly_law wild start (asked next event ∷ hist b.past here.world) [] new q ((tt, tt), l)
+    plain_line next event new q l = plainly_law wild start (asked next event ∷ hist b.past here.world) [] new q ((tt, (tt, tt)), l)
 
     law_line : (next : ℕ) (event : Event) (told : List (Option Told)) → IsLine event (length here.world.initiators) → Goes next event told
     unfolding happens MayHappen
@@ -309,14 +340,14 @@ module _ (wild : ℕ → Bool) (line : ℕ) (run : Run) (few : run.initiators �
     law_line next (events.See node) told q m before c p l = plain_line next (events.See node) _ (sights (without_notes here.world) node) l
     law_line next (events.Deliver serial) told q m before c p l =
         let e = events.Deliver serial in
-        let set = set_open next e refl in
+        let set = set_open next e refl (λ i own. line_reads start next (events.Deliver serial) false (λ t. refl) b.past here.world (reads_here i own)) in
         delivers_law wild start (asked next e ∷ hist b.past here.world) (OneRan (begun here) set.ready.good next serial false told) [] _ (one_told wild start (asked next e ∷ hist b.past here.world) (begun here) set next serial false told)
-        (one_comes (begun here) set.ready.good next serial false (is_in_flight serial (begun here).world) told m) p ((tt, tt), l)
+        (one_comes (begun here) set.ready.good next serial false (is_in_flight serial (begun here).world) told m) p ((tt, (tt, tt)), l)
     law_line next (events.Repeat serial) told q m before c p l =
         let e = events.Repeat serial in
-        let set = set_open next e refl in
+        let set = set_open next e refl (λ i own. line_reads start next (events.Repeat serial) true (λ t. refl) b.past here.world (reads_here i own)) in
         delivers_law wild start (asked next e ∷ hist b.past here.world) (OneRan (begun here) set.ready.good next serial true told) [] _ (one_told wild start (asked next e ∷ hist b.past here.world) (begun here) set next serial true told)
-        (one_comes (begun here) set.ready.good next serial true (may_repeat serial (begun here).world) told m) p ((tt, tt), l)
+        (one_comes (begun here) set.ready.good next serial true (may_repeat serial (begun here).world) told m) p ((tt, (tt, tt)), l)
     law_line next (events.Lose serial) told q m before c p l = plain_line next (events.Lose serial) _ (loses (without_notes here.world) next serial) l
     law_line next (events.Timeout serial) told q m before c p l = plain_line next (events.Timeout serial) _ (late (without_notes here.world) next serial) l
     law_line next events.Tick told q m before c p l = plain_line next events.Tick _ (ticks (without_notes here.world)) l
@@ -324,7 +355,7 @@ module _ (wild : ℕ → Bool) (line : ℕ) (run : Run) (few : run.initiators �
     law_line next (events.Key unit key) told q m before c p l = plain_line next (events.Key unit key) _ (keys (without_notes here.world) next unit key) l
 
   law_after : (entries : List Entry) → length entries + 2 < 2 ^ 32 → AreEntries (beginning run) entries → AreLines run entries → Given (OpenBefore line run entries) → AllCalm (moments_behind line run entries) → L (moments_behind line run entries)
-  law_after [] short all fit lists calm = ((tt, tt), ((tt, tt), tt))
+  law_after [] short all fit lists calm = ((tt, (tt, tt)), ((tt, (tt, tt)), tt))
   law_after (e ∷ before) short all fit lists calm =
       let s = after (beginning run) before in
       let few_lines : length before + 2 < 2 ^ 32 = omega arith in
@@ -374,11 +405,15 @@ module _ (wild : ℕ → Bool) (start : List Disk) where
 
   outcomes_part : (past : List Moment) → Law wild start past → OutcomesLaw wild start past
   outcomes_part [] l = tt
-  outcomes_part (m ∷ past) l = (l.0.1, outcomes_part past l.1)
+  outcomes_part (m ∷ past) l = (l.0.1.0, outcomes_part past l.1)
+
+  reads_part : (past : List Moment) → Law wild start past → RunsAreRead wild start past
+  reads_part [] l = tt
+  reads_part (m ∷ past) l = (l.0.1.1, reads_part past l.1)
 
   -- with the laws of lists
   execution_at : (m : Moment) (past : List Moment) → ListsAt wild m past → RunsAt wild m past → RunAt wild start m past → ExecutionAt wild start m past
-  execution_at (said (notes.Ran i (Some n) (Some k) unit cdb bytes check)) past l r o = λ own. (record { once = r own; order = (l own).turn.number; login = o.0 }, o.1 own)
+  execution_at (said (notes.Ran i (Some n) (Some k) unit cdb bytes check)) past l r o = λ own. (record { once = r own; order = (l own).turn.number; login = o.0 }, o.1.0 own)
   execution_at (said (notes.Ended i (Some n) (Some k) status)) past l r o = r
   execution_at _ past l r o = tt
 
@@ -420,4 +455,15 @@ execution_run_law = record {
       let now = map said (after_all told (begun (after (beginning run) run.entries))).world.fresh ++ asked next event ∷ history_of line run in
       execution_of (injectors now) run.start.disks now (lists_run_law.between line run r has small size next event d told m so_far) (runs_run_law.between line run r has small size next event d told m so_far)
       (between_law line run r has small size (injectors now) next event d told m (λ i own. so_far) (λ i own. own));
+}
+
+-- and the ORBs that run were read
+pub runs_read_law : RunsReadLaw
+runs_read_law = record {
+  after_lines = λ line run r has small size so_far.
+      let wild = injectors (history_of line run) in
+      reads_part wild run.start.disks (history_of line run) (lines_law line run r has small size wild (λ i own. so_far) (λ i own. own));
+  between = λ line run r has small size next event d told m so_far.
+      let now = map said (after_all told (begun (after (beginning run) run.entries))).world.fresh ++ asked next event ∷ history_of line run in
+      reads_part (injectors now) run.start.disks now (between_law line run r has small size (injectors now) next event d told m (λ i own. so_far) (λ i own. own));
 }

@@ -274,6 +274,11 @@ module _ (units ready : ℕ) (has : 0 < units) (start : List Disk) {past : List 
             ∙ (ap (λ x. laws.closed_by x spelled.kind) held_there ∙ ap (λ b. cond b (Some waiting.serial) None) alike);
       }
 
+      -- it closes that request
+      pub closed : laws.answered_at t serial ≡ Some asked_by_it
+      unfolding is_answer
+      closed = is_answer.answered
+
       pub tells : laws.answer_in (laws.packet_at t serial) ≡ answer_in p
       unfolding is_answer waiting
       tells =

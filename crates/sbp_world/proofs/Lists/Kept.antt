@@ -44,7 +44,7 @@ keeps {wild} {past} {machines} {w} l a = record {
 }
 
 -- ---- who has a place: no list is open for who comes to have one
-set_either : {A : Type 0} (xs : List A) (k p : ℕ) (x d : A) → (slice_index_or (slice_set xs k x) p d ≡ x) ⊎ (slice_index_or (slice_set xs k x) p d ≡ slice_index_or xs p d)
+pub set_either : {A : Type 0} (xs : List A) (k p : ℕ) (x d : A) → (slice_index_or (slice_set xs k x) p d ≡ x) ⊎ (slice_index_or (slice_set xs k x) p d ≡ slice_index_or xs p d)
 set_either [] k p x d = inr refl
 set_either (y ∷ ys) zero zero x d = inl refl
 set_either (y ∷ ys) zero (suc p) x d = inr refl

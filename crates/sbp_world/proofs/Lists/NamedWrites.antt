@@ -19,7 +19,7 @@ use Rattle.sbp_laws.specs.Terms.{appends, ends}
 use Rattle.sbp_world.specs.Histories.{moments_behind}
 use Rattle.sbp_world.specs.Runs.{Run, beginning}
 use Rattle.sbp_world.specs.Wire.History.{IsOfWire}
-use Rattle.sbp_world.specs.Worlds.{WorldState}
+use Rattle.sbp_world.specs.Worlds.{Scene, WorldState}
 use Rattle.sbp_world.proofs.Agents.Management.Still.{hist}
 use Rattle.sbp_world.proofs.Hosts.Remaining.{remains, serials_behind}
 use Rattle.sbp_world.proofs.Hosts.SentMoments.{sent_below, serials_from}
@@ -36,7 +36,7 @@ use Rattle.sbp_world.proofs.Lists.OpenFresh.{writes_of}
 use Rattle.sbp_world.proofs.Lists.OpenLasting.{lasts}
 use Rattle.sbp_world.proofs.Lists.OpenNews.{got_more}
 use Rattle.sbp_world.proofs.Lists.Passing.{PassLaw}
-use Rattle.sbp_world.proofs.Lists.Walks.{Walks}
+use Rattle.sbp_world.proofs.Lists.Walks.{Turn, Walks}
 
 no : false ≡ true → ⊥
 no e = cc
@@ -88,17 +88,17 @@ got_current serial past packet h e =
     grind (arith, nat_tests)
 
 -- ---- a line that begins changes nothing of it
-record Like (before earlier : List Moment) : Type 0 where
-  sent : (terms earlier).sent ≡ (terms before).sent
-  news : (terms earlier).news ≡ (terms before).news
-  generation : (terms earlier).generation ≡ (terms before).generation
-  pointed : (serial i : ℕ) → pointed_list earlier serial i ≡ pointed_list before serial i
-  prepared : (i slot : ℕ) → prepared_in earlier i slot ≡ prepared_in before i slot
+pub record Like (before earlier : List Moment) : Type 0 where
+  pub sent : (terms earlier).sent ≡ (terms before).sent
+  pub news : (terms earlier).news ≡ (terms before).news
+  pub generation : (terms earlier).generation ≡ (terms before).generation
+  pub pointed : (serial i : ℕ) → pointed_list earlier serial i ≡ pointed_list before serial i
+  pub prepared : (i slot : ℕ) → prepared_in earlier i slot ≡ prepared_in before i slot
 
 like_self : (ms : List Moment) → Like ms ms
 like_self ms = record { sent = refl; news = refl; generation = refl; pointed = λ serial i. refl; prepared = λ i slot. refl }
 
-like_asked : (line : ℕ) (event : Event) (ms : List Moment) → Like ms (asked line event ∷ ms)
+pub like_asked : (line : ℕ) (event : Event) (ms : List Moment) → Like ms (asked line event ∷ ms)
 like_asked line (events.Reset physical) ms = record { sent = refl; news = refl; generation = refl; pointed = λ serial i. refl; prepared = λ i slot. refl }
 like_asked line (events.Repeat serial) ms = record { sent = refl; news = refl; generation = refl; pointed = λ serial i. refl; prepared = λ i slot. refl }
 like_asked line _ ms = record { sent = refl; news = refl; generation = refl; pointed = λ serial i. refl; prepared = λ i slot. refl }
@@ -193,15 +193,19 @@ module _ (wild : ℕ → Bool) (i : ℕ) (own : wild i ≡ false) (before : List
     got_so (got_in_line line event e) = new (subst (Like before) (sym e) (like_asked line event before))
 
 -- each turn keeps it
-pub names_walk : (wild : ℕ → Bool) (units ready : ℕ) → 0 < units → (start : List Disk) → Walks wild units ready start Known AreUntaken (AllNamed wild)
-names_walk wild units ready has start past s later t step p i b own front earlier serial sent place address is sent_is pointed =
+pub names_turn : (wild : ℕ → Bool) (i : ℕ) → wild i ≡ false → (past : List Moment) (s : Scene) (later : List Moment) (t : Scene) → Turn past s later t → i < length s.world.initiators → IsCalm (hist past s.world) i → PassLaw wild (hist past s.world) → Known (hist past s.world) s.world → ((n k : ℕ) → ends (hist past s.world) i n ≤ k → taken_at (hist past s.world) i n k ≡ None) → AreNamedFor (hist past s.world) i → IsOfWire (hist later t.world) → PointersAt (hist later t.world) i → IsCalm (hist later t.world) i → AreNamedFor (hist later t.world) i
+names_turn wild i own past s later t turn inside calm passes known taken named wire pointers calm_now front earlier serial sent place address is sent_is pointed =
     let before = hist past s.world in
     let now = hist later t.world in
+    got_so wild i own before s.world inside calm passes known taken named now wire pointers calm_now front earlier serial sent place address is sent_is pointed
+    (got_where serial earlier before now (turn_next past s later t turn) front is)
+
+pub names_walk : (wild : ℕ → Bool) (units ready : ℕ) → 0 < units → (start : List Disk) → Walks wild units ready start Known AreUntaken (AllNamed wild)
+names_walk wild units ready has start past s later t step p i b own =
     let inside : i < length s.world.initiators = subst (λ n. i < n) step.count b in
     let calm = step.stands.reached.calm i own in
-    got_so wild i own before s.world inside calm step.stands.reached.kept.passes step.known (λ n k e. step.so_far i own i inside calm n k e) (p i inside own) now step.known_then.wire (step.known_then.pointers i b) (step.reaches.calm i own)
-    front earlier serial sent place address is sent_is pointed
-    (got_where serial earlier before now (turn_next past s later t step.turn) front is)
+    names_turn wild i own past s later t step.turn inside calm step.stands.reached.kept.passes step.known (λ n k e. step.so_far i own i inside calm n k e) (p i inside own)
+    step.known_then.wire (step.known_then.pointers i b) (step.reaches.calm i own)
 
 -- as a run begins, no packet was got
 pub first_names : (wild : ℕ → Bool) (line : ℕ) (run : Run) → AllNamed wild (moments_behind line run []) (beginning run).world

@@ -122,7 +122,7 @@ module _ (r : ℕ) where
   moment_grows (said (notes.TimedOut s)) past = same (terms past) (terms (said (notes.TimedOut s) ∷ past)) (times_out_same _ (terms past))
   moment_grows (said note) past = same (terms past) (terms past) refl
 
-  all_grow : (later past : List Moment) → Grows (terms past) (terms (later ++ past))
+  pub all_grow : (later past : List Moment) → Grows (terms past) (terms (later ++ past))
   all_grow [] past = omega arith
   all_grow (m ∷ later) past = let a = all_grow later past in let b = moment_grows m (later ++ past) in omega (arith, a, b)
 

@@ -54,7 +54,7 @@ nobody_needs : (A : Type 0) → true ≡ false → A
 nobody_needs A e = absurd (no (sym e))
 
 -- a new world has no list open
-closed : (p : ℕ) → p < 8 → is_up (slice_index_or (replicate 8 new_desk) p new_desk).agent ≡ true → ⊥
+pub closed : (p : ℕ) → p < 8 → is_up (slice_index_or (replicate 8 new_desk) p new_desk).agent ≡ true → ⊥
 closed p b d = no (sym (ap (λ (x : Desk). is_up x.agent) (get_or-replicate 8 p new_desk new_desk b)) ∙ d)
 
 first_were : (line n : ℕ) (is_ready : Bool) (units : ℕ) → AllWere (first_past line n is_ready) (new_world n is_ready units)
@@ -62,11 +62,11 @@ unfolding new_world
 first_were line n is_ready units = record { each = λ p b d. absurd (closed p b d); had = λ i k e. absurd (no e) }
 
 -- ---- runs
-moments_same : (line : ℕ) (run : Run) (every entries : List Entry) → moments_behind line (record run { entries = every }) entries ≡ moments_behind line run entries
+pub moments_same : (line : ℕ) (run : Run) (every entries : List Entry) → moments_behind line (record run { entries = every }) entries ≡ moments_behind line run entries
 moments_same line run every [] = refl
 moments_same line run every (e ∷ before) = ap (λ ms. map said e.notes ++ asked e.line e.event ∷ ms) (moments_same line run every before)
 
-lines_same : (run : Run) (every entries : List Entry) → AreLines run entries → AreLines (record run { entries = every }) entries
+pub lines_same : (run : Run) (every entries : List Entry) → AreLines run entries → AreLines (record run { entries = every }) entries
 lines_same run every [] l = tt
 lines_same run every (e ∷ before) l = (l.0, lines_same run every before l.1)
 

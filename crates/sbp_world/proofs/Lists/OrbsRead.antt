@@ -47,7 +47,7 @@ access_there start past c serial op w =
     below : (before : List Moment) (serial generation to : ℕ) (bytes : List ℕ) → serial ≡ (terms before).count + 1 → serial ≤ (terms (said (notes.Sent serial generation zero to bytes) ∷ before)).count
     below before serial generation to bytes e = let k = count_now before serial generation zero to bytes in omega (arith, e, k)
 
-in_phase : (phase other : Phase) (op : Operation) (access : Access) → phase ≡ other → AccessOf phase op access → AccessOf other op access
+pub in_phase : (phase other : Phase) (op : Operation) (access : Access) → phase ≡ other → AccessOf phase op access → AccessOf other op access
 in_phase phase other op access e a = subst (λ p. AccessOf p op access) e a
 
 module _ (start : List Disk) (past : List Moment) (i : ℕ) (counts : SerialsCount past) (are : AreAsked start past) (places : BringPlaces past i) (lasts : OperationsLast past i) where

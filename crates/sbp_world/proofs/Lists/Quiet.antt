@@ -1,4 +1,4 @@
--- What a node hands out behind the first note of a turn: no packet is got there.
+-- What a node hands out behind the first note of a turn: no packet is judged there.
 use Rattle.std.proofs.Common.{◌≡◌, ◌∙◌, refl, sym, ap, subst, ℕ, zero, suc, ◌+◌, ◌-◌, ◌==◌, ◌<◌, ◌≤◌, nat_lt, Bool, true, false, cond, List, [], ◌∷◌, ◌++◌, length, Option, Some, None, Result, Ok, Err, arith}
 use Rattle.std.proofs.lemmas.Bool.Decides.{nat_tests}
 use Rattle.std.specs.Prelude.{slice_index_or, slice_set}
@@ -48,13 +48,14 @@ use Rattle.sbp_world.proofs.Lists.Extends.{marked_fresh}
 -- ---- notes
 abbrev pub IsQuiet : Note → Type 0
 IsQuiet (notes.Got serial) = ⊥
+IsQuiet (notes.Ignored serial cause) = ⊥
 IsQuiet note = Unit {0}
 
 abbrev pub AllQuiet : List Note → Type 0
 AllQuiet [] = Unit {0}
 AllQuiet (note ∷ later) = IsQuiet note × AllQuiet later
 
--- notes stand behind others, and no packet is got in them
+-- notes stand behind others, and no packet is judged in them
 pub record Quietly (old new : List Note) : Type 0 where
   pub more : List Note
   pub is : more ++ old ≡ new
@@ -158,6 +159,7 @@ others_quiet (one ∷ later) o = (other_quiet one o.0, others_quiet later o.1)
 
 note_quiet : (note : Note) → IsNoRun note → IsQuiet note
 note_quiet (notes.Got serial) h = absurd h
+note_quiet (notes.Ignored serial cause) h = absurd h
 note_quiet note h = tt
 
 own_quiet : (side : List Side) → AreOwn side → AreQuiet side

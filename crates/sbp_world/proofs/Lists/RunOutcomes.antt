@@ -48,6 +48,7 @@ use Rattle.sbp_world.specs.Lists.Execution.{LoginAt, OutcomeAt}
 use Rattle.sbp_world.specs.Lists.Lists.{orbs}
 use Rattle.sbp_world.specs.Lists.Needs.{IsFor, IsOpenAt, initiator_in, is_open_at}
 use Rattle.sbp_world.proofs.Lists.Lists.{laid}
+use Rattle.sbp_world.proofs.Lists.OrbPlaces.{HasReads}
 use Rattle.sbp_world.proofs.Lists.Passing.{GoesOn, PassAt, RunsNext}
 use Rattle.sbp_world.proofs.Lists.RunFits.{WasAsked, runs_on}
 use Rattle.sbp_world.proofs.Lists.RunTells.{served_there}
@@ -65,6 +66,7 @@ pub record IsSet (wild : ℕ → Bool) (start : List Disk) (past : List Moment) 
   pub units : (unit : ℕ) → unit_at (target_at start (hist past s.world)).units unit ≡ plain_in s.world.target.units s.media.disks unit
   pub found : AreFound start past s.world s.world.target.logins.places
   pub appended : AreAsked wild (hist past s.world) s.world
+  pub reads : (i : ℕ) → wild i ≡ false → HasReads start past s.world
 
 -- ---- an agent that runs a command has a list
 unlisted_main : (place : ℕ) (plain : PlainDisk) (told : Told) (phase : Phase) (m : Machine) (answer : Answer) → has_list phase ≡ false → (served place plain told (advanced phase m answer).0 (advanced phase m answer).1).0.ran ≡ None
@@ -110,7 +112,7 @@ some_login one other e = cc
 ids_of : (t u : Terms) → u.generation 0 ≡ t.generation 0 → ((peer : ℕ) → u.ids (t.generation 0) peer ≡ t.ids (t.generation 0) peer) → (peer : ℕ) → id_for u 0 peer ≡ id_for t 0 peer
 ids_of t u g i peer = ap (λ n. u.ids n peer) g ∙ i peer
 
-module _ (wild : ℕ → Bool) (start : List Disk) (past : List Moment) (s : Scene) (set : IsSet wild start past s) (run : Option Told) (ran : Note) (r : IsRunBy s run ran) (serial : ℕ) where
+module _ (wild : ℕ → Bool) (start : List Disk) (past : List Moment) (s : Scene) (set : IsSet wild start past s) (run : Option Told) (ran : Note) (serial : ℕ) (r : IsRunBy s run serial ran) where
   abbrev w : WorldState
   w = s.world
 
@@ -148,7 +150,7 @@ module _ (wild : ℕ → Bool) (start : List Disk) (past : List Moment) (s : Sce
   there : login_at w.target place ≡ Some login
   there = served_there w.target place login r.by.served
 
-  small : place < 8
+  pub small : place < 8
   small = let l = within w.target.logins.places place login there in let c = set.ready.good.table.sound.size in omega arith
 
   live : is_live login ≡ true
@@ -180,17 +182,17 @@ module _ (wild : ℕ → Bool) (start : List Disk) (past : List Moment) (s : Sce
   plain_is = ap (λ us. unit_at us unit) same.0 ∙ set.units unit ∙ ap (plain_in w.target.units s.media.disks) has_place.unit_is
 
   -- ---- of an initiator that injected no packets
-  is_open : has_list M.phase ≡ true
+  pub is_open : has_list M.phase ≡ true
   is_open = listed M place plain run r.by.which answer r.outcome r.by.ran
 
   module _ (own : wild i ≡ false) where
-    opened : IsOpenAt ms w place
+    pub opened : IsOpenAt ms w place
     opened = (set.ready.needs i own).lists.listed place small is_open (set.ready.calm i own)
 
     abbrev list : OrbList
     list = orbs ms i opened.n
 
-    goes : GoesOn ms i opened.n M
+    pub goes : GoesOn ms i opened.n M
     goes = set.ready.kept.on place small is_open opened.n opened.list own
 
     abbrev heard : Progress
@@ -200,17 +202,17 @@ module _ (wild : ℕ → Bool) (start : List Disk) (past : List Moment) (s : Sce
     number_is = heard_ended r.by.which M answer goes.progress ∙ goes.is
 
     is_for : IsFor w r.sent
-    is_for = record { serial = r.serial; found = r.found; to = r.to }
+    is_for = record { serial = serial; found = r.found; to = r.to }
 
     keeps : Keeps list heard place plain (main_beside r.by.which M) (ahead_beside r.by.which M) step
     keeps =
         (keeps_along list).replies goes.progress M place plain run r.by.which answer (laid ms i opened.n) goes.along
         ((set.ready.needs i own).brings r.sent is_for r.by.packet r.by.label place r.by.which r.by.found r.by.is_which small refl opened.n opened.list goes.progress goes.is goes.along)
 
-    runs : IsRun list heard place plain step.1.present step.1.orb step.1.segments step.1.payload
+    pub runs : IsRun list heard place plain step.1.present step.1.orb step.1.segments step.1.payload
     runs = subst (λ x. IfSome x (λ outcome. IsRun list heard place plain step.1.present step.1.orb step.1.segments step.1.payload)) r.by.ran keeps.runs
 
-    asked_so : WasAsked (command_at ms i opened.n heard.ended) (request_at ms i opened.n heard.ended) (slot_at ms i opened.n heard.ended)
+    pub asked_so : WasAsked (command_at ms i opened.n heard.ended) (request_at ms i opened.n heard.ended) (slot_at ms i opened.n heard.ended)
     asked_so = set.appended place small is_open own opened.n opened.list heard.ended (let e = number_is in omega (arith, e)) runs.turn.linked
 
     on_plain : RunsOn (request_of asked_so.cmd) plain place step.1.orb.cdb step.1.payload (check_in r.outcome)
@@ -222,16 +224,16 @@ module _ (wild : ℕ → Bool) (start : List Disk) (past : List Moment) (s : Sce
       abbrev On : Request → Type 0
       On request = RunsOn request (plain_of start now unit) (place_on (target_at start now) unit (id_for (terms now) 0 (suc i))) r.cdb r.payload (check_of r.outcome)
 
-      list_is : opened.n ≡ n
+      pub list_is : opened.n ≡ n
       list_is = let e = opened.still.latest in let f = next.next.turn.still.latest in same_list opened.n n (e ∙ sym f)
         where
           same_list : (a b : ℕ) → suc a ≡ suc b → a ≡ b
           same_list a b e = omega (arith, e)
 
-      orb_is : heard.ended ≡ number
+      pub orb_is : heard.ended ≡ number
       orb_is = number_is ∙ ap (λ x. ends ms i x) list_is ∙ sym next.next.turn.number
 
-      request_is : request_at now i n number ≡ Some (request_of asked_so.cmd)
+      pub request_is : request_at now i n number ≡ Some (request_of asked_so.cmd)
       request_is = sym (ap (λ x. request_at ms i x heard.ended) list_is ∙ ap (λ x. request_at ms i n x) orb_is) ∙ asked_so.request_is
 
       so : On (request_of asked_so.cmd)

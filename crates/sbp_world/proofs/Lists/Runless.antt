@@ -179,17 +179,16 @@ own_plain (sides.Unsent a ∷ later) h = absurd h.0
 
 -- ---- a packet is delivered
 -- notes of no run stand in front of others; or the target got the packet, told of a run, and then of none
-pub data Delivers (Ran : Note → Type 0) (old new : List Note) : Type 0 where
+pub data Delivers (Ran : ℕ → Note → Type 0) (old new : List Note) : Type 0 where
   no_run : Plainly old new → Delivers Ran old new
-  one_run : (serial : ℕ) (ran : Note) → Ran ran → Plainly (ran ∷ notes.Got serial ∷ old) new → Delivers Ran old new
+  one_run : (serial : ℕ) (ran : Note) → Ran serial ran → Plainly (ran ∷ notes.Got serial ∷ old) new → Delivers Ran old new
 
 plain_judged : (serial : ℕ) (judged : Judged) → IsPlain (judged_note serial judged)
 plain_judged serial judgements.Got = tt
 plain_judged serial (judgements.Ignored cause) = tt
 
 -- The note is of a run of the agent of a place, as its unit may run the command.
-pub record IsRunBy (s : Scene) (run : Option Told) (ran : Note) : Type 0 where
-  pub serial : ℕ
+pub record IsRunBy (s : Scene) (run : Option Told) (serial : ℕ) (ran : Note) : Type 0 where
   pub sent : Sent
   pub found : found_sent serial s.world.store.kept ≡ Some sent
   pub to : sent.to ≡ 0
@@ -254,7 +253,6 @@ module _ (s : Scene) (good : Good s.world.target) (serial : ℕ) (again : Bool) 
         run_told judgements.Got e =
             one_run serial note
             (record {
-              serial = serial;
               sent = one;
               found = found;
               to = zero_to;
@@ -448,9 +446,9 @@ module _ (w : WorldState) where
 -- ---- a line that delivers one packet at most
 module _ (s : Scene) (good : Good s.world.target) (line serial : ℕ) (again : Bool) where
   -- what its run told
-  abbrev pub OneRan : List (Option Told) → Note → Type 0
-  OneRan [] ran = ⊥
-  OneRan (one ∷ more) ran = IsRunBy s one ran
+  abbrev pub OneRan : List (Option Told) → ℕ → Note → Type 0
+  OneRan [] judged ran = ⊥
+  OneRan (one ∷ more) judged ran = IsRunBy s one judged ran
 
   pub one_comes : (b : Bool) (run : List (Option Told)) → MayIf b serial run s → Delivers (OneRan run) s.world.fresh (delivered_if b line serial again run s).world.fresh
   one_comes true [] m = absurd m

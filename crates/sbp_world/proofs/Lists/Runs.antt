@@ -60,15 +60,17 @@ use Rattle.sbp_world.proofs.Lists.Turned.{IsOne, Turned, line_turned}
 use Rattle.sbp_world.proofs.Lists.Turns.{Ready}
 
 -- ---- a history that goes on
-hist_more : (old new : List Note) (past : List Moment) → Extends old new → (i : ℕ) → IsCalm (map said new ++ past) i → IsCalm (map said old ++ past) i
-hist_more old new past e i c =
-    calm_before (map said e.more) (map said old ++ past) i (subst (λ ms. IsCalm ms i) (ap (λ ns. map said ns ++ past) (sym e.is) ∙ split e.more old past) c)
+pub said_more : (old new : List Note) (past : List Moment) (e : Extends old new) → map said new ++ past ≡ map said e.more ++ (map said old ++ past)
+said_more old new past e = ap (λ ns. map said ns ++ past) (sym e.is) ∙ split e.more old past
   where
     split : (a b : List Note) (past : List Moment) → map said (a ++ b) ++ past ≡ map said a ++ (map said b ++ past)
     split [] b past = refl
     split (n ∷ a) b past = ap (λ ms. said n ∷ ms) (split a b past)
 
-next_extends : (one : Option Told) (s : Scene) → Extends s.world.fresh (delivered_next one s).world.fresh
+hist_more : (old new : List Note) (past : List Moment) → Extends old new → (i : ℕ) → IsCalm (map said new ++ past) i → IsCalm (map said old ++ past) i
+hist_more old new past e i c = calm_before (map said e.more) (map said old ++ past) i (subst (λ ms. IsCalm ms i) (said_more old new past e) c)
+
+pub next_extends : (one : Option Told) (s : Scene) → Extends s.world.fresh (delivered_next one s).world.fresh
 unfolding delivered_next
 next_extends one s = by (lowest s.world)
   where

@@ -122,7 +122,7 @@ pointer_operation (Refused rcode) own host = refl
 pointer_operation Expired own host = refl
 pointer_operation NoLabel own host = refl
 
-pointer_login : (answer : Answer) (own : Bool) (host : Host) → (pointer_answered answer own host).login ≡ host.login
+pub pointer_login : (answer : Answer) (own : Bool) (host : Host) → (pointer_answered answer own host).login ≡ host.login
 pointer_login Done true host = refl
 pointer_login Done false host = refl
 pointer_login (Payload bytes) own host = refl
@@ -197,7 +197,7 @@ begun_by actions.Rom operation list serial host = refl
 begun_by actions.AgentReset operation list serial host = refl
 begun_by _ operation list serial host = refl
 
-begun_login : (action : Action) (operation : Operation) (list : Option ℕ) (serial : ℕ) (host : Host) → (acted action (Some operation) list serial host).login ≡ host.login
+pub begun_login : (action : Action) (operation : Operation) (list : Option ℕ) (serial : ℕ) (host : Host) → (acted action (Some operation) list serial host).login ≡ host.login
 begun_login (actions.Login unit reconnect exclusive password) operation list serial host = refl
 begun_login actions.Rom operation list serial host = refl
 begun_login actions.AgentReset operation list serial host = refl

@@ -55,6 +55,7 @@ pub record Starts (i : ℕ) (past next : List Moment) (now : Underway) : Type 0 
   pub bytes : List ℕ
   pub is : next ≡ said (notes.Sent now.first generation (suc i) to bytes) ∷ past
   pub action : operation_of now.action ≡ Some now.operation
+  pub line : event_of past ≡ Some (events.Act i now.action)
   pub place : now.place ≡ (host_at past i).writes % 2
   pub held : is_management now.operation ≡ true → place_held next i now.place ≡ Some (management_orb_of now.action past i (host_at past i) now.place)
   pub login : (host_at next i).login ≡ (host_at past i).login
@@ -123,6 +124,7 @@ module _ (i : ℕ) where
           bytes = bytes;
           is = ap (λ n. said (notes.Sent n generation (suc i) to bytes) ∷ past) (sym b.first);
           action = ap operation_of b.action_is ∙ b.own;
+          line = line ∙ ap (λ a. Some (events.Act i a)) (sym b.action_is);
           place = b.place;
           held = λ m. is_written now b.own b.place m ∙ ap (λ a. Some (management_orb_of a past i (host_at past i) now.place)) (sym b.action_is);
           login = b.login;
@@ -257,6 +259,7 @@ module _ (i : ℕ) where
           record {
             sent = omega (arith, below, more, first);
             action = ap operation_of same.action ∙ (b.action ∙ ap Some (sym same.operation));
+            line = ap (λ f. event_of (before_sent next f)) same.first ∙ (ap event_of before ∙ (b.line ∙ ap (λ a. Some (events.Act i a)) (sym same.action)));
             small = (let place = same.place in let small = b.small in omega (arith, place, small));
             held = λ g.
                 h.places now.place
@@ -272,6 +275,7 @@ module _ (i : ℕ) where
           record {
             sent = omega (arith, n, counted);
             action = s.action;
+            line = ap event_of before ∙ s.line;
             small = (let place = s.place in omega (arith, place));
             held = λ g. s.held g ∙ ap (λ ms. Some (management_orb_of now.action ms i (host_at ms i) now.place)) (sym before);
             login = s.login ∙ ap (λ ms. (host_at ms i).login) (sym before);

@@ -21,15 +21,17 @@ use Rattle.sbp_world.proofs.Agents.Management.Still.{hist}
 use Rattle.sbp_world.specs.Hosts.Runs.{IsRun, more_deliveries}
 use Rattle.sbp_world.proofs.Hosts.Runs.{count_after, count_between}
 use Rattle.sbp_world.specs.Lists.Closes.{Always, Under}
-use Rattle.sbp_world.specs.Lists.Needs.{IsCalm, OpenAfter, OpenBefore, OpenBetween, OpenIn, OpenLists, OpenWhile, machine_at}
+use Rattle.sbp_world.specs.Lists.Needs.{IsCalm, OpenAfter, OpenBefore, OpenBehind, OpenBetween, OpenIn, OpenLists, OpenWhile, machine_at}
 use Rattle.sbp_world.proofs.Lists.Calm.{asked_calm, calm_before}
 use Rattle.sbp_world.proofs.Lists.Kept.{Kept}
+use Rattle.sbp_world.proofs.Lists.Passes.{ready}
 use Rattle.sbp_world.specs.Lists.Opens.{OpensLaw}
 use Rattle.sbp_world.proofs.Lists.OpenProved.{opens_law}
-use Rattle.sbp_world.proofs.Lists.Runs.{EarlyAfter, KeptAfter, as_front, calm_at, calm_back, early_after, history_is, holds_at, is_run, kept_told, lists_at, lists_here, moments_same, next_holds, next_is, next_kept, site, site_at}
+use Rattle.sbp_world.proofs.Lists.Runs.{EarlyAfter, KeptAfter, as_front, at_told, calm_at, calm_back, early_after, facts, facts_at, history_is, holds_at, is_run, kept_told, lists_at, lists_here, moments_same, next_holds, next_is, next_kept, site, site_at}
 use Rattle.sbp_world.proofs.Lists.RunSites.{more_by}
 use Rattle.sbp_world.proofs.Lists.Sites.{Site}
 use Rattle.sbp_world.proofs.Lists.Turned.{IsOne}
+use Rattle.sbp_world.proofs.Lists.Turns.{Ready}
 
 -- ---- the turns of a run
 -- from a scene with a history behind which its line began, to the next one
@@ -50,6 +52,7 @@ pub record Reached (wild : ℕ → Bool) (units ready : ℕ) (start : List Disk)
 pub record Standing (wild : ℕ → Bool) (units ready : ℕ) (start : List Disk) (past : List Moment) (lines : ℕ) (w : WorldState) : Type 0 where
   pub reached : Reached wild units ready start past lines w
   pub lists : (i : ℕ) → wild i ≡ false → OpenLists (hist past w) w
+  pub known_all : Ready wild past w
 
 -- A turn, with what is known of the place before and of the one behind.
 pub record Step (wild : ℕ → Bool) (units ready : ℕ) (start : List Disk) (Q U : List Moment → WorldState → Type 0) (past : List Moment) (s : Scene) (later : List Moment) (t : Scene) : Type 0 where
@@ -61,6 +64,7 @@ pub record Step (wild : ℕ → Bool) (units ready : ℕ) (start : List Disk) (Q
   pub known : Q (hist past s.world) s.world
   pub known_then : Q (hist later t.world) t.world
   pub so_far : (i : ℕ) → wild i ≡ false → U (hist past s.world) s.world
+  pub so_far_then : (i : ℕ) → wild i ≡ false → U (hist later t.world) t.world
   pub count : length t.world.initiators ≡ length s.world.initiators
 
 -- each turn keeps a statement
@@ -115,7 +119,11 @@ module _ (wild : ℕ → Bool) (Q U P : List Moment → WorldState → Type 0) (
       past_calm i own = subst (λ ms. IsCalm ms i) (sym b.is) (calm i own)
 
       standing_here : Standing wild run.units logins run.start.disks b.past (length entries) here.world
-      standing_here = record { reached = reached_here b calm; lists = open_here }
+      standing_here = record {
+        reached = reached_here b calm;
+        lists = open_here;
+        known_all = ready wild b.past here.world (facts wild (opened wild) line run few has small size entries short all fit b.past (length entries) b.holds b.is lists open_here past_calm x.early) b.kept;
+      }
 
       -- between deliveries of a line that follows
       module _ (next : ℕ) (event : Event) (d : DeliversMore event) where
@@ -135,6 +143,21 @@ module _ (wild : ℕ → Bool) (Q U P : List Moment → WorldState → Type 0) (
           calm = c;
           kept = (kept_told wild (opened wild) line run few has small size entries short all fit b.past (length entries) b.holds b.is next event d lists open_here past_calm b.kept x.early told m before c).kept_there;
         }
+
+        open_at : (told : List (Option Told)) → Given (OpenBehind (asked next event ∷ moments_behind line run entries) told (begun here)) → (i : ℕ) → wild i ≡ false → OpenLists (hist now (at told)) (at told)
+        open_at = lists_at wild (opened wild) line run few has small size entries short all fit b.past (length entries) b.holds b.is next event d
+
+        standing_at : (told : List (Option Told)) → MayAll told (begun here) → Before told → Given (OpenBehind (asked next event ∷ moments_behind line run entries) told (begun here)) → AllCalm (hist now (at told)) → Standing wild run.units logins run.start.disks now (length entries + 1) (at told)
+        standing_at told m before behind c =
+            let k = at_told wild (opened wild) line run few has small size entries short all fit b.past (length entries) b.holds b.is next event d lists open_here past_calm b.kept x.early told m before (open_at told behind) c in
+            record {
+              reached = reached_at told m before c;
+              lists = open_at told behind;
+              known_all =
+                  ready wild now (at told)
+                  (facts_at wild (opened wild) line run few has small size entries short all fit b.past (length entries) b.holds b.is next event d lists open_here told m before (open_at told behind) c k.early_there)
+                  k.kept_at.kept_there;
+            }
 
         known_at : (told : List (Option Told)) → MayAll told (begun here) → Q (hist now (at told)) (at told)
         known_at told m =
@@ -166,6 +189,7 @@ module _ (wild : ℕ → Bool) (Q U P : List Moment → WorldState → Type 0) (
               known = known_here b;
               known_then = known_at [] m;
               so_far = so_far_here lists b;
+              so_far_then = so_far_at [] m before;
               count = refl;
             }) p
         walk_at (one ∷ told) m before c p =
@@ -175,11 +199,12 @@ module _ (wild : ℕ → Bool) (Q U P : List Moment → WorldState → Type 0) (
               turn = by_delivery now (after_all told (begun here)) one m.0;
               lines = length entries + 1;
               more = length entries + 1;
-              stands = record { reached = reached_at told m.1 rest e; lists = lists_at wild (opened wild) line run few has small size entries short all fit b.past (length entries) b.holds b.is next event d told (λ i own. (before i own).0) };
+              stands = standing_at told m.1 rest (λ i own. (before i own).0) e;
               reaches = reached_at (one ∷ told) m before c;
               known = known_at told m.1;
               known_then = known_at (one ∷ told) m;
               so_far = so_far_at told m.1 rest;
+              so_far_then = so_far_at (one ∷ told) m before;
               count = count_between (one ∷ told) here ∙ sym (count_between told here);
             }) (walk_at told m.1 rest e p)
 
@@ -187,10 +212,10 @@ module _ (wild : ℕ → Bool) (Q U P : List Moment → WorldState → Type 0) (
       module _ (more : ℕ) where
         abbrev Goes : ℕ → Event → List (Option Told) → Type 0
         Goes next event told =
-            IsLine event (length here.world.initiators) → MayHappen event told here → Given (OpenIn event (asked next event ∷ moments_behind line run entries) told (begun here)) → Reached wild run.units logins run.start.disks (asked next event ∷ hist b.past here.world) more (happens next event told here).world → Q (hist (asked next event ∷ hist b.past here.world) (happens next event told here).world) (happens next event told here).world → length (happens next event told here).world.initiators ≡ length here.world.initiators → P (hist b.past here.world) here.world → P (hist (asked next event ∷ hist b.past here.world) (happens next event told here).world) (happens next event told here).world
+            IsLine event (length here.world.initiators) → MayHappen event told here → Given (OpenIn event (asked next event ∷ moments_behind line run entries) told (begun here)) → Reached wild run.units logins run.start.disks (asked next event ∷ hist b.past here.world) more (happens next event told here).world → Q (hist (asked next event ∷ hist b.past here.world) (happens next event told here).world) (happens next event told here).world → ((i : ℕ) → wild i ≡ false → U (hist (asked next event ∷ hist b.past here.world) (happens next event told here).world) (happens next event told here).world) → length (happens next event told here).world.initiators ≡ length here.world.initiators → P (hist b.past here.world) here.world → P (hist (asked next event ∷ hist b.past here.world) (happens next event told here).world) (happens next event told here).world
 
         one_line : (next : ℕ) (event : Event) (told : List (Option Told)) → IsOne event → Goes next event told
-        one_line next event told o q m before r k count p =
+        one_line next event told o q m before r k u count p =
             walks b.past here (asked next event ∷ hist b.past here.world) (happens next event told here) (record {
               turn = by_line b.past here next event told o q m;
               lines = length entries;
@@ -200,13 +225,14 @@ module _ (wild : ℕ → Bool) (Q U P : List Moment → WorldState → Type 0) (
               known = known_here b;
               known_then = k;
               so_far = so_far_here lists b;
+              so_far_then = u;
               count = count;
             }) p
 
         walk_line : (next : ℕ) (event : Event) (told : List (Option Told)) → Goes next event told
         unfolding happens MayHappen
-        walk_line next (events.Step count) told q m before r k same p = walk_at next (events.Step count) tt told m.may before r.calm p
-        walk_line next events.Settle told q m before r k same p =
+        walk_line next (events.Step count) told q m before r k u same p = walk_at next (events.Step count) tt told m.may before r.calm p
+        walk_line next events.Settle told q m before r k u same p =
             let now : List Moment = asked next events.Settle ∷ hist b.past here.world in
             let t = after_all told (begun here) in
             let rest : Given (OpenWhile (asked next events.Settle ∷ moments_behind line run entries) told (begun here)) = λ i own. (before i own).1 in
@@ -215,24 +241,25 @@ module _ (wild : ℕ → Bool) (Q U P : List Moment → WorldState → Type 0) (
               turn = by_end now t (is_settled t.world);
               lines = length entries + 1;
               more = more;
-              stands = record { reached = reached_at next events.Settle tt told m.may rest c; lists = lists_at wild (opened wild) line run few has small size entries short all fit b.past (length entries) b.holds b.is next events.Settle tt told (λ i own. (before i own).0) };
+              stands = standing_at next events.Settle tt told m.may rest (λ i own. (before i own).0) c;
               reaches = r;
               known = known_at next events.Settle tt told m.may;
               known_then = k;
               so_far = so_far_at next events.Settle tt told m.may rest;
+              so_far_then = u;
               count = refl;
             }) (walk_at next events.Settle tt told m.may rest c p)
-        walk_line next (events.Begin initiators is_ready) told q m before r k count p = one_line next (events.Begin initiators is_ready) told tt q m before r k count p
-        walk_line next (events.Act initiator action) told q m before r k count p = one_line next (events.Act initiator action) told tt q m before r k count p
-        walk_line next (events.Reset physical) told q m before r k count p = one_line next (events.Reset physical) told tt q m before r k count p
-        walk_line next (events.See node) told q m before r k count p = one_line next (events.See node) told tt q m before r k count p
-        walk_line next (events.Deliver serial) told q m before r k count p = one_line next (events.Deliver serial) told tt q m before r k count p
-        walk_line next (events.Repeat serial) told q m before r k count p = one_line next (events.Repeat serial) told tt q m before r k count p
-        walk_line next (events.Lose serial) told q m before r k count p = one_line next (events.Lose serial) told tt q m before r k count p
-        walk_line next (events.Timeout serial) told q m before r k count p = one_line next (events.Timeout serial) told tt q m before r k count p
-        walk_line next events.Tick told q m before r k count p = one_line next events.Tick told tt q m before r k count p
-        walk_line next (events.Inject initiator bytes) told q m before r k count p = one_line next (events.Inject initiator bytes) told tt q m before r k count p
-        walk_line next (events.Key unit key) told q m before r k count p = one_line next (events.Key unit key) told tt q m before r k count p
+        walk_line next (events.Begin initiators is_ready) told q m before r k u count p = one_line next (events.Begin initiators is_ready) told tt q m before r k u count p
+        walk_line next (events.Act initiator action) told q m before r k u count p = one_line next (events.Act initiator action) told tt q m before r k u count p
+        walk_line next (events.Reset physical) told q m before r k u count p = one_line next (events.Reset physical) told tt q m before r k u count p
+        walk_line next (events.See node) told q m before r k u count p = one_line next (events.See node) told tt q m before r k u count p
+        walk_line next (events.Deliver serial) told q m before r k u count p = one_line next (events.Deliver serial) told tt q m before r k u count p
+        walk_line next (events.Repeat serial) told q m before r k u count p = one_line next (events.Repeat serial) told tt q m before r k u count p
+        walk_line next (events.Lose serial) told q m before r k u count p = one_line next (events.Lose serial) told tt q m before r k u count p
+        walk_line next (events.Timeout serial) told q m before r k u count p = one_line next (events.Timeout serial) told tt q m before r k u count p
+        walk_line next events.Tick told q m before r k u count p = one_line next events.Tick told tt q m before r k u count p
+        walk_line next (events.Inject initiator bytes) told q m before r k u count p = one_line next (events.Inject initiator bytes) told tt q m before r k u count p
+        walk_line next (events.Key unit key) told q m before r k u count p = one_line next (events.Key unit key) told tt q m before r k u count p
 
   pub walk_after : (entries : List Entry) → length entries + 2 < 2 ^ 32 → AreEntries (beginning run) entries → AreLines run entries → Given (OpenBefore line run entries) → AllCalm (moments_behind line run entries) → P (moments_behind line run entries) (after (beginning run) entries).world
   walk_after [] short all fit lists calm = first
@@ -253,7 +280,7 @@ module _ (wild : ℕ → Bool) (Q U P : List Moment → WorldState → Type 0) (
       } in
       let there = subst (λ ms. P ms s.world) (sym x.so_far.is) (walk_after before few_lines all.1 fit.1 rest back) in
       subst (λ ms. P ms w) b.is
-      (walk_line before few_lines all.1 fit.1 rest x begins back (length (e ∷ before)) e.line e.event e.told fit.0 all.0.may goes (reached_here (e ∷ before) short all fit b calm) (known_here (e ∷ before) short all fit b) (count_after run (e ∷ before) ∙ sym (count_after run before)) there)
+      (walk_line before few_lines all.1 fit.1 rest x begins back (length (e ∷ before)) e.line e.event e.told fit.0 all.0.may goes (reached_here (e ∷ before) short all fit b calm) (known_here (e ∷ before) short all fit b) (so_far_here (e ∷ before) short all fit lists b) (count_after run (e ∷ before) ∙ sym (count_after run before)) there)
 
 -- ---- so it is of every run, of the initiators that injected no packets
 module _ (Q U : List Moment → WorldState → Type 0) (P : (ℕ → Bool) → List Moment → WorldState → Type 0) (always : Always Q) (under : Under U) (walks : (wild : ℕ → Bool) (units ready : ℕ) → 0 < units → (start : List Disk) → Walks wild units ready start Q U (P wild)) (first : (wild : ℕ → Bool) (line : ℕ) (run : Run) → P wild (moments_behind line run []) (beginning run).world) (line : ℕ) (run : Run) (r : IsRun run) (has : 0 < run.units) (small : run.units ≤ 4) (size : length run.start.disks ≡ run.units) where

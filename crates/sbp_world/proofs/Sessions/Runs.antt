@@ -119,13 +119,22 @@ module _ (n : ℕ) (is_ready : Bool) (units : ℕ) (few : n ≤ 4) (line : ℕ) 
   first_met = record { up = first_target; sits = λ i. sits_any (Seen w.generations i) _ _ (let a = zero_seen (suc i) in let b = zero_seen 0 in omega arith) }
 
 -- ---- runs
-met_after : (line : ℕ) (run : Run) (entries : List Entry) → run.initiators ≤ 4 → 0 < run.units → run.units ≤ 4 → length run.start.disks ≡ run.units → length entries + 2 < 2 ^ 32 → AreEntries (beginning run) entries → AreLines run entries → Met (after (beginning run) entries).world
+pub met_after : (line : ℕ) (run : Run) (entries : List Entry) → run.initiators ≤ 4 → 0 < run.units → run.units ≤ 4 → length run.start.disks ≡ run.units → length entries + 2 < 2 ^ 32 → AreEntries (beginning run) entries → AreLines run entries → Met (after (beginning run) entries).world
 met_after line run [] few has small size short all fit = first_met run.initiators run.ready run.units few line run.start.disks small size
 met_after line run (e ∷ before) few has small size short all fit =
     let b = holds_after line run before few has small size (omega arith) all.1 fit.1 in
     let s = after (beginning run) before in
     line_met run.units (ready_logins run.initiators run.ready) has run.start.disks e.line e.event e.told s fit.0 (happened_fits e.event e.told s all.0.may) b.holds
     (met_after line run before few has small size (omega arith) all.1 fit.1)
+
+-- and behind each delivery of a line that may follow
+pub met_between : (line : ℕ) (run : Run) → IsRun run → 0 < run.units → run.units ≤ 4 → length run.start.disks ≡ run.units → (next : ℕ) (event : Event) → DeliversMore event → (told : List (Option Told)) → MayAll told (begun (after (beginning run) run.entries)) → Met (after_all told (begun (after (beginning run) run.entries))).world
+met_between line run is has small size next event d told may =
+    let r = holds_after line run run.entries is.few has small size is.short is.entries is.lines in
+    let s = after (beginning run) run.entries in
+    let logins = ready_logins run.initiators run.ready in
+    all_met run.units logins has run.start.disks told (are_told told s may) (begun s) (opens run.units logins has run.start.disks next event s.world (not_reset event d) r.holds)
+    (opened run.units logins has run.start.disks s.world (met_after line run run.entries is.few has small size is.short is.entries is.lines)) (no_repeats event (hist r.past s.world) next d)
 
 -- ---- what it says of the history
 module _ (units ready : ℕ) (has : 0 < units) (start : List Disk) {past : List Moment} {lines : ℕ} (w : WorldState) (h : Holding units ready start past lines w) (m : Met w) where

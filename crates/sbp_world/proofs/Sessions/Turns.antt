@@ -103,13 +103,13 @@ found_in topology nodes id few size apart k = by (position (is_at id) topology.i
 
 -- ---- a node sees the latest generation: each node is in the generation of before, or in a later one
 module _ (w : WorldState) (node : ℕ) where
-  abbrev next : GenerationsState
+  abbrev pub next : GenerationsState
   next = sees_latest node w.generations
 
-  other_same : (k : ℕ) → nat_eq k node ≡ false → topology_at next k ≡ topology_at w.generations k
+  pub other_same : (k : ℕ) → nat_eq k node ≡ false → topology_at next k ≡ topology_at w.generations k
   other_same k e = get_or-set_other w.generations.seen node k w.generations.latest no_topology (λ x. let y : nat_eq k node ≡ true = grind (arith, nat_tests) in no (sym e ∙ y))
 
-  own_latest : node < length w.generations.seen → topology_at next node ≡ w.generations.latest
+  pub own_latest : node < length w.generations.seen → topology_at next node ≡ w.generations.latest
   own_latest l = get_or-set_at w.generations.seen node node w.generations.latest no_topology refl l
 
 module _ {past : List Moment} (w : WorldState) (stands : Stands past w) where
@@ -121,7 +121,7 @@ module _ {past : List Moment} (w : WorldState) (stands : Stands past w) where
       ap (λ (t : Terms). t.generation node) (sym (past_terms w stands)) ∙ sym ((holds stands.wire stands.reached).nodes node).generation ∙ stands.is.sights node l
 
   -- no node is in a later generation than the latest
-  not_later : (node : ℕ) → node ≤ length w.initiators → (topology_at g node).generation ≤ g.latest.generation
+  pub not_later : (node : ℕ) → node ≤ length w.initiators → (topology_at g node).generation ≤ g.latest.generation
   not_later node l =
       let a = aged stands.wire node stands.reached in
       let b = (holds stands.wire stands.reached).bus_is in
@@ -130,7 +130,7 @@ module _ {past : List Moment} (w : WorldState) (stands : Stands past w) where
       omega arith
 
   -- a packet is of a generation that its sender has seen
-  sent_seen : (serial : ℕ) (sent : Sent) → found_sent serial w.store.kept ≡ Some sent → sent.generation ≤ (topology_at g sent.from).generation
+  pub sent_seen : (serial : ℕ) (sent : Sent) → found_sent serial w.store.kept ≡ Some sent → sent.generation ≤ (topology_at g sent.from).generation
   sent_seen serial sent found =
       let all = holds stands.wire stands.reached in
       let honest = all.facts.honest serial (as_sending sent) (ap (λ (t : Terms). t.sent serial) (past_terms w stands) ∙ was_sent w stands serial sent found) in
@@ -144,7 +144,7 @@ module _ {past : List Moment} (w : WorldState) (stands : Stands past w) where
   latest_apart i j l m e =
       goes_on.apart stands.wire (terms stands.wire.past).bus i j stands.reached (latest_ids i l ∙ e ∙ sym (latest_ids j m))
 
-  rises : (node k : ℕ) → node ≤ length w.initiators → (topology_at g k).generation ≤ (topology_at (next w node) k).generation
+  pub rises : (node k : ℕ) → node ≤ length w.initiators → (topology_at g k).generation ≤ (topology_at (next w node) k).generation
   rises node k l = by (nat_eq k node) refl
     where
       by : (b : Bool) → nat_eq k node ≡ b → (topology_at g k).generation ≤ (topology_at (next w node) k).generation
@@ -169,17 +169,17 @@ module _ {past : List Moment} (w : WorldState) (stands : Stands past w) where
 
   -- the target sees it, and was in it before
   module _ (e : nat_lt w.target.layer.generation g.latest.generation ≡ false) where
-    layer_generation : w.target.layer.generation ≡ (topology_at g 0).generation
+    pub layer_generation : w.target.layer.generation ≡ (topology_at g 0).generation
     layer_generation = sym (ap (λ (l : Node). l.generation) (stands.is.layers_are 0 (omega arith))) ∙ stands.is.sights 0 (omega arith)
 
-    now_generation : (topology_at g 0).generation ≡ g.latest.generation
+    pub now_generation : (topology_at g 0).generation ≡ g.latest.generation
     now_generation =
         let a = not_later 0 (omega arith) in
         let b = layer_generation in
         let c : g.latest.generation ≤ w.target.layer.generation = grind (arith, nat_tests) in
         omega arith
 
-    same_ids : (peer : ℕ) → peer ≤ length w.initiators → id_of (topology_at g 0) peer ≡ id_of g.latest peer
+    pub same_ids : (peer : ℕ) → peer ≤ length w.initiators → id_of (topology_at g 0) peer ≡ id_of g.latest peer
     same_ids peer l =
         let b = stands.is.bus_is in
         let c = (holds stands.wire stands.reached).bus_is in

@@ -1,7 +1,6 @@
 -- Requests of transactions that wait stay entered, whatever a layer does: only a request that leaves makes a transaction wait.
-use Rattle.std.specs.Prelude.{◌≡◌, ◌≤◌, ◌<◌, ℕ, ◌==◌, ◌&&◌, nat_eq, nat_lt, is_ok, Bool, true, false, cond, if◌then◌else◌, List, slice_set, length, Option, Some, None, Result, Ok, Err, refl}
+use Rattle.std.specs.Prelude.{◌≡◌, ◌≤◌, ◌<◌, ℕ, ◌==◌, ◌&&◌, nat_eq, nat_lt, is_ok, Bool, true, false, cond, if◌then◌else◌, List, Option, Some, None, Ok, refl}
 use Rattle.std.proofs.Common.{arith, sym, ◌∙◌, ap, subst}
-use Rattle.std.proofs.Math.ListN.{length-set}
 use Rattle.sbp_base.specs.Update.{upd}
 use Rattle.async_packet.specs.Labels.{LabelParts}
 use Rattle.async_packet.specs.Packet.{Packet}
@@ -10,7 +9,6 @@ use Rattle.label_table.specs.declared.place.LabelState.{LabelState}
 use Rattle.label_table.specs.declared.place.LabelState.TheVariants as states
 use Rattle.label_table.specs.declared.place.Place.{Place}
 use Rattle.label_table.specs.declared.reply.ReplyKind.{ReplyKind}
-use Rattle.label_table.specs.declared.reply.Stale.{Stale}
 use Rattle.label_table.specs.Bodies.{Body}
 use Rattle.label_table.specs.Judging.{Facts}
 use Rattle.label_table.specs.Layer.{Finding, of_generation, of_grammar, of_label, of_response, of_again, of_request, answering_step, asked_at, asking_in, asking_step, disowning_step, expired_at, expiring_in, expiring_step, judging_step, peer_at, seen_in_generation, seeing_step, unlabelled}
@@ -25,7 +23,7 @@ use Rattle.label_table.proofs.Owned.{holds}
 use Rattle.label_table.proofs.Steps.{place_set, under_way_below}
 use Rattle.bus_transactions.specs.Wire.{Node}
 use Rattle.bus_transactions.proofs.JudgedStep.{JudgedAs, judged_step}
-use Rattle.bus_transactions.proofs.Places.{Places, cleared_looked, looked_set, place_in}
+use Rattle.bus_transactions.proofs.Places.{Places, cleared_looked, looked_set}
 use Rattle.bus_transactions.proofs.Steps.{ExpiredAs, Shows, disowns, expires}
 use Rattle.sbp_bus.specs.Requests.{RequestsState}
 use Rattle.sbp_bus.specs.Sending.{request_of}

@@ -16,7 +16,6 @@ use Rattle.sbp_journal.specs.Outgoings.{empty_outbox}
 use Rattle.sbp_journal.specs.Run.{Moment}
 use Rattle.sbp_journal.specs.Wire.{terms}
 use Rattle.sbp_initiator.specs.Receiving.{expire_step}
-use Rattle.sbp_target.specs.Nodes as target
 use Rattle.sbp_bus.specs.declared.requests.Request.{Request}
 use Rattle.sbp_world.specs.Delivering.{delivered}
 use Rattle.sbp_bus.specs.Generations.{topology_at}

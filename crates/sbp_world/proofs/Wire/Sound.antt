@@ -1,5 +1,5 @@
 -- Each line of a world is a list of moves of the wire, and leaves nodes that know whom they ask.
-use Rattle.std.specs.Prelude.{◌≡◌, ◌≤◌, ◌<◌, ℕ, suc, ◌+◌, ◌-◌, ◌^◌, ◌==◌, ◌||◌, nat_lt, Bool, true, false, if◌then◌else◌, List, [], ◌∷◌, ◌++◌, length, map, slice_set, Option, Some, None, refl}
+use Rattle.std.specs.Prelude.{◌≡◌, ◌≤◌, ◌<◌, ℕ, suc, ◌+◌, ◌^◌, ◌==◌, ◌||◌, nat_lt, Bool, true, false, if◌then◌else◌, List, [], ◌∷◌, ◌++◌, length, map, slice_set, Option, Some, None, refl}
 use Rattle.std.specs.List.{All, list_any}
 use Rattle.std.proofs.Common.{arith, sym, ◌∙◌, ap, subst}
 use Rattle.std.proofs.lemmas.List.{length-set, set-get_or}
@@ -22,7 +22,7 @@ use Rattle.sbp_initiator.specs.Effects.{Turn}
 use Rattle.sbp_initiator.specs.Initiators.{new_state}
 use Rattle.sbp_initiator.specs.declared.state.InitiatorState.{InitiatorState}
 use Rattle.sbp_target.specs.Nodes as target
-use Rattle.sbp_target.specs.Receiving.{seen, ticked, with_key}
+use Rattle.sbp_target.specs.Receiving.{ticked, with_key}
 use Rattle.sbp_bus.specs.Generations.{id_of, topology_at}
 use Rattle.sbp_world.specs.Handing.{handed_out}
 use Rattle.sbp_world.specs.Lines.{acted, acted_by, happens, keyed, no_unit, weight_in}

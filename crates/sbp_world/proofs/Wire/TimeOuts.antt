@@ -1,5 +1,5 @@
 -- The line of a time-out: the request that is found times out at its sender, or the line is refused.
-use Rattle.std.specs.Prelude.{◌≡◌, ◌≤◌, ◌<◌, ℕ, suc, ◌-◌, Bool, false, List, length, slice_set, Option, Some, Result, Ok, Err, refl}
+use Rattle.std.specs.Prelude.{◌≡◌, ◌≤◌, ◌<◌, ℕ, suc, Bool, false, List, length, slice_set, Option, Some, Result, Ok, Err, refl}
 use Rattle.std.proofs.Common.{arith, sym, ◌∙◌, ap, subst}
 use Rattle.std.proofs.lemmas.List.{length-set, set-get_or}
 use Rattle.label_table.specs.declared.reply.Stale.{Stale}
@@ -24,7 +24,7 @@ use Rattle.sbp_target.specs.declared.purpose.Purpose.{Purpose}
 use Rattle.sbp_bus.specs.declared.requests.Request.{Request}
 use Rattle.sbp_bus.specs.Generations.{id_of, topology_at}
 use Rattle.sbp_bus.specs.Packets.{no_packet}
-use Rattle.sbp_world.specs.Packets.{at_initiator, at_target, expires, refused, target_expired, target_left, timed_out}
+use Rattle.sbp_world.specs.Packets.{at_initiator, at_target, refused, target_expired, target_left, timed_out}
 use Rattle.sbp_bus.specs.Requests.{find}
 use Rattle.sbp_world.specs.Worlds.{WorldState, initiator_at, with_initiator, with_note, with_target}
 use Rattle.sbp_world.specs.Wire.Wires.{Stands, layer_in, layers_of}

@@ -1,8 +1,7 @@
 -- A transaction that times out at its sender is under way, by what the history says.
-use Rattle.std.specs.Prelude.{◌≡◌, ◌≤◌, ◌<◌, ℕ, zero, suc, ◌-◌, ◌==◌, ◌&&◌, nat_eq, nat_lt, is_ok, Bool, true, false, if◌then◌else◌, List, length, Option, Some, None, Result, Ok, Err, refl}
+use Rattle.std.specs.Prelude.{◌≡◌, ◌≤◌, ◌<◌, ℕ, zero, suc, ◌-◌, ◌==◌, ◌&&◌, nat_eq, nat_lt, is_ok, Bool, true, false, if◌then◌else◌, List, length, Option, Some, Result, Ok, Err, refl}
 use Rattle.std.proofs.Common.{arith, sym, ◌∙◌, ap, subst}
 use Rattle.async_packet.specs.Labels.{LabelParts}
-use Rattle.label_table.specs.declared.place.LabelState.{LabelState}
 use Rattle.label_table.specs.declared.place.LabelState.TheVariants as states
 use Rattle.label_table.specs.declared.reply.ReplyKind.{ReplyKind}
 use Rattle.label_table.specs.declared.reply.Stale.{Stale}
@@ -10,10 +9,9 @@ use Rattle.label_table.specs.Layer.{Layer, expiring_step}
 use Rattle.label_table.specs.Peers.{state_for}
 use Rattle.bus_transactions.specs.Bare.{bare, bare_after, bare_result}
 use Rattle.bus_transactions.specs.Reached.{IsAwaited}
-use Rattle.bus_transactions.specs.Rows.{awaits, kind_as, shape, shape_of}
+use Rattle.bus_transactions.specs.Rows.{awaits, shape, shape_of}
 use Rattle.bus_transactions.specs.Wire.{Node, id_for, transaction}
 use Rattle.bus_transactions.proofs.Bares.{takes_steps}
-use Rattle.bus_transactions.proofs.Facts.{asked_is, begun_asked}
 use Rattle.bus_transactions.proofs.Reaches.{goes_on}
 use Rattle.bus_transactions.proofs.Steps.{ExpiredAs, expires}
 use Rattle.sbp_initiator.specs.Receiving.{expire_step, expired_as}
@@ -21,7 +19,7 @@ use Rattle.sbp_initiator.specs.declared.purpose.Purpose.{Purpose as OwnPurpose}
 use Rattle.sbp_initiator.specs.declared.state.InitiatorState.{InitiatorState}
 use Rattle.sbp_journal.specs.Outgoings.{empty_outbox}
 use Rattle.sbp_journal.specs.Run.{Moment}
-use Rattle.sbp_journal.specs.Transactions.{Kind, Sending, Transaction, begun_by}
+use Rattle.sbp_journal.specs.Transactions.{Kind, Sending, Transaction}
 use Rattle.sbp_journal.specs.Wire.{Held, Terms, begun_in, free, rests, terms, waits}
 use Rattle.sbp_laws.specs.Packets as laws
 use Rattle.sbp_target.specs.declared.purpose.Purpose.{Purpose}
@@ -32,13 +30,11 @@ use Rattle.sbp_bus.specs.declared.requests.Request.{Request}
 use Rattle.sbp_bus.specs.Generations.{id_of, topology_at}
 use Rattle.sbp_world.specs.Packets.{at_initiator, at_target, initiator_expires, target_expired, target_left}
 use Rattle.sbp_world.specs.Packets as packets
-use Rattle.sbp_bus.specs.Requests.{find, serial_at}
-use Rattle.sbp_bus.specs.Sending.{request_of}
+use Rattle.sbp_bus.specs.Requests.{find}
 use Rattle.sbp_world.specs.Worlds.{WorldState, initiator_at}
 use Rattle.sbp_world.specs.Wire.Wires.{Stands, layer_in, layers_of}
 use Rattle.sbp_world.proofs.Wire.Asks.{own_layer}
 use Rattle.sbp_world.proofs.Wire.Bus.{holds}
-use Rattle.sbp_world.proofs.Wire.Entered.{number_small, waiting_expires}
 use Rattle.sbp_world.proofs.Wire.Expires.{Aims, latest}
 use Rattle.sbp_world.proofs.Wire.Found.{id_known}
 use Rattle.sbp_world.proofs.Wire.Handles.{expired_generation}

@@ -39,12 +39,10 @@ use Rattle.sbp_target.specs.Receiving.{answer_in}
 use Rattle.sbp_target.specs.Serving.{is_barred}
 use Rattle.sbp_world.specs.Histories.{history_of, moments_behind}
 use Rattle.sbp_world.specs.Runs.{Entry, Run, after, beginning}
-use Rattle.sbp_world.specs.Settling.{MayAll, after_all}
+use Rattle.sbp_world.specs.Settling.{after_all}
 use Rattle.sbp_world.specs.Telling.{holder, ticket_at}
 use Rattle.sbp_world.specs.Worlds.{Scene, WorldState, begun}
-use Rattle.sbp_world.specs.Agents.Management.Terms.{DeliversMore}
 use Rattle.sbp_world.specs.Agents.Alike.{has_list}
-use Rattle.sbp_world.specs.Hosts.Runs.{IsRun}
 use Rattle.sbp_world.specs.Lists.Lists.{orbs}
 
 -- the machine of the agent of a place, and whether it has a list open; and the initiator whose login has the place
@@ -103,11 +101,6 @@ pub record OpenLists (past : List Moment) (w : WorldState) : Type 0 where
   pub one : (place other : ℕ) → place < 8 → other < 8 → is_open_at w place ≡ true → is_open_at w other ≡ true → IsCalm past (initiator_in w place) → initiator_in w other ≡ initiator_in w place → other ≡ place
   pub points : (sent : Sent) → IsFor w sent → (packet : Packet) → (judging_step w.target.layer sent.generation sent.bytes).0 ≡ of_request packet → is_barred w.target packet ≡ false → (place : ℕ) (pointer : OrbPointer) (ask : Ask) → demand_of (length w.target.rom) packet ≡ demands.Agent place (accesses.Point pointer) → (point_step (machine_at w place) pointer).0 ≡ Ok ask → IsCalm past (initiator_in w place) → IsPointed past w place pointer
   pub behind : (place : ℕ) → place < 8 → (machine_at w place).phase ≡ phases.ReadingNext → IsCalm past (initiator_in w place) → (n k : ℕ) → (holder w place).list ≡ Some n → ends past (initiator_in w place) n ≡ suc k → IsNamed past w place n k
-
--- After every line of every run, and behind each delivery of a line that may follow.
-pub record OpenListsLaw : Type 0 where
-  pub after_lines : (line : ℕ) (run : Run) → IsRun run → 0 < run.units → run.units ≤ 4 → length run.start.disks ≡ run.units → OpenLists (history_of line run) (after (beginning run) run.entries).world
-  pub between : (line : ℕ) (run : Run) → IsRun run → 0 < run.units → run.units ≤ 4 → length run.start.disks ≡ run.units → (next : ℕ) (event : Event) → DeliversMore event → (told : List (Option Told)) → MayAll told (begun (after (beginning run) run.entries)) → (let w = (after_all told (begun (after (beginning run) run.entries))).world in OpenLists (map said w.fresh ++ asked next event ∷ history_of line run) w)
 
 -- ---- before a moment of one run
 

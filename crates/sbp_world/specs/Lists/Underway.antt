@@ -6,9 +6,11 @@ use Rattle.orb_layout.specs.declared.management.ManagementOrb.{ManagementOrb}
 use Rattle.rbc_disk.specs.Runs.{Told}
 use Rattle.sbp_journal.specs.Run.{Moment, asked, said}
 use Rattle.sbp_journal.specs.Wire.{terms}
+use Rattle.sbp_journal.specs.declared.event.Event.TheVariants as events
 use Rattle.sbp_laws.specs.CarriedBytes.{before_sent}
 use Rattle.sbp_laws.specs.Hosts.{Underway, host_at, is_management, operation_of}
 use Rattle.sbp_laws.specs.Served.{management_orb_of, place_held}
+use Rattle.sbp_laws.specs.Turns.{event_of}
 use Rattle.sbp_world.specs.Histories.{history_of}
 use Rattle.sbp_world.specs.Runs.{Run, after, beginning}
 use Rattle.sbp_world.specs.Settling.{MayAll, after_all}
@@ -22,6 +24,7 @@ underway_orb past i underway = management_orb_of underway.action (before_sent pa
 pub record IsUnderway (past : List Moment) (i : ℕ) (underway : Underway) : Type 0 where
   pub sent : underway.first ≤ (terms past).count
   pub action : operation_of underway.action ≡ Some underway.operation
+  pub line : event_of (before_sent past underway.first) ≡ Some (events.Act i underway.action)
   pub small : underway.place < 2
   pub held : is_management underway.operation ≡ true → place_held past i underway.place ≡ Some (underway_orb past i underway)
   pub login : (host_at past i).login ≡ (host_at (before_sent past underway.first) i).login

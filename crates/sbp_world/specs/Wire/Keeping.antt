@@ -1,12 +1,14 @@
--- What each line of a world keeps: the run that the world stands for has the laws of the wire, and those of the lines of the bus.
+-- What each line of a world keeps: the run that the world stands for has the laws of the wire, those of the lines of the bus, and those of lists.
 use Rattle.std.specs.Prelude.{◌≡◌, ◌≤◌, ◌<◌, ℕ, ◌+◌, ◌^◌, Bool, List, [], length, Option}
 use Rattle.rbc_disk.specs.Held.{Held}
 use Rattle.rbc_disk.specs.Runs.{Told}
 use Rattle.sbp_journal.specs.declared.event.Event.{Event}
 use Rattle.sbp_journal.specs.declared.event.Event.TheVariants as events
 use Rattle.sbp_laws.specs.Lawful.{injectors}
+use Rattle.sbp_laws.specs.OnLists.{LawfulOnLists}
 use Rattle.sbp_laws.specs.OnTheBus.{LawfulOnTheBus}
 use Rattle.sbp_world.specs.Histories.{history_of}
+use Rattle.sbp_world.specs.Lists.OwnLogins.{IsTame}
 use Rattle.sbp_world.specs.Runs.{Run, StandsFor, entry, with_entry}
 use Rattle.sbp_world.specs.Wire.History.{IsOfWire}
 use Rattle.sbp_world.specs.Wire.Journal.{journal_run}
@@ -21,10 +23,12 @@ pub record IsLikeAScripts (run : Run) : Type 0 where
   pub count : length run.entries + 2 < 2 ^ 32
   pub lines : AreLines run run.entries
 
--- The laws of a run whose first line has this number: its history has those of the wire, and its journal those of the lines of the bus.
+-- The laws of a run whose first line has this number: its history has those of the wire, its journal those of the lines of the bus; and where it
+-- has one to four units and no initiator injected packets, its history has those of lists.
 pub record HasLaws (first : ℕ) (run : Run) : Type 0 where
   pub of_wire : IsOfWire (history_of first run)
   pub on_the_bus : LawfulOnTheBus (injectors (history_of first run)) (journal_run first run)
+  pub on_lists : 0 < run.units → run.units ≤ 4 → IsTame (history_of first run) → LawfulOnLists (injectors (history_of first run)) run.start.disks (history_of first run)
 
 -- A world and its media stand for a run, which has the laws where it is such as a script's.
 pub record StandsLawfully (run : Run) (s : Scene) : Type 0 where

@@ -34,13 +34,16 @@ pub record FillsBuffer (cmd : Cmd) : Type 0 where
   pub brought : (is_bay : Bool) → cmd.to_initiator ≡ false → data_length_of is_bay cmd.cdb ≡ cmd.length
   pub answered : (is_bay : Bool) → cmd.to_initiator ≡ true → answer_length_of is_bay cmd.cdb ≡ cmd.length
 
+-- so do the commands of an action; and a login and a query name one of the units that a line may name
 abbrev pub FillsAction : Action → Type 0
 FillsAction (actions.Put cmd) = FillsBuffer cmd
 FillsAction (actions.Append cmd) = FillsBuffer cmd
+FillsAction (actions.Login unit reconnect exclusive password) = unit < 4
+FillsAction (actions.Query unit) = unit < 4
 FillsAction _ = Unit {0}
 
 -- The event of a line that is not the first, in a run of so many initiators: its numbers are in the ranges of a line's fields, its bytes are
--- below 256, and a command fills its buffer.
+-- below 256, a unit is one of four, and a command fills its buffer.
 abbrev pub IsLine : Event → (initiators : ℕ) → Type 0
 IsLine (events.Begin initiators ready) n = ⊥
 IsLine (events.Act initiator action) n = (initiator < n) × BytesAction action × IsAction action × FillsAction action

@@ -1,5 +1,5 @@
 -- The run begins, and its lines follow.
-use Rattle.std.proofs.Common.{◌≡◌, ◌∙◌, sym, ap, subst, true, [], drop, length, reverse, arith}
+use Rattle.std.proofs.Common.{◌≡◌, ◌∙◌, ◌≤◌, sym, ap, subst, true, [], drop, length, reverse, arith}
 use Rattle.std.specs.List.{AllByRecursion}
 use Rattle.std.proofs.lemmas.List.{length-map}
 use Rattle.sbp_journal.specs.Form.{HasForm}
@@ -35,5 +35,5 @@ run_lines-requires-clause-left g c =
 pub returns-clause-ran : goal.returns-clause-ran
 returns-clause-ran g c =
     on_ok c.run_lines.result _ _
-    (λ f. f _ _ (drill_begun c.args.words.seed c.args.words.count _ _ _ _ _ c.as_slice-2.result.now (c.in_ok-world.ensures.rest ∙ ap (λ es. drop 1 es) c.new-script.ensures) (c.deref_mut.ensures.value ∙ c.in_ok-world.ensures.world) (ap length c.as_slice.ensures.value ∙ sym (length-map _ _)) (c.in_ok-add_all.ensures [] c.requires.none) (c.as_slice-2.ensures ∙ ap reverse (c.fresh.ensures ∙ ap (λ w. w.fresh) (c.deref.ensures ∙ sym c.deref_mut.ensures.value)))))
+    (λ f. f _ _ (drill_begun c.args.words.seed c.args.words.count _ _ _ _ _ c.as_slice-2.result.now (c.in_ok-world.ensures.rest ∙ ap (λ es. drop 1 es) c.new-script.ensures) (c.deref_mut.ensures.value ∙ c.in_ok-world.ensures.world) (ap length c.as_slice.ensures.value ∙ sym (length-map _ _)) (subst (λ n. 1 ≤ n) (sym (length-map _ _)) c.requires.some) (subst (λ n. n ≤ 4) (sym (length-map _ _)) c.requires.few) (c.in_ok-add_all.ensures [] c.requires.none) (c.as_slice-2.ensures ∙ ap reverse (c.fresh.ensures ∙ ap (λ w. w.fresh) (c.deref.ensures ∙ sym c.deref_mut.ensures.value)))))
     c.run_lines.ensures.ran

@@ -28,7 +28,7 @@ pub returns-clause-ran : goal.returns-clause-ran
 returns-clause-ran g c =
     let begun = begins_some c.args.self.now.world c.args.event.now c.in-Begin.initiators c.in-Begin.ready c.in-Begin.is c.requires.event in
     both_ok c.begin.result _ _ _
-    (λ a e start happened front h. began_ran c.args.self.now _ _ _ _ start _ happened front _ _ _ _ a begun.0 begun.1.1 e c.in-Begin.is (ap length c.as_slice.ensures.value ∙ sym (length-map _ _)) h)
+    (λ a e start happened front h. began_ran c.args.self.now _ _ _ _ start _ happened front _ _ _ _ a begun.0 begun.1.1 e c.in-Begin.is (ap length c.as_slice.ensures.value ∙ sym (length-map _ _)) c.requires.can h)
     c.begin.ensures.state
     c.begin.ensures.text
 

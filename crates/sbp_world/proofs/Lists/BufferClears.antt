@@ -1,0 +1,162 @@
+-- Where no initiator injected packets, and each status of a login that was told well has its response in the buffer, no FIFO of a login or of a management ORB is in a response
+-- buffer; so what the target writes there are the responses of its operations.
+use Rattle.std.proofs.Common.{arith, ◌≡◌, ◌∙◌, refl, sym, ap, subst, ℕ, zero, suc, ◌+◌, ◌*◌, ◌^◌, ◌<◌, List, [], length, Some, None}
+use Rattle.bus_memory.specs.Windows.{window_at}
+use Rattle.bus_memory.specs.declared.window.Window.TheVariants as windows
+use Rattle.mgmt_agent.specs.declared.operation.Operation.{Operation}
+use Rattle.mgmt_agent.specs.declared.operation.Phase.{Phase}
+use Rattle.orb_layout.specs.ManagementOrbs.{management_orb}
+use Rattle.rbc_disk.specs.Disk.{Disk}
+use Rattle.sbp_bus.specs.Generations.{node_of, topology_at}
+use Rattle.sbp_journal.specs.Run.{Moment}
+use Rattle.sbp_laws.specs.Turns.{EachMoment}
+use Rattle.sbp_target.specs.Receiving.{answer_in}
+use Rattle.sbp_world.specs.Histories.{moments_behind}
+use Rattle.sbp_world.specs.Making.{new_world, ready_logins}
+use Rattle.sbp_world.specs.Runs.{Run, beginning}
+use Rattle.sbp_world.specs.Worlds.{WorldState}
+use Rattle.sbp_world.proofs.Wire.Bus.{node_has}
+use Rattle.sbp_world.proofs.Agents.Management.Holding.{Holding}
+use Rattle.sbp_world.proofs.Agents.Management.Still.{hist}
+use Rattle.sbp_world.specs.Lists.Buffers.{AreBuffersClear, AreFifosClear, IsClearFifo}
+use Rattle.sbp_world.specs.Lists.Needs.{IsCalm}
+use Rattle.sbp_world.specs.Lists.OwnLogins.{AreOwn, GoodIn, IsItsFifo, IsTame, of_login, of_place}
+use Rattle.sbp_world.specs.Lists.Placings.{BasedAt}
+use Rattle.sbp_world.specs.Lists.Responding.{BufferSo}
+use Rattle.sbp_world.specs.Lists.Shorts.{AreShort}
+use Rattle.sbp_world.proofs.Lists.Courses.{EveryPlace, Keeps, at_between, at_lines}
+use Rattle.sbp_world.proofs.Lists.FifoProved.{IsClosed, buffers_everywhere}
+use Rattle.sbp_world.proofs.Lists.KeptReplies.{payload_is}
+use Rattle.sbp_world.proofs.Lists.KeptTurns.{id_is, operation_is}
+use Rattle.sbp_world.proofs.Lists.LiveGiven.{ShortLaw}
+use Rattle.sbp_world.proofs.Lists.LiveJoined.{AreBuffersAt}
+use Rattle.sbp_world.proofs.Lists.LiveProved.{BuffersShort, buffers_by}
+use Rattle.sbp_world.proofs.Lists.LiveSteps.{id_in}
+use Rattle.sbp_world.proofs.Lists.OwnFifos.{fifo_no_window, tame_before}
+use Rattle.sbp_world.proofs.Lists.OwnLogins.{AreOwnOpsAt, OwnKnown, ops_everywhere, own_everywhere, own_known}
+use Rattle.sbp_world.proofs.Lists.OwnOps.{IsOwnOp, brings_good, short_from}
+use Rattle.sbp_world.proofs.Lists.PlacedOps.{each_from}
+use Rattle.sbp_world.proofs.Lists.StatusOffice.{ArePlacedFor}
+
+-- ---- such a FIFO is in no response buffer
+none_window : (place : ℕ) → None ≡ Some (windows.Response place) → ⊥
+none_window place e = cc
+
+place_window : (place : ℕ) → place < 2 → window_at (0x12002000 + 0x20 * place) ≡ None
+unfolding window_at
+place_window zero small = refl
+place_window (suc zero) small = refl
+place_window (suc (suc place)) small = absurd (omega (arith, small))
+
+its_clear : (fifo : ℕ) → IsItsFifo fifo → IsClearFifo fifo
+its_clear fifo (of_login own) place e = none_window place (sym (fifo_no_window fifo own) ∙ e)
+its_clear fifo (of_place at small is) place e = none_window place (sym (place_window at small) ∙ (ap window_at (sym is) ∙ e))
+
+-- ---- what is so of a history
+abbrev pub Tamely : ℕ → List Moment → Type 0
+Tamely n past = IsTame past × AreShort past × ((i : ℕ) → i < n → EachMoment (BasedAt i) past)
+
+closed : IsClosed Tamely
+closed n later past c = (tame_before later past c.0, short_from later past c.1, λ i l. each_from (BasedAt i) later past (c.2 i l))
+
+-- ---- the operations of an initiator's node
+record Ground (start : List Disk) (past : List Moment) (w : WorldState) : Type 0 where
+  known : OwnKnown start past w
+  ops : AreOwnOpsAt start past w
+
+module _ (units ready : ℕ) (more_units : 0 < units) (start : List Disk) {past : List Moment} {lines : ℕ} (w : WorldState) (h : Holding units ready start past lines w) (g : Ground start (hist past w) w) (c : Tamely (length w.initiators) (hist past w)) (i : ℕ) (inside : i < length w.initiators) where
+  few : i + 1 < 2 ^ 16
+  few = let all = g.known.wrote.few in omega (arith, inside, all)
+
+  node_is : (op : Operation) → node_of w.generations 0 op.source ≡ Some (suc i) → op.source ≡ id_in w i
+  node_is op n = sym (node_has (topology_at w.generations 0) op.source (suc i) n).id_is
+
+  own_at : (op : Operation) → w.target.manager.operation ≡ Some op → op.source ≡ id_in w i → IsOwnOp start (hist past w) i op
+  own_at op is source =
+      g.ops i inside (c.0 i) c.1 (c.2 i inside) op (operation_is units ready more_units start w h i inside ∙ is)
+      (source ∙ sym (id_is units ready more_units start w h i inside))
+
+  own_of : (op : Operation) → w.target.manager.operation ≡ Some op → node_of w.generations 0 op.source ≡ Some (suc i) → IsOwnOp start (hist past w) i op
+  own_of op is n = own_at op is (node_is op n)
+
+  placed_for : ArePlacedFor w i
+  placed_for op is source = let o = own_at op is source in (o.place, (o.small, o.orb))
+
+  fifos_clear : AreFifosClear i w
+  fifos_clear = record {
+    kept = λ op fifo is n phase. its_clear fifo (subst (λ (x : Phase). GoodIn x) phase (own_of op is n).good);
+    low = λ op orb high is n phase. its_clear orb.fifo (subst (λ (x : Phase). GoodIn x) phase (own_of op is n).good).its;
+    read = λ sent is_for p label e op is n phase bytes pays.
+        its_clear (management_orb bytes).fifo
+        (brings_good units ready more_units start w h i inside few (c.0 i) (g.known.wrote.none i inside) g.known.counts g.known.are (g.known.places i inside) c.1 (g.known.logins i inside) is_for.serial sent is_for.found is_for.to p label e op is (node_is op n) (own_of op is n)
+        phase bytes (payload_is (answer_in p) 32 bytes pays)).its;
+  }
+
+-- ---- over the runs
+abbrev pub FifosAt : List Moment → WorldState → Type 0
+FifosAt past w = Tamely (length w.initiators) past → (i : ℕ) → i < length w.initiators → AreFifosClear i w × ArePlacedFor w i
+
+ground_everywhere : EveryPlace Ground
+ground_everywhere = record {
+  after_lines = λ line run r has small size so_far. record { known = own_known.after_lines line run r has small size so_far; ops = ops_everywhere.after_lines line run r has small size so_far };
+  between = λ line run r has small size next most told m so_far. record { known = own_known.between line run r has small size next most told m so_far; ops = ops_everywhere.between line run r has small size next most told m so_far };
+}
+
+all_fifos : (units ready : ℕ) → 0 < units → (start : List Disk) → Keeps units ready start (Ground start) FifosAt
+all_fifos units ready has start past s later t lines more g h h_now q q_now before c i inside =
+    (fifos_clear units ready has start t.world h_now q_now c i inside, placed_for units ready has start t.world h_now q_now c i inside)
+
+no_operation : {A : Type 0} (op : Operation) → None ≡ Some op → A
+no_operation op e = absurd (differ e)
+  where
+    differ : None ≡ Some op → ⊥
+    differ e = cc
+
+first_fifos : (line : ℕ) (run : Run) → FifosAt (moments_behind line run []) (beginning run).world
+unfolding new_world
+first_fifos line run c i inside = (
+  record {
+    kept = λ op fifo is n phase. no_operation op is;
+    low = λ op orb high is n phase. no_operation op is;
+    read = λ sent is_for p label e op is n phase bytes pays. no_operation op is;
+  },
+  λ op is source. no_operation op is,
+)
+
+pub fifos_everywhere : EveryPlace (λ start past w. FifosAt past w)
+fifos_everywhere = record {
+  after_lines = λ line run r has small size so_far.
+      at_lines Ground FifosAt ground_everywhere line run r.few has small size (all_fifos run.units (ready_logins run.initiators run.ready) has run.start.disks) (first_fifos line run) r so_far;
+  between = λ line run r has small size next most told m so_far.
+      at_between Ground FifosAt ground_everywhere line run r.few has small size (all_fifos run.units (ready_logins run.initiators run.ready) has run.start.disks) (first_fifos line run) r next most told m so_far;
+}
+
+-- ---- and the logins
+some_there : (i n : ℕ) → i < n → 0 < n
+some_there i n l = omega (arith, l)
+
+clear_of : (past : List Moment) (w : WorldState) → FifosAt past w → (IsTame past → AreShort past → ((i : ℕ) → i < length w.initiators → EachMoment (BasedAt i) past) → 0 < length w.initiators → AreOwn w) → Tamely (length w.initiators) past → AreBuffersClear past w
+clear_of past w fifos own c = record {
+  logins = λ i inside calm place login e n. its_clear login.fifo (of_login (own c.0 c.1 c.2 (some_there i (length w.initiators) inside) place login e));
+  fifos = λ i inside calm. (fifos c i inside).0;
+}
+
+clear_everywhere : EveryPlace (λ start past w. Tamely (length w.initiators) past → AreBuffersClear past w)
+clear_everywhere = record {
+  after_lines = λ line run r has small size so_far. clear_of _ _ (fifos_everywhere.after_lines line run r has small size so_far) (own_everywhere.after_lines line run r has small size so_far);
+  between = λ line run r has small size next most told m so_far. clear_of _ _ (fifos_everywhere.between line run r has small size next most told m so_far) (own_everywhere.between line run r has small size next most told m so_far);
+}
+
+-- ---- what the target writes into response buffers
+pub buffers_law : EveryPlace BuffersShort
+buffers_law = record {
+  after_lines = λ line run r has small size so_far tame shorts based i inside. all.after_lines line run r has small size so_far (tame, shorts, based) i inside (tame i);
+  between = λ line run r has small size next most told m so_far tame shorts based i inside. all.between line run r has small size next most told m so_far (tame, shorts, based) i inside (tame i);
+}
+  where
+    all : EveryPlace (λ start past w. Tamely (length w.initiators) past → (i : ℕ) → i < length w.initiators → IsCalm past i → EachMoment (BufferSo start i) past)
+    all = buffers_everywhere Tamely closed clear_everywhere
+
+-- as lines name units of 16 bits
+pub buffers_held : ShortLaw → EveryPlace AreBuffersAt
+buffers_held short = buffers_by short buffers_law

@@ -1,0 +1,24 @@
+-- The laws of lists, as the clauses of a world have them: with the lines of a run, which name units of 16 bits.
+use Rattle.sbp_world.specs.Lists.AnswerLengths.{AnswerLengthsLaw}
+use Rattle.sbp_world.specs.Lists.Closes.{OpenListsLaw}
+use Rattle.sbp_world.specs.Lists.Live.{LiveLaw}
+use Rattle.sbp_world.specs.Lists.Opened.{LogoutsLaw}
+use Rattle.sbp_world.specs.Lists.TameLists.{ListsLaw}
+use Rattle.sbp_world.proofs.Lists.AnswerLengths.{answer_lengths_law}
+use Rattle.sbp_world.proofs.Lists.Lawful as proved
+use Rattle.sbp_world.proofs.Lists.ShortLines.{short_law}
+
+pub sessions_law : LiveLaw
+sessions_law = proved.sessions_law short_law
+
+pub logouts_law : LogoutsLaw
+logouts_law = proved.logouts_law short_law
+
+pub open_lists_law : OpenListsLaw
+open_lists_law = proved.open_lists_law short_law
+
+pub lists_law : ListsLaw
+lists_law = proved.lists_law short_law
+
+pub lengths_law : AnswerLengthsLaw
+lengths_law = answer_lengths_law lists_law

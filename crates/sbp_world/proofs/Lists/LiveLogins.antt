@@ -1,0 +1,32 @@
+-- The logins of the initiators' nodes, the logouts, and the responses of logins, in every run in which no initiator injected packets, and before which lists were open as
+-- they should be.
+use Rattle.std.proofs.Common.{ℕ, ◌<◌, length}
+use Rattle.sbp_laws.specs.Turns.{EachMoment}
+use Rattle.sbp_world.specs.Lists.Closes.{Under}
+use Rattle.sbp_world.specs.Lists.Live.{LiveLaw}
+use Rattle.sbp_world.specs.Lists.Opened.{NoneRefused}
+use Rattle.sbp_world.specs.Lists.OwnLogins.{IsTame}
+use Rattle.sbp_world.specs.Lists.Placings.{BasedAt}
+use Rattle.sbp_world.proofs.Lists.BufferClears.{buffers_held}
+use Rattle.sbp_world.proofs.Lists.Courses.{EveryPlace}
+use Rattle.sbp_world.proofs.Lists.LiveGiven.{LawsAt, ShortLaw, laws_of}
+use Rattle.sbp_world.proofs.Lists.LiveJoined.{AreStoredAt}
+use Rattle.sbp_world.proofs.Lists.LiveProved.{all_based, live, none_refused}
+use Rattle.sbp_world.proofs.Lists.ManageProved.{one_in_hand_law}
+use Rattle.sbp_world.proofs.Lists.StoredRuns.{stored_everywhere}
+
+module _ (short : ShortLaw) where
+  pub laws : EveryPlace LawsAt
+  laws = laws_of one_in_hand_law short
+
+  pub stored : EveryPlace AreStoredAt
+  stored = stored_everywhere laws (buffers_held short)
+
+  pub logins_live : LiveLaw
+  logins_live = live laws (buffers_held short) stored
+
+  pub logouts_end : Under (λ past w. IsTame past → NoneRefused past w)
+  logouts_end = none_refused laws (buffers_held short) stored
+
+  pub logins_based : Under (λ past w. IsTame past → (i : ℕ) → i < length w.initiators → EachMoment (BasedAt i) past)
+  logins_based = all_based laws (buffers_held short) stored

@@ -1,0 +1,92 @@
+-- An agent that has a list open has the list for which the write that opened it was named: the present one, or the latest one while its initiator is ahead.
+use Rattle.std.proofs.Common.{arith, ◌≡◌, ◌∙◌, refl, sym, ap, ◌&&◌, ℕ, suc, nat_eq, Bool, true, false, cond, List, [], ◌∷◌, ◌++◌, Option, Some, None}
+use Rattle.std.proofs.lemmas.Bool.Decides.{nat_tests}
+use Rattle.bus_memory.specs.Windows.{slot_of}
+use Rattle.sbp_journal.specs.Run.{Moment, asked, said}
+use Rattle.sbp_journal.specs.Transactions.{Sending}
+use Rattle.sbp_journal.specs.Wire.{terms}
+use Rattle.sbp_journal.specs.declared.note.Note.{Note}
+use Rattle.sbp_journal.specs.declared.note.Note.TheVariants as notes
+use Rattle.sbp_laws.specs.Lists.{list_in, named_in}
+use Rattle.sbp_world.specs.Telling.{holder}
+use Rattle.sbp_world.specs.Worlds.{WorldState}
+use Rattle.sbp_world.specs.Lists.Closes.{AreHere, IsHere, Under}
+use Rattle.sbp_world.specs.Lists.Needs.{initiator_in, is_open_at, machine_at}
+use Rattle.sbp_world.specs.Lists.OwnLogins.{IsTame}
+use Rattle.sbp_world.specs.Lists.Opened.{AreAllOpenFor, AreOpenFor, AsGot, IsOpenFor, IsUp, as_got, got_as, view}
+use Rattle.sbp_world.specs.Lists.Places.{AreNamedFor}
+use Rattle.sbp_world.proofs.Lists.OpenTurns.{listing_up}
+
+some_same : {A : Type 0} (x y : A) → Some x ≡ Some y → x ≡ y
+some_same x y e = cc
+
+-- ---- when a packet was got first
+record WasGot (past : List Moment) (serial i address : ℕ) (packet : Option Sending) (list : Option ℕ) : Type 0 where
+  later : List Moment
+  earlier : List Moment
+  is : later ++ said (notes.Got serial) ∷ earlier ≡ past
+  sent : (terms earlier).sent serial ≡ packet
+  list_is : list ≡ list_in (named_in earlier i (slot_of address))
+
+none_got : {A : Type 0} (packet : Option Sending) (list : Option ℕ) → None ≡ as_got packet list → A
+none_got packet list e = absurd (let no : None ≡ as_got packet list = e in cc)
+
+one_more : (m : Moment) (past : List Moment) (serial i address : ℕ) (packet : Option Sending) (list : Option ℕ) → WasGot past serial i address packet list → WasGot (m ∷ past) serial i address packet list
+one_more m past serial i address packet list g = record { later = m ∷ g.later; earlier = g.earlier; is = ap (λ ms. m ∷ ms) g.is; sent = g.sent; list_is = g.list_is }
+
+packet_same : (a b : Option Sending) (x y : Option ℕ) → as_got a x ≡ as_got b y → a ≡ b
+packet_same a b x y e = ap (λ (g : AsGot). g.packet) (some_same _ _ e)
+
+list_same : (a b : Option Sending) (x y : Option ℕ) → as_got a x ≡ as_got b y → x ≡ y
+list_same a b x y e = ap (λ (g : AsGot). g.list) (some_same _ _ e)
+
+got_here : (serial s i address : ℕ) (past : List Moment) (packet : Option Sending) (list : Option ℕ) (a b : Bool) → nat_eq s serial ≡ a → cond (a && b) (as_got ((terms past).sent serial) (list_in (named_in past i (slot_of address)))) (got_as past s i address) ≡ as_got packet list → (got_as past s i address ≡ as_got packet list → WasGot past s i address packet list) → WasGot (said (notes.Got serial) ∷ past) s i address packet list
+got_here serial s i address past packet list true true f e rest =
+    let own : serial ≡ s = grind (arith, nat_tests) in
+    record {
+      later = [];
+      earlier = past;
+      is = ap (λ n. said (notes.Got n) ∷ past) (sym own);
+      sent = ap (terms past).sent (sym own) ∙ packet_same ((terms past).sent serial) packet _ list e;
+      list_is = sym (list_same ((terms past).sent serial) packet (list_in (named_in past i (slot_of address))) list e);
+    }
+got_here serial s i address past packet list true false f e rest = one_more (said (notes.Got serial)) past s i address packet list (rest e)
+got_here serial s i address past packet list false b f e rest = one_more (said (notes.Got serial)) past s i address packet list (rest e)
+
+got_note : (note : Note) (past : List Moment) (s i address : ℕ) (packet : Option Sending) (list : Option ℕ) → got_as (said note ∷ past) s i address ≡ as_got packet list → (got_as past s i address ≡ as_got packet list → WasGot past s i address packet list) → WasGot (said note ∷ past) s i address packet list
+got_note (notes.Got serial) past s i address packet list e rest = got_here serial s i address past packet list (nat_eq s serial) (nat_eq ((terms past).news serial) 0) refl e rest
+got_note note past s i address packet list e rest = one_more (said note) past s i address packet list (rest e)
+
+got_found : (past : List Moment) (s i address : ℕ) (packet : Option Sending) (list : Option ℕ) → got_as past s i address ≡ as_got packet list → WasGot past s i address packet list
+got_found [] s i address packet list e = none_got packet list e
+got_found (asked line event ∷ past) s i address packet list e = one_more (asked line event) past s i address packet list (got_found past s i address packet list e)
+got_found (said note ∷ past) s i address packet list e = got_note note past s i address packet list e (λ f. got_found past s i address packet list f)
+
+-- ---- at a place
+module _ (past : List Moment) (w : WorldState) (i : ℕ) (o : AreOpenFor (view past i) w i) (names : AreNamedFor past i) where
+  is_up : (place : ℕ) → is_open_at w place ≡ true → initiator_in w place ≡ i → IsUp w i place
+  is_up place open_there own = record { up = listing_up (machine_at w place).phase open_there; own = own }
+
+  has_list : (place : ℕ) → (f : IsOpenFor (view past i) i place (holder w place).list) → (holder w place).list ≡ Some f.list
+  has_list place f =
+      let g = got_found past f.serial i f.address (Some f.packet) (holder w place).list f.named in
+      let n = names g.later g.earlier f.serial f.packet place f.address g.is g.sent f.at in
+      g.list_is ∙ ap list_in n.there ∙ (sym n.pointed ∙ f.pointed)
+
+  pub is_here : IsHere past w i
+  is_here = record {
+    present = λ place b open_there own same.
+        let f = o.each place b (is_up place open_there own) in
+        f.present same ∙ sym (has_list place f);
+    ahead = λ place n b open_there own l is.
+        let f = o.each place b (is_up place open_there own) in
+        let e : f.list ≡ n = some_same f.list n (sym (has_list place f) ∙ is) in
+        ap suc (sym e) ∙ f.ahead l;
+  }
+
+-- ---- at the places before which lists were so
+pub here_of : Under (λ past w. IsTame past → AreAllOpenFor past w) → Under (λ past w. IsTame past → AreHere past w)
+here_of law = record {
+  after_lines = λ line run r has small size so_far tame i b calm names. is_here _ _ i (law.after_lines line run r has small size so_far tame i b calm) names;
+  between = λ line run r has small size next most told m so_far tame i b calm names. is_here _ _ i (law.between line run r has small size next most told m so_far tame i b calm) names;
+}

@@ -1,0 +1,70 @@
+-- Two of the facts that open lists stand on at each place of a run in which no initiator injected packets, and before which they were so: no status is taken of an ORB that
+-- has not ended, and an ORB whose next pointer is read again stands in its slot. By what is known of the lists that are open there, and of where the ORBs of management
+-- operations stand.
+use Rattle.std.proofs.Common.{◌≡◌, ◌<◌, ℕ, Bool, false, List, length}
+use Rattle.sbp_journal.specs.Run.{Moment}
+use Rattle.sbp_laws.specs.Turns.{EachMoment}
+use Rattle.sbp_world.specs.Worlds.{WorldState, initiator_at, without_notes}
+use Rattle.sbp_world.specs.Sessions.Joined.{JoinedLaw}
+use Rattle.sbp_world.proofs.Agents.Management.Still.{hist}
+use Rattle.sbp_world.specs.Hosts.Fits.{AreRows}
+use Rattle.sbp_world.specs.Pointers.Pointers.{PointersLaw}
+use Rattle.sbp_world.specs.Lists.Begun.{BegunLaw}
+use Rattle.sbp_world.specs.Lists.Closes.{AreBehind, AreHere, AreUntaken, Under, WhereTame}
+use Rattle.sbp_world.specs.Lists.Needs.{IsCalm}
+use Rattle.sbp_world.specs.Lists.OwnLogins.{AreOwn}
+use Rattle.sbp_world.specs.Lists.Statuses.{AllSentSo, AllStatuses, AreStatuses, SentSo}
+use Rattle.sbp_world.proofs.Lists.RunOutcomes.{AreAsked}
+use Rattle.sbp_world.proofs.Lists.StatusAnswers.{answer_free, answers_apart}
+use Rattle.sbp_world.proofs.Lists.StatusBehind.{AllFree}
+use Rattle.sbp_world.proofs.Lists.StatusOffice.{ArePlacedFor, managed_sends}
+use Rattle.sbp_world.proofs.Lists.StatusProved as proved
+use Rattle.sbp_world.proofs.Lists.StatusProved.{AreNames, ground_law}
+use Rattle.sbp_world.proofs.Lists.StatusRested as rested
+use Rattle.sbp_world.proofs.Lists.StatusRested.{all_here, grounds_law, over_law}
+use Rattle.sbp_world.proofs.Lists.StatusRuns.{statuses_law}
+use Rattle.sbp_world.proofs.Lists.StatusWalk.{Given}
+use Rattle.sbp_world.proofs.Lists.Turns.{Ready}
+
+-- the management ORB of an operation of an initiator that injected no packets stands at one of its places of management, and each login has a FIFO of a login
+abbrev pub AllPlaced : List Moment → WorldState → Type 0
+AllPlaced ms w = (i : ℕ) → i < length w.initiators → IsCalm ms i → ArePlacedFor w i × AreOwn w
+
+abbrev Placed : ℕ → WorldState → Type 0
+Placed i w = ArePlacedFor w i × AreOwn w
+
+placed_on : (i : ℕ) (w : WorldState) → Placed i w → Placed i (without_notes w)
+placed_on i w p = ((λ op e source. p.0 op e source), (λ place login e. p.1 place login e))
+
+gives : (wild : ℕ → Bool) (i : ℕ) (own : wild i ≡ false) (past : List Moment) (w : WorldState) (r : Ready wild past w) (statuses : AreStatuses (hist past w) i) (each : EachMoment (SentSo i) (hist past w)) (rows : AreRows (hist past w) i (initiator_at w i).lists.slots) → AreAsked wild (hist past w) w → Placed i w → Given wild i own past w r statuses each rows
+gives wild i own past w r statuses each rows asked placed = record {
+  owned = placed.1;
+  answers = λ sent is_for run media serial. answers_apart wild i own past w r statuses each rows asked sent is_for run media serial;
+  managed = λ layer s note f u b others answer e. managed_sends i past w r.good placed.0 each layer s note f u b others answer e;
+}
+
+free : (wild : ℕ → Bool) (past : List Moment) (w : WorldState) → Ready wild past w → AreAsked wild (hist past w) w → AllFree wild w
+free wild past w r asked sent is_for run disks p label place f b login which e own none offset size wrote fifo =
+    answer_free wild past w r asked sent is_for run disks p label place f b login which e own none offset size wrote fifo
+
+module _ (pointers : PointersLaw) (begun : BegunLaw) (here : Under (WhereTame AreHere)) (placed : Under (WhereTame AllPlaced)) where
+  over : Under (WhereTame (proved.Over Placed placed_on gives))
+  over = record {
+    after_lines = λ line run r has small size so_far tame. (here.after_lines line run r has small size so_far tame, placed.after_lines line run r has small size so_far tame);
+    between = λ line run r has small size next most told m so_far tame. (here.between line run r has small size next most told m so_far tame, placed.between line run r has small size next most told m so_far tame);
+  }
+
+  pub sent_law : Under (WhereTame AllSentSo)
+  sent_law = proved.sent_law Placed placed_on gives (ground_law pointers begun) over
+
+  pub statuses : Under (WhereTame AllStatuses)
+  statuses = statuses_law.statuses sent_law
+
+  pub untaken_law : Under (WhereTame AreUntaken)
+  untaken_law = statuses_law.untaken sent_law
+
+  names : Under (WhereTame AreNames)
+  names = proved.named_law Placed placed_on gives (ground_law pointers begun) over
+
+  pub behind_law : JoinedLaw → Under (WhereTame AreBehind)
+  behind_law joined = rested.behind_law free (grounds_law (ground_law pointers begun) joined) (over_law (all_here here names) statuses untaken_law)

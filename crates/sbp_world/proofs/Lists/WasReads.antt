@@ -1,0 +1,161 @@
+-- What is known of a response that brought an ORB, at a later moment: the read that it answered, and what it spells.
+use Rattle.std.proofs.Common.{arith, ◌≡◌, ◌∙◌, refl, sym, ap, subst, ◌≤◌, ◌==◌, ℕ, Bool, true, false, cond, List, [], ◌∷◌, ◌++◌, length, Option, Some, None, Ok, Err}
+use Rattle.std.specs.Prelude.{IsSomeAnd}
+use Rattle.std.proofs.lemmas.Bool.Decides.{nat_tests}
+use Rattle.sbp_world.specs.Agents.AskedRuns.{read_access}
+use Rattle.bus_transactions.specs.Packets.{SerialsCount}
+use Rattle.sbp_world.proofs.Hosts.Remaining.{remains}
+use Rattle.sbp_world.proofs.Hosts.SentMoments.{sent_below, serials_from}
+use Rattle.sbp_world.specs.Hosts.Remaining.{Remains}
+use Rattle.orb_layout.specs.declared.ask.FailCause.{FailCause}
+use Rattle.orb_layout.specs.declared.command.CommandOrb.{CommandOrb}
+use Rattle.orb_layout.specs.CommandOrbs.{command_orb}
+use Rattle.orb_layout.specs.Replies.{Answer, Done, Expired, NoLabel, Payload, Refused, payload_of}
+use Rattle.rbc_disk.specs.Disk.{Disk}
+use Rattle.sbp_journal.specs.Addresses.{Access}
+use Rattle.sbp_journal.specs.Run.{Moment, asked, said}
+use Rattle.sbp_journal.specs.Transactions.{Sending}
+use Rattle.sbp_journal.specs.Wire.{terms}
+use Rattle.sbp_journal.specs.declared.note.Note.{Note}
+use Rattle.sbp_journal.specs.declared.note.Note.TheVariants as notes
+use Rattle.sbp_laws.specs.CarriedBytes.{IsRead, bytes_in, orb_read, payload_at, was_got}
+use Rattle.sbp_laws.specs.Packets.{access_at, access_in, answer_in, packet_at, packet_in, receiver_in, sender_in}
+use Rattle.sbp_laws.specs.Targets.{is_serial}
+use Rattle.sbp_laws.specs.Turns.{EachMoment}
+use Rattle.sbp_world.specs.Lists.OrbReads.{AnswersAt, IsBrought}
+use Rattle.sbp_world.proofs.Lists.Calm.{injects_before}
+use Rattle.sbp_world.proofs.Lists.ManageTerms.{untrue}
+
+-- ---- a packet that was got was got
+got_on : (note : Note) (past : List Moment) (r : ℕ) → was_got past r ≡ true → was_got (said note ∷ past) r ≡ true
+got_on (notes.Got other) past r e = by (other == r)
+  where
+    by : (b : Bool) → cond b true (was_got past r) ≡ true
+    by true = refl
+    by false = e
+got_on note past r e = e
+
+got_later : (later past : List Moment) (r : ℕ) → was_got past r ≡ true → was_got (later ++ past) r ≡ true
+got_later [] past r e = e
+got_later (asked line event ∷ later) past r e = got_later later past r e
+got_later (said note ∷ later) past r e = got_on note (later ++ past) r (got_later later past r e)
+
+got_now : (past : List Moment) (r : ℕ) → was_got (said (notes.Got r) ∷ past) r ≡ true
+got_now past r = ap (λ b. cond b true (was_got past r)) (let e : (r == r) ≡ true = grind (arith, nat_tests) in e)
+
+-- ---- the bytes of a whole answer
+record IsWhole (answer : Answer) (bytes : List ℕ) : Type 0 where
+  is : bytes_in answer ≡ bytes
+  whole : length bytes ≡ 32
+
+whole_by : (b : Bool) (own bytes : List ℕ) (cause : FailCause) → (length own == 32) ≡ b → cond b (Ok own) (Err cause) ≡ Ok bytes → IsWhole (Payload own) bytes
+whole_by true own bytes cause e f =
+    let same : own ≡ bytes = cc in
+    record { is = same; whole = ap length (sym same) ∙ (let z : length own ≡ 32 = grind (arith, nat_tests) in z) }
+whole_by false own bytes cause e f = absurd (let differ : Err cause ≡ Ok bytes = f in cc)
+
+no_bytes : {A : Type 0} (cause : FailCause) (bytes : List ℕ) → Err cause ≡ Ok bytes → A
+no_bytes cause bytes e = absurd (let differ : Err cause ≡ Ok bytes = e in cc)
+
+whole_of : (answer : Answer) (bytes : List ℕ) → payload_of answer 32 ≡ Ok bytes → IsWhole answer bytes
+whole_of (Payload own) bytes e = whole_by (length own == 32) own bytes _ refl e
+whole_of Done bytes e = no_bytes _ bytes e
+whole_of (Refused rcode) bytes e = no_bytes _ bytes e
+whole_of Expired bytes e = no_bytes _ bytes e
+whole_of NoLabel bytes e = no_bytes _ bytes e
+
+-- ---- a packet that was sent
+receiver_sent : (found : Option Sending) (node : ℕ) → is_serial (receiver_in found) node ≡ true → (packet : Sending) × (found ≡ Some packet)
+receiver_sent None node e = untrue e
+receiver_sent (Some packet) node e = (packet, refl)
+
+sender_sent : (found : Option Sending) (node : ℕ) → sender_in found ≡ Some node → (packet : Sending) × (found ≡ Some packet)
+sender_sent None node e = absurd (let differ : None ≡ Some node = e in cc)
+sender_sent (Some packet) node e = (packet, refl)
+
+-- what remains, over two spans
+two_spans : (a b c : List Moment) → Remains a b → Remains b c → Remains a c
+two_spans a b c x y = record {
+  count = (let p = x.count in let q = y.count in omega (arith, p, q));
+  sent = λ r h. y.sent r (let p = x.count in omega (arith, p, h)) ∙ x.sent r h;
+  answers = λ r h. y.answers r (let p = x.count in omega (arith, p, h)) ∙ x.answers r h;
+  before_it = λ r h. y.before_it r (let p = x.count in omega (arith, p, h)) ∙ x.before_it r h;
+}
+
+-- a response that the target got, whole, which answers its read of 32 bytes at an address, and spells an ORB
+pub record IsAnswered (past : List Moment) (address : ℕ) (orb : CommandOrb) : Type 0 where
+  pub response : ℕ
+  pub request : ℕ
+  pub got : was_got past response ≡ true
+  pub whole : length (payload_at (terms past) response) ≡ 32
+  pub answers : (terms past).answers response ≡ Some request
+  pub of_target : sender_in ((terms past).sent request) ≡ Some 0
+  pub asks : IsSomeAnd (access_at (terms past) request) (λ access. IsRead access address 32)
+  pub orb_is : orb_read past response ≡ orb
+
+each_at : (P : Moment → List Moment → Type 0) (later : List Moment) (m : Moment) (earlier : List Moment) → EachMoment P (later ++ m ∷ earlier) → P m earlier
+each_at P [] m earlier e = e.0
+each_at P (x ∷ later) m earlier e = each_at P later m earlier e.1
+
+module _ (start : List Disk) (past : List Moment) (place address : ℕ) (orb : CommandOrb) (b : IsBrought start past place address orb) (counts : SerialsCount past) where
+  abbrev then : List Moment
+  then = said (notes.Got b.response) ∷ b.earlier
+
+  counts_later : SerialsCount (b.later ++ then)
+  counts_later = subst SerialsCount (sym b.is) counts
+
+  counts_then : SerialsCount then
+  counts_then = serials_from b.later then counts_later
+
+  stays : Remains b.earlier past
+  stays = subst (Remains b.earlier) b.is (two_spans b.earlier then (b.later ++ then) (remains (said (notes.Got b.response) ∷ []) b.earlier counts_then) (remains b.later then counts_later))
+
+  abbrev own : (packet : Sending) × ((terms b.earlier).sent b.response ≡ Some packet)
+  own = receiver_sent ((terms b.earlier).sent b.response) 0 b.by_target
+
+  response_below : b.response ≤ (terms b.earlier).count
+  response_below = sent_below b.earlier b.response own.0 counts_then own.1
+
+  abbrev read : (packet : Sending) × ((terms b.earlier).sent b.request ≡ Some packet)
+  read = sender_sent ((terms b.earlier).sent b.request) 0 b.asked.from
+
+  request_below : b.request ≤ (terms b.earlier).count
+  request_below = sent_below b.earlier b.request read.0 counts_then read.1
+
+  is_whole : IsWhole (answer_in (packet_at (terms b.earlier) b.response)) b.bytes
+  is_whole = whole_of (answer_in (packet_at (terms b.earlier) b.response)) b.bytes b.brings
+
+  payload_is : payload_at (terms past) b.response ≡ b.bytes
+  payload_is = ap (λ (x : Option Sending). bytes_in (answer_in (packet_in x))) (stays.sent b.response response_below) ∙ is_whole.is
+
+  -- what it spells
+  orb_is : orb_read past b.response ≡ orb
+  orb_is = ap command_orb payload_is ∙ b.spells
+
+  access_is : access_at (terms past) b.request ≡ Some (read_access address 32)
+  access_is = ap (λ (x : Option Sending). access_in (packet_in x)) (stays.sent b.request request_below) ∙ (b.asked.is ∙ ap (λ (a : Access). Some a) b.asked.asks)
+
+  -- of an initiator that injected no packets it answers that read
+  injects_earlier : (later before : List Moment) (node : ℕ) → (terms (later ++ before)).injects node ≡ false → (terms before).injects node ≡ false
+  injects_earlier [] before node e = e
+  injects_earlier (m ∷ later) before node e = injects_earlier later before node (injects_before m (later ++ before) node e)
+
+  injects_then : (node : ℕ) → (terms past).injects node ≡ false → (terms b.earlier).injects node ≡ false
+  injects_then node e =
+      injects_before (said (notes.Got b.response)) b.earlier node
+      (injects_earlier b.later then node (subst (λ ms. (terms ms).injects node ≡ false) (sym b.is) e))
+
+  -- where no node injected packets
+  pub was_answered : EachMoment AnswersAt past → ((node : ℕ) → (terms past).injects node ≡ false) → IsAnswered past address orb
+  was_answered answers fair = record {
+    response = b.response;
+    request = b.request;
+    got = subst (λ ms. was_got ms b.response ≡ true) b.is (got_later b.later then b.response (got_now b.earlier b.response));
+    whole = ap length payload_is ∙ is_whole.whole;
+    answers = stays.answers b.response response_below
+        ∙ each_at AnswersAt b.later (said (notes.Got b.response)) b.earlier (subst (EachMoment AnswersAt) (sym b.is) answers) b.request b.closed read.0 read.1
+        (injects_then read.0.from (fair read.0.from)) (injects_then read.0.to (fair read.0.to));
+    of_target = ap sender_in (stays.sent b.request request_below) ∙ b.asked.from;
+    asks = subst (λ x. IsSomeAnd x (λ access. IsRead access address 32)) (sym access_is) (record { read = refl; block = refl; from = refl; size = refl });
+    orb_is = orb_is;
+  }

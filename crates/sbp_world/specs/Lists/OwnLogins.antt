@@ -1,0 +1,47 @@
+-- The logins that the target has, where no initiator injected packets (NCITS 325-1998, login): each has a FIFO of a login, which is in no window of its initiator and
+-- no FIFO of a place of management.
+use Rattle.std.specs.Prelude.{◌≡◌, ◌<◌, ◌≤◌, ◌+◌, ◌*◌, ◌^◌, ℕ, List, Some}
+use Rattle.login_table.specs.declared.login.Login.{Login}
+use Rattle.mgmt_agent.specs.declared.function.Function.TheVariants as functions
+use Rattle.mgmt_agent.specs.declared.operation.Phase.{Phase}
+use Rattle.mgmt_agent.specs.declared.operation.Phase.TheVariants as phases
+use Rattle.mgmt_agent.specs.Statuses.{function_of}
+use Rattle.orb_layout.specs.declared.management.ManagementOrb.{ManagementOrb}
+use Rattle.sbp_journal.specs.Run.{Moment}
+use Rattle.sbp_laws.specs.Targets.{login_fifo}
+use Rattle.sbp_target.specs.Nodes.{login_at}
+use Rattle.sbp_world.specs.Worlds.{WorldState}
+use Rattle.sbp_world.specs.Lists.Needs.{IsCalm}
+
+-- no initiator injected packets
+abbrev pub IsTame : List Moment → Type 0
+IsTame past = (i : ℕ) → IsCalm past i
+
+-- the FIFO of a login number
+pub record IsLoginFifo (fifo : ℕ) : Type 0 where
+  pub number : ℕ
+  pub few : number ≤ 2 ^ 32
+  pub is : fifo ≡ login_fifo number
+
+-- each login
+abbrev pub AreOwn : WorldState → Type 0
+AreOwn w = (place : ℕ) (login : Login) → login_at w.target place ≡ Some login → IsLoginFifo login.fifo
+
+-- ---- the management ORBs that the target reads
+
+-- the FIFO of a login number, or that of a place of management
+pub data IsItsFifo (fifo : ℕ) : Type 0 where
+  of_login : IsLoginFifo fifo → IsItsFifo fifo
+  of_place : (place : ℕ) → place < 2 → fifo ≡ 0x12002000 + 0x20 * place → IsItsFifo fifo
+
+-- an ORB names such a FIFO, and that of a login where it asks for one
+pub record IsGoodOrb (orb : ManagementOrb) : Type 0 where
+  pub its : IsItsFifo orb.fifo
+  pub login : function_of orb.function ≡ Some functions.Login → IsLoginFifo orb.fifo
+
+-- what a phase keeps is so
+abbrev pub GoodIn : Phase → Type 0
+GoodIn (phases.HighEui orb) = IsGoodOrb orb
+GoodIn (phases.LowEui orb high) = IsGoodOrb orb
+GoodIn (phases.Response fifo) = IsItsFifo fifo
+GoodIn phase = Unit {0}
