@@ -35,6 +35,9 @@ pub mod Early
 pub mod EarlyLines
 pub mod EarlyTurns
 pub mod EndedLists
+pub mod EndTells
+pub mod Endless
+pub mod EndReads
 pub mod Executes
 pub mod Extends
 pub mod FifoLines
@@ -368,3 +371,4 @@ pub mod AnswerChecks
 pub mod WasReads
 pub mod AnswerGots
 pub mod AnsweredReads
+pub mod AnsweredEnds

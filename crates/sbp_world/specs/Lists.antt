@@ -20,6 +20,7 @@ pub mod Live
 pub mod LoginAnswers
 pub mod OrbReads
 pub mod CarriedRuns
+pub mod EndReads
 pub mod ManagedFor
 pub mod Managing
 pub mod Names
@@ -48,3 +49,4 @@ pub mod Tellings
 pub mod Underway
 pub mod AnswerLengths
 pub mod AnsweredReads
+pub mod AnsweredEnds

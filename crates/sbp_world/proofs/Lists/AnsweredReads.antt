@@ -27,17 +27,17 @@ use Rattle.sbp_world.proofs.Lists.Judging.{counts_at}
 use Rattle.sbp_world.proofs.Lists.WasReads.{was_answered}
 
 -- ---- of a history: its serials count, responses answer what waits for them, and no node injected packets
-record IsFair (past : List Moment) : Type 0 where
-  counts : SerialsCount past
-  answers : EachMoment AnswersAt past
-  fair : (node : ℕ) → (terms past).injects node ≡ false
+pub record IsFair (past : List Moment) : Type 0 where
+  pub counts : SerialsCount past
+  pub answers : EachMoment AnswersAt past
+  pub fair : (node : ℕ) → (terms past).injects node ≡ false
 
 counts_before : (m : Moment) (past : List Moment) → SerialsCount (m ∷ past) → SerialsCount past
 counts_before (asked line event) past c = c
 counts_before (said (notes.Sent s generation from to bytes)) past c = c.1
 counts_before (said note) past c = c
 
-fair_before : (m : Moment) (past : List Moment) → IsFair (m ∷ past) → IsFair past
+pub fair_before : (m : Moment) (past : List Moment) → IsFair (m ∷ past) → IsFair past
 fair_before m past f = record { counts = counts_before m past f.counts; answers = f.answers.1; fair = λ node. injects_before m past node (f.fair node) }
 
 -- ---- at each run of an ORB
@@ -76,7 +76,7 @@ all_answered wild calm start (m ∷ past) f r =
     let g = fair_before m past f in (moment_answered wild calm start past g m r.0, all_answered wild calm start past g r.1)
 
 -- ---- at each place of a run
-record Told (past : List Moment) : Type 0 where
+pub record Told (past : List Moment) : Type 0 where
   counts : SerialsCount past
   answers : EachMoment AnswersAt past
   fair : (terms past).injects 0 ≡ false
@@ -96,7 +96,7 @@ all_told units ready start past s later t lines more g h h_now q q_now p =
       fair = subst (λ (t : Terms). t.injects 0 ≡ false) (past_terms t.world stands) stands.is.fair;
     }
 
-told_everywhere : EveryPlace (λ start past w. Told past)
+pub told_everywhere : EveryPlace (λ start past w. Told past)
 told_everywhere = record {
   after_lines = λ line run r has small size so_far.
       at_lines Nothing (λ past w. Told past) nothing line run r.few has small size (all_told run.units (ready_logins run.initiators run.ready) run.start.disks) (record { counts = tt; answers = (tt, (tt, tt)); fair = refl }) r so_far;
@@ -108,7 +108,7 @@ fair_nodes : (past : List Moment) → Told past → IsTame past → (node : ℕ)
 fair_nodes past t tame zero = t.fair
 fair_nodes past t tame (suc i) = tame i
 
-fair_of : (past : List Moment) → Told past → IsTame past → IsFair past
+pub fair_of : (past : List Moment) → Told past → IsTame past → IsFair past
 fair_of past t tame = record { counts = t.counts; answers = t.answers; fair = fair_nodes past t tame }
 
 pub answered_reads_law : AnsweredReadsLaw

@@ -43,12 +43,16 @@ use Rattle.sbp_world.specs.Hosts.Runs.{IsRun, more_deliveries}
 use Rattle.sbp_world.proofs.Hosts.Orbs.{orbs_law}
 use Rattle.sbp_world.proofs.Hosts.Runs.{count_after, count_between}
 use Rattle.sbp_world.specs.Lists.CarriedRuns.{ReadAt, RunsAreRead, RunsReadLaw}
+use Rattle.sbp_world.specs.Lists.EndReads.{EndAt, EndsAreRead, EndsReadLaw}
 use Rattle.sbp_world.specs.Lists.Execution.{ExecutionRunLaw, LoginAt, LoginsLaw, LoginsRunLaw, OutcomeAt, OutcomesLaw, OutcomesRunLaw}
 use Rattle.sbp_world.specs.Lists.Needs.{IsCalm, IsNamed, OpenAfter, OpenBefore, OpenBetween, OpenIn, OpenLists, OpenWhile}
 use Rattle.sbp_world.specs.Lists.Opens.{OpensLaw}
 use Rattle.sbp_world.specs.Lists.OrbReads.{AskedAsGot}
 use Rattle.sbp_world.specs.Lists.Running.{ListsAt, ListsLaw, RunsAt, RunsLaw}
 use Rattle.sbp_world.proofs.Lists.Calm.{asked_calm, calm_before}
+use Rattle.sbp_world.proofs.Lists.Endless as endless
+use Rattle.sbp_world.proofs.Lists.Endless.{IsEndBy, OneEnd, no_end, one_end}
+use Rattle.sbp_world.proofs.Lists.EndReads.{ended_so, plain_at as end_plain}
 use Rattle.sbp_world.proofs.Lists.OpenProved.{opens_law}
 use Rattle.sbp_world.proofs.Lists.OrbLines.{line_reads}
 use Rattle.sbp_world.proofs.Lists.OrbPlaces.{HasReads, has_reads}
@@ -119,9 +123,50 @@ module _ (wild : ℕ → Bool) (start : List Disk) where
   unfolding delivered_next MayNext
   next_law past s set one m passes l = lowest_law past s set one (lowest s.world) m passes l
 
-  end_law : (past : List Moment) (done : Bool) → RunAt wild start (said (end_note done)) past
-  end_law past true = (tt, (tt, tt))
-  end_law past false = (tt, (tt, tt))
+  end_law : (past : List Moment) (done : Bool) → RunAt wild start (said (end_note done)) past × EndAt wild start (said (end_note done)) past
+  end_law past true = ((tt, (tt, tt)), tt)
+  end_law past false = ((tt, (tt, tt)), tt)
+
+  -- ---- the ORBs that end were read
+  abbrev E : List Moment → Type 0
+  E past = EndsAreRead wild start past
+
+  mild_law : (more : List Note) → endless.AllPlain more → (past : List Moment) → E past → E (map said more ++ past)
+  mild_law [] h past l = l
+  mild_law (note ∷ more) h past l = (end_plain wild start note h.0 (map said more ++ past), mild_law more h.1 past l)
+
+  mildly_law : (past : List Moment) (old new : List Note) → endless.Plainly old new → E (map said old ++ past) → E (map said new ++ past)
+  mildly_law past old new q l = subst (λ ns. E (map said ns ++ past)) q.is (subst E (sym (split q.more old past)) (mild_law q.more q.plain (map said old ++ past) l))
+
+  early_law : (early : List Note) → endless.AllLight early → (past : List Moment) → E past → E (map said early ++ past)
+  early_law [] h past l = l
+  early_law (note ∷ early) h past l = (end_plain wild start note (endless.light_plain note h.0) (map said early ++ past), early_law early h.1 past l)
+
+  ends_law : (past : List Moment) (End : ℕ → List Note → Note → Type 0) (old new : List Note) → ((serial : ℕ) (early : List Note) (ended : Note) → End serial early ended → (let now = map said early ++ said (notes.Got serial) ∷ (map said old ++ past) in EndAt wild start (said ended) now × endless.AllLight early)) → endless.Delivers End old new → E (map said old ++ past) → E (map said new ++ past)
+  ends_law past End old new f (no_end q) l = mildly_law past old new q l
+  ends_law past End old new f (one_end serial early ended x q) l =
+      let got = said (notes.Got serial) ∷ (map said old ++ past) in
+      let is = f serial early ended x in
+      mildly_law past (ended ∷ (early ++ notes.Got serial ∷ old)) new q (
+        subst (λ ms. EndAt wild start (said ended) ms) (sym (split early (notes.Got serial ∷ old) past)) is.0,
+        subst E (sym (split early (notes.Got serial ∷ old) past)) (early_law early is.1 got (tt, l)),
+      )
+
+  end_told : (past : List Moment) (s : Scene) → IsSet wild start past s → (run : Option Told) (serial : ℕ) (early : List Note) (ended : Note) → IsEndBy s run serial early ended → (let now = map said early ++ said (notes.Got serial) ∷ hist past s.world in EndAt wild start (said ended) now × endless.AllLight early)
+  end_told past s set run serial early ended r = (ended_so wild start past s set run serial early ended r, r.light)
+
+  one_ended : (past : List Moment) (s : Scene) (set : IsSet wild start past s) (line packet : ℕ) (again : Bool) (run : List (Option Told)) (serial : ℕ) (early : List Note) (ended : Note) → OneEnd s set.ready.good line packet again run serial early ended → (let now = map said early ++ said (notes.Got serial) ∷ hist past s.world in EndAt wild start (said ended) now × endless.AllLight early)
+  one_ended past s set line packet again [] serial early ended r = absurd r
+  one_ended past s set line packet again (one ∷ more) serial early ended r = end_told past s set one serial early ended r
+
+  lowest_ends : (past : List Moment) (s : Scene) → IsSet wild start past s → (one : Option Told) (o : Option ℕ) → MayAt o one s → E (hist past s.world) → E (hist past (delivered_at o one s).world)
+  lowest_ends past s set one None m l = absurd m
+  lowest_ends past s set one (Some serial) m l =
+      ends_law past (IsEndBy s one) s.world.fresh (delivered_at (Some serial) one s).world.fresh (end_told past s set one) (endless.delivery_comes s set.ready.good serial false one m) l
+
+  next_ends : (past : List Moment) (s : Scene) → IsSet wild start past s → (one : Option Told) → MayNext one s → E (hist past s.world) → E (hist past (delivered_next one s).world)
+  unfolding delivered_next MayNext
+  next_ends past s set one m l = lowest_ends past s set one (lowest s.world) m l
 
   -- ---- what is known as a turn begins
   module _ (units logins : ℕ) (has : 0 < units) {past : List Moment} {lines : ℕ} (w : WorldState) (h : Holding units logins start past lines w) where
@@ -162,7 +207,7 @@ module _ (wild : ℕ → Bool) (line : ℕ) (run : Run) (few : run.initiators �
   AllCalm ms = (i : ℕ) → wild i ≡ false → IsCalm ms i
 
   abbrev L : List Moment → Type 0
-  L ms = Law wild start ms
+  L ms = Law wild start ms × EndsAreRead wild start ms
 
   -- behind some of its lines
   module _ (entries : List Entry) (short : length entries + 2 < 2 ^ 32) (all : AreEntries (beginning run) entries) (fit : AreLines run entries) (so_far : Given (OpenBefore line run entries)) (x : EarlyAfter wild (opened wild) line run few has small size entries (after (beginning run) entries).world) (ends : Given (OpenAfter line run entries)) (calm : AllCalm (moments_behind line run entries)) where
@@ -309,21 +354,27 @@ module _ (wild : ℕ → Bool) (line : ℕ) (run : Run) (few : run.initiators �
         }
 
       law_at : (told : List (Option Told)) → MayAll told (begun here) → Before told → AllCalm (hist now (at told)) → L (hist b.past here.world) → L (hist now (at told))
-      law_at [] m before c l = ((tt, (tt, tt)), l)
+      law_at [] m before c l = (((tt, (tt, tt)), l.0), (tt, l.1))
       law_at (one ∷ told) m before c l =
           let back = calm_at wild (opened wild) line run few has small size entries short all fit b.past (length entries) b.holds b.is next event d one told c in
           let rest : Before told = λ i own. (before i own).1 in
           let lists = lists_at wild (opened wild) line run few has small size entries short all fit b.past (length entries) b.holds b.is next event d told (λ i own. (before i own).0) in
           let kept = (kept_told wild (opened wild) line run few has small size entries short all fit b.past (length entries) b.holds b.is next event d so_far open_here past_calm b.kept x.early (one ∷ told) m before c).kept_there in
-          next_law wild start now (after_all told (begun here)) (set_there told m.1 rest lists back) one m.0 kept.passes (law_at told m.1 rest back l)
+          let set = set_there told m.1 rest lists back in
+          let so_far = law_at told m.1 rest back l in
+          (next_law wild start now (after_all told (begun here)) set one m.0 kept.passes so_far.0, next_ends wild start now (after_all told (begun here)) set one m.0 so_far.1)
 
     -- a line that follows
     abbrev Goes : ℕ → Event → List (Option Told) → Type 0
     Goes next event told =
         MayHappen event told here → Given (OpenIn event (asked next event ∷ moments_behind line run entries) told (begun here)) → AllCalm (hist (asked next event ∷ hist b.past here.world) (happens next event told here).world) → PassLaw wild (hist (asked next event ∷ hist b.past here.world) (happens next event told here).world) → L (hist b.past here.world) → L (hist (asked next event ∷ hist b.past here.world) (happens next event told here).world)
 
-    plain_line : (next : ℕ) (event : Event) (new : List Note) → Plainly [] new → L (hist b.past here.world) → L (map said new ++ asked next event ∷ hist b.past here.world)
-    plain_line next event new q l = plainly_law wild start (asked next event ∷ hist b.past here.world) [] new q ((tt, (tt, tt)), l)
+    plain_line : (next : ℕ) (event : Event) (new : List Note) → Plainly [] new → endless.Plainly [] new → L (hist b.past here.world) → L (map said new ++ asked next event ∷ hist b.past here.world)
+    plain_line next event new q e l =
+        let past = asked next event ∷ hist b.past here.world in (plainly_law wild start past [] new q ((tt, (tt, tt)), l.0), mildly_law wild start past [] new e (tt, l.1))
+
+    desks : length (without_notes here.world).target.desks ≡ 8
+    desks = ready_here.good.mid.size
 
     law_line : (next : ℕ) (event : Event) (told : List (Option Told)) → IsLine event (length here.world.initiators) → Goes next event told
     unfolding happens MayHappen
@@ -333,29 +384,37 @@ module _ (wild : ℕ → Bool) (line : ℕ) (run : Run) (few : run.initiators �
         let t = after_all told (begun here) in
         let rest : Given (OpenWhile (asked next events.Settle ∷ moments_behind line run entries) told (begun here)) = λ i own. (before i own).1 in
         let back : AllCalm (hist now t.world) = λ i own. calm_before (said (end_note (is_settled t.world)) ∷ []) (hist now t.world) i (c i own) in
-        (end_law wild start (hist now t.world) (is_settled t.world), law_at next events.Settle tt told m.may rest back l)
+        let last = end_law wild start (hist now t.world) (is_settled t.world) in
+        let so_far = law_at next events.Settle tt told m.may rest back l in
+        ((last.0, so_far.0), (last.1, so_far.1))
     law_line next (events.Begin initiators is_ready) told q m before c p l = absurd q
-    law_line next (events.Act i action) told q m before c p l = plain_line next (events.Act i action) _ (acts (without_notes here.world) next i action) l
-    law_line next (events.Reset physical) told q m before c p l = plain_line next (events.Reset physical) _ (resets (without_notes here.world) physical) l
-    law_line next (events.See node) told q m before c p l = plain_line next (events.See node) _ (sights (without_notes here.world) node) l
+    law_line next (events.Act i action) told q m before c p l = plain_line next (events.Act i action) _ (acts (without_notes here.world) next i action) (endless.acts (without_notes here.world) desks next i action) l
+    law_line next (events.Reset physical) told q m before c p l = plain_line next (events.Reset physical) _ (resets (without_notes here.world) physical) (endless.resets (without_notes here.world) desks physical) l
+    law_line next (events.See node) told q m before c p l = plain_line next (events.See node) _ (sights (without_notes here.world) node) (endless.sights (without_notes here.world) desks node) l
     law_line next (events.Deliver serial) told q m before c p l =
         let e = events.Deliver serial in
-        let set = set_open next e refl (λ i own. line_reads start next (events.Deliver serial) false (λ t. refl) b.past here.world (reads_here i own)) in
-        delivers_law wild start (asked next e ∷ hist b.past here.world) (OneRan (begun here) set.ready.good next serial false told) [] _ (one_told wild start (asked next e ∷ hist b.past here.world) (begun here) set next serial false told)
-        (one_comes (begun here) set.ready.good next serial false (is_in_flight serial (begun here).world) told m) p ((tt, (tt, tt)), l)
+        let set = set_open next e refl (λ i own. line_reads start next (events.Deliver serial) false (λ t. refl) b.past here.world (reads_here i own)) in (
+          delivers_law wild start (asked next e ∷ hist b.past here.world) (OneRan (begun here) set.ready.good next serial false told) [] _ (one_told wild start (asked next e ∷ hist b.past here.world) (begun here) set next serial false told)
+              (one_comes (begun here) set.ready.good next serial false (is_in_flight serial (begun here).world) told m) p ((tt, (tt, tt)), l.0),
+          ends_law wild start (asked next e ∷ hist b.past here.world) (OneEnd (begun here) set.ready.good next serial false told) [] _ (one_ended wild start (asked next e ∷ hist b.past here.world) (begun here) set next serial false told)
+              (endless.one_comes (begun here) set.ready.good next serial false (is_in_flight serial (begun here).world) told m) (tt, l.1),
+        )
     law_line next (events.Repeat serial) told q m before c p l =
         let e = events.Repeat serial in
-        let set = set_open next e refl (λ i own. line_reads start next (events.Repeat serial) true (λ t. refl) b.past here.world (reads_here i own)) in
-        delivers_law wild start (asked next e ∷ hist b.past here.world) (OneRan (begun here) set.ready.good next serial true told) [] _ (one_told wild start (asked next e ∷ hist b.past here.world) (begun here) set next serial true told)
-        (one_comes (begun here) set.ready.good next serial true (may_repeat serial (begun here).world) told m) p ((tt, (tt, tt)), l)
-    law_line next (events.Lose serial) told q m before c p l = plain_line next (events.Lose serial) _ (loses (without_notes here.world) next serial) l
-    law_line next (events.Timeout serial) told q m before c p l = plain_line next (events.Timeout serial) _ (late (without_notes here.world) next serial) l
-    law_line next events.Tick told q m before c p l = plain_line next events.Tick _ (ticks (without_notes here.world)) l
-    law_line next (events.Inject i bytes) told q m before c p l = plain_line next (events.Inject i bytes) _ (injects (without_notes here.world) next i bytes) l
-    law_line next (events.Key unit key) told q m before c p l = plain_line next (events.Key unit key) _ (keys (without_notes here.world) next unit key) l
+        let set = set_open next e refl (λ i own. line_reads start next (events.Repeat serial) true (λ t. refl) b.past here.world (reads_here i own)) in (
+          delivers_law wild start (asked next e ∷ hist b.past here.world) (OneRan (begun here) set.ready.good next serial true told) [] _ (one_told wild start (asked next e ∷ hist b.past here.world) (begun here) set next serial true told)
+              (one_comes (begun here) set.ready.good next serial true (may_repeat serial (begun here).world) told m) p ((tt, (tt, tt)), l.0),
+          ends_law wild start (asked next e ∷ hist b.past here.world) (OneEnd (begun here) set.ready.good next serial true told) [] _ (one_ended wild start (asked next e ∷ hist b.past here.world) (begun here) set next serial true told)
+              (endless.one_comes (begun here) set.ready.good next serial true (may_repeat serial (begun here).world) told m) (tt, l.1),
+        )
+    law_line next (events.Lose serial) told q m before c p l = plain_line next (events.Lose serial) _ (loses (without_notes here.world) next serial) (endless.loses (without_notes here.world) desks next serial) l
+    law_line next (events.Timeout serial) told q m before c p l = plain_line next (events.Timeout serial) _ (late (without_notes here.world) next serial) (endless.late (without_notes here.world) desks next serial) l
+    law_line next events.Tick told q m before c p l = plain_line next events.Tick _ (ticks (without_notes here.world)) (endless.ticks (without_notes here.world) desks) l
+    law_line next (events.Inject i bytes) told q m before c p l = plain_line next (events.Inject i bytes) _ (injects (without_notes here.world) next i bytes) (endless.injects (without_notes here.world) desks next i bytes) l
+    law_line next (events.Key unit key) told q m before c p l = plain_line next (events.Key unit key) _ (keys (without_notes here.world) next unit key) (endless.keys (without_notes here.world) desks next unit key) l
 
   law_after : (entries : List Entry) → length entries + 2 < 2 ^ 32 → AreEntries (beginning run) entries → AreLines run entries → Given (OpenBefore line run entries) → AllCalm (moments_behind line run entries) → L (moments_behind line run entries)
-  law_after [] short all fit lists calm = ((tt, (tt, tt)), ((tt, (tt, tt)), tt))
+  law_after [] short all fit lists calm = (((tt, (tt, tt)), ((tt, (tt, tt)), tt)), (tt, (tt, tt)))
   law_after (e ∷ before) short all fit lists calm =
       let s = after (beginning run) before in
       let few_lines : length before + 2 < 2 ^ 32 = omega arith in
@@ -378,7 +437,10 @@ module _ (line : ℕ) (run : Run) (r : IsRun run) (has : 0 < run.units) (small :
   abbrev last : Scene
   last = after (beginning run) run.entries
 
-  lines_law : Known (OpenBefore line run run.entries) → ((i : ℕ) → wild i ≡ false → IsCalm (history_of line run) i) → Law wild run.start.disks (history_of line run)
+  abbrev Both : List Moment → Type 0
+  Both ms = Law wild run.start.disks ms × EndsAreRead wild run.start.disks ms
+
+  lines_law : Known (OpenBefore line run run.entries) → ((i : ℕ) → wild i ≡ false → IsCalm (history_of line run) i) → Both (history_of line run)
   lines_law so_far calm = law_after wild line run r.few has small size run.entries r.short r.entries r.lines so_far calm
 
   module _ (next : ℕ) (event : Event) (d : DeliversMore event) (told : List (Option Told)) (m : MayAll told (begun last)) where
@@ -388,12 +450,12 @@ module _ (line : ℕ) (run : Run) (r : IsRun run) (has : 0 < run.units) (small :
     abbrev ms : List Moment
     ms = map said end.fresh ++ asked next event ∷ history_of line run
 
-    between_law : Known (OpenBetween line run next event told) → ((i : ℕ) → wild i ≡ false → IsCalm ms i) → Law wild run.start.disks ms
+    between_law : Known (OpenBetween line run next event told) → ((i : ℕ) → wild i ≡ false → IsCalm ms i) → Both ms
     between_law so_far calm =
         let first_calm : (i : ℕ) → wild i ≡ false → IsCalm (history_of line run) i = λ i own. asked_calm next event (history_of line run) i (calm_before (map said end.fresh) (asked next event ∷ history_of line run) i (calm i own)) in
         let x = early_after wild (opened wild) line run r.few has small size run.entries r.short r.entries r.lines (λ i own. (so_far i own).before) (λ i own. (so_far i own).begins) first_calm in
-        let l = subst (Law wild run.start.disks) (sym x.so_far.is) (lines_law (λ i own. (so_far i own).before) first_calm) in
-        subst (λ h. Law wild run.start.disks (map said end.fresh ++ asked next event ∷ h)) x.so_far.is
+        let l = subst Both (sym x.so_far.is) (lines_law (λ i own. (so_far i own).before) first_calm) in
+        subst (λ h. Both (map said end.fresh ++ asked next event ∷ h)) x.so_far.is
         (law_at wild line run r.few has small size run.entries r.short r.entries r.lines (λ i own. (so_far i own).before) x (λ i own. (so_far i own).begins) first_calm next event d told m (λ i own. (so_far i own).goes)
         (λ i own. subst (λ h. IsCalm (map said end.fresh ++ asked next event ∷ h) i) (sym x.so_far.is) (calm i own)) l)
 
@@ -428,21 +490,21 @@ pub logins_run_law : LoginsRunLaw
 logins_run_law = record {
   after_lines = λ line run r has small size.
       let wild : ℕ → Bool = λ i. true in
-      logins_part wild run.start.disks (history_of line run) (lines_law line run r has small size wild (λ i f. nobody (OpenBefore line run run.entries) f) (λ i f. nobody (IsCalm (history_of line run) i) f));
+      logins_part wild run.start.disks (history_of line run) (lines_law line run r has small size wild (λ i f. nobody (OpenBefore line run run.entries) f) (λ i f. nobody (IsCalm (history_of line run) i) f)).0;
   between = λ line run r has small size next event d told m.
       let wild : ℕ → Bool = λ i. true in
       let now = map said (after_all told (begun (after (beginning run) run.entries))).world.fresh ++ asked next event ∷ history_of line run in
-      logins_part wild run.start.disks now (between_law line run r has small size wild next event d told m (λ i f. nobody (OpenBetween line run next event told) f) (λ i f. nobody (IsCalm now i) f));
+      logins_part wild run.start.disks now (between_law line run r has small size wild next event d told m (λ i f. nobody (OpenBetween line run next event told) f) (λ i f. nobody (IsCalm now i) f)).0;
 }
 
 pub outcomes_run_law : OutcomesRunLaw
 outcomes_run_law = record {
   after_lines = λ line run r has small size so_far.
       let wild = injectors (history_of line run) in
-      outcomes_part wild run.start.disks (history_of line run) (lines_law line run r has small size wild (λ i own. so_far) (λ i own. own));
+      outcomes_part wild run.start.disks (history_of line run) (lines_law line run r has small size wild (λ i own. so_far) (λ i own. own)).0;
   between = λ line run r has small size next event d told m so_far.
       let now = map said (after_all told (begun (after (beginning run) run.entries))).world.fresh ++ asked next event ∷ history_of line run in
-      outcomes_part (injectors now) run.start.disks now (between_law line run r has small size (injectors now) next event d told m (λ i own. so_far) (λ i own. own));
+      outcomes_part (injectors now) run.start.disks now (between_law line run r has small size (injectors now) next event d told m (λ i own. so_far) (λ i own. own)).0;
 }
 
 pub execution_run_law : ExecutionRunLaw
@@ -450,11 +512,11 @@ execution_run_law = record {
   after_lines = λ line run r has small size so_far.
       let wild = injectors (history_of line run) in
       execution_of wild run.start.disks (history_of line run) (lists_run_law.after_lines line run r has small size so_far) (runs_run_law.after_lines line run r has small size so_far)
-      (lines_law line run r has small size wild (λ i own. so_far) (λ i own. own));
+      (lines_law line run r has small size wild (λ i own. so_far) (λ i own. own)).0;
   between = λ line run r has small size next event d told m so_far.
       let now = map said (after_all told (begun (after (beginning run) run.entries))).world.fresh ++ asked next event ∷ history_of line run in
       execution_of (injectors now) run.start.disks now (lists_run_law.between line run r has small size next event d told m so_far) (runs_run_law.between line run r has small size next event d told m so_far)
-      (between_law line run r has small size (injectors now) next event d told m (λ i own. so_far) (λ i own. own));
+      (between_law line run r has small size (injectors now) next event d told m (λ i own. so_far) (λ i own. own)).0;
 }
 
 -- and the ORBs that run were read
@@ -462,8 +524,17 @@ pub runs_read_law : RunsReadLaw
 runs_read_law = record {
   after_lines = λ line run r has small size so_far.
       let wild = injectors (history_of line run) in
-      reads_part wild run.start.disks (history_of line run) (lines_law line run r has small size wild (λ i own. so_far) (λ i own. own));
+      reads_part wild run.start.disks (history_of line run) (lines_law line run r has small size wild (λ i own. so_far) (λ i own. own)).0;
   between = λ line run r has small size next event d told m so_far.
       let now = map said (after_all told (begun (after (beginning run) run.entries))).world.fresh ++ asked next event ∷ history_of line run in
-      reads_part (injectors now) run.start.disks now (between_law line run r has small size (injectors now) next event d told m (λ i own. so_far) (λ i own. own));
+      reads_part (injectors now) run.start.disks now (between_law line run r has small size (injectors now) next event d told m (λ i own. so_far) (λ i own. own)).0;
+}
+
+-- and the ORBs that end
+pub ends_read_law : EndsReadLaw
+ends_read_law = record {
+  after_lines = λ line run r has small size so_far. (lines_law line run r has small size (injectors (history_of line run)) (λ i own. so_far) (λ i own. own)).1;
+  between = λ line run r has small size next event d told m so_far.
+      let now = map said (after_all told (begun (after (beginning run) run.entries))).world.fresh ++ asked next event ∷ history_of line run in
+      (between_law line run r has small size (injectors now) next event d told m (λ i own. so_far) (λ i own. own)).1;
 }

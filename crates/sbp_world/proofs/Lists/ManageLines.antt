@@ -114,6 +114,3 @@ rest_law law = record {
       (between_runs (Wrote run.ready) (wrote_carried run.ready) line run (spells_known line run) (λ j c. first_wrote line run.initiators run.ready j c) r next most told m i b).kept
       (law.between line run r u v d next most told m o i b calm));
 }
-
-pub managing_open : OpenLaw → ManagingLaw
-managing_open law = managing_law (rest_law law)

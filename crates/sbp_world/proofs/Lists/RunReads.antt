@@ -41,7 +41,7 @@ same_command : (one other : Cmd) → Some one ≡ Some other → one ≡ other
 same_command one other e = cc
 
 -- the ORB of a command is as it was appended
-as_appended : (command : Option Cmd) (request : Option Request) (slot : ℕ) (a : WasAsked command request slot) (orb : CommandOrb) → IsOrbOf command slot orb → IsAsAppended orb (request_of a.cmd)
+pub as_appended : (command : Option Cmd) (request : Option Request) (slot : ℕ) (a : WasAsked command request slot) (orb : CommandOrb) → IsOrbOf command slot orb → IsAsAppended orb (request_of a.cmd)
 as_appended command request slot a orb o =
     let same : o.cmd ≡ a.cmd = same_command o.cmd a.cmd (sym o.command ∙ a.command_is) in
     record {
