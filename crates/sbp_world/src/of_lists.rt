@@ -28,6 +28,7 @@ ghost use Rattle.sbp_world.specs.Lists.AnswerLengths.{AnswerLengthsLaw};
 ghost use Rattle.sbp_world.specs.Lists.AnsweredEnds.{AnsweredEndsLaw};
 ghost use Rattle.sbp_world.specs.Lists.AnsweredReads.{AnsweredReadsLaw};
 ghost use Rattle.sbp_world.specs.Lists.EndReads.{EndsReadLaw};
+ghost use Rattle.sbp_world.specs.Lists.DataWrites.{DataSentLaw, DataWritesLaw};
 ghost use Rattle.sbp_world.specs.Lists.FifoWrites.{FifoWritesLaw};
 ghost use Rattle.sbp_world.specs.Lists.Live.{LiveLaw};
 ghost use Rattle.sbp_world.specs.Lists.Managing.{ManagingLaw};
@@ -368,4 +369,21 @@ pub fn lists_are_lawful()
 #[tactic(auto, using(crate::proofs::Lists::Clauses::lengths_law))]
 pub fn answers_have_their_length()
     ensures { AnswerLengthsLaw }
+{}
+
+/// Where lists were open as they should be before in a run (`OpenBefore`, `OpenBetween`), and are so now, an agent that writes an
+/// answer, of an initiator that injected no packets, waits for a write of the next chunk of its present ORB's buffer, behind the
+/// bytes that were written, in the slot that the ORB has.
+#[tactic(auto, using(crate::proofs::Lists::DataRuns::data_writes_law))]
+pub fn agents_write_the_next_chunk()
+    ensures { DataWritesLaw }
+{}
+
+/// In every run in which no initiator injected packets, where lists were open as they should be before, each write of the target
+/// into a data buffer of an initiator was of the next chunk of the answer of an ORB as it was sent: as the turn began, that ORB
+/// was the first one of its list that had not ended, and the write has the bytes of its agent's answer behind those that were
+/// written.
+#[tactic(auto, using(crate::proofs::Lists::Clauses::data_law))]
+pub fn answers_are_sent_in_chunks()
+    ensures { DataSentLaw }
 {}

@@ -97,7 +97,7 @@ address_take o zero j = nil_take j ∙ ap (λ k. addresses o k) (let z : 0 ≡ m
 address_take o (suc c) zero = ap (λ k. addresses o k) (let z : 0 ≡ min 0 (suc c) = omega arith in z)
 address_take o (suc c) (suc j) = ap (λ ys. o ∷ ys) (address_take (o + 1) c j) ∙ ap (λ k. addresses o k) (let z : suc (min j c) ≡ min (suc j) (suc c) = omega arith in z)
 
-cut_follows : (left : ℕ) (found : Option Chunk) (all : List ℕ) (at : ℕ) → IfSome found (λ (piece : Chunk). addresses piece.offset piece.length ≡ take piece.length (drop at all)) → addresses (cut_to left found).offset (cut_to left found).length ≡ take (cut_to left found).length (drop at all)
+pub cut_follows : (left : ℕ) (found : Option Chunk) (all : List ℕ) (at : ℕ) → IfSome found (λ (piece : Chunk). addresses piece.offset piece.length ≡ take piece.length (drop at all)) → addresses (cut_to left found).offset (cut_to left found).length ≡ take (cut_to left found).length (drop at all)
 cut_follows left None all at h = refl
 cut_follows left (Some piece) all at h =
     let j = min left piece.length in

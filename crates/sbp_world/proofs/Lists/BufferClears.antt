@@ -42,7 +42,7 @@ use Rattle.sbp_world.proofs.Lists.StatusOffice.{ArePlacedFor}
 none_window : (place : ℕ) → None ≡ Some (windows.Response place) → ⊥
 none_window place e = cc
 
-place_window : (place : ℕ) → place < 2 → window_at (0x12002000 + 0x20 * place) ≡ None
+pub place_window : (place : ℕ) → place < 2 → window_at (0x12002000 + 0x20 * place) ≡ None
 unfolding window_at
 place_window zero small = refl
 place_window (suc zero) small = refl
@@ -60,15 +60,15 @@ closed : IsClosed Tamely
 closed n later past c = (tame_before later past c.0, short_from later past c.1, λ i l. each_from (BasedAt i) later past (c.2 i l))
 
 -- ---- the operations of an initiator's node
-record Ground (start : List Disk) (past : List Moment) (w : WorldState) : Type 0 where
-  known : OwnKnown start past w
-  ops : AreOwnOpsAt start past w
+pub record Ground (start : List Disk) (past : List Moment) (w : WorldState) : Type 0 where
+  pub known : OwnKnown start past w
+  pub ops : AreOwnOpsAt start past w
 
 module _ (units ready : ℕ) (more_units : 0 < units) (start : List Disk) {past : List Moment} {lines : ℕ} (w : WorldState) (h : Holding units ready start past lines w) (g : Ground start (hist past w) w) (c : Tamely (length w.initiators) (hist past w)) (i : ℕ) (inside : i < length w.initiators) where
-  few : i + 1 < 2 ^ 16
+  pub few : i + 1 < 2 ^ 16
   few = let all = g.known.wrote.few in omega (arith, inside, all)
 
-  node_is : (op : Operation) → node_of w.generations 0 op.source ≡ Some (suc i) → op.source ≡ id_in w i
+  pub node_is : (op : Operation) → node_of w.generations 0 op.source ≡ Some (suc i) → op.source ≡ id_in w i
   node_is op n = sym (node_has (topology_at w.generations 0) op.source (suc i) n).id_is
 
   own_at : (op : Operation) → w.target.manager.operation ≡ Some op → op.source ≡ id_in w i → IsOwnOp start (hist past w) i op
@@ -76,7 +76,7 @@ module _ (units ready : ℕ) (more_units : 0 < units) (start : List Disk) {past 
       g.ops i inside (c.0 i) c.1 (c.2 i inside) op (operation_is units ready more_units start w h i inside ∙ is)
       (source ∙ sym (id_is units ready more_units start w h i inside))
 
-  own_of : (op : Operation) → w.target.manager.operation ≡ Some op → node_of w.generations 0 op.source ≡ Some (suc i) → IsOwnOp start (hist past w) i op
+  pub own_of : (op : Operation) → w.target.manager.operation ≡ Some op → node_of w.generations 0 op.source ≡ Some (suc i) → IsOwnOp start (hist past w) i op
   own_of op is n = own_at op is (node_is op n)
 
   placed_for : ArePlacedFor w i
@@ -96,7 +96,7 @@ module _ (units ready : ℕ) (more_units : 0 < units) (start : List Disk) {past 
 abbrev pub FifosAt : List Moment → WorldState → Type 0
 FifosAt past w = Tamely (length w.initiators) past → (i : ℕ) → i < length w.initiators → AreFifosClear i w × ArePlacedFor w i
 
-ground_everywhere : EveryPlace Ground
+pub ground_everywhere : EveryPlace Ground
 ground_everywhere = record {
   after_lines = λ line run r has small size so_far. record { known = own_known.after_lines line run r has small size so_far; ops = ops_everywhere.after_lines line run r has small size so_far };
   between = λ line run r has small size next most told m so_far. record { known = own_known.between line run r has small size next most told m so_far; ops = ops_everywhere.between line run r has small size next most told m so_far };
@@ -106,7 +106,7 @@ all_fifos : (units ready : ℕ) → 0 < units → (start : List Disk) → Keeps 
 all_fifos units ready has start past s later t lines more g h h_now q q_now before c i inside =
     (fifos_clear units ready has start t.world h_now q_now c i inside, placed_for units ready has start t.world h_now q_now c i inside)
 
-no_operation : {A : Type 0} (op : Operation) → None ≡ Some op → A
+pub no_operation : {A : Type 0} (op : Operation) → None ≡ Some op → A
 no_operation op e = absurd (differ e)
   where
     differ : None ≡ Some op → ⊥

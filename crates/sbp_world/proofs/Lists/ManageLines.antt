@@ -26,11 +26,11 @@ use Rattle.sbp_world.specs.Hosts.Runs.{IsRun, more_deliveries}
 use Rattle.sbp_world.proofs.Hosts.Carried.{between_runs, of_runs}
 use Rattle.sbp_world.proofs.Hosts.Hosted.{first_cored}
 use Rattle.sbp_world.specs.Pointers.Moments.{managed_write, manages}
-use Rattle.sbp_world.specs.Lists.Managing.{IsAsking, IsAtAgent, ManagingLaw}
+use Rattle.sbp_world.specs.Lists.Managing.{IsAsking, IsAtAgent}
 use Rattle.sbp_world.specs.Lists.Needs.{IsCalm, OpenBefore, OpenBetween}
 use Rattle.sbp_world.proofs.Lists.ManageGot.{writing_in}
 use Rattle.sbp_world.proofs.Lists.ManageKnown.{RestGot, RestSent}
-use Rattle.sbp_world.proofs.Lists.ManageLaws.{LeftAt, RestLaw, managing_law}
+use Rattle.sbp_world.proofs.Lists.ManageLaws.{LeftAt, RestLaw}
 use Rattle.sbp_world.proofs.Lists.ManageSends.{sent_is, sent_terms}
 use Rattle.sbp_world.proofs.Lists.ManageSent.{IsRefusing}
 use Rattle.sbp_world.proofs.Lists.ManageTerms.{same_some}

@@ -29,11 +29,9 @@ use Rattle.sbp_world.specs.Making.{ready_logins}
 use Rattle.sbp_world.specs.Packets.{is_in_flight, may_repeat}
 use Rattle.sbp_world.specs.Settling.{MayAt, MayNext, delivered_at, delivered_next, lowest}
 use Rattle.sbp_world.specs.Worlds.{Scene, WorldState, begun, without_notes}
-use Rattle.sbp_world.specs.Lists.OrbReads.{AskedAsGot, IsBrought}
+use Rattle.sbp_world.specs.Lists.OrbReads.{AskedAsGot}
 use Rattle.sbp_world.proofs.Lists.Courses.{EveryPlace, Goes, Keeps, at_between, at_lines, by_delivery, by_end, by_line, by_start, more_than_one}
 use Rattle.sbp_world.proofs.Lists.ManageTerms.{untrue}
-use Rattle.sbp_world.proofs.Lists.OrbFolds.{AreReading}
-use Rattle.sbp_world.proofs.Lists.OrbReading.{reading}
 use Rattle.sbp_world.proofs.Lists.Quiet.{AllQuiet, Comes, IsQuiet, Quietly, acts, comes, delivery_comes, injects, keys, late, loses, nothing, one_comes, quiet_none, resets, sights, ticks}
 use Rattle.sbp_world.proofs.Lists.Turned.{IsOne}
 

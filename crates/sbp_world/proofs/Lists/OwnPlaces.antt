@@ -16,7 +16,7 @@ use Rattle.sbp_journal.specs.declared.operation.Operation.{Operation}
 use Rattle.sbp_laws.specs.Hosts.{Host, host_at, operation_of}
 use Rattle.sbp_laws.specs.Served.{is_own, management_orb_of, place_held, place_written}
 use Rattle.sbp_laws.specs.Turns.{EachMoment, event_of}
-use Rattle.sbp_world.specs.Lists.OwnLogins.{IsGoodOrb, IsItsFifo, IsLoginFifo, of_login, of_place}
+use Rattle.sbp_world.specs.Lists.OwnLogins.{IsAside, IsGoodOrb, IsItsFifo, IsLoginFifo, in_front, of_login, of_place, of_response}
 use Rattle.sbp_world.specs.Lists.Shorts.{AreShort, IsShortAction}
 use Rattle.sbp_world.proofs.Lists.ManageTerms.{untrue}
 use Rattle.sbp_world.proofs.Lists.OrbsShort.{event_short, login_small, orb_short}
@@ -29,8 +29,13 @@ fifo_back o small = omega arith
 function_back : (o : ManagementOrb) → o.subject < 2 ^ 16 → o.function < 2 ^ 4 → (management_orb (management_bytes o)).function ≡ o.function
 function_back o subject small = omega arith
 
+second_back : (o : ManagementOrb) → o.second < 2 ^ 48 → (management_orb (management_bytes o)).second ≡ o.second
+second_back o small = omega arith
+
 -- an ORB that names such a FIFO
 record IsNamed (o : ManagementOrb) : Type 0 where
+  pub second : o.second < 2 ^ 48
+  pub aside : IsAside o.second
   pub low : o.fifo < 2 ^ 48
   pub small : o.function < 2 ^ 4
   pub its : IsItsFifo o.fifo
@@ -38,25 +43,33 @@ record IsNamed (o : ManagementOrb) : Type 0 where
 
 named_good : (o : ManagementOrb) → o.subject < 2 ^ 16 → IsNamed o → IsGoodOrb (management_orb (management_bytes o))
 named_good o subject n = record {
+  aside = subst IsAside (sym (second_back o n.second)) n.aside;
   its = subst IsItsFifo (sym (fifo_back o n.low)) n.its;
   login = λ e. subst IsLoginFifo (sym (fifo_back o n.low)) (n.login (ap function_of (sym (function_back o subject n.small)) ∙ e));
 }
 
 -- one of a place, with another function
-other_named : (o : ManagementOrb) (place : ℕ) → place < 2 → o.fifo ≡ 0x12002000 + 0x20 * place → o.function < 2 ^ 4 → (function_of o.function ≡ Some functions.Login → ⊥) → IsNamed o
-other_named o place small is few never = record { low = omega (arith, small, is); small = few; its = of_place place small is; login = λ e. absurd (never e) }
+other_named : (o : ManagementOrb) (place : ℕ) → place < 2 → o.fifo ≡ 0x12002000 + 0x20 * place → o.second ≡ 0 → o.function < 2 ^ 4 → (function_of o.function ≡ Some functions.Login → ⊥) → IsNamed o
+other_named o place small is none few never = record { second = omega (arith, none); aside = in_front (omega (arith, none)); low = omega (arith, small, is); small = few; its = of_place place small is; login = λ e. absurd (never e) }
 
 named : (action : Action) (past : List Moment) (i : ℕ) (host : Host) (place : ℕ) → host.logins ≤ 2 ^ 32 → place < 2 → manages (operation_of action) ≡ true → IsNamed (management_orb_of action past i host place)
 named (actions.Login unit reconnect exclusive password) past i host place few small m =
     let own : IsLoginFifo (0x13000000 + 0x20 * host.logins) = record { number = host.logins; few = few; is = refl } in
-    record { low = omega (arith, few); small = omega arith; its = of_login own; login = λ e. own }
-named (actions.Query unit) past i host place few small m = other_named _ place small refl (omega arith) (λ e. (let no : Some functions.Query ≡ Some functions.Login = e in cc))
-named actions.Reconnect past i host place few small m = other_named _ place small refl (omega arith) (λ e. (let no : Some functions.Reconnect ≡ Some functions.Login = e in cc))
-named actions.Logout past i host place few small m = other_named _ place small refl (omega arith) (λ e. (let no : Some functions.Logout ≡ Some functions.Login = e in cc))
-named (actions.Abort k) past i host place few small m = other_named _ place small refl (omega arith) (λ e. (let no : Some functions.Abort ≡ Some functions.Login = e in cc))
-named actions.AbortSet past i host place few small m = other_named _ place small refl (omega arith) (λ e. (let no : Some functions.AbortSet ≡ Some functions.Login = e in cc))
-named actions.UnitReset past i host place few small m = other_named _ place small refl (omega arith) (λ e. (let no : Some functions.UnitReset ≡ Some functions.Login = e in cc))
-named actions.TargetReset past i host place few small m = other_named _ place small refl (omega arith) (λ e. (let no : Some functions.TargetReset ≡ Some functions.Login = e in cc))
+    record { second = omega (arith, small); aside = of_response place small refl; low = omega (arith, few); small = omega arith; its = of_login own; login = λ e. own }
+named (actions.Query unit) past i host place few small m = record {
+  second = omega (arith, small);
+  aside = of_response place small refl;
+  low = omega (arith, small);
+  small = omega arith;
+  its = of_place place small refl;
+  login = λ e. absurd (let no : Some functions.Query ≡ Some functions.Login = e in cc);
+}
+named actions.Reconnect past i host place few small m = other_named _ place small refl refl (omega arith) (λ e. (let no : Some functions.Reconnect ≡ Some functions.Login = e in cc))
+named actions.Logout past i host place few small m = other_named _ place small refl refl (omega arith) (λ e. (let no : Some functions.Logout ≡ Some functions.Login = e in cc))
+named (actions.Abort k) past i host place few small m = other_named _ place small refl refl (omega arith) (λ e. (let no : Some functions.Abort ≡ Some functions.Login = e in cc))
+named actions.AbortSet past i host place few small m = other_named _ place small refl refl (omega arith) (λ e. (let no : Some functions.AbortSet ≡ Some functions.Login = e in cc))
+named actions.UnitReset past i host place few small m = other_named _ place small refl refl (omega arith) (λ e. (let no : Some functions.UnitReset ≡ Some functions.Login = e in cc))
+named actions.TargetReset past i host place few small m = other_named _ place small refl refl (omega arith) (λ e. (let no : Some functions.TargetReset ≡ Some functions.Login = e in cc))
 named _ past i host place few small m = untrue m
 
 -- ---- in each place
@@ -64,11 +77,11 @@ abbrev pub IfGood : Option ManagementOrb → Type 0
 IfGood None = Unit {0}
 IfGood (Some one) = IsGoodOrb (management_orb (management_bytes one))
 
-and_first : (a b : Bool) → (a && b) ≡ true → a ≡ true
+pub and_first : (a b : Bool) → (a && b) ≡ true → a ≡ true
 and_first true b e = refl
 and_first false b e = e
 
-own_manages : (i j : ℕ) (operation : Option Operation) → is_own i j operation ≡ true → (j ≡ i) × (manages operation ≡ true)
+pub own_manages : (i j : ℕ) (operation : Option Operation) → is_own i j operation ≡ true → (j ≡ i) × (manages operation ≡ true)
 own_manages i j (Some operation) e = (let x = and_first (i == j) _ e in (grind (arith, nat_tests)), second (i == j) _ e)
   where
     second : (a b : Bool) → (a && b) ≡ true → b ≡ true

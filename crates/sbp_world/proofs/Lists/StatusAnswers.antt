@@ -182,7 +182,7 @@ module _ (past : List Moment) (i n : ℕ) where
   low_by small p phases.Dead m k l offset size e = absurd (none_write offset size e)
 
 -- which ORB that is
-main_wrote : (promoted : Bool) (ask main ahead : Ask) (offset size : ℕ) → ask ≡ asks.Write offset size → main_by promoted ask main ahead ≡ asks.Write offset size
+pub main_wrote : (promoted : Bool) (ask main ahead : Ask) (offset size : ℕ) → ask ≡ asks.Write offset size → main_by promoted ask main ahead ≡ asks.Write offset size
 main_wrote true ask main ahead offset size e = subst (λ a. main_by true a main ahead ≡ asks.Write offset size) (sym e) refl
 main_wrote false ask main ahead offset size e = subst (λ a. main_by false a main ahead ≡ asks.Write offset size) (sym e) refl
 
@@ -194,10 +194,10 @@ none_ended : (ended : Option StatusKind) (src : ℕ) (p : Progress) → ended �
 none_ended None src p e = refl
 none_ended (Some kind) src p e = absurd (let z : Some kind ≡ None = e in cc)
 
-step_ended : (s : AgentStep × Machine) (p : Progress) → s.0.ended ≡ None → (progress_by s p).ended ≡ p.ended
+pub step_ended : (s : AgentStep × Machine) (p : Progress) → s.0.ended ≡ None → (progress_by s p).ended ≡ p.ended
 step_ended s p e = none_ended s.0.ended _ _ e ∙ run_ended s.0.ran s.1.answer p
 
-answering_next : (past : List Moment) (i n : ℕ) (p : Progress) (phase : Phase) (m : Machine) → Knows (orbs past i n) p phase m → phase ≡ phases.Answering → p.ended < (orbs past i n).linked
+pub answering_next : (past : List Moment) (i n : ℕ) (p : Progress) (phase : Phase) (m : Machine) → Knows (orbs past i n) p phase m → phase ≡ phases.Answering → p.ended < (orbs past i n).linked
 answering_next past i n p phases.Answering m k e = k.told.turn.linked
 answering_next past i n p phases.Fetching m k e = absurd (let z : phases.Fetching ≡ phases.Answering = e in cc)
 answering_next past i n p phases.ReadingTable m k e = absurd (let z : phases.ReadingTable ≡ phases.Answering = e in cc)
@@ -217,7 +217,7 @@ module _ (wild : ℕ → Bool) (past : List Moment) (w : WorldState) (r : Ready 
   abbrev plain : PlainDisk
   plain = plain_in w.target.units disks login.unit
 
-  abbrev reply : AgentStep × Machine
+  abbrev pub reply : AgentStep × Machine
   reply = reply_step (machine_at w place) place plain run which (answer_in p)
 
   module _ (own : Ours wild past w r place) where
@@ -227,24 +227,24 @@ module _ (wild : ℕ → Bool) (past : List Moment) (w : WorldState) (r : Ready 
     is_open : is_open_at w place ≡ true
     is_open = waits_has wild past w r place b (header_in p).source label which e
 
-    opened : IsOpenAt ms w place
+    pub opened : IsOpenAt ms w place
     opened = (r.needs i own).lists.listed place b is_open (r.calm i own)
 
-    abbrev n : ℕ
+    abbrev pub n : ℕ
     n = opened.n
 
-    goes : GoesOn ms i n (machine_at w place)
+    pub goes : GoesOn ms i n (machine_at w place)
     goes = r.kept.on place b is_open n opened.list own
 
-    abbrev heard : Progress
+    abbrev pub heard : Progress
     heard = heard_by which (machine_at w place) (answer_in p) goes.progress
 
-    keeps : Keeps (orbs ms i n) heard place plain (main_beside which (machine_at w place)) (ahead_beside which (machine_at w place)) reply
+    pub keeps : Keeps (orbs ms i n) heard place plain (main_beside which (machine_at w place)) (ahead_beside which (machine_at w place)) reply
     keeps =
         (keeps_along (orbs ms i n)).replies goes.progress (machine_at w place) place plain run which (answer_in p) (laid ms i n) goes.along
         ((r.needs i own).brings sent is_for p label place which f e b refl n opened.list goes.progress goes.is goes.along)
 
-    small : (k : ℕ) → slot_at ms i n k < 32
+    pub small : (k : ℕ) → slot_at ms i n k < 32
     small k = slot_small wild ms r.kept.passes i n k
 
     -- the ORB whose answer it writes has not ended

@@ -103,7 +103,7 @@ none_login login e = cc
 none_which : (which : Which) → None ≡ Some which → ⊥
 none_which which e = cc
 
-placed : (node : NodeState) → length node.desks ≡ 8 → (place peer : ℕ) (label : LabelParts) (which : Which) → which_in (desk_at node place) peer label ≡ Some which → place < 8
+pub placed : (node : NodeState) → length node.desks ≡ 8 → (place peer : ℕ) (label : LabelParts) (which : Which) → which_in (desk_at node place) peer label ≡ Some which → place < 8
 placed node size place peer label which e = by (nat_lt place 8) refl
   where
     by : (b : Bool) → nat_lt place 8 ≡ b → place < 8
@@ -163,7 +163,7 @@ none_write offset size e = cc
 read_write : (at len offset size : ℕ) → asks.Read at len ≡ asks.Write offset size → ⊥
 read_write at len offset size e = cc
 
-rung_reads : (phase : Phase) (m : Machine) (offset size : ℕ) → (doorbell_step (record m { phase = phase })).0 ≡ asks.Write offset size → ⊥
+pub rung_reads : (phase : Phase) (m : Machine) (offset size : ℕ) → (doorbell_step (record m { phase = phase })).0 ≡ asks.Write offset size → ⊥
 unfolding doorbell_step
 rung_reads phases.Reset m offset size e = none_write offset size e
 rung_reads phases.Dead m offset size e = none_write offset size e
@@ -179,9 +179,9 @@ rung_reads phases.Suspended m offset size e = read_write m.present 8 offset size
 no_error : (refusal : PointRefusal) (ask : Ask) → Err refusal ≡ Ok ask → ⊥
 no_error refusal ask e = cc
 
-record Points (m : Machine) (s : Result Ask PointRefusal × Machine) (ask : Ask) : Type 0 where
+pub record Points (m : Machine) (s : Result Ask PointRefusal × Machine) (ask : Ask) : Type 0 where
   off : rests s.1 ≡ false
-  mild : (offset size : ℕ) → ask ≡ asks.Write offset size → ⊥
+  pub mild : (offset size : ℕ) → ask ≡ asks.Write offset size → ⊥
 
 points_in : (state : AgentState) (m : Machine) (pointer : OrbPointer) (ask : Ask) → (point_in state m pointer).0 ≡ Ok ask → Points m (point_in state m pointer) ask
 points_in states.Reset m Null ask e = absurd (no_error _ ask e)
@@ -191,7 +191,7 @@ points_in states.Suspended m (At next) ask e = record { off = refl; mild = λ of
 points_in states.Active m pointer ask e = absurd (no_error _ ask e)
 points_in states.Dead m pointer ask e = absurd (no_error _ ask e)
 
-points_at : (m : Machine) (pointer : OrbPointer) (ask : Ask) → (point_step m pointer).0 ≡ Ok ask → Points m (point_step m pointer) ask
+pub points_at : (m : Machine) (pointer : OrbPointer) (ask : Ask) → (point_step m pointer).0 ≡ Ok ask → Points m (point_step m pointer) ask
 unfolding point_step
 points_at m pointer ask e = points_in (state_in m.phase) m pointer ask e
 
@@ -243,7 +243,7 @@ module _ (w : WorldState) (g : Good w.target) (Ours Up : ℕ → Type 0) (Its : 
     begins : Resting (N layer) here
     begins = record { desks = g.mid.size; told_is = refl; stays = λ p r. r }
 
-    reads_answered : (rcode : ℕ) (given : List ℕ) (s : Scene) → AllRead s.outbox.packets → AllRead (answered request bytes rcode given s).outbox.packets
+    pub reads_answered : (rcode : ℕ) (given : List ℕ) (s : Scene) → AllRead s.outbox.packets → AllRead (answered request bytes rcode given s).outbox.packets
     unfolding answer_step
     reads_answered rcode given s a = by (answering_step s.node.layer request bytes rcode given) (answer_reads s.node.layer request bytes rcode given)
       where
@@ -342,7 +342,7 @@ module _ (w : WorldState) (g : Good w.target) (Ours Up : ℕ → Type 0) (Its : 
               (answer_called (rcode_of refusal) [] t (desk_more (N layer) here q d (λ r. subst (λ (m : Machine). rests m ≡ true) (refused (N layer q) pointer refusal e) r) begins) tt)
 
     -- ---- the management begins
-    start_reads : (orb : ℕ) → AllRead (start orb request bytes here).outbox.packets
+    pub start_reads : (orb : ℕ) → AllRead (start orb request bytes here).outbox.packets
     unfolding start management.start_step
     start_reads orb = by w.target.manager.operation
       where
@@ -355,7 +355,7 @@ module _ (w : WorldState) (g : Good w.target) (Ours Up : ℕ → Type 0) (Its : 
     pub start_called : (orb : ℕ) → Called layer (start orb request bytes here)
     start_called orb = idle_of layer (start orb request bytes here) (starts (N layer) orb request bytes here begins) (start_reads orb)
 
-    cut_reads : (place : ℕ) → AllRead (cut cuts.AgentReset place here).outbox.packets
+    pub cut_reads : (place : ℕ) → AllRead (cut cuts.AgentReset place here).outbox.packets
     unfolding cut
     cut_reads place = by (is_reset (state_in (desk_at here.node place).agent.phase))
       where

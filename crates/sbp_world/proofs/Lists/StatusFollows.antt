@@ -86,13 +86,13 @@ module _ (q : ℕ) (b : q < 8) (login : Login) (Ours : Type 0) (machines : ℕ �
   promoted_same false node e = are_self node
   promoted_same true node e = with_same node q (record (desk_at node q) { main = (desk_at node q).ahead; ahead = None }) (inside node e) refl
 
-  noted_same : (step : AgentStep) (s : Scene) → length s.node.desks ≡ 8 → AreSame s.node (noted q step s).node
+  pub noted_same : (step : AgentStep) (s : Scene) → length s.node.desks ≡ 8 → AreSame s.node (noted q step s).node
   unfolding noted
   noted_same step s e =
       let d = dropped_same step.dead s.node e in
       are_then s.node (dropped_by step.dead q s.node) (promoted_by step.promoted q (dropped_by step.dead q s.node)) d (promoted_same step.promoted (dropped_by step.dead q s.node) (d.desks ∙ e))
 
-  noted_outbox : (step : AgentStep) (s : Scene) → (noted q step s).outbox ≡ tell_step q (desk_at s.node q).agent step s.outbox
+  pub noted_outbox : (step : AgentStep) (s : Scene) → (noted q step s).outbox ≡ tell_step q (desk_at s.node q).agent step s.outbox
   unfolding noted
   noted_outbox step s = refl
 

@@ -105,7 +105,7 @@ module _ (m : management.Machine) where
   left_kept None s k = k
   left_kept (Some login) s k = record { packets = k.packets; manager = k.manager }
 
-  failed_kept : (source : ℕ) (failed : Option FailCause) (s : Scene) → Kept s → Kept (failed_by source failed s)
+  pub failed_kept : (source : ℕ) (failed : Option FailCause) (s : Scene) → Kept s → Kept (failed_by source failed s)
   failed_kept source None s k = record { packets = k.packets; manager = k.manager }
   failed_kept source (Some cause) s k = record { packets = k.packets; manager = k.manager }
 
@@ -123,7 +123,7 @@ module _ (m : management.Machine) where
   effect_kept effects.TargetReset login s k =
       let t = cut_all cuts.TargetReset None s in clears_kept (length t.node.units) 0 t (cuts_kept 8 0 cuts.TargetReset None s k)
 
-  decided_kept : (d : Option Decision) (effect : Effect) (source : ℕ) (s : Scene) → Kept s → Kept (decided_by d effect source s)
+  pub decided_kept : (d : Option Decision) (effect : Effect) (source : ℕ) (s : Scene) → Kept s → Kept (decided_by d effect source s)
   unfolding decided_by
   decided_kept None effect source s k = k
   decided_kept (Some d) effect source s k = let c = effect_kept effect d.subject s k in record { packets = c.packets; manager = c.manager }
@@ -136,7 +136,7 @@ lost_none source s (step, r) = by step.failed
     by None = refl
     by (Some cause) = refl
 
-lose_none : (s : Scene) → (lose_operation s).outbox.packets ≡ s.outbox.packets
+pub lose_none : (s : Scene) → (lose_operation s).outbox.packets ≡ s.outbox.packets
 unfolding lose_operation
 lose_none s = by (management.source_in s.node.manager.operation)
   where

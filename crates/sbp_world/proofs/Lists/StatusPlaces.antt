@@ -63,7 +63,7 @@ module _ (pointers : PointersLaw) (begun : BegunLaw) (here : Under (WhereTame Ar
   pub untaken_law : Under (WhereTame AreUntaken)
   untaken_law = statuses_law.untaken sent_law
 
-  names : Under (WhereTame AreNames)
+  pub names : Under (WhereTame AreNames)
   names = proved.named_law Placed placed_on gives (ground_law pointers begun) over
 
   pub behind_law : JoinedLaw → Under (WhereTame AreBehind)

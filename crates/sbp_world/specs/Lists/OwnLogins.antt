@@ -1,6 +1,8 @@
 -- The logins that the target has, where no initiator injected packets (NCITS 325-1998, login): each has a FIFO of a login, which is in no window of its initiator and
 -- no FIFO of a place of management.
 use Rattle.std.specs.Prelude.{◌≡◌, ◌<◌, ◌≤◌, ◌+◌, ◌*◌, ◌^◌, ℕ, List, Some}
+use Rattle.bus_memory.specs.declared.window.Window.TheVariants as windows
+use Rattle.bus_memory.specs.Windows.{start}
 use Rattle.login_table.specs.declared.login.Login.{Login}
 use Rattle.mgmt_agent.specs.declared.function.Function.TheVariants as functions
 use Rattle.mgmt_agent.specs.declared.operation.Phase.{Phase}
@@ -34,8 +36,14 @@ pub data IsItsFifo (fifo : ℕ) : Type 0 where
   of_login : IsLoginFifo fifo → IsItsFifo fifo
   of_place : (place : ℕ) → place < 2 → fifo ≡ 0x12002000 + 0x20 * place → IsItsFifo fifo
 
--- an ORB names such a FIFO, and that of a login where it asks for one
+-- the place of a response, or an address in front of the buffers of the slots
+pub data IsAside (at : ℕ) : Type 0 where
+  in_front : at < 0x1100_0000 → IsAside at
+  of_response : (place : ℕ) → place < 2 → at ≡ start (windows.Response place) → IsAside at
+
+-- an ORB names such a FIFO, and that of a login where it asks for one; and its response goes to no buffer of a slot
 pub record IsGoodOrb (orb : ManagementOrb) : Type 0 where
+  pub aside : IsAside orb.second
   pub its : IsItsFifo orb.fifo
   pub login : function_of orb.function ≡ Some functions.Login → IsLoginFifo orb.fifo
 

@@ -1,0 +1,197 @@
+-- What follows a step of the agent of a place, as far as its writes go: each goes to the node of the login; to its FIFO, or it is the one that the step asks for, with
+-- the bytes that the agent has to write behind it.
+use Rattle.std.proofs.Common.{arith, ◌≡◌, ◌∙◌, refl, sym, ap, subst, ◌<◌, ◌≤◌, nat_le, is_some, ℕ, Bool, true, false, cond, List, [], ◌∷◌, ◌++◌, length, Option, Some, None}
+use Rattle.std.proofs.lemmas.Bool.Decides.{nat_tests}
+use Rattle.command_agent.specs.declared.step.AgentStep.{AgentStep}
+use Rattle.command_agent.specs.declared.step.Which.{Which}
+use Rattle.command_agent.specs.declared.step.Which.TheVariants.{Ahead, Main}
+use Rattle.command_agent.specs.Machine.{Machine, is_under_way}
+use Rattle.command_agent.specs.Steps.{lost_step}
+use Rattle.label_table.specs.declared.judgement.Asked.{Asked}
+use Rattle.label_table.specs.Bodies.{Body, block_read, block_write, quadlet_read, quadlet_write}
+use Rattle.label_table.specs.Layer.{Layer, asking_step}
+use Rattle.login_table.specs.declared.login.Login.{Login}
+use Rattle.orb_layout.specs.declared.ask.Ask.{Ask}
+use Rattle.orb_layout.specs.declared.ask.Ask.TheVariants as asks
+use Rattle.orb_layout.specs.declared.ask.FailCause.TheVariants as causes
+use Rattle.orb_layout.specs.declared.status.StatusKind.{StatusKind}
+use Rattle.sbp_journal.specs.Addresses.{Access}
+use Rattle.sbp_journal.specs.declared.outbox.Outgoing.{Outgoing}
+use Rattle.sbp_journal.specs.Outgoings.{OutboxState}
+use Rattle.sbp_laws.specs.OnceLaw.{is_write_in}
+use Rattle.sbp_laws.specs.Packets.{access_in_bytes}
+use Rattle.sbp_target.specs.declared.purpose.Purpose.{Purpose}
+use Rattle.sbp_target.specs.declared.purpose.Purpose.TheVariants as purposes
+use Rattle.sbp_target.specs.Agents.{after_ahead, after_loss, after_main, agent_body, ahead_asked, ahead_sent, ask_main, follow, lose, lose_main, lost_by, main_asked, main_sent, noted, send_ahead}
+use Rattle.sbp_target.specs.Nodes.{Scene, desk_at, scene, with_agent}
+use Rattle.sbp_target.specs.Sending.{request_step, sent_by}
+use Rattle.sbp_world.proofs.Lists.StatusBytes.{written_at, wrote}
+use Rattle.sbp_world.proofs.Lists.StatusFollows.{noted_outbox, noted_same}
+use Rattle.sbp_world.proofs.Lists.StatusLosses.{lost_asks, quiet_ahead}
+use Rattle.sbp_world.proofs.Lists.StatusPackets.{step_packets}
+use Rattle.sbp_world.proofs.Lists.StatusReads.{IsOfBody, IsRead, asked_body, body_reads, reads_body}
+
+no : false ≡ true → ⊥
+no e = cc
+
+no_ask : (offset size : ℕ) → asks.Nothing ≡ asks.Write offset size → ⊥
+no_ask offset size e = cc
+
+-- ---- what a packet writes: to a FIFO; or what a step of an agent asks for
+pub data IsBy (Fifo : ℕ → Type 0) (step : AgentStep) (m : Machine) (node to offset : ℕ) (payload : List ℕ) : Type 0 where
+  to_fifo : (fifo : ℕ) → Fifo fifo → offset ≡ written_at fifo → IsBy Fifo step m node to offset payload
+  of_step : (at size : ℕ) → step.ended ≡ None → step.ask ≡ asks.Write at size → to ≡ node → offset ≡ written_at at → payload ≡ m.outgoing → IsBy Fifo step m node to offset payload
+
+module _ (Fifo : ℕ → Type 0) (step : AgentStep) (m : Machine) (node : ℕ) where
+  abbrev pub By : ℕ → ℕ → List ℕ → Type 0
+  By to offset payload = IsBy Fifo step m node to offset payload
+
+  abbrev pub IsSo : Outgoing → Type 0
+  IsSo packet = (access : Access) → access_in_bytes packet.bytes ≡ Some access → access.is_write ≡ true → By packet.to access.offset access.payload
+
+  abbrev pub AllSo : List Outgoing → Type 0
+  AllSo [] = Unit {0}
+  AllSo (packet ∷ later) = IsSo packet × AllSo later
+
+  pub read_so : (packet : Outgoing) → IsRead packet.bytes → IsSo packet
+  read_so packet r access e w = absurd (no (sym r ∙ (ap is_write_in e ∙ w)))
+
+  pub more_so : (packets : List Outgoing) (packet : Outgoing) → AllSo packets → IsSo packet → AllSo (packets ++ packet ∷ [])
+  more_so [] packet h p = (p, tt)
+  more_so (one ∷ later) packet h p = (h.0, more_so later packet h.1 p)
+
+-- ---- at a place
+module _ (q : ℕ) (b : q < 8) (login : Login) (Fifo : ℕ → Type 0) (own : Fifo login.fifo) (step : AgentStep) (m : Machine) where
+  abbrev S : Scene → Type 0
+  S s = AllSo Fifo step m login.node s.outbox.packets
+
+  abbrev Fine : Option Body → Type 0
+  Fine None = Unit {0}
+  Fine (Some (quadlet_write at value)) = ⊥
+  Fine (Some (block_write at payload)) = (length payload ≤ 2048) × IsBy Fifo step m login.node login.node (written_at at) payload
+  Fine (Some (quadlet_read at)) = Unit {0}
+  Fine (Some (block_read at asked)) = Unit {0}
+
+  -- ---- a request
+  read_of : (s : Scene) (body : Body) → reads_body body ≡ true → (asked : Asked) → IsOfBody s.node.layer login.node body (Some asked) → IsSo Fifo step m login.node (record { to = login.node; label = Some asked.label; bytes = asked.bytes })
+  read_of s body e asked of = read_so Fifo step m login.node (record { to = login.node; label = Some asked.label; bytes = asked.bytes }) (subst IsRead (sym of) (body_reads asked.label.number s.node.layer.node login.node body e))
+
+  write_of : (s : Scene) (at : ℕ) (payload : List ℕ) → length payload ≤ 2048 → IsBy Fifo step m login.node login.node (written_at at) payload → (asked : Asked) → IsOfBody s.node.layer login.node (block_write at payload) (Some asked) → IsSo Fifo step m login.node (record { to = login.node; label = Some asked.label; bytes = asked.bytes })
+  write_of s at payload small by asked of access e w =
+      let x = wrote asked.label.number s.node.layer.node login.node at payload small access (subst (λ bytes. access_in_bytes bytes ≡ Some access) of e) in
+      subst (λ o. IsBy Fifo step m login.node login.node o access.payload) (sym x.offset_is) (subst (λ p. IsBy Fifo step m login.node login.node (written_at at) p) (sym x.payload_is) by)
+
+  sent_so : (s : Scene) → S s → (body : Body) → ((asked : Asked) → IsOfBody s.node.layer login.node body (Some asked) → IsSo Fifo step m login.node (record { to = login.node; label = Some asked.label; bytes = asked.bytes })) → (r : Option Asked × Layer Purpose) → IsOfBody s.node.layer login.node body r.0 → S (main_sent q login.node s.node (sent_by r s.outbox login.node)).1
+  sent_so s h body f (None, layer) of = h
+  sent_so s h body f (Some asked, layer) of = more_so Fifo step m login.node s.outbox.packets (record { to = login.node; label = Some asked.label; bytes = asked.bytes }) h (f asked of)
+
+  main_so : (s : Scene) → S s → (body : Option Body) → Fine body → S (main_asked body q login s).1
+  unfolding request_step
+  main_so s h None f = h
+  main_so s h (Some (quadlet_write at value)) f = absurd f
+  main_so s h (Some (block_write at payload)) f =
+      sent_so s h (block_write at payload) (write_of s at payload f.0 f.1) (asking_step s.node.layer login.node (block_write at payload) (purposes.Agent q)) (asked_body s.node.layer login.node (block_write at payload) (purposes.Agent q))
+  main_so s h (Some (quadlet_read at)) f =
+      sent_so s h (quadlet_read at) (read_of s (quadlet_read at) refl) (asking_step s.node.layer login.node (quadlet_read at) (purposes.Agent q)) (asked_body s.node.layer login.node (quadlet_read at) (purposes.Agent q))
+  main_so s h (Some (block_read at asked)) f =
+      sent_so s h (block_read at asked) (read_of s (block_read at asked) refl) (asking_step s.node.layer login.node (block_read at asked) (purposes.Agent q)) (asked_body s.node.layer login.node (block_read at asked) (purposes.Agent q))
+
+  pick_fine : (x : Bool) (body : Option Body) → (x ≡ true → Fine body) → Fine (cond x body None)
+  pick_fine true body f = f refl
+  pick_fine false body f = tt
+
+  -- a step, whose write goes to the FIFO or is that of the step
+  fine_of : (ask : Ask) (ended : Option StatusKind) (outgoing : List ℕ) → ((offset size : ℕ) → ask ≡ asks.Write offset size → ended ≡ None → IsBy Fifo step m login.node login.node (written_at offset) outgoing) → Fine (agent_body ask (is_some ended) login.fifo outgoing)
+  fine_of asks.Nothing ended outgoing f = tt
+  fine_of (asks.Read offset len) ended outgoing f = pick_fine (nat_le len 2048) (Some (block_read offset len)) (λ e. tt)
+  fine_of (asks.Write offset size) None outgoing f =
+      pick_fine (nat_le (length outgoing) 2048) (Some (block_write offset outgoing)) (λ e. ((let z : length outgoing ≤ 2048 = grind (arith, nat_tests) in z), f offset size refl refl))
+  fine_of (asks.Write offset size) (Some kind) outgoing f =
+      pick_fine (nat_le (length outgoing) 2048) (Some (block_write login.fifo outgoing)) (λ e. ((let z : length outgoing ≤ 2048 = grind (arith, nat_tests) in z), to_fifo login.fifo own refl))
+
+  abbrev A : Scene → Machine
+  A s = (desk_at s.node q).agent
+
+  asks_so : (one : AgentStep) (s : Scene) → S s → ((offset size : ℕ) → one.ask ≡ asks.Write offset size → one.ended ≡ None → IsBy Fifo step m login.node login.node (written_at offset) (A s).outgoing) → S (ask_main q login one s).1
+  unfolding ask_main
+  asks_so one s h f = main_so s h (agent_body one.ask (is_some one.ended) login.fifo (A s).outgoing) (fine_of one.ask one.ended (A s).outgoing f)
+
+  told_so : (one : AgentStep) (s : Scene) → S s → S (noted q one s)
+  told_so one s h =
+      subst (AllSo Fifo step m login.node) (sym (ap (λ (o : OutboxState). o.packets) (noted_outbox q b login (Unit {0}) (λ p. m) one s) ∙ step_packets q (A s) one s.outbox)) h
+
+  -- ---- a request finds no label
+  lost_none : (which : Which) (n : Machine) → (lost_step n which causes.Label).0.ended ≡ None → (lost_step n which causes.Label).0.ask ≡ asks.Nothing
+  lost_none Main n e = lost_asks n causes.Label e
+  lost_none Ahead n e = ap (λ (x : AgentStep). x.ask) (quiet_ahead n causes.Label)
+
+  lost_so : (which : Which) (x : Bool) (s : Scene) → S s → S (lost_by x q login which s).1
+  lost_so which false s h = h
+  lost_so which true s h =
+      let l = lost_step (A s) which causes.Label in
+      let t = scene (with_agent s.node q l.1) s.outbox in
+      asks_so l.0 (noted q l.0 t) (told_so l.0 t h) (λ offset size e none. absurd (no_ask offset size (sym (lost_none which (A s) none) ∙ e)))
+
+  lose_so : (which : Which) (s : Scene) → S s → S (lose q login which s).1
+  unfolding lose
+  lose_so which s h = lost_so which (is_under_way which (desk_at s.node q).agent) s h
+
+  after_loss_so : (r : Bool × Scene) → S r.1 → S (after_loss q login r)
+  after_loss_so (true, s) h = h
+  after_loss_so (false, s) h = lose_so Main s h
+
+  lose_main_so : (s : Scene) → S s → S (lose_main q login s)
+  unfolding lose_main
+  lose_main_so s h = after_loss_so (lose q login Main s) (lose_so Main s h)
+
+  after_ahead_so : (r : Bool × Scene) → S r.1 → S (after_ahead q login r)
+  after_ahead_so (true, s) h = h
+  after_ahead_so (false, s) h = lose_so Ahead s h
+
+  -- ---- the read ahead
+  ahead_out : (s : Scene) → S s → (body : Body) → reads_body body ≡ true → (r : Option Asked × Layer Purpose) → IsOfBody s.node.layer login.node body r.0 → S (ahead_sent q login.node s.node (sent_by r s.outbox login.node)).1
+  ahead_out s h body e (None, layer) of = h
+  ahead_out s h body e (Some asked, layer) of = more_so Fifo step m login.node s.outbox.packets (record { to = login.node; label = Some asked.label; bytes = asked.bytes }) h (read_of s body e asked of)
+
+  pick_so : (x : Bool) (r t : Bool × Scene) → S r.1 → S t.1 → S (cond x r t).1
+  pick_so true r t h k = h
+  pick_so false r t h k = k
+
+  ahead_by : (s : Scene) → S s → (body : Option Body) → ((one : Body) → body ≡ Some one → reads_body one ≡ true) → S (ahead_asked body q login s).1
+  unfolding request_step
+  ahead_by s h None f = h
+  ahead_by s h (Some body) f =
+      pick_so _ (false, s) (ahead_sent q login.node s.node (request_step s.node.layer s.outbox login.node body (purposes.Agent q))) h
+      (ahead_out s h body (f body refl) (asking_step s.node.layer login.node body (purposes.Agent q)) (asked_body s.node.layer login.node body (purposes.Agent q)))
+
+  same_body : (x y : Body) → Some x ≡ Some y → x ≡ y
+  same_body x y e = cc
+
+  none_body : (x : Body) → None ≡ Some x → ⊥
+  none_body x e = cc
+
+  picked_reads : (x : Bool) (offset len : ℕ) (one : Body) → cond x (Some (block_read offset len)) None ≡ Some one → reads_body one ≡ true
+  picked_reads true offset len one e = ap reads_body (sym (same_body (block_read offset len) one e))
+  picked_reads false offset len one e = absurd (none_body one e)
+
+  ahead_reads : (ask : Ask) (outgoing : List ℕ) → ((offset size : ℕ) → ask ≡ asks.Write offset size → ⊥) → (one : Body) → agent_body ask false login.fifo outgoing ≡ Some one → reads_body one ≡ true
+  ahead_reads asks.Nothing outgoing f one e = absurd (none_body one e)
+  ahead_reads (asks.Read offset len) outgoing f one e = picked_reads (nat_le len 2048) offset len one e
+  ahead_reads (asks.Write offset size) outgoing f one e = absurd (f offset size refl)
+
+  sends_so : (ask : Ask) (s : Scene) → ((offset size : ℕ) → ask ≡ asks.Write offset size → ⊥) → S s → S (send_ahead q login ask s).1
+  unfolding send_ahead
+  sends_so ask s f h = ahead_by s h (agent_body ask false login.fifo (A s).outgoing) (ahead_reads ask (A s).outgoing f)
+
+  main_then : ((offset size : ℕ) → step.ahead ≡ asks.Write offset size → ⊥) → (r : Bool × Scene) → S r.1 → S (after_main q login step r)
+  main_then f (true, s) h = after_ahead_so (send_ahead q login step.ahead s) (sends_so step.ahead s f h)
+  main_then f (false, s) h = lose_main_so s h
+
+  -- ---- what follows a step
+  pub follows_so : (s : Scene) → length s.node.desks ≡ 8 → A s ≡ m → ((offset size : ℕ) → step.ahead ≡ asks.Write offset size → ⊥) → S s → S (follow q login step s)
+  unfolding follow
+  follows_so s desks agent f h =
+      let t = noted q step s in
+      let same = (noted_same q b login (Unit {0}) (λ p. m) step s desks).agents q in
+      main_then f (ask_main q login step t)
+      (asks_so step t (told_so step s h) (λ offset size e none. of_step offset size none e refl refl (ap (λ (x : Machine). x.outgoing) (same ∙ agent))))

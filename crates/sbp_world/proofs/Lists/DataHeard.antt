@@ -1,0 +1,186 @@
+-- A delivery to the target sends the data of answers as they are to be sent: each write into a buffer of an initiator that injected no packets is of the next chunk of the
+-- present ORB of a list of it, as the turn began; where this is known of the management. A time-out of its own sends none.
+use Rattle.std.proofs.Common.{arith, ◌≡◌, ◌∙◌, refl, sym, ap, subst, ◌<◌, ℕ, suc, Bool, true, false, List, [], ◌∷◌, ◌++◌, map, Option, Some, None}
+use Rattle.async_packet.specs.Labels.{LabelParts}
+use Rattle.async_packet.specs.Packet.{Packet, header_in}
+use Rattle.bus_memory.specs.declared.window.Window.{Window}
+use Rattle.bus_memory.specs.declared.window.Window.TheVariants as windows
+use Rattle.bus_memory.specs.Windows.{IfShare, window_at}
+use Rattle.bus_memory.proofs.Found.{window_share}
+use Rattle.command_agent.specs.declared.step.AgentStep.{AgentStep}
+use Rattle.command_agent.specs.declared.step.Which.{Which}
+use Rattle.command_agent.specs.Machine.{Machine, new_machine}
+use Rattle.command_agent.specs.Steps.{quiet, reply_step}
+use Rattle.label_table.specs.Layer.{Layer, judging_step, of_response}
+use Rattle.login_table.specs.declared.login.Login.{Login}
+use Rattle.orb_layout.specs.declared.ask.Ask.TheVariants as asks
+use Rattle.orb_layout.specs.Replies.{Answer, Expired}
+use Rattle.packet_store.specs.declared.sent.Sent.{Sent}
+use Rattle.rbc_disk.specs.Held.{Held}
+use Rattle.rbc_disk.specs.Runs.{Told}
+use Rattle.sbp_bus.specs.Generations.{node_of}
+use Rattle.sbp_bus.specs.Packets.{judged_note}
+use Rattle.sbp_journal.specs.Addresses.{Access}
+use Rattle.sbp_journal.specs.declared.note.Note.{Note}
+use Rattle.sbp_journal.specs.declared.note.Note.TheVariants as notes
+use Rattle.sbp_journal.specs.declared.outbox.Outgoing.{Outgoing}
+use Rattle.sbp_journal.specs.declared.side.Side.{Side}
+use Rattle.sbp_journal.specs.declared.side.Side.TheVariants as sides
+use Rattle.sbp_journal.specs.Outgoings.{OutboxState}
+use Rattle.sbp_journal.specs.Run.{Moment, said}
+use Rattle.sbp_laws.specs.Terms.{ends}
+use Rattle.sbp_laws.specs.Turns.{EachMoment}
+use Rattle.sbp_target.specs.declared.purpose.Purpose.{Purpose}
+use Rattle.sbp_target.specs.declared.purpose.Purpose.TheVariants as purposes
+use Rattle.sbp_target.specs.Desks.{which_in}
+use Rattle.sbp_target.specs.Management.{manage}
+use Rattle.sbp_target.specs.Nodes.{Scene, desk_at, login_at, scene}
+use Rattle.sbp_target.specs.Receiving.{answer_in, received, timed_out}
+use Rattle.sbp_target.specs.Replies.{plain_in}
+use Rattle.sbp_world.specs.Delivering.{whole_of}
+use Rattle.sbp_world.specs.Handing.{handed_out}
+use Rattle.sbp_world.specs.Telling.{holder, told_all}
+use Rattle.sbp_world.specs.Worlds.{WorldState}
+use Rattle.sbp_world.specs.Agents.Alike.{has_list}
+use Rattle.sbp_world.proofs.Agents.Management.Still.{hist}
+use Rattle.sbp_world.specs.Hosts.Handing.{AreOthers}
+use Rattle.sbp_world.specs.Lists.DataWrites.{DataSo, IsPieceOf}
+use Rattle.sbp_world.specs.Lists.Needs.{IsFor, machine_at}
+use Rattle.sbp_world.specs.Lists.OwnLogins.{AreOwn, IsLoginFifo}
+use Rattle.sbp_world.proofs.Lists.DataCalls.{AllFifo, WroteSo, delivery_wrote, lapse_wrote, manages, steps_so, to_logins}
+use Rattle.sbp_world.proofs.Lists.DataFollows.{AllSo, IsBy, of_step, to_fifo}
+use Rattle.sbp_world.proofs.Lists.DataSteps.{reply_piece}
+use Rattle.sbp_world.proofs.Lists.DataTurns.{AllDue, AreTold, IsPieceNow, Sends, all_leave, all_same, all_told, noted}
+use Rattle.sbp_world.proofs.Lists.Deliveries.{waits_has}
+use Rattle.sbp_world.proofs.Lists.OwnFifos.{fifo_low, fifo_no_window}
+use Rattle.sbp_world.proofs.Lists.RunOutcomes.{AreAsked}
+use Rattle.sbp_world.proofs.Lists.StatusActs.{first}
+use Rattle.sbp_world.proofs.Lists.StatusAnswers.{answer_low, opened}
+use Rattle.sbp_world.proofs.Lists.StatusBytes.{same_address, written_at}
+use Rattle.sbp_world.proofs.Lists.StatusDue.{Ours}
+use Rattle.sbp_world.proofs.Lists.StatusTurn.{Behind, IsFirst, Up, got_first, ignored_first, judged_first, late_first}
+use Rattle.sbp_world.proofs.Lists.Turns.{Ready}
+
+no_ask : (offset size : ℕ) → asks.Nothing ≡ asks.Write offset size → ⊥
+no_ask offset size e = cc
+
+no_window : (window : Window) → None ≡ Some window → ⊥
+no_window window e = cc
+
+-- the FIFO of a login is in no buffer
+fifo_dry : (fifo offset slot : ℕ) → IsLoginFifo fifo → offset ≡ written_at fifo → window_at offset ≡ Some (windows.Buffer slot) → ⊥
+fifo_dry fifo offset slot own e goes =
+    let low = fifo_low fifo own in
+    no_window (windows.Buffer slot) (sym (ap window_at (e ∙ same_address fifo (omega (arith, low))) ∙ fifo_no_window fifo own) ∙ goes)
+
+above_zero : (at slot : ℕ) → window_at at ≡ Some (windows.Buffer slot) → 0 < at
+above_zero at slot e = let share = (subst (IfShare at) e (window_share at)).1 in omega (arith, share)
+
+others_told : (i : ℕ) (past ms : List Moment) (side : List Side) → AreOthers side → AreTold i past ms side
+others_told i past ms [] h = tt
+others_told i past ms (sides.Own note ∷ later) h = absurd h.0
+others_told i past ms (_ ∷ later) h = (tt, others_told i past ms later h.1)
+
+first_so : (i : ℕ) (note : Note) (ms : List Moment) → IsFirst note → DataSo i (said note) ms
+first_so i _ ms (got_first serial) = tt
+first_so i _ ms (ignored_first serial cause) = tt
+first_so i _ ms (late_first serial) = tt
+
+module _ (wild : ℕ → Bool) (i : ℕ) (own : wild i ≡ false) (past : List Moment) (w : WorldState) (r : Ready wild past w) (asked : AreAsked wild (hist past w) w) (owned : AreOwn w) (each : EachMoment (DataSo i) (hist past w)) where
+  abbrev ms : List Moment
+  ms = hist past w
+
+  record IsStepPiece (j : ℕ) (m : Machine) (offset size : ℕ) : Type 0 where
+    list : ℕ
+    piece : IsPieceOf ms j list (ends ms j list) m offset size
+
+  -- what is known of the agent of a place that makes a step
+  record StepSo (q : ℕ) (one : AgentStep × Machine) : Type 0 where
+    mine : (login : Login) → login_at w.target q ≡ Some login → node_of w.generations 0 login.node ≡ Some (suc i) → (holder w q).initiator ≡ i
+    piece : Ours wild past w r q → one.0.ended ≡ None → (at size : ℕ) → one.0.ask ≡ asks.Write at size → (slot : ℕ) → window_at (written_at at) ≡ Some (windows.Buffer slot) → IsStepPiece (holder w q).initiator one.1 (written_at at) size
+
+  abbrev pub Due : List Outgoing → Type 0
+  Due packets = AllDue i past ms w.generations packets
+
+  -- ---- what a call writes
+  by_fifo : (to : ℕ) (access : Access) → IsBy IsLoginFifo quiet new_machine 0 to access.offset access.payload → (slot : ℕ) → window_at access.offset ≡ Some (windows.Buffer slot) → IsPieceNow ms i access
+  by_fifo to access (to_fifo fifo own e) slot goes = absurd (fifo_dry fifo access.offset slot own e goes)
+  by_fifo to access (of_step at size none ask to_is offset_is payload_is) slot goes = absurd (no_ask at size ask)
+
+  due_fifo : (packets : List Outgoing) → AllFifo IsLoginFifo packets → Due packets
+  due_fifo [] h = tt
+  due_fifo (packet ∷ later) h = ((λ there slot x. by_fifo packet.to x.access (h.0 x.access x.is x.writes) slot x.goes), due_fifo later h.1)
+
+  by_step : (q : ℕ) (login : Login) → login_at w.target q ≡ Some login → (one : AgentStep × Machine) → StepSo q one → (to : ℕ) (access : Access) → node_of w.generations 0 to ≡ Some (suc i) → IsBy IsLoginFifo one.0 one.1 login.node to access.offset access.payload → (slot : ℕ) → window_at access.offset ≡ Some (windows.Buffer slot) → IsPieceNow ms i access
+  by_step q login is one s to access there (to_fifo fifo own e) slot goes = absurd (fifo_dry fifo access.offset slot own e goes)
+  by_step q login is one s to access there (of_step at size none ask to_is offset_is payload_is) slot goes =
+      let mine = s.mine login is (ap (λ a. node_of w.generations 0 a) (sym to_is) ∙ there) in
+      let p = s.piece (ap wild mine ∙ own) none at size ask slot (ap window_at (sym offset_is) ∙ goes) in
+      subst (λ j. IsPieceNow ms j access) mine (record {
+        list = p.list;
+        machine = one.1;
+        size = size;
+        piece = subst (λ o. IsPieceOf ms (holder w q).initiator p.list (ends ms (holder w q).initiator p.list) one.1 o size) (sym offset_is) p.piece;
+        bytes = payload_is;
+      })
+
+  due_step : (q : ℕ) (login : Login) → login_at w.target q ≡ Some login → (one : AgentStep × Machine) → StepSo q one → (packets : List Outgoing) → AllSo IsLoginFifo one.0 one.1 login.node packets → Due packets
+  due_step q login is one s [] h = tt
+  due_step q login is one s (packet ∷ later) h = ((λ there slot x. by_step q login is one s packet.to x.access there (h.0 x.access x.is x.writes) slot x.goes), due_step q login is one s later h.1)
+
+  -- ---- it leaves
+  module _ (note : Note) (f : IsFirst note) (u : WorldState) (b : Behind note w u) (outbox : OutboxState) (others : AreOthers outbox.sides) where
+    started : Sends i past ms (hist past u)
+    started = subst (Sends i past ms) (ap (λ ns. map said ns ++ past) (sym b.fresh)) (noted i past ms (said note) ms (first_so i note ms f) (record { grown = record { new = []; is = refl }; so = each }))
+
+    pub hands : Due outbox.packets → EachMoment (DataSo i) (hist past (handed_out 0 0 outbox u))
+    hands due =
+        (all_leave i past ms w.generations outbox.packets (told_all 0 outbox.sides u) (all_same i past ms 0 outbox.sides u ∙ b.generations) due
+        (all_told i past ms 0 outbox.sides u (others_told i past ms outbox.sides others) started)).so
+
+  abbrev C : (Answer → Type 0) → Layer Purpose → Scene → Type 0
+  C Its layer s = WroteSo w r.good IsLoginFifo (λ q login is. owned q login is) StepSo Its layer s
+
+  called : (Its : Answer → Type 0) (layer : Layer Purpose) (s : Scene) (note : Note) (f : IsFirst note) (u : WorldState) (b : Behind note w u) (others : AreOthers s.outbox.sides) → ((answer : Answer) → Its answer → s ≡ manage answer (first w r.good layer) → EachMoment (DataSo i) (hist past (handed_out 0 0 s.outbox u))) → C Its layer s → EachMoment (DataSo i) (hist past (handed_out 0 0 s.outbox u))
+  called Its layer s note f u b others managed (to_logins h) = hands note f u b s.outbox others (due_fifo s.outbox.packets h)
+  called Its layer s note f u b others managed (steps_so q small login is one known h) = hands note f u b s.outbox others (due_step q login is one known s.outbox.packets h)
+  called Its layer s note f u b others managed (manages answer its e) = managed answer its e
+
+  -- ---- a packet is delivered
+  module _ (up : (q : ℕ) → q < 8 → has_list (machine_at w q).phase ≡ true → Up wild i own past w q) (sent : Sent) (is_for : IsFor w sent) (run : Option Told) (media : Held) (serial : ℕ) where
+    reply_so : (p : Packet) (label : LabelParts) (place : ℕ) → (judging_step w.target.layer sent.generation sent.bytes).0 ≡ of_response p label (Some (purposes.Agent place)) → (b : place < 8) (login : Login) → login_at w.target place ≡ Some login → (which : Which) → which_in (desk_at w.target place) (header_in p).source label ≡ Some which → StepSo place (reply_step (machine_at w place) place (plain_in w.target.units media.disks login.unit) run which (answer_in p))
+    reply_so p label place f b login is which e = record {
+      mine = (up place b (waits_has wild past w r place b (header_in p).source label which e)).mine;
+      piece = λ ours none at size ask slot goes.
+          let low = answer_low wild past w r asked sent is_for run media.disks p label place f b login which e ours none at size ask in
+          let same : written_at at ≡ at = same_address at (omega (arith, low)) in
+          let o = opened wild past w r asked sent is_for run media.disks p label place f b login which e ours in
+          let j = (holder w place).initiator in
+          let step = reply_step (machine_at w place) place (plain_in w.target.units media.disks login.unit) run which (answer_in p) in
+          record {
+            list = o.n;
+            piece = subst (λ z. IsPieceOf ms j o.n (ends ms j o.n) step.1 z size) (sym same)
+                (reply_piece wild past w r asked sent is_for run media.disks p label place f b login which e ours none at size ask (above_zero at slot (ap window_at (sym same) ∙ goes)));
+          };
+    }
+
+    -- the answer to the management is that of this packet
+    record IsHeard (answer : Answer) : Type 0 where
+      packet : Packet
+      label : LabelParts
+      found : (judging_step w.target.layer sent.generation sent.bytes).0 ≡ of_response packet label (Some purposes.Management)
+      is : answer ≡ answer_in packet
+
+    pub data_heard : (u : WorldState) → (let x = received run sent.generation sent.bytes (whole_of w.target media) in Behind (judged_note serial x.0) w u → AreOthers x.1.outbox.sides → ((p : Packet) (label : LabelParts) → (judging_step w.target.layer sent.generation sent.bytes).0 ≡ of_response p label (Some purposes.Management) → scene x.1.node x.1.outbox ≡ manage (answer_in p) (first w r.good (judging_step w.target.layer sent.generation sent.bytes).1) → EachMoment (DataSo i) (hist past (handed_out 0 0 x.1.outbox u))) → EachMoment (DataSo i) (hist past (handed_out 0 0 x.1.outbox u)))
+    data_heard u b others managed =
+        let x = received run sent.generation sent.bytes (whole_of w.target media) in
+        called IsHeard (judging_step w.target.layer sent.generation sent.bytes).1 (scene x.1.node x.1.outbox) (judged_note serial x.0) (judged_first serial x.0) u b others
+        (λ answer its e. managed its.packet its.label its.found (subst (λ a. scene x.1.node x.1.outbox ≡ manage a (first w r.good (judging_step w.target.layer sent.generation sent.bytes).1)) its.is e))
+        (delivery_wrote w r.good IsLoginFifo (λ q login is. owned q login is) StepSo IsHeard sent run media reply_so (λ p label f. record { packet = p; label = label; found = f; is = refl }))
+
+  -- ---- a transaction of it times out
+  pub data_late : (layer : Layer Purpose) (peer : ℕ) (label : LabelParts) (purpose : Option Purpose) (serial : ℕ) (u : WorldState) → (let y = timed_out purpose peer label (first w r.good layer) in Behind (notes.TimedOut serial) w u → AreOthers y.outbox.sides → (y ≡ manage Expired (first w r.good layer) → EachMoment (DataSo i) (hist past (handed_out 0 0 y.outbox u))) → EachMoment (DataSo i) (hist past (handed_out 0 0 y.outbox u)))
+  data_late layer peer label purpose serial u b others managed =
+      called (λ answer. answer ≡ Expired) layer (timed_out purpose peer label (first w r.good layer)) (notes.TimedOut serial) (late_first serial) u b others
+      (λ answer its e. managed (subst (λ a. timed_out purpose peer label (first w r.good layer) ≡ manage a (first w r.good layer)) its e))
+      (lapse_wrote w r.good IsLoginFifo (λ q login is. owned q login is) StepSo (λ answer. answer ≡ Expired) layer peer label purpose (λ e. refl))

@@ -1,0 +1,38 @@
+-- In every run in which no initiator injected packets, the target sent the data of answers as they are to be sent, where the lines name units of 16 bits.
+use Rattle.std.proofs.Common.{ℕ, ◌<◌, List, length}
+use Rattle.sbp_journal.specs.Run.{Moment}
+use Rattle.sbp_laws.specs.Turns.{EachMoment}
+use Rattle.sbp_world.specs.Worlds.{WorldState}
+use Rattle.sbp_world.specs.Lists.Closes.{Under, WhereTame}
+use Rattle.sbp_world.specs.Lists.OwnLogins.{IsTame}
+use Rattle.sbp_world.specs.Lists.Placings.{BasedAt}
+use Rattle.sbp_world.specs.Lists.Shorts.{AreShort}
+use Rattle.sbp_world.proofs.Lists.LiveGiven.{ShortLaw, shorts_everywhere}
+use Rattle.sbp_world.proofs.Lists.LiveLogins.{logins_based}
+use Rattle.sbp_world.proofs.Lists.OpenedKnown.{lists_here}
+use Rattle.sbp_world.proofs.Lists.StatusPlaces.{AllPlaced}
+use Rattle.sbp_world.specs.Lists.DataWrites.{AllDataSo}
+use Rattle.sbp_world.proofs.Lists.DataClears.{DryAt, dry_everywhere}
+use Rattle.sbp_world.proofs.Lists.DataPlaces.{AllOfficeDry, data_sent}
+use Rattle.sbp_world.proofs.Lists.LiveShort.{here_by, placed_by}
+use Rattle.sbp_world.proofs.Lists.OpenedKnown as opened_known
+use Rattle.sbp_world.proofs.Lists.StatusPlaces as places
+
+all_office : (past : List Moment) (w : WorldState) → DryAt past w → AllPlaced past w → IsTame past → AreShort past → ((i : ℕ) → i < length w.initiators → EachMoment (BasedAt i) past) → AllOfficeDry past w
+all_office past w dry placed tame shorts based i inside calm = ((placed i inside calm).1, dry (tame, shorts, based) i inside)
+
+module _ (short : ShortLaw) where
+  dry_by : Under (WhereTame AllOfficeDry)
+  dry_by =
+      let shorts = shorts_everywhere short in
+      let based = logins_based short in
+      let placed = placed_by short in
+      record {
+        after_lines = λ line run r has small size so_far tame.
+            all_office _ _ (dry_everywhere.after_lines line run r has small size so_far) (placed.after_lines line run r has small size so_far tame) tame (shorts.after_lines line run r has small size so_far) (based.after_lines line run r has small size so_far tame);
+        between = λ line run r has small size next most told m so_far tame.
+            all_office _ _ (dry_everywhere.between line run r has small size next most told m so_far) (placed.between line run r has small size next most told m so_far tame) tame (shorts.between line run r has small size next most told m so_far) (based.between line run r has small size next most told m so_far tame);
+      }
+
+  pub data_sent_law : Under (WhereTame AllDataSo)
+  data_sent_law = data_sent opened_known.laws.pointers opened_known.laws.begun (here_by short) (places.names opened_known.laws.pointers opened_known.laws.begun (here_by short) (placed_by short)) dry_by

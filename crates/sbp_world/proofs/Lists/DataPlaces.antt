@@ -1,0 +1,52 @@
+-- The data of answers are sent as they are to be in every run in which no initiator injected packets, where lists were open as they should be before, each login has a FIFO
+-- of a login, and the management asks to write into no buffer of an initiator.
+use Rattle.std.proofs.Common.{◌≡◌, ◌<◌, ℕ, Bool, false, List, length, Some}
+use Rattle.async_packet.specs.Labels.{LabelParts}
+use Rattle.async_packet.specs.Packet.{Packet}
+use Rattle.label_table.specs.Layer.{judging_step, of_response}
+use Rattle.packet_store.specs.declared.sent.Sent.{Sent}
+use Rattle.sbp_world.specs.Pointers.Pointers.{PointersLaw}
+use Rattle.sbp_journal.specs.Run.{Moment}
+use Rattle.sbp_laws.specs.Turns.{EachMoment}
+use Rattle.sbp_target.specs.declared.purpose.Purpose.TheVariants as purposes
+use Rattle.sbp_target.specs.Receiving.{answer_in}
+use Rattle.sbp_world.specs.Worlds.{WorldState, without_notes}
+use Rattle.sbp_world.proofs.Agents.Management.Still.{hist}
+use Rattle.sbp_world.specs.Lists.Begun.{BegunLaw}
+use Rattle.sbp_world.specs.Lists.Closes.{AreHere, Under, WhereTame}
+use Rattle.sbp_world.specs.Lists.DataWrites.{AllDataSo, DataSo}
+use Rattle.sbp_world.specs.Lists.Needs.{IsCalm, IsFor}
+use Rattle.sbp_world.specs.Lists.OwnLogins.{AreOwn}
+use Rattle.sbp_world.proofs.Lists.DataOffice.{AreAsksDry, given_data}
+use Rattle.sbp_world.proofs.Lists.DataProved.{Over, data_law}
+use Rattle.sbp_world.proofs.Lists.DataWalk.{Given}
+use Rattle.sbp_world.proofs.Lists.RunOutcomes.{AreAsked}
+use Rattle.sbp_world.proofs.Lists.StatusProved.{AreNames, ground_law}
+use Rattle.sbp_world.proofs.Lists.Turns.{Ready}
+
+-- behind each packet that comes, the management asks to write into no buffer of an initiator
+abbrev pub IsOfficeDry : WorldState → ℕ → Type 0
+IsOfficeDry w i = (sent : Sent) → IsFor w sent → (p : Packet) (label : LabelParts) → (judging_step w.target.layer sent.generation sent.bytes).0 ≡ of_response p label (Some purposes.Management) → AreAsksDry w i (answer_in p)
+
+abbrev pub AllOfficeDry : List Moment → WorldState → Type 0
+AllOfficeDry ms w = (i : ℕ) → i < length w.initiators → IsCalm ms i → AreOwn w × IsOfficeDry w i
+
+abbrev Placed : ℕ → WorldState → Type 0
+Placed i w = AreOwn w × IsOfficeDry w i
+
+placed_on : (i : ℕ) (w : WorldState) → Placed i w → Placed i (without_notes w)
+placed_on i w p =
+    ((λ place login e. p.0 place login e), (λ sent is_for packet label found op is ours at len e slot goes. p.1 sent (record { serial = is_for.serial; found = is_for.found; to = is_for.to }) packet label found op is ours at len e slot goes))
+
+gives : (wild : ℕ → Bool) (i : ℕ) (own : wild i ≡ false) (past : List Moment) (w : WorldState) (r : Ready wild past w) → AreAsked wild (hist past w) w → Placed i w → EachMoment (DataSo i) (hist past w) → Given wild i own past w r
+gives wild i own past w r asked placed each = given_data wild i own past w r asked placed.0 each placed.1
+
+module _ (pointers : PointersLaw) (begun : BegunLaw) (here : Under (WhereTame AreHere)) (names : Under (WhereTame AreNames)) (dry : Under (WhereTame AllOfficeDry)) where
+  over : Under (WhereTame (Over Placed placed_on gives))
+  over = record {
+    after_lines = λ line run r has small size so_far tame. (here.after_lines line run r has small size so_far tame, (names.after_lines line run r has small size so_far tame, dry.after_lines line run r has small size so_far tame));
+    between = λ line run r has small size next most told m so_far tame. (here.between line run r has small size next most told m so_far tame, (names.between line run r has small size next most told m so_far tame, dry.between line run r has small size next most told m so_far tame));
+  }
+
+  pub data_sent : Under (WhereTame AllDataSo)
+  data_sent = data_law Placed placed_on gives (ground_law pointers begun) over

@@ -1,0 +1,81 @@
+-- At each place of a run in which no initiator injected packets, and before which lists were open as they should be, the target sent the data of answers as they are to be
+-- sent; where this is known of the management.
+use Rattle.std.proofs.Common.{◌≡◌, subst, ◌<◌, ℕ, Bool, false, List, [], length, Option, Some, None}
+use Rattle.rbc_disk.specs.Disk.{Disk}
+use Rattle.sbp_journal.specs.Run.{Moment}
+use Rattle.sbp_laws.specs.Turns.{EachMoment}
+use Rattle.sbp_world.specs.Histories.{moments_behind}
+use Rattle.sbp_world.specs.Runs.{Run, beginning}
+use Rattle.sbp_world.specs.Worlds.{Scene, WorldState, without_notes}
+use Rattle.sbp_world.proofs.Agents.Management.Still.{hist}
+use Rattle.sbp_world.specs.Agents.Management.Terms.{DeliversMore}
+use Rattle.sbp_world.specs.Hosts.Runs.{more_deliveries}
+use Rattle.sbp_world.specs.Lists.Closes.{Always, AreHere, Under, WhereTame}
+use Rattle.sbp_world.specs.Lists.DataWrites.{AllDataSo, DataSo}
+use Rattle.sbp_world.specs.Lists.Needs.{IsCalm}
+use Rattle.sbp_world.proofs.Lists.DataWalk.{Facts, Given, turn_data}
+use Rattle.sbp_world.proofs.Lists.Executes.{asked_of}
+use Rattle.sbp_world.proofs.Lists.RunOutcomes.{AreAsked}
+use Rattle.sbp_world.proofs.Lists.StatusPoints.{open_up}
+use Rattle.sbp_world.proofs.Lists.StatusProved.{AreNames, Ground}
+use Rattle.sbp_world.proofs.Lists.TameWalks.{tame_after, tame_between}
+use Rattle.sbp_world.proofs.Lists.Turns.{Ready}
+use Rattle.sbp_world.proofs.Lists.Walks.{Step, Walks}
+
+abbrev pub AllData : (ℕ → Bool) → List Moment → WorldState → Type 0
+AllData wild ms w = (i : ℕ) → i < length w.initiators → wild i ≡ false → EachMoment (DataSo i) ms
+
+delivers : (most : Option ℕ) → DeliversMore (more_deliveries most)
+delivers (Some count) = tt
+delivers None = tt
+
+module _ (Placed : ℕ → WorldState → Type 0) (placed_on : (i : ℕ) (w : WorldState) → Placed i w → Placed i (without_notes w)) (gives : (wild : ℕ → Bool) (i : ℕ) (own : wild i ≡ false) (past : List Moment) (w : WorldState) (r : Ready wild past w) → AreAsked wild (hist past w) w → Placed i w → EachMoment (DataSo i) (hist past w) → Given wild i own past w r) where
+  -- what is known where lists were open as they should be before
+  abbrev pub Over : List Moment → WorldState → Type 0
+  Over ms w = AreHere ms w × (AreNames ms w × ((i : ℕ) → i < length w.initiators → IsCalm ms i → Placed i w))
+
+  module _ (wild : ℕ → Bool) (units ready : ℕ) (has : 0 < units) (start : List Disk) (past : List Moment) (s : Scene) (later : List Moment) (t : Scene) (step : Step wild units ready start Ground Over past s later t) (p : AllData wild (hist past s.world) s.world) (i : ℕ) (b : i < length t.world.initiators) (own : wild i ≡ false) where
+    abbrev w : WorldState
+    w = s.world
+
+    abbrev ms : List Moment
+    ms = hist past w
+
+    inside : i < length w.initiators
+    inside = subst (λ n. i < n) step.count b
+
+    calm : IsCalm ms i
+    calm = step.stands.reached.calm i own
+
+    facts : Facts wild i own (Placed i) past w
+    facts =
+        let h = step.stands.reached.holds in
+        let site = step.stands.reached.site in
+        let lists = step.stands.lists i own in
+        let k = step.known in
+        let o = step.so_far i own in
+        let here = o.0 i inside calm (o.1.0 i inside calm) in
+        record {
+          ready = step.stands.known_all;
+          each = p i inside own;
+          asked_orbs = asked_of wild start units ready has w h site step.stands.lists step.stands.reached.calm k.orbs;
+          placed = o.1.1 i inside calm;
+          up = λ q c l. open_up wild i own units ready has start w h site inside calm lists k.opened k.caught k.known.pointers k.known.first here q c l;
+        }
+
+    data_now : EachMoment (DataSo i) (hist later t.world)
+    data_now = turn_data wild i own (Placed i) (placed_on i) (gives wild i own) past s later t step.turn facts
+
+  data_walk : (wild : ℕ → Bool) (units ready : ℕ) → 0 < units → (start : List Disk) → Walks wild units ready start Ground Over (AllData wild)
+  data_walk wild units ready has start past s later t step p = λ i b own. data_now wild units ready has start past s later t step p i b own
+
+  first_data : (wild : ℕ → Bool) (line : ℕ) (run : Run) → AllData wild (moments_behind line run []) (beginning run).world
+  first_data wild line run = λ i b own. (tt, (tt, tt))
+
+  -- ---- over a run in which no initiator injected packets
+  pub data_law : Always Ground → Under (WhereTame Over) → Under (WhereTame AllDataSo)
+  data_law ground over = record {
+    after_lines = λ line run r has small size so_far tame i b calm. tame_after Ground Over AllData ground over data_walk first_data line run r has small size so_far tame i b calm;
+    between = λ line run r has small size next most told m so_far tame i b calm.
+        tame_between Ground Over AllData ground over data_walk first_data line run r has small size next (more_deliveries most) (delivers most) told m so_far tame i b calm;
+  }

@@ -1,0 +1,120 @@
+-- A delivery to the target sends the data of answers as they are to be sent: each write into a buffer of an initiator that injected no packets is of the next chunk of the
+-- present ORB of one of its lists, as the turn began; where this is known of the management.
+use Rattle.std.proofs.Common.{◌≡◌, ◌∙◌, refl, sym, ap, ℕ, suc, List, [], ◌∷◌, ◌++◌, Some, None}
+use Rattle.command_agent.specs.Machine.{Machine, new_machine}
+use Rattle.sbp_bus.specs.Generations.{GenerationsState, node_of, topology_at}
+use Rattle.sbp_journal.specs.Addresses.{Access}
+use Rattle.sbp_journal.specs.declared.note.Note.TheVariants as notes
+use Rattle.sbp_journal.specs.declared.outbox.Outgoing.{Outgoing}
+use Rattle.sbp_journal.specs.declared.side.Side.{Side}
+use Rattle.sbp_journal.specs.declared.side.Side.TheVariants as sides
+use Rattle.sbp_journal.specs.Run.{Moment, said}
+use Rattle.sbp_laws.specs.Terms.{ends}
+use Rattle.sbp_laws.specs.Turns.{EachMoment}
+use Rattle.sbp_world.specs.Sending.{sent as sent_one, sent_all}
+use Rattle.sbp_world.specs.Telling.{told, told_all}
+use Rattle.sbp_world.specs.Worlds.{WorldState}
+use Rattle.sbp_world.proofs.Agents.Management.Still.{hist}
+use Rattle.sbp_world.specs.Lists.DataWrites.{DataSo, IsDataWrite, IsPieceOf}
+use Rattle.sbp_world.proofs.Lists.Judging.{Grown}
+use Rattle.sbp_world.proofs.Lists.StatusSends.{sent_generations, sent_on}
+
+-- ---- a history grows
+assoc : (a b c : List Moment) → (a ++ b) ++ c ≡ a ++ (b ++ c)
+assoc [] b c = refl
+assoc (x ∷ a) b c = ap (λ ms. x ∷ ms) (assoc a b c)
+
+grown_note : (moment : Moment) (a b : List Moment) → Grown a b → Grown a (moment ∷ b)
+grown_note moment a b g = record { new = moment ∷ g.new; is = ap (λ ms. moment ∷ ms) g.is }
+
+-- ---- a write that is sent now
+pub record IsPieceNow (ms : List Moment) (i : ℕ) (access : Access) : Type 0 where
+  pub list : ℕ
+  pub machine : Machine
+  pub size : ℕ
+  pub piece : IsPieceOf ms i list (ends ms i list) machine access.offset size
+  pub bytes : access.payload ≡ machine.outgoing
+
+module _ (i : ℕ) (past ms : List Moment) where
+  pub record Sends (now : List Moment) : Type 0 where
+    pub grown : Grown ms now
+    pub so : EachMoment (DataSo i) now
+
+  -- sides that are no notes of its own
+  abbrev pub IsTold : Side → Type 0
+  IsTold (sides.Own note) = ⊥
+  IsTold side = Unit {0}
+
+  abbrev pub AreTold : List Side → Type 0
+  AreTold [] = Unit {0}
+  AreTold (side ∷ later) = IsTold side × AreTold later
+
+  pub noted : (moment : Moment) (now : List Moment) → DataSo i moment now → Sends now → Sends (moment ∷ now)
+  noted moment now d h = record { grown = grown_note moment ms now h.grown; so = (d, h.so) }
+
+  told_one : (weight : ℕ) (side : Side) (w : WorldState) → IsTold side → Sends (hist past w) → Sends (hist past (told weight side w))
+  unfolding told
+  told_one weight (sides.Own note) w f h = absurd f
+  told_one weight (sides.Opened place orb) w f h = h
+  told_one weight (sides.Ran place orb cdb payload outcome) w f h = noted _ (hist past w) tt h
+  told_one weight (sides.Ended place orb status) w f h = noted _ (hist past w) tt h
+  told_one weight (sides.Dead place cause) w f h = noted _ (hist past w) tt h
+  told_one weight (sides.Cut place cause) w f h = noted _ (hist past w) tt h
+  told_one weight (sides.Managed node function subject status login) w f h = noted _ (hist past w) tt h
+  told_one weight (sides.ManageFailed node cause) w f h = noted _ (hist past w) tt h
+  told_one weight (sides.Held login) w f h = noted _ (hist past w) tt h
+  told_one weight (sides.Expired login) w f h = noted _ (hist past w) tt h
+  told_one weight (sides.Back login) w f h = noted _ (hist past w) tt h
+  told_one weight (sides.Left login) w f h = noted _ (hist past w) tt h
+  told_one weight (sides.Cleared unit) w f h = noted _ (hist past w) tt h
+  told_one weight (sides.Unsolicited place) w f h = noted _ (hist past w) tt h
+  told_one weight (sides.Unsent place) w f h = noted _ (hist past w) tt h
+
+  told_same : (weight : ℕ) (side : Side) (w : WorldState) → (told weight side w).generations ≡ w.generations
+  unfolding told
+  told_same weight (sides.Own note) w = refl
+  told_same weight (sides.Opened place orb) w = refl
+  told_same weight (sides.Ran place orb cdb payload outcome) w = refl
+  told_same weight (sides.Ended place orb status) w = refl
+  told_same weight (sides.Dead place cause) w = refl
+  told_same weight (sides.Cut place cause) w = refl
+  told_same weight (sides.Managed node function subject status login) w = refl
+  told_same weight (sides.ManageFailed node cause) w = refl
+  told_same weight (sides.Held login) w = refl
+  told_same weight (sides.Expired login) w = refl
+  told_same weight (sides.Back login) w = refl
+  told_same weight (sides.Left login) w = refl
+  told_same weight (sides.Cleared unit) w = refl
+  told_same weight (sides.Unsolicited place) w = refl
+  told_same weight (sides.Unsent place) w = refl
+
+  pub all_told : (weight : ℕ) (told_sides : List Side) (w : WorldState) → AreTold told_sides → Sends (hist past w) → Sends (hist past (told_all weight told_sides w))
+  unfolding told_all
+  all_told weight [] w f h = h
+  all_told weight (side ∷ later) w f h = all_told weight later (told weight side w) f.1 (told_one weight side w f.0 h)
+
+  pub all_same : (weight : ℕ) (told_sides : List Side) (w : WorldState) → (told_all weight told_sides w).generations ≡ w.generations
+  unfolding told_all
+  all_same weight [] w = refl
+  all_same weight (side ∷ later) w = all_same weight later (told weight side w) ∙ told_same weight side w
+
+  -- ---- packets that leave, each write of data among them as it is to be
+  abbrev pub IsDue : GenerationsState → Outgoing → Type 0
+  IsDue g packet = node_of g 0 packet.to ≡ Some (suc i) → (slot : ℕ) (x : IsDataWrite packet.bytes slot) → IsPieceNow ms i x.access
+
+  abbrev pub AllDue : GenerationsState → List Outgoing → Type 0
+  AllDue g [] = Unit {0}
+  AllDue g (packet ∷ later) = IsDue g packet × AllDue g later
+
+  pub all_leave : (g : GenerationsState) (packets : List Outgoing) (w : WorldState) → w.generations ≡ g → AllDue g packets → Sends (hist past w) → Sends (hist past (sent_all 0 packets w))
+  unfolding sent_all
+  all_leave g [] w e f h = h
+  all_leave g (packet ∷ later) w e f h =
+      all_leave g later (sent_one 0 packet w) (sent_generations 0 0 0 0 0 0 (Unit {0}) (Unit {0}) (Unit {0}) None new_machine (λ a b c. tt) past packet w ∙ e) f.1
+      (sent_on 0 0 0 0 0 0 (Unit {0}) (Unit {0}) (Unit {0}) None new_machine (λ a b c. tt) past Sends packet w h
+      (λ s t there.
+      noted (said (notes.Sent s (topology_at w.generations 0).generation 0 t packet.bytes)) (hist past w)
+      (λ of to slot x.
+      let p = f.0 (ap (λ (y : GenerationsState). node_of y 0 packet.to) (sym e) ∙ (there ∙ ap (λ n. Some n) to)) slot x in
+      record { later = h.grown.new; before = ms; is = h.grown.is; list = p.list; machine = p.machine; size = p.size; piece = p.piece; bytes = p.bytes })
+      h))
