@@ -57,17 +57,6 @@ pub mod GrantedRuns
 pub mod Heard
 pub mod Histories
 pub mod HostLogins
-pub mod IdsBack
-pub mod IdsBegun
-pub mod IdsHosts
-pub mod IdsLogins
-pub mod IdsNoted
-pub mod IdsOwned
-pub mod IdsPlaces
-pub mod IdsReturns
-pub mod IdsRise
-pub mod IdsRuns
-pub mod IdsTurns
 pub mod InBufferTurns
 pub mod JoinLaws
 pub mod JoinRuns
@@ -379,6 +368,7 @@ pub mod ShortLines
 pub mod AnswerLengths
 pub mod LinedAppends
 pub mod AnswerChecks
+pub mod SentGots
 pub mod WasReads
 pub mod AnswerGots
 pub mod AnsweredReads
@@ -399,3 +389,8 @@ pub mod DataPlaces
 pub mod DataDry
 pub mod DataClears
 pub mod DataLaws
+pub mod LedReads
+pub mod LedRuns
+pub mod NamedReads
+pub mod TurnReads
+pub mod StillReads

@@ -9,7 +9,6 @@ pub mod Contents
 pub mod CutLists
 pub mod EndedLists
 pub mod Execution
-pub mod FewLogins
 pub mod FifoWrites
 pub mod Firsts
 pub mod InPlace
@@ -22,6 +21,7 @@ pub mod LoginAnswers
 pub mod OrbReads
 pub mod CarriedRuns
 pub mod EndReads
+pub mod OrbNames
 pub mod ManagedFor
 pub mod Managing
 pub mod Names
@@ -30,7 +30,6 @@ pub mod Opened
 pub mod Opens
 pub mod Orders
 pub mod OwnLogins
-pub mod Owners
 pub mod PlaceReads
 pub mod Places
 pub mod Placings
