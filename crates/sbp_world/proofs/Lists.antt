@@ -368,7 +368,6 @@ pub mod ShortLines
 pub mod AnswerLengths
 pub mod LinedAppends
 pub mod AnswerChecks
-pub mod SentGots
 pub mod WasReads
 pub mod AnswerGots
 pub mod AnsweredReads
@@ -389,8 +388,3 @@ pub mod DataPlaces
 pub mod DataDry
 pub mod DataClears
 pub mod DataLaws
-pub mod LedReads
-pub mod LedRuns
-pub mod NamedReads
-pub mod TurnReads
-pub mod StillReads
