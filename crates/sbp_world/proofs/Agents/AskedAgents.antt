@@ -49,7 +49,7 @@ use Rattle.sbp_world.proofs.Agents.Handed.{own_ahead, own_main, there}
 use Rattle.sbp_world.proofs.Agents.Purposes.{g}
 use Rattle.sbp_world.proofs.Agents.Waited.{waited}
 
-sent_reset : (p : Phase) → is_sent p ≡ true → is_reset (state_in p) ≡ false
+pub sent_reset : (p : Phase) → is_sent p ≡ true → is_reset (state_in p) ≡ false
 sent_reset phases.Reset e = absurd (let no : false ≡ true = e in cc)
 sent_reset phases.Fetching e = refl
 sent_reset phases.ReadingTable e = refl
@@ -91,7 +91,7 @@ writes_by (Write offset size) is_status fifo access h w = record { offset = offs
 writes_by (Read offset size) is_status fifo access h w = absurd (let no : false ≡ true = sym (ap (λ (a : Access). a.is_write) h) ∙ w in cc)
 writes_by Nothing is_status fifo access h w = absurd h
 
-fifo_fits : (known : ℕ → Type 0) (x : Option Login) (login : Login) → x ≡ Some login → FitsLogin known x → login.fifo < 2 ^ 48
+pub fifo_fits : (known : ℕ → Type 0) (x : Option Login) (login : Login) → x ≡ Some login → FitsLogin known x → login.fifo < 2 ^ 48
 fifo_fits known None login e f = absurd (let no : None ≡ Some login = e in cc)
 fifo_fits known (Some other) login e f = (let same : other ≡ login = cc in subst (λ (l : Login). l.fifo < 2 ^ 48) same f.0)
 

@@ -138,7 +138,7 @@ current_by : (c n r a e : Bool) → may_get (row_of (record { is_current = c; is
 current_by true n r a e m = refl
 current_by false n r a e m = absurd (let no : false ≡ true = m in cc)
 
-awaits_same : (k l : ReplyKind) → awaits k ≡ awaits l → k ≡ l
+pub awaits_same : (k l : ReplyKind) → awaits k ≡ awaits l → k ≡ l
 awaits_same k l e = cc
 
 -- the units of a target, behind the end of a turn

@@ -64,11 +64,11 @@ line_units start past line (events.Key unit key) told s m u = tt
 
 -- ---- runs
 -- with other lines
-moments_same : (line : ℕ) (run : Run) (all entries : List Entry) → moments_behind line (record run { entries = all }) entries ≡ moments_behind line run entries
+pub moments_same : (line : ℕ) (run : Run) (all entries : List Entry) → moments_behind line (record run { entries = all }) entries ≡ moments_behind line run entries
 moments_same line run all [] = refl
 moments_same line run all (e ∷ before) = ap (λ ms. map said e.notes ++ asked e.line e.event ∷ ms) (moments_same line run all before)
 
-lines_same : (run : Run) (all entries : List Entry) → AreLines run entries → AreLines (record run { entries = all }) entries
+pub lines_same : (run : Run) (all entries : List Entry) → AreLines run entries → AreLines (record run { entries = all }) entries
 lines_same run all [] l = tt
 lines_same run all (e ∷ before) l = (l.0, lines_same run all before l.1)
 

@@ -80,11 +80,11 @@ main_none place plain told phases.WritingLastStatus m answer e = absurd (let no 
 main_none place plain told phases.Suspended m answer e = absurd (let no : false ≡ true = e in cc)
 main_none place plain told phases.Dead m answer e = absurd (let no : false ≡ true = e in cc)
 
-none_if : (b : Bool) (x y : AgentStep × Machine) → x.0.ran ≡ None → y.0.ran ≡ None → (cond b x y).0.ran ≡ None
+pub none_if : (b : Bool) (x y : AgentStep × Machine) → x.0.ran ≡ None → y.0.ran ≡ None → (cond b x y).0.ran ≡ None
 none_if true x y h i = h
 none_if false x y h i = i
 
-ahead_none : (m : Machine) (r : Result (List ℕ) FailCause) → (ahead_read m r).0.ran ≡ None
+pub ahead_none : (m : Machine) (r : Result (List ℕ) FailCause) → (ahead_read m r).0.ran ≡ None
 ahead_none m (Ok bytes) = refl
 ahead_none m (Err cause) = refl
 

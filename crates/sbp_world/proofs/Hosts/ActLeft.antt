@@ -33,7 +33,7 @@ use Rattle.sbp_world.proofs.Hosts.Listed.{behind_more}
 use Rattle.sbp_world.proofs.Hosts.PointerNotes.{pointer}
 use Rattle.sbp_world.proofs.Hosts.Requested.{done_sends}
 
-untrue : {A : Type 0} → false ≡ true → A
+pub untrue : {A : Type 0} → false ≡ true → A
 untrue e = absurd (differ e)
   where
     differ : false ≡ true → ⊥

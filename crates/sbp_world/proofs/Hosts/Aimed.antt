@@ -35,7 +35,7 @@ pub record IsAimed (ready : Bool) (i : ℕ) (s : InitiatorState) : Type 0 where
   pub own : IsOwn ready i s
   pub aims : Aims s.layer s.target
 
-own_called : (ready : Bool) (i : ℕ) (s : InitiatorState) → IsOwn ready i s → Called s.layer
+pub own_called : (ready : Bool) (i : ℕ) (s : InitiatorState) → IsOwn ready i s → Called s.layer
 own_called ready i s h =
     let k = (sound i ready h.called.calls).wires in
     record { node = 0xffc1 + i; calls = k.calls; is = k.layer_is ∙ ap (λ (x : InitiatorState). x.layer) h.called.is }
@@ -50,7 +50,7 @@ left_aims l target now c (read body act asked step) h = λ peer m q a. by_asked 
     by_asked peer m q (was_asked a) = h peer m q a
 
 -- a later generation leaves none
-none_ended : (x : Life Purpose) (kind : ReplyKind) (purpose : Option Purpose) → ended x ≡ under_way kind purpose → ⊥
+pub none_ended : (x : Life Purpose) (kind : ReplyKind) (purpose : Option Purpose) → ended x ≡ under_way kind purpose → ⊥
 none_ended not_begun kind purpose e = cc
 none_ended (under_way that q) kind purpose e = cc
 none_ended over kind purpose e = cc

@@ -45,7 +45,7 @@ served_some m offset out = by_length (length out == 0) refl
     by_length false e z = grind (arith, nat_tests)
 
 -- a part of a list that has its length lies in it
-part_inside : (n at : ℕ) (xs : List ℕ) → length (take n (drop at xs)) ≡ n → 0 < n → at + n ≤ length xs
+pub part_inside : (n at : ℕ) (xs : List ℕ) → length (take n (drop at xs)) ≡ n → 0 < n → at + n ≤ length xs
 part_inside n at xs e b =
     let l : length (take n (drop at xs)) ≡ min n (length xs - at) = length-take n (drop at xs) ∙ ap (min n) (length-drop at xs) in
     omega arith

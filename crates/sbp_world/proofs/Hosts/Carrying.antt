@@ -56,7 +56,7 @@ record Stood (all : List Moment) (i : ℕ) : Type 0 where
   writes : AllWrites all i
   last : AllLast all i
 
-last_from : (later before : List Moment) (i : ℕ) → AllLast (later ++ before) i → AllLast before i
+pub last_from : (later before : List Moment) (i : ℕ) → AllLast (later ++ before) i → AllLast before i
 last_from [] before i h = h
 last_from (m ∷ later) before i h = last_from later before i h.1
 

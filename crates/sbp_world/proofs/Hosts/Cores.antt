@@ -60,14 +60,14 @@ and_false : (b c : Bool) → b ≡ false → b && c ≡ false
 and_false true c e = untrue (sym e)
 and_false false c e = refl
 
-not_so : (b : Bool) → not b ≡ true → b ≡ false
+pub not_so : (b : Bool) → not b ≡ true → b ≡ false
 not_so true e = untrue e
 not_so false e = refl
 
 away : (i j : ℕ) → not (nat_eq i j) ≡ true → nat_eq j i ≡ false
 away i j e = let f : nat_eq i j ≡ false = not_so (nat_eq i j) e in grind (arith, nat_tests)
 
-turned : (i j : ℕ) → nat_eq i j ≡ false → nat_eq j i ≡ false
+pub turned : (i j : ℕ) → nat_eq i j ≡ false → nat_eq j i ≡ false
 turned i j e = grind (arith, nat_tests)
 
 -- ---- a packet

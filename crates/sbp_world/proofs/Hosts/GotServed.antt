@@ -33,7 +33,7 @@ use Rattle.sbp_world.proofs.Hosts.ResponseBytes.{IsBlockRead}
 same_node : (m n : ℕ) → Some m ≡ Some n → m ≡ n
 same_node m n e = cc
 
-spelled_ok : (r : Result Packet PacketFault) (p : Packet) → spelled_by r ≡ Some p → r ≡ Ok p
+pub spelled_ok : (r : Result Packet PacketFault) (p : Packet) → spelled_by r ≡ Some p → r ≡ Ok p
 spelled_ok (Ok q) p e =
     let g : q ≡ p = cc in
     ap (λ x. Ok x) g
@@ -123,7 +123,7 @@ gots_of line run q = map_in (IsDelivered line run) (IsGot (history_of line run))
 -- ---- behind some deliveries of the next line
 
 -- all of the history is more
-more_got : (more all : List Moment) (serial : ℕ) (past : List Moment) → IsGot all serial past → IsGot (more ++ all) serial past
+pub more_got : (more all : List Moment) (serial : ℕ) (past : List Moment) → IsGot all serial past → IsGot (more ++ all) serial past
 more_got more all serial past g = record {
   sent = g.sent;
   was = g.was;

@@ -90,7 +90,7 @@ leaves (seats.Returning response) e p = untrue e
 leaves (seats.Leaving response) e p = untrue e
 leaves (seats.Stuck origin) e p = untrue e
 
-not_not : (b : Bool) → not b ≡ false → b ≡ true
+pub not_not : (b : Bool) → not b ≡ false → b ≡ true
 not_not true e = refl
 not_not false e = untrue (sym e)
 

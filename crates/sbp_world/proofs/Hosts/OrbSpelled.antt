@@ -29,7 +29,7 @@ pub record Spellable (orb : CommandOrb) : Type 0 where
   pub data_size : orb.data_size < 2 ^ 16
   pub cdb : length orb.cdb ≡ 12
 
-bit_small : (word : Bool) → bit word ≤ 1
+pub bit_small : (word : Bool) → bit word ≤ 1
 bit_small true = omega arith
 bit_small false = omega arith
 

@@ -61,11 +61,11 @@ least : (n m : ℕ) → m ≡ n → n ≤ m
 least n m e = omega arith
 
 -- a time-out leaves a layer in its generation
-expired_stays : (k : ℕ) (layer : Layer Purpose) (r : Result (Option Purpose) Stale × PeerPlace Purpose) → (expired_at k layer r).1.generation ≡ layer.generation
+pub expired_stays : (k : ℕ) (layer : Layer Purpose) (r : Result (Option Purpose) Stale × PeerPlace Purpose) → (expired_at k layer r).1.generation ≡ layer.generation
 expired_stays k layer (Ok purpose, place) = refl
 expired_stays k layer (Err stale, place) = refl
 
-expires_in : (k : Option ℕ) (layer : Layer Purpose) (label : LabelParts) → (expiring_in k layer label).1.generation ≡ layer.generation
+pub expires_in : (k : Option ℕ) (layer : Layer Purpose) (label : LabelParts) → (expiring_in k layer label).1.generation ≡ layer.generation
 expires_in None layer label = refl
 expires_in (Some k) layer label = expired_stays k layer (expire_place (peer_at layer k) label)
 
@@ -86,7 +86,7 @@ judged_ends serial (judgements.Ignored cause) past i =
     let t : Terms = terms past in
     record { fades = λ s f. f; held = λ v kind e. ap (λ (h : Transaction → Held). h v) (ignored_quiet (t.sent serial) cause serial t).held; count = least _ _ (ignored_agrees (t.sent serial) cause serial t).count; sent = λ n. ap (λ (f : ℕ → Option Sending). f n) (ignored_agrees (t.sent serial) cause serial t).sent }
 
-judged_fit : (serial : ℕ) (judged : Judged) (past : List Moment) → Fit (said (judged_note serial judged) ∷ past) → Fit past
+pub judged_fit : (serial : ℕ) (judged : Judged) (past : List Moment) → Fit (said (judged_note serial judged) ∷ past) → Fit past
 judged_fit serial judgements.Got past f = record { serials = f.serials; sent = f.sent }
 judged_fit serial (judgements.Ignored cause) past f = record { serials = f.serials; sent = f.sent }
 

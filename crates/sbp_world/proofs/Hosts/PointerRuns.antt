@@ -100,7 +100,7 @@ awaits_of t packet serial sent e = awaits_by t packet serial (begun_by packet) r
 
 -- ---- the session that is stuck
 
-stuck_same : (seat : Seat) → is_stuck (session_in seat) ≡ is_stuck_seat seat
+pub stuck_same : (seat : Seat) → is_stuck (session_in seat) ≡ is_stuck_seat seat
 stuck_same (seats.Out out) = refl
 stuck_same (seats.Entering entering) = refl
 stuck_same (seats.Live live) = refl

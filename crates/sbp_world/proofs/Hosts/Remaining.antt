@@ -105,7 +105,7 @@ same_remains m past k e = record {
   before_it = λ r h. e r;
 }
 
-other_serial : (r s count : ℕ) → r ≤ count → s ≡ count + 1 → nat_eq r s ≡ false
+pub other_serial : (r s count : ℕ) → r ≤ count → s ≡ count + 1 → nat_eq r s ≡ false
 other_serial r s count h e = grind (arith, nat_tests)
 
 other_way : (r s count : ℕ) → r ≤ count → s ≡ count + 1 → nat_eq s r ≡ false

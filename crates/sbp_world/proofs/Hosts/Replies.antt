@@ -38,11 +38,11 @@ use Rattle.sbp_world.proofs.Hosts.Replied.{IsReplied}
 use Rattle.sbp_world.proofs.Hosts.ResponseBytes.{IsBlockRead, asked_most, completes, tells_given}
 use Rattle.sbp_world.proofs.Hosts.ResponseTells.{rcode_small, read_code}
 
-same_access : (one other : Access) → Some one ≡ Some other → one ≡ other
+pub same_access : (one other : Access) → Some one ≡ Some other → one ≡ other
 same_access one other e = cc
 
 -- no more is read than there is room for
-read_short : (m : Memory) (out : List ℕ) (found : Result Spot Rcode) → length (read_at m out found).1 ≤ length out
+pub read_short : (m : Memory) (out : List ℕ) (found : Result Spot Rcode) → length (read_at m out found).1 ≤ length out
 read_short m out (Ok spot) = simp length-take (omega arith)
 read_short m out (Err rcode) = omega arith
 

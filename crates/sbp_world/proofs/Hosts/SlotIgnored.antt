@@ -46,7 +46,7 @@ status_writes false false block wide e = absurd (differ e)
     differ e = cc
 
 -- of the rows of a request the last one says so
-last_row : (a b c d e : Bool) → note_of (first_or serving ((a, ignored_as causes.Source 7) ∷ (b, ignored_as causes.Login 7) ∷ (c, telling) ∷ (d, ignored_as causes.Grammar 5) ∷ (e, ignored_as causes.Slot 0) ∷ [])) ≡ judgements.Ignored causes.Slot → e ≡ true
+pub last_row : (a b c d e : Bool) → note_of (first_or serving ((a, ignored_as causes.Source 7) ∷ (b, ignored_as causes.Login 7) ∷ (c, telling) ∷ (d, ignored_as causes.Grammar 5) ∷ (e, ignored_as causes.Slot 0) ∷ [])) ≡ judgements.Ignored causes.Slot → e ≡ true
 last_row true b c d e f = cc
 last_row false true c d e f = cc
 last_row false false true d e f = cc
@@ -124,7 +124,7 @@ step_quiet (notes.Ignored serial cause) e = absurd (differ e)
     differ e = cc
 step_quiet note e = refl
 
-not_there : (to i : ℕ) → (to == suc i) ≡ false → to ≡ suc i → ⊥
+pub not_there : (to i : ℕ) → (to == suc i) ≡ false → to ≡ suc i → ⊥
 not_there to i e f = grind (arith, nat_tests)
 
 -- a note of another one
@@ -151,7 +151,7 @@ steps_writes (side ∷ told) past i e h = steps_writes told (by_side side past) 
 
 -- ---- a packet that is heard
 
-some_bytes : (found : Option Sending) (one other : Sending) → found ≡ Some one → found ≡ Some other → one.bytes ≡ other.bytes
+pub some_bytes : (found : Option Sending) (one other : Sending) → found ≡ Some one → found ≡ Some other → one.bytes ≡ other.bytes
 some_bytes found one other e f =
     let same : one ≡ other = cc in
     ap (λ (q : Sending). q.bytes) same

@@ -1,5 +1,5 @@
 -- A packet is delivered to the target: behind the whole turn each packet of an operation asks for what the operation asked for.
-use Rattle.std.proofs.Common.{arith, ◌≡◌, ◌≢◌, ◌∙◌, refl, sym, ap, subst, ℕ, ◌^◌, ◌<◌, ◌≤◌, not, is_some, Bool, true, false, cond, List, [], ◌∷◌, ◌++◌, length, Option, Some, None, Result, Ok}
+use Rattle.std.proofs.Common.{arith, ◌≡◌, ◌≢◌, ◌∙◌, refl, sym, ap, subst, ℕ, ◌^◌, ◌<◌, ◌≤◌, is_some, Bool, true, false, cond, List, [], ◌∷◌, ◌++◌, length, Option, Some, None, Result, Ok}
 use Rattle.std.specs.Prelude.{unwrap_or}
 use Rattle.std.proofs.lemmas.Bool.Decides.{nat_tests}
 use Rattle.async_packet.specs.declared.fault.PacketFault.{PacketFault}
@@ -29,14 +29,10 @@ use Rattle.sbp_journal.specs.declared.cause.Judged.TheVariants as judgements
 use Rattle.sbp_journal.specs.declared.outbox.Outgoing.{Outgoing}
 use Rattle.sbp_journal.specs.Outgoings.{empty_outbox}
 use Rattle.async_packet.specs.Canon.{canon}
-use Rattle.async_packet.proofs.RoundTrip.{canon_spells}
-use Rattle.async_packet.proofs.Spelled.{reading_spelled}
 use Rattle.bus_transactions.specs.Judging.{facts_of, may_get}
 use Rattle.bus_transactions.specs.Rows.{kind_as}
-use Rattle.bus_transactions.proofs.FitJudged.{bytes_of, source_fits, spelled}
-use Rattle.bus_transactions.proofs.Fits.{answer_fits}
-use Rattle.bus_transactions.proofs.MoveAnswer.{answer_packet}
-use Rattle.label_table.specs.Bodies.{Gives, response_to}
+use Rattle.bus_transactions.proofs.FitJudged.{bytes_of, spelled}
+use Rattle.label_table.specs.Bodies.{response_to}
 use Rattle.label_table.specs.Judging.{row_of}
 use Rattle.label_table.specs.Layer.{answering_step}
 use Rattle.sbp_journal.specs.Addresses.{start_at, start_serves}
@@ -70,7 +66,7 @@ use Rattle.sbp_world.specs.FitTarget.{FitsManager}
 use Rattle.sbp_world.specs.Wire.History.{IsOfWire}
 use Rattle.sbp_world.specs.Wire.Wires.{Stands}
 use Rattle.sbp_world.specs.Agents.Management.Calls.{demanded}
-use Rattle.sbp_world.specs.Agents.Management.Offices.{Office, at_rest, office_of, replied, started, started_by}
+use Rattle.sbp_world.specs.Agents.Management.Offices.{Office, at_rest, office_of, replied, started}
 use Rattle.sbp_world.specs.Agents.Management.Terms.{IsManagementAt}
 use Rattle.sbp_world.proofs.Agents.Management.Asking.{Turned}
 use Rattle.sbp_world.proofs.Agents.Management.Calls.{ForDemand, IsStart}
@@ -88,6 +84,7 @@ use Rattle.sbp_world.proofs.Agents.Management.Still.{hist}
 use Rattle.sbp_world.proofs.Agents.Management.Told.{office_in, term_in}
 use Rattle.sbp_world.specs.Lists.Contents.{AreContents}
 use Rattle.sbp_world.proofs.Lists.ContentTurns.{Passes, calm_contents, managing_contents, none_passes, one_passes}
+use Rattle.sbp_world.proofs.Agents.Management.Landing.{response_part, started_asks}
 
 -- what a request asks for
 record AccessIs (p : Packet) : Type 0 where
@@ -129,10 +126,6 @@ manage_of (demands.Refused rcode) node p bytes layer source before m = absurd m
 manage_of (demands.Rom at len) node p bytes layer source before m = absurd m
 manage_of (demands.Agent place access) node p bytes layer source before m = absurd m
 
--- an operation that is started asks for the ORB
-started_asks : (m : management.Machine) (source orb : ℕ) (o : Office) → m.operation ≡ None → orb < 2 ^ 48 → FitsAsk (started_by (management.start_with m.operation m source orb) o).asks
-started_asks m source orb o e small = subst (λ x. FitsAsk (started_by (management.start_with x m source orb) o).asks) (sym e) small
-
 start_asks : (o : Office) (source orb : ℕ) → o.manager.operation ≡ None → orb < 2 ^ 48 → FitsAsk (started source orb o).asks
 unfolding management.start_step
 start_asks o source orb e small = started_asks o.manager source orb o e small
@@ -145,12 +138,6 @@ one_passed start past packet number kind e v i = response_term start past v i pa
 answer_is_one : (p : Packet) (bytes : List ℕ) (s : Scene) → s.outbox.packets ≡ [] → (answered p bytes 0 [] s).outbox.packets ≡ record { to = (header_in p).source; label = None; bytes = canon (response_to s.node.layer.node p 0 []) } ∷ []
 unfolding answer_step answering_step
 answer_is_one p bytes s e = ap (λ ps. ps ++ record { to = (header_in p).source; label = None; bytes = canon (response_to s.node.layer.node p 0 []) } ∷ []) e
-
-response_part : (node : ℕ) (p : Packet) (bytes : List ℕ) (label : ℕ) (kind : Kind) → reading bytes ≡ Ok p → AreBytes bytes → node < 2 ^ 16 → reply_kind p ≡ None → part_in p ≡ request label kind → ((rcode : ℕ) (given : List ℕ) → Gives p rcode given) → part_of (canon (response_to node p 0 [])) ≡ response (header_in p).label kind
-response_part node p bytes label kind read small n none part gives =
-    let v = answer_fits node p bytes 0 [] n (source_fits bytes p read small) (record { spelled = spelled bytes p read; asks = ap (λ (x : Option ReplyKind). not (is_some x)) none }) (record { small = omega arith; bytes = λ k. omega arith; gives = gives 0 [] }) in
-    part_read (canon (response_to node p 0 [])) (response_to node p 0 []) (reading_spelled (canon (response_to node p 0 [])) (response_to node p 0 []) (canon_spells (response_to node p 0 []) v))
-    ∙ (answer_packet node p 0 label kind [] part).part
 
 module _ {past : List Moment} (start : List Disk) (w : WorldState) (h : Stands past w) (g : Good w.target) (law : TransactionLaw w.target) (at : IsManagementAt start (hist past w) w.target) (serial : ℕ) (again : Bool) (sent : Sent) (found : found_sent serial w.store.kept ≡ Some sent) (zero_to : sent.to ≡ 0) (were : AreContents start (hist past w)) where
   abbrev t : Terms

@@ -24,6 +24,7 @@ use Rattle.sbp_world.proofs.Hosts.Remaining.{remains}
 use Rattle.sbp_world.proofs.Hosts.SentMoments.{WasSent, count_now, sent_below, sent_moment, serials_from}
 use Rattle.sbp_world.proofs.Lists.Awaited.{Awaits, Starts, since_over, waits_as}
 use Rattle.sbp_world.specs.Lists.SentReads.{slot_in}
+use Rattle.sbp_world.proofs.Hosts.Carrying.{last_from}
 
 -- what an agent of a place waits for, to read in a slot of an initiator, which has an ORB
 pub record IsRead (wild : ℕ → Bool) (start : List Disk) (ms : List Moment) (place : ℕ) (which : Which) (serial i slot n k : ℕ) : Type 0 where
@@ -45,10 +46,6 @@ tails : (xs ys b c : List Moment) → xs ++ b ≡ ys ++ c → ((l : List Moment)
 tails [] ys b c e = inr (ys, sym e)
 tails (x ∷ xs) [] b c e = inl (x ∷ xs, e)
 tails (x ∷ xs) (y ∷ ys) b c e = tails xs ys b c (let z : x ∷ (xs ++ b) ≡ y ∷ (ys ++ c) = e in cc)
-
-last_from : (later before : List Moment) (i : ℕ) → AllLast (later ++ before) i → AllLast before i
-last_from [] before i h = h
-last_from (m ∷ later) before i h = last_from later before i h.1
 
 -- a packet that was sent
 record Sent (ms : List Moment) (serial : ℕ) : Type 0 where

@@ -1,7 +1,7 @@
 -- At each place of a run before which lists were open as they should be: what the target wrote to the FIFOs of an initiator that injected no packets, in the name of a place of
 -- management, is of its operation; and so is what it wrote into the response buffers of it, where no login for its node has its FIFO there. Each turn keeps it, together with
 -- that the address of the operation's ORB has 48 bits.
-use Rattle.std.proofs.Common.{◌≡◌, ◌∙◌, refl, sym, ap, subst, ◌<◌, ◌≤◌, ◌^◌, ℕ, zero, suc, Bool, false, List, [], ◌∷◌, ◌++◌, map, length, Option, Some, None}
+use Rattle.std.proofs.Common.{◌≡◌, ◌∙◌, refl, sym, ap, subst, ◌<◌, ◌≤◌, ℕ, zero, suc, Bool, false, List, [], ◌∷◌, ◌++◌, map, length, Option, Some, None}
 use Rattle.rbc_disk.specs.Disk.{Disk}
 use Rattle.rbc_disk.specs.Runs.{Told}
 use Rattle.mgmt_agent.specs.declared.operation.Operation.{Operation}
@@ -10,7 +10,6 @@ use Rattle.sbp_journal.specs.declared.event.Event.{Event}
 use Rattle.sbp_bus.specs.Packets.{end_note}
 use Rattle.sbp_journal.specs.declared.note.Note.{Note}
 use Rattle.sbp_journal.specs.declared.note.Note.TheVariants as notes
-use Rattle.login_table.specs.declared.login.Login.{Login}
 use Rattle.sbp_target.specs.Nodes.{login_at}
 use Rattle.bus_memory.specs.Windows.{window_at}
 use Rattle.sbp_laws.specs.Lawful.{injectors}
@@ -23,7 +22,6 @@ use Rattle.sbp_world.specs.Settling.{MayAll, MayNext, after_all, delivered_at, d
 use Rattle.sbp_world.specs.Settling as settling
 use Rattle.sbp_world.specs.Worlds.{Scene, WorldState, begun}
 use Rattle.sbp_world.specs.Agents.Management.Terms.{DeliversMore}
-use Rattle.sbp_world.specs.FitTarget.{FitsLogin}
 use Rattle.sbp_world.proofs.Agents.Management.Holding.{Holding, good_of}
 use Rattle.sbp_world.proofs.Agents.Management.Still.{hist}
 use Rattle.sbp_world.specs.Hosts.Runs.{IsRun, more_deliveries}
@@ -47,6 +45,7 @@ use Rattle.sbp_world.proofs.Lists.Runs.{EarlyAfter, early_after}
 use Rattle.sbp_world.proofs.Lists.StatusAnswers.{AllHold, all_hold}
 use Rattle.sbp_world.proofs.Lists.StatusBytes.{same_address}
 use Rattle.sbp_world.proofs.Lists.Walks.{Step, Turn, Walks, by_delivery, by_end, by_line, by_start, walk_after, walk_at}
+use Rattle.sbp_world.proofs.Agents.AskedAgents.{fifo_fits}
 
 -- ---- what is known of every run at a place
 pub record Ground (ms : List Moment) (w : WorldState) : Type 0 where
@@ -97,10 +96,6 @@ module _ (Cond : ℕ → List Moment → Type 0) (closed : IsClosed Cond) (n : �
   turn_before _ _ _ _ (by_start past s line event d) c = closed n (asked line event ∷ []) (hist past s.world) c
   turn_before _ _ _ _ (by_delivery past s one m) c = told_before past s.world.fresh (delivered_next one s).world.fresh (next_extends one s m) c
   turn_before _ _ _ _ (by_end past s done) c = closed n (said (end_note done) ∷ []) (hist past s.world) c
-
-fifo_fits : (known : ℕ → Type 0) (x : Option Login) (login : Login) → x ≡ Some login → FitsLogin known x → login.fifo < 2 ^ 48
-fifo_fits known None login e f = absurd (let no : None ≡ Some login = e in cc)
-fifo_fits known (Some other) login e f = (let same : other ≡ login = cc in subst (λ (l : Login). l.fifo < 2 ^ 48) same f.0)
 
 -- the FIFOs of logins, by their addresses as they are written to
 clear_of : {units ready : ℕ} {start : List Disk} {past : List Moment} {lines : ℕ} (w : WorldState) → Holding units ready start past lines w → (i : ℕ) → AreLoginsClear i w → IsClear w.generations i w.target.logins

@@ -41,6 +41,7 @@ use Rattle.sbp_world.specs.Lists.Opens.{IsPointedBy}
 use Rattle.sbp_world.specs.Lists.Places.{IsFirst}
 use Rattle.sbp_world.specs.Lists.Roms.{WritesManaged}
 use Rattle.sbp_world.proofs.Lists.RomHeld.{rom_law}
+use Rattle.sbp_world.proofs.Hosts.ActLeft.{untrue}
 
 -- ---- what points an agent to an ORB: a write of a block, that is not to MANAGEMENT_AGENT
 
@@ -202,12 +203,6 @@ block_of (lock header offset extended payload) pointer h e = absurd h
 block_of (lock_response header code extended payload) pointer h e = absurd h
 
 -- ---- a write of an initiator that injected none
-
-untrue : {A : Type 0} → false ≡ true → A
-untrue e = absurd (differ e)
-  where
-    differ : false ≡ true → ⊥
-    differ e = cc
 
 some_access : (a b : Access) → Some a ≡ Some b → a ≡ b
 some_access a b e = cc

@@ -10,6 +10,7 @@ use Rattle.sbp_journal.specs.declared.event.Event.{Event}
 use Rattle.sbp_journal.specs.declared.event.Event.TheVariants as events
 use Rattle.sbp_journal.specs.declared.note.Note.TheVariants as notes
 use Rattle.sbp_world.proofs.Lists.Rises.{RisesAt}
+use Rattle.sbp_world.proofs.Pointers.Ages.{other_node}
 
 abbrev Same : Terms → Terms → Type 0
 Same t u = u.generation ≡ t.generation
@@ -84,9 +85,6 @@ sent s packet t =
 abbrev pub is_sight : ℕ → Moment → Bool
 is_sight node (said (notes.Seen other generation)) = other == node
 is_sight node moment = false
-
-other_node : (node seen generation : ℕ) (old : ℕ → ℕ) → (seen == node) ≡ false → cond (nat_eq node seen) generation (old node) ≡ old node
-other_node node seen generation old e = let f : nat_eq node seen ≡ false = grind (arith, nat_tests) in ap (λ b. cond b generation (old node)) f
 
 pub moment_generation : (node : ℕ) (m : Moment) (past : List Moment) → is_sight node m ≡ false → (terms (m ∷ past)).generation node ≡ (terms past).generation node
 moment_generation node (asked line event) past e = ap (λ (g : ℕ → ℕ). g node) (opens event (terms past))

@@ -1,11 +1,9 @@
 -- Each login of an initiator that is done in a run stands on a status block that it got for it, with status 00; each logout that is refused, on one with another.
-use Rattle.std.proofs.Common.{arith, ◌≡◌, ◌∙◌, sym, ap, subst, ◌⊎◌, inl, inr, ℕ, suc, ◌%◌, ◌<◌, ◌==◌, not, Bool, true, false, List, [], ◌∷◌, length, Option, Some, None, Ok}
+use Rattle.std.proofs.Common.{arith, ◌≡◌, ◌∙◌, sym, ap, subst, ◌⊎◌, inl, inr, ℕ, suc, ◌<◌, ◌==◌, not, Bool, true, false, List, [], ◌∷◌, length, Some, None, Ok}
 use Rattle.std.proofs.lemmas.Bool.Decides.{nat_tests}
 use Rattle.async_packet.specs.Labels.{LabelParts}
 use Rattle.async_packet.specs.Packet.{Packet, write_block}
 use Rattle.async_packet.specs.Reading.{reading}
-use Rattle.bus_memory.specs.declared.window.Window.TheVariants as windows
-use Rattle.bus_memory.specs.Windows.{start as start_of}
 use Rattle.sbp_world.proofs.Hosts.ActLeft.{act_left}
 use Rattle.sbp_world.proofs.Hosts.Answering.{request_of}
 use Rattle.sbp_world.proofs.Hosts.Carried.{between_runs, of_runs}
@@ -26,7 +24,6 @@ use Rattle.sbp_initiator.specs.Effects.{Turn}
 use Rattle.sbp_initiator.specs.Initiators.{new_state}
 use Rattle.sbp_initiator.specs.Receiving.{expire_step, receive_step}
 use Rattle.sbp_initiator.specs.Seeing.{see_step}
-use Rattle.sbp_initiator.specs.States.{is_orb_of}
 use Rattle.sbp_journal.specs.Outgoings.{empty_outbox}
 use Rattle.sbp_journal.specs.Run.{Moment, asked as asks, said}
 use Rattle.sbp_journal.specs.Wire.{terms}
@@ -55,6 +52,7 @@ use Rattle.sbp_world.proofs.Lists.ManageFinds.{block_is_got}
 use Rattle.sbp_world.proofs.Lists.ManageOwn.{at_host}
 use Rattle.sbp_world.proofs.Lists.ManageTerms.{untrue}
 use Rattle.sbp_world.proofs.Hosts.Runs.{count_after, count_between}
+use Rattle.sbp_world.proofs.Lists.ManageOwn.{is_orb}
 
 -- ---- notes that tell of no login that is done
 
@@ -188,10 +186,6 @@ module _ (i : ℕ) where
   apart_note note e = tt
 
 -- ---- the place of a management ORB that an operation has
-
-is_orb : (managed : Option ℕ) (orb : ℕ) → is_orb_of managed orb ≡ true → (place : ℕ) × ((place < 2) × (orb ≡ start_of (windows.Management place)))
-is_orb None orb e = untrue e
-is_orb (Some m) orb e = (m % 2, ((let x : m % 2 < 2 = omega arith in x), (let x : orb ≡ start_of (windows.Management (m % 2)) = grind (arith, nat_tests) in x)))
 
 -- ---- the status block that is got
 

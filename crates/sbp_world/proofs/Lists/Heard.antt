@@ -1,10 +1,10 @@
 -- A response to a transaction of an agent is the one to the request that the agent waits for, by the history, and tells the laws what it tells the target.
 use Rattle.std.proofs.Common.{arith, ◌≡◌, ◌∙◌, refl, sym, ap, subst, ◌<◌, ℕ, is_some, Bool, true, false, cond, List, Option, Some, None}
 use Rattle.async_packet.specs.Labels.{LabelParts}
-use Rattle.async_packet.specs.Packet.{Packet, header_in, lock, lock_response, read_block, read_block_response, read_quadlet, read_quadlet_response, write_block, write_quadlet, write_response}
+use Rattle.async_packet.specs.Packet.{Packet, header_in}
 use Rattle.bus_transactions.specs.Answers.{AnswerLaw, AnswersWaiting}
 use Rattle.bus_transactions.specs.Reached.{IsAwaited}
-use Rattle.bus_transactions.specs.Rows.{awaits, kind_as, shape, shape_of}
+use Rattle.bus_transactions.specs.Rows.{kind_as, shape, shape_of}
 use Rattle.bus_transactions.specs.Wire.{Node, as_sending, transaction}
 use Rattle.bus_transactions.proofs.AnswerLaws.{answers_always}
 use Rattle.bus_transactions.proofs.Reaches.{goes_on}
@@ -52,27 +52,16 @@ use Rattle.sbp_world.proofs.Agents.CrewLocks.{is_lock, lockless, none_locks}
 use Rattle.sbp_world.proofs.Agents.CrewSeats.{IsServing, serves_it, state_of}
 use Rattle.sbp_world.proofs.Agents.Handed.{are_handed}
 use Rattle.sbp_world.proofs.Agents.Purposes.{Waits, g, held_waits, labels, law}
+use Rattle.sbp_world.proofs.Agents.CrewFirsts.{awaits_same}
+use Rattle.sbp_world.proofs.Agents.Management.Hearing.{label_in}
 
 -- ---- packets
-pub awaits_same : (k l : ReplyKind) → awaits k ≡ awaits l → k ≡ l
-awaits_same k l e = cc
 
 pub same_kind : (k l : Kind) → k ≡ l → is_same_kind k l ≡ true
 same_kind writing l e = subst (λ x. is_same_kind writing x ≡ true) e refl
 same_kind reading_quadlet l e = subst (λ x. is_same_kind reading_quadlet x ≡ true) e refl
 same_kind reading_block l e = subst (λ x. is_same_kind reading_block x ≡ true) e refl
 same_kind locking l e = subst (λ x. is_same_kind locking x ≡ true) e refl
-
-label_in : (p : Packet) (l : ℕ) (k : Kind) → part_in p ≡ response l k → l ≡ (header_in p).label
-label_in (write_quadlet header offset value) l k e = absurd (let no : request header.label writing ≡ response l k = e in cc)
-label_in (write_block header offset payload) l k e = absurd (let no : request header.label writing ≡ response l k = e in cc)
-label_in (write_response header rcode) l k e = cc
-label_in (read_quadlet header offset) l k e = absurd (let no : request header.label reading_quadlet ≡ response l k = e in cc)
-label_in (read_block header offset asked) l k e = absurd (let no : request header.label reading_block ≡ response l k = e in cc)
-label_in (read_quadlet_response header rcode value) l k e = cc
-label_in (read_block_response header rcode payload) l k e = cc
-label_in (lock header offset extended payload) l k e = absurd (let no : request header.label locking ≡ response l k = e in cc)
-label_in (lock_response header rcode extended payload) l k e = cc
 
 pub record Spells (p : Packet) : Type 0 where
   pub kind : Kind

@@ -22,6 +22,7 @@ use Rattle.sbp_world.proofs.Lists.Gots.{Next, next, next_line, same_still}
 use Rattle.sbp_world.proofs.Lists.LiveLeads.{line_manager}
 use Rattle.sbp_world.proofs.Lists.LiveTold.{is_behind, is_own_packet}
 use Rattle.sbp_world.proofs.Lists.Quiet.{AllQuiet, IsQuiet}
+use Rattle.sbp_world.proofs.Sessions.Buffers.{untrue}
 
 -- the phase reads no ORB
 abbrev pub ReadsNone : Operation → Type 0
@@ -35,9 +36,6 @@ by_keeps true (Some own) manages op answer orb f = by (is_serial manages own)
     by false = refl
 by_keeps true None manages op answer orb f = refl
 by_keeps false own manages op answer orb f = refl
-
-untrue : {A : Type 0} → false ≡ true → A
-untrue e = absurd (let no : false ≡ true = e in cc)
 
 -- ---- as a line begins
 opened_sent : (event : Event) (t : Terms) → (opened event t).sent ≡ t.sent

@@ -9,9 +9,7 @@ use Rattle.sbp_world.proofs.Lists.LiveActs.{Acted, Sends, begins, comes_back, go
 use Rattle.sbp_world.proofs.Lists.LiveMoves.{Moved, answers, ends, gives_up, rests, undoes}
 use Rattle.sbp_world.proofs.Lists.LiveOwn.{enters, enters_moves, is_entry, is_exit, quits, quits_moves, two_ways}
 use Rattle.sbp_world.proofs.Lists.LiveStandings.{Stand, comes, leaves, stand_of}
-
-untrue : {A : Type 0} → false ≡ true → A
-untrue e = absurd (let no : false ≡ true = e in cc)
+use Rattle.sbp_world.proofs.Sessions.Buffers.{untrue}
 
 pub record Aims (operation : Option Running) (stand : Stand) : Type 0 where
   pub entry : is_entry operation ≡ true → stand ≡ comes

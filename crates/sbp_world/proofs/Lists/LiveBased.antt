@@ -1,6 +1,6 @@
 -- Where a status of 00 is got for a login, its buffer holds a response with the agent of a place; so it does wherever a login is done.
 use Rattle.std.proofs.Common.{arith, ◌≡◌, ◌∙◌, refl, sym, ap, subst, ℕ, suc, ◌<◌, ◌≤◌, Bool, true, false, cond, List, [], ◌∷◌, ◌++◌, map, length, Option, Some, None, Result, Ok}
-use Rattle.std.specs.Prelude.{slice_index_or, unwrap_or}
+use Rattle.std.specs.Prelude.{slice_index_or}
 use Rattle.async_packet.specs.declared.fault.PacketFault.{PacketFault}
 use Rattle.async_packet.specs.Packet.{Packet}
 use Rattle.async_packet.specs.Reading.{reading}
@@ -21,7 +21,7 @@ use Rattle.rbc_disk.specs.Disk.{Disk}
 use Rattle.sbp_initiator.specs.declared.purpose.Running.{Running}
 use Rattle.sbp_initiator.specs.declared.state.InitiatorState.{InitiatorState}
 use Rattle.sbp_initiator.specs.Effects as own
-use Rattle.sbp_initiator.specs.States.{place_in, place_of, status_in}
+use Rattle.sbp_initiator.specs.States.{place_in, status_in}
 use Rattle.sbp_journal.specs.Addresses.{Access}
 use Rattle.sbp_journal.specs.Run.{Moment, asked, said}
 use Rattle.sbp_journal.specs.Transactions.{Sending}
@@ -54,6 +54,7 @@ use Rattle.sbp_world.proofs.Lists.ManageMoments.{Hands, LineFacts, MayHand, Take
 use Rattle.sbp_world.proofs.Lists.ManageSends.{opened_terms}
 use Rattle.sbp_world.proofs.Lists.ManageTerms.{same_some, untrue}
 use Rattle.sbp_world.proofs.Lists.Quiet.{AllQuiet, IsQuiet}
+use Rattle.sbp_world.proofs.Sessions.HoldingHears.{placed_same}
 
 -- ---- what an answer says of the packet of the target that waited
 
@@ -154,10 +155,6 @@ same_login underway place e =
     let operation : underway.operation ≡ operations.Login = ap (λ (w : Work). w.operation) (same_some _ _ e) in
     let own : cond (is_management underway.operation) (Some underway.place) None ≡ place = ap (λ (w : Work). w.place) (same_some _ _ e) in
     ap (λ op. cond (is_management op) (Some underway.place) None) (sym operation) ∙ own
-
-placed_same : (place : ℕ) (managed : Option ℕ) → Some place ≡ placed managed → place ≡ place_of (unwrap_or managed 0)
-placed_same place (Some n) g = cc
-placed_same place None g = absurd (let no : Some place ≡ None = g in cc)
 
 module _ (start : List Disk) (before : List Moment) (i : ℕ) (ready : Bool) (s : InitiatorState) (c : Cored ready before i s) (held : HoldsLogin before i s) (f : (orb : ℕ) (bytes : List ℕ) → IsTold start before i orb bytes → bytes ≡ good_block orb → (running : Running) → s.operation ≡ Some running → running.operation ≡ operations.Login → HasBase (login_response (own.response_of running s))) where
   module _ (underway : Underway) (is : (host_at before i).operation ≡ Some underway) (login : underway.operation ≡ operations.Login) where

@@ -1,6 +1,5 @@
 -- The logins with which a run begins are as the sessions of the initiators say.
 use Rattle.std.proofs.Common.{arith, ◌≡◌, ◌∙◌, refl, sym, ap, subst, inr, ℕ, zero, suc, ◌+◌, ◌-◌, ◌<◌, ◌≤◌, nat_lt, Bool, true, false, List, ◌++◌, length, replicate, Option, Some, None}
-use Rattle.std.specs.Prelude.{slice_index_or}
 use Rattle.std.proofs.lemmas.Bool.Decides.{nat_tests}
 use Rattle.std.proofs.lemmas.Grind.{common_steps}
 use Rattle.std.proofs.lemmas.List.{get_or-replicate, length-replicate}
@@ -29,6 +28,7 @@ use Rattle.sbp_world.specs.Lists.Placings.{BasedAt}
 use Rattle.sbp_world.proofs.Lists.LiveGrants.{none_grants}
 use Rattle.sbp_world.proofs.Lists.LiveSteps.{ClaimsOf, Grown, Lives, id_in, own_of, zero_of}
 use Rattle.sbp_world.proofs.Lists.LiveTables.{none_login}
+use Rattle.sbp_world.proofs.Sessions.Runs.{first_generation}
 
 -- ---- the first table
 abbrev row : ℕ → ℕ → ℕ → List (Option Login)
@@ -68,18 +68,6 @@ row_is n m k login e = by (nat_lt k n) refl
 
 node_of : (k : ℕ) → (first_login k).node ≡ 0xffc1 + k
 node_of k = let e : 0xffc0 + (k + 1) ≡ 0xffc1 + k = omega arith in e
-
--- each node is in generation 0
-first_generation : (m k : ℕ) (t : Topology) → t.generation ≡ 0 → (slice_index_or (replicate m t) k no_topology).generation ≡ 0
-first_generation m k t e = by (nat_lt k m) refl
-  where
-    by : (b : Bool) → nat_lt k m ≡ b → (slice_index_or (replicate m t) k no_topology).generation ≡ 0
-    by true l = ap (λ (x : Topology). x.generation) (get_or-replicate m k t no_topology (grind (arith, nat_tests))) ∙ e
-    by false l =
-        let size : length (replicate m t) ≡ m = length-replicate m t in
-        let beyond : length (replicate m t) ≤ k = grind (arith, nat_tests) in
-        let none : slice_index_or (replicate m t) k no_topology ≡ no_topology = grind (arith, common_steps) in
-        ap (λ (x : Topology). x.generation) none
 
 module _ (n : ℕ) (few : n ≤ 4) (units : ℕ) (small : units ≤ 4) (line : ℕ) (start : List Disk) (size : length start ≡ units) where
   abbrev world : Bool → WorldState

@@ -22,6 +22,7 @@ use Rattle.mgmt_agent.specs.Decisions.{asked_by, back_decided, decide, decide_fu
 use Rattle.mgmt_agent.specs.Statuses.{function_of}
 use Rattle.sbp_world.specs.Lists.Live.{AreNamed, HasLogin, HasNone, HasOne}
 use Rattle.sbp_world.proofs.Lists.LiveTables.{emptied_none, none_login, none_one, other_place, set_one}
+use Rattle.sbp_world.proofs.Sessions.Decisions.{of_id}
 
 no : false ≡ true → ⊥
 no e = cc
@@ -32,9 +33,6 @@ keeps_logins (Some functions.Login) = false
 keeps_logins (Some functions.Reconnect) = false
 keeps_logins (Some functions.Logout) = false
 keeps_logins _ = true
-
-of_id : (id node : ℕ) (login : Login) → is_live_of id node login ≡ true → login.login ≡ id
-of_id id node login p = grind (arith, nat_tests)
 
 all_three : (a b c : Bool) → a ≡ true → b ≡ true → c ≡ true → (a && b && c) ≡ true
 all_three true true true e f g = refl

@@ -21,9 +21,7 @@ use Rattle.sbp_laws.specs.Hosts.{Host, Underway, host_at, is_management, operati
 use Rattle.sbp_laws.specs.Served.{management_orb_of, place_bytes, place_held}
 use Rattle.sbp_world.specs.Lists.Underway.{IsUnderway, underway_orb}
 use Rattle.sbp_world.proofs.Lists.LiveGrants.{IsEntry}
-
-untrue : {A : Type 0} → false ≡ true → A
-untrue e = absurd (let no : false ≡ true = e in cc)
+use Rattle.sbp_world.proofs.Sessions.Buffers.{untrue}
 
 -- ---- the action of an entry
 is_login : Option Operation → Bool

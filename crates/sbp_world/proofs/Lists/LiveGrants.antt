@@ -1,6 +1,6 @@
 -- What a status block with status 00 grants that waits for the login or the reconnect which an initiator has under way: a live login of its node, under the ID that the
 -- response in its buffer names, with the base of the agent of a place; or that of the login which its host has. So it is from the decision on.
-use Rattle.std.proofs.Common.{arith, ◌≡◌, ◌∙◌, refl, sym, ap, subst, ◌⊎◌, inl, inr, ℕ, zero, suc, ◌^◌, ◌<◌, ◌≤◌, ◌==◌, nat_eq, Bool, true, false, List, [], length, take, Option, Some, None}
+use Rattle.std.proofs.Common.{arith, ◌≡◌, ◌∙◌, refl, sym, ap, subst, ◌⊎◌, inl, inr, ℕ, ◌^◌, ◌<◌, ◌≤◌, ◌==◌, nat_eq, Bool, true, false, List, length, take, Option, Some, None}
 use Rattle.std.proofs.lemmas.Bool.Decides.{nat_tests}
 use Rattle.async_packet.specs.Labels.{LabelParts}
 use Rattle.async_packet.specs.Packet.{Packet}
@@ -46,6 +46,7 @@ use Rattle.sbp_world.proofs.Lists.LiveReplies.{IsDecidedOn, Logged, WritesFirst,
 use Rattle.sbp_world.proofs.Lists.LiveStandings.{good_block}
 use Rattle.sbp_world.proofs.Lists.LiveTables.{same_has}
 use Rattle.sbp_world.proofs.Lists.LiveTargets.{IsWrittenNow}
+use Rattle.sbp_world.proofs.Sessions.Decisions.{take_none}
 
 -- a response names a live login of a node, and has the base of the agent of a place
 pub record Names (places : List (Option Login)) (id : ℕ) (response : LoginResponse) : Type 0 where
@@ -75,9 +76,6 @@ pub record IsEntry (own : ℕ) (s : InitiatorState) (orb : ManagementOrb) : Type
   pub reconnect : (running : Running) → s.operation ≡ Some running → running.operation ≡ operations.Reconnect → (function_of orb.function ≡ Some functions.Reconnect) × (orb.subject ≡ own)
 
 -- ---- a decision
-take_none : (n : ℕ) → length (take {A = ℕ} n []) ≡ 0
-take_none zero = refl
-take_none (suc n) = refl
 
 login_back : (response : LoginResponse) → response.login < 2 ^ 16 → (login_response (login_bytes response)).login ≡ response.login
 login_back response l = omega arith

@@ -21,10 +21,7 @@ use Rattle.sbp_world.proofs.Lists.LiveDecides.{keeps_logins}
 use Rattle.sbp_world.proofs.Lists.LiveOwn.{enters, quits, two_ways}
 use Rattle.sbp_world.proofs.Lists.LiveStandings.{Stand, apart_leaves, comes, comes_apart, comes_inside, comes_leaves, inside_leaves, leaves}
 use Rattle.sbp_world.proofs.Lists.LiveTargets.{IsMine}
-
-bit_small : (word : Bool) → bit word ≤ 1
-bit_small true = omega arith
-bit_small false = omega arith
+use Rattle.sbp_world.proofs.Hosts.OrbSpelled.{bit_small}
 
 -- ---- what is read of an ORB that was written
 record Fields (q f r n s : ℕ) : Type 0 where
@@ -62,9 +59,6 @@ record IsPlain (operation : Operation) (orb : ManagementOrb) (number : ℕ) : Ty
   keeps : quits operation ≡ false → keeps_logins (function_of orb.function) ≡ true
   function : quits operation ≡ true → function_of orb.function ≡ Some functions.Logout
   subject : quits operation ≡ true → orb.subject ≡ number
-
-untrue : {A : Type 0} → false ≡ true → A
-untrue e = absurd (let no : false ≡ true = e in cc)
 
 same_operation : (one other : Operation) → Some one ≡ Some other → one ≡ other
 same_operation one other e = cc

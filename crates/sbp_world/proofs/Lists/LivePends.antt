@@ -1,6 +1,5 @@
 -- An initiator hears a status block for the operation that it has under way: that is the one which waited for it, with the bytes that the target had to write.
-use Rattle.std.proofs.Common.{arith, ◌≡◌, ◌∙◌, refl, sym, ap, subst, ℕ, suc, ◌%◌, ◌<◌, true, List, ◌∷◌, ◌++◌, map, length, Option, Some, None, Ok}
-use Rattle.std.proofs.lemmas.Bool.Decides.{nat_tests}
+use Rattle.std.proofs.Common.{◌≡◌, ◌∙◌, refl, sym, ap, subst, ℕ, suc, ◌<◌, List, ◌∷◌, ◌++◌, map, length, Option, Some, Ok}
 use Rattle.async_packet.specs.Packet.{Packet, header_in, write_block}
 use Rattle.async_packet.specs.Reading.{reading}
 use Rattle.bus_memory.specs.declared.window.Window.TheVariants as windows
@@ -20,7 +19,7 @@ use Rattle.sbp_bus.specs.Packets.{judged_note}
 use Rattle.sbp_initiator.specs.declared.purpose.Running.{Running}
 use Rattle.sbp_initiator.specs.declared.state.InitiatorState.{InitiatorState}
 use Rattle.sbp_initiator.specs.Receiving.{receive_step}
-use Rattle.sbp_initiator.specs.States.{is_orb_of, status_in}
+use Rattle.sbp_initiator.specs.States.{status_in}
 use Rattle.sbp_journal.specs.Outgoings.{empty_outbox}
 use Rattle.sbp_journal.specs.Run.{Moment, asked, said}
 use Rattle.sbp_journal.specs.Transactions.{Sending}
@@ -49,12 +48,8 @@ use Rattle.sbp_world.proofs.Lists.LiveTold.{HeardFirst}
 use Rattle.sbp_world.proofs.Lists.ManageFinds.{block_is_got, read_request}
 use Rattle.sbp_world.proofs.Lists.ManageMoments.{Hands, TakeFacts}
 use Rattle.sbp_world.proofs.Lists.ManageSends.{opened_terms}
-use Rattle.sbp_world.proofs.Lists.ManageTerms.{same_some, untrue}
-
--- the place of a management ORB that an operation has
-is_orb : (managed : Option ℕ) (orb : ℕ) → is_orb_of managed orb ≡ true → (place : ℕ) × ((place < 2) × (orb ≡ start_of (windows.Management place)))
-is_orb None orb e = untrue e
-is_orb (Some m) orb e = (m % 2, ((let x : m % 2 < 2 = omega arith in x), (let x : orb ≡ start_of (windows.Management (m % 2)) = grind (arith, nat_tests) in x)))
+use Rattle.sbp_world.proofs.Lists.ManageTerms.{same_some}
+use Rattle.sbp_world.proofs.Lists.ManageOwn.{is_orb}
 
 -- as a turn begins the wire is what it was
 pub record SameWire (before base : List Moment) : Type 0 where

@@ -44,10 +44,7 @@ use Rattle.sbp_world.proofs.Lists.ManageSends.{Sends, sent_terms}
 use Rattle.sbp_world.proofs.Lists.ManageSent.{begun_busy, sent_busy, sent_free}
 use Rattle.sbp_world.proofs.Lists.ManageSights.{told_busy, told_free}
 use Rattle.sbp_world.proofs.Lists.ManageTerms.{none_is, same_some, untrue}
-
--- the same line
-same_action : (i : ℕ) (a b : Action) → Some (events.Act i a) ≡ Some (events.Act i b) → a ≡ b
-same_action i a b e = cc
+use Rattle.sbp_world.proofs.Pointers.GuardDoes.{same_action}
 
 -- the value at an update
 at_itself : {A : Type 0} (s : ℕ) (x : A) (f : ℕ → A) → upd f s x s ≡ x

@@ -18,15 +18,13 @@ use Rattle.label_table.specs.Requests.{with_label}
 use Rattle.label_table.specs.Table.{begin_at, begin_step, lowest_from}
 use Rattle.sbp_journal.specs.Transactions.{Kind, locking, no_packet, part_by, part_in, part_of, reading_block, reading_quadlet, request, response, writing}
 use Rattle.sbp_world.proofs.Lists.ManageTerms.{untrue}
+use Rattle.sbp_world.proofs.Sessions.Codes.{first_code}
 
 -- a packet that does not
 abbrev pub NoConflict : List ℕ → Type 0
 NoConflict bytes = tcode_of bytes ≡ 2 → rcode_of bytes ≡ 4 → ⊥
 
 -- ---- by its tcode
-
-first_code : (peer label tcode : ℕ) → tcode < 16 → (peer * 2 ^ 16 + label * 2 ^ 10 + 1 * 2 ^ 8 + tcode * 2 ^ 4 + 0) % 256 ^ 4 / 2 ^ 4 % 2 ^ 4 ≡ tcode
-first_code peer label tcode small = omega arith
 
 quad_code : (peer label tcode : ℕ) (bytes rest : List ℕ) → tcode < 16 → bytes ≡ big_bytes 4 (peer * 2 ^ 16 + label * 2 ^ 10 + 1 * 2 ^ 8 + tcode * 2 ^ 4 + 0) ++ rest → tcode_of bytes ≡ tcode
 unfolding tcode_of

@@ -9,7 +9,6 @@ use Rattle.async_packet.specs.Packet.{Packet, header_in, write_block}
 use Rattle.async_packet.specs.Reading.{packet_in, reading, unless_fault}
 use Rattle.initiator_base.specs.declared.fifos.Fifo.{Fifo}
 use Rattle.initiator_base.specs.declared.fifos.Fifo.TheVariants as fifos
-use Rattle.label_table.specs.declared.place.LabelState.TheVariants as states
 use Rattle.label_table.specs.declared.reply.ReplyKind.{ReplyKind}
 use Rattle.label_table.specs.Layer.{Finding, Layer, facts_of, judged_by, judging_step, of_request, of_response, responded}
 use Rattle.label_table.specs.Judging.{Row, by_again, by_generation, by_grammar, by_label, by_request, by_response, row_of}
@@ -34,6 +33,9 @@ use Rattle.sbp_initiator.proofs.Histories.Purposes.{kind_in}
 use Rattle.sbp_world.proofs.Hosts.Lives.{At, Called, at_life}
 use Rattle.sbp_world.proofs.Lists.ManageHears.{IsStatusFor}
 use Rattle.sbp_world.proofs.Lists.ManageTerms.{untrue}
+use Rattle.sbp_world.proofs.Hosts.Aimed.{none_ended}
+use Rattle.sbp_world.proofs.Pointers.Finds.{same_serial}
+use Rattle.sbp_world.proofs.Pointers.Ending.{judged_read}
 
 -- ---- it was under way
 
@@ -67,14 +69,6 @@ closes_at layer generation bytes p label purpose c f =
     let u : wire.AreTold (and_before (told_closed p label purpose (reply_kind p)) (wire.history c.node c.calls)) = subst (λ (x : Finding Purpose). wire.AreTold (and_before (told_by_finding x bytes) (wire.history c.node c.calls))) g t in
     subst (λ (l : Layer Purpose). At l (header_in p).source label.number purpose) c.is
     (at_layer c.node c.calls (header_in p).source label purpose (told_kind (reply_kind p) p label purpose (wire.history c.node c.calls) (kind_in old generation bytes p label purpose g) u))
-
-none_ended : (x : Life Purpose) (kind : ReplyKind) (purpose : Option Purpose) → ended x ≡ under_way kind purpose → ⊥
-none_ended not_begun kind purpose e = cc
-none_ended (under_way that q) kind purpose e = cc
-none_ended over kind purpose e = cc
-
-same_serial : (k l : ReplyKind) (m n : ℕ) → states.UnderWay k m ≡ states.UnderWay l n → m ≡ n
-same_serial k l m n e = cc
 
 -- and is over then
 module _ (layer : Layer Purpose) (generation : ℕ) (bytes : List ℕ) (p : Packet) (label : LabelParts) (purpose : Option Purpose) (c : Called layer) (f : (judging_step layer generation bytes).0 ≡ of_response p label purpose) where
@@ -127,21 +121,6 @@ module _ (layer : Layer Purpose) (generation : ℕ) (bytes : List ℕ) (p : Pack
       (subst (λ (x : Finding Purpose). life source name (and_before (told_by_finding x bytes) notes) ≡ under_way b.kind q) g (at_life c.node (call ∷ c.calls) source label.number q b))
 
 -- ---- what it spells
-
-responded_is : (p q : Packet) (label : LabelParts) (purpose : Option Purpose) (found : Option (LabelParts × Option Purpose) × Layer Purpose) → (responded q found).0 ≡ of_response p label purpose → q ≡ p
-responded_is p q label purpose (None, layer) f = cc
-responded_is p q label purpose (Some (l, r), layer) f = cc
-
-judged_read : (row : Row) (layer : Layer Purpose) (bytes : List ℕ) (read : Result Packet PacketFault) (p : Packet) (label : LabelParts) (purpose : Option Purpose) → (judged_by row layer bytes read).0 ≡ of_response p label purpose → read ≡ Ok p
-judged_read by_generation layer bytes read p label purpose f = cc
-judged_read by_grammar layer bytes read p label purpose f = cc
-judged_read by_label layer bytes read p label purpose f = cc
-judged_read by_response layer bytes (Ok q) p label purpose f = ap (λ x. Ok x) (responded_is p q label purpose _ f)
-judged_read by_again layer bytes (Ok q) p label purpose f = cc
-judged_read by_request layer bytes (Ok q) p label purpose f = cc
-judged_read by_response layer bytes (Err fault) p label purpose f = cc
-judged_read by_again layer bytes (Err fault) p label purpose f = cc
-judged_read by_request layer bytes (Err fault) p label purpose f = cc
 
 pub read_in : (layer : Layer Purpose) (generation : ℕ) (bytes : List ℕ) (p : Packet) (label : LabelParts) (purpose : Option Purpose) → (judging_step layer generation bytes).0 ≡ of_response p label purpose → reading bytes ≡ Ok p
 unfolding judging_step

@@ -25,6 +25,7 @@ use Rattle.sbp_world.proofs.Hosts.Carries.{IsNoAct}
 use Rattle.sbp_world.proofs.Hosts.Cores.{wire_is}
 use Rattle.sbp_world.proofs.Hosts.Layered.{AreTame, is_tame}
 use Rattle.sbp_world.proofs.Lists.ManageTerms.{none_is, same_some, untrue}
+use Rattle.sbp_world.proofs.Hosts.Cores.{turned}
 
 -- an operation was under way before, with the same first request
 pub record Was (before : Option Underway) (now : Underway) : Type 0 where
@@ -72,9 +73,6 @@ on_goes (Some underway) serial host e = record {
 not_if : (b : Bool) (x y : Host) → b ≡ false → (host : Host) → Goes host y → Goes host (cond b x y)
 not_if true x y e host f = untrue (sym e)
 not_if false x y e host f = f
-
-turned : (i j : ℕ) → nat_eq i j ≡ false → nat_eq j i ≡ false
-turned i j e = grind (arith, nat_tests)
 
 other_goes : (event : Option Event) (i : ℕ) (list : Option ℕ) (serial : ℕ) (host : Host) → IsNoAct i event → Goes host (sent_in event i list serial host)
 other_goes None i list serial host n = on_goes host.operation serial host refl

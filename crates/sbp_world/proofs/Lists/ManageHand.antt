@@ -1,5 +1,5 @@
 -- What is in hand of an initiator's management, by what the initiator has: it stays as others tell and do something.
-use Rattle.std.proofs.Common.{arith, ◌≡◌, ◌∙◌, refl, sym, ap, subst, ℕ, suc, nat_eq, not, Bool, true, false, List, ◌∷◌, Option, Some}
+use Rattle.std.proofs.Common.{arith, ◌≡◌, ◌∙◌, refl, sym, ap, subst, ℕ, suc, nat_eq, true, false, List, ◌∷◌, Option, Some}
 use Rattle.std.proofs.lemmas.Bool.Decides.{nat_tests}
 use Rattle.rbc_disk.specs.Disk.{Disk}
 use Rattle.sbp_initiator.specs.declared.purpose.Running.{Running}
@@ -26,6 +26,7 @@ use Rattle.sbp_world.proofs.Lists.ManageSent.{sent_busy, sent_free}
 use Rattle.sbp_world.proofs.Lists.ManageSights.{sight_calm}
 use Rattle.sbp_world.proofs.Lists.ManageStays.{calm_busy, calm_free}
 use Rattle.sbp_world.proofs.Lists.ManageTerms.{untrue}
+use Rattle.sbp_world.proofs.Hosts.Cores.{not_so}
 
 -- a write of MANAGEMENT_AGENT is that of the operation under way, where it is of its action
 abbrev pub Own : List Moment → ℕ → InitiatorState → (act serial : ℕ) → Type 0
@@ -98,10 +99,6 @@ module _ (start : List Disk) (serial generation from to : ℕ) (bytes : List ℕ
   other_hand e h = sent_hand_by (other_asks_none serial generation from to bytes start past i e f) (other_first serial generation from to bytes past i e) h
 
 -- ---- a note that says nothing of the initiator
-
-not_so : (b : Bool) → not b ≡ true → b ≡ false
-not_so true e = untrue e
-not_so false e = refl
 
 module _ (start : List Disk) (past : List Moment) (i : ℕ) (s : InitiatorState) (note : Note) (apart : is_apart i note ≡ true) (elsewhere : IsElsewhere past i note) where
   apart_keeps : is_begin note ≡ false → (IsFree start past i → IsFree start (said note ∷ past) i) → ((place write : ℕ) → IsBusy start past i place write → IsBusy start (said note ∷ past) i place write) → InHand start past i s → InHand start (said note ∷ past) i s

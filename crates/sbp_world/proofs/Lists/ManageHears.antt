@@ -32,7 +32,8 @@ use Rattle.sbp_journal.specs.declared.cause.Judged.{Judged}
 use Rattle.sbp_journal.specs.declared.note.Note.TheVariants as notes
 use Rattle.sbp_world.specs.Sessions.Entering.{is_open}
 use Rattle.sbp_world.proofs.Lists.ManageLeaves.{Left, ends_left, left_self, managed, responds, serves, still, takes}
-use Rattle.sbp_world.proofs.Lists.ManageTerms.{none_is, untrue}
+use Rattle.sbp_world.proofs.Lists.ManageTerms.{none_is}
+use Rattle.sbp_world.proofs.Hosts.KnowActs.{not_not}
 
 -- a block that is delivered of the target, at an open FIFO, is the status block of a management ORB of the operation
 pub record IsStatusFor (s : InitiatorState) (generation : ℕ) (bytes : List ℕ) (running : Running) : Type 0 where
@@ -51,10 +52,6 @@ pub record IsStatusFor (s : InitiatorState) (generation : ℕ) (bytes : List ℕ
 pub data IsEndedBy (s : InitiatorState) (generation : ℕ) (bytes : List ℕ) (running : Running) : Type 0 where
   by_conflict : (p : Packet) (label : LabelParts) (act rcode : ℕ) → (judging_step s.layer generation bytes).0 ≡ of_response p label (Some (purposes.Management act)) → running.act ≡ act → ending_of p ≡ endings.Refused rcode → is_conflict rcode ≡ true → IsEndedBy s generation bytes running
   by_status : IsStatusFor s generation bytes running → IsEndedBy s generation bytes running
-
-not_not : (b : Bool) → not b ≡ false → b ≡ true
-not_not true e = refl
-not_not false e = untrue (sym e)
 
 one_running : (a b : Running) → Some a ≡ Some b → a ≡ b
 one_running a b e = cc

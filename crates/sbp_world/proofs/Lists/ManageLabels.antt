@@ -28,7 +28,7 @@ use Rattle.sbp_initiator.specs.States.{wanted_body}
 use Rattle.sbp_initiator.proofs.Histories.Effects.{list_drops}
 use Rattle.sbp_world.specs.Hosts.Calls.{behind}
 use Rattle.sbp_world.proofs.Hosts.ActLeft.{ActLeft, HasAsked}
-use Rattle.sbp_world.proofs.Hosts.Aimed.{IsAimed, aimed_carried}
+use Rattle.sbp_world.proofs.Hosts.Aimed.{IsAimed}
 use Rattle.sbp_world.proofs.Hosts.Asked.{IsRequest, number_in}
 use Rattle.sbp_world.proofs.Hosts.Held.{sent_begun, sent_count}
 use Rattle.sbp_world.proofs.Hosts.Layered.{AreTame, LayerLeft, read, same}
@@ -36,16 +36,9 @@ use Rattle.sbp_world.proofs.Hosts.Lives.{At, AskedAt, Called, ask_at, asked_now,
 use Rattle.sbp_world.proofs.Hosts.PointerNotes.{Fit, Told, opens, tame_told}
 use Rattle.sbp_world.proofs.Hosts.Pointing.{asked_generation, at_same, sent_waits}
 use Rattle.sbp_world.proofs.Hosts.Shown.{IsShown}
+use Rattle.sbp_world.proofs.Pointers.WaitActs.{none_seen, seen_layer}
 
 -- ---- a later generation
-
--- whatever node the target is then
-seen_layer : (b : Bool) (generation id target other : ℕ) (s : InitiatorState) → (seen_as (cond b (true, seen_in_generation s.layer generation id) (false, s.layer)) target empty_outbox s).1.layer ≡ (seen_as (cond b (true, seen_in_generation s.layer generation id) (false, s.layer)) other empty_outbox s).1.layer
-seen_layer true generation id target other s =
-    let u = record s { layer = seen_in_generation s.layer generation id } in
-    let o = resets_told u.number u.operation u.states empty_outbox in
-    (list_drops o (interrupted u target)).layer ∙ sym (list_drops o (interrupted u other)).layer
-seen_layer false generation id target other s = refl
 
 see_layer : (generation id target other : ℕ) (s : InitiatorState) → (see_step generation id target empty_outbox s).1.layer ≡ (see_step generation id other empty_outbox s).1.layer
 unfolding see_step seeing_step
@@ -56,13 +49,6 @@ unfolding see_step seeing_step
 see_target generation id target s e =
     ap (λ b. (seen_as (cond b (true, seen_in_generation s.layer generation id) (false, s.layer)) target empty_outbox s).1.target) e
     ∙ (let u = record s { layer = seen_in_generation s.layer generation id } in (list_drops (resets_told u.number u.operation u.states empty_outbox) (interrupted u target)).target)
-
--- The transactions behind a generation that is seen are with the target, whichever node that is: so behind a later one there are none.
-pub none_seen : (ready : Bool) (generation id target : ℕ) (past : List Moment) (i : ℕ) (s : InitiatorState) → (seeing_step s.layer generation id).0 ≡ not (generation == (terms past).generation (suc i)) → IsAimed ready i s → nat_lt s.layer.generation generation ≡ true → (peer number : ℕ) (purpose : Option Purpose) → At (see_step generation id target empty_outbox s).1.layer peer number purpose → ⊥
-none_seen ready generation id target past i s flag h later peer number purpose a =
-    let with_other = ((aimed_carried ready).sees generation id (suc peer) past i s flag h).own.aims peer number purpose (subst (λ (l : Layer Purpose). At l peer number purpose) (see_layer generation id target (suc peer) s) a) in
-    let same : peer ≡ suc peer = with_other ∙ see_target generation id (suc peer) s later in
-    (let x : ⊥ = omega arith in x)
 
 -- an older one leaves all
 pub see_old : (generation id target : ℕ) (s : InitiatorState) → nat_lt s.layer.generation generation ≡ false → see_step generation id target empty_outbox s ≡ (empty_outbox, s)

@@ -102,7 +102,7 @@ module _ (start : List Disk) (serial : ℕ) (past : List Moment) (i : ℕ) where
 conflict_is : (rcode : ℕ) → is_conflict rcode ≡ true → rcode ≡ 4
 conflict_is rcode e = grind (arith, nat_tests)
 
-is_orb : (managed : Option ℕ) (orb : ℕ) → is_orb_of managed orb ≡ true → (place : ℕ) × ((place < 2) × (orb ≡ start_of (windows.Management place)))
+pub is_orb : (managed : Option ℕ) (orb : ℕ) → is_orb_of managed orb ≡ true → (place : ℕ) × ((place < 2) × (orb ≡ start_of (windows.Management place)))
 is_orb None orb e = untrue e
 is_orb (Some m) orb e = (m % 2, ((let x : m % 2 < 2 = omega arith in x), (let x : orb ≡ start_of (windows.Management (m % 2)) = grind (arith, nat_tests) in x)))
 

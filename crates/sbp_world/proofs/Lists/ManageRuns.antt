@@ -15,15 +15,12 @@ use Rattle.sbp_journal.specs.declared.event.Event.TheVariants as events
 use Rattle.sbp_journal.specs.declared.note.Note.TheVariants as notes
 use Rattle.sbp_journal.specs.declared.side.Side.{Side}
 use Rattle.sbp_laws.specs.Hosts.{Underway, is_management, is_stuck}
-use Rattle.sbp_session.specs.Seats.{is_stuck_seat}
-use Rattle.sbp_session.specs.declared.seat.Seat.{Seat}
-use Rattle.sbp_session.specs.declared.seat.Seat.TheVariants as seats
 use Rattle.sbp_world.specs.Histories.{history_of}
 use Rattle.sbp_world.specs.Runs.{Run, after, beginning}
 use Rattle.sbp_world.specs.Settling.{MayAll, after_all}
 use Rattle.sbp_world.specs.Worlds.{begun, initiator_at}
 use Rattle.sbp_world.specs.Hosts.Calls.{behind}
-use Rattle.sbp_world.specs.Hosts.Core.{Core, session_in, work_in, work_of}
+use Rattle.sbp_world.specs.Hosts.Core.{Core, work_in, work_of}
 use Rattle.sbp_world.specs.Hosts.Runs.{IsRun, more_deliveries}
 use Rattle.sbp_world.proofs.Hosts.ActLeft.{act_left}
 use Rattle.sbp_world.proofs.Hosts.Aimed.{IsAimed, aimed_carried, first_aimed}
@@ -45,6 +42,7 @@ use Rattle.sbp_world.proofs.Lists.ManageSees.{sees_hand}
 use Rattle.sbp_world.proofs.Lists.ManageSights.{told_busy, told_free, told_hands}
 use Rattle.sbp_world.proofs.Lists.ManageTerms.{none_is}
 use Rattle.sbp_world.proofs.Lists.ManageTurns.{expires_hand}
+use Rattle.sbp_world.proofs.Hosts.PointerRuns.{stuck_same}
 
 pub record Managed (ready : Bool) (start : List Disk) (past : List Moment) (i : ℕ) (s : InitiatorState) : Type 0 where
   pub cored : Cored ready past i s
@@ -178,15 +176,6 @@ module _ (start : List Disk) (line initiators : ℕ) (ready : Bool) where
       }
 
 -- ---- what it is by the run
-
-stuck_same : (seat : Seat) → is_stuck (session_in seat) ≡ is_stuck_seat seat
-stuck_same (seats.Out out) = refl
-stuck_same (seats.Entering entering) = refl
-stuck_same (seats.Live live) = refl
-stuck_same (seats.Held response) = refl
-stuck_same (seats.Returning response) = refl
-stuck_same (seats.Leaving response) = refl
-stuck_same (seats.Stuck origin) = refl
 
 pub managed_of : (ready : Bool) (start : List Disk) (past : List Moment) (i : ℕ) (s : InitiatorState) → Managed ready start past i s → Hands start i past → IsManaged start past i
 managed_of ready start past i s h hands =

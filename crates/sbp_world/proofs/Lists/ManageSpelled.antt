@@ -1,13 +1,11 @@
 -- What the bytes of a request of a transaction layer say that it asks for.
-use Rattle.std.proofs.Common.{arith, ◌≡◌, refl, sym, ◌∙◌, ap, ℕ, suc, ◌+◌, ◌<◌, Bool, true, false, cond, List, [], ◌∷◌, length, Option, Some, None, Ok}
+use Rattle.std.proofs.Common.{arith, ◌≡◌, refl, sym, ◌∙◌, ap, ℕ, ◌+◌, ◌<◌, List, [], ◌∷◌, length, Option, Some, None}
 use Rattle.async_packet.specs.Canon.{IsValid, canon}
 use Rattle.async_packet.specs.Packet.{Packet}
 use Rattle.async_packet.specs.Reading.{reading}
-use Rattle.async_packet.proofs.RoundTrip.{canon_spells}
-use Rattle.async_packet.proofs.Spelled.{reading_spelled}
 use Rattle.label_table.specs.declared.judgement.Asked.{Asked}
 use Rattle.label_table.specs.declared.place.Place.{Place}
-use Rattle.label_table.specs.Bodies.{Body, block_read, block_write, header_to, quadlet_read, quadlet_write, request_with}
+use Rattle.label_table.specs.Bodies.{Body, header_to, request_with}
 use Rattle.label_table.specs.Laws.{relabelled}
 use Rattle.label_table.specs.Layer.{Layer, asked_at, asking_in, asking_step, peer_at, peer_place, unlabelled}
 use Rattle.label_table.specs.Peers.{begun_for}
@@ -19,27 +17,14 @@ use Rattle.sbp_initiator.specs.declared.purpose.Purpose.{Purpose}
 use Rattle.sbp_journal.specs.Addresses.{access_of}
 use Rattle.sbp_laws.specs.Packets.{access_in, access_in_bytes, spelled_by as read_by}
 use Rattle.bus_transactions.specs.Fitting.{IsLayer}
-
--- whatever its header says
-same_access : (node peer n : ℕ) (body : Body) → access_of (relabelled n (request_with (header_to node peer 0) body)) ≡ access_of (request_with (header_to 0 0 0) body)
-same_access node peer n (quadlet_write offset value) = refl
-same_access node peer n (block_write offset payload) = refl
-same_access node peer n (quadlet_read offset) = refl
-same_access node peer n (block_read offset asked) = refl
-
--- a label that serves is one of the table
-below_by : (b : Bool) (number count n : ℕ) (rest : Option ℕ) → cond b (Some number) rest ≡ Some n → (rest ≡ Some n → n < number + 1 + count) → n < number + suc count
-below_by true number count n rest e h = let f : number ≡ n = cc in omega arith
-below_by false number count n rest e h = let f = h e in omega arith
+use Rattle.sbp_world.proofs.Pointers.Spelled.{read_canon, same_access}
+use Rattle.sbp_world.proofs.Hosts.Asked.{below_by}
 
 below : (number : ℕ) (bytes : List ℕ) (places : List Place) (n : ℕ) → lowest_from number bytes places ≡ Some n → n < number + length places
 unfolding lowest_from
 below number bytes [] n e = cc
 below number bytes (place ∷ places) n e =
     below_by (serves number bytes place) number (length places) n (lowest_from (number + 1) bytes places) e (λ f. below (number + 1) bytes places n f)
-
-pub read_canon : (p : Packet) → IsValid p → reading (canon p) ≡ Ok p
-read_canon p v = reading_spelled (canon p) p (canon_spells p v)
 
 asked_is : (a b : Asked) → Some a ≡ Some b → a ≡ b
 asked_is a b e = cc

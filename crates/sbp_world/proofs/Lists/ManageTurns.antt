@@ -1,9 +1,7 @@
 -- What is in hand of an initiator's management stays as it lets a transaction time out.
-use Rattle.std.proofs.Common.{arith, ◌≡◌, ◌∙◌, ◌⊎◌, inl, inr, refl, sym, ap, subst, ℕ, ◌≤◌, Bool, true, false, List, ◌∷◌, Option, Some, None, Result, Ok, Err}
+use Rattle.std.proofs.Common.{arith, ◌≡◌, ◌∙◌, ◌⊎◌, inl, inr, refl, sym, ap, subst, ℕ, ◌≤◌, Bool, true, false, List, ◌∷◌, Option, Some, None}
 use Rattle.async_packet.specs.Labels.{LabelParts}
-use Rattle.label_table.specs.declared.reply.Stale.{Stale}
-use Rattle.label_table.specs.Layer.{Layer, expired_at, expiring_in, expiring_step, peer_at, peer_place}
-use Rattle.label_table.specs.Peers.{PeerPlace, expire_place}
+use Rattle.label_table.specs.Layer.{Layer, expiring_step, peer_place}
 use Rattle.rbc_disk.specs.Disk.{Disk}
 use Rattle.sbp_initiator.specs.declared.purpose.Purpose.{Purpose}
 use Rattle.sbp_initiator.specs.declared.purpose.Running.{Running}
@@ -35,17 +33,9 @@ use Rattle.sbp_world.proofs.Lists.ManageMoments.{Hands, quiet_calm}
 use Rattle.sbp_world.proofs.Lists.ManageSights.{told_busy, told_free, told_hands}
 use Rattle.sbp_world.proofs.Lists.ManageStays.{Calms, calm_busy, calm_free}
 use Rattle.sbp_world.proofs.Lists.ManageTerms.{none_is, same_some}
+use Rattle.sbp_world.proofs.Hosts.Pointed.{expires_in}
 
 -- ---- a transaction times out
-
--- that leaves a layer in its generation
-expired_stays : (k : ℕ) (layer : Layer Purpose) (r : Result (Option Purpose) Stale × PeerPlace Purpose) → (expired_at k layer r).1.generation ≡ layer.generation
-expired_stays k layer (Ok purpose, place) = refl
-expired_stays k layer (Err stale, place) = refl
-
-expires_in : (k : Option ℕ) (layer : Layer Purpose) (label : LabelParts) → (expiring_in k layer label).1.generation ≡ layer.generation
-expires_in None layer label = refl
-expires_in (Some k) layer label = expired_stays k layer (expire_place (peer_at layer k) label)
 
 expiring_stays : (layer : Layer Purpose) (peer : ℕ) (label : LabelParts) → (expiring_step layer peer label).1.generation ≡ layer.generation
 unfolding expiring_step

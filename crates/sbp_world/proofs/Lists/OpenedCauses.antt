@@ -48,6 +48,7 @@ use Rattle.sbp_world.proofs.Pointers.Guarded.{Guarded}
 use Rattle.sbp_world.proofs.Pointers.GuardDoes.{Ready}
 use Rattle.sbp_world.proofs.Pointers.Guarding.{first_guarded, guarded_carried, ready_known}
 use Rattle.sbp_world.proofs.Lists.OpenedEnds.{Drops, drops_by_sight, heard_drops}
+use Rattle.sbp_world.proofs.Hosts.Pointed.{judged_fit}
 
 -- at each drop of its list
 abbrev pub DropAt : ℕ → Moment → List Moment → Type 0
@@ -96,10 +97,6 @@ apart_kept note past i e h = (tt, h)
 judged_kept : (serial i : ℕ) (judged : Judged) (past : List Moment) → AllDrops i past → AllDrops i (said (judged_note serial judged) ∷ past)
 judged_kept serial i judgements.Got past h = (tt, h)
 judged_kept serial i (judgements.Ignored cause) past h = (tt, h)
-
-judged_fit : (serial : ℕ) (judged : Judged) (past : List Moment) → Fit (said (judged_note serial judged) ∷ past) → Fit past
-judged_fit serial judgements.Got past f = record { serials = f.serials; sent = f.sent }
-judged_fit serial (judgements.Ignored cause) past f = record { serials = f.serials; sent = f.sent }
 
 judged_turn : (serial : ℕ) (judged : Judged) (past : List Moment) (i : ℕ) → Drops (said (judged_note serial judged) ∷ past) i → Drops (turn_of (said (judged_note serial judged) ∷ past)) i
 judged_turn serial judgements.Got past i d = d

@@ -1,6 +1,6 @@
 -- Why each list of an initiator is dropped: its AGENT_RESET or a read of AGENT_STATE is answered, or the status block 00 of its operation is got, which ends lists, or a
 -- later generation is seen.
-use Rattle.std.proofs.Common.{arith, ◌≡◌, ◌∙◌, refl, sym, ap, subst, ◌<◌, ◌==◌, ◌&&◌, ℕ, suc, Bool, true, false, cond, List, ◌∷◌, Option, Some, None, Ok}
+use Rattle.std.proofs.Common.{arith, ◌≡◌, ◌∙◌, refl, sym, ap, subst, ◌<◌, ◌==◌, ℕ, suc, Bool, true, false, cond, List, ◌∷◌, Option, Some, None, Ok}
 use Rattle.std.proofs.lemmas.Bool.Decides.{nat_tests}
 use Rattle.async_packet.specs.declared.packet.Header.{Header}
 use Rattle.async_packet.specs.Labels.{LabelParts}
@@ -57,6 +57,7 @@ use Rattle.sbp_world.specs.Lists.Opened.{IsAnswered}
 use Rattle.sbp_world.proofs.Lists.ManageFinds.{read_request}
 use Rattle.sbp_world.proofs.Lists.ManageTerms.{none_is, same_some}
 use Rattle.sbp_world.proofs.Lists.OpenedBlocks.{IsDoneFor, request_drops}
+use Rattle.sbp_world.proofs.Pointers.Ending.{complete_ends, first_of, zero_ends}
 
 -- ---- by the moment that began the turn
 
@@ -90,17 +91,6 @@ pub data Drops (past : List Moment) (i : ℕ) : Type 0 where
 
 -- ---- small ones
 
--- a read of AGENT_STATE that drops a list gives 0, and counts for it
-zero_ends : (list : Option ℕ) (ending : Ending) (present : Option PresentList) → state_drops list ending present ≡ true → ending ≡ endings.Complete 0
-zero_ends list (endings.Complete value) present e = by (counts_for present list) (value == 0) refl e
-  where
-    by : (b c : Bool) → (value == 0) ≡ c → (b && c) ≡ true → endings.Complete value ≡ endings.Complete 0
-    by true true f g = let z : value ≡ 0 = grind (arith, nat_tests) in ap endings.Complete z
-    by true false f g = untrue g
-    by false c f g = untrue g
-zero_ends list (endings.Refused rcode) present e = untrue e
-zero_ends list endings.Expired present e = untrue e
-
 record CountsFor (list : Option ℕ) (present : Option PresentList) : Type 0 where
   number : ℕ
   is : list ≡ Some number
@@ -110,20 +100,10 @@ counts_by : (list : Option ℕ) (present : Option PresentList) → counts_for pr
 counts_by None present e = untrue e
 counts_by (Some list) present e = record { number = list; is = refl; there = e }
 
-first_of : (a b : Bool) → (a && b) ≡ true → a ≡ true
-first_of true b e = refl
-first_of false b e = untrue e
-
 counts_of : (list : Option ℕ) (ending : Ending) (present : Option PresentList) → state_drops list ending present ≡ true → CountsFor list present
 counts_of list (endings.Complete value) present e = counts_by list present (first_of (counts_for present list) (value == 0) e)
 counts_of list (endings.Refused rcode) present e = untrue e
 counts_of list endings.Expired present e = untrue e
-
--- a complete answer to an AGENT_RESET
-complete_ends : (act : ℕ) (ending : Ending) (present : Option PresentList) → ends_the_list (purposes.AgentReset act) ending present ≡ true → (value : ℕ) × (ending ≡ endings.Complete value)
-complete_ends act (endings.Complete value) present e = (value, refl)
-complete_ends act (endings.Refused rcode) present e = untrue e
-complete_ends act endings.Expired present e = untrue e
 
 -- ---- the operation of the host, where a status block is of that of the initiator
 record AtHost (past : List Moment) (i orb : ℕ) : Type 0 where

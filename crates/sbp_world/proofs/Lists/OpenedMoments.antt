@@ -1,6 +1,6 @@
 -- The notes that a turn has behind its first moment: what the target tells and sends, and what the others do. They leave the generations of the nodes, and
 -- how often packets were taken and served.
-use Rattle.std.proofs.Common.{arith, ◌≡◌, ◌∙◌, refl, sym, ap, ◌≤◌, ◌==◌, ◌+◌, ℕ, zero, suc, nat_eq, not, Bool, true, false, cond, List, [], ◌∷◌, ◌++◌, map, Option, Some, None}
+use Rattle.std.proofs.Common.{arith, ◌≡◌, ◌∙◌, refl, sym, ap, ◌≤◌, ◌==◌, ℕ, zero, suc, nat_eq, not, Bool, true, false, cond, List, [], ◌∷◌, ◌++◌, map, Option, Some, None}
 use Rattle.std.proofs.lemmas.Bool.Decides.{nat_tests}
 use Rattle.bus_transactions.specs.Packets.{SerialsCount}
 use Rattle.sbp_journal.specs.Run.{Moment, asked, said}
@@ -17,6 +17,7 @@ use Rattle.sbp_world.proofs.Hosts.Remaining.{gets_same, ignores_that_same, opene
 use Rattle.sbp_world.specs.Pointers.Moments.{state_list}
 use Rattle.sbp_world.specs.Lists.Opened.{AllOf, of_rest}
 use Rattle.sbp_world.proofs.Lists.OpenedHosts.{Goes, IsLaterAt, goes_then, like, one}
+use Rattle.sbp_world.proofs.Hosts.Remaining.{other_serial}
 
 no : false ≡ true → ⊥
 no e = cc
@@ -165,9 +166,6 @@ all_hosts n (note ∷ more) past i a =
     goes_then n (host_at past i) (host_at whole i) (host_at (said note ∷ whole) i) (all_hosts n more past i a.1) (one n (said note) whole i (none_later n i note a.0))
 
 -- ---- packets
--- the list of a write stays
-other_serial : (r s count : ℕ) → r ≤ count → s ≡ count + 1 → nat_eq r s ≡ false
-other_serial r s count h e = grind (arith, nat_tests)
 
 kept_by : {A : Type 0} (b : Bool) (x y : A) → b ≡ false → cond b x y ≡ y
 kept_by true x y e = absurd (no (sym e))

@@ -18,6 +18,7 @@ use Rattle.sbp_laws.specs.Hosts.{Host, Underway, host_at, is_management, operati
 use Rattle.sbp_laws.specs.Served.{management_orb_of, place_bytes, place_held}
 use Rattle.sbp_world.specs.Lists.Underway.{IsUnderway, underway_orb}
 use Rattle.sbp_world.proofs.Lists.ManageTerms.{none_is, same_some, untrue}
+use Rattle.sbp_world.proofs.Hosts.OrbSpelled.{bit_small}
 
 -- a function that ends lists
 abbrev pub ends_lists : Function → Bool
@@ -31,10 +32,6 @@ pub record EndsLists (orb : ManagementOrb) : Type 0 where
   pub function : Function
   pub is : function_of orb.function ≡ Some function
   pub ends : ends_lists function ≡ true
-
-bit_small : (word : Bool) → bit word ≤ 1
-bit_small true = omega arith
-bit_small false = omega arith
 
 field : (q b f e r n s : ℕ) → b ≤ 1 → f < 2 ^ 2 → e ≤ 1 → r < 2 ^ 4 → n < 2 ^ 4 → s < 2 ^ 16 → q ≡ b * 2 ^ 31 + f * 2 ^ 29 + e * 2 ^ 28 + r * 2 ^ 20 + n * 2 ^ 16 + s → q / 2 ^ 16 % 2 ^ 4 ≡ n
 field q b f e r n s hb hf he hr hn hs h = omega arith

@@ -20,9 +20,8 @@ use Rattle.sbp_laws.specs.Packets.{id_for, receiver_in}
 use Rattle.sbp_laws.specs.Targets.{target_at}
 use Rattle.sbp_world.specs.Histories.{history_of, moments_behind}
 use Rattle.sbp_world.specs.Making.{ready_logins}
-use Rattle.sbp_world.specs.Runs.{Entry, Run, after, beginning}
+use Rattle.sbp_world.specs.Runs.{Run, after, beginning}
 use Rattle.sbp_world.specs.Settling.{MayAll, after_all}
-use Rattle.sbp_world.specs.Wire.Lines.{AreLines}
 use Rattle.sbp_world.specs.Worlds.{WorldState, begun}
 use Rattle.sbp_world.specs.Agents.Management.Terms.{Awaits, HasRequest}
 use Rattle.sbp_world.proofs.Agents.Management.Holding.{Holding, past_terms}
@@ -45,6 +44,7 @@ use Rattle.sbp_world.proofs.Lists.OrbsBegan.{BeganBy, began, line_kept, not_befo
 use Rattle.sbp_world.proofs.Lists.OrbsRead.{delivers, read_orbs_law}
 use Rattle.sbp_world.proofs.Lists.Runs.{as_front}
 use Rattle.sbp_world.proofs.Lists.UnderwayRuns.{delivering, underway_law}
+use Rattle.sbp_world.proofs.Agents.CrewRuns.{lines_same, moments_same}
 
 same_serial : (m n : ℕ) → Some m ≡ Some n → m ≡ n
 same_serial m n e = cc
@@ -101,13 +101,6 @@ phases_apart : phases.Orb ≡ phases.Status → ⊥
 phases_apart e = cc
 
 -- ---- runs
-lines_same : (run : Run) (all entries : List Entry) → AreLines run entries → AreLines (record run { entries = all }) entries
-lines_same run all [] l = tt
-lines_same run all (e ∷ before) l = (l.0, lines_same run all before l.1)
-
-moments_same : (line : ℕ) (run : Run) (all entries : List Entry) → moments_behind line (record run { entries = all }) entries ≡ moments_behind line run entries
-moments_same line run all [] = refl
-moments_same line run all (e ∷ before) = ap (λ ms. map said e.notes ++ asked e.line e.event ∷ ms) (moments_same line run all before)
 
 module _ (managing : ManagingLaw) (line : ℕ) (run : Run) (few : run.initiators ≤ 4) (has : 0 < run.units) (small : run.units ≤ 4) (size : length run.start.disks ≡ run.units) (i : ℕ) (inside : i < run.initiators) (past : List Moment) (counts : SerialsCount past) (lasts : OperationsLast past i) (calm : IsCalm past i) (managed : IsManaged run.start.disks past i) (brings : BringOrbs run.start.disks past i) (requested : (op : Operation) (read : ℕ) → (target_at run.start.disks past).manager.operation ≡ Some op → (target_at run.start.disks past).manages ≡ Some read → IsRequest past read op) (finds : (underway : Underway) (there : (host_at past i).operation ≡ Some underway) → underway.first ≤ (terms past).count → BeganBy line run i past counts lasts underway there) where
   abbrev start : List Disk

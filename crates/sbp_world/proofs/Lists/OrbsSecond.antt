@@ -38,9 +38,7 @@ use Rattle.sbp_world.proofs.Agents.Management.Firsts.{other_reply, own_reply, re
 use Rattle.sbp_world.proofs.Agents.Management.Offices.{IsBehind, note_changes, over_keeps, taken_keeps}
 use Rattle.sbp_world.specs.Lists.CarriedOrbs.{IsOn}
 use Rattle.sbp_world.proofs.Lists.KeptReplies.{payload_is}
-
-untrue : {A : Type 0} → false ≡ true → A
-untrue e = absurd (let no : false ≡ true = e in cc)
+use Rattle.sbp_world.proofs.Sessions.Buffers.{untrue}
 
 abbrev pub IsSecond : Option Decided → Ask → List ℕ → Type 0
 IsSecond None ask out = ⊥

@@ -1,15 +1,13 @@
 -- A block read of a place of management that an initiator gets in a delivery is answered from its memory: with the ORB that stands there.
-use Rattle.std.proofs.Common.{Bool, arith, ◌≡◌, refl, sym, ◌∙◌, ap, ℕ, suc, ◌+◌, ◌-◌, ◌<◌, ◌≤◌, ◌^◌, List, [], ◌∷◌, ◌++◌, drop, map, length, replicate, take, Option, Some, None, Result, Ok, Err}
-use Rattle.std.proofs.lemmas.List.{length-replicate, length-take, take_all}
+use Rattle.std.proofs.Common.{Bool, arith, ◌≡◌, refl, sym, ◌∙◌, ap, ℕ, suc, ◌+◌, ◌-◌, ◌<◌, ◌≤◌, ◌^◌, List, [], ◌∷◌, ◌++◌, drop, map, length, replicate, take, Option, Some, None, Ok}
+use Rattle.std.proofs.lemmas.List.{length-replicate, take_all}
 use Rattle.async_packet.specs.Reading.{reading}
 use Rattle.bus_memory.specs.declared.window.Window.{Window}
 use Rattle.bus_memory.specs.declared.window.Window.TheVariants as windows
-use Rattle.bus_memory.specs.Access.{judged, read_at, read_step}
-use Rattle.bus_memory.specs.Memory.{Memory, new_memory}
+use Rattle.bus_memory.specs.Access.{judged, read_step}
+use Rattle.bus_memory.specs.Memory.{new_memory}
 use Rattle.bus_memory.specs.Windows.{start, window_at}
 use Rattle.bus_memory.specs.declared.access.Access.TheVariants.{Read}
-use Rattle.bus_memory.specs.declared.access.Rcode.{Rcode}
-use Rattle.bus_memory.specs.declared.access.Spot.{Spot}
 use Rattle.bus_memory.proofs.Found.{window_here}
 use Rattle.orb_layout.specs.Replies.{Payload}
 use Rattle.orb_layout.specs.declared.management.ManagementOrb.{ManagementOrb}
@@ -37,14 +35,7 @@ use Rattle.sbp_world.proofs.Hosts.AnsweringSends as sends
 use Rattle.sbp_world.proofs.Hosts.AnsweringSends.{Gets}
 use Rattle.sbp_world.proofs.Hosts.ResponseBytes.{IsBlockRead, asked_most, completes, tells_given}
 use Rattle.sbp_world.specs.Sessions.Placed.{ArePlaces}
-
-same_access : (one other : Access) → Some one ≡ Some other → one ≡ other
-same_access one other e = cc
-
--- no more is read than there is room for
-read_short : (m : Memory) (out : List ℕ) (found : Result Spot Rcode) → length (read_at m out found).1 ≤ length out
-read_short m out (Ok spot) = simp length-take (omega arith)
-read_short m out (Err rcode) = omega arith
+use Rattle.sbp_world.proofs.Hosts.Replies.{read_short, same_access}
 
 -- the bytes of a place are those of one ORB
 place_length : (held : Option ManagementOrb) → length (place_bytes held) ≡ 32

@@ -7,12 +7,7 @@ use Rattle.orb_layout.specs.Pointers.{quad_bytes}
 use Rattle.sbp_base.specs.Quadlets.{quad}
 use Rattle.target_base.specs.Beginning.{target_eui}
 use Rattle.sbp_world.proofs.Lists.RomKeys.{IsRomQuad, none_keyed}
-
-untrue : {A : Type 0} → false ≡ true → A
-untrue e = absurd (differ e)
-  where
-    differ : false ≡ true → ⊥
-    differ e = cc
+use Rattle.sbp_world.proofs.Hosts.ActLeft.{untrue}
 
 -- what is given as a quadlet
 abbrev pub IsGiven : List ℕ → Type 0

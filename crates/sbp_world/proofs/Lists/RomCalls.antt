@@ -34,12 +34,7 @@ use Rattle.sbp_target.proofs.Histories.Rowing.{row_law}
 use Rattle.sbp_target.proofs.Histories.Served.{judges}
 use Rattle.sbp_world.proofs.Lists.RomBytes.{IsGiven, IsRom, none_given}
 use Rattle.sbp_world.proofs.Lists.RomCodes.{IfFair, IsFair, asked_fair, none_given_to, response_fair}
-
-untrue : {A : Type 0} → false ≡ true → A
-untrue e = absurd (differ e)
-  where
-    differ : false ≡ true → ⊥
-    differ e = cc
+use Rattle.sbp_world.proofs.Hosts.ActLeft.{untrue}
 
 abbrev pub AllFair : List Outgoing → Type 0
 AllFair [] = Unit {0}

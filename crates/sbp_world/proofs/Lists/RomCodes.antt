@@ -16,21 +16,14 @@ use Rattle.label_table.specs.Table.{begin_at, begin_step, lowest_from}
 use Rattle.sbp_base.specs.Quadlets.{quad}
 use Rattle.sbp_world.proofs.Lists.RomBytes.{IsGiven, none_given}
 use Rattle.sbp_world.proofs.Lists.RomKeys.{IsRomQuad, none_keyed}
-
-untrue : {A : Type 0} → false ≡ true → A
-untrue e = absurd (differ e)
-  where
-    differ : false ≡ true → ⊥
-    differ e = cc
+use Rattle.sbp_world.proofs.Hosts.ActLeft.{untrue}
+use Rattle.sbp_world.proofs.Sessions.Codes.{first_code}
 
 -- a packet that gives a quadlet gives one that may stand in the target's ROM
 abbrev pub IsFair : List ℕ → Type 0
 IsFair bytes = (tcode_of bytes == 6) ≡ true → IsRomQuad (value_of bytes)
 
 -- ---- the tcode stands in the first quadlet, what is given in the fourth
-
-first_code : (peer label tcode : ℕ) → tcode < 16 → (peer * 2 ^ 16 + label * 2 ^ 10 + 1 * 2 ^ 8 + tcode * 2 ^ 4 + 0) % 256 ^ 4 / 2 ^ 4 % 2 ^ 4 ≡ tcode
-first_code peer label tcode small = omega arith
 
 quad_code : (peer label tcode : ℕ) (bytes rest : List ℕ) → tcode < 16 → bytes ≡ big_bytes 4 (peer * 2 ^ 16 + label * 2 ^ 10 + 1 * 2 ^ 8 + tcode * 2 ^ 4 + 0) ++ rest → tcode_of bytes ≡ tcode
 unfolding tcode_of

@@ -1,6 +1,6 @@
 -- In every run each initiator knows MANAGEMENT_AGENT where the target has it, and writes there.
 use Rattle.std.specs.Prelude.{unwrap_or}
-use Rattle.std.proofs.Common.{arith, ◌≡◌, refl, sym, ◌∙◌, ap, subst, ℕ, zero, suc, ◌+◌, ◌==◌, nat_eq, is_some, not, Bool, true, false, cond, List, [], ◌∷◌, ◌++◌, map, Option, Some, None, Result, Ok, Err}
+use Rattle.std.proofs.Common.{arith, ◌≡◌, refl, sym, ◌∙◌, ap, subst, ℕ, suc, ◌+◌, ◌==◌, nat_eq, is_some, not, Bool, true, false, cond, List, [], ◌∷◌, ◌++◌, map, Option, Some, None, Result, Ok, Err}
 use Rattle.std.proofs.lemmas.Bool.Decides.{nat_tests}
 use Rattle.async_packet.specs.declared.fault.PacketFault.{PacketFault}
 use Rattle.async_packet.specs.Labels.{LabelParts}
@@ -49,16 +49,13 @@ use Rattle.sbp_world.specs.Histories.{history_of}
 use Rattle.sbp_world.specs.Runs.{Run, after as world_after, beginning}
 use Rattle.sbp_world.specs.Settling.{after_all}
 use Rattle.sbp_world.specs.Worlds.{WorldState, begun, initiator_at}
-use Rattle.sbp_initiator.proofs.Histories.Over.{sound}
 use Rattle.sbp_world.specs.Hosts.Calls.{behind}
 use Rattle.sbp_world.specs.Hosts.Runs.{more_deliveries}
 use Rattle.sbp_world.proofs.Hosts.ActLeft.{act_left}
 use Rattle.sbp_world.proofs.Hosts.Aimed.{IsAimed, aimed_carried, first_aimed}
-use Rattle.sbp_world.proofs.Hosts.Calling.{IsOwn}
 use Rattle.sbp_world.proofs.Hosts.Carried.{Knows as KnowsAll, between_runs, of_runs}
 use Rattle.sbp_world.proofs.Hosts.Carries.{Carries, IsNoAct, Tells, is_apart}
 use Rattle.sbp_world.proofs.Hosts.Held.{sent_new, sent_old}
-use Rattle.sbp_world.proofs.Hosts.Lives.{Called}
 use Rattle.sbp_world.proofs.Hosts.Layered.{AreTame, expire_left, receive_left}
 use Rattle.sbp_world.proofs.Hosts.Pointed.{stale_is}
 use Rattle.sbp_world.proofs.Hosts.PointerNotes.{tame_told}
@@ -77,12 +74,9 @@ use Rattle.sbp_world.proofs.Lists.RomKeys.{IsRomQuad, none_keyed}
 use Rattle.sbp_world.proofs.Lists.RomLearns.{IsBrought, IsQuad, Knows, act_knows, done_can, expire_knows, first_knows, receive_knows, see_knows}
 use Rattle.sbp_world.proofs.Lists.RomNotes.{SentFair, fair_sent}
 use Rattle.sbp_world.proofs.Lists.RomRuns.{fair_after, fair_between}
-
-untrue : {A : Type 0} → false ≡ true → A
-untrue e = absurd (differ e)
-  where
-    differ : false ≡ true → ⊥
-    differ e = cc
+use Rattle.sbp_world.proofs.Hosts.ActLeft.{untrue}
+use Rattle.sbp_world.proofs.Hosts.Aimed.{own_called}
+use Rattle.sbp_world.proofs.Pointers.Written.{none_sent, older_asked, still_asked}
 
 -- ---- what a response brings
 
@@ -104,11 +98,6 @@ response_now layer generation bytes p label purpose e =
     let f : Facts = facts_of layer generation bytes in
     equal generation layer.generation
     (sym (is_now layer generation bytes (reading bytes)) ∙ now_by f.is_current f.is_for_node f.is_response f.is_awaited f.is_repeated layer bytes (reading bytes) p label purpose e)
-
-own_called : (ready : Bool) (i : ℕ) (s : InitiatorState) → IsOwn ready i s → Called s.layer
-own_called ready i s h =
-    let k = (sound i ready h.called.calls).wires in
-    record { node = 0xffc1 + i; calls = k.calls; is = k.layer_is ∙ ap (λ (x : InitiatorState). x.layer) h.called.is }
 
 -- and is of the target
 module _ (past : List Moment) (i serial generation : ℕ) (bytes : List ℕ) (ready : Bool) (s : InitiatorState) (heard : IsHeard past i serial generation bytes) (shown : IsShown past i s.target s.layer) (aimed : IsAimed ready i s) where
@@ -161,38 +150,18 @@ brought_by layer generation bytes f (of_request p) e = tt
 abbrev Writes : List Moment → ℕ → Type 0
 Writes past i = WritesManaged past i
 
-none_sent : {A : Type 0} (found : Sending) → None ≡ Some found → A
-none_sent found e = absurd (differ e)
-  where
-    differ : None ≡ Some found → ⊥
-    differ e = cc
-
 some_packet : (a b : Sending) → Some a ≡ Some b → a ≡ b
 some_packet a b e = cc
 
 same_number : (a b : ℕ) → nat_eq a b ≡ true → a ≡ b
 same_number a b e = grind (arith, nat_tests)
 
--- a moment at which no packet is sent
-still_asked : (m : Moment) (past : List Moment) (i x : ℕ) → is_leaving m ≡ false → asked_in (m ∷ past) x i ≡ asked_in past x i
-still_asked (said (notes.Sent s generation from to bytes)) past i x e = untrue (sym e)
-still_asked (asked line event) past i x e = refl
-still_asked (said note) past i x e = refl
-
 still_on : (m : Moment) (past : List Moment) (i : ℕ) → is_leaving m ≡ false → Writes past i → Writes (m ∷ past) i
 still_on m past i e k x other action access sent is honest a b spelled =
     k x other action access (sym (ap (λ f. f x) (moment_sent m past e)) ∙ sent) is honest (sym (still_asked m past i x e) ∙ a) b spelled
 
-apart : {A : Type 0} (b : Bool) (x y : A) → b ≡ false → cond b x y ≡ y
-apart true x y e = untrue (sym e)
-apart false x y e = refl
-
 itself : {A : Type 0} (n : ℕ) (x y : A) → cond (nat_eq n n) x y ≡ x
 itself n x y = let e : nat_eq n n ≡ true = grind (arith, nat_tests) in ap (λ b. cond b x y) e
-
-older_asked : (i serial generation from to : ℕ) (bytes : List ℕ) (past : List Moment) (x : ℕ) → nat_eq x serial ≡ false → asked_in (said (notes.Sent serial generation from to bytes) ∷ past) x i ≡ asked_in past x i
-older_asked i serial generation zero to bytes past x e = refl
-older_asked i serial generation (suc j) to bytes past x e = apart (nat_eq x serial) _ (asked_in past x i) e
 
 asked_now : (i serial generation to : ℕ) (bytes : List ℕ) (past : List Moment) → asked_in (said (notes.Sent serial generation (suc i) to bytes) ∷ past) serial i ≡ own_action i (event_of past)
 asked_now i serial generation to bytes past =

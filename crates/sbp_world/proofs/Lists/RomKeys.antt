@@ -11,6 +11,7 @@ use Rattle.config_rom.specs.Reading.{Tree, reading}
 use Rattle.config_rom.specs.Tree.{entries_from, entries_of, entry_at}
 use Rattle.config_rom.specs.Unit.{Directory, directories, first_unit, first_value, has_key, has_value, is_sbp, is_unit, names_unit, root_entries, sbp_unit_of, type_bits, unit_of}
 use Rattle.config_rom.proofs.Heads.{tree-of}
+use Rattle.sbp_world.proofs.Hosts.ActLeft.{untrue}
 
 -- a quadlet with this key has that value
 abbrev pub IsRomQuad : ℕ → Type 0
@@ -18,12 +19,6 @@ IsRomQuad value = value / 2 ^ 24 ≡ 0x54 → value % 2 ^ 24 ≡ 0x4000
 
 abbrev pub AreRomQuads : List ℕ → Type 0
 AreRomQuads quads = AllByRecursion IsRomQuad quads
-
-untrue : {A : Type 0} → false ≡ true → A
-untrue e = absurd (differ e)
-  where
-    differ : false ≡ true → ⊥
-    differ e = cc
 
 pub none_keyed : IsRomQuad 0
 none_keyed e = absurd (omega (arith, e))

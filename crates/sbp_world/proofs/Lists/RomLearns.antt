@@ -62,6 +62,7 @@ use Rattle.sbp_laws.specs.Hosts.{operation_of}
 use Rattle.sbp_initiator.proofs.Histories.Actions.{allowed}
 use Rattle.sbp_world.specs.Pointers.Moments.{manages as manages_in}
 use Rattle.sbp_world.proofs.Lists.RomKeys.{AreRomQuads, IsRomQuad, management_is}
+use Rattle.sbp_world.proofs.Hosts.ActLeft.{untrue}
 
 -- a session that is not out, or became stuck so, began with a login: MANAGEMENT_AGENT is known then
 abbrev pub knows_rom : Seat → Bool
@@ -90,12 +91,6 @@ Knows s = Learned s.quads s.management s.seat
 abbrev is_sending : Event → Bool
 is_sending sent = true
 is_sending event = false
-
-untrue : {A : Type 0} → false ≡ true → A
-untrue e = absurd (differ e)
-  where
-    differ : false ≡ true → ⊥
-    differ e = cc
 
 from_out_in : (event : Event) → is_sending event ≡ false → knows_rom (from_out event) ≡ true → false ≡ true
 from_out_in sent n e = sym n

@@ -1,11 +1,10 @@
 -- A run that the target tells of, behind the packet that it got: it is on the unit of a live login of the initiator that has the place; and of an initiator that
 -- injected no packets its outcome is what the plain disk allows for the request of its ORB.
-use Rattle.std.proofs.Common.{arith, ◌≡◌, ◌∙◌, refl, sym, ap, subst, ℕ, suc, ◌+◌, ◌<◌, ◌≤◌, Bool, true, false, cond, List, ◌∷◌, Option, Some, None, IfSome, IsSome, IsSomeAnd, Result, Ok, Err}
+use Rattle.std.proofs.Common.{arith, ◌≡◌, ◌∙◌, refl, sym, ap, subst, ℕ, suc, ◌+◌, ◌<◌, ◌≤◌, Bool, true, false, List, ◌∷◌, Option, Some, None, IfSome, IsSome, IsSomeAnd}
 use Rattle.std.specs.Prelude.{unwrap_or}
 use Rattle.login_table.specs.declared.login.Login.{Login}
 use Rattle.login_table.specs.Table.{Table, find, is_live, is_of_node}
 use Rattle.login_table.proofs.Searching.{within}
-use Rattle.orb_layout.specs.declared.ask.FailCause.{FailCause}
 use Rattle.orb_layout.specs.Replies.{Answer, payload_of}
 use Rattle.rbc_disk.specs.declared.command.Outcome.{Outcome}
 use Rattle.rbc_disk.specs.Disk.{Disk}
@@ -17,7 +16,7 @@ use Rattle.command_agent.specs.declared.step.AgentStep.{AgentStep}
 use Rattle.command_agent.specs.declared.step.Which.{Which}
 use Rattle.command_agent.specs.declared.step.Which.TheVariants.{Ahead, Main}
 use Rattle.command_agent.specs.Machine.{Machine, is_ahead}
-use Rattle.command_agent.specs.Steps.{advanced, ahead_read, ahead_step, quiet, reply_step, served, told_or}
+use Rattle.command_agent.specs.Steps.{advanced, ahead_step, quiet, reply_step, served, told_or}
 use Rattle.agent_laws.specs.Along.Along.{Progress}
 use Rattle.agent_laws.specs.Along.Lists.{OrbList}
 use Rattle.agent_laws.specs.Along.Requests.{ahead_beside, main_beside}
@@ -54,6 +53,7 @@ use Rattle.sbp_world.proofs.Lists.RunFits.{WasAsked, runs_on}
 use Rattle.sbp_world.proofs.Lists.RunTells.{served_there}
 use Rattle.sbp_world.proofs.Lists.Runless.{IsRunBy}
 use Rattle.sbp_world.proofs.Lists.Turns.{Ready, heard_ended}
+use Rattle.sbp_world.proofs.Agents.UnitsRun.{ahead_none, none_if}
 
 -- ---- what is known as a turn begins
 -- an ORB that has not ended, of a list that is open, was appended with a request
@@ -80,14 +80,6 @@ unlisted_main place plain told phases.WritingStatus m answer e = absurd (let no 
 unlisted_main place plain told phases.ReadingNext m answer e = absurd (let no : true ≡ false = e in cc)
 unlisted_main place plain told phases.WritingLastStatus m answer e = absurd (let no : true ≡ false = e in cc)
 unlisted_main place plain told phases.Suspended m answer e = absurd (let no : true ≡ false = e in cc)
-
-none_if : (b : Bool) (x y : AgentStep × Machine) → x.0.ran ≡ None → y.0.ran ≡ None → (cond b x y).0.ran ≡ None
-none_if true x y h i = h
-none_if false x y h i = i
-
-ahead_none : (m : Machine) (r : Result (List ℕ) FailCause) → (ahead_read m r).0.ran ≡ None
-ahead_none m (Ok bytes) = refl
-ahead_none m (Err cause) = refl
 
 unlisted_none : (m : Machine) (place : ℕ) (plain : PlainDisk) (told : Option Told) (which : Which) (answer : Answer) → has_list m.phase ≡ false → (reply_step m place plain told which answer).0.ran ≡ None
 unfolding reply_step

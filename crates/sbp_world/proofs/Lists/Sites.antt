@@ -10,8 +10,7 @@ use Rattle.command_agent.specs.declared.phase.Phase.{Phase}
 use Rattle.command_agent.specs.declared.phase.Phase.TheVariants as phases
 use Rattle.command_agent.specs.declared.step.Which.{Which}
 use Rattle.command_agent.specs.declared.step.Which.TheVariants.{Ahead, Main}
-use Rattle.command_agent.specs.Machine.{Machine, is_ahead, is_sent, state_in}
-use Rattle.command_agent.specs.Steps.{is_reset}
+use Rattle.command_agent.specs.Machine.{Machine, is_ahead, is_sent}
 use Rattle.command_agent.specs.Tasks.{writes_status}
 use Rattle.login_table.specs.Table.{Table, place_at}
 use Rattle.orb_list.specs.Lists.{last_at, last_in}
@@ -52,6 +51,7 @@ use Rattle.sbp_world.proofs.Hosts.Readings.{read_law}
 use Rattle.sbp_world.specs.Lists.Needs.{IsNamed, initiator_in, is_open_at}
 use Rattle.sbp_world.proofs.Lists.ReadSlots.{under_as}
 use Rattle.sbp_world.proofs.Lists.Slots.{IsFilled}
+use Rattle.sbp_world.proofs.Agents.AskedAgents.{sent_reset}
 
 pub record Site (start : List Disk) (past : List Moment) (w : WorldState) : Type 0 where
   pub agents : AreAgentsAt start (hist past w) w
@@ -65,17 +65,6 @@ pub record Site (start : List Disk) (past : List Moment) (w : WorldState) : Type
   pub serials : SerialsCount (hist past w)
 
 -- ---- phases
-sent_reset : (p : Phase) → is_sent p ≡ true → is_reset (state_in p) ≡ false
-sent_reset phases.Reset e = absurd (let no : false ≡ true = e in cc)
-sent_reset phases.Fetching e = refl
-sent_reset phases.ReadingTable e = refl
-sent_reset (phases.ReadingData wanted) e = refl
-sent_reset phases.Answering e = refl
-sent_reset phases.WritingStatus e = refl
-sent_reset phases.ReadingNext e = refl
-sent_reset phases.Suspended e = refl
-sent_reset phases.WritingLastStatus e = refl
-sent_reset phases.Dead e = refl
 
 sent_list : (p : Phase) → is_sent p ≡ true → has_list p ≡ true
 sent_list phases.Reset e = absurd (let no : false ≡ true = e in cc)

@@ -14,7 +14,6 @@ use Rattle.label_table.specs.Layer.{facts_of}
 use Rattle.rbc_disk.specs.Runs.{Told}
 use Rattle.sbp_journal.specs.Addresses.{Access, access_of}
 use Rattle.sbp_journal.specs.Outgoings.{empty_outbox}
-use Rattle.sbp_journal.specs.Rows.{first_or, ignored_as, serving, telling}
 use Rattle.sbp_journal.specs.Run.{Moment, asked, said}
 use Rattle.sbp_journal.specs.Transactions.{Sending}
 use Rattle.sbp_journal.specs.Wire.{terms}
@@ -56,6 +55,7 @@ use Rattle.sbp_world.proofs.Hosts.MemoryRcodes.{and_true}
 use Rattle.sbp_world.proofs.Hosts.OrbRuns.{Orbs, Rowed, first_orbs, orbs_carried, rows_known}
 use Rattle.sbp_world.proofs.Hosts.Shown.{IsElsewhere, IsHeard}
 use Rattle.sbp_world.proofs.Lists.OrbFifos.{high_window}
+use Rattle.sbp_world.proofs.Hosts.SlotIgnored.{last_row, not_there, some_bytes}
 
 -- ---- an open FIFO stands behind the response buffers
 open_by : (a b c : Bool) (offset : ℕ) → (a ≡ true → 0x12002000 ≤ offset) → (b ≡ true → 0x12002000 ≤ offset) → is_open (cond a (Some fifos.Place) (cond b (Some fifos.Login) (cond c (Some fifos.Closed) None))) ≡ true → 0x12002000 ≤ offset
@@ -79,15 +79,6 @@ status_opens true write block wide e = absurd (let no : false ≡ true = e in cc
 status_opens false false block wide e = absurd (let no : false ≡ true = e in cc)
 status_opens false true false wide e = absurd (let no : false ≡ true = e in cc)
 status_opens false true true false e = absurd (let no : false ≡ true = e in cc)
-
--- of the rows of a request the last one says so
-last_row : (a b c d e : Bool) → note_of (first_or serving ((a, ignored_as causes.Source 7) ∷ (b, ignored_as causes.Login 7) ∷ (c, telling) ∷ (d, ignored_as causes.Grammar 5) ∷ (e, ignored_as causes.Slot 0) ∷ [])) ≡ judgements.Ignored causes.Slot → e ≡ true
-last_row true b c d e f = cc
-last_row false true c d e f = cc
-last_row false false true d e f = cc
-last_row false false false true e f = cc
-last_row false false false false true f = refl
-last_row false false false false false f = cc
 
 access_apart : (access : Access) (source : ℕ) (s : InitiatorState) → note_of (judging_by (Some access) source s) ≡ judgements.Ignored causes.Slot → IsApart access
 access_apart access source s e place w =
@@ -151,9 +142,6 @@ step_quiet : (note : Note) → is_step note ≡ true → is_ignored note ≡ fal
 step_quiet (notes.Ignored serial cause) e = absurd (let no : false ≡ true = e in cc)
 step_quiet note e = refl
 
-not_there : (to i : ℕ) → (to == suc i) ≡ false → to ≡ suc i → ⊥
-not_there to i e f = grind (arith, nat_tests)
-
 -- a note of another one
 away_apart : (note : Note) (past : List Moment) (i : ℕ) → IsElsewhere past i note → AllApart past i → AllApart (said note ∷ past) i
 away_apart (notes.Ignored serial cause) past i away h = (λ slot packet was to. absurd (not_there packet.to i (away packet was) to), h)
@@ -177,10 +165,6 @@ steps_apart [] past i e h = h
 steps_apart (side ∷ told) past i e h = steps_apart told (by_side side past) i e.1 (one_step side past i e.0 h)
 
 -- ---- a packet that is heard
-some_bytes : (found : Option Sending) (one other : Sending) → found ≡ Some one → found ≡ Some other → one.bytes ≡ other.bytes
-some_bytes found one other e f =
-    let same : one ≡ other = cc in
-    ap (λ (q : Sending). q.bytes) same
 
 heard_apart : (serial generation : ℕ) (bytes : List ℕ) (past : List Moment) (i : ℕ) (s : InitiatorState) → IsHeard past i serial generation bytes → AllApart past i → AllApart (said (judged_note serial (receive_step generation bytes empty_outbox s).0) ∷ past) i
 heard_apart serial generation bytes past i s heard h = by_judged (receive_step generation bytes empty_outbox s).0 refl

@@ -1,8 +1,7 @@
 -- Where a read of an agent along a list reads: in the ORB, the page table or the buffer of the slot of the ORB that it is about. And what a response to it
 -- brings is of that ORB, where the slot has it still and had it as the read was sent.
-use Rattle.std.proofs.Common.{arith, ◌≡◌, ◌∙◌, refl, sym, ap, subst, ◌<◌, ◌≤◌, ◌&&◌, ℕ, suc, ◌+◌, ◌-◌, not, nat_lt, min, Bool, true, false, cond, List, [], ◌∷◌, ◌++◌, length, take, drop, slice_index_or, length-drop, length-take, append_assoc, Option, Some, None}
+use Rattle.std.proofs.Common.{arith, ◌≡◌, ◌∙◌, refl, sym, ap, subst, ◌<◌, ◌≤◌, ◌&&◌, ℕ, suc, ◌+◌, not, nat_lt, Bool, true, false, cond, List, [], ◌∷◌, ◌++◌, length, take, drop, slice_index_or, append_assoc, Option, Some, None}
 use Rattle.std.proofs.lemmas.Bool.Decides.{nat_tests}
-use Rattle.std.proofs.lemmas.List.{get_or-drop, get_or-take}
 use Rattle.bus_memory.specs.Memory.{new_memory}
 use Rattle.bus_memory.specs.declared.window.Window.TheVariants as windows
 use Rattle.bus_memory.specs.Windows.{is_fifo, start, window_at}
@@ -32,6 +31,7 @@ use Rattle.sbp_world.proofs.Hosts.Remaining.{remains}
 use Rattle.sbp_world.proofs.Hosts.SentMoments.{sent_begins, sent_below, serials_from}
 use Rattle.sbp_world.specs.Lists.SentReads.{slot_in}
 use Rattle.sbp_world.proofs.Lists.Brought.{Comes}
+use Rattle.sbp_world.proofs.Hosts.ByteReads.{part_at, part_inside}
 
 -- ---- windows
 pub orb_slot : (access : Access) (slot count : ℕ) → slot < 32 → IsRead access (start (windows.Orb slot)) count → slot_in (window_at access.offset) ≡ Some slot
@@ -39,14 +39,6 @@ orb_slot access slot count b r = ap slot_in (ap window_at r.from ∙ window_here
 
 pub table_slot : (access : Access) (slot : ℕ) → slot < 32 → access.offset ≡ start (windows.Table slot) → slot_in (window_at access.offset) ≡ Some slot
 table_slot access slot b e = ap slot_in (ap window_at e ∙ window_here (new_memory []) (start (windows.Table slot)) (windows.Table slot) b (omega arith) (omega arith))
-
-part_inside : (n at : ℕ) (xs : List ℕ) → length (take n (drop at xs)) ≡ n → 0 < n → at + n ≤ length xs
-part_inside n at xs e b =
-    let l : length (take n (drop at xs)) ≡ min n (length xs - at) = length-take n (drop at xs) ∙ ap (min n) (length-drop at xs) in
-    omega arith
-
-part_at : (n at x : ℕ) (xs : List ℕ) → x < n → slice_index_or (take n (drop at xs)) x 0 ≡ slice_index_or xs (at + x) 0
-part_at n at x xs b = get_or-take n (drop at xs) x 0 b ∙ get_or-drop at xs x 0
 
 -- a command whose buffer is filled
 pub record IsFilled (slot : ℕ) (cmd : Cmd) : Type 0 where

@@ -17,6 +17,7 @@ use Rattle.label_table.specs.Table.{begin_at, begin_step, lowest_from}
 use Rattle.sbp_laws.specs.OnceLaw.{is_write_in}
 use Rattle.sbp_laws.specs.Packets.{access_in, access_in_bytes, spelled_by}
 use Rattle.sbp_target.specs.declared.purpose.Purpose.{Purpose}
+use Rattle.sbp_world.proofs.Sessions.Codes.{first_code}
 
 -- it writes nothing
 abbrev pub IsRead : List ℕ → Type 0
@@ -51,8 +52,6 @@ code_reads bytes e f = by (fault_of bytes)
         (pick_packet (nat_eq (tcode_of bytes) 9) _ _ refl refl)))))))
 
 -- ---- the tcode stands in the first quadlet
-first_code : (peer label tcode : ℕ) → tcode < 16 → (peer * 2 ^ 16 + label * 2 ^ 10 + 1 * 2 ^ 8 + tcode * 2 ^ 4 + 0) % 256 ^ 4 / 2 ^ 4 % 2 ^ 4 ≡ tcode
-first_code peer label tcode small = omega arith
 
 quad_code : (peer label tcode : ℕ) (bytes rest : List ℕ) → tcode < 16 → bytes ≡ big_bytes 4 (peer * 2 ^ 16 + label * 2 ^ 10 + 1 * 2 ^ 8 + tcode * 2 ^ 4 + 0) ++ rest → tcode_of bytes ≡ tcode
 unfolding tcode_of

@@ -24,9 +24,7 @@ use Rattle.sbp_world.proofs.Hosts.Cores.{wire_is}
 use Rattle.sbp_world.proofs.Hosts.Prepares.{itself}
 use Rattle.sbp_world.proofs.Sessions.PlaceNotes.{is_packet}
 use Rattle.sbp_world.specs.Lists.Underway.{IsSame}
-
-untrue : {A : Type 0} → false ≡ true → A
-untrue e = absurd (let no : false ≡ true = e in cc)
+use Rattle.sbp_world.proofs.Sessions.Buffers.{untrue}
 
 none_some : {A : Type 0} (u : Underway) → None ≡ Some u → A
 none_some u e = absurd (let no : None ≡ Some u = e in cc)

@@ -25,9 +25,6 @@ use Rattle.sbp_world.proofs.Sessions.PlaceNotes.{is_packet, note_places, sent_pl
 use Rattle.sbp_world.specs.Lists.Underway.{AreUnderway, IsSame, IsUnderway, OperationsLast, WasUnderway, underway_orb}
 use Rattle.sbp_world.proofs.Lists.UnderwayHosts.{Acts, Had, action_acts, begins, carries_on, note_keeps, same_self, same_then, sent_keeps}
 
-untrue : {A : Type 0} → false ≡ true → A
-untrue e = absurd (let no : false ≡ true = e in cc)
-
 -- ---- what an initiator sends for its actions
 
 -- it was not injected, and is a request

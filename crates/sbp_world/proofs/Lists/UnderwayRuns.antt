@@ -43,9 +43,7 @@ use Rattle.sbp_world.proofs.Hosts.Remaining.{serials}
 use Rattle.sbp_world.proofs.Sessions.PlaceNotes.{is_packet}
 use Rattle.sbp_world.specs.Lists.Underway.{UnderwayLaw}
 use Rattle.sbp_world.proofs.Lists.UnderwayMoments.{RequestsAt, operations_last}
-
-untrue : {A : Type 0} → false ≡ true → A
-untrue e = absurd (let no : false ≡ true = e in cc)
+use Rattle.sbp_world.proofs.Sessions.Buffers.{untrue}
 
 abbrev Each : ℕ → List Moment → Type 0
 Each i past = EachMoment (RequestsAt i) past

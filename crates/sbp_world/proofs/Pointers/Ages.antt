@@ -130,7 +130,7 @@ abbrev pub is_sight : ℕ → Moment → Bool
 is_sight node (said (notes.Seen other generation)) = other == node
 is_sight node moment = false
 
-other_node : (node seen generation : ℕ) (old : ℕ → ℕ) → (seen == node) ≡ false → cond (nat_eq node seen) generation (old node) ≡ old node
+pub other_node : (node seen generation : ℕ) (old : ℕ → ℕ) → (seen == node) ≡ false → cond (nat_eq node seen) generation (old node) ≡ old node
 other_node node seen generation old e = let f : nat_eq node seen ≡ false = grind (arith, nat_tests) in ap (λ b. cond b generation (old node)) f
 
 pub moment_generation : (node : ℕ) (m : Moment) (past : List Moment) → is_sight node m ≡ false → (terms (m ∷ past)).generation node ≡ (terms past).generation node

@@ -171,7 +171,7 @@ acted_cases actions.Enable list serial host u e r = absurd (let x : operations.E
 
 -- ---- what is named
 
-apart : {A : Type 0} (b : Bool) (x y : A) → b ≡ false → cond b x y ≡ y
+pub apart : {A : Type 0} (b : Bool) (x y : A) → b ≡ false → cond b x y ≡ y
 apart true x y e = untrue (sym e)
 apart false x y e = refl
 

@@ -52,11 +52,11 @@ other_number i j number e f = grind (arith, nat_tests)
 
 -- ---- what a response spells
 
-responded_is : (p q : Packet) (label : LabelParts) (purpose : Option Purpose) (found : Option (LabelParts × Option Purpose) × Layer Purpose) → (responded q found).0 ≡ of_response p label purpose → q ≡ p
+pub responded_is : (p q : Packet) (label : LabelParts) (purpose : Option Purpose) (found : Option (LabelParts × Option Purpose) × Layer Purpose) → (responded q found).0 ≡ of_response p label purpose → q ≡ p
 responded_is p q label purpose (None, layer) f = cc
 responded_is p q label purpose (Some (l, r), layer) f = cc
 
-judged_read : (row : Row) (layer : Layer Purpose) (bytes : List ℕ) (read : Result Packet PacketFault) (p : Packet) (label : LabelParts) (purpose : Option Purpose) → (judged_by row layer bytes read).0 ≡ of_response p label purpose → read ≡ Ok p
+pub judged_read : (row : Row) (layer : Layer Purpose) (bytes : List ℕ) (read : Result Packet PacketFault) (p : Packet) (label : LabelParts) (purpose : Option Purpose) → (judged_by row layer bytes read).0 ≡ of_response p label purpose → read ≡ Ok p
 judged_read by_generation layer bytes read p label purpose f = cc
 judged_read by_grammar layer bytes read p label purpose f = cc
 judged_read by_label layer bytes read p label purpose f = cc
@@ -72,7 +72,7 @@ unfolding judging_step
 read_in layer generation bytes p label purpose f = judged_read (row_of (facts_of layer generation bytes)) layer bytes (reading bytes) p label purpose f
 
 -- a read of AGENT_STATE that drops a list gives 0
-zero_ends : (list : Option ℕ) (ending : Ending) (present : Option PresentList) → state_drops list ending present ≡ true → ending ≡ endings.Complete 0
+pub zero_ends : (list : Option ℕ) (ending : Ending) (present : Option PresentList) → state_drops list ending present ≡ true → ending ≡ endings.Complete 0
 zero_ends list (endings.Complete value) present e = by (counts_for present list) (value == 0) refl e
   where
     by : (b c : Bool) → (value == 0) ≡ c → (b && c) ≡ true → endings.Complete value ≡ endings.Complete 0
@@ -92,7 +92,7 @@ counts_by : (list : Option ℕ) (present : Option PresentList) → counts_for pr
 counts_by None present e = untrue e
 counts_by (Some list) present e = record { number = list; is = refl; there = e }
 
-first_of : (a b : Bool) → (a && b) ≡ true → a ≡ true
+pub first_of : (a b : Bool) → (a && b) ≡ true → a ≡ true
 first_of true b e = refl
 first_of false b e = untrue e
 
@@ -102,7 +102,7 @@ counts_of list (endings.Refused rcode) present e = untrue e
 counts_of list endings.Expired present e = untrue e
 
 -- a complete answer to an AGENT_RESET
-complete_ends : (act : ℕ) (ending : Ending) (present : Option PresentList) → ends_the_list (purposes.AgentReset act) ending present ≡ true → (value : ℕ) × (ending ≡ endings.Complete value)
+pub complete_ends : (act : ℕ) (ending : Ending) (present : Option PresentList) → ends_the_list (purposes.AgentReset act) ending present ≡ true → (value : ℕ) × (ending ≡ endings.Complete value)
 complete_ends act (endings.Complete value) present e = (value, refl)
 complete_ends act (endings.Refused rcode) present e = untrue e
 complete_ends act endings.Expired present e = untrue e

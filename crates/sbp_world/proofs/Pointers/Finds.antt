@@ -66,7 +66,7 @@ none_ended not_begun kind purpose e = cc
 none_ended (under_way that q) kind purpose e = cc
 none_ended over kind purpose e = cc
 
-same_serial : (k l : ReplyKind) (m n : ℕ) → states.UnderWay k m ≡ states.UnderWay l n → m ≡ n
+pub same_serial : (k l : ReplyKind) (m n : ℕ) → states.UnderWay k m ≡ states.UnderWay l n → m ≡ n
 same_serial k l m n e = cc
 
 -- and is over then

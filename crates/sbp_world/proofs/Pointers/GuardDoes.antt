@@ -97,7 +97,7 @@ named true serial None n e = as_now refl refl (let f : serial ≡ n = cc in sym 
 named true serial (Some first) n e = as_before e
 named false serial old n e = as_before e
 
-same_action : (i : ℕ) (a b : Action) → Some (events.Act i a) ≡ Some (events.Act i b) → a ≡ b
+pub same_action : (i : ℕ) (a b : Action) → Some (events.Act i a) ≡ Some (events.Act i b) → a ≡ b
 same_action i a b e = cc
 
 has_list : (present : Option PresentList) (mark : Pointing) → HasMarks present mark → is_unwritten mark ≡ false → is_some present ≡ true

@@ -21,7 +21,7 @@ use Rattle.sbp_laws.specs.Packets.{access_in, access_in_bytes, spelled_by as rea
 use Rattle.bus_transactions.specs.Fitting.{IsLayer}
 
 -- whatever its header says
-same_access : (node peer n : ℕ) (body : Body) → access_of (relabelled n (request_with (header_to node peer 0) body)) ≡ access_of (request_with (header_to 0 0 0) body)
+pub same_access : (node peer n : ℕ) (body : Body) → access_of (relabelled n (request_with (header_to node peer 0) body)) ≡ access_of (request_with (header_to 0 0 0) body)
 same_access node peer n (quadlet_write offset value) = refl
 same_access node peer n (block_write offset payload) = refl
 same_access node peer n (quadlet_read offset) = refl

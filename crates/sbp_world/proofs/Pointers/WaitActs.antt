@@ -226,7 +226,7 @@ module _ (action : Action) (past : List Moment) (i : ℕ) (s : InitiatorState) (
 -- ---- a later generation
 
 -- whatever node the target is then
-seen_layer : (b : Bool) (generation id target other : ℕ) (s : InitiatorState) → (seen_as (cond b (true, seen_in_generation s.layer generation id) (false, s.layer)) target empty_outbox s).1.layer ≡ (seen_as (cond b (true, seen_in_generation s.layer generation id) (false, s.layer)) other empty_outbox s).1.layer
+pub seen_layer : (b : Bool) (generation id target other : ℕ) (s : InitiatorState) → (seen_as (cond b (true, seen_in_generation s.layer generation id) (false, s.layer)) target empty_outbox s).1.layer ≡ (seen_as (cond b (true, seen_in_generation s.layer generation id) (false, s.layer)) other empty_outbox s).1.layer
 seen_layer true generation id target other s =
     let u = record s { layer = seen_in_generation s.layer generation id } in
     let o = resets_told u.number u.operation u.states empty_outbox in

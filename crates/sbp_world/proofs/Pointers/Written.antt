@@ -123,7 +123,7 @@ older_list : (i serial generation from to : ℕ) (bytes : List ℕ) (past : List
 older_list i serial generation zero to bytes past x e = refl
 older_list i serial generation (suc j) to bytes past x e = apart (nat_eq x serial) _ (pointed_list past x i) e
 
-older_asked : (i serial generation from to : ℕ) (bytes : List ℕ) (past : List Moment) (x : ℕ) → nat_eq x serial ≡ false → asked_in (said (notes.Sent serial generation from to bytes) ∷ past) x i ≡ asked_in past x i
+pub older_asked : (i serial generation from to : ℕ) (bytes : List ℕ) (past : List Moment) (x : ℕ) → nat_eq x serial ≡ false → asked_in (said (notes.Sent serial generation from to bytes) ∷ past) x i ≡ asked_in past x i
 older_asked i serial generation zero to bytes past x e = refl
 older_asked i serial generation (suc j) to bytes past x e = apart (nat_eq x serial) _ (asked_in past x i) e
 
@@ -152,7 +152,7 @@ still_list (said (notes.Sent s generation from to bytes)) past i x e = untrue (s
 still_list (asked line event) past i x e = refl
 still_list (said note) past i x e = refl
 
-still_asked : (m : Moment) (past : List Moment) (i x : ℕ) → is_leaving m ≡ false → asked_in (m ∷ past) x i ≡ asked_in past x i
+pub still_asked : (m : Moment) (past : List Moment) (i x : ℕ) → is_leaving m ≡ false → asked_in (m ∷ past) x i ≡ asked_in past x i
 still_asked (said (notes.Sent s generation from to bytes)) past i x e = untrue (sym e)
 still_asked (asked line event) past i x e = refl
 still_asked (said note) past i x e = refl
@@ -161,7 +161,7 @@ still_writes : (m : Moment) (past : List Moment) (i : ℕ) → is_leaving m ≡ 
 still_writes m past i e k x other sent is honest access spelled w =
     goes_on past (m ∷ past) i x access (still_list m past i x e) (still_asked m past i x e) (k x other (sym (ap (λ f. f x) (moment_sent m past e)) ∙ sent) is honest access spelled w)
 
-none_sent : {A : Type 0} (found : Sending) → None ≡ Some found → A
+pub none_sent : {A : Type 0} (found : Sending) → None ≡ Some found → A
 none_sent found e = absurd (differ e)
   where
     differ : None ≡ Some found → ⊥

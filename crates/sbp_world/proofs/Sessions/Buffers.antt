@@ -25,7 +25,7 @@ use Rattle.sbp_laws.specs.Hosts.{stored_in}
 use Rattle.sbp_world.specs.Sessions.Holding.{AreBuffers}
 use Rattle.sbp_world.proofs.Sessions.Places.{Stand}
 
-untrue : {A : Type 0} → false ≡ true → A
+pub untrue : {A : Type 0} → false ≡ true → A
 untrue e = absurd (let no : false ≡ true = e in cc)
 
 -- the buffers are those of a memory whose places stand

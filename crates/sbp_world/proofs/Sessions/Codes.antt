@@ -28,7 +28,7 @@ HasCode bytes = nat_eq (tcode_of bytes) 0 ≡ false
 
 -- ---- the tcode stands in the first quadlet
 
-first_code : (peer label tcode : ℕ) → tcode < 16 → (peer * 2 ^ 16 + label * 2 ^ 10 + 1 * 2 ^ 8 + tcode * 2 ^ 4 + 0) % 256 ^ 4 / 2 ^ 4 % 2 ^ 4 ≡ tcode
+pub first_code : (peer label tcode : ℕ) → tcode < 16 → (peer * 2 ^ 16 + label * 2 ^ 10 + 1 * 2 ^ 8 + tcode * 2 ^ 4 + 0) % 256 ^ 4 / 2 ^ 4 % 2 ^ 4 ≡ tcode
 first_code peer label tcode small = omega arith
 
 quad_code : (peer label tcode : ℕ) (bytes rest : List ℕ) → tcode < 16 → bytes ≡ big_bytes 4 (peer * 2 ^ 16 + label * 2 ^ 10 + 1 * 2 ^ 8 + tcode * 2 ^ 4 + 0) ++ rest → tcode_of bytes ≡ tcode

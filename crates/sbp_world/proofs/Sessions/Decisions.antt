@@ -43,7 +43,7 @@ untrue e = absurd (no e)
 
 -- ---- what was done stays so while the logins of its node stand
 
-of_id : (id node : ℕ) (login : Login) → is_live_of id node login ≡ true → login.login ≡ id
+pub of_id : (id node : ℕ) (login : Login) → is_live_of id node login ≡ true → login.login ≡ id
 of_id id node login p = grind (arith, nat_tests)
 
 of_node : (id node : ℕ) (login : Login) → is_live_of id node login ≡ true → login.node ≡ node
@@ -114,7 +114,7 @@ none_some login e = absurd (differ e)
     differ : None ≡ Some login → ⊥
     differ e = cc
 
-take_none : (n : ℕ) → length (take {A = ℕ} n []) ≡ 0
+pub take_none : (n : ℕ) → length (take {A = ℕ} n []) ≡ 0
 take_none zero = refl
 take_none (suc n) = refl
 

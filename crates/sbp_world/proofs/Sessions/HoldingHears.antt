@@ -85,7 +85,7 @@ same_login underway place e =
     place_or None = None
     place_or (Some work) = work.place
 
-placed_same : (place : ℕ) (managed : Option ℕ) → Some place ≡ placed managed → place ≡ place_of (unwrap_or managed 0)
+pub placed_same : (place : ℕ) (managed : Option ℕ) → Some place ≡ placed managed → place ≡ place_of (unwrap_or managed 0)
 placed_same place (Some n) g = cc
 placed_same place None g = absurd (let no : Some place ≡ None = g in cc)
 

@@ -68,7 +68,7 @@ no : false ≡ true → ⊥
 no e = cc
 
 -- ---- a new world: each node is in generation 0
-first_generation : (m k : ℕ) (t : Topology) → t.generation ≡ 0 → (slice_index_or (replicate m t) k no_topology).generation ≡ 0
+pub first_generation : (m k : ℕ) (t : Topology) → t.generation ≡ 0 → (slice_index_or (replicate m t) k no_topology).generation ≡ 0
 first_generation m k t e = by (nat_lt k m) refl
   where
     by : (b : Bool) → nat_lt k m ≡ b → (slice_index_or (replicate m t) k no_topology).generation ≡ 0

@@ -27,20 +27,20 @@ use Rattle.sbp_target.specs.Receiving.{answer_in}
 abbrev HasNumber : ℕ → LabelParts × Option Purpose → Type 0
 HasNumber n closed = closed.0.number ≡ n
 
-closed_if : (b : Bool) (table : Table) (n serial : ℕ) (other : Table) → IfSome (cond {A = Option LabelParts × Table} b (Some (handle table n serial), other) (None, table)).0 (λ label. label.number ≡ n)
+pub closed_if : (b : Bool) (table : Table) (n serial : ℕ) (other : Table) → IfSome (cond {A = Option LabelParts × Table} b (Some (handle table n serial), other) (None, table)).0 (λ label. label.number ≡ n)
 closed_if true table n serial other = refl
 closed_if false table n serial other = tt
 
-closes_number : (state : LabelState) (kind : ReplyKind) (table : Table) (n : ℕ) → IfSome (close_in state kind table n).0 (λ label. label.number ≡ n)
+pub closes_number : (state : LabelState) (kind : ReplyKind) (table : Table) (n : ℕ) → IfSome (close_in state kind table n).0 (λ label. label.number ≡ n)
 closes_number (states.UnderWay own serial) kind table n = closed_if _ table n serial _
 closes_number states.Free kind table n = tt
 closes_number states.Resting kind table n = tt
 
-place_number : (place : PeerPlace Purpose) (n : ℕ) (r : Option LabelParts × Table) → IfSome r.0 (λ label. label.number ≡ n) → IfSome (closed_for place r).0 (HasNumber n)
+pub place_number : (place : PeerPlace Purpose) (n : ℕ) (r : Option LabelParts × Table) → IfSome r.0 (λ label. label.number ≡ n) → IfSome (closed_for place r).0 (HasNumber n)
 place_number place n (Some label, table) h = h
 place_number place n (None, table) h = tt
 
-at_number : (k : ℕ) (layer : Layer Purpose) (n : ℕ) (r : Option (LabelParts × Option Purpose) × PeerPlace Purpose) → IfSome r.0 (HasNumber n) → IfSome (closed_at k layer r).0 (HasNumber n)
+pub at_number : (k : ℕ) (layer : Layer Purpose) (n : ℕ) (r : Option (LabelParts × Option Purpose) × PeerPlace Purpose) → IfSome r.0 (HasNumber n) → IfSome (closed_at k layer r).0 (HasNumber n)
 at_number k layer n (Some closed, place) h = h
 at_number k layer n (None, place) h = tt
 
@@ -58,15 +58,15 @@ abbrev Numbered : Finding Purpose → Type 0
 Numbered (of_response p label purpose) = label.number ≡ (header_in p).label
 Numbered finding = Unit {0}
 
-responded_number : (p : Packet) (r : Option (LabelParts × Option Purpose) × Layer Purpose) → IfSome r.0 (HasNumber (header_in p).label) → Numbered (responded p r).0
+pub responded_number : (p : Packet) (r : Option (LabelParts × Option Purpose) × Layer Purpose) → IfSome r.0 (HasNumber (header_in p).label) → Numbered (responded p r).0
 responded_number p (Some (label, purpose), layer) h = h
 responded_number p (None, layer) h = tt
 
-by_kind : (kind : Option ReplyKind) (layer : Layer Purpose) (p : Packet) → Numbered (responded p (closed_by kind layer p)).0
+pub by_kind : (kind : Option ReplyKind) (layer : Layer Purpose) (p : Packet) → Numbered (responded p (closed_by kind layer p)).0
 by_kind None layer p = tt
 by_kind (Some kind) layer p = responded_number p (closing_step layer (header_in p).source (header_in p).label kind) (step_number layer (header_in p).source (header_in p).label kind)
 
-judged_number : (row : Row) (layer : Layer Purpose) (bytes : List ℕ) (read : Result Packet PacketFault) → Numbered (judged_by row layer bytes read).0
+pub judged_number : (row : Row) (layer : Layer Purpose) (bytes : List ℕ) (read : Result Packet PacketFault) → Numbered (judged_by row layer bytes read).0
 judged_number by_generation layer bytes read = tt
 judged_number by_grammar layer bytes read = tt
 judged_number by_label layer bytes read = tt
@@ -151,7 +151,7 @@ answers_by t q number kind part e f m =
     (sym (ap (λ x. may_get (row_of (facts x))) is) ∙ m) in
     ((let z = g.0 in grind (arith, nat_tests)), waits_by (t.held (between q q.to q.from number)) kind g.1)
 
-label_in : (p : Packet) (l : ℕ) (k : Kind) → part_in p ≡ response l k → l ≡ (header_in p).label
+pub label_in : (p : Packet) (l : ℕ) (k : Kind) → part_in p ≡ response l k → l ≡ (header_in p).label
 label_in (write_quadlet header offset value) l k e = absurd (let no : request header.label writing ≡ response l k = e in cc)
 label_in (write_block header offset payload) l k e = absurd (let no : request header.label writing ≡ response l k = e in cc)
 label_in (write_response header rcode) l k e = cc

@@ -137,7 +137,7 @@ started_manages (Ok ask, m) o = refl
 started_manages (Err busy, m) o = refl
 
 -- and asks for the ORB
-started_asks : (m : management.Machine) (source orb : ℕ) (o : Office) → m.operation ≡ None → orb < 2 ^ 48 → FitsAsk (started_by (management.start_with m.operation m source orb) o).asks
+pub started_asks : (m : management.Machine) (source orb : ℕ) (o : Office) → m.operation ≡ None → orb < 2 ^ 48 → FitsAsk (started_by (management.start_with m.operation m source orb) o).asks
 started_asks m source orb o e small = subst (λ x. FitsAsk (started_by (management.start_with x m source orb) o).asks) (sym e) small
 
 start_asks : (o : Office) (source orb : ℕ) → o.manager.operation ≡ None → orb < 2 ^ 48 → FitsAsk (started source orb o).asks
@@ -153,7 +153,7 @@ answer_is_one : (p : Packet) (bytes : List ℕ) (s : Scene) → s.outbox.packets
 unfolding answer_step answering_step
 answer_is_one p bytes s e = ap (λ ps. ps ++ record { to = (header_in p).source; label = None; bytes = canon (response_to s.node.layer.node p 0 []) } ∷ []) e
 
-response_part : (node : ℕ) (p : Packet) (bytes : List ℕ) (label : ℕ) (kind : Kind) → reading bytes ≡ Ok p → AreBytes bytes → node < 2 ^ 16 → reply_kind p ≡ None → part_in p ≡ request label kind → ((rcode : ℕ) (given : List ℕ) → Gives p rcode given) → part_of (canon (response_to node p 0 [])) ≡ response (header_in p).label kind
+pub response_part : (node : ℕ) (p : Packet) (bytes : List ℕ) (label : ℕ) (kind : Kind) → reading bytes ≡ Ok p → AreBytes bytes → node < 2 ^ 16 → reply_kind p ≡ None → part_in p ≡ request label kind → ((rcode : ℕ) (given : List ℕ) → Gives p rcode given) → part_of (canon (response_to node p 0 [])) ≡ response (header_in p).label kind
 response_part node p bytes label kind read small n none part gives =
     let v = answer_fits node p bytes 0 [] n (source_fits bytes p read small) (record { spelled = spelled bytes p read; asks = ap (λ (x : Option ReplyKind). not (is_some x)) none }) (record { small = omega arith; bytes = λ k. omega arith; gives = gives 0 [] }) in
     part_read (canon (response_to node p 0 [])) (response_to node p 0 []) (reading_spelled (canon (response_to node p 0 [])) (response_to node p 0 []) (canon_spells (response_to node p 0 []) v))
