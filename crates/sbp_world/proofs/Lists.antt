@@ -57,6 +57,17 @@ pub mod GrantedRuns
 pub mod Heard
 pub mod Histories
 pub mod HostLogins
+pub mod IdsBack
+pub mod IdsBegun
+pub mod IdsHosts
+pub mod IdsLogins
+pub mod IdsNoted
+pub mod IdsOwned
+pub mod IdsPlaces
+pub mod IdsReturns
+pub mod IdsRise
+pub mod IdsRuns
+pub mod IdsTurns
 pub mod InBufferTurns
 pub mod JoinLaws
 pub mod JoinRuns

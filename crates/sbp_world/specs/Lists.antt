@@ -9,6 +9,7 @@ pub mod Contents
 pub mod CutLists
 pub mod EndedLists
 pub mod Execution
+pub mod FewLogins
 pub mod FifoWrites
 pub mod Firsts
 pub mod InPlace
@@ -29,6 +30,7 @@ pub mod Opened
 pub mod Opens
 pub mod Orders
 pub mod OwnLogins
+pub mod Owners
 pub mod PlaceReads
 pub mod Places
 pub mod Placings

@@ -108,8 +108,13 @@ module _ (Good : LoginResponse → Type 0) where
   done_at operations.Login words.Done j i past g e = g e
   done_at operation word j i past g e = tt
 
-  note_small : (note : Note) (past : List Moment) (wire : Terms) (i : ℕ) → Good (ready_host i).login → GrantsAt Good i (said note) past → Small (host_at past i) → Small (host_by note past wire i (host_at past i))
-  note_small (notes.Begin initiators ready) past wire i l g h = small_if (ready && nat_lt i initiators) (ready_host i) (host_at past i) l h
+  -- of a start where the initiators are ready
+  abbrev pub ReadyAt : ℕ → Moment → List Moment → Type 0
+  ReadyAt i (said (notes.Begin initiators ready)) past = (ready && nat_lt i initiators) ≡ true → Good (ready_host i).login
+  ReadyAt i moment past = Unit {0}
+
+  note_small : (note : Note) (past : List Moment) (wire : Terms) (i : ℕ) → ReadyAt i (said note) past → GrantsAt Good i (said note) past → Small (host_at past i) → Small (host_by note past wire i (host_at past i))
+  note_small (notes.Begin initiators ready) past wire i l g h = small_when (ready && nat_lt i initiators) (ready_host i) (host_at past i) l h
   note_small (notes.Sent serial generation from to bytes) past wire i l g h =
       small_if (nat_eq from (suc i) && not (wire.injected serial)) (sent_as (part_of bytes) (event_of past) i (present_list past i) serial (host_at past i)) (host_at past i) (as_small (host_at past i) h (part_of bytes) (event_of past) i (present_list past i) serial) h
   note_small (notes.Got serial) past wire i l g h =
@@ -124,7 +129,16 @@ module _ (Good : LoginResponse → Type 0) where
       small_if (nat_eq node (suc i)) (reset_seen (not (nat_eq generation (wire.generation node))) (host_at past i)) (host_at past i) (reset_small (host_at past i) h (not (nat_eq generation (wire.generation node)))) h
   note_small note past wire i l g h = h
 
+  pub login_begun : (past : List Moment) (i : ℕ) → EachMoment (ReadyAt i) past → Good new_host.login → EachMoment (GrantsAt Good i) past → Small (host_at past i)
+  login_begun [] i r n g = n
+  login_begun (asked line event ∷ past) i r n g = login_begun past i r.1 n g.1
+  login_begun (said note ∷ past) i r n g = note_small note past (known_host past i).wire i r.0 g.0 (login_begun past i r.1 n g.1)
+
+  each_ready : (past : List Moment) (i : ℕ) → Good (ready_host i).login → EachMoment (ReadyAt i) past
+  each_ready [] i r = tt
+  each_ready (asked line event ∷ past) i r = (tt, each_ready past i r)
+  each_ready (said (notes.Begin initiators ready) ∷ past) i r = ((λ e. r), each_ready past i r)
+  each_ready (said note ∷ past) i r = (tt, each_ready past i r)
+
   pub login_good : (past : List Moment) (i : ℕ) → Good (ready_host i).login → Good new_host.login → EachMoment (GrantsAt Good i) past → Small (host_at past i)
-  login_good [] i r n g = n
-  login_good (asked line event ∷ past) i r n g = login_good past i r n g.1
-  login_good (said note ∷ past) i r n g = note_small note past (known_host past i).wire i r g.0 (login_good past i r n g.1)
+  login_good past i r n g = login_begun past i (each_ready past i r) n g

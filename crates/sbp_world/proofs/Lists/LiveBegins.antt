@@ -92,7 +92,7 @@ module _ (n : ℕ) (few : n ≤ 4) (units : ℕ) (small : units ≤ 4) (line : �
       let b = first_generation (n + 1) 0 (first_topology (n + 1)) refl in
       omega (arith, a, b)
 
-  id_is : (is_ready : Bool) (i : ℕ) → i < n → id_in (world is_ready) i ≡ 0xffc1 + i
+  pub id_is : (is_ready : Bool) (i : ℕ) → i < n → id_in (world is_ready) i ≡ 0xffc1 + i
   id_is is_ready i l =
       ap (λ (t : Topology). id_of t (suc i)) (first_seen is_ready) ∙ sym (first_id (n + 1) (suc i) (omega arith) (omega arith)) ∙ (let e : 65472 + suc i ≡ 0xffc1 + i = omega arith in e)
 
@@ -111,7 +111,7 @@ module _ (n : ℕ) (few : n ≤ 4) (units : ℕ) (small : units ≤ 4) (line : �
           omega (arith, u, v);
     }
 
-    ready_has : HasLogin places (0xffc1 + i) (i + 1)
+    pub ready_has : HasLogin places (0xffc1 + i) (i + 1)
     ready_has = record { place = i; login = first_login i; there = row_at n 0 (8 - n) i l ∙ ap (λ x. Some (first_login x)) (let e : 0 + i ≡ i = omega arith in e); live = refl; of_node = node_of i; own = refl }
 
     ready_claims : ClaimsOf start past (world true) i

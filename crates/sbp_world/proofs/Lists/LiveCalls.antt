@@ -1,11 +1,11 @@
 -- What each call of a target leaves of the operation of its management and of its logins: a delivery starts an operation by a request, takes it on by a reply, or
 -- leaves it; any other call ends it or leaves it. Behind the sight of a later generation no login is live.
-use Rattle.std.proofs.Common.{◌≡◌, ◌∙◌, refl, sym, ap, subst, ℕ, Bool, true, false, List, length, Option, Some, None, Result, Ok, Err}
+use Rattle.std.proofs.Common.{◌≡◌, ◌∙◌, refl, sym, ap, subst, ℕ, Bool, true, false, List, length, map, Option, Some, None, Result, Ok, Err}
 use Rattle.async_packet.specs.Labels.{LabelParts}
 use Rattle.async_packet.specs.Packet.{Packet, header_in}
 use Rattle.label_table.specs.declared.reply.Stale.{Stale}
 use Rattle.label_table.specs.Layer.{Finding, Layer, expiring_step, judging_step, of_again, of_generation, of_grammar, of_label, of_request, of_response, seeing_step}
-use Rattle.login_table.specs.Table.{Table}
+use Rattle.login_table.specs.Table.{Table, held}
 use Rattle.mgmt_agent.specs.declared.operation.Operation.{Operation}
 use Rattle.mgmt_agent.specs.declared.operation.Phase.{Phase}
 use Rattle.mgmt_agent.specs.declared.operation.Phase.TheVariants as phases
@@ -39,6 +39,7 @@ use Rattle.sbp_world.proofs.Sessions.Standing.{stands as logins_stand}
 use Rattle.sbp_world.proofs.Sessions.Tables.{delivery_tabled, lapse_tabled, lapsed_table, tabled}
 use Rattle.sbp_world.proofs.Sessions.Writing.{behind}
 use Rattle.sbp_world.proofs.Lists.LiveReplies.{Logged, Replied, reply_left}
+use Rattle.sbp_world.proofs.Lists.IdsRise.{IsStill, all_stay, held_stay, same_stay, ticked_stay}
 use Rattle.sbp_world.proofs.Lists.OwnTables.{Owns, held_owns, ticked_owns}
 
 -- an operation is under way behind a delivery
@@ -57,6 +58,7 @@ pub record StandsStill (node now : NodeState) : Type 0 where
   pub operation : (op : Operation) → now.manager.operation ≡ Some op → now.manager ≡ node.manager
   pub logins : (id : ℕ) → AreSame id node.logins.places now.logins.places
   pub owns : Owns node.logins.places → Owns now.logins.places
+  pub table : IsStill node.logins now.logins
 
 -- ---- a time-out leaves the logins
 module _ (m : Machine) (t : Table) (keys : List (List ℕ)) where
@@ -180,21 +182,26 @@ module _ (node : NodeState) (g : Good node) (keeps : CallsKeep node (record { ta
         operation = λ op is. lapse_on r x.node op (behind node g keeps x.outbox.sides (lapsed r o) x.node (keeps.expiries peer label) op is) is;
         logins = all_same x.node.logins (lapse_tabled node g peer label ∙ lapse_table r);
         owns = λ h. subst (λ (t : Table). Owns t.places) (sym (lapse_tabled node g peer label ∙ lapse_table r)) h;
+        table = same_stay node.logins x.node.logins (lapse_tabled node g peer label ∙ lapse_table r);
       }
 
   second_owns : Owns node.logins.places → Owns (alone ticks node).node.logins.places
   unfolding target_ticked
   second_owns h = ticked_owns node.logins.places h
 
+  second_table : IsStill node.logins (alone ticks node).node.logins
+  unfolding target_ticked
+  second_table = ticked_stay node.logins
+
   pub second_still : StandsStill node (alone ticks node).node
   second_still =
       let x = alone ticks node in
-      record { operation = λ op is. behind node g keeps x.outbox.sides (ticked o) x.node keeps.seconds op is; logins = logins.seconds; owns = second_owns }
+      record { operation = λ op is. behind node g keeps x.outbox.sides (ticked o) x.node keeps.seconds op is; logins = logins.seconds; owns = second_owns; table = second_table }
 
   pub key_still : (unit : ℕ) (key : List ℕ) → StandsStill node (alone (sets_key unit key) node).node
   key_still unit key =
       let x = alone (sets_key unit key) node in
-      record { operation = λ op is. behind node g keeps x.outbox.sides (with_key unit key o) x.node (keeps.keys unit key) op is; logins = λ id. logins.keys id unit key; owns = λ h. h }
+      record { operation = λ op is. behind node g keeps x.outbox.sides (with_key unit key o) x.node (keeps.keys unit key) op is; logins = λ id. logins.keys id unit key; owns = λ h. h; table = all_stay node.logins }
 
   sight_on : (generation own : ℕ) (b : Bool) → (seeing_step node.layer generation own).0 ≡ b → b ≡ false → (now : NodeState) (op : Operation) → now.manager ≡ (seen b o).manager → now.manager.operation ≡ Some op → now.manager ≡ node.manager
   sight_on generation own true f n now op e is = absurd (let no : true ≡ false = n in cc)
@@ -210,6 +217,16 @@ module _ (node : NodeState) (g : Good node) (keeps : CallsKeep node (record { ta
   unfolding target_seen
   sight_owns generation own h = sight_owns_by (seeing_step node.layer generation own) h
 
+  sight_table_by : (r : Bool × Layer Purpose) → IsStill node.logins (reset_by r (scene node empty_outbox)).1.node.logins
+  sight_table_by (false, layer) = all_stay node.logins
+  sight_table_by (true, layer) =
+      let begun = scene (cleared_node layer node) empty_outbox in
+      subst (λ (t : Table). IsStill t (record (cut_all cuts.Reset None begun).node.logins { places = map held (cut_all cuts.Reset None begun).node.logins.places })) (all_cut cuts.Reset None begun g.mid.size).logins (held_stay (cut_all cuts.Reset None begun).node.logins)
+
+  pub sight_table : (generation own : ℕ) → IsStill node.logins (alone (sees generation own) node).node.logins
+  unfolding target_seen
+  sight_table generation own = sight_table_by (seeing_step node.layer generation own)
+
   pub sight_still : (generation own : ℕ) → (seeing_step node.layer generation own).0 ≡ false → StandsStill node (alone (sees generation own) node).node
   sight_still generation own old =
       let x = alone (sees generation own) node in
@@ -218,6 +235,7 @@ module _ (node : NodeState) (g : Good node) (keeps : CallsKeep node (record { ta
         operation = λ op is. sight_on generation own b refl old x.node op (behind node g keeps x.outbox.sides (seen b o) x.node (keeps.sights generation own) op is) is;
         logins = λ id. logins.old_sights id generation own old;
         owns = sight_owns generation own;
+        table = sight_table generation own;
       }
 
   cleared_on : (b : Bool) → b ≡ true → (now : NodeState) (op : Operation) → now.manager ≡ (seen b o).manager → now.manager.operation ≡ Some op → ⊥

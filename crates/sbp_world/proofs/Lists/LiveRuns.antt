@@ -99,7 +99,7 @@ module _ (base fresh : List Note) where
 
 unnoted : (i : ℕ) (w : WorldState) (base : List Note) (v : WorldState) → TurnOf i (without_notes w) base v → TurnOf i w base v
 unnoted i w base v (by_target b e c) = by_target (record { zero = b.zero; id = b.id; own = b.own }) e (unnoted_target base v.fresh w v.target c)
-unnoted i w base v (by_clearing c e t) = by_clearing (record { later = c.later; own = c.own; none = c.none; held = c.held; owns = c.owns }) e t
+unnoted i w base v (by_clearing c e t) = by_clearing (record { later = c.later; own = c.own; none = c.none; held = c.held; owns = c.owns; table = c.table }) e t
 unnoted i w base v (by_own b e c t) = by_own (record { zero = b.zero; id = b.id; own = b.own }) e (unnoted_own base v.fresh w i (initiator_at v i) c) t
 unnoted i w base v (by_sight c e t) = by_sight (record { zero = c.zero; id = c.id; later = c.later; reset = c.reset }) e t
 

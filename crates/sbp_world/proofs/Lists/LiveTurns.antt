@@ -55,7 +55,8 @@ use Rattle.sbp_world.proofs.Sessions.Standing.{stands as logins_stand}
 use Rattle.sbp_world.proofs.Sessions.Turns.{next, not_later, other_same, own_latest, same_ids}
 use Rattle.sbp_world.proofs.Lists.LiveActs.{IsReset}
 use Rattle.sbp_world.proofs.Lists.LiveTold.{AwayFrom, HeardFirst, TargetTold, TellsAway, handed_told, none_told, one_told, told_first}
-use Rattle.sbp_world.proofs.Lists.LiveCalls.{StandsStill, key_still, lapse_still, second_still, sight_clears, sight_owns, sight_still}
+use Rattle.sbp_world.proofs.Lists.LiveCalls.{StandsStill, key_still, lapse_still, second_still, sight_clears, sight_owns, sight_still, sight_table}
+use Rattle.sbp_world.proofs.Lists.IdsRise.{IsStill}
 use Rattle.sbp_world.proofs.Lists.OwnTables.{Owns}
 
 no : false ≡ true → ⊥
@@ -87,6 +88,7 @@ pub record IsCleared (i : ℕ) (w v : WorldState) : Type 0 where
   pub none : (op : Operation) → v.target.manager.operation ≡ Some op → ⊥
   pub held : (place : ℕ) (login : Login) → login_at v.target place ≡ Some login → is_live login ≡ false
   pub owns : Owns w.target.logins.places → Owns v.target.logins.places
+  pub table : IsStill w.target.logins v.target.logins
 
 -- the initiator does
 pub record IsSighted (i : ℕ) (w v : WorldState) : Type 0 where
@@ -244,6 +246,7 @@ module _ (units ready : ℕ) (has : 0 < units) (start : List Disk) {past : List 
           none = λ op is. sight_clears w.target good keeps G.latest.generation own_id flag op (ap (λ (n : NodeState). n.manager.operation) (sym a.target) ∙ is);
           held = λ place login is. (logins_stand w.target good).new_sights G.latest.generation own_id place login flag (ap (λ (n : NodeState). login_at n place) (sym a.target) ∙ is);
           owns = λ own. subst (λ (n : NodeState). Owns n.logins.places) (sym a.target) (sight_owns w.target good keeps G.latest.generation own_id own);
+          table = subst (λ (n : NodeState). IsStill w.target.logins n.logins) (sym a.target) (sight_table w.target good keeps G.latest.generation own_id);
         }) initiator_same
         (handed_told (notes.Seen 0 G.latest.generation ∷ []) w.fresh 0 sight.outbox (with_target sight.node (with_seen 0 (told_seen 0 w))) (sight_tells G.latest.generation own_id w.target) refl refl)
     sighted false e =

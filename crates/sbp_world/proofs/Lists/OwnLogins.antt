@@ -232,7 +232,7 @@ from_owns i zero k place = none_owns k place
 from_owns i (suc n) k zero = record { number = 0; few = omega arith; is = refl }
 from_owns i (suc n) k (suc place) = from_owns (i + 1) n k place
 
-table_owns : (ready : Bool) (n : ℕ) → Owns (first_table ready n).places
+pub table_owns : (ready : Bool) (n : ℕ) → Owns (first_table ready n).places
 table_owns false n place = none_owns 8 place
 table_owns true n place = from_owns 0 n (8 - n) place
 

@@ -106,6 +106,14 @@ abbrev pub AreOwnOps : List Disk → List Moment → ℕ → Type 0
 AreOwnOps start past i = (op : Operation) → (target_at start past).manager.operation ≡ Some op → op.source ≡ id_for (terms past) 0 (suc i) → IsOwnOp start past i op
 
 -- ---- what is brought for it
+-- an ORB that stood in the place
+pub record StoodThere (past : List Moment) (i place : ℕ) (bytes : List ℕ) : Type 0 where
+  pub later : List Moment
+  pub earlier : List Moment
+  pub is : later ++ earlier ≡ past
+  pub bytes_are : bytes ≡ place_bytes (place_held earlier i place)
+  pub some : place_held earlier i place ≡ None → ⊥
+
 pub short_from : (later earlier : List Moment) → AreShort (later ++ earlier) → AreShort earlier
 short_from [] earlier s = s
 short_from (said note ∷ later) earlier s = short_from later earlier s
@@ -157,6 +165,35 @@ module _ (units ready : ℕ) (more_units : 0 < units) (start : List Disk) {past 
         let below = b.below in
         let good_there : IfGood (place_held b.before i own.place) = held_good i own.place own.small few_nodes b.before (short_from front b.before (subst AreShort (sym at) shorts)) (each_from (FewAt i) front b.before (subst (EachMoment (FewAt i)) (sym at) few)) in
         good_bytes own.place (place_held b.before i own.place) bytes good_there (own.held front b.before at (omega (arith, behind, below))) b.held
+
+    -- they are those of the ORB that stood in the place then
+    pub brings_held : old.phase ≡ phases.Orb → (bytes : List ℕ) → answer_in p ≡ Payload bytes → StoodThere before i own.place bytes
+    brings_held phase bytes answer =
+        let answered = is_answered units ready more_units start w h serial sent found zero_to p label e old there i of_it none calm bytes answer in
+        let was : WasAsked start before read old = are.each read old (((bound start before counts).own read manages_it).0 ∙ (operation_is units ready more_units start w h i inside ∙ there)) in
+        let reads : was.access ≡ read_access old.orb 32 = in_phase old.phase phases.Orb old was.access phase was.content in
+        let is = access_there start before counts read old was in
+        let b = places serial read own.place was.access bytes own.small
+        (record {
+          read = ap (λ (a : Access). a.is_write) reads;
+          block = ap (λ (a : Access). a.is_block) reads;
+          from = ap (λ (a : Access). a.offset) reads ∙ own.orb;
+          size = ap (λ (a : Access). a.count) reads;
+        })
+        (record {
+          own = answered.own;
+          answers = answered.answers;
+          of_initiator = answered.of_initiator;
+          asks = is;
+          reads = ap (λ (a : Access). a.is_write) reads;
+          block = ap (λ (a : Access). a.is_block) reads;
+          tells = answered.tells;
+        }) in
+        let front = b.later ++ said (notes.Got read) ∷ [] in
+        let at : front ++ b.before ≡ before = append_assoc b.later (said (notes.Got read) ∷ []) b.before ∙ b.is in
+        let behind = own.later read manages_it in
+        let below = b.below in
+        record { later = front; earlier = b.before; is = at; bytes_are = b.held; some = own.held front b.before at (omega (arith, behind, below)) }
 
 -- ---- a turn
 module _ (units ready : ℕ) (more_units : 0 < units) (start : List Disk) (past : List Moment) (s : Scene) (later : List Moment) (t : Scene) {lines more : ℕ} (g : Goes past s later t) (h : Holding units ready start past lines s.world) (h_now : Holding units ready start later more t.world) (i : ℕ) (inside : i < length s.world.initiators) (within : i < length t.world.initiators) (few : i < 8) (calm : IsCalm (hist past s.world) i) (none : NoneInjected (hist past s.world) i) (known : Written (hist past s.world) i) (counts : SerialsCount (hist past s.world)) (counts_now : SerialsCount (hist later t.world)) (are : AreAsked start (hist past s.world)) (places : BringPlaces (hist past s.world) i) (shorts : AreShort (hist past s.world)) (logins : EachMoment (FewAt i) (hist past s.world)) (own : AreOwnOps start (hist past s.world) i) where

@@ -77,11 +77,11 @@ abbrev pub IfGood : Option ManagementOrb → Type 0
 IfGood None = Unit {0}
 IfGood (Some one) = IsGoodOrb (management_orb (management_bytes one))
 
-and_first : (a b : Bool) → (a && b) ≡ true → a ≡ true
+pub and_first : (a b : Bool) → (a && b) ≡ true → a ≡ true
 and_first true b e = refl
 and_first false b e = e
 
-own_manages : (i j : ℕ) (operation : Option Operation) → is_own i j operation ≡ true → (j ≡ i) × (manages operation ≡ true)
+pub own_manages : (i j : ℕ) (operation : Option Operation) → is_own i j operation ≡ true → (j ≡ i) × (manages operation ≡ true)
 own_manages i j (Some operation) e = (let x = and_first (i == j) _ e in (grind (arith, nat_tests)), second (i == j) _ e)
   where
     second : (a b : Bool) → (a && b) ≡ true → b ≡ true
