@@ -10,8 +10,8 @@ use Rattle.sbp_laws.specs.Lawful.{injectors}
 use Rattle.sbp_laws.specs.OnLists.{LawfulOnLists}
 use Rattle.sbp_laws.specs.OnTheBus.{LawfulOnTheBus}
 use Rattle.sbp_laws.proofs.InTime.{in_time_law}
-use Rattle.sbp_world.proofs.Lists.Clauses.{lists_law}
-use Rattle.sbp_world.specs.Lists.OwnLogins.{IsTame}
+use Rattle.sbp_world.proofs.Lists.Clauses.{lists_beside_law}
+use Rattle.sbp_world.specs.Lists.FewLogins.{IsTameOrFew}
 use Rattle.sbp_world.specs.Wire.History.{IsOfWire}
 use Rattle.sbp_world.specs.Wire.Journal.{journal_run}
 use Rattle.sbp_world.specs.Wire.Lines.{AreLines}
@@ -63,11 +63,11 @@ run_takes line run few count all lines =
     }
 
 pub run_on_lists : (line : ℕ) (run : Run) (start : Held) → run.start ≡ start → run.units ≡ length start.disks → 0 < run.units → run.units ≤ 4 → run.initiators ≤ 4 → length run.entries ≤ 65535 → AreEntries (beginning run) run.entries → AreLines run run.entries
-    → IsTame (history_of line run) → LawfulOnLists (injectors (history_of line run)) start.disks (history_of line run)
+    → IsTameOrFew (history_of line run) → LawfulOnLists (injectors (history_of line run)) start.disks (history_of line run)
 run_on_lists line run start same units some most few count all lines tame =
     let is : IsRun run = record { few = few; short = omega arith; entries = all; lines = lines } in
     subst (λ s. LawfulOnLists (injectors (history_of line run)) s (history_of line run)) (ap (λ (h : Held). h.disks) same)
-    (lists_law.lists line run is some most (ap (λ (h : Held). length h.disks) same ∙ sym units) tame)
+    (lists_beside_law.lists line run is some most (ap (λ (h : Held). length h.disks) same ∙ sym units) tame)
 
 -- ---- a run of the machine
 

@@ -3,6 +3,7 @@ pub mod Appends
 pub mod Awaited
 pub mod Bases
 pub mod Begun
+pub mod Beside
 pub mod Bringing
 pub mod Brought
 pub mod BufferClears
@@ -117,6 +118,7 @@ pub mod LiveMoves
 pub mod LiveOrbs
 pub mod LiveOurs
 pub mod LiveOwn
+pub mod LiveOwned
 pub mod LiveOwnTurns
 pub mod LivePends
 pub mod LivePlaced
@@ -252,6 +254,7 @@ pub mod OrbsShort
 pub mod OwnCounts
 pub mod OwnFifos
 pub mod OwnLogins
+pub mod OwnNodes
 pub mod OwnOps
 pub mod OwnPlaces
 pub mod OwnReplies

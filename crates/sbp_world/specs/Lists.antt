@@ -17,6 +17,7 @@ pub mod KeptOrbs
 pub mod LastReads
 pub mod Lasts
 pub mod Lists
+pub mod ListsBeside
 pub mod Live
 pub mod LoginAnswers
 pub mod OrbReads

@@ -33,6 +33,7 @@ ghost use Rattle.sbp_world.specs.Lists.FifoWrites.{FifoWritesLaw};
 ghost use Rattle.sbp_world.specs.Lists.Live.{LiveLaw};
 ghost use Rattle.sbp_world.specs.Lists.Managing.{ManagingLaw};
 ghost use Rattle.sbp_world.specs.Lists.Opened.{LogoutsLaw};
+ghost use Rattle.sbp_world.specs.Lists.ListsBeside.{ListsBesideLaw};
 ghost use Rattle.sbp_world.specs.Lists.TameLists.{ListsLaw};
 ghost use Rattle.sbp_world.specs.Lists.CarriedOrbs.{CarriedOrbsLaw};
 
@@ -229,7 +230,7 @@ pub fn ended_lists_were_open()
     ensures { EndedListsLaw }
 {}
 
-/// Where no initiator injected packets (`IsTame`): if at each place of a run, before which lists were open as they should be,
+/// Where no initiator injected packets, or few logins were given (`IsTameOrFew`): if at each place of a run, before which lists were open as they should be,
 /// what this place needs holds (`PlacesLaw`), they are so in every run (`OpenListsLaw`): that each write of ORB_POINTER that
 /// the target got was named for a list whose slot held its first ORB then, and that a list whose write waits has no end, is
 /// shown. And where they are so in every run, they were so before each place of it, as the laws of lists ask.
@@ -336,22 +337,23 @@ pub fn one_operation_is_in_hand()
     ensures { ManagingLaw }
 {}
 
-/// In every run in which no initiator injected packets, where lists were open as they should be before: while an initiator is in
-/// the target's generation its node has one live login at most, and none but that of its session; a live session has its login,
-/// and one that is out or held has none. Of a session that is stuck with no operation under way this is not said.
+/// In every run in which no initiator injected packets, or few logins were given (`IsTameOrFew`), where lists were open as they
+/// should be before: while an initiator that injected none is in the target's generation its node has one live login at most, and
+/// none but that of its session; a live session has its login, and one that is out or held has none. Of a session that is stuck with no operation under way this is not said.
 #[tactic(auto, using(crate::proofs::Lists::Clauses::sessions_law))]
 pub fn sessions_have_their_logins()
     ensures { LiveLaw }
 {}
 
-/// In every run in which no initiator injected packets, where lists were open as they should be before, no logout is refused.
+/// In every run in which no initiator injected packets, or few logins were given (`IsTameOrFew`), where lists were open as they
+/// should be before, no logout of an initiator that injected none is refused.
 #[tactic(auto, using(crate::proofs::Lists::Clauses::logouts_law))]
 pub fn logouts_are_not_refused()
     ensures { LogoutsLaw }
 {}
 
-/// In every run in which no initiator injected packets lists are open as they should be: after every line, and behind each
-/// delivery of a line that delivers one packet after the other. So what is said where they were so before holds of these runs.
+/// In every run in which no initiator injected packets, or few logins were given (`IsTameOrFew`), lists are open as they should
+/// be: after every line, and behind each delivery of a line that delivers one packet after the other. So what is said where they were so before holds of these runs.
 #[tactic(auto, using(crate::proofs::Lists::Clauses::open_lists_law))]
 pub fn lists_are_open_as_they_should_be()
     ensures { OpenListsLaw }
@@ -361,6 +363,13 @@ pub fn lists_are_open_as_they_should_be()
 #[tactic(auto, using(crate::proofs::Lists::Clauses::lists_law))]
 pub fn lists_are_lawful()
     ensures { ListsLaw }
+{}
+
+/// And so they hold, of the initiators that injected no packets, in every run in which others did, if few logins were given
+/// (`FewLogins`): fewer than there are login IDs, so that none was given twice. After its lines.
+#[tactic(auto, using(crate::proofs::Lists::Clauses::lists_beside_law))]
+pub fn lists_are_lawful_beside_others()
+    ensures { ListsBesideLaw }
 {}
 
 /// In every run in which no initiator injected packets a good status that is taken is of an ORB that ran, and its answer has as many

@@ -1,5 +1,5 @@
--- Where no initiator injected packets, and each status of a login that was told well has its response in the buffer, no FIFO of a login or of a management ORB is in a response
--- buffer; so what the target writes there are the responses of its operations.
+-- Where no initiator injected packets, or few logins were given, and each status of a login that was told well has its response in the buffer, no FIFO of a live login of an
+-- initiator that injected none, or of its management ORB, is in a response buffer; so what the target writes there are the responses of its operations.
 use Rattle.std.proofs.Common.{arith, ◌≡◌, ◌∙◌, refl, sym, ap, subst, ℕ, zero, suc, ◌+◌, ◌*◌, ◌^◌, ◌<◌, List, [], length, Some, None}
 use Rattle.bus_memory.specs.Windows.{window_at}
 use Rattle.bus_memory.specs.declared.window.Window.TheVariants as windows
@@ -11,16 +11,16 @@ use Rattle.sbp_bus.specs.Generations.{node_of, topology_at}
 use Rattle.sbp_journal.specs.Run.{Moment}
 use Rattle.sbp_laws.specs.Turns.{EachMoment}
 use Rattle.sbp_target.specs.Receiving.{answer_in}
-use Rattle.sbp_world.specs.Histories.{moments_behind}
+use Rattle.sbp_world.specs.Histories.{history_of, moments_behind}
 use Rattle.sbp_world.specs.Making.{new_world, ready_logins}
-use Rattle.sbp_world.specs.Runs.{Run, beginning}
+use Rattle.sbp_world.specs.Runs.{Run, after, beginning}
 use Rattle.sbp_world.specs.Worlds.{WorldState}
 use Rattle.sbp_world.proofs.Wire.Bus.{node_has}
 use Rattle.sbp_world.proofs.Agents.Management.Holding.{Holding}
 use Rattle.sbp_world.proofs.Agents.Management.Still.{hist}
 use Rattle.sbp_world.specs.Lists.Buffers.{AreBuffersClear, AreFifosClear, IsClearFifo}
 use Rattle.sbp_world.specs.Lists.Needs.{IsCalm}
-use Rattle.sbp_world.specs.Lists.OwnLogins.{AreOwn, GoodIn, IsItsFifo, IsTame, of_login, of_place}
+use Rattle.sbp_world.specs.Lists.OwnLogins.{GoodIn, IsItsFifo, IsTame, of_login, of_place}
 use Rattle.sbp_world.specs.Lists.Placings.{BasedAt}
 use Rattle.sbp_world.specs.Lists.Responding.{BufferSo}
 use Rattle.sbp_world.specs.Lists.Shorts.{AreShort}
@@ -32,10 +32,11 @@ use Rattle.sbp_world.proofs.Lists.LiveGiven.{ShortLaw}
 use Rattle.sbp_world.proofs.Lists.LiveJoined.{AreBuffersAt}
 use Rattle.sbp_world.proofs.Lists.LiveProved.{BuffersShort, buffers_by}
 use Rattle.sbp_world.proofs.Lists.LiveSteps.{id_in}
-use Rattle.sbp_world.proofs.Lists.OwnFifos.{fifo_no_window, tame_before}
-use Rattle.sbp_world.proofs.Lists.OwnLogins.{AreOwnOpsAt, OwnKnown, ops_everywhere, own_everywhere, own_known}
+use Rattle.sbp_world.proofs.Lists.Beside.{AreDone, done_based, done_before, done_calm}
+use Rattle.sbp_world.proofs.Lists.OwnFifos.{fifo_no_window}
+use Rattle.sbp_world.proofs.Lists.OwnNodes.{AreOwnNodes, nodes_everywhere}
+use Rattle.sbp_world.proofs.Lists.OwnLogins.{AreOwnOpsAt, OwnKnown, ops_everywhere, own_known}
 use Rattle.sbp_world.proofs.Lists.OwnOps.{IsOwnOp, brings_good, short_from}
-use Rattle.sbp_world.proofs.Lists.PlacedOps.{each_from}
 use Rattle.sbp_world.proofs.Lists.StatusOffice.{ArePlacedFor}
 
 -- ---- such a FIFO is in no response buffer
@@ -56,45 +57,61 @@ its_clear fifo (of_place at small is) place e = none_window place (sym (place_wi
 abbrev pub Tamely : ℕ → List Moment → Type 0
 Tamely n past = IsTame past × AreShort past × ((i : ℕ) → i < n → EachMoment (BasedAt i) past)
 
-closed : IsClosed Tamely
-closed n later past c = (tame_before later past c.0, short_from later past c.1, λ i l. each_from (BasedAt i) later past (c.2 i l))
+-- and for an initiator that injected no packets
+abbrev pub Known : List Disk → ℕ → ℕ → List Moment → Type 0
+Known start n i past = AreShort past × AreDone start n past i
+
+closed : (start : List Disk) → IsClosed (Known start)
+closed start n i later past c = (short_from later past c.0, done_before start n later past i c.1)
 
 -- ---- the operations of an initiator's node
 pub record Ground (start : List Disk) (past : List Moment) (w : WorldState) : Type 0 where
   pub known : OwnKnown start past w
   pub ops : AreOwnOpsAt start past w
 
-module _ (units ready : ℕ) (more_units : 0 < units) (start : List Disk) {past : List Moment} {lines : ℕ} (w : WorldState) (h : Holding units ready start past lines w) (g : Ground start (hist past w) w) (c : Tamely (length w.initiators) (hist past w)) (i : ℕ) (inside : i < length w.initiators) where
-  pub few : i + 1 < 2 ^ 16
-  few = let all = g.known.wrote.few in omega (arith, inside, all)
+module _ (units ready : ℕ) (more_units : 0 < units) (start : List Disk) {past : List Moment} {lines : ℕ} (w : WorldState) (h : Holding units ready start past lines w) (g : Ground start (hist past w) w) where
+  module _ (i : ℕ) (inside : i < length w.initiators) (calm : IsCalm (hist past w) i) (shorts : AreShort (hist past w)) (based : EachMoment (BasedAt i) (hist past w)) where
+    small : i + 1 < 2 ^ 16
+    small = let all = g.known.wrote.few in omega (arith, inside, all)
 
-  pub node_is : (op : Operation) → node_of w.generations 0 op.source ≡ Some (suc i) → op.source ≡ id_in w i
-  node_is op n = sym (node_has (topology_at w.generations 0) op.source (suc i) n).id_is
+    node_of_it : (op : Operation) → node_of w.generations 0 op.source ≡ Some (suc i) → op.source ≡ id_in w i
+    node_of_it op n = sym (node_has (topology_at w.generations 0) op.source (suc i) n).id_is
 
-  own_at : (op : Operation) → w.target.manager.operation ≡ Some op → op.source ≡ id_in w i → IsOwnOp start (hist past w) i op
-  own_at op is source =
-      g.ops i inside (c.0 i) c.1 (c.2 i inside) op (operation_is units ready more_units start w h i inside ∙ is)
-      (source ∙ sym (id_is units ready more_units start w h i inside))
+    own_at : (op : Operation) → w.target.manager.operation ≡ Some op → op.source ≡ id_in w i → IsOwnOp start (hist past w) i op
+    own_at op is source =
+        g.ops i inside calm shorts based op (operation_is units ready more_units start w h i inside ∙ is)
+        (source ∙ sym (id_is units ready more_units start w h i inside))
 
-  pub own_of : (op : Operation) → w.target.manager.operation ≡ Some op → node_of w.generations 0 op.source ≡ Some (suc i) → IsOwnOp start (hist past w) i op
-  own_of op is n = own_at op is (node_is op n)
+    its_own : (op : Operation) → w.target.manager.operation ≡ Some op → node_of w.generations 0 op.source ≡ Some (suc i) → IsOwnOp start (hist past w) i op
+    its_own op is n = own_at op is (node_of_it op n)
 
-  placed_for : ArePlacedFor w i
-  placed_for op is source = let o = own_at op is source in (o.place, (o.small, o.orb))
+    placed_for : ArePlacedFor w i
+    placed_for op is source = let o = own_at op is source in (o.place, (o.small, o.orb))
 
-  fifos_clear : AreFifosClear i w
-  fifos_clear = record {
-    kept = λ op fifo is n phase. its_clear fifo (subst (λ (x : Phase). GoodIn x) phase (own_of op is n).good);
-    low = λ op orb high is n phase. its_clear orb.fifo (subst (λ (x : Phase). GoodIn x) phase (own_of op is n).good).its;
-    read = λ sent is_for p label e op is n phase bytes pays.
-        its_clear (management_orb bytes).fifo
-        (brings_good units ready more_units start w h i inside few (c.0 i) (g.known.wrote.none i inside) g.known.counts g.known.are (g.known.places i inside) c.1 (g.known.logins i inside) is_for.serial sent is_for.found is_for.to p label e op is (node_is op n) (own_of op is n)
-        phase bytes (payload_is (answer_in p) 32 bytes pays)).its;
-  }
+    fifos_clear : AreFifosClear i w
+    fifos_clear = record {
+      kept = λ op fifo is n phase. its_clear fifo (subst (λ (x : Phase). GoodIn x) phase (its_own op is n).good);
+      low = λ op orb high is n phase. its_clear orb.fifo (subst (λ (x : Phase). GoodIn x) phase (its_own op is n).good).its;
+      read = λ sent is_for p label e op is n phase bytes pays.
+          its_clear (management_orb bytes).fifo
+          (brings_good units ready more_units start w h i inside small calm (g.known.wrote.none i inside) g.known.counts g.known.are (g.known.places i inside) shorts (g.known.logins i inside) is_for.serial sent is_for.found is_for.to p label e op is (node_of_it op n) (its_own op is n)
+          phase bytes (payload_is (answer_in p) 32 bytes pays)).its;
+    }
+
+  -- where no initiator injected packets
+  module _ (c : Tamely (length w.initiators) (hist past w)) (i : ℕ) (inside : i < length w.initiators) where
+    pub few : i + 1 < 2 ^ 16
+    few = small i inside (c.0 i) c.1 (c.2 i inside)
+
+    pub node_is : (op : Operation) → node_of w.generations 0 op.source ≡ Some (suc i) → op.source ≡ id_in w i
+    node_is = node_of_it i inside (c.0 i) c.1 (c.2 i inside)
+
+    pub own_of : (op : Operation) → w.target.manager.operation ≡ Some op → node_of w.generations 0 op.source ≡ Some (suc i) → IsOwnOp start (hist past w) i op
+    own_of = its_own i inside (c.0 i) c.1 (c.2 i inside)
 
 -- ---- over the runs
 abbrev pub FifosAt : List Moment → WorldState → Type 0
-FifosAt past w = Tamely (length w.initiators) past → (i : ℕ) → i < length w.initiators → AreFifosClear i w × ArePlacedFor w i
+FifosAt past w = (i : ℕ) → i < length w.initiators → IsCalm past i → AreShort past → EachMoment (BasedAt i) past → AreFifosClear i w × ArePlacedFor w i
 
 pub ground_everywhere : EveryPlace Ground
 ground_everywhere = record {
@@ -103,8 +120,8 @@ ground_everywhere = record {
 }
 
 all_fifos : (units ready : ℕ) → 0 < units → (start : List Disk) → Keeps units ready start (Ground start) FifosAt
-all_fifos units ready has start past s later t lines more g h h_now q q_now before c i inside =
-    (fifos_clear units ready has start t.world h_now q_now c i inside, placed_for units ready has start t.world h_now q_now c i inside)
+all_fifos units ready has start past s later t lines more g h h_now q q_now before i inside calm shorts based =
+    (fifos_clear units ready has start t.world h_now q_now i inside calm shorts based, placed_for units ready has start t.world h_now q_now i inside calm shorts based)
 
 pub no_operation : {A : Type 0} (op : Operation) → None ≡ Some op → A
 no_operation op e = absurd (differ e)
@@ -114,7 +131,7 @@ no_operation op e = absurd (differ e)
 
 first_fifos : (line : ℕ) (run : Run) → FifosAt (moments_behind line run []) (beginning run).world
 unfolding new_world
-first_fifos line run c i inside = (
+first_fifos line run i inside calm shorts based = (
   record {
     kept = λ op fifo is n phase. no_operation op is;
     low = λ op orb high is n phase. no_operation op is;
@@ -132,30 +149,28 @@ fifos_everywhere = record {
 }
 
 -- ---- and the logins
-some_there : (i n : ℕ) → i < n → 0 < n
-some_there i n l = omega (arith, l)
-
-clear_of : (past : List Moment) (w : WorldState) → FifosAt past w → (IsTame past → AreShort past → ((i : ℕ) → i < length w.initiators → EachMoment (BasedAt i) past) → 0 < length w.initiators → AreOwn w) → Tamely (length w.initiators) past → AreBuffersClear past w
-clear_of past w fifos own c = record {
-  logins = λ i inside calm place login e n. its_clear login.fifo (of_login (own c.0 c.1 c.2 (some_there i (length w.initiators) inside) place login e));
-  fifos = λ i inside calm. (fifos c i inside).0;
+clear_of : (start : List Disk) (past : List Moment) (w : WorldState) → FifosAt past w → AreOwnNodes start past w → (i : ℕ) → i < length w.initiators → Known start (length w.initiators) i past → AreBuffersClear i w
+clear_of start past w fifos own i inside c = record {
+  logins = λ place login e live n. its_clear login.fifo (of_login (own i inside c.0 c.1 place login e live (sym (node_has (topology_at w.generations 0) login.node (suc i) n).id_is)));
+  fifos = (fifos i inside (done_calm start (length w.initiators) past i c.1) c.0 (done_based start (length w.initiators) past i inside c.1)).0;
 }
 
-clear_everywhere : EveryPlace (λ start past w. Tamely (length w.initiators) past → AreBuffersClear past w)
+clear_everywhere : EveryPlace (λ start past w. (i : ℕ) → i < length w.initiators → Known start (length w.initiators) i past → AreBuffersClear i w)
 clear_everywhere = record {
-  after_lines = λ line run r has small size so_far. clear_of _ _ (fifos_everywhere.after_lines line run r has small size so_far) (own_everywhere.after_lines line run r has small size so_far);
-  between = λ line run r has small size next most told m so_far. clear_of _ _ (fifos_everywhere.between line run r has small size next most told m so_far) (own_everywhere.between line run r has small size next most told m so_far);
+  after_lines = λ line run r has small size so_far. clear_of run.start.disks _ _ (fifos_everywhere.after_lines line run r has small size so_far) (nodes_everywhere.after_lines line run r has small size so_far);
+  between = λ line run r has small size next most told m so_far. clear_of run.start.disks _ _ (fifos_everywhere.between line run r has small size next most told m so_far) (nodes_everywhere.between line run r has small size next most told m so_far);
 }
 
 -- ---- what the target writes into response buffers
 pub buffers_law : EveryPlace BuffersShort
 buffers_law = record {
-  after_lines = λ line run r has small size so_far tame shorts based i inside. all.after_lines line run r has small size so_far (tame, shorts, based) i inside (tame i);
-  between = λ line run r has small size next most told m so_far tame shorts based i inside. all.between line run r has small size next most told m so_far (tame, shorts, based) i inside (tame i);
+  after_lines = λ line run r has small size so_far shorts i inside done.
+      all.after_lines line run r has small size so_far i inside (done_calm run.start.disks (length (after (beginning run) run.entries).world.initiators) (history_of line run) i done) (shorts, done);
+  between = λ line run r has small size next most told m so_far shorts i inside done. all.between line run r has small size next most told m so_far i inside (done_calm run.start.disks _ _ i done) (shorts, done);
 }
   where
-    all : EveryPlace (λ start past w. Tamely (length w.initiators) past → (i : ℕ) → i < length w.initiators → IsCalm past i → EachMoment (BufferSo start i) past)
-    all = buffers_everywhere Tamely closed clear_everywhere
+    all : EveryPlace (λ start past w. (i : ℕ) → i < length w.initiators → IsCalm past i → Known start (length w.initiators) i past → EachMoment (BufferSo start i) past)
+    all = buffers_everywhere Known closed clear_everywhere
 
 -- as lines name units of 16 bits
 pub buffers_held : ShortLaw → EveryPlace AreBuffersAt

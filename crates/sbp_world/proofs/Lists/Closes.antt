@@ -13,7 +13,7 @@ use Rattle.sbp_world.proofs.Hosts.Lasting.{lasting_law}
 use Rattle.sbp_world.proofs.Hosts.Runs.{count_after, count_between}
 use Rattle.sbp_world.specs.Pointers.Pointers.{PointersLaw}
 use Rattle.sbp_world.specs.Lists.Begun.{BegunLaw}
-use Rattle.sbp_world.specs.Lists.Closes.{Always, AreBehind, AreFirsts, AreHere, AreUntaken, PlacesLaw, Under, WhereTame}
+use Rattle.sbp_world.specs.Lists.Closes.{Always, AreBehind, AreFirsts, AreHere, AreUntaken, PlacesLaw, Under, WhereTameOrFew}
 use Rattle.sbp_world.proofs.Lists.Firsts.{first_law}
 use Rattle.sbp_world.specs.Lists.Lasts.{IsLast}
 use Rattle.sbp_world.specs.Lists.Needs.{IsCalm, OpenBefore, OpenBetween}
@@ -21,8 +21,9 @@ use Rattle.sbp_world.specs.Lists.Places.{AreNamedFor}
 use Rattle.sbp_world.proofs.Lists.NamedWrites.{AllNamed, Known, first_names, names_walk}
 use Rattle.sbp_world.proofs.Lists.Naming.{names_law}
 use Rattle.sbp_world.proofs.Lists.OpenWires.{wire_after, wire_between}
-use Rattle.sbp_world.proofs.Lists.TameWalks.{tame_after, tame_between}
-use Rattle.sbp_world.specs.Lists.OwnLogins.{IsTame}
+use Rattle.sbp_world.proofs.Lists.Beside.{tame_or_few_before}
+use Rattle.sbp_world.proofs.Lists.TameWalks.{still_after, still_between}
+use Rattle.sbp_world.specs.Lists.FewLogins.{IsTameOrFew}
 
 -- ---- what open lists stand on at a place
 pub record Closes (past : List Moment) (w : WorldState) : Type 0 where
@@ -30,10 +31,10 @@ pub record Closes (past : List Moment) (w : WorldState) : Type 0 where
   pub first : AreFirsts past w
   pub behind : AreBehind past w
 
--- where no initiator injected packets
+-- where no initiator injected packets, or few logins were given
 pub record ClosesLaw : Type 0 where
-  pub after_lines : (line : ℕ) (run : Run) → IsRun run → 0 < run.units → run.units ≤ 4 → length run.start.disks ≡ run.units → OpenBefore line run run.entries → IsTame (history_of line run) → Closes (history_of line run) (after (beginning run) run.entries).world
-  pub between : (line : ℕ) (run : Run) → IsRun run → 0 < run.units → run.units ≤ 4 → length run.start.disks ≡ run.units → (next : ℕ) (most : Option ℕ) (told : List (Option Told)) → MayAll told (begun (after (beginning run) run.entries)) → OpenBetween line run next (more_deliveries most) told → (let w = (after_all told (begun (after (beginning run) run.entries))).world in let now = map said w.fresh ++ asked next (more_deliveries most) ∷ history_of line run in IsTame now → Closes now w)
+  pub after_lines : (line : ℕ) (run : Run) → IsRun run → 0 < run.units → run.units ≤ 4 → length run.start.disks ≡ run.units → OpenBefore line run run.entries → IsTameOrFew (history_of line run) → Closes (history_of line run) (after (beginning run) run.entries).world
+  pub between : (line : ℕ) (run : Run) → IsRun run → 0 < run.units → run.units ≤ 4 → length run.start.disks ≡ run.units → (next : ℕ) (most : Option ℕ) (told : List (Option Told)) → MayAll told (begun (after (beginning run) run.entries)) → OpenBetween line run next (more_deliveries most) told → (let w = (after_all told (begun (after (beginning run) run.entries))).world in let now = map said w.fresh ++ asked next (more_deliveries most) ∷ history_of line run in IsTameOrFew now → Closes now w)
 
 -- the writes that were got were named for lists
 abbrev AreNames : List Moment → WorldState → Type 0
@@ -72,10 +73,10 @@ module _ (pointers : PointersLaw) (begun_law : BegunLaw) where
 
 -- ---- together
 module _ (pointers : PointersLaw) (begun_law : BegunLaw) (places : PlacesLaw) where
-  names : Under (WhereTame AreNames)
+  names : Under (WhereTameOrFew AreNames)
   names = record {
-    after_lines = λ line run r has small size so_far tame. tame_after Known AreUntaken AllNamed (known pointers begun_law) places.untaken names_walk first_names line run r has small size so_far tame;
-    between = λ line run r has small size next most told m so_far tame. tame_between Known AreUntaken AllNamed (known pointers begun_law) places.untaken names_walk first_names line run r has small size next (more_deliveries most) (delivers most) told m so_far tame;
+    after_lines = λ line run r has small size so_far tame. still_after IsTameOrFew tame_or_few_before Known AreUntaken AllNamed (known pointers begun_law) places.untaken names_walk first_names line run r has small size so_far tame;
+    between = λ line run r has small size next most told m so_far tame. still_between IsTameOrFew tame_or_few_before Known AreUntaken AllNamed (known pointers begun_law) places.untaken names_walk first_names line run r has small size next (more_deliveries most) (delivers most) told m so_far tame;
   }
 
   closes_at : (ms : List Moment) (w : WorldState) → AreFirsts ms w → AreHere ms w → AreNames ms w → AreUntaken ms w → AreBehind ms w → Closes ms w

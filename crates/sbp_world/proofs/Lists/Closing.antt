@@ -1,4 +1,4 @@
--- From place to place of a run in which no initiator injected packets: where each place has what it needs as lists were open as they should be before, they are so at
+-- From place to place of a run in which no initiator injected packets, or few logins were given: where each place has what it needs as lists were open as they should be before, they are so at
 -- every place; and where they are so in every such run, they were so before each place of it.
 use Rattle.std.proofs.Common.{arith, ◌≡◌, sym, subst, ℕ, ◌+◌, ◌^◌, ◌<◌, ◌≤◌, List, [], ◌∷◌, ◌++◌, map, length, Option, Some, None}
 use Rattle.rbc_disk.specs.Runs.{Told}
@@ -30,8 +30,8 @@ use Rattle.sbp_world.proofs.Lists.EndedLists.{ended_lists_law, none_ended}
 use Rattle.sbp_world.proofs.Lists.OpenLasting.{lasts}
 use Rattle.sbp_world.proofs.Lists.OpenWires.{wire_after, wire_between}
 use Rattle.sbp_world.proofs.Lists.Runs.{as_front, lines_same, moments_same, next_extends, said_more}
-use Rattle.sbp_world.specs.Lists.OwnLogins.{IsTame}
-use Rattle.sbp_world.proofs.Lists.OwnFifos.{tame_before}
+use Rattle.sbp_world.specs.Lists.FewLogins.{IsTameOrFew}
+use Rattle.sbp_world.proofs.Lists.Beside.{tame_or_few_before}
 use Rattle.sbp_world.proofs.Lists.RunSites.{more_by}
 
 -- ---- at a place
@@ -49,27 +49,27 @@ module _ (past : List Moment) (w : WorldState) (c : Closes past w) where
   open_lists : AreListed past w → OpenLists past w
   open_lists l = record { listed = l.listed; one = l.one; points = l.points; behind = c.behind }
 
--- what gives that lists are as they should be at a place, where they were so before and no initiator injected packets
+-- what gives that lists are as they should be at a place, where they were so before and no initiator injected packets, or few logins were given
 record Gives : Type 0 where
-  ends : (line : ℕ) (run : Run) → IsRun run → 0 < run.units → run.units ≤ 4 → length run.start.disks ≡ run.units → OpenBefore line run run.entries → IsTame (history_of line run) → OpenAfter line run run.entries
-  meets : (line : ℕ) (run : Run) → IsRun run → 0 < run.units → run.units ≤ 4 → length run.start.disks ≡ run.units → (next : ℕ) (most : Option ℕ) (told : List (Option Told)) → MayAll told (begun (after (beginning run) run.entries)) → OpenBetween line run next (more_deliveries most) told → (let s = after_all told (begun (after (beginning run) run.entries)) in let past = asked next (more_deliveries most) ∷ history_of line run in IsTame (map said s.world.fresh ++ past) → OpenBehind past told (begun (after (beginning run) run.entries)))
+  ends : (line : ℕ) (run : Run) → IsRun run → 0 < run.units → run.units ≤ 4 → length run.start.disks ≡ run.units → OpenBefore line run run.entries → IsTameOrFew (history_of line run) → OpenAfter line run run.entries
+  meets : (line : ℕ) (run : Run) → IsRun run → 0 < run.units → run.units ≤ 4 → length run.start.disks ≡ run.units → (next : ℕ) (most : Option ℕ) (told : List (Option Told)) → MayAll told (begun (after (beginning run) run.entries)) → OpenBetween line run next (more_deliveries most) told → (let s = after_all told (begun (after (beginning run) run.entries)) in let past = asked next (more_deliveries most) ∷ history_of line run in IsTameOrFew (map said s.world.fresh ++ past) → OpenBehind past told (begun (after (beginning run) run.entries)))
 
 delivers : (most : Option ℕ) → DeliversMore (more_deliveries most)
 delivers (Some count) = tt
 delivers None = tt
 
--- ---- no initiator injected packets before, where none did
+-- ---- no initiator injected packets, or few logins were given, before, where it is so
 module _ (now : List Moment) where
   abbrev TameAt : Scene → Type 0
-  TameAt s = IsTame (map said s.world.fresh ++ now)
+  TameAt s = IsTameOrFew (map said s.world.fresh ++ now)
 
-  tame_first : (s : Scene) → TameAt s → IsTame now
-  tame_first s tame = tame_before (map said s.world.fresh) now tame
+  tame_first : (s : Scene) → TameAt s → IsTameOrFew now
+  tame_first s tame = tame_or_few_before (map said s.world.fresh) now tame
 
   tame_less : (one : Option Told) (s : Scene) → TameAt (delivered_next one s) → TameAt s
   tame_less one s tame =
       let e = next_extends one s in
-      tame_before (map said e.more) (map said s.world.fresh ++ now) (subst IsTame (said_more s.world.fresh (delivered_next one s).world.fresh now e) tame)
+      tame_or_few_before (map said e.more) (map said s.world.fresh ++ now) (subst IsTameOrFew (said_more s.world.fresh (delivered_next one s).world.fresh now e) tame)
 
 -- ---- over a run
 module _ (gives : Gives) (line : ℕ) (run : Run) (few : run.initiators ≤ 4) (has : 0 < run.units) (small : run.units ≤ 4) (size : length run.start.disks ≡ run.units) where
@@ -86,9 +86,9 @@ module _ (gives : Gives) (line : ℕ) (run : Run) (few : run.initiators ≤ 4) (
     same : history_of line (front entries) ≡ moments_behind line run entries
     same = moments_same line run entries entries
 
-    open_after : IsTame (moments_behind line run entries) → OpenAfter line run entries
+    open_after : IsTameOrFew (moments_behind line run entries) → OpenAfter line run entries
     open_after tame =
-        subst (λ ms. OpenLists ms here.world) same (gives.ends line (front entries) is_run has small size (as_front line run entries entries so_far) (subst IsTame (sym same) tame))
+        subst (λ ms. OpenLists ms here.world) same (gives.ends line (front entries) is_run has small size (as_front line run entries entries so_far) (subst IsTameOrFew (sym same) tame))
 
     -- between deliveries of a line that follows
     module _ (next : ℕ) (most : Option ℕ) where
@@ -104,10 +104,10 @@ module _ (gives : Gives) (line : ℕ) (run : Run) (few : run.initiators ≤ 4) (
             before = as_front line run entries entries so_far;
             begins =
                 subst (λ ms. OpenLists ms here.world) (sym same)
-                (open_after (tame_before (asked next (more_deliveries most) ∷ []) (moments_behind line run entries) (tame_first now (after_all told (begun here)) tame)));
+                (open_after (tame_or_few_before (asked next (more_deliveries most) ∷ []) (moments_behind line run entries) (tame_first now (after_all told (begun here)) tame)));
             goes = subst (λ ms. OpenWhile (asked next (more_deliveries most) ∷ ms) told (begun here)) (sym same) before;
           })
-          (subst (λ ms. IsTame (map said w.fresh ++ asked next (more_deliveries most) ∷ ms)) (sym same) tame))
+          (subst (λ ms. IsTameOrFew (map said w.fresh ++ asked next (more_deliveries most) ∷ ms)) (sym same) tame))
 
       open_while : (told : List (Option Told)) → MayAll told (begun here) → TameAt now (after_all told (begun here)) → OpenWhile now told (begun here)
       open_while [] m tame = tt
@@ -132,37 +132,37 @@ module _ (gives : Gives) (line : ℕ) (run : Run) (few : run.initiators ≤ 4) (
     open_in next events.Settle told m tame =
         let s = after_all told (begun here) in
         let now = asked next events.Settle ∷ moments_behind line run entries in
-        let before = tame_before (said (end_note (is_settled s.world)) ∷ []) (map said s.world.fresh ++ now) tame in
+        let before = tame_or_few_before (said (end_note (is_settled s.world)) ∷ []) (map said s.world.fresh ++ now) tame in
         (open_behind next None told m.may before, open_while next None told m.may before)
     open_in next events.Tick told m tame = tt
     open_in next (events.Inject initiator bytes) told m tame = tt
     open_in next (events.Key unit key) told m tame = tt
 
-  open_before : (entries : List Entry) → length entries + 2 < 2 ^ 32 → AreEntries (beginning run) entries → AreLines run entries → IsTame (moments_behind line run entries) → OpenBefore line run entries
+  open_before : (entries : List Entry) → length entries + 2 < 2 ^ 32 → AreEntries (beginning run) entries → AreLines run entries → IsTameOrFew (moments_behind line run entries) → OpenBefore line run entries
   open_before [] short all fit tame = tt
   open_before (e ∷ before) short all fit tame =
       let few_lines : length before + 2 < 2 ^ 32 = omega arith in
       let now = asked e.line e.event ∷ moments_behind line run before in
       let s = happens e.line e.event e.told (after (beginning run) before) in
-      let there : TameAt now s = subst (λ ns. IsTame (map said ns ++ now)) all.0.notes_are tame in
-      let behind = tame_before (asked e.line e.event ∷ []) (moments_behind line run before) (tame_first now s there) in
+      let there : TameAt now s = subst (λ ns. IsTameOrFew (map said ns ++ now)) all.0.notes_are tame in
+      let behind = tame_or_few_before (asked e.line e.event ∷ []) (moments_behind line run before) (tame_first now s there) in
       let so_far = open_before before few_lines all.1 fit.1 behind in (
         record { begins = open_after before few_lines all.1 fit.1 so_far behind; goes = open_in before few_lines all.1 fit.1 so_far e.line e.event e.told all.0.may there },
         so_far,
       )
 
--- ---- so it is in every run in which no initiator injected packets
+-- ---- so it is in every run in which no initiator injected packets, or few logins were given
 module _ (gives : Gives) (line : ℕ) (run : Run) (r : IsRun run) (has : 0 < run.units) (small : run.units ≤ 4) (size : length run.start.disks ≡ run.units) where
-  all_before : IsTame (history_of line run) → OpenBefore line run run.entries
+  all_before : IsTameOrFew (history_of line run) → OpenBefore line run run.entries
   all_before tame = open_before gives line run r.few has small size run.entries r.short r.entries r.lines tame
 
-  all_after : IsTame (history_of line run) → OpenAfter line run run.entries
+  all_after : IsTameOrFew (history_of line run) → OpenAfter line run run.entries
   all_after tame = open_after gives line run r.few has small size run.entries r.short r.entries r.lines (all_before tame) tame
 
   module _ (next : ℕ) (event : Event) (d : DeliversMore event) (told : List (Option Told)) (m : MayAll told (begun (after (beginning run) run.entries))) (tame : TameAt (asked next event ∷ history_of line run) (after_all told (begun (after (beginning run) run.entries)))) where
-    tame_lines : IsTame (history_of line run)
+    tame_lines : IsTameOrFew (history_of line run)
     tame_lines =
-        tame_before (asked next event ∷ []) (history_of line run) (tame_first (asked next event ∷ history_of line run) (after_all told (begun (after (beginning run) run.entries))) tame)
+        tame_or_few_before (asked next event ∷ []) (history_of line run) (tame_first (asked next event ∷ history_of line run) (after_all told (begun (after (beginning run) run.entries))) tame)
 
     all_behind : OpenBehind (asked next event ∷ history_of line run) told (begun (after (beginning run) run.entries))
     all_behind =

@@ -11,7 +11,7 @@ use Rattle.command_agent.specs.declared.step.Which.TheVariants.{Ahead, Main}
 use Rattle.command_agent.specs.Steps.{lost_step, point_step, reply_step}
 use Rattle.label_table.specs.Layer.{Layer, judging_step, of_request, of_response}
 use Rattle.login_table.specs.declared.login.Login.{Login}
-use Rattle.login_table.specs.Table.{Table, place_at}
+use Rattle.login_table.specs.Table.{Table, is_live, place_at}
 use Rattle.mgmt_agent.specs.declared.decision.ManagerStep.{ManagerStep}
 use Rattle.mgmt_agent.specs.declared.operation.Operation.{Operation}
 use Rattle.mgmt_agent.specs.declared.operation.Phase.{Phase}
@@ -185,14 +185,14 @@ late_reads s h = by (management.source_in s.node.manager.operation)
 
 -- ---- a call of the target
 
--- no login of the target for the node of the initiator has its FIFO in a response buffer
+-- no live login of the target for the node of the initiator has its FIFO in a response buffer
 abbrev pub IsClear : GenerationsState → ℕ → Table → Type 0
-IsClear generations i table = (place : ℕ) (login : Login) → place_at table.places place ≡ Some login → node_of generations 0 login.node ≡ Some (suc i) → (other : ℕ) → window_at (written_at login.fifo) ≡ Some (windows.Response other) → ⊥
+IsClear generations i table = (place : ℕ) (login : Login) → place_at table.places place ≡ Some login → is_live login ≡ true → node_of generations 0 login.node ≡ Some (suc i) → (other : ℕ) → window_at (written_at login.fifo) ≡ Some (windows.Response other) → ⊥
 
 module _ (given : Type 0) (wild : ℕ → Bool) (i : ℕ) (own : wild i ≡ false) (start : List Disk) (past : List Moment) (w : WorldState) (r : Ready wild past w) (each : F given start past i w) (clear : given → IsClear w.generations i w.target.logins) where
-  -- what goes to the node of the login of a place, and to the initiator, is of its place
+  -- what goes to the node of the login of a place, and to the initiator, is of its place, and the login is live
   abbrev pub Mine : ℕ → Type 0
-  Mine q = (login : Login) → login_at w.target q ≡ Some login → node_of w.generations 0 login.node ≡ Some (suc i) → (holder w q).initiator ≡ i
+  Mine q = (login : Login) → login_at w.target q ≡ Some login → node_of w.generations 0 login.node ≡ Some (suc i) → ((holder w q).initiator ≡ i) × (is_live login ≡ true)
 
   abbrev C : Layer Purpose → Scene → Type 0
   C layer s = Called w r.good (Ours wild past w r) Mine ⊥ layer s
@@ -231,14 +231,14 @@ module _ (given : Type 0) (wild : ℕ → Bool) (i : ℕ) (own : wild i ≡ fals
           at_node node e n = ap (λ a. node_of w.generations 0 a) (sym e) ∙ n
 
           none_fed : {to offset : ℕ} → given → (place : ℕ) → node_of w.generations 0 to ≡ Some (suc i) → window_at offset ≡ Some (windows.Response place) → IsFedBy s.node.logins login (Ours wild past w r q) to offset → ⊥
-          none_fed g place n goes (at_own to_is offset_is) = clear g q login is (at_node login.node to_is n) place (ap window_at (sym offset_is) ∙ goes)
-          none_fed g place n goes (at_other other one there to_is offset_is) = clear_then g other one there (at_node one.node to_is n) place (ap window_at (sym offset_is) ∙ goes)
-          none_fed g place n goes (of_another to_is f) = f (ap wild (up login is (at_node login.node to_is n)) ∙ own)
+          none_fed g place n goes (at_own to_is offset_is) = let of = at_node login.node to_is n in clear g q login is (up login is of).1 of place (ap window_at (sym offset_is) ∙ goes)
+          none_fed g place n goes (at_other other one there live to_is offset_is) = clear_then g other one there live (at_node one.node to_is n) place (ap window_at (sym offset_is) ∙ goes)
+          none_fed g place n goes (of_another to_is f) = f (ap wild (up login is (at_node login.node to_is n)).0 ∙ own)
 
           kept_one : (packet : Outgoing) → IsNamed login.node (Ours wild past w r q) y.told packet → IsFed s.node.logins login (Ours wild past w r q) packet → IsKept given start i past w packet
           kept_one packet h f n (Some place) p =
               let e = h place p in
-              let mine = up login is (at_node login.node e.0 n) in
+              let mine = (up login is (at_node login.node e.0 n)).0 in
               no_end q y.told y.so.told_is mine place p.small (e.1 (ap wild mine ∙ own))
           kept_one packet h f n None p = none_fed p.0 p.1.place n p.1.goes (f p.1)
 

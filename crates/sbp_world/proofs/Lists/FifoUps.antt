@@ -47,9 +47,9 @@ same_login : (x y : Login) → Some x ≡ Some y → x ≡ y
 same_login x y e = cc
 
 -- ---- a place whose login is live
--- what goes to the node of its login, and to the initiator, is of its place
+-- what goes to the node of its login, and to the initiator, is of its place, and the login is live
 abbrev pub IsMine : ℕ → WorldState → ℕ → Type 0
-IsMine i w q = (login : Login) → login_at w.target q ≡ Some login → node_of w.generations 0 login.node ≡ Some (suc i) → (holder w q).initiator ≡ i
+IsMine i w q = (login : Login) → login_at w.target q ≡ Some login → node_of w.generations 0 login.node ≡ Some (suc i) → ((holder w q).initiator ≡ i) × (is_live login ≡ true)
 
 module _ (i : ℕ) (start : List Disk) (past : List Moment) (w : WorldState) (inside : i < length w.initiators) (h : Stands past w) (held : AreHeldAt start (hist past w) w) where
   abbrev t : Terms
@@ -87,7 +87,7 @@ module _ (i : ℕ) (start : List Disk) (past : List Moment) (w : WorldState) (in
         holder_is ∙ (let z : j ≡ i = omega (arith, same) in z)
 
     of_live : IsMine i w q
-    of_live other f n = mine (subst (λ (x : Login). node_of w.generations 0 x.node ≡ Some (suc i)) (same_login other login (sym f ∙ e)) n)
+    of_live other f n = let same = same_login other login (sym f ∙ e) in (mine (subst (λ (x : Login). node_of w.generations 0 x.node ≡ Some (suc i)) same n), ap is_live same ∙ live)
 
   -- of an agent that has a list
   pub open_mine : AreOpened (hist past w) w → (q : ℕ) → q < 8 → has_list (machine_at w q).phase ≡ true → IsMine i w q

@@ -1,5 +1,5 @@
--- In every run in which no initiator injected packets the order law, the execution law and the status law hold.
-use Rattle.std.proofs.Common.{◌≡◌, sym, subst, ◌<◌, ◌≤◌, ℕ, List, length}
+-- In every run in which no initiator injected packets, or few logins were given, the order law, the execution law and the status law hold.
+use Rattle.std.proofs.Common.{◌≡◌, inl, sym, subst, ◌<◌, ◌≤◌, ℕ, List, length}
 use Rattle.sbp_journal.specs.Run.{Moment}
 use Rattle.sbp_laws.specs.Lawful.{injectors}
 use Rattle.sbp_laws.specs.OnLists.{LawfulOnLists}
@@ -9,25 +9,26 @@ use Rattle.sbp_world.specs.Runs.{Run, after, beginning}
 use Rattle.sbp_world.specs.Hosts.Runs.{IsRun}
 use Rattle.sbp_world.proofs.Hosts.Runs.{count_after}
 use Rattle.sbp_world.proofs.Hosts.Statuses.Ranges.{run_inside}
-use Rattle.sbp_world.specs.Lists.Closes.{AreHere, OpenListsLaw, Under, WhereTame}
+use Rattle.sbp_world.specs.Lists.Closes.{AreHere, OpenListsLaw, Under, WhereTameOrFew}
 use Rattle.sbp_world.specs.Lists.Live.{LiveLaw}
 use Rattle.sbp_world.specs.Lists.Needs.{OpenBefore}
 use Rattle.sbp_world.specs.Lists.Opened.{LogoutsLaw}
-use Rattle.sbp_world.specs.Lists.OwnLogins.{IsTame}
+use Rattle.sbp_world.specs.Lists.FewLogins.{IsTameOrFew}
 use Rattle.sbp_world.specs.Lists.StatusRuns.{AtLogin}
+use Rattle.sbp_world.specs.Lists.ListsBeside.{ListsBesideLaw}
 use Rattle.sbp_world.specs.Lists.TameLists.{ListsLaw}
 use Rattle.sbp_world.proofs.Lists.Executes.{execution_run_law}
 use Rattle.sbp_world.proofs.Lists.ListsProved.{open_before, open_lists, sent_so, statuses}
 use Rattle.sbp_world.proofs.Lists.LiveGiven.{ShortLaw}
-use Rattle.sbp_world.proofs.Lists.LiveShort.{here_by, placed_by}
+use Rattle.sbp_world.proofs.Lists.LiveShort.{here_beside, placed_beside}
 use Rattle.sbp_world.proofs.Lists.LiveLogins.{logins_live, logouts_end}
-use Rattle.sbp_world.proofs.Lists.StatusPlaces.{AllPlaced}
+use Rattle.sbp_world.proofs.Lists.StatusPlaces.{AllPlacedFor}
 use Rattle.sbp_world.proofs.Lists.RunLaws.{order_run_law}
 use Rattle.sbp_world.proofs.Lists.StatusLaws.{status_of_run_law}
 use Rattle.sbp_world.proofs.Lists.StatusLogins.{at_logins}
 
 -- where lists are open as they should be, and statuses are sent and taken so
-module _ (here : Under (WhereTame AreHere)) (placed : Under (WhereTame AllPlaced)) (line : ℕ) (run : Run) (r : IsRun run) (has : 0 < run.units) (small : run.units ≤ 4) (size : length run.start.disks ≡ run.units) (tame : IsTame (history_of line run)) where
+module _ (here : Under (WhereTameOrFew AreHere)) (placed : Under (WhereTameOrFew AllPlacedFor)) (line : ℕ) (run : Run) (r : IsRun run) (has : 0 < run.units) (small : run.units ≤ 4) (size : length run.start.disks ≡ run.units) (tame : IsTameOrFew (history_of line run)) where
   abbrev past : List Moment
   past = history_of line run
 
@@ -59,7 +60,11 @@ module _ (short : ShortLaw) where
   logouts_law = logouts_end short
 
   pub open_lists_law : OpenListsLaw
-  open_lists_law = open_lists (here_by short) (placed_by short)
+  open_lists_law = open_lists (here_beside short) (placed_beside short)
 
+  pub lists_beside_law : ListsBesideLaw
+  lists_beside_law = record { lists = λ line run r has small size tame. lawful (here_beside short) (placed_beside short) line run r has small size tame }
+
+  -- so where no initiator injected packets
   pub lists_law : ListsLaw
-  lists_law = record { lists = λ line run r has small size tame. lawful (here_by short) (placed_by short) line run r has small size tame }
+  lists_law = record { lists = λ line run r has small size tame. lists_beside_law.lists line run r has small size (inl tame) }

@@ -1,19 +1,19 @@
--- Lists are open as they should be at each place of every run in which no initiator injected packets, where a list that is open is the present one, and operations of the
+-- Lists are open as they should be at each place of every run in which no initiator injected packets, or few logins were given, where a list that is open is the present one, and operations of the
 -- target and logins are of places and have FIFOs of logins.
 use Rattle.std.proofs.Common.{◌≡◌, ◌<◌, ◌≤◌, ℕ, length}
 use Rattle.sbp_world.specs.Histories.{history_of}
 use Rattle.sbp_world.specs.Runs.{Run}
 use Rattle.sbp_world.specs.Hosts.Runs.{IsRun}
-use Rattle.sbp_world.specs.Lists.Closes.{AreHere, ClosingLaw, OpenListsLaw, PlacesLaw, Under, WhereTame}
+use Rattle.sbp_world.specs.Lists.Closes.{AreHere, ClosingLaw, OpenListsLaw, PlacesLaw, Under, WhereTameOrFew}
 use Rattle.sbp_world.specs.Lists.Lasts.{LastLaw}
 use Rattle.sbp_world.specs.Lists.Needs.{OpenBefore}
-use Rattle.sbp_world.specs.Lists.OwnLogins.{IsTame}
+use Rattle.sbp_world.specs.Lists.FewLogins.{IsTameOrFew}
 use Rattle.sbp_world.specs.Lists.Statuses.{AllSentSo, AllStatuses}
 use Rattle.sbp_world.proofs.Lists.Closing.{closing_law}
 use Rattle.sbp_world.proofs.Lists.Lasts.{last_law}
 use Rattle.sbp_world.proofs.Lists.OpenLasting.{listed_law}
 use Rattle.sbp_world.proofs.Lists.OpenedKnown.{laws}
-use Rattle.sbp_world.proofs.Lists.StatusPlaces.{AllPlaced}
+use Rattle.sbp_world.proofs.Lists.StatusPlaces.{AllPlacedFor}
 use Rattle.sbp_world.proofs.Lists.StatusPlaces as places
 
 last : LastLaw
@@ -22,7 +22,7 @@ last = last_law (listed_law laws.pointers laws.moments laws.caught laws.caught_b
 closing : ClosingLaw
 closing = closing_law last laws.pointers laws.begun
 
-module _ (here : Under (WhereTame AreHere)) (placed : Under (WhereTame AllPlaced)) where
+module _ (here : Under (WhereTameOrFew AreHere)) (placed : Under (WhereTameOrFew AllPlacedFor)) where
   pub lists_places : PlacesLaw
   lists_places = record {
     here = here;
@@ -33,12 +33,12 @@ module _ (here : Under (WhereTame AreHere)) (placed : Under (WhereTame AllPlaced
   pub open_lists : OpenListsLaw
   open_lists = closing.closes lists_places
 
-  pub open_before : (line : ℕ) (run : Run) → IsRun run → 0 < run.units → run.units ≤ 4 → length run.start.disks ≡ run.units → IsTame (history_of line run) → OpenBefore line run run.entries
+  pub open_before : (line : ℕ) (run : Run) → IsRun run → 0 < run.units → run.units ≤ 4 → length run.start.disks ≡ run.units → IsTameOrFew (history_of line run) → OpenBefore line run run.entries
   open_before line run r has small size tame = closing.before open_lists line run r has small size tame
 
   -- and the statuses of ORBs are sent and taken as they should be
-  pub sent_so : Under (WhereTame AllSentSo)
+  pub sent_so : Under (WhereTameOrFew AllSentSo)
   sent_so = places.sent_law laws.pointers laws.begun here placed
 
-  pub statuses : Under (WhereTame AllStatuses)
+  pub statuses : Under (WhereTameOrFew AllStatuses)
   statuses = places.statuses laws.pointers laws.begun here placed

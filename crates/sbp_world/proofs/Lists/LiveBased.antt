@@ -15,6 +15,7 @@ use Rattle.initiator_base.specs.Fifos.{fifo_at}
 use Rattle.mgmt_agent.specs.declared.status.Status.{Status}
 use Rattle.mgmt_agent.specs.Machine.{status_block}
 use Rattle.mgmt_agent.specs.Statuses.{number_of}
+use Rattle.orb_layout.specs.declared.login.LoginResponse.{LoginResponse}
 use Rattle.orb_layout.specs.LoginResponses.{login_response}
 use Rattle.orb_layout.specs.Replies.{Answer, Done, Expired, NoLabel, Payload, Refused}
 use Rattle.rbc_disk.specs.Disk.{Disk}
@@ -113,13 +114,17 @@ module _ (start : List Disk) (before : List Moment) (i : ℕ) (counts : SerialsC
 
 -- ---- a turn
 
--- a status of 00 that waits for a login finds a response with the agent of a place
-abbrev pub Buffered : List Disk → List Moment → ℕ → Type 0
-Buffered start before i = (orb : ℕ) (bytes : List ℕ) → IsTold start before i orb bytes → bytes ≡ good_block orb → (underway : Underway) → (host_at before i).operation ≡ Some underway → underway.operation ≡ operations.Login → HasBase (login_response (response_of (host_at before i)))
+-- a status of 00 that waits for a login finds such a response
+abbrev pub Buffered : (LoginResponse → Type 0) → List Disk → List Moment → ℕ → Type 0
+Buffered Good start before i = (orb : ℕ) (bytes : List ℕ) → IsTold start before i orb bytes → bytes ≡ good_block orb → (underway : Underway) → (host_at before i).operation ≡ Some underway → underway.operation ≡ operations.Login → Good (login_response (response_of (host_at before i)))
 
-module _ (start : List Disk) (before : List Moment) (i : ℕ) (counts : SerialsCount before) (contents : AreAsked start before) (buffer : Buffered start before i) where
+pub told_well : (Good : LoginResponse → Type 0) (start : List Disk) (before : List Moment) (i : ℕ) → Buffered Good start before i → IsAnswerTold start before i 0 → (underway : Underway) → (host_at before i).operation ≡ Some underway → underway.operation ≡ operations.Login → Good (login_response (response_of (host_at before i)))
+told_well Good start before i buffer x underway is login = buffer x.orb x.bytes x.tells (x.bytes_are ∙ good_status x.number (sym x.number_is) x.orb) underway is login
+
+-- one with the agent of a place
+module _ (start : List Disk) (before : List Moment) (i : ℕ) (counts : SerialsCount before) (contents : AreAsked start before) (buffer : Buffered HasBase start before i) where
   based_by : IsAnswerTold start before i 0 → (underway : Underway) → (host_at before i).operation ≡ Some underway → underway.operation ≡ operations.Login → HasBase (login_response (response_of (host_at before i)))
-  based_by x underway is login = buffer x.orb x.bytes x.tells (x.bytes_are ∙ good_status x.number (sym x.number_is) x.orb) underway is login
+  based_by = told_well HasBase start before i buffer
 
   -- the first note of a turn
   good_first : (moment : Moment) → MayHand start i moment before → GoodAt i moment before
@@ -156,7 +161,7 @@ same_login underway place e =
     let own : cond (is_management underway.operation) (Some underway.place) None ≡ place = ap (λ (w : Work). w.place) (same_some _ _ e) in
     ap (λ op. cond (is_management op) (Some underway.place) None) (sym operation) ∙ own
 
-module _ (start : List Disk) (before : List Moment) (i : ℕ) (ready : Bool) (s : InitiatorState) (c : Cored ready before i s) (held : HoldsLogin before i s) (f : (orb : ℕ) (bytes : List ℕ) → IsTold start before i orb bytes → bytes ≡ good_block orb → (running : Running) → s.operation ≡ Some running → running.operation ≡ operations.Login → HasBase (login_response (own.response_of running s))) where
+module _ (Good : LoginResponse → Type 0) (start : List Disk) (before : List Moment) (i : ℕ) (ready : Bool) (s : InitiatorState) (c : Cored ready before i s) (held : HoldsLogin before i s) (f : (orb : ℕ) (bytes : List ℕ) → IsTold start before i orb bytes → bytes ≡ good_block orb → (running : Running) → s.operation ≡ Some running → running.operation ≡ operations.Login → Good (login_response (own.response_of running s))) where
   module _ (underway : Underway) (is : (host_at before i).operation ≡ Some underway) (login : underway.operation ≡ operations.Login) where
     work_is : work_of (Some underway) ≡ work_in s.operation
     work_is = sym (ap work_of is) ∙ ap (λ (x : Core). x.work) c.core
@@ -178,11 +183,11 @@ module _ (start : List Disk) (before : List Moment) (i : ℕ) (ready : Bool) (s 
     no_work : work_of (Some underway) ≡ work_in None → ⊥
     no_work e = cc
 
-    buffered_by : (orb : ℕ) (bytes : List ℕ) → IsTold start before i orb bytes → bytes ≡ good_block orb → (found : Option Running) → s.operation ≡ found → HasBase (login_response (response_of (host_at before i)))
+    buffered_by : (orb : ℕ) (bytes : List ℕ) → IsTold start before i orb bytes → bytes ≡ good_block orb → (found : Option Running) → s.operation ≡ found → Good (login_response (response_of (host_at before i)))
     buffered_by orb bytes t g None e = absurd (no_work (work_is ∙ ap work_in e))
-    buffered_by orb bytes t g (Some running) e = subst (λ r. HasBase (login_response r)) (sym (response_is running e)) (f orb bytes t g running e (login_is running e))
+    buffered_by orb bytes t g (Some running) e = subst (λ r. Good (login_response r)) (sym (response_is running e)) (f orb bytes t g running e (login_is running e))
 
-  pub buffered : Buffered start before i
+  pub buffered : Buffered Good start before i
   buffered orb bytes t g underway is login = buffered_by underway is login orb bytes t g s.operation refl
 
 -- ---- a status block that is got leaves the buffers
@@ -220,7 +225,7 @@ module _ (past : List Moment) (i serial : ℕ) (operation : Operation) (status :
       ∙ (ap (λ (x : Option Access). stored x (host_at past i).responses) access_is
       ∙ stored_far access (host_at past i).responses (far_by (fifo_at a.logins a.is_out a.offset) refl a.opens))
 
-  same_response : response_of (host_at (said (notes.Got serial) ∷ past) i) ≡ response_of (host_at past i)
+  pub same_response : response_of (host_at (said (notes.Got serial) ∷ past) i) ≡ response_of (host_at past i)
   same_response =
       let wire = (known_host past i).wire in
       if_response (is_serial (receiver_in (wire.sent serial)) (suc i)) _ (host_at past i) (got_response (answered_at wire serial) wire serial (present_list past i) (host_at past i) stays_stored)

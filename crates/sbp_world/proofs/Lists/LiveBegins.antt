@@ -24,6 +24,7 @@ use Rattle.sbp_world.proofs.Lists.LiveOwn.{Fit}
 use Rattle.sbp_world.proofs.Lists.LiveStandings.{Claims, apart_comes, apart_leaves, claims_apart, claims_inside, inside_comes, inside_leaves, none_number, number_in, stand_of}
 use Rattle.sbp_laws.specs.Turns.{EachMoment}
 use Rattle.sbp_world.specs.Lists.LoginAnswers.{GoodAt, NoBadAt}
+use Rattle.sbp_world.specs.Lists.Owners.{OursAt, OwnedAt}
 use Rattle.sbp_world.specs.Lists.Placings.{BasedAt}
 use Rattle.sbp_world.proofs.Lists.LiveGrants.{none_grants}
 use Rattle.sbp_world.proofs.Lists.LiveSteps.{ClaimsOf, Grown, Lives, id_in, own_of, zero_of}
@@ -168,9 +169,9 @@ module _ (n : ℕ) (few : n ≤ 4) (units : ℕ) (small : units ≤ 4) (line : �
   unfolding new_state
   first_none is_ready i l = ap (λ (x : InitiatorState). x.operation) (state_is is_ready i l)
 
-  pub first_grown : (is_ready : Bool) (past : List Moment) (i : ℕ) → EachMoment (GoodAt i) past → EachMoment (BasedAt i) past → EachMoment (NoBadAt i) past → i < length (world is_ready).initiators → Grown start past (world is_ready) i
+  pub first_grown : (is_ready : Bool) (past : List Moment) (i : ℕ) → EachMoment (GoodAt i) past → EachMoment (BasedAt i) past → EachMoment (NoBadAt i) past → EachMoment (OursAt start i) past → EachMoment (OwnedAt start i) past → i < length (world is_ready).initiators → Grown start past (world is_ready) i
   unfolding new_world
-  first_grown is_ready past i good based unbad l =
+  first_grown is_ready past i good based unbad ours owned l =
       let inside : i < n = subst (λ m. i < m) (initiators_size n is_ready) l in
       let none = first_none is_ready i inside in
       record {
@@ -178,6 +179,9 @@ module _ (n : ℕ) (few : n ≤ 4) (units : ℕ) (small : units ≤ 4) (line : �
         buffer = λ tame orb bytes told good running is login. absurd (let no : None ≡ Some running = sym none ∙ is in cc);
         good = λ tame. good;
         based = λ tame. based;
+        named = λ tame orb bytes told good running is login. absurd (let no : None ≡ Some running = sym none ∙ is in cc);
+        ours = λ tame. ours;
+        owned = λ tame. owned;
         unbad = λ tame. unbad;
         logout = λ tame orb bytes told running is logout. absurd (let no : None ≡ Some running = sym none ∙ is in cc);
       }

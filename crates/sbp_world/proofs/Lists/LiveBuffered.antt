@@ -9,7 +9,7 @@ use Rattle.sbp_world.specs.Lists.Responding.{AreReplied}
 use Rattle.sbp_world.proofs.Lists.BufferTurns.{buffers_same, status_stays, told_stays}
 use Rattle.sbp_world.proofs.Lists.KeptTurns.{id_is, operation_is, own_is, zero_is}
 use Rattle.sbp_world.proofs.Lists.LiveJoined.{BufferTurns}
-use Rattle.sbp_world.proofs.Lists.LiveRuns.{goes_size, goes_tame}
+use Rattle.sbp_world.proofs.Lists.LiveRuns.{done_of, goes_beside, goes_size}
 use Rattle.sbp_world.proofs.Lists.LiveSteps.{GaveUpOf}
 
 pub buffer_turns : BufferTurns
@@ -19,10 +19,10 @@ buffer_turns units ready start past s later t lines more has g h h_now q q_now p
     let before = hist past w in
     let now = hist later v in
     let within : i < length v.initiators = subst (λ n. i < n) (sym (goes_size past s later t g)) inside in
-    let tame_before = goes_tame past s later t g tame in
-    let so = q.more.buffers tame_before (λ j l. (p j l).grown.based tame_before) i inside in
+    let tame_before = goes_beside past s later t g i tame in
+    let so = q.more.buffers i inside (done_of start before w p i inside tame_before) in
     let sources = q_now.more.sources i within in
-    let all : AreReplied start before i = replied_in (q.more.replied i inside (tame_before i) ((p i inside).grown.based tame_before)) in
+    let all : AreReplied start before i = replied_in (q.more.replied i inside tame_before.0 ((p i inside).grown.based tame_before)) in
     let same_in = λ (e : (host_at now i).responses ≡ (host_at before i).responses) (running : Running).
     buffers_same before now i (initiator_at w i) (initiator_at v i) (q.more.holds i inside) (q_now.more.holds i within) e running in
     record {

@@ -1,5 +1,5 @@
--- In a turn of a run in which no initiator injected packets: where a status of 00 is got for a login its buffer holds a response with the agent of a place, and each status
--- that is got for a logout is 00.
+-- In a turn of a run in which no initiator injected packets, or few logins were given: where a status of 00 is got for a login its buffer holds a response with the agent of a
+-- place, which names a login of the initiator, and each status that is got for a logout is 00.
 use Rattle.std.proofs.Common.{sym, subst, ℕ, ◌<◌, List, length}
 use Rattle.rbc_disk.specs.Disk.{Disk}
 use Rattle.sbp_journal.specs.Run.{Moment}
@@ -8,27 +8,29 @@ use Rattle.sbp_world.specs.Worlds.{Scene, initiator_at}
 use Rattle.sbp_world.proofs.Agents.Management.Holding.{Holding}
 use Rattle.sbp_world.proofs.Agents.Management.Still.{hist}
 use Rattle.sbp_world.specs.Lists.LoginAnswers.{GoodAt, NoBadAt}
-use Rattle.sbp_world.specs.Lists.OwnLogins.{IsTame}
-use Rattle.sbp_world.specs.Lists.Placings.{BasedAt}
+use Rattle.sbp_world.specs.Lists.FewLogins.{IsCalmBeside}
+use Rattle.sbp_world.specs.Lists.Owners.{OursAt, OwnBy, OwnedAt}
+use Rattle.sbp_world.specs.Lists.Placings.{BasedAt, HasBase}
 use Rattle.sbp_world.proofs.Lists.Courses.{Goes}
 use Rattle.sbp_world.proofs.Lists.Gots.{Next}
 use Rattle.sbp_world.proofs.Lists.Judging.{counts_at, goes_next}
 use Rattle.sbp_world.proofs.Lists.LiveBased.{based_of, buffered, good_turn}
 use Rattle.sbp_world.proofs.Lists.LiveJoined.{Held}
-use Rattle.sbp_world.proofs.Lists.LiveRuns.{AllLive, With, goes_size, goes_tame}
+use Rattle.sbp_world.proofs.Lists.LiveOwned.{ours_turn, owned_of}
+use Rattle.sbp_world.proofs.Lists.LiveRuns.{AllLive, With, goes_size, goes_beside}
 use Rattle.sbp_world.proofs.Lists.LiveSteps.{Grown}
 use Rattle.sbp_world.proofs.Lists.LiveUnrefused.{leaves_well, unbad_turn}
 use Rattle.sbp_world.proofs.Lists.ManageMoments.{Hands}
 
-module _ (units ready : ℕ) (start : List Disk) (past : List Moment) (s : Scene) (later : List Moment) (t : Scene) {lines more : ℕ} (has : 0 < units) (g : Goes past s later t) (h : Holding units ready start past lines s.world) (h_now : Holding units ready start later more t.world) (q : With Held start (hist past s.world) s.world) (q_now : With Held start (hist later t.world) t.world) (p : AllLive Held start (hist past s.world) s.world) (i : ℕ) (inside : i < length s.world.initiators) (tame : IsTame (hist later t.world)) where
+module _ (units ready : ℕ) (start : List Disk) (past : List Moment) (s : Scene) (later : List Moment) (t : Scene) {lines more : ℕ} (has : 0 < units) (g : Goes past s later t) (h : Holding units ready start past lines s.world) (h_now : Holding units ready start later more t.world) (q : With Held start (hist past s.world) s.world) (q_now : With Held start (hist later t.world) t.world) (p : AllLive Held start (hist past s.world) s.world) (i : ℕ) (inside : i < length s.world.initiators) (tame : IsCalmBeside (hist later t.world) i) where
   abbrev was : List Moment
   was = hist past s.world
 
   abbrev is_now : List Moment
   is_now = hist later t.world
 
-  was_tame : IsTame was
-  was_tame = goes_tame past s later t g tame
+  was_tame : IsCalmBeside was i
+  was_tame = goes_beside past s later t g i tame
 
   now_inside : i < length t.world.initiators
   now_inside = subst (λ n. i < n) (sym (goes_size past s later t g)) inside
@@ -37,7 +39,7 @@ module _ (units ready : ℕ) (start : List Disk) (past : List Moment) (s : Scene
   grown = (p i inside).grown
 
   hands : Hands start i is_now
-  hands = q_now.more.given.laws.hands i now_inside (tame i)
+  hands = q_now.more.given.laws.hands i now_inside tame.0
 
   on : Next was is_now
   on = goes_next past s later t g
@@ -45,10 +47,18 @@ module _ (units ready : ℕ) (start : List Disk) (past : List Moment) (s : Scene
   pub now_good : EachMoment (GoodAt i) is_now
   now_good =
       let k = q.known.cored i inside in
-      good_turn start was i (counts_at s.world h.sound.stands) q.more.contents (buffered start was i k.ready (initiator_at s.world i) k.cored (q.more.holds i inside) (grown.buffer was_tame)) is_now on hands (grown.good was_tame)
+      good_turn start was i (counts_at s.world h.sound.stands) q.more.contents (buffered HasBase start was i k.ready (initiator_at s.world i) k.cored (q.more.holds i inside) (grown.buffer was_tame)) is_now on hands (grown.good was_tame)
 
   pub now_based : EachMoment (BasedAt i) is_now
   now_based = based_of i is_now (q_now.more.granted i now_inside) now_good
+
+  pub now_ours : EachMoment (OursAt start i) is_now
+  now_ours =
+      let k = q.known.cored i inside in
+      ours_turn start was i (counts_at s.world h.sound.stands) q.more.contents (buffered (λ response. OwnBy start was i response.login) start was i k.ready (initiator_at s.world i) k.cored (q.more.holds i inside) (grown.named was_tame)) is_now on hands (grown.ours was_tame)
+
+  pub now_owned : EachMoment (OwnedAt start i) is_now
+  now_owned = owned_of start i is_now (q_now.more.granted i now_inside) now_ours
 
   pub now_unbad : EachMoment (NoBadAt i) is_now
   now_unbad =

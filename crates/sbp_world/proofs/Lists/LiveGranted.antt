@@ -1,4 +1,4 @@
--- What a status of 00 grants of an entry stands at each turn of a run in which no initiator injected packets.
+-- What a status of 00 grants of an entry stands at each turn of a run in which no initiator injected packets, or few logins were given.
 use Rattle.std.proofs.Common.{arith, ◌≡◌, ◌∙◌, refl, sym, ap, subst, ◌⊎◌, inl, inr, ℕ, suc, ◌<◌, ◌≤◌, Bool, true, false, List, ◌∷◌, ◌++◌, map, length, Option, Some, None}
 use Rattle.bus_transactions.specs.Packets.{SerialsCount}
 use Rattle.sbp_world.proofs.Wire.Bus.{holds}
@@ -8,6 +8,7 @@ use Rattle.sbp_world.proofs.Hosts.Hosted.{Cored, expires_fit, hears_fit}
 use Rattle.sbp_world.proofs.Hosts.Remaining.{remains}
 use Rattle.sbp_world.proofs.Hosts.SentMoments.{count_now, serials_from}
 use Rattle.login_table.specs.declared.login.Login.{Login}
+use Rattle.login_table.specs.Table.{Table, place_at}
 use Rattle.mgmt_agent.specs.declared.operation.Operation.{Operation as Managed}
 use Rattle.mgmt_agent.specs.Machine.{Machine}
 use Rattle.orb_layout.specs.declared.login.LoginResponse.{LoginResponse}
@@ -32,8 +33,12 @@ use Rattle.sbp_world.proofs.Agents.Management.Holding.{Holding, past_terms}
 use Rattle.sbp_world.proofs.Agents.Management.Still.{hist}
 use Rattle.sbp_world.proofs.Sessions.Turns.{wire_generation}
 use Rattle.sbp_world.specs.Lists.Contents.{AreAsked, WasAsked}
-use Rattle.sbp_world.specs.Lists.OwnLogins.{IsTame}
+use Rattle.sbp_world.specs.Lists.FewLogins.{IsCalmBeside}
+use Rattle.sbp_world.specs.Lists.Live.{HasLogin}
+use Rattle.sbp_world.specs.Lists.Owners.{LivesWith, OwnBy}
 use Rattle.sbp_world.specs.Lists.Placings.{HasBase}
+use Rattle.sbp_world.proofs.Lists.IdsOwned.{own_on}
+use Rattle.sbp_world.proofs.Lists.KeptTurns.{id_is}
 use Rattle.sbp_world.specs.Lists.Tellings.{IsActive, IsTaken, IsTold}
 use Rattle.sbp_world.proofs.Lists.Courses.{Goes}
 use Rattle.sbp_world.proofs.Lists.Judging.{counts_at, goes_next, grown}
@@ -41,8 +46,8 @@ use Rattle.sbp_world.proofs.Lists.LiveActs.{Acted, act_acts, begins, idle, moves
 use Rattle.sbp_world.proofs.Lists.LiveCalled.{Begins, Waited, goes_on, told_before, told_now, waited}
 use Rattle.sbp_world.proofs.Lists.LiveCalls.{HasLogins, HasOperation, delivery_logins, delivery_operation}
 use Rattle.sbp_world.proofs.Lists.LiveEntries.{entry_at}
-use Rattle.sbp_world.proofs.Lists.LiveGood.{now_based, now_good, now_unbad}
-use Rattle.sbp_world.proofs.Lists.LiveGrants.{Grants, IsEntry, delivery_grants, idle_grants, kept_grants, none_grants, still_grants}
+use Rattle.sbp_world.proofs.Lists.LiveGood.{now_based, now_good, now_ours, now_owned, now_unbad}
+use Rattle.sbp_world.proofs.Lists.LiveGrants.{Grants, IsEntry, Names, delivery_grants, idle_grants, kept_grants, none_grants, still_grants}
 use Rattle.sbp_world.proofs.Lists.LiveHandled.{gave_up, own_handled}
 use Rattle.sbp_world.proofs.Lists.LiveHears.{IsAnswered, IsUndone, Never, Not, delivery_moved, lapse_moved}
 use Rattle.sbp_world.proofs.Lists.LiveHelps.{ToTarget, helps_target}
@@ -51,7 +56,7 @@ use Rattle.sbp_world.proofs.Lists.LiveLeads.{hands_before}
 use Rattle.sbp_world.proofs.Lists.LiveMoves.{Moved, answers, ends, gives_up, rests as stays, undoes}
 use Rattle.sbp_world.proofs.Lists.LiveOurs.{own_host}
 use Rattle.sbp_world.proofs.Lists.LiveOwn.{in_hand, is_exit, quits, two_ways}
-use Rattle.sbp_world.proofs.Lists.LiveRuns.{AllLive, GrownBy, IsCored, With, base_of, goes_size, goes_tame, goes_turned}
+use Rattle.sbp_world.proofs.Lists.LiveRuns.{AllLive, GrownBy, IsCored, With, base_of, goes_size, goes_beside, goes_turned}
 use Rattle.sbp_world.proofs.Lists.LiveStandings.{good_block}
 use Rattle.sbp_world.proofs.Lists.LiveSteps.{CarriedOf, ClaimsOf, Comes, GaveUpOf, GrantsOf, Grown, HelpsTarget, Lives, id_in, own_of, zero_of}
 use Rattle.sbp_world.proofs.Lists.LiveTaken.{active_taken}
@@ -143,7 +148,7 @@ seen_told {past} w stands start i inside contents orb bytes told =
 
 -- ---- a turn
 module _ (placed : PlacedTurns) (stored : StoredTurns) (buffers : BufferTurns) where
-  module _ (units ready : ℕ) (start : List Disk) (past : List Moment) (s : Scene) (later : List Moment) (t : Scene) {lines more : ℕ} (has : 0 < units) (g : Goes past s later t) (h : Holding units ready start past lines s.world) (h_now : Holding units ready start later more t.world) (q : With Held start (hist past s.world) s.world) (q_now : With Held start (hist later t.world) t.world) (p : AllLive Held start (hist past s.world) s.world) (i : ℕ) (inside : i < length s.world.initiators) (tame : IsTame (hist later t.world)) where
+  module _ (units ready : ℕ) (start : List Disk) (past : List Moment) (s : Scene) (later : List Moment) (t : Scene) {lines more : ℕ} (has : 0 < units) (g : Goes past s later t) (h : Holding units ready start past lines s.world) (h_now : Holding units ready start later more t.world) (q : With Held start (hist past s.world) s.world) (q_now : With Held start (hist later t.world) t.world) (p : AllLive Held start (hist past s.world) s.world) (i : ℕ) (inside : i < length s.world.initiators) (tame : IsCalmBeside (hist later t.world) i) where
     abbrev w : WorldState
     w = s.world
 
@@ -162,8 +167,8 @@ module _ (placed : PlacedTurns) (stored : StoredTurns) (buffers : BufferTurns) w
     within : i < length v.initiators
     within = subst (λ n. i < n) (sym (goes_size past s later t g)) inside
 
-    tame_before : IsTame before
-    tame_before = goes_tame past s later t g tame
+    tame_before : IsCalmBeside before i
+    tame_before = goes_beside past s later t g i tame
 
     abbrev c : IsCored before i (initiator_at w i)
     c = q.known.cored i inside
@@ -172,7 +177,7 @@ module _ (placed : PlacedTurns) (stored : StoredTurns) (buffers : BufferTurns) w
     c_now = q_now.known.cored i within
 
     abbrev hands : Hands start i now
-    hands = q_now.more.given.laws.hands i within (tame i)
+    hands = q_now.more.given.laws.hands i within tame.0
 
     abbrev was_grown : Grown start before w i
     was_grown = (p i inside).grown
@@ -241,7 +246,7 @@ module _ (placed : PlacedTurns) (stored : StoredTurns) (buffers : BufferTurns) w
         k = target_turn units ready start past s later t has g h h_now q q_now p i inside tame placed was bus same told
 
         abbrev help : HelpsTarget start (base_of g) before now w v i
-        help = helps_target units ready start w h (as_given q) i inside (tame_before i) (base_of g) now v (p i inside).lives was up k
+        help = helps_target units ready start w h (as_given q) i inside tame_before.0 (base_of g) now v (p i inside).lives was up k
 
         abbrev grants : GrantsOf start before w i
         grants = was_grown.grants tame_before was
@@ -250,7 +255,7 @@ module _ (placed : PlacedTurns) (stored : StoredTurns) (buffers : BufferTurns) w
         store = stored units ready start past s later t _ _ has g h h_now q q_now p i inside tame was bus told
 
         taken : IsActive start before i → IsTaken start before i
-        taken active = active_taken start before i (q.more.given.managed i inside (tame_before i)) (λ x. up (gave_up c.ready before w i c.cored x)) active
+        taken active = active_taken start before i (q.more.given.managed i inside tame_before.0) (λ x. up (gave_up c.ready before w i c.cored x)) active
 
         called : TargetCall w (base_of g) v.fresh v.target → Now (id_in w i) own_number v.target (initiator_at w i)
         called (still x y) =
@@ -265,7 +270,7 @@ module _ (placed : PlacedTurns) (stored : StoredTurns) (buffers : BufferTurns) w
             delivery_grants (id_in w i) own_number (IsActive start before i) (IsActive start now i) (IsTold start before i) (IsTold start now i) w.target v.target (initiator_at w i) grants help.back help.waits sent.generation sent.bytes f.table (good units ready has start v h_now).table
             (λ packet label at left x of.
             let z = k.placed x.was x.is of in
-            let own = own_handled units ready start w h i inside was x.was x.is of z.place z.small z.orb (q.more.given.managed i inside (tame_before i)) c.ready c.cored up x.unwritten in
+            let own = own_handled units ready start w h i inside was x.was x.is of z.place z.small z.orb (q.more.given.managed i inside tame_before.0) c.ready c.cored up x.unwritten in
             let u = own.taken.underway in
             let at_place = z.orb ∙ ap (λ n. start_of (windows.Management n)) own.place_is in
             let orb = k.brings serial sent comes packet label at left x of u own.taken.is own.taken.manages at_place in
@@ -312,11 +317,6 @@ module _ (placed : PlacedTurns) (stored : StoredTurns) (buffers : BufferTurns) w
                 (was_grown.grants tame_before was) k.back k.tells same (λ running e. numbered (goes_own running e) running e) (λ op is of active phase running e. b.status was op is of phase running e) b.told))
             by false f = out_grants (id_in v i) (host_at now i).login.login (IsActive start now i) (IsTold start now i) v.target.manager v.target.logins.places (initiator_at v i) (ap in_hand same ∙ f)
 
-        same_buffer : (orb : ℕ) (bytes : List ℕ) → IsTold start now i orb bytes → bytes ≡ good_block orb → (running : Running) → (initiator_at v i).operation ≡ Some running → running.operation ≡ operations.Login → HasBase (login_response (response_of running (initiator_at v i)))
-        same_buffer orb bytes x e running is login =
-            let old = carried_so.tells orb bytes x in
-            subst (λ (xs : List ℕ). HasBase (login_response xs)) (sym ((kept_buffer (λ x. no_entry (initiator_at w i) x.none running (sym same ∙ is) (ap is_management login))).told orb bytes old running is)) (was_grown.buffer tame_before orb bytes old e running (sym same ∙ is) login)
-
       idle_now : (initiator_at w i).operation ≡ None → is_stuck_seat (initiator_at v i).seat ≡ false → (op : Managed) → v.target.manager.operation ≡ Some op → op.source ≡ id_in v i → IsActive start now i → ⊥
       idle_now none free op is of active = active (begun_rest units ready start past s later t has g h h_now q q_now p i inside tame none free)
 
@@ -327,11 +327,6 @@ module _ (placed : PlacedTurns) (stored : StoredTurns) (buffers : BufferTurns) w
       own_grants (same_end e) was = same_grants e was
       own_grants (none_end e) was = none_grants (id_in v i) (host_at now i).login.login (IsActive start now i) (IsTold start now i) v.target.manager v.target.logins.places (initiator_at v i) e
       own_grants (begun_end none free) was = idle_grants (id_in v i) (host_at now i).login.login (IsActive start now i) (IsTold start now i) v.target.manager v.target.logins.places (initiator_at v i) (idle_now none free) (silent_now none free)
-
-      own_buffer : Ends (initiator_at w i) (initiator_at v i) → (orb : ℕ) (bytes : List ℕ) → IsTold start now i orb bytes → bytes ≡ good_block orb → (running : Running) → (initiator_at v i).operation ≡ Some running → running.operation ≡ operations.Login → HasBase (login_response (response_of running (initiator_at v i)))
-      own_buffer (same_end f) orb bytes x e running is login = same_buffer f orb bytes x e running is login
-      own_buffer (none_end f) orb bytes x e running is login = absurd (let no : None ≡ Some running = sym f ∙ is in cc)
-      own_buffer (begun_end none free) orb bytes x e running is login = absurd (silent_now none free orb bytes x)
 
     -- ---- the target sees a later generation: no operation is left, and what waits did so before, of a generation that it had seen
     module _ (x : IsCleared i w v) (told : TargetTold (base_of g) v.fresh) where
@@ -348,20 +343,6 @@ module _ (placed : PlacedTurns) (stored : StoredTurns) (buffers : BufferTurns) w
           (λ orb bytes y. let l = seen_told w h.sound.stands start i inside q.more.contents orb bytes (old_told orb bytes y) in let a = x.later in let b = x.own in absurd (omega (arith, l, a, b, e)))
 
     -- ---- any turn
-    abbrev Buffered : InitiatorState → Type 0
-    Buffered x = (orb : ℕ) (bytes : List ℕ) → IsTold start now i orb bytes → bytes ≡ good_block orb → (running : Running) → x.operation ≡ Some running → running.operation ≡ operations.Login → HasBase (login_response (response_of running x))
-
-    stays_buffered : initiator_at v i ≡ initiator_at w i → (orb : ℕ) (bytes : List ℕ) → IsTold start before i orb bytes → bytes ≡ good_block orb → (running : Running) → (initiator_at v i).operation ≡ Some running → running.operation ≡ operations.Login → HasBase (login_response (response_of running (initiator_at v i)))
-    stays_buffered same orb bytes old e running is login =
-        subst (λ (x : InitiatorState). HasBase (login_response (response_of running x))) (sym same) (was_grown.buffer tame_before orb bytes old e running (sym (ap (λ (x : InitiatorState). x.operation) same) ∙ is) login)
-
-    target_buffer : SameBus i w v → initiator_at v i ≡ initiator_at w i → TargetCall w (base_of g) v.fresh v.target → TargetTold (base_of g) v.fresh → Buffered (initiator_at v i)
-    target_buffer bus same call told orb bytes x e running is login = by (waits_told told orb bytes x)
-      where
-        by : IsTold start before i orb bytes ⊎ ((zero_of v ≡ own_of v i) × ((op : Managed) × (v.target.manager.operation ≡ Some op))) → HasBase (login_response (response_of running (initiator_at v i)))
-        by (inl old) = stays_buffered same orb bytes old e running is login
-        by (inr n) = (((target_grants bus same told (sym bus.zero ∙ n.0 ∙ bus.own) call).told orb bytes x e).logs_in running is login).based
-
     told_in : TargetCall w (base_of g) v.fresh v.target → TargetTold (base_of g) v.fresh
     told_in (delivers serial sent found zero_to run disks is y first) = y
     told_in (still x y) = y
@@ -372,11 +353,61 @@ module _ (placed : PlacedTurns) (stored : StoredTurns) (buffers : BufferTurns) w
     turn_grants (by_own bus same call away) e = own_grants bus same call away (ended bus same call away) (sym bus.zero ∙ e ∙ bus.own)
     turn_grants (by_sight x same away) e = none_grants (id_in v i) (host_at now i).login.login (IsActive start now i) (IsTold start now i) v.target.manager v.target.logins.places (initiator_at v i) x.reset.none
 
-    turn_buffer : TurnOf i w (base_of g) v → Buffered (initiator_at v i)
-    turn_buffer (by_target bus same call) = target_buffer bus same call (told_in call)
-    turn_buffer (by_clearing x same told) = λ orb bytes y e running is login. stays_buffered same orb bytes (old_told x told orb bytes y) e running is login
-    turn_buffer (by_own bus same call away) = own_buffer bus same call away (ended bus same call away)
-    turn_buffer (by_sight x same away) = λ orb bytes y e running is login. absurd (let no : None ≡ Some running = sym x.reset.none ∙ is in cc)
+    -- ---- what a response says that a status of 00 waits for
+    module _ (Old New : LoginResponse → Type 0) (on : (response : LoginResponse) → Old response → New response) (had : (orb : ℕ) (bytes : List ℕ) → IsTold start before i orb bytes → bytes ≡ good_block orb → (running : Running) → (initiator_at w i).operation ≡ Some running → running.operation ≡ operations.Login → Old (login_response (response_of running (initiator_at w i)))) (fresh : (response : LoginResponse) → Names v.target.logins.places (id_in v i) response → New response) where
+      abbrev Buffered : InitiatorState → Type 0
+      Buffered x = (orb : ℕ) (bytes : List ℕ) → IsTold start now i orb bytes → bytes ≡ good_block orb → (running : Running) → x.operation ≡ Some running → running.operation ≡ operations.Login → New (login_response (response_of running x))
+
+      abbrev Its : Running → LoginResponse
+      Its running = login_response (response_of running (initiator_at w i))
+
+      same_buffer : (bus : SameBus i w v) (same_target : v.target ≡ w.target) (call : OwnCall w i (base_of g) v.fresh (initiator_at v i)) (away : TellsAway i w (base_of g) v) → (initiator_at v i).operation ≡ (initiator_at w i).operation → Buffered (initiator_at v i)
+      same_buffer bus same_target call away same orb bytes x e running is login =
+          let old = (carried_so bus same_target call away same).tells orb bytes x in
+          subst (λ (xs : List ℕ). New (login_response xs)) (sym ((kept_buffer bus same_target call away same (λ x. no_entry (initiator_at w i) x.none running (sym same ∙ is) (ap is_management login))).told orb bytes old running is))
+          (on (Its running) (had orb bytes old e running (sym same ∙ is) login))
+
+      own_buffer : (bus : SameBus i w v) (same_target : v.target ≡ w.target) (call : OwnCall w i (base_of g) v.fresh (initiator_at v i)) (away : TellsAway i w (base_of g) v) → Ends (initiator_at w i) (initiator_at v i) → Buffered (initiator_at v i)
+      own_buffer bus same_target call away (same_end f) orb bytes x e running is login = same_buffer bus same_target call away f orb bytes x e running is login
+      own_buffer bus same_target call away (none_end f) orb bytes x e running is login = absurd (let no : None ≡ Some running = sym f ∙ is in cc)
+      own_buffer bus same_target call away (begun_end none free) orb bytes x e running is login = absurd (silent_now bus same_target call away none free orb bytes x)
+
+      stays_buffered : initiator_at v i ≡ initiator_at w i → (orb : ℕ) (bytes : List ℕ) → IsTold start before i orb bytes → bytes ≡ good_block orb → (running : Running) → (initiator_at v i).operation ≡ Some running → running.operation ≡ operations.Login → New (login_response (response_of running (initiator_at v i)))
+      stays_buffered same orb bytes old e running is login =
+          subst (λ (x : InitiatorState). New (login_response (response_of running x))) (sym same) (on (Its running) (had orb bytes old e running (sym (ap (λ (x : InitiatorState). x.operation) same) ∙ is) login))
+
+      target_buffer : SameBus i w v → initiator_at v i ≡ initiator_at w i → TargetCall w (base_of g) v.fresh v.target → TargetTold (base_of g) v.fresh → Buffered (initiator_at v i)
+      target_buffer bus same call told orb bytes x e running is login = by (waits_told told orb bytes x)
+        where
+          by : IsTold start before i orb bytes ⊎ ((zero_of v ≡ own_of v i) × ((op : Managed) × (v.target.manager.operation ≡ Some op))) → New (login_response (response_of running (initiator_at v i)))
+          by (inl old) = stays_buffered same orb bytes old e running is login
+          by (inr n) = fresh (login_response (response_of running (initiator_at v i))) (((target_grants bus same told (sym bus.zero ∙ n.0 ∙ bus.own) call).told orb bytes x e).logs_in running is login)
+
+      turn_buffer : TurnOf i w (base_of g) v → Buffered (initiator_at v i)
+      turn_buffer (by_target bus same call) = target_buffer bus same call (told_in call)
+      turn_buffer (by_clearing x same told) = λ orb bytes y e running is login. stays_buffered same orb bytes (old_told x told orb bytes y) e running is login
+      turn_buffer (by_own bus same call away) = own_buffer bus same call away (ended bus same call away)
+      turn_buffer (by_sight x same away) = λ orb bytes y e running is login. absurd (let no : None ≡ Some running = sym x.reset.none ∙ is in cc)
+
+    -- it has the base of the agent of a place
+    now_buffered : TurnOf i w (base_of g) v → (orb : ℕ) (bytes : List ℕ) → IsTold start now i orb bytes → bytes ≡ good_block orb → (running : Running) → (initiator_at v i).operation ≡ Some running → running.operation ≡ operations.Login → HasBase (login_response (response_of running (initiator_at v i)))
+    now_buffered = turn_buffer HasBase HasBase (λ response b. b) (was_grown.buffer tame_before) (λ response n. n.based)
+
+    -- and names a login that the initiator's node had
+    now_lives : (number : ℕ) → HasLogin v.target.logins.places (id_in v i) number → LivesWith start now i number
+    now_lives number x = record {
+      place = x.place;
+      login = x.login;
+      there = ap (λ (y : Table). place_at y.places x.place) h_now.at.agrees.table ∙ x.there;
+      live = x.live;
+      node = x.of_node ∙ sym (id_is units ready has start v h_now i within);
+      own = x.own;
+    }
+
+    now_named : TurnOf i w (base_of g) v → (orb : ℕ) (bytes : List ℕ) → IsTold start now i orb bytes → bytes ≡ good_block orb → (running : Running) → (initiator_at v i).operation ≡ Some running → running.operation ≡ operations.Login → OwnBy start now i (login_response (response_of running (initiator_at v i))).login
+    now_named =
+        turn_buffer (λ response. OwnBy start before i response.login) (λ response. OwnBy start now i response.login) (λ response o. own_on start i response.login past s later t g o) (was_grown.named tame_before)
+        (λ response n. inl (now_lives response.login n.has))
 
     -- ---- what waits for a logout
     abbrev Logged : InitiatorState → Type 0
@@ -416,7 +447,10 @@ module _ (placed : PlacedTurns) (stored : StoredTurns) (buffers : BufferTurns) w
       let turn = goes_turned units ready has start past s later t g h i inside in
       record {
         grants = λ tame e. turn_grants units ready start past s later t has g h h_now q q_now p i inside tame turn e;
-        buffer = λ tame. turn_buffer units ready start past s later t has g h h_now q q_now p i inside tame turn;
+        buffer = λ tame. now_buffered units ready start past s later t has g h h_now q q_now p i inside tame turn;
+        named = λ tame. now_named units ready start past s later t has g h h_now q q_now p i inside tame turn;
+        ours = λ tame. now_ours units ready start past s later t has g h h_now q q_now p i inside tame;
+        owned = λ tame. now_owned units ready start past s later t has g h h_now q q_now p i inside tame;
         good = λ tame. now_good units ready start past s later t has g h h_now q q_now p i inside tame;
         based = λ tame. now_based units ready start past s later t has g h h_now q q_now p i inside tame;
         logout = λ tame. turn_logged units ready start past s later t has g h h_now q q_now p i inside tame lives turn;

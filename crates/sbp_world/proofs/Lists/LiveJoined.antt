@@ -1,4 +1,5 @@
--- The logins of the initiators' nodes, with what a status of 00 grants of their logins and reconnects, at each turn of a run in which no initiator injected packets.
+-- The logins of the node of an initiator that injected no packets, with what a status of 00 grants of its logins and reconnects, at each turn of a run in which no initiator
+-- injected packets, or few logins were given.
 use Rattle.std.proofs.Common.{◌≡◌, refl, sym, ap, subst, ℕ, ◌<◌, true, false, List, length, Some, None}
 use Rattle.async_packet.specs.Labels.{LabelParts}
 use Rattle.async_packet.specs.Packet.{Packet}
@@ -32,8 +33,8 @@ use Rattle.sbp_world.specs.Lists.Contents.{AreAsked}
 use Rattle.sbp_world.specs.Lists.Live.{HasGivenUp, HasLogin}
 use Rattle.sbp_world.specs.Lists.Managing.{IsRest}
 use Rattle.sbp_world.specs.Lists.Needs.{IsCalm}
-use Rattle.sbp_world.specs.Lists.OwnLogins.{IsTame}
-use Rattle.sbp_world.specs.Lists.Placings.{BasedAt}
+use Rattle.sbp_world.specs.Lists.FewLogins.{IsCalmBeside}
+use Rattle.sbp_world.proofs.Lists.Beside.{AreDone}
 use Rattle.sbp_world.specs.Lists.Responding.{BufferSo}
 use Rattle.sbp_world.specs.Lists.Stored.{IsInBuffer}
 use Rattle.sbp_world.specs.Lists.Tellings.{IsTaken, IsTold}
@@ -48,7 +49,7 @@ use Rattle.sbp_world.proofs.Lists.LiveOurs.{own_carried, own_fresh}
 use Rattle.sbp_world.proofs.Lists.LiveOwn.{not_up}
 use Rattle.sbp_world.proofs.Lists.LivePends.{pends_now}
 use Rattle.sbp_world.proofs.Lists.LiveRefusing.{AreManagedBy, refused}
-use Rattle.sbp_world.proofs.Lists.LiveRuns.{AllLive, HelpedBy, IsCored, With, base_of, goes_size, goes_tame}
+use Rattle.sbp_world.proofs.Lists.LiveRuns.{AllLive, HelpedBy, IsCored, With, base_of, goes_size, goes_beside}
 use Rattle.sbp_world.proofs.Lists.LiveSteps.{CarriedOf, Comes, GaveUpOf, HelpsOwn, id_in, own_of, zero_of}
 use Rattle.sbp_world.proofs.Lists.LiveTaken.{fresh_rest, fresh_silent}
 use Rattle.sbp_world.proofs.Lists.LiveTogether.{ArePlaced, has_orbs, to_target}
@@ -59,13 +60,13 @@ use Rattle.sbp_world.proofs.Lists.ReplyRuns.{AreRepliedAt}
 
 -- ---- what laws give at each place, and what is to be known of a turn
 
--- what the target wrote into response buffers, where each login that was done had the base of the agent of a place
+-- what the target wrote into response buffers, by what is known of the logins that were done
 abbrev pub AreBuffersAt : List Disk → List Moment → WorldState → Type 0
-AreBuffersAt start past w = IsTame past → ((j : ℕ) → j < length w.initiators → EachMoment (BasedAt j) past) → (i : ℕ) → i < length w.initiators → EachMoment (BufferSo start i) past
+AreBuffersAt start past w = (i : ℕ) → i < length w.initiators → AreDone start (length w.initiators) past i → EachMoment (BufferSo start i) past
 
 -- and the responses of logins that were got stand in their buffers
 abbrev pub AreStoredAt : List Disk → List Moment → WorldState → Type 0
-AreStoredAt start past w = IsTame past → ((j : ℕ) → j < length w.initiators → EachMoment (BasedAt j) past) → (i : ℕ) → i < length w.initiators → IsInBuffer start past i
+AreStoredAt start past w = (i : ℕ) → i < length w.initiators → AreDone start (length w.initiators) past i → IsInBuffer start past i
 
 pub record Held (start : List Disk) (past : List Moment) (w : WorldState) : Type 0 where
   pub given : Given start past w
@@ -86,7 +87,7 @@ as_given q = record { known = q.known; more = q.more.given }
 
 abbrev pub OfTurn : (List Disk → List Note → List Moment → List Moment → WorldState → WorldState → ℕ → Type 0) → Type 0
 OfTurn T =
-    (units ready : ℕ) (start : List Disk) (past : List Moment) (s : Scene) (later : List Moment) (t : Scene) (lines more : ℕ) → 0 < units → (g : Goes past s later t) → Holding units ready start past lines s.world → Holding units ready start later more t.world → With Held start (hist past s.world) s.world → With Held start (hist later t.world) t.world → AllLive Held start (hist past s.world) s.world → (i : ℕ) → i < length s.world.initiators → IsTame (hist later t.world) → T start (base_of g) (hist past s.world) (hist later t.world) s.world t.world i
+    (units ready : ℕ) (start : List Disk) (past : List Moment) (s : Scene) (later : List Moment) (t : Scene) (lines more : ℕ) → 0 < units → (g : Goes past s later t) → Holding units ready start past lines s.world → Holding units ready start later more t.world → With Held start (hist past s.world) s.world → With Held start (hist later t.world) t.world → AllLive Held start (hist past s.world) s.world → (i : ℕ) → i < length s.world.initiators → IsCalmBeside (hist later t.world) i → T start (base_of g) (hist past s.world) (hist later t.world) s.world t.world i
 
 -- the target is called: its operation, and one that it starts, has its ORB in a place of the initiator
 abbrev pub PlacedTurns : Type 0
@@ -109,7 +110,7 @@ BufferTurns = OfTurn (λ start base before now w v i. SameBus i w v → v.target
 
 -- ---- a turn
 
-module _ (units ready : ℕ) (start : List Disk) (past : List Moment) (s : Scene) (later : List Moment) (t : Scene) {lines more : ℕ} (has : 0 < units) (g : Goes past s later t) (h : Holding units ready start past lines s.world) (h_now : Holding units ready start later more t.world) (q : With Held start (hist past s.world) s.world) (q_now : With Held start (hist later t.world) t.world) (p : AllLive Held start (hist past s.world) s.world) (i : ℕ) (inside : i < length s.world.initiators) (tame : IsTame (hist later t.world)) where
+module _ (units ready : ℕ) (start : List Disk) (past : List Moment) (s : Scene) (later : List Moment) (t : Scene) {lines more : ℕ} (has : 0 < units) (g : Goes past s later t) (h : Holding units ready start past lines s.world) (h_now : Holding units ready start later more t.world) (q : With Held start (hist past s.world) s.world) (q_now : With Held start (hist later t.world) t.world) (p : AllLive Held start (hist past s.world) s.world) (i : ℕ) (inside : i < length s.world.initiators) (tame : IsCalmBeside (hist later t.world) i) where
   abbrev pub w : WorldState
   w = s.world
 
@@ -125,11 +126,11 @@ module _ (units ready : ℕ) (start : List Disk) (past : List Moment) (s : Scene
   pub within : i < length v.initiators
   within = subst (λ n. i < n) (sym (goes_size past s later t g)) inside
 
-  pub tame_before : IsTame before
-  tame_before = goes_tame past s later t g tame
+  pub tame_before : IsCalmBeside before i
+  tame_before = goes_beside past s later t g i tame
 
   abbrev pub calm : IsCalm before i
-  calm = tame_before i
+  calm = tame_before.0
 
   abbrev pub c : IsCored before i (initiator_at w i)
   c = q.known.cored i inside
@@ -146,27 +147,27 @@ module _ (units ready : ℕ) (start : List Disk) (past : List Moment) (s : Scene
     not_given up = not_up (initiator_at v i).operation (initiator_at v i).seat free (gave_up c_now.ready now v i c_now.cored up)
 
     pub begun_rest : IsRest start now i
-    begun_rest = fresh_rest start now i (q_now.more.given.managed i within (tame i)) not_given unjudged
+    begun_rest = fresh_rest start now i (q_now.more.given.managed i within tame.0) not_given unjudged
 
     pub begun_silent : (orb : ℕ) (bytes : List ℕ) → IsTold start now i orb bytes → ⊥
-    begun_silent = fresh_silent start now i (q_now.more.given.managed i within (tame i)) not_given unjudged
+    begun_silent = fresh_silent start now i (q_now.more.given.managed i within tame.0) not_given unjudged
 
   -- ---- the target is called
   pub target_turn : PlacedTurns → zero_of w ≡ own_of w i → SameBus i w v → initiator_at v i ≡ initiator_at w i → TargetTold (base_of g) v.fresh → ToTarget start (base_of g) before now w v i
   target_turn placed was bus same told =
       let x = placed units ready start past s later t _ _ has g h h_now q q_now p i inside tame was bus told in
-      to_target units ready start past s later t g h h_now i inside within (q_now.more.given.laws.hands i within (tame i)) (q.more.given.managed i inside calm) c.ready c_now.ready c.cored c_now.cored bus same was told
+      to_target units ready start past s later t g h h_now i inside within (q_now.more.given.laws.hands i within tame.0) (q.more.given.managed i inside calm) c.ready c_now.ready c.cored c_now.cored bus same was told
       (has_orbs units ready has start w v h (as_given q) i inside calm was (base_of g) x)
 
   -- ---- the initiator is called, or another
   pub carried_on : TellsAway i w (base_of g) v → (initiator_at v i).operation ≡ (initiator_at w i).operation → CarriedOf start before now w i
-  carried_on away same = own_carried units ready start past s later t g h i inside (q_now.more.given.laws.hands i within (tame i)) away c.ready c_now.ready c.cored c_now.cored (q.more.given.managed i inside calm) same
+  carried_on away same = own_carried units ready start past s later t g h i inside (q_now.more.given.laws.hands i within tame.0) away c.ready c_now.ready c.cored c_now.cored (q.more.given.managed i inside calm) same
 
   own_turn : zero_of w ≡ own_of w i → TellsAway i w (base_of g) v → HelpsOwn start (base_of g) before now w v i
   own_turn was away = record {
     carried = carried_on away;
     hearing = λ serial sent found to_is first.
-        let hands = q_now.more.given.laws.hands i within (tame i) in
+        let hands = q_now.more.given.laws.hands i within tame.0 in
         let grants = (p i inside).grown.grants tame_before was in
         record {
           pend = λ running status is a.
@@ -189,7 +190,7 @@ module _ (units ready : ℕ) (start : List Disk) (past : List Moment) (s : Scene
 pub helped : PlacedTurns → HelpedBy Held
 helped placed units ready start past s later t lines more has g h h_now q q_now p i inside tame e was = record {
   target = λ bus same told up.
-      helps_target units ready start s.world h (as_given q) i inside (goes_tame past s later t g tame i) (base_of g) (hist later t.world) t.world (p i inside).lives was up
+      helps_target units ready start s.world h (as_given q) i inside (goes_beside past s later t g i tame).0 (base_of g) (hist later t.world) t.world (p i inside).lives was up
       (target_turn units ready start past s later t has g h h_now q q_now p i inside tame placed was bus same told);
   own = λ bus same away. own_turn units ready start past s later t has g h h_now q q_now p i inside tame was away;
 }

@@ -25,7 +25,7 @@ use Rattle.sbp_target.proofs.Histories.Calling.{Good}
 use Rattle.sbp_world.proofs.Agents.Management.Holding.{Holding}
 use Rattle.sbp_world.proofs.Sessions.Caught.{is_in}
 use Rattle.sbp_world.specs.Lists.Live.{HasNone}
-use Rattle.sbp_world.specs.Lists.OwnLogins.{IsTame}
+use Rattle.sbp_world.specs.Lists.FewLogins.{IsCalmBeside}
 use Rattle.sbp_world.specs.Lists.Tellings.{IsActive, IsTaken, IsTold}
 use Rattle.sbp_world.proofs.Lists.LiveActs.{Acted, act_acts, begins, idle, moves}
 use Rattle.sbp_world.proofs.Lists.LiveAims.{Aims, acted_aims, aims_none, moved_aims}
@@ -73,7 +73,7 @@ module _ (units ready : ℕ) (has : 0 < units) (start : List Disk) (is_ready : B
     stay_fit : Fit t.operation t.seat
     stay_fit = subst (λ (x : InitiatorState). Fit x.operation x.seat) (sym same) live.fit
 
-    module _ (call : TargetCall w base v.fresh v.target) (calm : IsTame before) (together : zero_of w ≡ own_of w i) (help : HelpsTarget start base before now w v i) where
+    module _ (call : TargetCall w base v.fresh v.target) (calm : IsCalmBeside before i) (together : zero_of w ≡ own_of w i) (help : HelpsTarget start base before now w v i) where
       abbrev Now : NodeState → Type 0
       Now node = Claims (IsTaken start now i) (IsActive start now i) (IsTold start now i) (stand_of s.seat) (id_in w i) node.manager node.logins.places
 
@@ -97,7 +97,7 @@ module _ (units ready : ℕ) (has : 0 < units) (start : List Disk) (is_ready : B
     stays_up : GaveUpOf w i → GaveUpOf v i
     stays_up g = subst (λ (x : InitiatorState). GaveUp x.operation x.seat) (sym same) g
 
-    target_claims : TargetCall w base v.fresh v.target → IsTame before → zero_of w ≡ own_of w i → ((GaveUpOf w i → ⊥) → HelpsTarget start base before now w v i) → GaveUpOf w i ⊎ ClaimsOf start before w i → GaveUpOf v i ⊎ ClaimsOf start now v i
+    target_claims : TargetCall w base v.fresh v.target → IsCalmBeside before i → zero_of w ≡ own_of w i → ((GaveUpOf w i → ⊥) → HelpsTarget start base before now w v i) → GaveUpOf w i ⊎ ClaimsOf start before w i → GaveUpOf v i ⊎ ClaimsOf start now v i
     target_claims call calm together help (inl g) = inl (stays_up g)
     target_claims call calm together help (inr c) = by (is_stuck_seat s.seat) refl (in_hand s.operation) refl
       where
@@ -257,7 +257,7 @@ module _ (units ready : ℕ) (has : 0 < units) (start : List Disk) (is_ready : B
     own_kept (acts action is) = acts_kept (subst (λ (x : InitiatorState). Acted s x.operation x.seat) (sym is) (act_acts action s))
 
   -- ---- a turn
-  module _ (calm : IsTame now → IsTame before) (help : IsTame now → zero_of v ≡ own_of v i → zero_of w ≡ own_of w i → Helps start base before now w v i) where
+  module _ (calm : IsCalmBeside now i → IsCalmBeside before i) (help : IsCalmBeside now i → zero_of v ≡ own_of v i → zero_of w ≡ own_of w i → Helps start base before now w v i) where
     was_together : SameBus i w v → zero_of v ≡ own_of v i → zero_of w ≡ own_of w i
     was_together bus e = sym bus.zero ∙ e ∙ bus.own
 

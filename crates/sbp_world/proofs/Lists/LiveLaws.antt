@@ -31,7 +31,7 @@ use Rattle.sbp_world.specs.Sessions.Entering.{joined_with}
 use Rattle.sbp_world.proofs.Sessions.Turns.{wire_generation}
 use Rattle.sbp_world.specs.Lists.Live.{AreLive, HasGivenUp, HasLogin, HasNone, IsLive, LiveLaw, is_apart}
 use Rattle.sbp_world.specs.Lists.Needs.{OpenBefore, OpenBetween}
-use Rattle.sbp_world.specs.Lists.OwnLogins.{IsTame}
+use Rattle.sbp_world.specs.Lists.FewLogins.{IsCalmBeside}
 use Rattle.sbp_world.proofs.Lists.Courses.{EveryPlace, more_than_one}
 use Rattle.sbp_world.proofs.Lists.LiveOwn.{in_hand}
 use Rattle.sbp_world.proofs.Lists.LiveRuns.{AllLive, GrownBy, HelpedBy, Known, all_after, all_between, known_everywhere}
@@ -107,7 +107,7 @@ module _ (units ready : ℕ) (start : List Disk) {past : List Moment} {lines : �
   abbrev t : Terms
   t = terms (hist past w)
 
-  module _ (i : ℕ) (l : i < length w.initiators) (calm : IsTame (hist past w)) (same : t.generation 0 ≡ t.generation (suc i)) where
+  module _ (i : ℕ) (l : i < length w.initiators) (calm : IsCalmBeside (hist past w) i) (same : t.generation 0 ≡ t.generation (suc i)) where
     together : zero_of w ≡ own_of w i
     together = sym (wire_generation w h.sound.stands 0 (omega arith)) ∙ same ∙ wire_generation w h.sound.stands (suc i) (omega arith)
 

@@ -1,8 +1,9 @@
--- The logins of the initiators' nodes, the logouts, and the responses of logins, in every run in which no initiator injected packets, and before which lists were open as
+-- The logins of the initiators' nodes, the logouts, and the responses of logins, in every run in which no initiator injected packets, or few logins were given, and before which lists were open as
 -- they should be.
-use Rattle.std.proofs.Common.{ℕ, ◌<◌, length}
+use Rattle.std.proofs.Common.{inl, ℕ, ◌<◌, length}
 use Rattle.sbp_laws.specs.Turns.{EachMoment}
-use Rattle.sbp_world.specs.Lists.Closes.{Under}
+use Rattle.sbp_world.specs.Lists.Closes.{Under, WhereTameOrFew}
+use Rattle.sbp_world.specs.Lists.FewLogins.{IsCalmBeside}
 use Rattle.sbp_world.specs.Lists.Live.{LiveLaw}
 use Rattle.sbp_world.specs.Lists.Opened.{NoneRefused}
 use Rattle.sbp_world.specs.Lists.OwnLogins.{IsTame}
@@ -11,7 +12,8 @@ use Rattle.sbp_world.proofs.Lists.BufferClears.{buffers_held}
 use Rattle.sbp_world.proofs.Lists.Courses.{EveryPlace}
 use Rattle.sbp_world.proofs.Lists.LiveGiven.{LawsAt, ShortLaw, laws_of}
 use Rattle.sbp_world.proofs.Lists.LiveJoined.{AreStoredAt}
-use Rattle.sbp_world.proofs.Lists.LiveProved.{all_based, live, none_refused}
+use Rattle.sbp_world.proofs.Lists.LiveProved.{live, logins_done, none_refused}
+use Rattle.sbp_world.proofs.Lists.Beside.{AreDone, done_based}
 use Rattle.sbp_world.proofs.Lists.ManageProved.{one_in_hand_law}
 use Rattle.sbp_world.proofs.Lists.StoredRuns.{stored_everywhere}
 
@@ -25,8 +27,15 @@ module _ (short : ShortLaw) where
   pub logins_live : LiveLaw
   logins_live = live laws (buffers_held short) stored
 
-  pub logouts_end : Under (λ past w. IsTame past → NoneRefused past w)
+  pub logouts_end : Under (WhereTameOrFew NoneRefused)
   logouts_end = none_refused laws (buffers_held short) stored
 
+  pub logins_known : EveryPlace (λ start past w. (i : ℕ) → i < length w.initiators → IsCalmBeside past i → AreDone start (length w.initiators) past i)
+  logins_known = logins_done laws (buffers_held short) stored
+
+  -- where no initiator injected packets
   pub logins_based : Under (λ past w. IsTame past → (i : ℕ) → i < length w.initiators → EachMoment (BasedAt i) past)
-  logins_based = all_based laws (buffers_held short) stored
+  logins_based = record {
+    after_lines = λ line run r has small size so_far tame i l. done_based run.start.disks _ _ i l (logins_known.after_lines line run r has small size so_far i l (tame i, inl tame));
+    between = λ line run r has small size next most told m so_far tame i l. done_based run.start.disks _ _ i l (logins_known.between line run r has small size next most told m so_far i l (tame i, inl tame));
+  }

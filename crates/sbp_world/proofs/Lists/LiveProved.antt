@@ -1,4 +1,4 @@
--- The logins of the initiators' nodes in every run, where no initiator injected packets and lists were open before as they should be: by what is known of the
+-- The logins of the initiators' nodes in every run, where no initiator injected packets, or few logins were given, and lists were open before as they should be: by what is known of the
 -- turns of the target, of the response buffers and of the logins that are done.
 use Rattle.std.proofs.Common.{◌∙◌, subst, ℕ, ◌<◌, List, length}
 use Rattle.rbc_disk.specs.Disk.{Disk}
@@ -12,11 +12,10 @@ use Rattle.sbp_world.specs.Settling.{after_all}
 use Rattle.sbp_world.specs.Histories.{history_of}
 use Rattle.sbp_world.specs.Worlds.{WorldState, begun}
 use Rattle.sbp_laws.specs.Turns.{EachMoment}
-use Rattle.sbp_world.specs.Lists.Closes.{Under}
+use Rattle.sbp_world.specs.Lists.Closes.{Under, WhereTameOrFew}
 use Rattle.sbp_world.specs.Lists.Live.{LiveLaw}
 use Rattle.sbp_world.specs.Lists.Opened.{NoneRefused}
-use Rattle.sbp_world.specs.Lists.OwnLogins.{IsTame}
-use Rattle.sbp_world.specs.Lists.Placings.{BasedAt}
+use Rattle.sbp_world.specs.Lists.FewLogins.{IsCalmBeside}
 use Rattle.sbp_world.specs.Lists.Responding.{BufferSo}
 use Rattle.sbp_world.specs.Lists.Shorts.{AreShort}
 use Rattle.sbp_world.proofs.Lists.ContentPlaces.{contents_everywhere}
@@ -30,7 +29,8 @@ use Rattle.sbp_world.proofs.Lists.LiveHelps.{given_everywhere}
 use Rattle.sbp_world.proofs.Lists.LiveJoined.{AreBuffersAt, AreStoredAt, Held, helped}
 use Rattle.sbp_world.proofs.Lists.LastReadRuns.{read_everywhere}
 use Rattle.sbp_world.proofs.Lists.LiveLaws.{live_law}
-use Rattle.sbp_world.proofs.Lists.LiveRuns.{all_after, all_between}
+use Rattle.sbp_world.proofs.Lists.LiveRuns.{all_after, all_between, done_of}
+use Rattle.sbp_world.proofs.Lists.Beside.{AreDone}
 use Rattle.sbp_world.proofs.Lists.LiveUnrefused.{unrefused_of}
 use Rattle.sbp_world.proofs.Lists.GrantedRuns.{granted_everywhere}
 use Rattle.sbp_world.proofs.Lists.LivePlaced.{placed_turns}
@@ -39,7 +39,7 @@ use Rattle.sbp_world.proofs.Lists.StoredTurns.{stored_turns}
 use Rattle.sbp_world.proofs.Lists.PlacedRuns.{placed_everywhere, wrote_everywhere}
 
 abbrev pub BuffersShort : List Disk → List Moment → WorldState → Type 0
-BuffersShort start past w = IsTame past → AreShort past → ((j : ℕ) → j < length w.initiators → EachMoment (BasedAt j) past) → (i : ℕ) → i < length w.initiators → EachMoment (BufferSo start i) past
+BuffersShort start past w = AreShort past → (i : ℕ) → i < length w.initiators → AreDone start (length w.initiators) past i → EachMoment (BufferSo start i) past
 
 pub held_everywhere : EveryPlace LawsAt → EveryPlace AreBuffersAt → EveryPlace AreStoredAt → EveryPlace Held
 held_everywhere laws buffers stored =
@@ -88,9 +88,8 @@ pub buffers_by : ShortLaw → EveryPlace BuffersShort → EveryPlace AreBuffersA
 buffers_by short buffers =
     let shorts = shorts_everywhere short in
     record {
-      after_lines = λ line run r has small size so_far tame based. buffers.after_lines line run r has small size so_far tame (shorts.after_lines line run r has small size so_far) based;
-      between = λ line run r has small size next most told m so_far tame based.
-          buffers.between line run r has small size next most told m so_far tame (shorts.between line run r has small size next most told m so_far) based;
+      after_lines = λ line run r has small size so_far. buffers.after_lines line run r has small size so_far (shorts.after_lines line run r has small size so_far);
+      between = λ line run r has small size next most told m so_far. buffers.between line run r has small size next most told m so_far (shorts.between line run r has small size next most told m so_far);
     }
 
 module _ (laws : EveryPlace LawsAt) (buffers : EveryPlace AreBuffersAt) (stored : EveryPlace AreStoredAt) where
@@ -101,21 +100,21 @@ module _ (laws : EveryPlace LawsAt) (buffers : EveryPlace AreBuffersAt) (stored 
   live = live_law Held held (helped placed_turns) (grown_by placed_turns stored_turns buffer_turns)
 
   -- no logout is refused
-  pub none_refused : Under (λ past w. IsTame past → NoneRefused past w)
+  pub none_refused : Under (WhereTameOrFew NoneRefused)
   none_refused = record {
     after_lines = λ line run r has small size so_far tame i l calm.
         unrefused_of i (history_of line run) (granted_everywhere.after_lines line run r has small size so_far i l)
-        ((all_after Held held (helped placed_turns) (grown_by placed_turns stored_turns buffer_turns) line run r has small size so_far i l).grown.unbad tame);
+        ((all_after Held held (helped placed_turns) (grown_by placed_turns stored_turns buffer_turns) line run r has small size so_far i l).grown.unbad (calm, tame));
     between = λ line run r has small size next most told m so_far tame i l calm.
         unrefused_of i _ (granted_everywhere.between line run r has small size next most told m so_far i l)
-        ((all_between Held held (helped placed_turns) (grown_by placed_turns stored_turns buffer_turns) line run r has small size next most told m so_far i l).grown.unbad tame);
+        ((all_between Held held (helped placed_turns) (grown_by placed_turns stored_turns buffer_turns) line run r has small size next most told m so_far i l).grown.unbad (calm, tame));
   }
 
-  -- and each login that is done has a response with the agent of a place
-  pub all_based : Under (λ past w. IsTame past → (i : ℕ) → i < length w.initiators → EachMoment (BasedAt i) past)
-  all_based = record {
-    after_lines = λ line run r has small size so_far tame i l.
-        (all_after Held held (helped placed_turns) (grown_by placed_turns stored_turns buffer_turns) line run r has small size so_far i l).grown.based tame;
-    between = λ line run r has small size next most told m so_far tame i l.
-        (all_between Held held (helped placed_turns) (grown_by placed_turns stored_turns buffer_turns) line run r has small size next most told m so_far i l).grown.based tame;
+  -- and what is known of the logins that were done
+  pub logins_done : EveryPlace (λ start past w. (i : ℕ) → i < length w.initiators → IsCalmBeside past i → AreDone start (length w.initiators) past i)
+  logins_done = record {
+    after_lines = λ line run r has small size so_far i l beside.
+        done_of run.start.disks _ _ (all_after Held held (helped placed_turns) (grown_by placed_turns stored_turns buffer_turns) line run r has small size so_far) i l beside;
+    between = λ line run r has small size next most told m so_far i l beside.
+        done_of run.start.disks _ _ (all_between Held held (helped placed_turns) (grown_by placed_turns stored_turns buffer_turns) line run r has small size next most told m so_far) i l beside;
   }

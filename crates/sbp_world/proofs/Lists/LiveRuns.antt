@@ -1,5 +1,5 @@
 -- The logins of the initiators' nodes over the runs, where the two ends of the management go together at each turn.
-use Rattle.std.proofs.Common.{arith, ◌≡◌, ◌∙◌, refl, sym, ap, subst, ℕ, suc, ◌+◌, ◌<◌, ◌≤◌, Bool, true, false, List, [], ◌∷◌, ◌++◌, map, length, Option, Some, None}
+use Rattle.std.proofs.Common.{inr, inl, arith, ◌≡◌, ◌∙◌, refl, sym, ap, subst, ℕ, suc, ◌+◌, ◌<◌, ◌≤◌, Bool, true, false, List, [], ◌∷◌, ◌++◌, map, length, Option, Some, None}
 use Rattle.sbp_world.proofs.Hosts.Carried.{between_runs, of_runs}
 use Rattle.sbp_world.proofs.Hosts.Hosted.{Cored, cored_carried, first_cored}
 use Rattle.sbp_world.proofs.Hosts.Runs.{count_after, count_between}
@@ -29,13 +29,15 @@ use Rattle.sbp_world.proofs.Sessions.Caught.{Met}
 use Rattle.sbp_world.proofs.Sessions.Runs.{caught_between_law, caught_law, met_after, met_between}
 use Rattle.sbp_world.proofs.Sessions.Turns.{wire_generation}
 use Rattle.sbp_world.specs.Lists.Needs.{IsCalm, OpenBefore, OpenBetween}
+use Rattle.sbp_world.proofs.Lists.Beside.{AreDone, all_done, beside_before, own_done}
+use Rattle.sbp_world.proofs.Lists.Judging.{goes_next, grown}
 use Rattle.sbp_world.proofs.Lists.Calm.{asked_calm, calm_before}
 use Rattle.sbp_world.proofs.Lists.Courses.{EveryPlace, Goes, Keeps, at_between, at_lines, by_delivery, by_end, by_line, by_start, more_than_one}
 use Rattle.sbp_world.proofs.Lists.Extends.{Extends, delivered_extends, extends_none}
 use Rattle.sbp_world.proofs.Lists.LiveBegins.{first_grown, first_lives}
 use Rattle.sbp_world.proofs.Lists.LiveKept.{turn_kept}
 use Rattle.sbp_world.proofs.Lists.LiveLines.{end_turn, line_turn, next_turn}
-use Rattle.sbp_world.specs.Lists.OwnLogins.{IsTame}
+use Rattle.sbp_world.specs.Lists.FewLogins.{IsCalmBeside}
 use Rattle.sbp_world.proofs.Lists.LiveSteps.{Alive, Grown, Helps, Knows, Lives, id_in, own_of, zero_of}
 use Rattle.sbp_world.proofs.Lists.LiveTold.{none_told}
 use Rattle.sbp_world.proofs.Lists.LiveTurns.{OwnCall, TargetCall, TurnOf, Turned, acts, by_clearing, by_own, by_sight, by_target, delivers, hears, lapses, quiet_turn, rests, still}
@@ -148,9 +150,16 @@ goes_calm past s later t (by_start past0 s0 line most) i c = asked_calm line (mo
 goes_calm past s later t (by_delivery past0 s0 one may no_act) i c = more_calm s.world.fresh (delivered_next one s).world.fresh past (next_extends one s) i c
 goes_calm past s later t (by_end past0 s0 done) i c = calm_before (said (end_note done) ∷ []) (hist past s.world) i c
 
--- and so no one injected packets before it
-pub goes_tame : (past : List Moment) (s : Scene) (later : List Moment) (t : Scene) → Goes past s later t → IsTame (hist later t.world) → IsTame (hist past s.world)
-goes_tame past s later t g tame = λ i. goes_calm past s later t g i (tame i)
+-- and so none did before it, or few logins were given
+pub goes_beside : (past : List Moment) (s : Scene) (later : List Moment) (t : Scene) → Goes past s later t → (i : ℕ) → IsCalmBeside (hist later t.world) i → IsCalmBeside (hist past s.world) i
+goes_beside past s later t g i tame =
+    let x = grown (hist past s.world) (hist later t.world) (goes_next past s later t g) in
+    beside_before x.new (hist past s.world) i (subst (λ ms. IsCalmBeside ms i) (sym x.is) tame)
+
+-- what is known of the logins that were done
+pub done_of : (start : List Disk) (past : List Moment) (w : WorldState) → ((j : ℕ) → j < length w.initiators → Alive start past w j) → (i : ℕ) → i < length w.initiators → IsCalmBeside past i → AreDone start (length w.initiators) past i
+done_of start past w p i inside (calm, inl tame) = all_done tame (λ j l. (p j l).grown.based (tame j, inl tame))
+done_of start past w p i inside (calm, inr few) = own_done calm few ((p i inside).grown.based (calm, inr few)) ((p i inside).grown.owned (calm, inr few))
 
 -- ---- the runs
 module _ (Extra : List Disk → List Moment → WorldState → Type 0) where
@@ -165,7 +174,7 @@ module _ (Extra : List Disk → List Moment → WorldState → Type 0) where
   -- the two ends go together at a turn
   abbrev pub HelpedBy : Type 0
   HelpedBy =
-      (units ready : ℕ) (start : List Disk) (past : List Moment) (s : Scene) (later : List Moment) (t : Scene) (lines more : ℕ) → 0 < units → (g : Goes past s later t) → Holding units ready start past lines s.world → Holding units ready start later more t.world → With start (hist past s.world) s.world → With start (hist later t.world) t.world → AllLive start (hist past s.world) s.world → (i : ℕ) → i < length s.world.initiators → IsTame (hist later t.world) → zero_of t.world ≡ own_of t.world i → zero_of s.world ≡ own_of s.world i → Helps start (base_of g) (hist past s.world) (hist later t.world) s.world t.world i
+      (units ready : ℕ) (start : List Disk) (past : List Moment) (s : Scene) (later : List Moment) (t : Scene) (lines more : ℕ) → 0 < units → (g : Goes past s later t) → Holding units ready start past lines s.world → Holding units ready start later more t.world → With start (hist past s.world) s.world → With start (hist later t.world) t.world → AllLive start (hist past s.world) s.world → (i : ℕ) → i < length s.world.initiators → IsCalmBeside (hist later t.world) i → zero_of t.world ≡ own_of t.world i → zero_of s.world ≡ own_of s.world i → Helps start (base_of g) (hist past s.world) (hist later t.world) s.world t.world i
 
   -- and what is granted goes on
   abbrev pub GrownBy : Type 0
@@ -183,7 +192,7 @@ module _ (Extra : List Disk → List Moment → WorldState → Type 0) where
     all_kept units ready has start past s later t lines more g h h_now q q_now p i l =
         let inside : i < length s.world.initiators = subst (λ n. i < n) (goes_size past s later t g) l in
         let lives = turn_kept units ready has start (q.known.cored i inside).ready s.world h (base_of g) (hist past s.world) (hist later t.world) t.world i inside (knows units ready start s.world h q.known i inside) (q_now.known.met.sits i).joined (p i inside).lives
-        (goes_tame past s later t g) (λ calm e was. helped units ready start past s later t lines more has g h h_now q q_now p i inside calm e was)
+        (goes_beside past s later t g i) (λ calm e was. helped units ready start past s later t lines more has g h h_now q q_now p i inside calm e was)
         (goes_turned units ready has start past s later t g h i inside) in
         record { lives = lives; grown = grows units ready start past s later t lines more has g h h_now q q_now p i inside lives }
 
@@ -191,7 +200,7 @@ module _ (Extra : List Disk → List Moment → WorldState → Type 0) where
       first : AllLive run.start.disks (moments_behind line run []) (beginning run).world
       first i l = record {
         lives = first_lives run.initiators r.few run.units small line run.start.disks size run.ready (moments_behind line run []) i l;
-        grown = first_grown run.initiators r.few run.units small line run.start.disks size run.ready (moments_behind line run []) i (tt, (tt, tt)) (tt, (tt, tt)) (tt, (tt, tt)) l;
+        grown = first_grown run.initiators r.few run.units small line run.start.disks size run.ready (moments_behind line run []) i (tt, (tt, tt)) (tt, (tt, tt)) (tt, (tt, tt)) (tt, (tt, tt)) (tt, (tt, tt)) l;
       }
 
       abbrev keeps : Keeps run.units (ready_logins run.initiators run.ready) run.start.disks (With run.start.disks) (AllLive run.start.disks)

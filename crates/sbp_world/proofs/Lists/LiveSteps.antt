@@ -35,8 +35,9 @@ use Rattle.sbp_world.specs.Sessions.Starting.{IsAsked}
 use Rattle.sbp_world.specs.Sessions.Writing.{is_written}
 use Rattle.sbp_world.proofs.Sessions.Caught.{is_in}
 use Rattle.sbp_world.specs.Lists.Live.{HasLogin}
-use Rattle.sbp_world.specs.Lists.OwnLogins.{IsTame}
+use Rattle.sbp_world.specs.Lists.FewLogins.{IsCalmBeside}
 use Rattle.sbp_world.specs.Lists.LoginAnswers.{GoodAt, NoBadAt}
+use Rattle.sbp_world.specs.Lists.Owners.{OursAt, OwnBy, OwnedAt}
 use Rattle.sbp_world.specs.Lists.Placings.{BasedAt, HasBase}
 use Rattle.sbp_world.specs.Lists.Tellings.{IsActive, IsTaken, IsTold}
 use Rattle.sbp_world.proofs.Lists.LiveAims.{Aims}
@@ -71,22 +72,26 @@ pub record Lives (start : List Disk) (past : List Moment) (w : WorldState) (i : 
   pub fit : Fit (initiator_at w i).operation (initiator_at w i).seat
   pub aims : Aims (initiator_at w i).operation (stand_of (initiator_at w i).seat)
   pub seen : (number : ℕ) → number_in (stand_of (initiator_at w i).seat) ≡ Some number → GaveUpOf w i ⊎ (own_of w i ≤ zero_of w)
-  pub claims : IsTame past → zero_of w ≡ own_of w i → GaveUpOf w i ⊎ ClaimsOf start past w i
+  pub claims : IsCalmBeside past i → zero_of w ≡ own_of w i → GaveUpOf w i ⊎ ClaimsOf start past w i
 
 -- what a status of 00 grants of the entry that it has under way
 abbrev pub GrantsOf : List Disk → List Moment → WorldState → ℕ → Type 0
 GrantsOf start past w i = Grants (IsActive start past i) (IsTold start past i) (id_in w i) (host_at past i).login.login w.target.manager w.target.logins.places (initiator_at w i)
 
 pub record Grown (start : List Disk) (past : List Moment) (w : WorldState) (i : ℕ) : Type 0 where
-  pub grants : IsTame past → zero_of w ≡ own_of w i → GrantsOf start past w i
+  pub grants : IsCalmBeside past i → zero_of w ≡ own_of w i → GrantsOf start past w i
   -- where one waits, in whatever generation the target is, the response in the buffer has the base of the agent of a place; so it had where one was got, and each login
   -- that was done
-  pub buffer : IsTame past → (orb : ℕ) (bytes : List ℕ) → IsTold start past i orb bytes → bytes ≡ good_block orb → (running : Running) → (initiator_at w i).operation ≡ Some running → running.operation ≡ operations.Login → HasBase (login_response (response_of running (initiator_at w i)))
-  pub good : IsTame past → EachMoment (GoodAt i) past
-  pub based : IsTame past → EachMoment (BasedAt i) past
+  pub buffer : IsCalmBeside past i → (orb : ℕ) (bytes : List ℕ) → IsTold start past i orb bytes → bytes ≡ good_block orb → (running : Running) → (initiator_at w i).operation ≡ Some running → running.operation ≡ operations.Login → HasBase (login_response (response_of running (initiator_at w i)))
+  pub good : IsCalmBeside past i → EachMoment (GoodAt i) past
+  pub based : IsCalmBeside past i → EachMoment (BasedAt i) past
+  -- that response names a login which the initiator's node had then; so did that of each login that was done
+  pub named : IsCalmBeside past i → (orb : ℕ) (bytes : List ℕ) → IsTold start past i orb bytes → bytes ≡ good_block orb → (running : Running) → (initiator_at w i).operation ≡ Some running → running.operation ≡ operations.Login → OwnBy start past i (login_response (response_of running (initiator_at w i))).login
+  pub ours : IsCalmBeside past i → EachMoment (OursAt start i) past
+  pub owned : IsCalmBeside past i → EachMoment (OwnedAt start i) past
   -- and one that waits for a logout has status 00, as each had that was got
-  pub logout : IsTame past → (orb : ℕ) (bytes : List ℕ) → IsTold start past i orb bytes → (running : Running) → (initiator_at w i).operation ≡ Some running → running.operation ≡ operations.Logout → bytes ≡ good_block orb
-  pub unbad : IsTame past → EachMoment (NoBadAt i) past
+  pub logout : IsCalmBeside past i → (orb : ℕ) (bytes : List ℕ) → IsTold start past i orb bytes → (running : Running) → (initiator_at w i).operation ≡ Some running → running.operation ≡ operations.Logout → bytes ≡ good_block orb
+  pub unbad : IsCalmBeside past i → EachMoment (NoBadAt i) past
 
 -- both
 pub record Alive (start : List Disk) (past : List Moment) (w : WorldState) (i : ℕ) : Type 0 where

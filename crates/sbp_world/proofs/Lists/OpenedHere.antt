@@ -10,9 +10,8 @@ use Rattle.sbp_journal.specs.declared.note.Note.TheVariants as notes
 use Rattle.sbp_laws.specs.Lists.{list_in, named_in}
 use Rattle.sbp_world.specs.Telling.{holder}
 use Rattle.sbp_world.specs.Worlds.{WorldState}
-use Rattle.sbp_world.specs.Lists.Closes.{AreHere, IsHere, Under}
+use Rattle.sbp_world.specs.Lists.Closes.{AreHere, IsHere, Under, WhereTameOrFew}
 use Rattle.sbp_world.specs.Lists.Needs.{initiator_in, is_open_at, machine_at}
-use Rattle.sbp_world.specs.Lists.OwnLogins.{IsTame}
 use Rattle.sbp_world.specs.Lists.Opened.{AreAllOpenFor, AreOpenFor, AsGot, IsOpenFor, IsUp, as_got, got_as, view}
 use Rattle.sbp_world.specs.Lists.Places.{AreNamedFor}
 use Rattle.sbp_world.proofs.Lists.OpenTurns.{listing_up}
@@ -85,7 +84,7 @@ module _ (past : List Moment) (w : WorldState) (i : ℕ) (o : AreOpenFor (view p
   }
 
 -- ---- at the places before which lists were so
-pub here_of : Under (λ past w. IsTame past → AreAllOpenFor past w) → Under (λ past w. IsTame past → AreHere past w)
+pub here_of : Under (WhereTameOrFew AreAllOpenFor) → Under (WhereTameOrFew AreHere)
 here_of law = record {
   after_lines = λ line run r has small size so_far tame i b calm names. is_here _ _ i (law.after_lines line run r has small size so_far tame i b calm) names;
   between = λ line run r has small size next most told m so_far tame i b calm names. is_here _ _ i (law.between line run r has small size next most told m so_far tame i b calm) names;

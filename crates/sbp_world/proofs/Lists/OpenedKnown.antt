@@ -4,10 +4,9 @@ use Rattle.sbp_world.proofs.Pointers.Based.{registers_law}
 use Rattle.sbp_world.proofs.Pointers.Proved.{moments_law, pointers_law}
 use Rattle.sbp_world.proofs.Sessions.HoldingRuns.{holding_law}
 use Rattle.sbp_world.proofs.Sessions.Runs.{caught_between_law, caught_law, joined_law}
-use Rattle.sbp_world.specs.Lists.Closes.{AreHere, Under}
+use Rattle.sbp_world.specs.Lists.Closes.{AreHere, Under, WhereTameOrFew}
 use Rattle.sbp_world.specs.Lists.Live.{LiveLaw}
 use Rattle.sbp_world.specs.Lists.Opened.{NoneRefused}
-use Rattle.sbp_world.specs.Lists.OwnLogins.{IsTame}
 use Rattle.sbp_world.proofs.Lists.Bases.{bases_law}
 use Rattle.sbp_world.proofs.Lists.Begun.{begun_law}
 use Rattle.sbp_world.proofs.Lists.Courses.{EveryPlace}
@@ -28,6 +27,6 @@ laws = record {
   bases = bases_law registers_law holding_law;
 }
 
--- where no initiator injected packets: by the logins of the initiators' nodes, and as no logout is refused
-pub lists_here : EveryPlace LawsAt → LiveLaw → Under (λ past w. IsTame past → NoneRefused past w) → Under (λ past w. IsTame past → AreHere past w)
+-- where no initiator injected packets, or few logins were given: by the logins of the initiators' nodes, and as no logout is refused
+pub lists_here : EveryPlace LawsAt → LiveLaw → Under (WhereTameOrFew NoneRefused) → Under (WhereTameOrFew AreHere)
 lists_here = here_law laws

@@ -1,8 +1,7 @@
 -- For which list an agent is out of RESET, and that a list which an agent has open is the present one, at each place of a run before which lists were open as they should be.
-use Rattle.sbp_world.specs.Lists.Closes.{AreHere, Under}
+use Rattle.sbp_world.specs.Lists.Closes.{AreHere, Under, WhereTameOrFew}
 use Rattle.sbp_world.specs.Lists.Live.{LiveLaw}
 use Rattle.sbp_world.specs.Lists.Opened.{AreAllOpenFor, NoneRefused}
-use Rattle.sbp_world.specs.Lists.OwnLogins.{IsTame}
 use Rattle.sbp_world.proofs.Lists.Courses.{EveryPlace}
 use Rattle.sbp_world.proofs.Lists.LiveGiven.{LawsAt}
 use Rattle.sbp_world.proofs.Lists.OpenedHere.{here_of}
@@ -11,13 +10,13 @@ use Rattle.sbp_world.proofs.Lists.OpenedPlaces.{Laws, ManagementLaw}
 use Rattle.sbp_world.proofs.Lists.OpenedProved.{open_after, open_between}
 use Rattle.sbp_world.proofs.Lists.OpenedTelling.{telling}
 
--- where no initiator injected packets
-pub opened_law : Laws → ManagementLaw → Under (λ past w. IsTame past → AreAllOpenFor past w)
+-- where no initiator injected packets, or few logins were given
+pub opened_law : Laws → ManagementLaw → Under (WhereTameOrFew AreAllOpenFor)
 opened_law laws management = record {
   after_lines = λ line run r has small size so_far tame. open_after telling laws management line run r has small size so_far tame;
   between = λ line run r has small size next most told m so_far tame. open_between telling laws management line run r has small size next most told m so_far tame;
 }
 
 -- by the logins of the initiators' nodes, and as no logout is refused
-pub here_law : Laws → EveryPlace LawsAt → LiveLaw → Under (λ past w. IsTame past → NoneRefused past w) → Under (λ past w. IsTame past → AreHere past w)
+pub here_law : Laws → EveryPlace LawsAt → LiveLaw → Under (WhereTameOrFew NoneRefused) → Under (WhereTameOrFew AreHere)
 here_law laws known live unrefused = here_of (opened_law laws (record { unrefused = unrefused; minded = minded_law known live }))

@@ -1,4 +1,4 @@
--- What is known of the management of each initiator at each place of a run in which no initiator injected packets: what is decided for its operation is the ORB in
+-- What is known of the management of an initiator that injected no packets, at each place of a run in which none did, or few logins were given: what is decided for its operation is the ORB in
 -- the place of that, its node has one live login, an operation that ends lists has no response, and each status block that waits is one that the target tells.
 use Rattle.std.proofs.Common.{◌≡◌, ◌∙◌, ◌⊎◌, inl, inr, refl, sym, ap, subst, ℕ, suc, ◌<◌, true, false, List, ◌∷◌, ◌++◌, map, length, Some}
 use Rattle.async_packet.specs.Labels.{LabelParts}
@@ -53,7 +53,6 @@ use Rattle.sbp_world.proofs.Lists.OpenedEndings.{Manages}
 use Rattle.sbp_world.proofs.Lists.OpenedOrbs.{EndsLists, place_ends}
 use Rattle.sbp_world.proofs.Lists.OpenedPlaces.{IsMinded, MindedLaw}
 use Rattle.sbp_world.proofs.Lists.OpenedSends.{Tells}
-use Rattle.sbp_world.proofs.Lists.OpenedTame.{tame_calm}
 use Rattle.sbp_world.proofs.Lists.SilenceRuns.{AreSilentAt, silent_everywhere}
 
 -- ---- at a place of a history
@@ -131,11 +130,11 @@ module _ (laws : EveryPlace LawsAt) (live : LiveLaw) where
 
   pub minded_law : MindedLaw
   minded_law = record {
-    after_lines = λ line run r units small size so_far tame i b.
+    after_lines = λ line run r units small size so_far i b beside.
         let past = history_of line run in
         let w = (after (beginning run) run.entries).world in
         let inside : i < length (after (beginning run) run.entries).world.initiators = subst (λ n. i < n) (sym (count_after run run.entries)) b in
-        let calm = tame_calm past tame i in
+        let calm = beside.0 in
         let k = were_after line run r.few units small size run.entries r.short r.entries r.lines in
         minded_at run.units (ready_logins run.initiators run.ready) units run.start.disks past w k.holds k.is i inside
         (record {
@@ -143,17 +142,17 @@ module _ (laws : EveryPlace LawsAt) (live : LiveLaw) where
           laws = laws.after_lines line run r units small size so_far;
           kept = kept.after_lines line run r units small size so_far i inside calm;
           silent = silent.after_lines line run r units small size so_far i inside calm;
-          live = λ same. (live.after_lines line run r units small size so_far).live i inside tame same;
+          live = λ same. (live.after_lines line run r units small size so_far).live i inside beside same;
           got = rest_places_law.after_lines line run r units small size so_far i b calm;
           contents = contents_law.after_lines line run r units small size;
         });
-    between = λ line run r units small size next most told m so_far tame i b.
+    between = λ line run r units small size next most told m so_far i b beside.
         let last = after (beginning run) run.entries in
         let event = more_deliveries most in
         let w = (after_all told (begun (after (beginning run) run.entries))).world in
         let now = map said w.fresh ++ asked next event ∷ history_of line run in
         let inside : i < length (after_all told (begun (after (beginning run) run.entries))).world.initiators = subst (λ n. i < n) (sym (count_between told (after (beginning run) run.entries) ∙ count_after run run.entries)) b in
-        let calm = tame_calm now tame i in
+        let calm = beside.0 in
         let k = were_after line run r.few units small size run.entries r.short r.entries r.lines in
         let f = facts_at line run r.few units small size run.entries r.short r.entries r.lines k.past (length run.entries) k.holds k.is next event (more_than_one most) told m in
         minded_at run.units (ready_logins run.initiators run.ready) units run.start.disks now w f.holds (ap (λ ms. map said w.fresh ++ asked next event ∷ ms) k.is) i inside
@@ -162,7 +161,7 @@ module _ (laws : EveryPlace LawsAt) (live : LiveLaw) where
           laws = laws.between line run r units small size next most told m so_far;
           kept = kept.between line run r units small size next most told m so_far i inside calm;
           silent = silent.between line run r units small size next most told m so_far i inside calm;
-          live = λ same. (live.between line run r units small size next most told m so_far).live i inside tame same;
+          live = λ same. (live.between line run r units small size next most told m so_far).live i inside beside same;
           got = rest_places_law.between line run r units small size next most told m so_far i b calm;
           contents = contents_law.between line run r units small size next event (more_than_one most) told m;
         });

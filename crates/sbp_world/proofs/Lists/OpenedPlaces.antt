@@ -36,10 +36,10 @@ use Rattle.sbp_world.specs.Lists.Bases.{AreBased, BasesLaw}
 use Rattle.sbp_world.specs.Lists.Begun.{AreBegun, BegunLaw}
 use Rattle.sbp_world.specs.Lists.Firsts.{FirstLaw}
 use Rattle.sbp_world.specs.Lists.Needs.{IsCalm, OpenBefore, OpenBetween}
-use Rattle.sbp_world.specs.Lists.Closes.{Under}
+use Rattle.sbp_world.specs.Lists.Closes.{Under, WhereTameOrFew}
 use Rattle.sbp_world.specs.Lists.Opened.{IsUp, NoneRefused, view}
 use Rattle.sbp_world.specs.Lists.Opens.{AreOpened, IsPointedBy}
-use Rattle.sbp_world.specs.Lists.OwnLogins.{IsTame}
+use Rattle.sbp_world.specs.Lists.FewLogins.{IsCalmBeside, IsTameOrFew}
 use Rattle.sbp_world.specs.Lists.Places.{IsFirst}
 use Rattle.sbp_world.proofs.Lists.JoinLaws.{begins_after, begins_between, rises_after, rises_between}
 use Rattle.sbp_world.proofs.Lists.OpenFresh.{Writes, writes_of}
@@ -116,12 +116,12 @@ pub record IsMinded (start : List Disk) (ms : List Moment) (w : WorldState) (i :
   pub tells : Tells start ms i
 
 pub record MindedLaw : Type 0 where
-  pub after_lines : (line : ℕ) (run : Run) → IsRun run → 0 < run.units → run.units ≤ 4 → length run.start.disks ≡ run.units → OpenBefore line run run.entries → IsTame (history_of line run) → (i : ℕ) → i < run.initiators → IsMinded run.start.disks (history_of line run) (after (beginning run) run.entries).world i
-  pub between : (line : ℕ) (run : Run) → IsRun run → 0 < run.units → run.units ≤ 4 → length run.start.disks ≡ run.units → (next : ℕ) (most : Option ℕ) (told : List (Option Told)) → MayAll told (begun (after (beginning run) run.entries)) → OpenBetween line run next (more_deliveries most) told → (let w = (after_all told (begun (after (beginning run) run.entries))).world in let now = map said w.fresh ++ asked next (more_deliveries most) ∷ history_of line run in IsTame now → (i : ℕ) → i < run.initiators → IsMinded run.start.disks now w i)
+  pub after_lines : (line : ℕ) (run : Run) → IsRun run → 0 < run.units → run.units ≤ 4 → length run.start.disks ≡ run.units → OpenBefore line run run.entries → (i : ℕ) → i < run.initiators → IsCalmBeside (history_of line run) i → IsMinded run.start.disks (history_of line run) (after (beginning run) run.entries).world i
+  pub between : (line : ℕ) (run : Run) → IsRun run → 0 < run.units → run.units ≤ 4 → length run.start.disks ≡ run.units → (next : ℕ) (most : Option ℕ) (told : List (Option Told)) → MayAll told (begun (after (beginning run) run.entries)) → OpenBetween line run next (more_deliveries most) told → (let w = (after_all told (begun (after (beginning run) run.entries))).world in let now = map said w.fresh ++ asked next (more_deliveries most) ∷ history_of line run in (i : ℕ) → i < run.initiators → IsCalmBeside now i → IsMinded run.start.disks now w i)
 
 -- and that no logout is refused
 pub record ManagementLaw : Type 0 where
-  pub unrefused : Under (λ past w. IsTame past → NoneRefused past w)
+  pub unrefused : Under (WhereTameOrFew NoneRefused)
   pub minded : MindedLaw
 
 pub record IsPlace (start : List Disk) (n : ℕ) (ms : List Moment) (w : WorldState) : Type 0 where
@@ -151,7 +151,7 @@ module _ (laws : Laws) (management : ManagementLaw) (line : ℕ) (run : Run) (r 
   wire_after : IsOfWire past
   wire_after = let k = known in subst IsOfWire k.is (laws_of k.past last.world k.holds.sound.stands)
 
-  pub place_after : OpenBefore line run run.entries → IsTame past → IsPlace run.start.disks run.initiators past last.world
+  pub place_after : OpenBefore line run run.entries → IsTameOrFew past → IsPlace run.start.disks run.initiators past last.world
   place_after so_far tame = record {
     here = λ i b calm.
         here run.start.disks past last.world i calm (laws.pointers.after_lines line run r i b) (laws.begun.after_lines line run r has small size i b)
@@ -164,9 +164,9 @@ module _ (laws : Laws) (management : ManagementLaw) (line : ℕ) (run : Run) (r 
       moments = laws.moments.after_lines line run r i b;
       ends = ends_law.after_lines line run r has small size i (count_is i b) calm;
       begins = begins_after laws.joined line run has small size r i b;
-      told = judged_first run.start.disks past i (management.minded.after_lines line run r has small size so_far tame i b).tells;
+      told = judged_first run.start.disks past i (management.minded.after_lines line run r has small size so_far i b (calm, tame)).tells;
     };
-    minded = λ i b calm. management.minded.after_lines line run r has small size so_far tame i b;
+    minded = λ i b calm. management.minded.after_lines line run r has small size so_far i b (calm, tame);
     opened = opens_law.after_lines line run r has small size;
     bases = λ i b. laws.bases.after_lines line run r i b;
   }
@@ -190,7 +190,7 @@ module _ (laws : Laws) (management : ManagementLaw) (line : ℕ) (run : Run) (r 
         let f = facts_at line run r.few has small size run.entries r.short r.entries r.lines k.past (length run.entries) k.holds k.is next event (delivers most) told m in
         subst (λ ms. IsOfWire (map said end.fresh ++ asked next event ∷ ms)) k.is (laws_of (asked next event ∷ hist k.past last.world) end f.holds.sound.stands)
 
-    pub place_between : OpenBetween line run next event told → IsTame now → IsPlace run.start.disks run.initiators now end
+    pub place_between : OpenBetween line run next event told → IsTameOrFew now → IsPlace run.start.disks run.initiators now end
     place_between so_far tame = record {
       here = λ i b calm.
           here run.start.disks now end i calm (laws.pointers.between line run r next most told m i b) (laws.begun.between line run r has small size next most told m i b)
@@ -203,9 +203,9 @@ module _ (laws : Laws) (management : ManagementLaw) (line : ℕ) (run : Run) (r 
         moments = laws.moments.between line run r next most told m i b;
         ends = ends_law.between line run r has small size next most told m i (count_end i b) calm;
         begins = begins_between laws.joined line run has small size r next most told m i b;
-        told = judged_first run.start.disks now i (management.minded.between line run r has small size next most told m so_far tame i b).tells;
+        told = judged_first run.start.disks now i (management.minded.between line run r has small size next most told m so_far i b (calm, tame)).tells;
       };
-      minded = λ i b calm. management.minded.between line run r has small size next most told m so_far tame i b;
+      minded = λ i b calm. management.minded.between line run r has small size next most told m so_far i b (calm, tame);
       opened = opens_law.between line run r has small size next event (delivers most) told m;
       bases = λ i b. laws.bases.between line run r next most told m i b;
     }

@@ -26,7 +26,7 @@ use Rattle.sbp_world.proofs.Agents.Holders as holders
 use Rattle.sbp_world.specs.Hosts.Runs.{IsRun, more_deliveries}
 use Rattle.sbp_world.proofs.Hosts.Runs.{count_after, count_between}
 use Rattle.sbp_world.specs.Lists.Needs.{IsCalm, OpenAfter, OpenBefore, OpenBetween, OpenIn, OpenLists, OpenWhile}
-use Rattle.sbp_world.specs.Lists.OwnLogins.{IsTame}
+use Rattle.sbp_world.specs.Lists.FewLogins.{IsTameOrFew}
 use Rattle.sbp_world.specs.Lists.Opened.{AreAllOpenFor, AreOpenFor, View, view}
 use Rattle.sbp_world.proofs.Lists.Calm.{asked_calm}
 use Rattle.sbp_world.proofs.Lists.OpenProved.{closed, facts_at as old_facts_at}
@@ -34,7 +34,8 @@ use Rattle.sbp_world.proofs.Lists.OpenedPlaces.{IsPlace, Laws, ManagementLaw, pl
 use Rattle.sbp_world.proofs.Lists.OpenedRuns.{AllFacts, AllOpen, Behind, Facts, More, all_heard, here_asked, line_open, mine_asked}
 use Rattle.sbp_world.proofs.Lists.OpenedGrown.{asked_view}
 use Rattle.sbp_world.proofs.Lists.OpenedOthers.{alike_open}
-use Rattle.sbp_world.proofs.Lists.OpenedTame.{tame_before, tame_line, tame_next}
+use Rattle.sbp_world.proofs.Lists.OpenedTame.{tame_line, tame_next}
+use Rattle.sbp_world.proofs.Lists.Beside.{tame_or_few_before}
 use Rattle.sbp_world.proofs.Lists.OpenedTargets.{Telling}
 use Rattle.sbp_world.proofs.Lists.OpenedTurns.{none_open}
 use Rattle.sbp_world.proofs.Lists.Runs.{as_front, lines_same, moments_same}
@@ -77,7 +78,7 @@ module _ (telling : (units logins : ℕ) (has : 0 < units) (start : List Disk) �
   behind_of past w lines h p = record { behind = p.behind; tells = λ i b c. (p.minded i b c).tells; held = record { lines = lines; holds = h }; opened = p.opened }
 
   -- ---- a run of some of its lines
-  module _ (entries : List Entry) (short : length entries + 2 < 2 ^ 32) (every : AreEntries (beginning run) entries) (fit : AreLines run entries) (so_far : OpenBefore line run entries) (tame : IsTame (moments entries)) where
+  module _ (entries : List Entry) (short : length entries + 2 < 2 ^ 32) (every : AreEntries (beginning run) entries) (fit : AreLines run entries) (so_far : OpenBefore line run entries) (tame : IsTameOrFew (moments entries)) where
     abbrev here : Scene
     here = after (beginning run) entries
 
@@ -88,7 +89,7 @@ module _ (telling : (units logins : ℕ) (has : 0 < units) (start : List Disk) �
     behind_is = moments_same line run entries entries
 
     pub place_at : IsPlace start n (moments entries) here.world
-    place_at = subst (λ ms. IsPlace start n ms here.world) behind_is (place_after laws management line (front entries) is_run has small size (as_front line run entries entries so_far) (subst IsTame (sym behind_is) tame))
+    place_at = subst (λ ms. IsPlace start n ms here.world) behind_is (place_after laws management line (front entries) is_run has small size (as_front line run entries entries so_far) (subst IsTameOrFew (sym behind_is) tame))
 
     module _ (past : List Moment) (lines : ℕ) (h : H past lines here.world) (is : hist past here.world ≡ moments entries) where
       pub place_here : IsPlace start n (hist past here.world) here.world
@@ -121,9 +122,9 @@ module _ (telling : (units logins : ℕ) (has : 0 < units) (start : List Disk) �
         abbrev Before : List (Option Told) → Type 0
         Before told = OpenWhile (asked next event ∷ moments entries) told (begun here)
 
-        -- nor did an initiator inject packets
+        -- nor did an initiator inject packets, or few logins were given
         abbrev Tame : List (Option Told) → Type 0
-        Tame told = IsTame (map said (at told).fresh ++ asked next event ∷ moments entries)
+        Tame told = IsTameOrFew (map said (at told).fresh ++ asked next event ∷ moments entries)
 
         were : (told : List (Option Told)) → Before told → OpenBetween line (front entries) next event told
         were told goes =
@@ -137,7 +138,7 @@ module _ (telling : (units logins : ℕ) (has : 0 < units) (start : List Disk) �
         pub place_told : (told : List (Option Told)) → MayAll told (begun here) → Before told → Tame told → IsPlace start n (hist now (at told)) (at told)
         place_told told m goes tame_told =
             subst (λ ms. IsPlace start n (map said (at told).fresh ++ asked next event ∷ ms) (at told)) (behind_is ∙ sym is)
-            (place_between laws management line (front entries) is_run has small size next most told m (were told goes) (subst (λ ms. IsTame (map said (at told).fresh ++ asked next event ∷ ms)) (sym behind_is) tame_told))
+            (place_between laws management line (front entries) is_run has small size next most told m (were told goes) (subst (λ ms. IsTameOrFew (map said (at told).fresh ++ asked next event ∷ ms)) (sym behind_is) tame_told))
 
         pub facts_at : (told : List (Option Told)) → MayAll told (begun here) → Before told → Tame told → F now (at told)
         facts_at told m goes tame_told =
@@ -156,7 +157,7 @@ module _ (telling : (units logins : ℕ) (has : 0 < units) (start : List Disk) �
             (record { facts = facts_at told m.1 goes.1 first; behind = behind_at (one ∷ told) m goes tame_told }, all_facts told m.1 goes.1 first)
 
       -- what a line that may follow asks for
-      more_of : (next : ℕ) (event : Event) (told : List (Option Told)) → MayHappen event told here → OpenAfter line run entries → OpenIn event (asked next event ∷ moments entries) told (begun here) → IsTame (map said (happens next event told here).world.fresh ++ asked next event ∷ moments entries) → More n run.units logins has start (telling run.units logins has start) event (asked next event ∷ hist past here.world) told (begun here)
+      more_of : (next : ℕ) (event : Event) (told : List (Option Told)) → MayHappen event told here → OpenAfter line run entries → OpenIn event (asked next event ∷ moments entries) told (begun here) → IsTameOrFew (map said (happens next event told here).world.fresh ++ asked next event ∷ moments entries) → More n run.units logins has start (telling run.units logins has start) event (asked next event ∷ hist past here.world) told (begun here)
       unfolding MayHappen happens
       more_of next (events.Begin initiators is_ready) told m begins goes tame_told = tt
       more_of next (events.Act initiator action) told m begins goes tame_told = tt
@@ -169,7 +170,7 @@ module _ (telling : (units logins : ℕ) (has : 0 < units) (start : List Disk) �
       more_of next (events.Step count) told m begins goes tame_told = all_facts next (Some count) begins told m.may goes tame_told
       more_of next events.Settle told m begins goes tame_told =
           let t = after_all told (begun here) in
-          all_facts next None begins told m.may goes.1 (tame_before (said (end_note (is_settled t.world)) ∷ []) (map said t.world.fresh ++ asked next events.Settle ∷ moments entries) tame_told)
+          all_facts next None begins told m.may goes.1 (tame_or_few_before (said (end_note (is_settled t.world)) ∷ []) (map said t.world.fresh ++ asked next events.Settle ∷ moments entries) tame_told)
       more_of next events.Tick told m begins goes tame_told = tt
       more_of next (events.Inject initiator bytes) told m begins goes tame_told = tt
       more_of next (events.Key unit key) told m begins goes tame_told = tt
@@ -196,7 +197,7 @@ module _ (telling : (units logins : ℕ) (has : 0 < units) (start : List Disk) �
     opened = λ i b calm. none_open _ (beginning run).world i (λ p c u. closed p c u.up);
   }
 
-  next_after : (e : Entry) (before : List Entry) → length (e ∷ before) + 2 < 2 ^ 32 → AreEntries (beginning run) (e ∷ before) → AreLines run (e ∷ before) → OpenBefore line run (e ∷ before) → IsTame (moments (e ∷ before)) → After before (after (beginning run) before).world → After (e ∷ before) (happens e.line e.event e.told (after (beginning run) before)).world
+  next_after : (e : Entry) (before : List Entry) → length (e ∷ before) + 2 < 2 ^ 32 → AreEntries (beginning run) (e ∷ before) → AreLines run (e ∷ before) → OpenBefore line run (e ∷ before) → IsTameOrFew (moments (e ∷ before)) → After before (after (beginning run) before).world → After (e ∷ before) (happens e.line e.event e.told (after (beginning run) before)).world
   next_after e before long every fit so_far tame b =
       let short : length before + 2 < 2 ^ 32 = omega arith in
       let s = after (beginning run) before in
@@ -214,11 +215,11 @@ module _ (telling : (units logins : ℕ) (has : 0 < units) (start : List Disk) �
             (place_here before short every.1 fit.1 so_far.1 first b.past (length before) b.holds b.is).here b.opened e.event e.told fit.0 every.0.may
             (first_facts before short every.1 fit.1 so_far.1 first b.past (length before) b.holds b.is e.line e.event)
             (more_of before short every.1 fit.1 so_far.1 first b.past (length before) b.holds b.is e.line e.event e.told every.0.may so_far.0.begins so_far.0.goes
-            (subst (λ ns. IsTame (map said ns ++ asked e.line e.event ∷ moments before)) every.0.notes_are tame))
+            (subst (λ ns. IsTameOrFew (map said ns ++ asked e.line e.event ∷ moments before)) every.0.notes_are tame))
             (behind_of now end (length before + 1) there (subst (λ ms. IsPlace start n ms end) (sym is) (place_at (e ∷ before) long every fit so_far tame)));
       }
 
-  pub opened_after : (entries : List Entry) → length entries + 2 < 2 ^ 32 → AreEntries (beginning run) entries → AreLines run entries → OpenBefore line run entries → IsTame (moments entries) → After entries (after (beginning run) entries).world
+  pub opened_after : (entries : List Entry) → length entries + 2 < 2 ^ 32 → AreEntries (beginning run) entries → AreLines run entries → OpenBefore line run entries → IsTameOrFew (moments entries) → After entries (after (beginning run) entries).world
   opened_after [] short every fit so_far tame = first_after
   opened_after (e ∷ before) short every fit so_far tame =
       next_after e before short every fit so_far tame (opened_after before (omega arith) every.1 fit.1 so_far.1 (tame_line e.notes e.line e.event (moments before) tame))
@@ -227,10 +228,10 @@ module _ (telling : (units logins : ℕ) (has : 0 < units) (start : List Disk) �
   abbrev last : Scene
   last = after (beginning run) run.entries
 
-  abbrev known : OpenBefore line run run.entries → IsTame (history_of line run) → After telling laws management line run r.few has small size run.entries last.world
+  abbrev known : OpenBefore line run run.entries → IsTameOrFew (history_of line run) → After telling laws management line run r.few has small size run.entries last.world
   known so_far tame = opened_after telling laws management line run r.few has small size run.entries r.short r.entries r.lines so_far tame
 
-  pub open_after : OpenBefore line run run.entries → IsTame (history_of line run) → AreAllOpenFor (history_of line run) last.world
+  pub open_after : OpenBefore line run run.entries → IsTameOrFew (history_of line run) → AreAllOpenFor (history_of line run) last.world
   open_after so_far tame i b calm =
       let k = known so_far tame in
       subst (λ ms. AreOpenFor (view ms i) last.world i) k.is (k.opened i (subst (λ m. i < m) (count_after run run.entries) b) (subst (λ ms. IsCalm ms i) (sym k.is) calm))
@@ -239,7 +240,7 @@ module _ (telling : (units logins : ℕ) (has : 0 < units) (start : List Disk) �
     abbrev end : WorldState
     end = (after_all told (begun last)).world
 
-    pub open_between : IsTame (map said end.fresh ++ asked next (more_deliveries most) ∷ history_of line run) → AreAllOpenFor (map said end.fresh ++ asked next (more_deliveries most) ∷ history_of line run) end
+    pub open_between : IsTameOrFew (map said end.fresh ++ asked next (more_deliveries most) ∷ history_of line run) → AreAllOpenFor (map said end.fresh ++ asked next (more_deliveries most) ∷ history_of line run) end
     open_between tame i b calm =
         let first_tame = tame_line end.fresh next (more_deliveries most) (history_of line run) tame in
         let k = known so_far.before first_tame in

@@ -1,4 +1,4 @@
--- Where no initiator injected packets, none did before, and each one is calm.
+-- Where no initiator injected packets, or few logins were given, it was so before a line, and before a delivery of it.
 use Rattle.std.proofs.Common.{◌∙◌, sym, ap, subst, ℕ, false, List, [], ◌∷◌, ◌++◌, map, Option, Some, None}
 use Rattle.rbc_disk.specs.Runs.{Told}
 use Rattle.sbp_journal.specs.declared.event.Event.{Event}
@@ -6,25 +6,18 @@ use Rattle.sbp_journal.specs.declared.note.Note.{Note}
 use Rattle.sbp_journal.specs.Run.{Moment, asked, said}
 use Rattle.sbp_world.specs.Settling.{delivered_at, delivered_next, lowest}
 use Rattle.sbp_world.specs.Worlds.{Scene}
-use Rattle.sbp_world.specs.Lists.Needs.{IsCalm}
-use Rattle.sbp_world.specs.Lists.OwnLogins.{IsTame}
-use Rattle.sbp_world.proofs.Lists.Calm.{calm_before}
+use Rattle.sbp_world.specs.Lists.FewLogins.{IsTameOrFew}
+use Rattle.sbp_world.proofs.Lists.Beside.{tame_or_few_before}
 use Rattle.sbp_world.proofs.Lists.Extends.{Extends, delivered_extends, extends_none}
 use Rattle.sbp_world.proofs.Lists.OpenedNotes.{split}
 
-pub tame_calm : (past : List Moment) → IsTame past → (i : ℕ) → IsCalm past i
-tame_calm past tame i = tame i
-
-pub tame_before : (later past : List Moment) → IsTame (later ++ past) → IsTame past
-tame_before later past tame = λ i. calm_before later past i (tame i)
-
 -- before a line and its notes
-pub tame_line : (notes : List Note) (line : ℕ) (event : Event) (past : List Moment) → IsTame (map said notes ++ asked line event ∷ past) → IsTame past
-tame_line notes line event past tame = tame_before (asked line event ∷ []) past (tame_before (map said notes) (asked line event ∷ past) tame)
+pub tame_line : (notes : List Note) (line : ℕ) (event : Event) (past : List Moment) → IsTameOrFew (map said notes ++ asked line event ∷ past) → IsTameOrFew past
+tame_line notes line event past tame = tame_or_few_before (asked line event ∷ []) past (tame_or_few_before (map said notes) (asked line event ∷ past) tame)
 
 -- before a delivery of a line
-more_tame : (old new : List Note) (past : List Moment) → Extends old new → IsTame (map said new ++ past) → IsTame (map said old ++ past)
-more_tame old new past e tame = tame_before (map said e.more) (map said old ++ past) (subst IsTame (ap (λ ns. map said ns ++ past) (sym e.is) ∙ split e.more old past) tame)
+more_tame : (old new : List Note) (past : List Moment) → Extends old new → IsTameOrFew (map said new ++ past) → IsTameOrFew (map said old ++ past)
+more_tame old new past e tame = tame_or_few_before (map said e.more) (map said old ++ past) (subst IsTameOrFew (ap (λ ns. map said ns ++ past) (sym e.is) ∙ split e.more old past) tame)
 
 next_extends : (one : Option Told) (s : Scene) → Extends s.world.fresh (delivered_next one s).world.fresh
 unfolding delivered_next
@@ -34,5 +27,5 @@ next_extends one s = by (lowest s.world)
     by None = extends_none s.world.fresh
     by (Some serial) = delivered_extends serial false one s
 
-pub tame_next : (past : List Moment) (one : Option Told) (s : Scene) → IsTame (map said (delivered_next one s).world.fresh ++ past) → IsTame (map said s.world.fresh ++ past)
+pub tame_next : (past : List Moment) (one : Option Told) (s : Scene) → IsTameOrFew (map said (delivered_next one s).world.fresh ++ past) → IsTameOrFew (map said s.world.fresh ++ past)
 tame_next past one s tame = more_tame s.world.fresh (delivered_next one s).world.fresh past (next_extends one s) tame

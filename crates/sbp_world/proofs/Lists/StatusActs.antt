@@ -1,5 +1,5 @@
 -- What a step of the agent of a place hands out in a call of the target, as far as status blocks go: a reply, a time-out, and a read that is asked for.
-use Rattle.std.proofs.Common.{arith, ◌≡◌, ◌∙◌, refl, sym, ap, subst, ◌<◌, ◌≤◌, ◌+◌, ℕ, zero, suc, Bool, true, false, cond, List, [], ◌∷◌, ◌++◌, length, Option, Some, None}
+use Rattle.std.proofs.Common.{arith, ◌≡◌, ◌&&◌, ◌∙◌, refl, sym, ap, subst, ◌<◌, ◌≤◌, ◌+◌, ℕ, zero, suc, Bool, true, false, cond, List, [], ◌∷◌, ◌++◌, length, Option, Some, None}
 use Rattle.std.proofs.Math.ListN.{length-set}
 use Rattle.async_packet.specs.Packet.{Packet, header_in}
 use Rattle.command_agent.specs.declared.step.AgentStep.{AgentStep}
@@ -11,7 +11,7 @@ use Rattle.label_table.specs.declared.judgement.Asked.{Asked}
 use Rattle.label_table.specs.Bodies.{block_write}
 use Rattle.label_table.specs.Layer.{Layer, answering_step, asking_step}
 use Rattle.login_table.specs.declared.login.Login.{Login}
-use Rattle.login_table.specs.Table.{Table, place_at}
+use Rattle.login_table.specs.Table.{Table, is_live, place_at}
 use Rattle.media_bay.specs.Unsolicited.{block}
 use Rattle.orb_layout.specs.declared.ask.Ask.{Ask}
 use Rattle.orb_layout.specs.declared.ask.FailCause.TheVariants as causes
@@ -66,17 +66,17 @@ module _ (q : ℕ) (b : q < 8) (login : Login) (Ours : Type 0) (machines : ℕ �
       let x = wrote asked.label.number layer.node other.node other.fifo block (let n = unsolicited_small in omega (arith, n)) w.access (subst (λ bytes. access_in_bytes bytes ≡ Some w.access) of w.is) in
       unsolicited_apart w.block (ap (λ xs. read_block true xs) (sym x.payload_is) ∙ w.reads)
 
-  fed_of : (table : Table) (place : ℕ) (layer : Layer Purpose) (other : Login) (asked : Asked) → place_at table.places place ≡ Some other → IsOfBody layer other.node (block_write other.fifo block) (Some asked) → IsFed table login Ours (record { to = other.node; label = Some asked.label; bytes = asked.bytes })
-  fed_of table place layer other asked there of y =
+  fed_of : (table : Table) (place : ℕ) (layer : Layer Purpose) (other : Login) (asked : Asked) → place_at table.places place ≡ Some other → is_live other ≡ true → IsOfBody layer other.node (block_write other.fifo block) (Some asked) → IsFed table login Ours (record { to = other.node; label = Some asked.label; bytes = asked.bytes })
+  fed_of table place layer other asked there live of y =
       let x = wrote asked.label.number layer.node other.node other.fifo block (let n = unsolicited_small in omega (arith, n)) y.access (subst (λ bytes. access_in_bytes bytes ≡ Some y.access) of y.is) in
-      at_other place other there refl x.offset_is
+      at_other place other there live refl x.offset_is
 
-  announced : (place : ℕ) → place < 8 → (s : Scene) (other : Login) → login_at s.node place ≡ Some other → (r : Option Asked × Layer Purpose) → IsOfBody s.node.layer other.node (block_write other.fifo block) r.0 → D s → D (unsolicited_by place other.node s.node (sent_by r s.outbox other.node))
-  announced place c s other there (None, layer) of d =
+  announced : (place : ℕ) → place < 8 → (s : Scene) (other : Login) → login_at s.node place ≡ Some other → is_live other ≡ true → (r : Option Asked × Layer Purpose) → IsOfBody s.node.layer other.node (block_write other.fifo block) r.0 → D s → D (unsolicited_by place other.node s.node (sent_by r s.outbox other.node))
+  announced place c s other there live (None, layer) of d =
       let t = scene (record s.node { layer = layer }) s.outbox in
       let k : D t = record { desks = d.desks; same = d.same; agent = d.agent; told_is = d.told_is; spelled = d.spelled; named = d.named; fed = d.fed; logged = d.logged } in
       heard t place false k
-  announced place c s other there (Some asked, layer) of d =
+  announced place c s other there live (Some asked, layer) of d =
       let packet : Outgoing = record { to = other.node; label = Some asked.label; bytes = asked.bytes } in
       let o = record s.outbox { packets = s.outbox.packets ++ packet ∷ [] } in
       let t = scene (unsolicited_from place other.node layer s.node) o in
@@ -88,25 +88,31 @@ module _ (q : ℕ) (b : q < 8) (login : Login) (Ours : Type 0) (machines : ℕ �
         told_is = d.told_is;
         spelled = one_plain q login.node Ours told m s.outbox.packets packet (plain_of s.node.layer other asked of) d.spelled;
         named = named_more login.node Ours told s.outbox.packets packet d.named (apart_named login.node Ours told packet (apart_of s.node.layer other asked of));
-        fed = fed_more s.node.logins login Ours s.outbox.packets packet d.fed (fed_of s.node.logins place s.node.layer other asked there of);
+        fed = fed_more s.node.logins login Ours s.outbox.packets packet d.fed (fed_of s.node.logins place s.node.layer other asked there live of);
         logged = logged_more login Ours s.outbox.packets packet d.logged (plain_logged login Ours packet (plain_of s.node.layer other asked of));
       } in
       heard t place true k
 
-  pick : (x : Bool) (s t : Scene) → D s → D t → D (cond x s t)
-  pick true s t h k = h
+  pick : (x : Bool) (s t : Scene) → (x ≡ true → D s) → D t → D (cond x s t)
+  pick true s t h k = h refl
   pick false s t h k = k
 
-  announces_to : (place : ℕ) → place < 8 → (other : Login) (s : Scene) → login_at s.node place ≡ Some other → D s → D (announce_to place other s)
+  -- a login that hears of it is live
+  heard_live : (here live rest : Bool) → (here && (live && rest)) ≡ true → live ≡ true
+  heard_live true true rest e = refl
+  heard_live true false rest e = absurd (no e)
+  heard_live false live rest e = absurd (no e)
+
+  announces_to : (place : ℕ) → place < 8 → (other : Login) (s : Scene) → login_at s.node place ≡ Some other → is_live other ≡ true → D s → D (announce_to place other s)
   unfolding announce_to request_step
-  announces_to place c other s there d =
+  announces_to place c other s there live d =
       pick (is_pending other.node s.node.pending) (scene s.node (with_side s.outbox (sides.Unsent place)))
-      (unsolicited_by place other.node s.node (request_step s.node.layer s.outbox other.node (block_write other.fifo block) purposes.Unsolicited)) (heard s place false d)
-      (announced place c s other there (asking_step s.node.layer other.node (block_write other.fifo block) purposes.Unsolicited) (asked_body s.node.layer other.node (block_write other.fifo block) purposes.Unsolicited) d)
+      (unsolicited_by place other.node s.node (request_step s.node.layer s.outbox other.node (block_write other.fifo block) purposes.Unsolicited)) (λ e. heard s place false d)
+      (announced place c s other there live (asking_step s.node.layer other.node (block_write other.fifo block) purposes.Unsolicited) (asked_body s.node.layer other.node (block_write other.fifo block) purposes.Unsolicited) d)
 
   announces_in : (unit from place : ℕ) → place < 8 → (other : Option Login) (s : Scene) → login_at s.node place ≡ other → D s → D (announce_in unit from place other s)
   announces_in unit from place c None s there d = d
-  announces_in unit from place c (Some other) s there d = pick (hears unit from place (desk_at s.node place) other) (announce_to place other s) s (announces_to place c other s there d) d
+  announces_in unit from place c (Some other) s there d = pick (hears unit from place (desk_at s.node place) other) (announce_to place other s) s (λ e. announces_to place c other s there (heard_live _ (is_live other) _ e) d) d
 
   announces_at : (unit from place : ℕ) → place < 8 → (s : Scene) → D s → D (announce_at unit from place s)
   unfolding announce_at

@@ -102,7 +102,7 @@ module _ (wild : ℕ → Bool) (i : ℕ) (own : wild i ≡ false) (past : List M
           by (Some serial) e = let b = (below_ends wild i own (hist past w) passes).packet n k serial e in absurd (omega (arith, b, l))
 
     -- no end was told
-    pub none_told : ToldSo q outbox.sides None → Spelled q peer Ours None m outbox.packets → AllOut Ours outbox.packets → EachMoment (SentSo i) (hist past (handed_out 0 0 outbox u))
+    pub none_told : ToldSo q outbox.sides None → Spelled q peer Ours None m outbox.packets → AllOut (Ours × Mine) outbox.packets → EachMoment (SentSo i) (hist past (handed_out 0 0 outbox u))
     none_told so spelled out =
         all_send i 0 0 gen q peer Ours Mine ⊥ None m (λ mine block of. none_end of.one of.is) past outbox.packets x spelled out (gen_is None so spelled) (ours_there None so spelled) (record {
           due = λ t. absurd t;
@@ -112,7 +112,7 @@ module _ (wild : ℕ → Bool) (i : ℕ) (own : wild i ≡ false) (past : List M
         })
 
     -- one was told
-    module _ (one : EndSide) (so : ToldSo q outbox.sides (Some one)) (spelled : Spelled q peer Ours (Some one) m outbox.packets) (out : AllOut Ours outbox.packets) (slotted : Mine → (t : TicketParts) → ticket_of w i one.orb ≡ Some t → ends (hist past w) i t.list ≤ t.number → suc t.list ≡ lists (hist past w) i → t.number < appends (hist past w) i t.list → (slot : ℕ) → slot_of one.orb ≡ Some slot → gen ≡ (terms (hist past w)).generation (suc i) → HasSlot (hist past w) i slot (orb t.list t.number)) where
+    module _ (one : EndSide) (so : ToldSo q outbox.sides (Some one)) (spelled : Spelled q peer Ours (Some one) m outbox.packets) (out : AllOut (Ours × Mine) outbox.packets) (slotted : Mine → (t : TicketParts) → ticket_of w i one.orb ≡ Some t → ends (hist past w) i t.list ≤ t.number → suc t.list ≡ lists (hist past w) i → t.number < appends (hist past w) i t.list → (slot : ℕ) → slot_of one.orb ≡ Some slot → gen ≡ (terms (hist past w)).generation (suc i) → HasSlot (hist past w) i slot (orb t.list t.number)) where
       abbrev told : Option EndSide
       told = Some one
 

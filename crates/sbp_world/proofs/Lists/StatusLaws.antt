@@ -27,9 +27,9 @@ use Rattle.sbp_world.proofs.Hosts.Runs.{count_after, count_between}
 use Rattle.sbp_world.proofs.Hosts.Statuses.Finished.{finished_law}
 use Rattle.sbp_world.proofs.Hosts.Statuses.Ranges.{InsideIn, run_inside}
 use Rattle.sbp_world.proofs.Hosts.Statuses.Runs.{taking_law}
-use Rattle.sbp_world.specs.Lists.Closes.{Under, WhereTame}
+use Rattle.sbp_world.specs.Lists.Closes.{Under, WhereTameOrFew}
 use Rattle.sbp_world.specs.Lists.Needs.{OpenBefore}
-use Rattle.sbp_world.specs.Lists.OwnLogins.{IsTame}
+use Rattle.sbp_world.specs.Lists.FewLogins.{IsTameOrFew}
 use Rattle.sbp_world.specs.Lists.Statuses.{AllStatuses, IsTakenSo, TakenSo}
 use Rattle.sbp_world.specs.Lists.StatusRuns.{AllTakenOf, AtLogin, IsTakenOf, SpellsStatusTo, StatusOfLaw, StatusOfRunLaw, TakenOfAt, TakenOfOne}
 use Rattle.sbp_world.proofs.Lists.Executes.{execution_run_law}
@@ -99,8 +99,8 @@ delivers : (most : Option ℕ) → DeliversMore (more_deliveries most)
 delivers (Some count) = tt
 delivers None = tt
 
-module _ (statuses : Under (WhereTame AllStatuses)) where
-  places : Under (WhereTame AllTakenOf)
+module _ (statuses : Under (WhereTameOrFew AllStatuses)) where
+  places : Under (WhereTameOrFew AllTakenOf)
   places = record {
     after_lines = λ line run r has small size so_far tame i b calm.
         let past = history_of line run in
@@ -114,7 +114,7 @@ module _ (statuses : Under (WhereTame AllStatuses)) where
         (execution_run_law.between line run r has small size next (more_deliveries most) (delivers most) told m so_far);
   }
 
-  module _ (line : ℕ) (run : Run) (r : IsRun run) (has : 0 < run.units) (small : run.units ≤ 4) (size : length run.start.disks ≡ run.units) (so_far : OpenBefore line run run.entries) (tame : IsTame (history_of line run)) where
+  module _ (line : ℕ) (run : Run) (r : IsRun run) (has : 0 < run.units) (small : run.units ≤ 4) (size : length run.start.disks ≡ run.units) (so_far : OpenBefore line run run.entries) (tame : IsTameOrFew (history_of line run)) where
     abbrev past : List Moment
     past = history_of line run
 

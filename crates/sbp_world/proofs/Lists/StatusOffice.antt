@@ -291,7 +291,7 @@ module _ (i : ℕ) (past : List Moment) (w : WorldState) (g : Good w.target) (pl
         let ours = Ours w g i placed source in
         let spelled : Spelled 0 source ours None new_machine outbox.packets =
         subst (λ ps. Spelled 0 source ours None new_machine ps) (sym e) (sends_write packet [] (λ slot block s. record { to_is = to; of = λ own. absurd (plain own slot block s) }) tt) in
-        all_send i 0 0 (topology_at x.generations 0).generation 0 source ours (Unit {0}) ⊥ None new_machine (λ mine block of. none_end of.one of.is) past outbox.packets x spelled (subst (λ ps. AllOut ours ps) (sym e) ((λ own slot block s access f. absurd (plain own slot block s)), tt)) refl
+        all_send i 0 0 (topology_at x.generations 0).generation 0 source ours (Unit {0}) ⊥ None new_machine (λ mine block of. none_end of.one of.is) past outbox.packets x spelled (subst (λ ps. AllOut (ours × Unit {0}) ps) (sym e) ((λ own slot block s access f. absurd (plain own.0 slot block s)), tt)) refl
         (λ o. (ap (λ (gs : GenerationsState). node_of gs 0 source) (sym same_generations) ∙ o, tt))
         (record { due = λ t. absurd t; none = λ t. absurd t; fits = λ mine slot block of at. absurd (none_end of.one of.is); sends = told_sends })
 

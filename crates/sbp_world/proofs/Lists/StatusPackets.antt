@@ -4,7 +4,7 @@ use Rattle.std.proofs.Common.{◌≡◌, ◌∙◌, refl, sym, ap, ℕ, true, fa
 use Rattle.bus_memory.specs.declared.window.Window.TheVariants as windows
 use Rattle.bus_memory.specs.Windows.{start as start_of, window_at}
 use Rattle.login_table.specs.declared.login.Login.{Login}
-use Rattle.login_table.specs.Table.{Table, place_at}
+use Rattle.login_table.specs.Table.{Table, is_live, place_at}
 use Rattle.media_bay.specs.Unsolicited.{block as unsolicited_block, block_head}
 use Rattle.orb_layout.specs.declared.status.StatusBlock.{StatusBlock}
 use Rattle.orb_layout.specs.declared.status.StatusKind.{StatusKind}
@@ -285,7 +285,7 @@ pub data IsInbox (offset : ℕ) : Type 0 where
 -- it goes to the FIFO of a login, to its node
 pub data IsFedBy (table : Table) (login : Login) (Ours : Type 0) (to offset : ℕ) : Type 0 where
   at_own : to ≡ login.node → offset ≡ written_at login.fifo → IsFedBy table login Ours to offset
-  at_other : (place : ℕ) (other : Login) → place_at table.places place ≡ Some other → to ≡ other.node → offset ≡ written_at other.fifo → IsFedBy table login Ours to offset
+  at_other : (place : ℕ) (other : Login) → place_at table.places place ≡ Some other → is_live other ≡ true → to ≡ other.node → offset ≡ written_at other.fifo → IsFedBy table login Ours to offset
   of_another : to ≡ login.node → (Ours → ⊥) → IsFedBy table login Ours to offset
 
 abbrev pub IsFed : Table → Login → Type 0 → Outgoing → Type 0

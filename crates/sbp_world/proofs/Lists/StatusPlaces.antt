@@ -1,7 +1,7 @@
--- Two of the facts that open lists stand on at each place of a run in which no initiator injected packets, and before which they were so: no status is taken of an ORB that
+-- Two of the facts that open lists stand on at each place of a run in which no initiator injected packets, or few logins were given, and before which they were so: no status is taken of an ORB that
 -- has not ended, and an ORB whose next pointer is read again stands in its slot. By what is known of the lists that are open there, and of where the ORBs of management
 -- operations stand.
-use Rattle.std.proofs.Common.{◌≡◌, ◌<◌, ℕ, Bool, false, List, length}
+use Rattle.std.proofs.Common.{◌≡◌, ◌<◌, ℕ, Bool, false, List, ◌++◌, length}
 use Rattle.sbp_journal.specs.Run.{Moment}
 use Rattle.sbp_laws.specs.Turns.{EachMoment}
 use Rattle.sbp_world.specs.Worlds.{WorldState, initiator_at, without_notes}
@@ -10,9 +10,10 @@ use Rattle.sbp_world.proofs.Agents.Management.Still.{hist}
 use Rattle.sbp_world.specs.Hosts.Fits.{AreRows}
 use Rattle.sbp_world.specs.Pointers.Pointers.{PointersLaw}
 use Rattle.sbp_world.specs.Lists.Begun.{BegunLaw}
-use Rattle.sbp_world.specs.Lists.Closes.{AreBehind, AreHere, AreUntaken, Under, WhereTame}
+use Rattle.sbp_world.specs.Lists.Closes.{AreBehind, AreHere, AreUntaken, Under, WhereTame, WhereTameOrFew}
 use Rattle.sbp_world.specs.Lists.Needs.{IsCalm}
-use Rattle.sbp_world.specs.Lists.OwnLogins.{AreOwn}
+use Rattle.sbp_world.specs.Lists.FewLogins.{IsTameOrFew}
+use Rattle.sbp_world.specs.Lists.OwnLogins.{AreOwn, AreOwnOf, IsTame}
 use Rattle.sbp_world.specs.Lists.Statuses.{AllSentSo, AllStatuses, AreStatuses, SentSo}
 use Rattle.sbp_world.proofs.Lists.RunOutcomes.{AreAsked}
 use Rattle.sbp_world.proofs.Lists.StatusAnswers.{answer_free, answers_apart}
@@ -24,17 +25,24 @@ use Rattle.sbp_world.proofs.Lists.StatusRested as rested
 use Rattle.sbp_world.proofs.Lists.StatusRested.{all_here, grounds_law, over_law}
 use Rattle.sbp_world.proofs.Lists.StatusRuns.{statuses_law}
 use Rattle.sbp_world.proofs.Lists.StatusWalk.{Given}
+use Rattle.sbp_world.proofs.Lists.TameWalks.{Where}
 use Rattle.sbp_world.proofs.Lists.Turns.{Ready}
+use Rattle.sbp_world.proofs.Lists.Beside.{tame_or_few_before}
+use Rattle.sbp_world.proofs.Lists.OwnFifos.{tame_before}
 
 -- the management ORB of an operation of an initiator that injected no packets stands at one of its places of management, and each login has a FIFO of a login
 abbrev pub AllPlaced : List Moment → WorldState → Type 0
 AllPlaced ms w = (i : ℕ) → i < length w.initiators → IsCalm ms i → ArePlacedFor w i × AreOwn w
 
+-- it is enough that each live login of its node has one
 abbrev Placed : ℕ → WorldState → Type 0
-Placed i w = ArePlacedFor w i × AreOwn w
+Placed i w = ArePlacedFor w i × AreOwnOf w i
+
+abbrev pub AllPlacedFor : List Moment → WorldState → Type 0
+AllPlacedFor ms w = (i : ℕ) → i < length w.initiators → IsCalm ms i → Placed i w
 
 placed_on : (i : ℕ) (w : WorldState) → Placed i w → Placed i (without_notes w)
-placed_on i w p = ((λ op e source. p.0 op e source), (λ place login e. p.1 place login e))
+placed_on i w p = ((λ op e source. p.0 op e source), (λ place login e live of. p.1 place login e live of))
 
 gives : (wild : ℕ → Bool) (i : ℕ) (own : wild i ≡ false) (past : List Moment) (w : WorldState) (r : Ready wild past w) (statuses : AreStatuses (hist past w) i) (each : EachMoment (SentSo i) (hist past w)) (rows : AreRows (hist past w) i (initiator_at w i).lists.slots) → AreAsked wild (hist past w) w → Placed i w → Given wild i own past w r statuses each rows
 gives wild i own past w r statuses each rows asked placed = record {
@@ -47,24 +55,38 @@ free : (wild : ℕ → Bool) (past : List Moment) (w : WorldState) → Ready wil
 free wild past w r asked sent is_for run disks p label place f b login which e own none offset size wrote fifo =
     answer_free wild past w r asked sent is_for run disks p label place f b login which e own none offset size wrote fifo
 
-module _ (pointers : PointersLaw) (begun : BegunLaw) (here : Under (WhereTame AreHere)) (placed : Under (WhereTame AllPlaced)) where
-  over : Under (WhereTame (proved.Over Placed placed_on gives))
-  over = record {
-    after_lines = λ line run r has small size so_far tame. (here.after_lines line run r has small size so_far tame, placed.after_lines line run r has small size so_far tame);
-    between = λ line run r has small size next most told m so_far tame. (here.between line run r has small size next most told m so_far tame, placed.between line run r has small size next most told m so_far tame);
-  }
+module _ (pointers : PointersLaw) (begun : BegunLaw) where
+  -- under a condition that was so before wherever it is so
+  module _ (Still : List Moment → Type 0) (closed : (later past : List Moment) → Still (later ++ past) → Still past) (here : Under (Where Still AreHere)) (placed : Under (Where Still AllPlacedFor)) where
+    over : Under (Where Still (proved.Over Placed placed_on gives))
+    over = record {
+      after_lines = λ line run r has small size so_far still. (here.after_lines line run r has small size so_far still, placed.after_lines line run r has small size so_far still);
+      between = λ line run r has small size next most told m so_far still. (here.between line run r has small size next most told m so_far still, placed.between line run r has small size next most told m so_far still);
+    }
 
-  pub sent_law : Under (WhereTame AllSentSo)
-  sent_law = proved.sent_law Placed placed_on gives (ground_law pointers begun) over
+    sent_where : Under (Where Still AllSentSo)
+    sent_where = proved.sent_law Placed placed_on gives Still closed (ground_law pointers begun) over
 
-  pub statuses : Under (WhereTame AllStatuses)
-  statuses = statuses_law.statuses sent_law
+    names_where : Under (Where Still AreNames)
+    names_where = proved.named_law Placed placed_on gives Still closed (ground_law pointers begun) over
 
-  pub untaken_law : Under (WhereTame AreUntaken)
-  untaken_law = statuses_law.untaken sent_law
+  -- where no initiator injected packets
+  pub names : Under (WhereTame AreHere) → Under (WhereTame AllPlaced) → Under (WhereTame AreNames)
+  names here placed = names_where IsTame tame_before here (record {
+    after_lines = λ line run r has small size so_far tame i b calm. let p = placed.after_lines line run r has small size so_far tame i b calm in (p.0, λ place login e live of. p.1 place login e);
+    between = λ line run r has small size next most told m so_far tame i b calm. let p = placed.between line run r has small size next most told m so_far tame i b calm in (p.0, λ place login e live of. p.1 place login e);
+  })
 
-  pub names : Under (WhereTame AreNames)
-  names = proved.named_law Placed placed_on gives (ground_law pointers begun) over
+  -- or few logins were given
+  module _ (here : Under (WhereTameOrFew AreHere)) (placed : Under (WhereTameOrFew AllPlacedFor)) where
+    pub sent_law : Under (WhereTameOrFew AllSentSo)
+    sent_law = sent_where IsTameOrFew tame_or_few_before here placed
 
-  pub behind_law : JoinedLaw → Under (WhereTame AreBehind)
-  behind_law joined = rested.behind_law free (grounds_law (ground_law pointers begun) joined) (over_law (all_here here names) statuses untaken_law)
+    pub statuses : Under (WhereTameOrFew AllStatuses)
+    statuses = statuses_law.statuses sent_law
+
+    pub untaken_law : Under (WhereTameOrFew AreUntaken)
+    untaken_law = statuses_law.untaken sent_law
+
+    pub behind_law : JoinedLaw → Under (WhereTameOrFew AreBehind)
+    behind_law joined = rested.behind_law free (grounds_law (ground_law pointers begun) joined) (over_law (all_here here (names_where IsTameOrFew tame_or_few_before here placed)) statuses untaken_law)

@@ -35,8 +35,8 @@ use Rattle.sbp_world.proofs.Lists.OpenOwners.{CameFrom, came_from}
 use Rattle.sbp_world.proofs.Lists.OpenTurns.{listing_up, up_state}
 use Rattle.sbp_world.proofs.Lists.OpenWorlds.{taken}
 use Rattle.sbp_world.proofs.Lists.Sites.{Site}
-use Rattle.sbp_world.proofs.Lists.StatusTurn.{Up}
-use Rattle.sbp_world.proofs.Lists.StatusUps.{AllCaught, generation_is, up_access, up_open}
+use Rattle.sbp_world.proofs.Lists.StatusTurn.{Acting, Up}
+use Rattle.sbp_world.proofs.Lists.StatusUps.{AllCaught, generation_is, lives_access, lives_open, up_access, up_open}
 
 same_sending : (x y : Sending) → Some x ≡ Some y → x ≡ y
 same_sending x y e = cc
@@ -66,6 +66,9 @@ module _ (wild : ℕ → Bool) (i : ℕ) (own : wild i ≡ false) (units logins 
 
     pub open_up : Up wild i own past w q
     open_up = up_open wild i own start past w inside stands site.held caught opened q b (up_state _ (listing_up (machine_at w q).phase l)) open_present
+
+    pub open_acting : Acting wild i own past w q
+    open_acting = (open_up, lives_open ms w opened q b (up_state _ (listing_up (machine_at w q).phase l)))
 
   -- ---- as a pointer is taken
   module _ (sent : Sent) (is_for : IsFor w sent) (packet : Packet) (judged : (judging_step w.target.layer sent.generation sent.bytes).0 ≡ of_request packet) (bar : is_barred w.target packet ≡ false) (q : ℕ) (b : q < 8) (pointer : OrbPointer) (demand : demand_of (length w.target.rom) packet ≡ demands.Agent q (accesses.Point pointer)) (ask : Ask) (took : (point_step (machine_at w q) pointer).0 ≡ Ok ask) where
@@ -109,3 +112,6 @@ module _ (wild : ℕ → Bool) (i : ℕ) (own : wild i ≡ false) (units logins 
 
     pub point_up : Up wild i own past w q
     point_up = up_access wild i own start past w inside stands site.held caught (good_of units logins h.calls w.target has h.made) packet bar q (accesses.Point pointer) demand point_present
+
+    pub point_acting : Acting wild i own past w q
+    point_acting = (point_up, lives_access w (good_of units logins h.calls w.target has h.made) packet bar q (accesses.Point pointer) demand)

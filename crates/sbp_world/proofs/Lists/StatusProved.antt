@@ -1,6 +1,6 @@
--- At each place of a run in which no initiator injected packets, and before which lists were open as they should be, the target sent each status to an initiator that injected no packets as it is to be; so no status
+-- At each place of a run in which no initiator injected packets, or few logins were given, and before which lists were open as they should be, the target sent each status to an initiator that injected no packets as it is to be; so no status
 -- is taken of an ORB that has not ended. Each turn keeps it, together with that the writes of ORB_POINTER were named for lists.
-use Rattle.std.proofs.Common.{◌≡◌, refl, subst, ◌<◌, ◌≤◌, ℕ, Bool, false, List, [], length, Option, Some, None}
+use Rattle.std.proofs.Common.{◌≡◌, refl, subst, ◌<◌, ◌≤◌, ℕ, Bool, false, List, [], ◌++◌, length, Option, Some, None}
 use Rattle.rbc_disk.specs.Disk.{Disk}
 use Rattle.rbc_disk.specs.Runs.{Told}
 use Rattle.sbp_journal.specs.Run.{Moment}
@@ -26,7 +26,7 @@ use Rattle.sbp_world.proofs.Hosts.Runs.{count_after, count_between}
 use Rattle.sbp_world.proofs.Hosts.Statuses.Runs.{taking_law}
 use Rattle.sbp_world.specs.Pointers.Pointers.{PointersLaw}
 use Rattle.sbp_world.specs.Lists.Begun.{BegunLaw}
-use Rattle.sbp_world.specs.Lists.Closes.{Always, AreHere, AreUntaken, Under, WhereTame}
+use Rattle.sbp_world.specs.Lists.Closes.{Always, AreHere, Under}
 use Rattle.sbp_world.specs.Lists.Needs.{IsCalm}
 use Rattle.sbp_world.specs.Lists.Opens.{AreOpened}
 use Rattle.sbp_world.specs.Lists.Places.{AreNamedFor}
@@ -36,12 +36,12 @@ use Rattle.sbp_world.proofs.Lists.Executes.{asked_of}
 use Rattle.sbp_world.proofs.Lists.NamedWrites.{AllNamed, Known, first_names, names_turn}
 use Rattle.sbp_world.proofs.Lists.OpenProved.{opens_law}
 use Rattle.sbp_world.proofs.Lists.RunOutcomes.{AreAsked}
-use Rattle.sbp_world.proofs.Lists.StatusPoints.{open_up, point_up}
-use Rattle.sbp_world.proofs.Lists.StatusRuns.{once_of, rises_of, statuses_in, statuses_law, untaken_in}
+use Rattle.sbp_world.proofs.Lists.StatusPoints.{open_acting, point_acting}
+use Rattle.sbp_world.proofs.Lists.StatusRuns.{once_of, rises_of, statuses_in, untaken_in}
 use Rattle.sbp_world.proofs.Lists.StatusUps.{AllCaught}
 use Rattle.sbp_world.proofs.Lists.StatusWalk.{Facts, Given, turn_sends}
 use Rattle.sbp_world.proofs.Lists.Turns.{Ready}
-use Rattle.sbp_world.proofs.Lists.TameWalks.{tame_after, tame_between}
+use Rattle.sbp_world.proofs.Lists.TameWalks.{Where, still_after, still_between}
 use Rattle.sbp_world.proofs.Lists.Walks.{Step, Walks}
 
 -- ---- what is known of every run at a place
@@ -134,9 +134,9 @@ module _ (Placed : ℕ → WorldState → Type 0) (placed_on : (i : ℕ) (w : Wo
           rows = site.rows i inside;
           asked_orbs = asked_of wild start units ready has w h site step.stands.lists step.stands.reached.calm k.orbs;
           placed = (step.so_far i own).1 i inside calm;
-          up = λ q c l. open_up wild i own units ready has start w h site inside calm lists k.opened k.caught k.known.pointers k.known.first here q c l;
+          up = λ q c l. open_acting wild i own units ready has start w h site inside calm lists k.opened k.caught k.known.pointers k.known.first here q c l;
           point_up = λ sent is_for packet judged bar q c pointer demand ask took.
-              point_up wild i own units ready has start w h site inside calm lists k.opened k.caught k.known.pointers k.known.first here sent is_for packet judged bar q c pointer demand ask took;
+              point_acting wild i own units ready has start w h site inside calm lists k.opened k.caught k.known.pointers k.known.first here sent is_for packet judged bar q c pointer demand ask took;
         }
 
     sent_now : EachMoment (SentSo i) (hist later t.world)
@@ -159,21 +159,19 @@ module _ (Placed : ℕ → WorldState → Type 0) (placed_on : (i : ℕ) (w : Wo
   first_sent : (wild : ℕ → Bool) (line : ℕ) (run : Run) → AllSent wild (moments_behind line run []) (beginning run).world
   first_sent wild line run = ((λ i b own. (tt, (tt, tt))), first_names wild line run)
 
-  -- ---- over a run in which no initiator injected packets
-  pub sent_law : Always Ground → Under (WhereTame Over) → Under (WhereTame AllSentSo)
-  sent_law ground over = record {
-    after_lines = λ line run r has small size so_far tame i b calm. (tame_after Ground Over AllSent ground over sends_walk first_sent line run r has small size so_far tame).0 i b calm;
-    between = λ line run r has small size next most told m so_far tame i b calm.
-        (tame_between Ground Over AllSent ground over sends_walk first_sent line run r has small size next (more_deliveries most) (delivers most) told m so_far tame).0 i b calm;
-  }
+  -- ---- over a run, under a condition that was so before wherever it is so
+  module _ (Still : List Moment → Type 0) (closed : (later past : List Moment) → Still (later ++ past) → Still past) where
+    pub sent_law : Always Ground → Under (Where Still Over) → Under (Where Still AllSentSo)
+    sent_law ground over = record {
+      after_lines = λ line run r has small size so_far still i b calm. (still_after Still closed Ground Over AllSent ground over sends_walk first_sent line run r has small size so_far still).0 i b calm;
+      between = λ line run r has small size next most told m so_far still i b calm.
+          (still_between Still closed Ground Over AllSent ground over sends_walk first_sent line run r has small size next (more_deliveries most) (delivers most) told m so_far still).0 i b calm;
+    }
 
-  -- the writes of ORB_POINTER that were got were named for lists
-  pub named_law : Always Ground → Under (WhereTame Over) → Under (WhereTame AreNames)
-  named_law ground over = record {
-    after_lines = λ line run r has small size so_far tame i b calm. (tame_after Ground Over AllSent ground over sends_walk first_sent line run r has small size so_far tame).1 i b calm;
-    between = λ line run r has small size next most told m so_far tame i b calm.
-        (tame_between Ground Over AllSent ground over sends_walk first_sent line run r has small size next (more_deliveries most) (delivers most) told m so_far tame).1 i b calm;
-  }
-
-  pub untaken_law : Always Ground → Under (WhereTame Over) → Under (WhereTame AreUntaken)
-  untaken_law ground over = statuses_law.untaken (sent_law ground over)
+    -- the writes of ORB_POINTER that were got were named for lists
+    pub named_law : Always Ground → Under (Where Still Over) → Under (Where Still AreNames)
+    named_law ground over = record {
+      after_lines = λ line run r has small size so_far still i b calm. (still_after Still closed Ground Over AllSent ground over sends_walk first_sent line run r has small size so_far still).1 i b calm;
+      between = λ line run r has small size next most told m so_far still i b calm.
+          (still_between Still closed Ground Over AllSent ground over sends_walk first_sent line run r has small size next (more_deliveries most) (delivers most) told m so_far still).1 i b calm;
+    }

@@ -1,4 +1,4 @@
--- At each place of a run in which no initiator injected packets, and before which lists were open as they should be, an ORB whose next pointer is read again stands in
+-- At each place of a run in which no initiator injected packets, or few logins were given, and before which lists were open as they should be, an ORB whose next pointer is read again stands in
 -- its slot: it is the last one of its list that ended, and told so by the src of its status block.
 use Rattle.std.proofs.Common.{arith, ◌≡◌, ◌∙◌, refl, sym, ap, subst, ◌<◌, ℕ, suc, nat_eq, Bool, true, false, List, [], ◌∷◌, ◌++◌, map, length, Option, Some, None}
 use Rattle.std.proofs.lemmas.Bool.Decides.{nat_tests}
@@ -28,7 +28,7 @@ use Rattle.sbp_world.specs.Hosts.Lasting.{Lasts}
 use Rattle.sbp_world.specs.Hosts.Runs.{more_deliveries}
 use Rattle.sbp_world.proofs.Hosts.Lasting.{lasting_law}
 use Rattle.sbp_world.proofs.Hosts.Runs.{count_after, count_between, run_law}
-use Rattle.sbp_world.specs.Lists.Closes.{Always, AreBehind, AreHere, AreUntaken, IsHere, Under, WhereTame}
+use Rattle.sbp_world.specs.Lists.Closes.{Always, AreBehind, AreHere, AreUntaken, IsHere, Under, WhereTameOrFew}
 use Rattle.sbp_world.specs.Lists.Needs.{IsCalm, initiator_in, machine_at}
 use Rattle.sbp_world.specs.Lists.Opens.{AreOpened}
 use Rattle.sbp_world.specs.Lists.Statuses.{AllStatuses}
@@ -48,7 +48,9 @@ use Rattle.sbp_world.proofs.Lists.StatusTurn.{Up}
 use Rattle.sbp_world.proofs.Lists.StatusTurns.{turn_held}
 use Rattle.sbp_world.proofs.Lists.StatusUps.{generation_is, up_open}
 use Rattle.sbp_world.proofs.Lists.Turns.{Ready}
-use Rattle.sbp_world.proofs.Lists.TameWalks.{tame_after, tame_between}
+use Rattle.sbp_world.specs.Lists.FewLogins.{IsTameOrFew}
+use Rattle.sbp_world.proofs.Lists.Beside.{tame_or_few_before}
+use Rattle.sbp_world.proofs.Lists.TameWalks.{still_after, still_between}
 use Rattle.sbp_world.proofs.Lists.Walks.{Step, Walks}
 
 no : false ≡ true → ⊥
@@ -90,7 +92,7 @@ grounds_law ground joined = record {
 abbrev pub AllHere : List Moment → WorldState → Type 0
 AllHere ms w = (i : ℕ) → i < length w.initiators → IsCalm ms i → IsHere ms w i
 
-pub all_here : Under (WhereTame AreHere) → Under (WhereTame AreNames) → Under (WhereTame AllHere)
+pub all_here : Under (WhereTameOrFew AreHere) → Under (WhereTameOrFew AreNames) → Under (WhereTameOrFew AllHere)
 all_here here names = record {
   after_lines = λ line run r has small size so_far tame i b calm. here.after_lines line run r has small size so_far tame i b calm (names.after_lines line run r has small size so_far tame i b calm);
   between = λ line run r has small size next most told m so_far tame i b calm. here.between line run r has small size next most told m so_far tame i b calm (names.between line run r has small size next most told m so_far tame i b calm);
@@ -101,7 +103,7 @@ pub record Over (ms : List Moment) (w : WorldState) : Type 0 where
   pub statuses : AllStatuses ms w
   pub untaken : AreUntaken ms w
 
-pub over_law : Under (WhereTame AllHere) → Under (WhereTame AllStatuses) → Under (WhereTame AreUntaken) → Under (WhereTame Over)
+pub over_law : Under (WhereTameOrFew AllHere) → Under (WhereTameOrFew AllStatuses) → Under (WhereTameOrFew AreUntaken) → Under (WhereTameOrFew Over)
 over_law here statuses untaken = record {
   after_lines = λ line run r has small size so_far tame. record {
     here = here.after_lines line run r has small size so_far tame;
@@ -231,16 +233,16 @@ module _ (free : (wild : ℕ → Bool) (past : List Moment) (w : WorldState) →
       let h = rested (initiator_in w q) q (mild (initiator_in w q) calm) b rv refl n k list e in
       is_named ms w q n k o.inside (rows (initiator_in w q) o.inside) (record { small = h.slotted.placed.small; is = h.slotted.placed.last })
 
-  pub behind_law : Always Grounds → Under (WhereTame Over) → Under (WhereTame AreBehind)
+  pub behind_law : Always Grounds → Under (WhereTameOrFew Over) → Under (WhereTameOrFew AreBehind)
   behind_law grounds over = record {
     after_lines = λ line run r has small size so_far tame.
         let w = (after (beginning run) run.entries).world in
-        behind_at (history_of line run) w (injectors (history_of line run)) (λ i calm. calm) (tame_after Grounds Over AreRested grounds over rested_walk first_rested line run r has small size so_far tame)
+        behind_at (history_of line run) w (injectors (history_of line run)) (λ i calm. calm) (still_after IsTameOrFew tame_or_few_before Grounds Over AreRested grounds over rested_walk first_rested line run r has small size so_far tame)
         (grounds.after_lines line run r has small size).ground.opened (λ i b. (run_law.rows line run r i (subst (λ n. i < n) (count_after run run.entries) b)).rows);
     between = λ line run r has small size next most told m so_far tame.
         let s = after (beginning run) run.entries in
         let w = (after_all told (begun s)).world in
         let now = map said w.fresh ++ asked next (more_deliveries most) ∷ history_of line run in
-        behind_at now w (injectors now) (λ i calm. calm) (tame_between Grounds Over AreRested grounds over rested_walk first_rested line run r has small size next (more_deliveries most) (delivers most) told m so_far tame)
+        behind_at now w (injectors now) (λ i calm. calm) (still_between IsTameOrFew tame_or_few_before Grounds Over AreRested grounds over rested_walk first_rested line run r has small size next (more_deliveries most) (delivers most) told m so_far tame)
         (grounds.between line run r has small size next most told m).ground.opened (λ i b. (run_law.between line run r next most told m i (subst (λ n. i < n) (count_after run run.entries) (subst (λ n. i < n) (count_between told s) b))).rows);
   }

@@ -1,4 +1,4 @@
--- Statuses are taken as the ORBs ended in every run in which no initiator injected packets and the target sends them so, as lists were open as they should be before.
+-- Statuses are taken as the ORBs ended in every run in which no initiator injected packets, or few logins were given, and the target sends them so, as lists were open as they should be before.
 use Rattle.std.proofs.Common.{arith, ◌≡◌, ◌∙◌, refl, sym, ap, subst, ℕ, ◌<◌, ◌≤◌, Bool, true, false, List, ◌∷◌, ◌++◌, map, length, Option, Some, None}
 use Rattle.rbc_disk.specs.Runs.{Told}
 use Rattle.sbp_journal.specs.Addresses.{Access}
@@ -138,7 +138,7 @@ module _ (line : ℕ) (run : Run) (r : IsRun run) (has : 0 < run.units) (small :
         f now i calm (between (injectors now) line run r has small size next event (delivers most) told m (λ j own. so_far) (λ j own. own)).law (subst IsOfWire is (laws_of before end x.holds.sound.stands)) (once_of before end x.holds.sound.stands now is) (rises_of before end x.holds.sound.stands now is)
         (taking_law.between line run r next most told m i inside).taken (source_law.between line run r next event told (delivering event told (delivers most)) m i inside) (sent i b calm)
 
--- where no initiator injected packets
+-- where no initiator injected packets, or few logins were given
 pub statuses_law : StatusesLaw
 statuses_law = record {
   statuses = λ sent. record {

@@ -107,7 +107,7 @@ module _ (i n k gen q peer : ℕ) (Ours Mine Told : Type 0) (told : Option EndSi
       ap (λ (d : Option EndedOrb). is_due d i n k to) e
       ∙ four (i == i) (n == n) (k == k) (to == suc i) (itself i) (itself n) (itself k) (ap (λ t. t == suc i) f ∙ itself (suc i))
 
-  write_on : (ms : List Moment) (s g to : ℕ) (out : Outgoing) → g ≡ gen → OfEnd q peer Ours told m out → IsOut Ours out → (to ≡ suc i → out.to ≡ peer → Ours × Mine) → Free ms → Sends (next ms s g to out.bytes)
+  write_on : (ms : List Moment) (s g to : ℕ) (out : Outgoing) → g ≡ gen → OfEnd q peer Ours told m out → IsOut (Ours × Mine) out → (to ≡ suc i → out.to ≡ peer → Ours × Mine) → Free ms → Sends (next ms s g to out.bytes)
   write_on ms s g to out at o free ours f = (written, f.sends)
     where
       written : ◌≡◌ {A = ℕ} 0 0 → to ≡ suc i → (slot : ℕ) (block : StatusBlock) → IsStatusWrite out.bytes slot block → IsSentSo ms i s g 0 to out.bytes slot block
@@ -123,7 +123,7 @@ module _ (i n k gen q peer : ℕ) (Ours Mine Told : Type 0) (told : Option EndSi
           let then = fits_on ms s g to out.bytes slot block fit in
           record {
             seen = omega (arith, low, at);
-            login = λ access e. free known.0 slot block w access e;
+            login = λ access e. free known slot block w access e;
             of = λ same. record {
               list = n;
               number = k;
@@ -175,7 +175,7 @@ module _ (i n k gen q peer : ℕ) (Ours Mine Told : Type 0) (told : Option EndSi
     plain_sends (out ∷ later) w p h =
         plain_sends later (sent 0 out w) p.1 (sent_on Sends out w h (λ s t e. plain_on (hist past w) s (topology_at w.generations 0).generation t out p.0 h))
 
-    pub all_send : (packets : List Outgoing) (w : WorldState) → Spelled q peer Ours told m packets → AllOut Ours packets → (topology_at w.generations 0).generation ≡ gen → (node_of w.generations 0 peer ≡ Some (suc i) → Ours × Mine) → Free (hist past w) → Sends (hist past (sent_all 0 packets w))
+    pub all_send : (packets : List Outgoing) (w : WorldState) → Spelled q peer Ours told m packets → AllOut (Ours × Mine) packets → (topology_at w.generations 0).generation ≡ gen → (node_of w.generations 0 peer ≡ Some (suc i) → Ours × Mine) → Free (hist past w) → Sends (hist past (sent_all 0 packets w))
     unfolding sent_all
     all_send _ w sends_none x at ours f = f.sends
     all_send _ w (sends_read out later r s) x at ours f =

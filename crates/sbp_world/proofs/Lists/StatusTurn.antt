@@ -5,6 +5,7 @@ use Rattle.async_packet.specs.Packet.{Packet, header_in}
 use Rattle.bus_memory.specs.Windows.{slot_of}
 use Rattle.label_table.specs.Layer.{Layer, judging_step, of_request, of_response}
 use Rattle.login_table.specs.declared.login.Login.{Login}
+use Rattle.login_table.specs.Table.{is_live}
 use Rattle.orb_layout.specs.declared.ask.Ask.{Ask}
 use Rattle.orb_layout.specs.declared.ask.Ask.TheVariants as asks
 use Rattle.orb_layout.specs.declared.ask.FailCause.TheVariants as causes
@@ -73,7 +74,7 @@ use Rattle.sbp_world.proofs.Lists.StatusDue.{Ours, late_step_of, point_small, re
 use Rattle.sbp_world.proofs.Lists.StatusFollows.{Followed}
 use Rattle.sbp_world.proofs.Lists.StatusHanded.{Starts, none_told, one_told}
 use Rattle.sbp_world.specs.Hosts.Statuses.Taking.{is_place_fifo}
-use Rattle.sbp_world.specs.Lists.OwnLogins.{AreOwn, IsLoginFifo}
+use Rattle.sbp_world.specs.Lists.OwnLogins.{AreOwnOf, IsLoginFifo}
 use Rattle.sbp_world.proofs.Lists.OwnFifos.{fifo_low, fifo_no_place}
 use Rattle.sbp_world.proofs.Lists.StatusSends.{AllOut}
 use Rattle.sbp_world.proofs.Lists.StatusLosses.{lost_asks, quiet_ahead}
@@ -155,9 +156,13 @@ module _ (wild : ℕ → Bool) (i : ℕ) (own : wild i ≡ false) (past : List M
     pub caught : (holder w q).initiator ≡ i → gen ≤ (terms (hist past w)).generation (suc i)
     pub present : (holder w q).initiator ≡ i → gen ≡ (terms (hist past w)).generation (suc i) → (n : ℕ) × (present_list (hist past w) i ≡ Some n)
 
+  -- and its login is live
+  abbrev pub Acting : ℕ → Type 0
+  Acting q = Up q × ((login : Login) → login_at w.target q ≡ Some login → is_live login ≡ true)
+
   module _ (r : Ready wild past w) (statuses : AreStatuses (hist past w) i) (each : EachMoment (SentSo i) (hist past w)) (rows : AreRows (hist past w) i (initiator_at w i).lists.slots) where
     abbrev C : Layer Purpose → Scene → Type 0
-    C layer s = Called w r.good (Ours wild past w r) Up (Unit {0}) layer s
+    C layer s = Called w r.good (Ours wild past w r) Acting (Unit {0}) layer s
 
     abbrev table : SlotTable
     table = (initiator_at w i).lists.slots
@@ -180,25 +185,27 @@ module _ (wild : ℕ → Bool) (i : ℕ) (own : wild i ≡ false) (past : List M
         (has_slot (hist past w) i t.list t.number table rows below (untaken_none t.list t.number l) (e ∙ ap (λ x. Some x) (sym same)))
 
     -- what a call hands out, behind the first note
-    module _ (layer : Layer Purpose) (s : Scene) (note : Note) (f : IsFirst note) (u : WorldState) (b : Behind note w u) (others : AreOthers s.outbox.sides) (law : PassLaw wild (hist past (handed_out 0 0 s.outbox u))) (managed : (answer : Answer) → s ≡ manage answer (first w r.good layer) → S i past (handed_out 0 0 s.outbox u)) (owned : AreOwn w) where
+    module _ (layer : Layer Purpose) (s : Scene) (note : Note) (f : IsFirst note) (u : WorldState) (b : Behind note w u) (others : AreOthers s.outbox.sides) (law : PassLaw wild (hist past (handed_out 0 0 s.outbox u))) (managed : (answer : Answer) → s ≡ manage answer (first w r.good layer) → S i past (handed_out 0 0 s.outbox u)) (owned : AreOwnOf w i) where
       begins : Starts wild i own past w u
       begins = starts_of note f u b
 
       -- a status block goes to the FIFO of the login
-      out_of : (login : Login) → IsLoginFifo login.fifo → (Mine : Type 0) (packets : List Outgoing) → AllLogged login Mine packets → AllOut Mine packets
-      out_of login own Mine [] h = tt
-      out_of login own Mine (packet ∷ later) h =
-          let low = fifo_low login.fifo own in
-          ((λ ours slot block x access e. ap is_place_fifo (h.0 ours slot block x access e ∙ same_address login.fifo (omega (arith, low))) ∙ fifo_no_place login.fifo own), out_of login own Mine later h.1)
+      out_of : (login : Login) (Its Mine : Type 0) → (Mine → IsLoginFifo login.fifo) → (packets : List Outgoing) → AllLogged login Its packets → AllOut (Its × Mine) packets
+      out_of login Its Mine own [] h = tt
+      out_of login Its Mine own (packet ∷ later) h = (
+        λ ours slot block x access e.
+            (let fifo = own ours.1 in let low = fifo_low login.fifo fifo in ap is_place_fifo (h.0 ours.0 slot block x access e ∙ same_address login.fifo (omega (arith, low))) ∙ fifo_no_place login.fifo fifo),
+        out_of login Its Mine own later h.1,
+      )
 
-      acting : (q : ℕ) (c : q < 8) (login : Login) → login_at w.target q ≡ Some login → Up q → (early : Option EndSide) (x : Followed q c login (Ours wild past w r q) (M w r.good layer) early (M w r.good layer q) s) → (told : Option EndSide) → x.told ≡ told → S i past (handed_out 0 0 s.outbox u)
+      acting : (q : ℕ) (c : q < 8) (login : Login) → login_at w.target q ≡ Some login → Acting q → (early : Option EndSide) (x : Followed q c login (Ours wild past w r q) (M w r.good layer) early (M w r.good layer q) s) → (told : Option EndSide) → x.told ≡ told → S i past (handed_out 0 0 s.outbox u)
       acting q c login is up early x None e =
-          none_told wild i own past w u begins s.outbox q login.node (Ours wild past w r q) x.now law r.kept.passes statuses each (λ n. let mine = up.mine login is n in (ap wild mine ∙ own, mine)) up.caught
-          (subst (λ o. ToldSo q s.outbox.sides o) e x.so.told_is) (subst (λ o. Spelled q login.node (Ours wild past w r q) o x.now s.outbox.packets) e x.so.spelled) (out_of login (owned q login is) (Ours wild past w r q) s.outbox.packets x.so.logged)
+          none_told wild i own past w u begins s.outbox q login.node (Ours wild past w r q) x.now law r.kept.passes statuses each (λ n. let mine = up.0.mine login is n in (ap wild mine ∙ own, mine)) up.0.caught
+          (subst (λ o. ToldSo q s.outbox.sides o) e x.so.told_is) (subst (λ o. Spelled q login.node (Ours wild past w r q) o x.now s.outbox.packets) e x.so.spelled) (out_of login (Ours wild past w r q) ((holder w q).initiator ≡ i) (λ mine. owned q login is (up.1 login is) mine) s.outbox.packets x.so.logged)
       acting q c login is up early x (Some one) e =
-          one_told wild i own past w u begins s.outbox q login.node (Ours wild past w r q) x.now law r.kept.passes statuses each (λ n. let mine = up.mine login is n in (ap wild mine ∙ own, mine)) up.caught one
-          (subst (λ o. ToldSo q s.outbox.sides o) e x.so.told_is) (subst (λ o. Spelled q login.node (Ours wild past w r q) o x.now s.outbox.packets) e x.so.spelled) (out_of login (owned q login is) (Ours wild past w r q) s.outbox.packets x.so.logged)
-          (λ mine t k l latest below slot at g. let p = up.present mine g in slotted p.0 p.1 one.orb t k l latest below slot at)
+          one_told wild i own past w u begins s.outbox q login.node (Ours wild past w r q) x.now law r.kept.passes statuses each (λ n. let mine = up.0.mine login is n in (ap wild mine ∙ own, mine)) up.0.caught one
+          (subst (λ o. ToldSo q s.outbox.sides o) e x.so.told_is) (subst (λ o. Spelled q login.node (Ours wild past w r q) o x.now s.outbox.packets) e x.so.spelled) (out_of login (Ours wild past w r q) ((holder w q).initiator ≡ i) (λ mine. owned q login is (up.1 login is) mine) s.outbox.packets x.so.logged)
+          (λ mine t k l latest below slot at g. let p = up.0.present mine g in slotted p.0 p.1 one.orb t k l latest below slot at)
 
       pub hands : C layer s → S i past (handed_out 0 0 s.outbox u)
       hands (idles k) = target_hands i past 0 s.outbox u others (reads_plain s.outbox.packets k.read) (begins.sends each)
@@ -218,11 +225,11 @@ module _ (wild : ℕ → Bool) (i : ℕ) (own : wild i ≡ false) (past : List M
       Answers =
           (p : Packet) (label : LabelParts) (place : ℕ) → (judging_step w.target.layer sent.generation sent.bytes).0 ≡ of_response p label (Some (purposes.Agent place)) → place < 8 → (login : Login) (which : Which) → which_in (desk_at w.target place) (header_in p).source label ≡ Some which → (let step = (reply_step (machine_at w place) place (plain_in w.target.units media.disks login.unit) run which (answer_in p)).0 in Ours wild past w r place → step.ended ≡ None → (offset size : ℕ) → step.ask ≡ asks.Write offset size → IsInbox (written_at offset) → ⊥)
 
-      module _ (u : WorldState) (b : Behind (judged_note serial x.0) w u) (others : AreOthers x.1.outbox.sides) (law : PassLaw wild (hist past (handed_out 0 0 x.1.outbox u))) (answers : Answers) (reply_up : (peer : ℕ) (label : LabelParts) (place : ℕ) → place < 8 → (which : Which) → which_in (desk_at w.target place) peer label ≡ Some which → Up place) (ring_up : (p : Packet) → (judging_step w.target.layer sent.generation sent.bytes).0 ≡ of_request p → is_barred w.target p ≡ false → (q : ℕ) → q < 8 → demand_of (length w.target.rom) p ≡ demands.Agent q accesses.Ring → has_list (machine_at w q).phase ≡ true → Up q) (point_up : (p : Packet) → (judging_step w.target.layer sent.generation sent.bytes).0 ≡ of_request p → is_barred w.target p ≡ false → (q : ℕ) → q < 8 → (pointer : OrbPointer) → demand_of (length w.target.rom) p ≡ demands.Agent q (accesses.Point pointer) → (ask : Ask) → (point_step (machine_at w q) pointer).0 ≡ Ok ask → Up q) (managed : (answer : Answer) → scene x.1.node x.1.outbox ≡ manage answer (first w r.good then) → S i past (handed_out 0 0 x.1.outbox u)) (owned : AreOwn w) where
+      module _ (u : WorldState) (b : Behind (judged_note serial x.0) w u) (others : AreOthers x.1.outbox.sides) (law : PassLaw wild (hist past (handed_out 0 0 x.1.outbox u))) (answers : Answers) (reply_up : (peer : ℕ) (label : LabelParts) (place : ℕ) → place < 8 → (which : Which) → which_in (desk_at w.target place) peer label ≡ Some which → Acting place) (ring_up : (p : Packet) → (judging_step w.target.layer sent.generation sent.bytes).0 ≡ of_request p → is_barred w.target p ≡ false → (q : ℕ) → q < 8 → demand_of (length w.target.rom) p ≡ demands.Agent q accesses.Ring → has_list (machine_at w q).phase ≡ true → Acting q) (point_up : (p : Packet) → (judging_step w.target.layer sent.generation sent.bytes).0 ≡ of_request p → is_barred w.target p ≡ false → (q : ℕ) → q < 8 → (pointer : OrbPointer) → demand_of (length w.target.rom) p ≡ demands.Agent q (accesses.Point pointer) → (ask : Ask) → (point_step (machine_at w q) pointer).0 ≡ Ok ask → Acting q) (managed : (answer : Answer) → scene x.1.node x.1.outbox ≡ manage answer (first w r.good then) → S i past (handed_out 0 0 x.1.outbox u)) (owned : AreOwnOf w i) where
         pub delivery_sends : S i past (handed_out 0 0 x.1.outbox u)
         delivery_sends =
             hands then (scene x.1.node x.1.outbox) (judged_note serial x.0) (judged_first serial x.0) u b others law managed owned
-            (delivery_called w r.good (Ours wild past w r) Up (Unit {0}) sent run media
+            (delivery_called w r.good (Ours wild past w r) Acting (Unit {0}) sent run media
             (λ p label place f c login which e. reply_step_of wild past w r sent is_for run media.disks then p label place f c login which e (answers p label place f c login which e))
             (λ q c ours h. ring_small wild past w r q c ours h)
             (λ p f bar q c pointer d ask e ours. point_small wild past w r sent is_for p f bar q c pointer d ask e ours)
@@ -237,10 +244,10 @@ module _ (wild : ℕ → Bool) (i : ℕ) (own : wild i ≡ false) (past : List M
       abbrev y : Scene
       y = timed_out purpose peer label (first w r.good layer)
 
-      module _ (u : WorldState) (b : Behind (notes.TimedOut serial) w u) (others : AreOthers y.outbox.sides) (law : PassLaw wild (hist past (handed_out 0 0 y.outbox u))) (late_up : (place : ℕ) → place < 8 → (which : Which) → which_in (desk_at w.target place) peer label ≡ Some which → Up place) (managed : (answer : Answer) → y ≡ manage answer (first w r.good layer) → S i past (handed_out 0 0 y.outbox u)) (owned : AreOwn w) where
+      module _ (u : WorldState) (b : Behind (notes.TimedOut serial) w u) (others : AreOthers y.outbox.sides) (law : PassLaw wild (hist past (handed_out 0 0 y.outbox u))) (late_up : (place : ℕ) → place < 8 → (which : Which) → which_in (desk_at w.target place) peer label ≡ Some which → Acting place) (managed : (answer : Answer) → y ≡ manage answer (first w r.good layer) → S i past (handed_out 0 0 y.outbox u)) (owned : AreOwnOf w i) where
         pub lapse_sends : S i past (handed_out 0 0 y.outbox u)
         lapse_sends =
             hands layer y (notes.TimedOut serial) (late_first serial) u b others law managed owned
-            (lapse_called w r.good (Ours wild past w r) Up (Unit {0}) layer peer label
+            (lapse_called w r.good (Ours wild past w r) Acting (Unit {0}) layer peer label
             (λ place c login which e. late_step_of wild past w r peer label layer place c login which e (λ ours none offset size wrote fifo. late_apart place which none offset size wrote))
             late_up purpose (λ f. tt))

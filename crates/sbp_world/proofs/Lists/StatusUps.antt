@@ -95,3 +95,16 @@ module _ (wild : ℕ → Bool) (i : ℕ) (own : wild i ≡ false) (start : List 
   -- and of one whose register a request reached
   pub up_access : Good w.target → (p : Packet) → is_barred w.target p ≡ false → (q : ℕ) (access : Access) → demand_of (length w.target.rom) p ≡ demands.Agent q access → ((holder w q).initiator ≡ i → gen ≡ t.generation (suc i) → (n : ℕ) × (present_list (hist past w) i ≡ Some n)) → Up wild i own past w q
   up_access g p bar q access d present = let s = (reaches w.target g p q access bar d).served in up_of q s.login s.is s.live present
+
+-- ---- whose login is live
+abbrev Lives : WorldState → ℕ → Type 0
+Lives w q = (login : Login) → login_at w.target q ≡ Some login → is_live login ≡ true
+
+lives_by : (w : WorldState) (q : ℕ) (login : Login) → login_at w.target q ≡ Some login → is_live login ≡ true → Lives w q
+lives_by w q login e live other f = ap is_live (same_login other login (sym f ∙ e)) ∙ live
+
+pub lives_open : (ms : List Moment) (w : WorldState) → AreOpened ms w → (q : ℕ) → q < 8 → is_reset (state_in (machine_at w q).phase) ≡ false → Lives w q
+lives_open ms w opens q b up = let o = opens q b up in lives_by w q o.login o.is o.live
+
+pub lives_access : (w : WorldState) → Good w.target → (p : Packet) → is_barred w.target p ≡ false → (q : ℕ) (access : Access) → demand_of (length w.target.rom) p ≡ demands.Agent q access → Lives w q
+lives_access w g p bar q access d = let s = (reaches w.target g p q access bar d).served in lives_by w q s.login s.is s.live

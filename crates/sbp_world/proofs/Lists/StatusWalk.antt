@@ -50,7 +50,7 @@ use Rattle.sbp_world.specs.Hosts.Handing.{AreOthers}
 use Rattle.sbp_world.proofs.Hosts.Hands.{hand_law}
 use Rattle.sbp_world.proofs.Hosts.StepLaws.{step_law}
 use Rattle.sbp_world.specs.Lists.Needs.{IsFor, machine_at}
-use Rattle.sbp_world.specs.Lists.OwnLogins.{AreOwn}
+use Rattle.sbp_world.specs.Lists.OwnLogins.{AreOwnOf}
 use Rattle.sbp_world.specs.Lists.Statuses.{AreStatuses, IsToHost, SentSo}
 use Rattle.sbp_world.proofs.Lists.Deliveries.{waits_has}
 use Rattle.sbp_world.proofs.Lists.Generations.{moment_generation}
@@ -59,7 +59,7 @@ use Rattle.sbp_world.proofs.Lists.Passing.{PassLaw}
 use Rattle.sbp_world.proofs.Lists.RunOutcomes.{AreAsked}
 use Rattle.sbp_world.proofs.Lists.StatusActs.{first}
 use Rattle.sbp_world.proofs.Lists.StatusLines.{S, acts, heard, injects, keys, loses, notes_on, refuses, resets, seconds, sights, target_is, times_out}
-use Rattle.sbp_world.proofs.Lists.StatusTurn.{Answers, Behind, IsFirst, Up, delivery_sends, judged_first, lapse_sends, late_first}
+use Rattle.sbp_world.proofs.Lists.StatusTurn.{Acting, Answers, Behind, IsFirst, delivery_sends, judged_first, lapse_sends, late_first}
 use Rattle.sbp_world.proofs.Lists.Stays.{ready_now}
 use Rattle.sbp_world.proofs.Lists.Turned.{IsOne}
 use Rattle.sbp_world.proofs.Lists.Turns.{Ready}
@@ -105,7 +105,7 @@ module _ (wild : ℕ → Bool) (i : ℕ) (own : wild i ≡ false) where
   -- what the answers of agents, and the management, are taken to write
   pub record Given (past : List Moment) (w : WorldState) (r : Ready wild past w) (statuses : AreStatuses (hist past w) i) (each : EachMoment (SentSo i) (hist past w)) (rows : AreRows (hist past w) i (initiator_at w i).lists.slots) : Type 0 where
     pub answers : (sent : Sent) (is_for : IsFor w sent) (run : Option Told) (media : Held) (serial : ℕ) → Answers wild i own past w r statuses each rows sent is_for run media serial
-    pub owned : AreOwn w
+    pub owned : AreOwnOf w i
     pub managed : (layer : Layer Purpose) (s : TargetScene) (note : Note) → IsFirst note → (u : WorldState) → Behind note w u → AreOthers s.outbox.sides → (answer : Answer) → s ≡ manage answer (first w r.good layer) → S i past (handed_out 0 0 s.outbox u)
 
   module _ (Placed : WorldState → Type 0) where
@@ -117,17 +117,13 @@ module _ (wild : ℕ → Bool) (i : ℕ) (own : wild i ≡ false) where
       pub rows : AreRows (hist past w) i (initiator_at w i).lists.slots
       pub asked_orbs : AreAsked wild (hist past w) w
       pub placed : Placed w
-      pub up : (q : ℕ) → q < 8 → has_list (machine_at w q).phase ≡ true → Up wild i own past w q
-      pub point_up : (sent : Sent) → IsFor w sent → (p : Packet) → (judging_step w.target.layer sent.generation sent.bytes).0 ≡ of_request p → is_barred w.target p ≡ false → (q : ℕ) → q < 8 → (pointer : OrbPointer) → demand_of (length w.target.rom) p ≡ demands.Agent q (accesses.Point pointer) → (ask : Ask) → (point_step (machine_at w q) pointer).0 ≡ Ok ask → Up wild i own past w q
+      pub up : (q : ℕ) → q < 8 → has_list (machine_at w q).phase ≡ true → Acting wild i own past w q
+      pub point_up : (sent : Sent) → IsFor w sent → (p : Packet) → (judging_step w.target.layer sent.generation sent.bytes).0 ≡ of_request p → is_barred w.target p ≡ false → (q : ℕ) → q < 8 → (pointer : OrbPointer) → demand_of (length w.target.rom) p ≡ demands.Agent q (accesses.Point pointer) → (ask : Ask) → (point_step (machine_at w q) pointer).0 ≡ Ok ask → Acting wild i own past w q
 
-    up_asked : (line : ℕ) (event : Event) (past : List Moment) (w : WorldState) (q : ℕ) → Up wild i own past w q → Up wild i own (asked line event ∷ hist past w) (without_notes w) q
+    up_asked : (line : ℕ) (event : Event) (past : List Moment) (w : WorldState) (q : ℕ) → Acting wild i own past w q → Acting wild i own (asked line event ∷ hist past w) (without_notes w) q
     up_asked line event past w q u =
         let same = moment_generation (suc i) (asked line event) (hist past w) refl in
-        record {
-          mine = λ login e n. u.mine login e n;
-          caught = λ m. let a = u.caught m in omega (arith, a, same);
-          present = λ m g. u.present m (g ∙ same);
-        }
+        (record { mine = λ login e n. u.0.mine login e n; caught = λ m. let a = u.0.caught m in omega (arith, a, same); present = λ m g. u.0.present m (g ∙ same) }, λ login e. u.1 login e)
 
     module _ (placed_on : (w : WorldState) → Placed w → Placed (without_notes w)) where
       pub facts_asked : (line : ℕ) (event : Event) (past : List Moment) (w : WorldState) → Facts past w → Facts (asked line event ∷ hist past w) (without_notes w)

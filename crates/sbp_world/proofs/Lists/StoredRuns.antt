@@ -6,7 +6,6 @@ use Rattle.sbp_world.specs.Hosts.Runs.{more_deliveries}
 use Rattle.sbp_world.specs.Hosts.Sources.{AllOfTarget}
 use Rattle.rbc_disk.specs.Disk.{Disk}
 use Rattle.sbp_journal.specs.Run.{Moment}
-use Rattle.sbp_laws.specs.Turns.{EachMoment}
 use Rattle.sbp_world.specs.Histories.{moments_behind}
 use Rattle.sbp_world.specs.Making.{ready_logins}
 use Rattle.sbp_world.specs.Runs.{Run, after, beginning}
@@ -16,17 +15,16 @@ use Rattle.sbp_world.proofs.Agents.Management.Still.{hist}
 use Rattle.sbp_world.specs.Sessions.Holding.{HoldsLogin}
 use Rattle.sbp_world.proofs.Sessions.HoldingRuns.{holding_law}
 use Rattle.sbp_world.specs.Lists.Contents.{AreAsked}
-use Rattle.sbp_world.specs.Lists.Placings.{BasedAt}
 use Rattle.sbp_world.proofs.Lists.ContentPlaces.{contents_everywhere}
 use Rattle.sbp_world.proofs.Lists.Courses.{EveryPlace, Keeps, at_between, at_lines}
 use Rattle.sbp_world.proofs.Lists.Judging.{goes_next, grown}
 use Rattle.sbp_world.proofs.Lists.LastReadRuns.{AreReadAt, read_everywhere}
 use Rattle.sbp_world.proofs.Lists.LiveGiven.{LawsAt}
 use Rattle.sbp_world.proofs.Lists.LiveJoined.{AreBuffersAt, AreStoredAt}
-use Rattle.sbp_world.proofs.Lists.LiveRuns.{With, goes_size, goes_tame, known_everywhere}
+use Rattle.sbp_world.proofs.Lists.LiveRuns.{With, goes_size, known_everywhere}
+use Rattle.sbp_world.proofs.Lists.Beside.{AreDone, done_based, done_before, done_calm}
 use Rattle.sbp_world.proofs.Lists.InBufferTurns.{stored_turn}
 use Rattle.sbp_world.proofs.Lists.ManageTerms.{none_is}
-use Rattle.sbp_world.proofs.Lists.PlacedOps.{each_from}
 use Rattle.sbp_world.proofs.Lists.PlacedRuns.{ArePlacedAt, placed_everywhere}
 use Rattle.sbp_world.proofs.Lists.ReplyRuns.{AreRepliedAt, replied_everywhere}
 use Rattle.sbp_world.proofs.Lists.SlotShut.{AllApart}
@@ -46,19 +44,20 @@ pub record Stock (start : List Disk) (past : List Moment) (w : WorldState) : Typ
   pub apart : (i : ℕ) → i < length w.initiators → AllApart past i
 
 all_stored : (units ready : ℕ) → 0 < units → (start : List Disk) → Keeps units ready start (With Stock start) (AreStoredAt start)
-all_stored units ready has start past s later t lines more g h h_now q q_now p tame based i within =
+all_stored units ready has start past s later t lines more g h h_now q q_now p i within done =
     let size = goes_size past s later t g in
     let inside : i < length s.world.initiators = subst (λ n. i < n) size within in
     let x = grown (hist past s.world) (hist later t.world) (goes_next past s later t g) in
-    let based_before : (j : ℕ) → j < length s.world.initiators → EachMoment (BasedAt j) (hist past s.world) =
-    (λ j l. each_from (BasedAt j) x.new (hist past s.world) (subst (EachMoment (BasedAt j)) (sym x.is) (based j (subst (λ n. j < n) (sym size) l)))) in
-    let tame_before = goes_tame past s later t g tame in
-    stored_turn units ready has start past s later t g h h_now i inside within (q_now.more.laws.lasts i within) (q_now.more.laws.managed i within (tame i)) (q.known.cored i inside) (q_now.known.cored i within) q_now.more.contents
-    (q_now.more.read i within (tame i)) (q_now.more.apart i within) (q_now.more.sources i within) (q.more.holds i inside) (q.more.buffers tame_before based_before i inside) (q.more.replied i inside (tame_before i) (based_before i inside))
-    (p tame_before based_before i inside)
+    let n = length s.world.initiators in
+    let done_now : AreDone start n (hist later t.world) i = subst (λ m. AreDone start m (hist later t.world) i) size done in
+    let before : AreDone start n (hist past s.world) i = done_before start n x.new (hist past s.world) i (subst (λ ms. AreDone start n ms i) (sym x.is) done_now) in
+    let calm = done_calm start n (hist later t.world) i done_now in
+    stored_turn units ready has start past s later t g h h_now i inside within (q_now.more.laws.lasts i within) (q_now.more.laws.managed i within calm) (q.known.cored i inside) (q_now.known.cored i within) q_now.more.contents
+    (q_now.more.read i within calm) (q_now.more.apart i within) (q_now.more.sources i within) (q.more.holds i inside) (q.more.buffers i inside before) (q.more.replied i inside (done_calm start n (hist past s.world) i before) (done_based start n (hist past s.world) i inside before))
+    (p i inside before)
 
 first_stored : (start : List Disk) (line : ℕ) (run : Run) → AreStoredAt start (moments_behind line run []) (beginning run).world
-first_stored start line run tame based i l = record { stored = λ r underway x served. none_is x.op x.operation }
+first_stored start line run i l done = record { stored = λ r underway x served. none_is x.op x.operation }
 
 stock_everywhere : EveryPlace LawsAt → EveryPlace AreBuffersAt → EveryPlace (With Stock)
 stock_everywhere laws buffers =

@@ -50,7 +50,7 @@ use Rattle.sbp_world.proofs.Lists.Judging.{counts_at}
 use Rattle.sbp_world.proofs.Lists.KeptTurns.{id_is, operation_is, own_is, zero_is}
 use Rattle.sbp_world.proofs.Lists.LiveHandled.{handling}
 use Rattle.sbp_world.proofs.Lists.LiveJoined.{Held, StoredTurns}
-use Rattle.sbp_world.proofs.Lists.LiveRuns.{With, goes_tame}
+use Rattle.sbp_world.proofs.Lists.LiveRuns.{With, done_of, goes_beside}
 use Rattle.sbp_world.proofs.Lists.LiveSteps.{id_in, own_of, zero_of}
 use Rattle.sbp_world.proofs.Lists.LiveTaken.{IsOwnHandled, handled_open}
 use Rattle.sbp_world.proofs.Lists.ManageGot.{writing_in}
@@ -207,9 +207,9 @@ module _ (units ready : ℕ) (has : 0 < units) (start : List Disk) {past : List 
 -- ---- at each turn
 pub stored_turns : StoredTurns
 stored_turns units ready start past s later t lines more has g h h_now q q_now p i inside tame was bus told =
-    let tame_before = goes_tame past s later t g tame in
+    let tame_before = goes_beside past s later t g i tame in
     record {
       stored = λ serial sent comes op fifo is source taken phase packet label e done running under login long.
-          stored units ready has start s.world h q i inside (tame_before i) ((p i inside).grown.based tame_before) was (q.more.read i inside (tame_before i))
-          (q.more.stored tame_before (λ j l. (p j l).grown.based tame_before) i inside) serial sent comes.found comes.to_is op fifo is source taken phase packet label e done running under login long;
+          stored units ready has start s.world h q i inside tame_before.0 ((p i inside).grown.based tame_before) was (q.more.read i inside tame_before.0)
+          (q.more.stored i inside (done_of start (hist past s.world) s.world p i inside tame_before)) serial sent comes.found comes.to_is op fifo is source taken phase packet label e done running under login long;
     }

@@ -1,4 +1,5 @@
--- A walk over runs in which no initiator injected packets: what is known of a place where it is so, is known of the places before.
+-- A walk over runs in which no initiator injected packets, or under another condition that was so before wherever it is so: what is known of a place where it is so, is
+-- known of the places before.
 use Rattle.std.proofs.Common.{◌≡◌, sym, subst, ◌<◌, ◌≤◌, ℕ, Bool, List, [], ◌∷◌, ◌++◌, map, length, Option}
 use Rattle.rbc_disk.specs.Disk.{Disk}
 use Rattle.rbc_disk.specs.Runs.{Told}
@@ -19,45 +20,58 @@ use Rattle.sbp_world.proofs.Lists.Gots.{Next, next, next_line, same_still, turn_
 use Rattle.sbp_world.proofs.Lists.OwnFifos.{tame_before}
 use Rattle.sbp_world.proofs.Lists.Walks.{Step, Turn, Walks, walked_after, walked_between}
 
-next_tame : (before now : List Moment) → Next before now → IsTame now → IsTame before
-next_tame before now (same_still e) tame = subst IsTame e tame
-next_tame before now (next front q moment is) tame = tame_before (moment ∷ []) before (tame_before (map said front) (moment ∷ before) (subst IsTame (sym is) tame))
-next_tame before now (next_line front q note line event is) tame =
-    tame_before (said note ∷ asked line event ∷ []) before (tame_before (map said front) (said note ∷ asked line event ∷ before) (subst IsTame (sym is) tame))
+-- a condition on a history that was so before wherever it is so
+abbrev pub Where : (List Moment → Type 0) → (List Moment → WorldState → Type 0) → List Moment → WorldState → Type 0
+Where Still U past w = Still past → U past w
 
-pub turn_tame : (past : List Moment) (s : Scene) (later : List Moment) (t : Scene) → Turn past s later t → IsTame (hist later t.world) → IsTame (hist past s.world)
-turn_tame past s later t turn tame = next_tame (hist past s.world) (hist later t.world) (turn_next past s later t turn) tame
+module _ (Still : List Moment → Type 0) (closed : (later past : List Moment) → Still (later ++ past) → Still past) where
+  next_still : (before now : List Moment) → Next before now → Still now → Still before
+  next_still before now (same_still e) still = subst Still e still
+  next_still before now (next front q moment is) still = closed (moment ∷ []) before (closed (map said front) (moment ∷ before) (subst Still (sym is) still))
+  next_still before now (next_line front q note line event is) still =
+      closed (said note ∷ asked line event ∷ []) before (closed (map said front) (said note ∷ asked line event ∷ before) (subst Still (sym is) still))
 
-module _ (wild : ℕ → Bool) (units ready : ℕ) (start : List Disk) (Q U P : List Moment → WorldState → Type 0) where
-  tame_step : (past : List Moment) (s : Scene) (later : List Moment) (t : Scene) → Step wild units ready start Q (WhereTame U) past s later t → IsTame (hist later t.world) → Step wild units ready start Q U past s later t
-  tame_step past s later t step tame = record {
-    turn = step.turn;
-    lines = step.lines;
-    more = step.more;
-    stands = step.stands;
-    reaches = step.reaches;
-    known = step.known;
-    known_then = step.known_then;
-    so_far = λ i own. step.so_far i own (turn_tame past s later t step.turn tame);
-    so_far_then = λ i own. step.so_far_then i own tame;
-    count = step.count;
-  }
+  turn_still : (past : List Moment) (s : Scene) (later : List Moment) (t : Scene) → Turn past s later t → Still (hist later t.world) → Still (hist past s.world)
+  turn_still past s later t turn still = next_still (hist past s.world) (hist later t.world) (turn_next past s later t turn) still
 
-  tame_walks : Walks wild units ready start Q U P → Walks wild units ready start Q (WhereTame U) (WhereTame P)
-  tame_walks walks past s later t step p = λ tame. walks past s later t (tame_step past s later t step tame) (p (turn_tame past s later t step.turn tame))
+  module _ (wild : ℕ → Bool) (units ready : ℕ) (start : List Disk) (Q U P : List Moment → WorldState → Type 0) where
+    still_step : (past : List Moment) (s : Scene) (later : List Moment) (t : Scene) → Step wild units ready start Q (Where Still U) past s later t → Still (hist later t.world) → Step wild units ready start Q U past s later t
+    still_step past s later t step still = record {
+      turn = step.turn;
+      lines = step.lines;
+      more = step.more;
+      stands = step.stands;
+      reaches = step.reaches;
+      known = step.known;
+      known_then = step.known_then;
+      so_far = λ i own. step.so_far i own (turn_still past s later t step.turn still);
+      so_far_then = λ i own. step.so_far_then i own still;
+      count = step.count;
+    }
 
+    still_walks : Walks wild units ready start Q U P → Walks wild units ready start Q (Where Still U) (Where Still P)
+    still_walks walks past s later t step p = λ still. walks past s later t (still_step past s later t step still) (p (turn_still past s later t step.turn still))
+
+  module _ (Q U : List Moment → WorldState → Type 0) (P : (ℕ → Bool) → List Moment → WorldState → Type 0) (always : Always Q) (under : Under (Where Still U)) (walks : (wild : ℕ → Bool) (units ready : ℕ) → 0 < units → (start : List Disk) → Walks wild units ready start Q U (P wild)) (first : (wild : ℕ → Bool) (line : ℕ) (run : Run) → P wild (moments_behind line run []) (beginning run).world) (line : ℕ) (run : Run) (r : IsRun run) (has : 0 < run.units) (small : run.units ≤ 4) (size : length run.start.disks ≡ run.units) where
+    abbrev Kept : (ℕ → Bool) → List Moment → WorldState → Type 0
+    Kept wild = Where Still (P wild)
+
+    each_walks : (wild : ℕ → Bool) (units ready : ℕ) → 0 < units → (start : List Disk) → Walks wild units ready start Q (Where Still U) (Kept wild)
+    each_walks wild units ready has start = still_walks wild units ready start Q U (P wild) (walks wild units ready has start)
+
+    each_first : (wild : ℕ → Bool) (line : ℕ) (run : Run) → Kept wild (moments_behind line run []) (beginning run).world
+    each_first wild line run = λ still. first wild line run
+
+    pub still_after : OpenBefore line run run.entries → Still (history_of line run) → P (injectors (history_of line run)) (history_of line run) (after (beginning run) run.entries).world
+    still_after so_far still = walked_after Q (Where Still U) Kept always under each_walks each_first line run r has small size so_far still
+
+    pub still_between : (line_number : ℕ) (event : Event) (d : DeliversMore event) (told : List (Option Told)) (m : MayAll told (begun (after (beginning run) run.entries))) → OpenBetween line run line_number event told → (let w = (after_all told (begun (after (beginning run) run.entries))).world in let now = map said w.fresh ++ asked line_number event ∷ history_of line run in Still now → P (injectors now) now w)
+    still_between line_number event d told m so_far still = walked_between Q (Where Still U) Kept always under each_walks each_first line run r has small size line_number event d told m so_far still
+
+-- where no initiator injected packets
 module _ (Q U : List Moment → WorldState → Type 0) (P : (ℕ → Bool) → List Moment → WorldState → Type 0) (always : Always Q) (under : Under (WhereTame U)) (walks : (wild : ℕ → Bool) (units ready : ℕ) → 0 < units → (start : List Disk) → Walks wild units ready start Q U (P wild)) (first : (wild : ℕ → Bool) (line : ℕ) (run : Run) → P wild (moments_behind line run []) (beginning run).world) (line : ℕ) (run : Run) (r : IsRun run) (has : 0 < run.units) (small : run.units ≤ 4) (size : length run.start.disks ≡ run.units) where
-  abbrev Tamed : (ℕ → Bool) → List Moment → WorldState → Type 0
-  Tamed wild = WhereTame (P wild)
-
-  each_walks : (wild : ℕ → Bool) (units ready : ℕ) → 0 < units → (start : List Disk) → Walks wild units ready start Q (WhereTame U) (Tamed wild)
-  each_walks wild units ready has start = tame_walks wild units ready start Q U (P wild) (walks wild units ready has start)
-
-  each_first : (wild : ℕ → Bool) (line : ℕ) (run : Run) → Tamed wild (moments_behind line run []) (beginning run).world
-  each_first wild line run = λ tame. first wild line run
-
   pub tame_after : OpenBefore line run run.entries → IsTame (history_of line run) → P (injectors (history_of line run)) (history_of line run) (after (beginning run) run.entries).world
-  tame_after so_far tame = walked_after Q (WhereTame U) Tamed always under each_walks each_first line run r has small size so_far tame
+  tame_after = still_after IsTame tame_before Q U P always under walks first line run r has small size
 
   pub tame_between : (line_number : ℕ) (event : Event) (d : DeliversMore event) (told : List (Option Told)) (m : MayAll told (begun (after (beginning run) run.entries))) → OpenBetween line run line_number event told → (let w = (after_all told (begun (after (beginning run) run.entries))).world in let now = map said w.fresh ++ asked line_number event ∷ history_of line run in IsTame now → P (injectors now) now w)
-  tame_between line_number event d told m so_far tame = walked_between Q (WhereTame U) Tamed always under each_walks each_first line run r has small size line_number event d told m so_far tame
+  tame_between = still_between IsTame tame_before Q U P always under walks first line run r has small size

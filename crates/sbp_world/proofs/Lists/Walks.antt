@@ -22,6 +22,7 @@ use Rattle.sbp_world.specs.Hosts.Runs.{IsRun, more_deliveries}
 use Rattle.sbp_world.proofs.Hosts.Runs.{count_after, count_between}
 use Rattle.sbp_world.specs.Lists.Closes.{Always, Under}
 use Rattle.sbp_world.specs.Lists.Needs.{IsCalm, OpenAfter, OpenBefore, OpenBehind, OpenBetween, OpenIn, OpenLists, OpenWhile, machine_at}
+use Rattle.sbp_world.proofs.Lists.Courses.{EveryPlace}
 use Rattle.sbp_world.proofs.Lists.Calm.{asked_calm, calm_before}
 use Rattle.sbp_world.proofs.Lists.Kept.{Kept}
 use Rattle.sbp_world.proofs.Lists.Passes.{ready}
@@ -75,7 +76,10 @@ Walks wild units ready start Q U P = (past : List Moment) (s : Scene) (later : L
 abbrev opened : (wild : ℕ → Bool) → (i : ℕ) → wild i ≡ false → OpensLaw
 opened wild i own = opens_law
 
-module _ (wild : ℕ → Bool) (Q U P : List Moment → WorldState → Type 0) (always : Always Q) (under : Under U) (line : ℕ) (run : Run) (few : run.initiators ≤ 4) (has : 0 < run.units) (small : run.units ≤ 4) (size : length run.start.disks ≡ run.units) (walks : Walks wild run.units (ready_logins run.initiators run.ready) run.start.disks Q U P) (first : P (moments_behind line run []) (beginning run).world) where
+module _ (wild : ℕ → Bool) (Q : List Moment → WorldState → Type 0) (V : List Disk → List Moment → WorldState → Type 0) (P : List Moment → WorldState → Type 0) (always : Always Q) (under : EveryPlace V) (line : ℕ) (run : Run) (few : run.initiators ≤ 4) (has : 0 < run.units) (small : run.units ≤ 4) (size : length run.start.disks ≡ run.units) (walks : Walks wild run.units (ready_logins run.initiators run.ready) run.start.disks Q (V run.start.disks) P) (first : P (moments_behind line run []) (beginning run).world) where
+  abbrev U : List Moment → WorldState → Type 0
+  U = V run.start.disks
+
   abbrev logins : ℕ
   logins = ready_logins run.initiators run.ready
 
@@ -283,6 +287,12 @@ module _ (wild : ℕ → Bool) (Q U P : List Moment → WorldState → Type 0) (
       (walk_line before few_lines all.1 fit.1 rest x begins back (length (e ∷ before)) e.line e.event e.told fit.0 all.0.may goes (reached_here (e ∷ before) short all fit b calm) (known_here (e ∷ before) short all fit b) (so_far_here (e ∷ before) short all fit lists b) (count_after run (e ∷ before) ∙ sym (count_after run before)) there)
 
 -- ---- so it is of every run, of the initiators that injected no packets
+every : {U : List Moment → WorldState → Type 0} → Under U → EveryPlace (λ start. U)
+every under = record {
+  after_lines = λ line run r has small size so_far. under.after_lines line run r has small size so_far;
+  between = λ line run r has small size next most told m so_far. under.between line run r has small size next most told m so_far;
+}
+
 module _ (Q U : List Moment → WorldState → Type 0) (P : (ℕ → Bool) → List Moment → WorldState → Type 0) (always : Always Q) (under : Under U) (walks : (wild : ℕ → Bool) (units ready : ℕ) → 0 < units → (start : List Disk) → Walks wild units ready start Q U (P wild)) (first : (wild : ℕ → Bool) (line : ℕ) (run : Run) → P wild (moments_behind line run []) (beginning run).world) (line : ℕ) (run : Run) (r : IsRun run) (has : 0 < run.units) (small : run.units ≤ 4) (size : length run.start.disks ≡ run.units) where
   abbrev last : Scene
   last = after (beginning run) run.entries
@@ -291,7 +301,7 @@ module _ (Q U : List Moment → WorldState → Type 0) (P : (ℕ → Bool) → L
   own_walks wild = walks wild run.units (ready_logins run.initiators run.ready) has run.start.disks
 
   lines_walked : (wild : ℕ → Bool) → OpenBefore line run run.entries → ((i : ℕ) → wild i ≡ false → IsCalm (history_of line run) i) → P wild (history_of line run) last.world
-  lines_walked wild so_far calm = walk_after wild Q U (P wild) always under line run r.few has small size (own_walks wild) (first wild line run) run.entries r.short r.entries r.lines (λ i own. so_far) calm
+  lines_walked wild so_far calm = walk_after wild Q (λ start. U) (P wild) always (every under) line run r.few has small size (own_walks wild) (first wild line run) run.entries r.short r.entries r.lines (λ i own. so_far) calm
 
   pub walked_after : OpenBefore line run run.entries → P (injectors (history_of line run)) (history_of line run) last.world
   walked_after so_far = lines_walked (injectors (history_of line run)) so_far (λ i own. own)
@@ -316,5 +326,5 @@ module _ (Q U : List Moment → WorldState → Type 0) (P : (ℕ → Bool) → L
     walked_between =
         let p = subst (λ h. P wild h last.world) (sym x.so_far.is) (lines_walked wild so_far.before first_calm) in
         subst (λ h. P wild (map said end.fresh ++ asked next event ∷ h) end) x.so_far.is
-        (walk_at wild Q U (P wild) always under line run r.few has small size (own_walks wild) (first wild line run) run.entries r.short r.entries r.lines (λ i own. so_far.before) x (λ i own. so_far.begins) first_calm next event d told m (λ i own. so_far.goes)
+        (walk_at wild Q (λ start. U) (P wild) always (every under) line run r.few has small size (own_walks wild) (first wild line run) run.entries r.short r.entries r.lines (λ i own. so_far.before) x (λ i own. so_far.begins) first_calm next event d told m (λ i own. so_far.goes)
         (λ i own. subst (λ h. IsCalm (map said end.fresh ++ asked next event ∷ h) i) (sym x.so_far.is) own) p)

@@ -1,5 +1,5 @@
--- How lists come to be open as they should be in every run in which no initiator injected packets, from place to place (NCITS 325-1998, command block agents and linked
--- lists of ORBs). It is enough that, at each place of such a run before which lists were so, an open list is the present one, or the latest one while its initiator
+-- How lists come to be open as they should be in every run in which no initiator injected packets, or few logins were given, from place to place (NCITS 325-1998, command
+-- block agents and linked lists of ORBs). It is enough that, at each place of such a run before which lists were so, an open list is the present one, or the latest one while its initiator
 -- is ahead of the target; that no status is taken of an ORB that has not ended; and that an ORB whose next pointer is read again stands in its slot. That a write of
 -- ORB_POINTER that was got was named for a list whose slot held its first ORB then, and that a list whose write waits has no end, is shown with these.
 use Rattle.std.specs.Prelude.{◌≡◌, ◌<◌, ◌≤◌, ℕ, suc, true, List, ◌∷◌, ◌++◌, length, map, Option, Some, None}
@@ -18,6 +18,7 @@ use Rattle.sbp_world.specs.Telling.{holder}
 use Rattle.sbp_world.specs.Worlds.{WorldState, begun}
 use Rattle.sbp_world.specs.Agents.Management.Terms.{DeliversMore}
 use Rattle.sbp_world.specs.Hosts.Runs.{IsRun, more_deliveries}
+use Rattle.sbp_world.specs.Lists.FewLogins.{IsTameOrFew}
 use Rattle.sbp_world.specs.Lists.Needs.{IsCalm, IsNamed, OpenBefore, OpenBetween, OpenLists, initiator_in, is_open_at, machine_at}
 use Rattle.sbp_world.specs.Lists.Opens.{IsPointedBy}
 use Rattle.sbp_world.specs.Lists.OwnLogins.{IsTame}
@@ -37,6 +38,10 @@ pub record Under (U : List Moment → WorldState → Type 0) : Type 0 where
 -- where no initiator injected packets
 abbrev pub WhereTame : (List Moment → WorldState → Type 0) → List Moment → WorldState → Type 0
 WhereTame U past w = IsTame past → U past w
+
+-- and where none did, or few logins were given
+abbrev pub WhereTameOrFew : (List Moment → WorldState → Type 0) → List Moment → WorldState → Type 0
+WhereTameOrFew U past w = IsTameOrFew past → U past w
 
 -- ---- what is needed at a place
 -- a write of ORB_POINTER has the address of the first ORB of its list
@@ -60,18 +65,18 @@ abbrev pub AreBehind : List Moment → WorldState → Type 0
 AreBehind past w = (place : ℕ) → place < 8 → (machine_at w place).phase ≡ phases.ReadingNext → IsCalm past (initiator_in w place) → (n k : ℕ) → (holder w place).list ≡ Some n → ends past (initiator_in w place) n ≡ suc k → IsNamed past w place n k
 
 pub record PlacesLaw : Type 0 where
-  pub here : Under (WhereTame AreHere)
-  pub untaken : Under (WhereTame AreUntaken)
-  pub behind : Under (WhereTame AreBehind)
+  pub here : Under (WhereTameOrFew AreHere)
+  pub untaken : Under (WhereTameOrFew AreUntaken)
+  pub behind : Under (WhereTameOrFew AreBehind)
 
 -- ---- lists are open as they should be
--- after every line of every run, and behind each delivery of a line that may follow, where no initiator injected packets
+-- after every line of every run, and behind each delivery of a line that may follow, where no initiator injected packets, or few logins were given
 pub record OpenListsLaw : Type 0 where
-  pub after_lines : (line : ℕ) (run : Run) → IsRun run → 0 < run.units → run.units ≤ 4 → length run.start.disks ≡ run.units → IsTame (history_of line run) → OpenLists (history_of line run) (after (beginning run) run.entries).world
-  pub between : (line : ℕ) (run : Run) → IsRun run → 0 < run.units → run.units ≤ 4 → length run.start.disks ≡ run.units → (next : ℕ) (event : Event) → DeliversMore event → (told : List (Option Told)) → MayAll told (begun (after (beginning run) run.entries)) → (let w = (after_all told (begun (after (beginning run) run.entries))).world in let now = map said w.fresh ++ asked next event ∷ history_of line run in IsTame now → OpenLists now w)
+  pub after_lines : (line : ℕ) (run : Run) → IsRun run → 0 < run.units → run.units ≤ 4 → length run.start.disks ≡ run.units → IsTameOrFew (history_of line run) → OpenLists (history_of line run) (after (beginning run) run.entries).world
+  pub between : (line : ℕ) (run : Run) → IsRun run → 0 < run.units → run.units ≤ 4 → length run.start.disks ≡ run.units → (next : ℕ) (event : Event) → DeliversMore event → (told : List (Option Told)) → MayAll told (begun (after (beginning run) run.entries)) → (let w = (after_all told (begun (after (beginning run) run.entries))).world in let now = map said w.fresh ++ asked next event ∷ history_of line run in IsTameOrFew now → OpenLists now w)
 
 -- They are so in every such run, where each place has what it needs; and where they are so in every such run, they were so before each place of it.
 pub record ClosingLaw : Type 0 where
   pub closes : PlacesLaw → OpenListsLaw
-  pub before : OpenListsLaw → (line : ℕ) (run : Run) → IsRun run → 0 < run.units → run.units ≤ 4 → length run.start.disks ≡ run.units → IsTame (history_of line run) → OpenBefore line run run.entries
-  pub between : OpenListsLaw → (line : ℕ) (run : Run) → IsRun run → 0 < run.units → run.units ≤ 4 → length run.start.disks ≡ run.units → (next : ℕ) (event : Event) → DeliversMore event → (told : List (Option Told)) → MayAll told (begun (after (beginning run) run.entries)) → IsTame (map said (after_all told (begun (after (beginning run) run.entries))).world.fresh ++ asked next event ∷ history_of line run) → OpenBetween line run next event told
+  pub before : OpenListsLaw → (line : ℕ) (run : Run) → IsRun run → 0 < run.units → run.units ≤ 4 → length run.start.disks ≡ run.units → IsTameOrFew (history_of line run) → OpenBefore line run run.entries
+  pub between : OpenListsLaw → (line : ℕ) (run : Run) → IsRun run → 0 < run.units → run.units ≤ 4 → length run.start.disks ≡ run.units → (next : ℕ) (event : Event) → DeliversMore event → (told : List (Option Told)) → MayAll told (begun (after (beginning run) run.entries)) → IsTameOrFew (map said (after_all told (begun (after (beginning run) run.entries))).world.fresh ++ asked next event ∷ history_of line run) → OpenBetween line run next event told

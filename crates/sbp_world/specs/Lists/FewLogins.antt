@@ -1,6 +1,6 @@
 -- Few logins (NCITS 325-1998, login): fewer IDs of logins were given than there are, so that none was given twice. Each initiator that is ready at the start has one, and
 -- each login that the target granted.
-use Rattle.std.specs.Prelude.{◌≡◌, ◌<◌, ◌≤◌, ◌+◌, ℕ, List, [], ◌∷◌, Some}
+use Rattle.std.specs.Prelude.{◌≡◌, ◌⊎◌, ◌<◌, ◌≤◌, ◌+◌, ℕ, List, [], ◌∷◌, Some}
 use Rattle.login_table.specs.declared.login.Login.{Login}
 use Rattle.login_table.specs.Table.{Table, place_at}
 use Rattle.sbp_journal.specs.Run.{Moment, asked, said}
@@ -9,6 +9,7 @@ use Rattle.sbp_journal.specs.declared.note.Note.TheVariants as notes
 use Rattle.sbp_journal.specs.declared.operation.FunctionWord.TheVariants as functions
 use Rattle.sbp_world.specs.Making.{ready_logins}
 use Rattle.sbp_world.specs.Lists.Needs.{IsCalm}
+use Rattle.sbp_world.specs.Lists.OwnLogins.{IsTame}
 
 -- how many logins a note says that the target has more
 abbrev pub entries_of : Note → ℕ
@@ -27,6 +28,14 @@ FewLogins past = entries past < 65535
 -- an initiator injected no packets, and few logins were given
 abbrev pub IsTameOf : List Moment → ℕ → Type 0
 IsTameOf past i = IsCalm past i × FewLogins past
+
+-- no initiator injected packets, or few logins were given
+abbrev pub IsTameOrFew : List Moment → Type 0
+IsTameOrFew past = IsTame past ⊎ FewLogins past
+
+-- an initiator injected none, beside others that did only where few logins were given
+abbrev pub IsCalmBeside : List Moment → ℕ → Type 0
+IsCalmBeside past i = IsCalm past i × IsTameOrFew past
 
 -- ---- the IDs of a table
 -- no login has an ID behind the one that was entered last

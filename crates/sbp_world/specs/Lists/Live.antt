@@ -1,5 +1,5 @@
--- Which live logins the target has of an initiator's node, at each place of a history between two turns (NCITS 325-1998, login, reconnect and logout). Where no
--- initiator injected packets, of each one while it is in the target's generation: it has one live login at most, on whatever unit. Where its session is live, or is
+-- Which live logins the target has of an initiator's node, at each place of a history between two turns (NCITS 325-1998, login, reconnect and logout). Of each initiator
+-- that injected no packets, beside others that did only where few logins were given, while it is in the target's generation: it has one live login at most, on whatever unit. Where its session is live, or is
 -- being left, that has the ID which the session carries: of a live session the target has it, of one that is being left it has it still, or no more.
 -- Where the session is out or held, it has none. Of an initiator whose session is stuck with no operation under way this is not said: what it gave up
 -- may be done still.
@@ -21,8 +21,8 @@ use Rattle.sbp_world.specs.Settling.{MayAll, after_all}
 use Rattle.sbp_world.specs.Worlds.{WorldState, begun, initiator_at}
 use Rattle.sbp_world.specs.Hosts.Runs.{IsRun, more_deliveries}
 use Rattle.sbp_world.specs.Sessions.Entering.{joined_with}
+use Rattle.sbp_world.specs.Lists.FewLogins.{IsCalmBeside}
 use Rattle.sbp_world.specs.Lists.Needs.{OpenBefore, OpenBetween}
-use Rattle.sbp_world.specs.Lists.OwnLogins.{IsTame}
 
 -- the node with an ID has no live login
 pub record HasNone (places : List (Option Login)) (id : ℕ) : Type 0 where
@@ -64,9 +64,9 @@ pub record HasGivenUp (past : List Moment) (i : ℕ) : Type 0 where
   pub stuck : is_stuck (host_at past i).session ≡ true
   pub none : (underway : Underway) → (host_at past i).operation ≡ Some underway → is_management underway.operation ≡ false
 
--- of each initiator, while it is in the target's generation, where none injected packets
+-- of each initiator that injected no packets, beside others that did only where few logins were given, while it is in the target's generation
 pub record AreLive (past : List Moment) (w : WorldState) : Type 0 where
-  pub live : (i : ℕ) → i < length w.initiators → IsTame past → (terms past).generation 0 ≡ (terms past).generation (suc i) → HasGivenUp past i ⊎ IsLive w.target.logins.places (id_for (terms past) 0 (suc i)) (initiator_at w i).seat
+  pub live : (i : ℕ) → i < length w.initiators → IsCalmBeside past i → (terms past).generation 0 ≡ (terms past).generation (suc i) → HasGivenUp past i ⊎ IsLive w.target.logins.places (id_for (terms past) 0 (suc i)) (initiator_at w i).seat
 
 -- After every line of every run of a machine with a unit, at most four, and a medium for each; and behind each delivery of a line that delivers one packet
 -- after the other: where lists were open as they should be before.

@@ -33,7 +33,7 @@ use Rattle.sbp_world.specs.Sessions.Entering.{is_open}
 use Rattle.sbp_world.specs.Pointers.Moments.{IsResetting, TellsOfPresent, state_list, turn_of}
 use Rattle.sbp_world.specs.Pointers.Pointers.{pointed_list}
 use Rattle.sbp_world.specs.Pointers.Bases.{AreUnrefused}
-use Rattle.sbp_world.specs.Lists.Closes.{Under, WhereTame}
+use Rattle.sbp_world.specs.Lists.Closes.{Under, WhereTameOrFew}
 use Rattle.sbp_world.specs.Lists.Needs.{IsCalm, initiator_in, machine_at}
 use Rattle.sbp_world.specs.Lists.Opens.{IsPointedBy}
 
@@ -228,9 +228,9 @@ AreEnds past w = (i : ℕ) → i < length w.initiators → IsCalm past i → Eac
 abbrev pub NoneRefused : List Moment → WorldState → Type 0
 NoneRefused past w = (i : ℕ) → i < length w.initiators → IsCalm past i → AreUnrefused past i
 
--- at each place of a run in which no initiator injected packets, before which lists were open as they should be
+-- at each place of a run in which no initiator injected packets, or few logins were given, before which lists were open as they should be
 abbrev pub LogoutsLaw : Type 0
-LogoutsLaw = Under (WhereTame NoneRefused)
+LogoutsLaw = Under (WhereTameOrFew NoneRefused)
 
 -- for which list each agent is out of RESET
 abbrev pub AreAllOpenFor : List Moment → WorldState → Type 0

@@ -1,9 +1,10 @@
 -- The logins that the target has, where no initiator injected packets (NCITS 325-1998, login): each has a FIFO of a login, which is in no window of its initiator and
 -- no FIFO of a place of management.
-use Rattle.std.specs.Prelude.{◌≡◌, ◌<◌, ◌≤◌, ◌+◌, ◌*◌, ◌^◌, ℕ, List, Some}
+use Rattle.std.specs.Prelude.{◌≡◌, ◌<◌, ◌≤◌, ◌+◌, ◌*◌, ◌^◌, ℕ, true, List, Some}
 use Rattle.bus_memory.specs.declared.window.Window.TheVariants as windows
 use Rattle.bus_memory.specs.Windows.{start}
 use Rattle.login_table.specs.declared.login.Login.{Login}
+use Rattle.login_table.specs.Table.{is_live}
 use Rattle.mgmt_agent.specs.declared.function.Function.TheVariants as functions
 use Rattle.mgmt_agent.specs.declared.operation.Phase.{Phase}
 use Rattle.mgmt_agent.specs.declared.operation.Phase.TheVariants as phases
@@ -12,6 +13,7 @@ use Rattle.orb_layout.specs.declared.management.ManagementOrb.{ManagementOrb}
 use Rattle.sbp_journal.specs.Run.{Moment}
 use Rattle.sbp_laws.specs.Targets.{login_fifo}
 use Rattle.sbp_target.specs.Nodes.{login_at}
+use Rattle.sbp_world.specs.Telling.{holder}
 use Rattle.sbp_world.specs.Worlds.{WorldState}
 use Rattle.sbp_world.specs.Lists.Needs.{IsCalm}
 
@@ -28,6 +30,10 @@ pub record IsLoginFifo (fifo : ℕ) : Type 0 where
 -- each login
 abbrev pub AreOwn : WorldState → Type 0
 AreOwn w = (place : ℕ) (login : Login) → login_at w.target place ≡ Some login → IsLoginFifo login.fifo
+
+-- each live login of an initiator
+abbrev pub AreOwnOf : WorldState → ℕ → Type 0
+AreOwnOf w i = (place : ℕ) (login : Login) → login_at w.target place ≡ Some login → is_live login ≡ true → (holder w place).initiator ≡ i → IsLoginFifo login.fifo
 
 -- ---- the management ORBs that the target reads
 

@@ -14,6 +14,7 @@ use Rattle.sbp_journal.specs.declared.operation.OpWord.TheVariants as words
 use Rattle.sbp_laws.specs.Hosts.{host_at, response_of}
 use Rattle.sbp_laws.specs.Packets.{id_for}
 use Rattle.sbp_laws.specs.Targets.{login_at, target_at}
+use Rattle.sbp_world.specs.Lists.LoginAnswers.{IsAnswerTo}
 use Rattle.sbp_world.specs.Lists.OwnLogins.{IsLoginFifo}
 
 -- a live login of the initiator's node has the ID
@@ -44,6 +45,11 @@ OwnBy start past i id = LivesWith start past i id ⊎ HadBy start past i id
 abbrev pub OwnedAt : List Disk → ℕ → Moment → List Moment → Type 0
 OwnedAt start i (said (notes.Op j operations.Login words.Done)) past = (j == i) ≡ true → HadBy start past i (login_response (response_of (host_at past i))).login
 OwnedAt start i moment past = Unit {0}
+
+-- as a status of 00 is got for a login, the response in its buffer names such an ID
+abbrev pub OursAt : List Disk → ℕ → Moment → List Moment → Type 0
+OursAt start i (said (notes.Got serial)) past = IsAnswerTo past i serial operations.Login 0 → OwnBy start past i (login_response (response_of (host_at past i))).login
+OursAt start i moment past = Unit {0}
 
 -- the login that a host has, where it has one
 abbrev pub HasOwn : List Disk → List Moment → ℕ → LoginResponse → Type 0

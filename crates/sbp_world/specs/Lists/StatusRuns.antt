@@ -1,4 +1,4 @@
--- The status law over runs in which no initiator injected packets, in two steps (NCITS 325-1998, status block). The status of an ORB is taken once at most,
+-- The status law over runs in which no initiator injected packets, or few logins were given, in two steps (NCITS 325-1998, status block). The status of an ORB is taken once at most,
 -- behind the ORB's end, and is the one with which it ended; it is taken of the write that the turn of the end sent behind it, which spells that status with the
 -- address of the ORB's slot. It goes to the FIFO of the initiator's latest login, or to that of a place of management; and where each status came to no FIFO of a place, it
 -- is the status law.
@@ -23,9 +23,9 @@ use Rattle.sbp_world.specs.Runs.{Run}
 use Rattle.sbp_world.specs.Worlds.{WorldState}
 use Rattle.sbp_world.specs.Hosts.Runs.{IsRun}
 use Rattle.sbp_world.specs.Hosts.Statuses.Taking.{is_place_fifo}
-use Rattle.sbp_world.specs.Lists.Closes.{Under, WhereTame}
+use Rattle.sbp_world.specs.Lists.Closes.{Under, WhereTameOrFew}
+use Rattle.sbp_world.specs.Lists.FewLogins.{IsTameOrFew}
 use Rattle.sbp_world.specs.Lists.Needs.{IsCalm, OpenBefore}
-use Rattle.sbp_world.specs.Lists.OwnLogins.{IsTame}
 
 -- ---- a status that is taken
 -- a write to one of these FIFOs whose bytes spell a status with the address of an ORB
@@ -64,8 +64,8 @@ abbrev pub AtLogin : (ℕ → Bool) → Moment → List Moment → Type 0
 AtLogin wild (said (notes.Taken i n k status answer)) past = wild i ≡ false → IsSomeAnd (access_at (terms past) (last_got past)) (λ access. is_place_fifo access.offset ≡ false)
 AtLogin wild moment past = Unit {0}
 
--- Where no initiator injected packets, and lists were open as they should be before: at each place of a run, and so of what a run has written after its lines.
+-- Where no initiator injected packets, or few logins were given, and lists were open as they should be before: at each place of a run, and so of what a run has written after its lines.
 pub record StatusOfRunLaw : Type 0 where
-  pub places : Under (WhereTame AllTakenOf)
-  pub after_lines : (line : ℕ) (run : Run) → IsRun run → 0 < run.units → run.units ≤ 4 → length run.start.disks ≡ run.units → OpenBefore line run run.entries → IsTame (history_of line run) → StatusOfLaw (injectors (history_of line run)) (history_of line run)
-  pub at_logins : (line : ℕ) (run : Run) → IsRun run → 0 < run.units → run.units ≤ 4 → length run.start.disks ≡ run.units → OpenBefore line run run.entries → IsTame (history_of line run) → EachMoment (AtLogin (injectors (history_of line run))) (history_of line run) → StatusLaw (injectors (history_of line run)) (history_of line run)
+  pub places : Under (WhereTameOrFew AllTakenOf)
+  pub after_lines : (line : ℕ) (run : Run) → IsRun run → 0 < run.units → run.units ≤ 4 → length run.start.disks ≡ run.units → OpenBefore line run run.entries → IsTameOrFew (history_of line run) → StatusOfLaw (injectors (history_of line run)) (history_of line run)
+  pub at_logins : (line : ℕ) (run : Run) → IsRun run → 0 < run.units → run.units ≤ 4 → length run.start.disks ≡ run.units → OpenBefore line run run.entries → IsTameOrFew (history_of line run) → EachMoment (AtLogin (injectors (history_of line run))) (history_of line run) → StatusLaw (injectors (history_of line run)) (history_of line run)

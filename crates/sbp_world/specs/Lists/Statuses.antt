@@ -21,7 +21,7 @@ use Rattle.sbp_laws.specs.Terms.{ended_status}
 use Rattle.sbp_laws.specs.Turns.{EachMoment}
 use Rattle.sbp_world.specs.Worlds.{WorldState}
 use Rattle.sbp_world.specs.Hosts.Statuses.Taking.{is_place_fifo}
-use Rattle.sbp_world.specs.Lists.Closes.{AreUntaken, Under, WhereTame}
+use Rattle.sbp_world.specs.Lists.Closes.{AreUntaken, Under, WhereTameOrFew}
 use Rattle.sbp_world.specs.Lists.Needs.{IsCalm}
 use Rattle.sbp_world.specs.Lists.SlotsStay.{HasSlot}
 
@@ -111,8 +111,8 @@ AllSentSo past w = (i : ℕ) → i < length w.initiators → IsCalm past i → E
 abbrev pub AllStatuses : List Moment → WorldState → Type 0
 AllStatuses past w = (i : ℕ) → i < length w.initiators → IsCalm past i → AreStatuses past i
 
--- Where no initiator injected packets, and the target sends statuses so, as lists were open as they should be before, they are taken so; and none is taken of an ORB that
+-- Where no initiator injected packets, or few logins were given, and the target sends statuses so, as lists were open as they should be before, they are taken so; and none is taken of an ORB that
 -- has not ended.
 pub record StatusesLaw : Type 0 where
-  pub statuses : Under (WhereTame AllSentSo) → Under (WhereTame AllStatuses)
-  pub untaken : Under (WhereTame AllSentSo) → Under (WhereTame AreUntaken)
+  pub statuses : Under (WhereTameOrFew AllSentSo) → Under (WhereTameOrFew AllStatuses)
+  pub untaken : Under (WhereTameOrFew AllSentSo) → Under (WhereTameOrFew AreUntaken)

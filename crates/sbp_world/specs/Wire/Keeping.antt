@@ -8,7 +8,7 @@ use Rattle.sbp_laws.specs.Lawful.{injectors}
 use Rattle.sbp_laws.specs.OnLists.{LawfulOnLists}
 use Rattle.sbp_laws.specs.OnTheBus.{LawfulOnTheBus}
 use Rattle.sbp_world.specs.Histories.{history_of}
-use Rattle.sbp_world.specs.Lists.OwnLogins.{IsTame}
+use Rattle.sbp_world.specs.Lists.FewLogins.{IsTameOrFew}
 use Rattle.sbp_world.specs.Runs.{Run, StandsFor, entry, with_entry}
 use Rattle.sbp_world.specs.Wire.History.{IsOfWire}
 use Rattle.sbp_world.specs.Wire.Journal.{journal_run}
@@ -24,11 +24,11 @@ pub record IsLikeAScripts (run : Run) : Type 0 where
   pub lines : AreLines run run.entries
 
 -- The laws of a run whose first line has this number: its history has those of the wire, its journal those of the lines of the bus; and where it
--- has one to four units and no initiator injected packets, its history has those of lists.
+-- has one to four units, and no initiator injected packets or few logins were given, its history has those of lists.
 pub record HasLaws (first : ℕ) (run : Run) : Type 0 where
   pub of_wire : IsOfWire (history_of first run)
   pub on_the_bus : LawfulOnTheBus (injectors (history_of first run)) (journal_run first run)
-  pub on_lists : 0 < run.units → run.units ≤ 4 → IsTame (history_of first run) → LawfulOnLists (injectors (history_of first run)) run.start.disks (history_of first run)
+  pub on_lists : 0 < run.units → run.units ≤ 4 → IsTameOrFew (history_of first run) → LawfulOnLists (injectors (history_of first run)) run.start.disks (history_of first run)
 
 -- A world and its media stand for a run, which has the laws where it is such as a script's.
 pub record StandsLawfully (run : Run) (s : Scene) : Type 0 where
