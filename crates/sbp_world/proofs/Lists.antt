@@ -382,6 +382,9 @@ pub mod DataLines
 pub mod DataTurns
 pub mod DataHeard
 pub mod DataWalk
+pub mod DueTurns
+pub mod DueRuns
+pub mod DueDeliveries
 pub mod DataProved
 pub mod DataOffice
 pub mod DataPlaces

@@ -4,9 +4,11 @@ use Rattle.std.proofs.Common.{arith, ◌≡◌, ◌∙◌, refl, sym, ap, subst,
 use Rattle.bus_transactions.specs.May.{is_reset}
 use Rattle.rbc_disk.specs.Disk.{Disk}
 use Rattle.rbc_disk.specs.Runs.{Told}
-use Rattle.sbp_bus.specs.Packets.{end_note}
+use Rattle.sbp_bus.specs.Packets.{end_note, judged_note}
 use Rattle.sbp_bus.specs.Places.{or_nobody}
 use Rattle.sbp_bus.specs.declared.places.Holder.{Holder}
+use Rattle.sbp_journal.specs.declared.cause.Judged.{Judged}
+use Rattle.sbp_journal.specs.declared.cause.Judged.TheVariants as judgements
 use Rattle.sbp_journal.specs.declared.event.Event.{Event}
 use Rattle.sbp_journal.specs.declared.event.Event.TheVariants as events
 use Rattle.sbp_journal.specs.declared.note.Note.{Note}
@@ -60,7 +62,7 @@ use Rattle.sbp_world.proofs.Lists.OrbWaits.{asked_everywhere}
 use Rattle.sbp_world.proofs.Lists.Passes.{Facts, ready}
 use Rattle.sbp_world.proofs.Lists.Passing.{PassLaw}
 use Rattle.sbp_world.proofs.Lists.RunFits.{stands_asked}
-use Rattle.sbp_world.proofs.Lists.Runless.{AllPlain, Delivers, IsPlain, IsRunBy, OneRan, Plainly, acts, delivery_comes, injects, keys, late, loses, no_run, one_comes, one_run, resets, sights, ticks}
+use Rattle.sbp_world.proofs.Lists.Runless.{AllPlain, Delivers, IsPlain, IsRunBy, IsRunlessBy, NoneRun, OneRan, Plainly, acts, delivery_comes, injects, keys, late, loses, no_run, none_judged, one_comes, one_run, resets, sights, ticks}
 use Rattle.sbp_world.proofs.Lists.OnceLaws.{lists_run_law, runs_run_law}
 use Rattle.sbp_world.proofs.Lists.RunOutcomes.{AreAsked, IsSet, run_so}
 use Rattle.sbp_world.proofs.Lists.RunReads.{read_so}
@@ -100,9 +102,14 @@ module _ (wild : ℕ → Bool) (start : List Disk) where
   passed (note ∷ more) past p = passed more past p.1
 
   -- a packet is delivered
-  delivers_law : (past : List Moment) (Ran : ℕ → Note → Type 0) (old new : List Note) → ((serial : ℕ) (ran : Note) → Ran serial ran → (let now = said (notes.Got serial) ∷ (map said old ++ past) in PassLaw wild (said ran ∷ now) → RunAt wild start (said ran) now)) → Delivers Ran old new → PassLaw wild (map said new ++ past) → Law wild start (map said old ++ past) → Law wild start (map said new ++ past)
-  delivers_law past Ran old new f (no_run q) passes l = plainly_law past old new q l
-  delivers_law past Ran old new f (one_run serial ran r q) passes l =
+  judged_at : (serial : ℕ) (judged : Judged) (past : List Moment) → RunAt wild start (said (judged_note serial judged)) past
+  judged_at serial judgements.Got past = (tt, (tt, tt))
+  judged_at serial (judgements.Ignored cause) past = (tt, (tt, tt))
+
+  delivers_law : (past : List Moment) (None_ran : ℕ → Judged → Type 0) (Ran : ℕ → Note → Type 0) (old new : List Note) → ((serial : ℕ) (ran : Note) → Ran serial ran → (let now = said (notes.Got serial) ∷ (map said old ++ past) in PassLaw wild (said ran ∷ now) → RunAt wild start (said ran) now)) → Delivers None_ran Ran old new → PassLaw wild (map said new ++ past) → Law wild start (map said old ++ past) → Law wild start (map said new ++ past)
+  delivers_law past None_ran Ran old new f (none_judged q) passes l = plainly_law past old new q l
+  delivers_law past None_ran Ran old new f (no_run serial judged none q) passes l = plainly_law past (judged_note serial judged ∷ old) new q (judged_at serial judged (map said old ++ past), l)
+  delivers_law past None_ran Ran old new f (one_run serial ran r q) passes l =
       let front = ran ∷ notes.Got serial ∷ old in
       let before : PassLaw wild (map said front ++ past) = passed q.more (map said front ++ past) (subst (PassLaw wild) (split q.more front past) (subst (λ ns. PassLaw wild (map said ns ++ past)) (sym q.is) passes)) in
       plainly_law past front new q (f serial ran r before, ((tt, (tt, tt)), l))
@@ -117,7 +124,7 @@ module _ (wild : ℕ → Bool) (start : List Disk) where
   lowest_law : (past : List Moment) (s : Scene) → IsSet wild start past s → (one : Option Told) (o : Option ℕ) → MayAt o one s → PassLaw wild (hist past (delivered_at o one s).world) → Law wild start (hist past s.world) → Law wild start (hist past (delivered_at o one s).world)
   lowest_law past s set one None m passes l = absurd m
   lowest_law past s set one (Some serial) m passes l =
-      delivers_law past (IsRunBy s one) s.world.fresh (delivered_at (Some serial) one s).world.fresh (run_told past s set one) (delivery_comes s set.ready.good serial false one m) passes l
+      delivers_law past (IsRunlessBy s one) (IsRunBy s one) s.world.fresh (delivered_at (Some serial) one s).world.fresh (run_told past s set one) (delivery_comes s set.ready.good serial false one m) passes l
 
   next_law : (past : List Moment) (s : Scene) → IsSet wild start past s → (one : Option Told) → MayNext one s → PassLaw wild (hist past (delivered_next one s).world) → Law wild start (hist past s.world) → Law wild start (hist past (delivered_next one s).world)
   unfolding delivered_next MayNext
@@ -394,7 +401,7 @@ module _ (wild : ℕ → Bool) (line : ℕ) (run : Run) (few : run.initiators �
     law_line next (events.Deliver serial) told q m before c p l =
         let e = events.Deliver serial in
         let set = set_open next e refl (λ i own. line_reads start next (events.Deliver serial) false (λ t. refl) b.past here.world (reads_here i own)) in (
-          delivers_law wild start (asked next e ∷ hist b.past here.world) (OneRan (begun here) set.ready.good next serial false told) [] _ (one_told wild start (asked next e ∷ hist b.past here.world) (begun here) set next serial false told)
+          delivers_law wild start (asked next e ∷ hist b.past here.world) (NoneRun (begun here) set.ready.good next serial false told) (OneRan (begun here) set.ready.good next serial false told) [] _ (one_told wild start (asked next e ∷ hist b.past here.world) (begun here) set next serial false told)
               (one_comes (begun here) set.ready.good next serial false (is_in_flight serial (begun here).world) told m) p ((tt, (tt, tt)), l.0),
           ends_law wild start (asked next e ∷ hist b.past here.world) (OneEnd (begun here) set.ready.good next serial false told) [] _ (one_ended wild start (asked next e ∷ hist b.past here.world) (begun here) set next serial false told)
               (endless.one_comes (begun here) set.ready.good next serial false (is_in_flight serial (begun here).world) told m) (tt, l.1),
@@ -402,7 +409,7 @@ module _ (wild : ℕ → Bool) (line : ℕ) (run : Run) (few : run.initiators �
     law_line next (events.Repeat serial) told q m before c p l =
         let e = events.Repeat serial in
         let set = set_open next e refl (λ i own. line_reads start next (events.Repeat serial) true (λ t. refl) b.past here.world (reads_here i own)) in (
-          delivers_law wild start (asked next e ∷ hist b.past here.world) (OneRan (begun here) set.ready.good next serial true told) [] _ (one_told wild start (asked next e ∷ hist b.past here.world) (begun here) set next serial true told)
+          delivers_law wild start (asked next e ∷ hist b.past here.world) (NoneRun (begun here) set.ready.good next serial true told) (OneRan (begun here) set.ready.good next serial true told) [] _ (one_told wild start (asked next e ∷ hist b.past here.world) (begun here) set next serial true told)
               (one_comes (begun here) set.ready.good next serial true (may_repeat serial (begun here).world) told m) p ((tt, (tt, tt)), l.0),
           ends_law wild start (asked next e ∷ hist b.past here.world) (OneEnd (begun here) set.ready.good next serial true told) [] _ (one_ended wild start (asked next e ∷ hist b.past here.world) (begun here) set next serial true told)
               (endless.one_comes (begun here) set.ready.good next serial true (may_repeat serial (begun here).world) told m) (tt, l.1),
