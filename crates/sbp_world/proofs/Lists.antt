@@ -385,6 +385,7 @@ pub mod DataWalk
 pub mod DueTurns
 pub mod DueRuns
 pub mod DueDeliveries
+pub mod DueWalk
 pub mod DataProved
 pub mod DataOffice
 pub mod DataPlaces

@@ -10,7 +10,7 @@ use Rattle.label_table.specs.declared.reply.ReplyKind.{ReplyKind}
 use Rattle.label_table.specs.Layer.{Finding, Layer, judging_step, of_again, of_generation, of_grammar, of_label, of_request, of_response}
 use Rattle.label_table.specs.Requests.{reply_kind}
 use Rattle.login_table.specs.declared.login.Login.{Login}
-use Rattle.login_table.specs.Table.{Table, place_at}
+use Rattle.login_table.specs.Table.{Table, is_live, place_at}
 use Rattle.rbc_disk.specs.Disk.{Disk}
 use Rattle.rbc_disk.specs.Runs.{Told}
 use Rattle.rbc_disk.specs.Units.{PlainDisk}
@@ -22,7 +22,9 @@ use Rattle.sbp_journal.specs.declared.note.Note.{Note}
 use Rattle.sbp_journal.specs.declared.note.Note.TheVariants as notes
 use Rattle.sbp_journal.specs.Run.{Moment, said}
 use Rattle.sbp_journal.specs.Wire.{Terms, terms}
-use Rattle.sbp_laws.specs.Agents.{initiator_at, told_among}
+use Rattle.sbp_laws.specs.Agents.{initiator_at, initiator_with, node_in, told_among}
+use Rattle.sbp_world.specs.Agents.Management.Offices.{Office}
+use Rattle.sbp_world.proofs.Agents.Management.Offices.{over_keeps}
 use Rattle.sbp_laws.specs.CarriedLaw.{Run, runs_due, runs_in}
 use Rattle.sbp_laws.specs.DiskFold.{unit_at}
 use Rattle.sbp_laws.specs.Lists as lists
@@ -50,13 +52,12 @@ use Rattle.sbp_world.proofs.Agents.Management.Holding.{Holding}
 use Rattle.sbp_world.proofs.Agents.Management.Still.{hist}
 use Rattle.sbp_world.proofs.Agents.Mild.{reply_mild}
 use Rattle.sbp_world.proofs.Agents.Purposes.{g}
-use Rattle.sbp_world.proofs.Lists.DueRuns.{list_same, manager_due, named_as, nobody_due, none_due, number_same, one_due, one_run, own_due, request_due, serve, unsolicited_due, inside}
+use Rattle.sbp_world.proofs.Lists.DueRuns.{AtDelivery, list_same, manager_due, named_as, nobody_due, none_due, number_same, one_due, one_run, own_due, request_due, serve, unsolicited_due, inside}
 use Rattle.sbp_world.proofs.Lists.DueTurns.{plain_runs}
 use Rattle.sbp_world.proofs.Lists.OpenTurns.{listing_up}
 use Rattle.sbp_world.proofs.Lists.RunOutcomes.{listed}
 use Rattle.sbp_world.proofs.Lists.RunTells.{ran_as, ran_for, served_there}
 use Rattle.sbp_world.proofs.Lists.Runless.{AllPlain, IsRunBy, IsRunlessBy}
-use Rattle.sbp_world.proofs.Lists.Sites.{Site, Who, who}
 
 none_reply : (kind : Option ReplyKind) → is_some kind ≡ false → kind ≡ None
 none_reply None k = refl
@@ -66,10 +67,13 @@ not_false : (b : Bool) → not b ≡ true → b ≡ false
 not_false true e = absurd (let no : false ≡ true = e in cc)
 not_false false e = refl
 
+some_same : {A : Type 0} {a b : A} → Some a ≡ Some b → a ≡ b
+some_same e = cc
+
 not_ignored : (cause : Cause) → judgements.Got ≡ judgements.Ignored cause → ⊥
 not_ignored cause e = cc
 
-module _ (units ready : ℕ) (has : 0 < units) (start : List Disk) {past : List Moment} {lines : ℕ} (s : Scene) (h : Holding units ready start past lines s.world) (site : Site start past s.world) (units_are : (unit : ℕ) → unit_at (target_at start (hist past s.world)).units unit ≡ plain_in s.world.target.units s.media.disks unit) (run : Option Told) (serial : ℕ) (judged : AreJudged (said (notes.Got serial) ∷ hist past s.world)) where
+module _ (units ready : ℕ) (has : 0 < units) (start : List Disk) {past : List Moment} {lines : ℕ} (s : Scene) (h : Holding units ready start past lines s.world) (site : AtDelivery start past s.world) (units_are : (unit : ℕ) → unit_at (target_at start (hist past s.world)).units unit ≡ plain_in s.world.target.units s.media.disks unit) (run : Option Told) (serial : ℕ) (judged : AreJudged (said (notes.Got serial) ∷ hist past s.world)) where
   abbrev w : WorldState
   w = s.world
 
@@ -175,11 +179,23 @@ module _ (units ready : ℕ) (has : 0 < units) (start : List Disk) {past : List 
         G.mid.served place small (not_eight place small)
         (not_false _ (listing_up (desk_at w.target place).agent.phase (listed (desk_at w.target place).agent place plain run r.by.which (answer_in p) r.outcome r.by.ran)))
 
-    its : Who units ready has start w h site place small
-    its = who units ready has start w h site place small is_served
-
     hold : IsHeld wire (length w.initiators) (target_at start ms) w.places place login
     hold = site.held.held place login there
+
+    live : is_live login ≡ true
+    live = subst (λ (x : Login). is_live x ≡ true) (some_same (sym is_served.is ∙ there)) is_served.live
+
+    holder_is : i ≡ hold.holder.initiator
+    holder_is = ap (λ o. (or_nobody o).initiator) hold.there
+
+    within : i < length w.initiators
+    within = subst (λ n. n < length w.initiators) (sym holder_is) (hold.live live).of.small
+
+    initiator_is : initiator_at T wire place ≡ i
+    initiator_is =
+        ap (λ (x : Table). initiator_with wire (node_in (place_at x.places place))) (ap (λ (o : Office). o.table) (over_keeps (target_at start ms)))
+        ∙ (hold.live live).terms_are ∙ sym holder_is
+
 
     unit_is : unit_of T place ≡ (holder w place).unit
     unit_is =
@@ -192,7 +208,7 @@ module _ (units ready : ℕ) (has : 0 < units) (start : List Disk) {past : List 
         sym (r.by.orb_is ∙ ap (λ x. or_zero (if x then Some own.1.present else None)) b)
 
     name_is : named ms i own.1.present ≡ name_in (ticket_at w place r.orb)
-    name_is = ap (named ms i) present_is ∙ named_as ms w i its.inside (site.rows i its.inside) r.orb
+    name_is = ap (named ms i) present_is ∙ named_as ms w i within (site.rows i within) r.orb
 
     abbrev as_told : List Run
     as_told = record { initiator = i; list = r.list; number = r.number; unit = (holder w place).unit; cdb = r.cdb; bytes = r.payload } ∷ []
@@ -205,7 +221,7 @@ module _ (units ready : ℕ) (has : 0 < units) (start : List Disk) {past : List 
 
     same : one_run ms (initiator_at T wire place) (unit_of T place) own.1.present own.1.orb.cdb own.1.payload ≡ as_told
     same =
-        ap (λ a. one_run ms a (unit_of T place) own.1.present own.1.orb.cdb own.1.payload) its.same
+        ap (λ a. one_run ms a (unit_of T place) own.1.present own.1.orb.cdb own.1.payload) initiator_is
         ∙ ap (λ u. one_run ms i u own.1.present own.1.orb.cdb own.1.payload) unit_is
         ∙ ap (λ (o : Option Orb). one i (holder w place).unit (lists.list_in o) (lists.number_in o) own.1.orb.cdb own.1.payload) name_is
         ∙ ap (λ n. one i (holder w place).unit n (lists.number_in (name_in (ticket_at w place r.orb))) own.1.orb.cdb own.1.payload) (list_same (ticket_at w place r.orb) ∙ sym r.list_is)

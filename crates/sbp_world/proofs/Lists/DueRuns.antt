@@ -65,12 +65,13 @@ use Rattle.sbp_world.proofs.Agents.Steps.{reply_alike}
 use Rattle.sbp_world.proofs.Agents.ToldAlike.{run_alike}
 use Rattle.sbp_world.proofs.Hosts.Readings.{read_law}
 use Rattle.sbp_world.specs.Agents.Alike.{StepsAlike, TellsAlike, has_list}
+use Rattle.sbp_world.specs.Agents.Agents.{AreAgentsAt}
+use Rattle.sbp_world.specs.Agents.Holders.{AreHeldAt}
 use Rattle.sbp_world.specs.Agents.Serials.{IsForAgent, IsHanded}
 use Rattle.sbp_world.specs.Hosts.Fits.{AreRows}
 use Rattle.sbp_world.specs.Hosts.Rows.{name_in}
 use Rattle.sbp_world.proofs.Lists.DueTurns.{none_of, plain_told, write_due}
 use Rattle.sbp_world.proofs.Lists.Runless.{AllPlain}
-use Rattle.sbp_world.proofs.Lists.Sites.{Site}
 
 -- ---- the name of an ORB, as the bus and the run terms have it
 pub list_same : (o : Option TicketParts) → lists.list_in (name_in o) ≡ bus.list_in o
@@ -105,8 +106,14 @@ module _ (ms : List Moment) (w : WorldState) (i : ℕ) (inside : i < length w.in
 some_same : {A : Type 0} {a b : A} → Some a ≡ Some b → a ≡ b
 some_same e = cc
 
+-- ---- what is known as a packet is delivered
+pub record AtDelivery (start : List Disk) (past : List Moment) (w : WorldState) : Type 0 where
+  pub agents : AreAgentsAt start (hist past w) w
+  pub held : AreHeldAt start (hist past w) w
+  pub rows : (i : ℕ) → i < length w.initiators → AreRows (hist past w) i (worlds.initiator_at w i).lists.slots
+
 -- ---- a packet that is got
-module _ (units ready : ℕ) (has : 0 < units) (start : List Disk) {past : List Moment} {lines : ℕ} (s : Scene) (h : Holding units ready start past lines s.world) (site : Site start past s.world) (units_are : (unit : ℕ) → unit_at (target_at start (hist past s.world)).units unit ≡ plain_in s.world.target.units s.media.disks unit) (serial : ℕ) (judged : AreJudged (said (notes.Got serial) ∷ hist past s.world)) (rest : List Note) where
+module _ (units ready : ℕ) (has : 0 < units) (start : List Disk) {past : List Moment} {lines : ℕ} (s : Scene) (h : Holding units ready start past lines s.world) (site : AtDelivery start past s.world) (units_are : (unit : ℕ) → unit_at (target_at start (hist past s.world)).units unit ≡ plain_in s.world.target.units s.media.disks unit) (serial : ℕ) (judged : AreJudged (said (notes.Got serial) ∷ hist past s.world)) (rest : List Note) where
   abbrev w : WorldState
   w = s.world
 

@@ -23,7 +23,7 @@ use Rattle.sbp_journal.specs.Wire.{terms}
 use Rattle.sbp_journal.specs.declared.note.Note.{Note}
 use Rattle.sbp_journal.specs.declared.note.Note.TheVariants as notes
 use Rattle.sbp_laws.specs.Agents.{Event, agent_turn, by_doorbell, by_pointer, initiator_at, nothing, reply_to, target_before, told_among, wire_before, write_in, write_of, writes}
-use Rattle.sbp_laws.specs.CarriedLaw.{RunsWhereDue, of_others, run_by, run_of, runs_due, runs_in}
+use Rattle.sbp_laws.specs.CarriedLaw.{run_by, run_of, runs_due, runs_in}
 use Rattle.sbp_laws.specs.Packets.{sender_in}
 use Rattle.sbp_laws.specs.Targets.{Purpose, Target, agent_at, for_agent, for_manager, for_nobody, is_serial, plain_for, purpose_of, unit_of}
 use Rattle.sbp_laws.specs.Turns.{EachTurn, EachTurnBefore, Turn, turn}
@@ -126,15 +126,19 @@ other_due start past (said (notes.TimedOut serial)) rest o h =
     late_due T t (is_serial (sender_in ((terms past).sent serial)) 0) (purpose_of T serial) h
 other_due start past (said note) rest o h = refl
 
-module _ (wild : ℕ → Bool) (start : List Disk) where
+-- the runs that a turn tells are those that are due
+abbrev pub TellsDue : List Disk → Turn → Type 0
+TellsDue start t = runs_in t.rest ≡ runs_due start t
+
+module _ (start : List Disk) where
   abbrev Law : Turn → Type 0
-  Law t = RunsWhereDue wild start t
+  Law t = TellsDue start t
 
   abbrev pub Before : List Moment → List Note → Type 0
   Before past rest = EachTurnBefore Law past rest
 
-  plain_turn : (past : List Moment) (m : Moment) (rest : List Note) → IsOther m → AllPlain rest → Law (turn past m rest)
-  plain_turn past m rest o h = ap (of_others wild) (plain_runs rest h ∙ sym (other_due start past m rest o h))
+  pub plain_turn : (past : List Moment) (m : Moment) (rest : List Note) → IsOther m → AllPlain rest → Law (turn past m rest)
+  plain_turn past m rest o h = plain_runs rest h ∙ sym (other_due start past m rest o h)
 
   -- notes of no run stand in front
   pub front_turns : (front : List Note) (P : List Moment) → AllPlain front → ((rest : List Note) → AllPlain rest → Before P rest) → (rest : List Note) → AllPlain rest → Before (map said front ++ P) rest

@@ -1,6 +1,6 @@
 -- What a node hands out in a turn, where it tells of no run: notes of no run stand in front of a history. So it is of each line with no packet; and of a packet that is
 -- delivered, but for the run that the target may tell of first, directly behind the note of the packet.
-use Rattle.std.proofs.Common.{◌≡◌, ◌∙◌, refl, sym, ap, subst, ℕ, zero, suc, ◌+◌, ◌-◌, ◌==◌, ◌<◌, ◌≤◌, ◌||◌, not, nat_lt, Bool, true, false, cond, if◌then◌else◌, List, [], ◌∷◌, ◌++◌, length, Option, Some, None, Result, Ok, Err, arith}
+use Rattle.std.proofs.Common.{◌≡◌, ◌∙◌, inl, inr, ◌⊎◌, refl, sym, ap, subst, ℕ, zero, suc, ◌+◌, ◌-◌, ◌==◌, ◌<◌, ◌≤◌, ◌||◌, not, nat_lt, Bool, true, false, cond, if◌then◌else◌, List, [], ◌∷◌, ◌++◌, length, Option, Some, None, Result, Ok, Err, arith}
 use Rattle.std.proofs.lemmas.Bool.Decides.{nat_tests}
 use Rattle.std.specs.Prelude.{slice_index_or, slice_set}
 use Rattle.async_packet.specs.Labels.{LabelParts}
@@ -183,9 +183,9 @@ own_plain (sides.Unsolicited a ∷ later) h = absurd h.0
 own_plain (sides.Unsent a ∷ later) h = absurd h.0
 
 -- ---- a packet is delivered
--- No packet is judged; or one is, and none runs a command; or the target got the packet and told of a run. Then notes of no run stand in front.
+-- Nothing is told; or a packet is judged, and runs no command; or the target got the packet and told of a run. Then notes of no run stand in front.
 pub data Delivers (None_ran : ℕ → Judged → Type 0) (Ran : ℕ → Note → Type 0) (old new : List Note) : Type 0 where
-  none_judged : Plainly old new → Delivers None_ran Ran old new
+  none_judged : new ≡ old → Delivers None_ran Ran old new
   no_run : (serial : ℕ) (judged : Judged) → None_ran serial judged → Plainly (judged_note serial judged ∷ old) new → Delivers None_ran Ran old new
   one_run : (serial : ℕ) (ran : Note) → Ran serial ran → Plainly (ran ∷ notes.Got serial ∷ old) new → Delivers None_ran Ran old new
 
@@ -324,7 +324,7 @@ module _ (s : Scene) (good : Good s.world.target) (serial : ℕ) (again : Bool) 
     unfolding delivered
     none_comes i to_is outside =
         let same : after_it.fresh ≡ w.fresh = ap (λ (y : Option Arrival × (OutboxState × Scene)). (delivered_by serial again y).world.fresh) (to_own run serial i s one found to_is ∙ own_outside one i s outside) in
-        none_judged (subst (Plainly w.fresh) (sym same) (plain_none w.fresh))
+        none_judged same
 
     comes_at : (to : ℕ) → one.to ≡ to → (one.to ≡ 0 → MayTell run one w.target s.media) → C
     comes_at zero e o = target_comes e (o e)
@@ -338,7 +338,7 @@ module _ (s : Scene) (good : Good s.world.target) (serial : ℕ) (again : Bool) 
   unfolding delivered received_step
   comes_by None e m =
       let same : after_it.fresh ≡ w.fresh = ap (λ o. (delivered_by serial again (received_by run o s)).world.fresh) e in
-      none_judged (subst (Plainly w.fresh) (sym same) (plain_none w.fresh))
+      none_judged same
   comes_by (Some one) e m = comes_at one e one.to refl (λ z. subst (λ b. MayTold b run one s) (to_zero one.to z) m)
 
   pub delivery_comes : MayReceive run serial s → C
@@ -477,8 +477,8 @@ module _ (s : Scene) (good : Good s.world.target) (line serial : ℕ) (again : B
   OneRan [] judged ran = ⊥
   OneRan (one ∷ more) judged ran = IsRunBy s one judged ran
 
-  pub one_comes : (b : Bool) (run : List (Option Told)) → MayIf b serial run s → Delivers (NoneRun run) (OneRan run) s.world.fresh (delivered_if b line serial again run s).world.fresh
+  pub one_comes : (b : Bool) (run : List (Option Told)) → MayIf b serial run s → Plainly s.world.fresh (delivered_if b line serial again run s).world.fresh ⊎ Delivers (NoneRun run) (OneRan run) s.world.fresh (delivered_if b line serial again run s).world.fresh
   one_comes true [] m = absurd m
-  one_comes true (one ∷ []) m = delivery_comes s good serial again one m
+  one_comes true (one ∷ []) m = inr (delivery_comes s good serial again one m)
   one_comes true (one ∷ other ∷ more) m = absurd m
-  one_comes false run m = none_judged (plain_one (notes.Refused line no_packet) s.world.fresh tt)
+  one_comes false run m = inl (plain_one (notes.Refused line no_packet) s.world.fresh tt)

@@ -151,11 +151,11 @@ module _ (units ready : ℕ) (has : 0 < units) (start_disks : List Disk) {past :
       pub is : access_at t serial ≡ Some access
       pub asks : IsAccessFor (under_as which m) status (fifo_in (term_login T place)) access
 
-    pub record Who : Type 0 where
-      pub same : term_initiator T t place ≡ initiator_in w place
-      pub inside : initiator_in w place < length w.initiators
+    record Who : Type 0 where
+      same : term_initiator T t place ≡ initiator_in w place
+      inside : initiator_in w place < length w.initiators
 
-    pub who : IsServed w.target place → Who
+    who : IsServed w.target place → Who
     who served =
         let hold = s.held.held place served.login served.is in
         let live = hold.live served.live in
