@@ -10,10 +10,10 @@ use Rattle.sbp_journal.specs.declared.event.Event.{Event}
 use Rattle.sbp_journal.specs.declared.note.Note.{Note}
 use Rattle.sbp_journal.specs.declared.note.Note.TheVariants as notes
 use Rattle.sbp_journal.specs.Run.{Moment, asked, said}
-use Rattle.sbp_laws.specs.CarriedLaw.{runs_due, runs_in}
+use Rattle.sbp_laws.specs.CarriedLaw.{RunsWhereDue, of_others, runs_due, runs_in}
 use Rattle.sbp_laws.specs.DiskFold.{unit_at}
 use Rattle.sbp_laws.specs.Targets.{target_at}
-use Rattle.sbp_laws.specs.Turns.{EachTurn, turn}
+use Rattle.sbp_laws.specs.Turns.{EachTurn, EachTurnBefore, turn}
 use Rattle.sbp_target.specs.Replies.{plain_in}
 use Rattle.sbp_world.specs.Settling.{MayAt, MayNext, delivered_at, delivered_next, lowest}
 use Rattle.sbp_target.proofs.Histories.Calling.{Good}
@@ -100,3 +100,20 @@ module _ (start : List Disk) where
     pub one_due : (told : List (Option Told)) (new : List Note) → Plainly s.world.fresh new ⊎ Delivers (NoneRun s good line packet again told) (OneRan s good line packet again told) s.world.fresh new → AreJudged (map said new ++ asked line event ∷ past) → AreDue past → AreDue (map said new ++ asked line event ∷ past)
     one_due told new (inl q) j l = line_due line event past new (subst (λ ns. Plainly ns new) none q) l
     one_due told new (inr d) j l = delivers_due told new d j l
+
+-- ---- of any set of initiators
+module _ (wild : ℕ → Bool) (start : List Disk) where
+  others_due : (past : List Moment) (rest : List Note) → EachTurnBefore (TellsDue start) past rest → EachTurnBefore (RunsWhereDue wild start) past rest
+  others_due [] rest l = tt
+  others_due (asked line event ∷ past) rest l = (ap (of_others wild) l.0, others_due past [] l.1)
+  others_due (said (notes.Got serial) ∷ past) rest l = (ap (of_others wild) l.0, others_due past [] l.1)
+  others_due (said (notes.Ignored serial cause) ∷ past) rest l = (ap (of_others wild) l.0, others_due past [] l.1)
+  others_due (said (notes.TimedOut serial) ∷ past) rest l = (ap (of_others wild) l.0, others_due past [] l.1)
+  others_due (said (notes.Seen node generation) ∷ past) rest l = (ap (of_others wild) l.0, others_due past [] l.1)
+  others_due (said notes.Tick ∷ past) rest l = (ap (of_others wild) l.0, others_due past [] l.1)
+  others_due (said notes.Settled ∷ past) rest l = (ap (of_others wild) l.0, others_due past [] l.1)
+  others_due (said notes.Stopped ∷ past) rest l = (ap (of_others wild) l.0, others_due past [] l.1)
+  others_due (said note ∷ past) rest l = others_due past (note ∷ rest) l
+
+  pub where_due : (past : List Moment) → AreDue start past → EachTurn (RunsWhereDue wild start) past
+  where_due past l = others_due past [] l

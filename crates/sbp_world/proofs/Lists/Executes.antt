@@ -47,6 +47,7 @@ use Rattle.sbp_world.proofs.Hosts.Orbs.{orbs_law}
 use Rattle.sbp_world.proofs.Hosts.Runs.{count_after, count_between}
 use Rattle.sbp_world.specs.Lists.CarriedRuns.{ReadAt, RunsAreRead, RunsReadLaw}
 use Rattle.sbp_world.specs.Lists.EndReads.{EndAt, EndsAreRead, EndsReadLaw}
+use Rattle.sbp_world.specs.Lists.DueRuns.{DueRunsLaw}
 use Rattle.sbp_world.specs.Lists.Execution.{ExecutionRunLaw, LoginAt, LoginsLaw, LoginsRunLaw, OutcomeAt, OutcomesLaw, OutcomesRunLaw}
 use Rattle.sbp_world.specs.Lists.Needs.{IsCalm, IsNamed, OpenAfter, OpenBefore, OpenBetween, OpenIn, OpenLists, OpenWhile}
 use Rattle.sbp_world.specs.Lists.Opens.{OpensLaw}
@@ -54,7 +55,7 @@ use Rattle.sbp_world.specs.Lists.OrbReads.{AskedAsGot}
 use Rattle.sbp_world.specs.Lists.Running.{ListsAt, ListsLaw, RunsAt, RunsLaw}
 use Rattle.sbp_world.proofs.Lists.Calm.{asked_calm, calm_before}
 use Rattle.sbp_world.proofs.Lists.DueRuns.{AtDelivery}
-use Rattle.sbp_world.proofs.Lists.DueWalk.{AreDue, end_due, line_due, next_due, one_due}
+use Rattle.sbp_world.proofs.Lists.DueWalk.{AreDue, where_due, end_due, line_due, next_due, one_due}
 use Rattle.sbp_world.proofs.Wire.Starts.{laws_of}
 use Rattle.sbp_world.proofs.Lists.Endless as endless
 use Rattle.sbp_world.proofs.Lists.Endless.{IsEndBy, OneEnd, no_end, one_end}
@@ -579,4 +580,16 @@ ends_read_law = record {
   between = λ line run r has small size next event d told m so_far.
       let now = map said (after_all told (begun (after (beginning run) run.entries))).world.fresh ++ asked next event ∷ history_of line run in
       (between_law line run r has small size (injectors now) next event d told m (λ i own. so_far) (λ i own. own)).1.0;
+}
+
+-- and each turn tells the runs that are due, whoever injected packets
+pub due_runs_law : DueRunsLaw
+due_runs_law = record {
+  after_lines = λ line run r has small size others.
+      let wild : ℕ → Bool = λ i. true in
+      where_due others run.start.disks (history_of line run) (lines_law line run r has small size wild (λ i f. nobody (OpenBefore line run run.entries) f) (λ i f. nobody (IsCalm (history_of line run) i) f)).1.1;
+  between = λ line run r has small size next event d told m others.
+      let wild : ℕ → Bool = λ i. true in
+      let now = map said (after_all told (begun (after (beginning run) run.entries))).world.fresh ++ asked next event ∷ history_of line run in
+      where_due others run.start.disks now (between_law line run r has small size wild next event d told m (λ i f. nobody (OpenBetween line run next event told) f) (λ i f. nobody (IsCalm now i) f)).1.1;
 }
