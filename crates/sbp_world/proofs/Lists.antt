@@ -396,6 +396,10 @@ pub mod DataLines
 pub mod DataTurns
 pub mod DataHeard
 pub mod DataWalk
+pub mod DueTurns
+pub mod DueRuns
+pub mod DueDeliveries
+pub mod DueWalk
 pub mod DataProved
 pub mod DataOffice
 pub mod DataPlaces

@@ -29,6 +29,7 @@ ghost use Rattle.sbp_world.specs.Lists.AnsweredEnds.{AnsweredEndsLaw};
 ghost use Rattle.sbp_world.specs.Lists.AnsweredReads.{AnsweredReadsLaw};
 ghost use Rattle.sbp_world.specs.Lists.EndReads.{EndsReadLaw};
 ghost use Rattle.sbp_world.specs.Lists.DataWrites.{DataSentLaw, DataWritesLaw};
+ghost use Rattle.sbp_world.specs.Lists.DueRuns.{DueRunsLaw};
 ghost use Rattle.sbp_world.specs.Lists.FifoWrites.{FifoWritesLaw};
 ghost use Rattle.sbp_world.specs.Lists.Live.{LiveLaw};
 ghost use Rattle.sbp_world.specs.Lists.Managing.{ManagingLaw};
@@ -395,4 +396,12 @@ pub fn agents_write_the_next_chunk()
 #[tactic(auto, using(crate::proofs::Lists::Clauses::data_law))]
 pub fn answers_are_sent_in_chunks()
     ensures { DataSentLaw }
+{}
+
+/// In every run, whatever anyone injected, a command runs exactly where it is due: in the delivery after which the agent of a place
+/// has all that it needs. Its note names the initiator and the unit of the login in that place, and the agent's present ORB, and has
+/// the command and the data that the agent has read. No other turn tells a run.
+#[tactic(auto, using(crate::proofs::Lists::Executes::due_runs_law))]
+pub fn commands_run_where_they_are_due()
+    ensures { DueRunsLaw }
 {}

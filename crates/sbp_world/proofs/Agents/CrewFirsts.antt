@@ -174,7 +174,7 @@ module _ (units ready : ℕ) (has : 0 < units) (start : List Disk) {past : List 
 
   -- ---- a reply to an agent waits for the next note
   module _ (disks : List Disk) (units_are : (unit : ℕ) → unit_at before.units unit ≡ plain_in w.target.units disks unit) where
-    plain_there : (place : ℕ) (login : Login) → login_at w.target place ≡ Some login → unit_at T.units (unit_in (place_at T.table.places place)) ≡ plain_in w.target.units disks login.unit
+    pub plain_there : (place : ℕ) (login : Login) → login_at w.target place ≡ Some login → unit_at T.units (unit_in (place_at T.table.places place)) ≡ plain_in w.target.units disks login.unit
     plain_there place login e =
         ap (λ us. unit_at us (unit_in (place_at T.table.places place))) (over_units before.reply before refl)
         ∙ ap (λ (x : Table). unit_at before.units (unit_in (place_at x.places place))) agrees.table
@@ -216,7 +216,7 @@ module _ (units ready : ℕ) (has : 0 < units) (start : List Disk) {past : List 
     note_hist : (judged : Judged) (now : NodeState) → hist past (noted judged now) ≡ said (judged_note serial judged) ∷ hist past w
     note_hist judged now = ap (λ ms. said (judged_note serial judged) ∷ ms) (marked_hist past serial again (with_target now w))
 
-    was : t.sent serial ≡ Some q
+    pub was : t.sent serial ≡ Some q
     was = was_sent w stands serial sent found
 
     term_begins : (judged : Judged) (now : NodeState) (first : Office) (agents : List Agent) (told : List Side) (x : Target) → term_in start past (noted judged now) ≡ x → Begins first agents told x → Begins first agents told (term_in start past (noted judged now))
@@ -280,7 +280,7 @@ module _ (units ready : ℕ) (has : 0 < units) (start : List Disk) {past : List 
         no_lock : is_same_kind a.waited locking ≡ false
         no_lock = lockless a.waited (ap is_lock (sym kind_is) ∙ none_locks w.target.layer G.lives G.mid.known source label closing.kind purpose closing.life)
 
-        answer_same : laws.answer_in (laws.packet_at t serial) ≡ answer_in p
+        pub answer_same : laws.answer_in (laws.packet_at t serial) ≡ answer_in p
         answer_same = answer_is start w stands G L h.at serial sent found zero_to p read a label purpose closing.kind closing.life number_is no_lock
 
         got_is : (now : NodeState) → term_in start past (noted judgements.Got now) ≡ replied_to (purpose_of T a.own) (answer_in p) T
@@ -325,12 +325,12 @@ module _ (units ready : ℕ) (has : 0 < units) (start : List Disk) {past : List 
 
     -- ---- a request
     module _ (p : Packet) (read : reading sent.bytes ≡ Ok p) (none : reply_kind p ≡ None) where
-      record Asks : Type 0 where
-        label : ℕ
-        kind : Kind
-        part : part_of sent.bytes ≡ request label kind
+      pub record Asks : Type 0 where
+        pub label : ℕ
+        pub kind : Kind
+        pub part : part_of sent.bytes ≡ request label kind
 
-      asks_part : Asks
+      pub asks_part : Asks
       asks_part = by_case (part_case p)
         where
           by_case : PartOf p → Asks

@@ -49,7 +49,7 @@ given_by : (b : Bool) (rcode : ℕ) (answer : Answer) → IsGiven answer → IsG
 given_by true rcode answer g = g
 given_by false rcode answer g = tt
 
-given_in : (p : Packet) → IsGiven (answer_in p)
+pub given_in : (p : Packet) → IsGiven (answer_in p)
 given_in (read_quadlet_response header rcode value) = given_by (rcode == 0) rcode _ tt
 given_in (read_block_response header rcode payload) = given_by (rcode == 0) rcode _ tt
 given_in (write_response header rcode) = given_by (rcode == 0) rcode _ tt

@@ -28,7 +28,8 @@ use Rattle.command_agent.specs.declared.step.Move.{Move}
 use Rattle.command_agent.specs.declared.step.Move.TheVariants as moves
 use Rattle.command_agent.specs.declared.step.Which.{Which}
 use Rattle.command_agent.specs.declared.step.Which.TheVariants.{Ahead, Main}
-use Rattle.command_agent.specs.Machine.{Machine, chunk_of, is_ahead, plan_of}
+use Rattle.command_agent.specs.Machine.{Machine, chunk_of, has_present, is_ahead, plan_of}
+use Rattle.sbp_world.specs.Agents.Alike.{has_list}
 use Rattle.command_agent.specs.Checks.{death_by, reads_table, verdict}
 use Rattle.command_agent.specs.Steps.{advanced, ahead_of, ahead_read, ahead_step, answer_chunk, answer_step, asks, check_step, checked, chunk_written, data_grown, data_read, data_step, elements_read, end_step, follow_step, judged, next_read, orb_read, quiet, ran_as, replied, reply_step, reread_step, sent, served, status_written, table_read, told_or, turn_step, turned, unread_buffer, wait_step, with_ahead, with_outcome}
 use Rattle.sbp_laws.specs.Targets.{wants}
@@ -38,6 +39,7 @@ pub record Mild (s : AgentStep × Machine) : Type 0 where
   pub other : IsOther s.0.dead
   pub reads : wants s.0.ahead true ≡ false
   pub ends : (o : Outcome) → s.0.ran ≡ Some o → answered_length o ≡ 0 → s.1.phase ≡ phases.WritingStatus
+  pub runs : (o : Outcome) → s.0.ran ≡ Some o → (has_list s.1.phase ≡ true) × (has_present s.1.phase ≡ true)
 
 -- no request of the agent failed for want of a label
 abbrev pub IsGiven : Answer → Type 0
@@ -71,7 +73,7 @@ write_fails NoLabel g = absurd g
 
 -- a step that tells of no run
 unran : (s : AgentStep × Machine) → s.0.ran ≡ None → IsOther s.0.dead → wants s.0.ahead true ≡ false → Mild s
-unran s r o e = record { other = o; reads = e; ends = λ x f z. absurd (none_ran x (sym r ∙ f)) }
+unran s r o e = record { other = o; reads = e; ends = λ x f z. absurd (none_ran x (sym r ∙ f)); runs = λ x f. absurd (none_ran x (sym r ∙ f)) }
 
 mild_end : (m : Machine) (kind : StatusKind) (dead : Option FailCause) → IsOther dead → Mild (end_step m kind dead)
 mild_end m kind dead o = unran (end_step m kind dead) refl o refl
@@ -85,8 +87,8 @@ mild_wait m = mild_if m.doorbell (reread_step m) (quiet, record m { phase = phas
 
 -- a command runs
 ran_good : (b : Bool) (len : ℕ) (m : Machine) → (len == 0) ≡ b → Mild (with_outcome (outcomes.Good len) (cond b (end_step m kinds.Good None) (answer_step m)))
-ran_good true len m e = record { other = tt; reads = refl; ends = λ o f z. refl }
-ran_good false len m e = record { other = tt; reads = refl; ends = λ o f z. absurd (full o (let same : outcomes.Good len ≡ o = cc in same) z) }
+ran_good true len m e = record { other = tt; reads = refl; ends = λ o f z. refl; runs = λ o f. (refl, refl) }
+ran_good false len m e = record { other = tt; reads = refl; ends = λ o f z. absurd (full o (let same : outcomes.Good len ≡ o = cc in same) z); runs = λ o f. (refl, refl) }
   where
     full : (o : Outcome) → outcomes.Good len ≡ o → answered_length o ≡ 0 → ⊥
     full o f z =
@@ -95,7 +97,7 @@ ran_good false len m e = record { other = tt; reads = refl; ends = λ o f z. abs
         let no : true ≡ false = yes ∙ e in cc
 
 mild_ran : (outcome : Outcome) (m : Machine) → Mild (with_outcome outcome (ran_as m outcome))
-mild_ran (outcomes.Check sense) m = record { other = tt; reads = refl; ends = λ o f z. refl }
+mild_ran (outcomes.Check sense) m = record { other = tt; reads = refl; ends = λ o f z. refl; runs = λ o f. (refl, refl) }
 mild_ran (outcomes.Good len) m = ran_good (len == 0) len m refl
 
 mild_judged : (m : Machine) (told : Told) (need : Need) → Mild (judged m told need)
@@ -116,10 +118,10 @@ mild_checked m place plain told (Some kind) = mild_end m kind (death_by kind) (d
 mild_checked m place plain told None =
     let n = record m { segments = unread_buffer m.orb } in
     mild_if (reads_table m.orb) (asks (Read m.orb.descriptor (8 * m.orb.data_size)), record m { phase = phases.ReadingTable }) (judged n told (need_of n.orb.cdb (plan_of n) plain place))
-    (record { other = tt; reads = refl; ends = λ x f z. absurd (none_ran x f) }) (mild_judged n told (need_of n.orb.cdb (plan_of n) plain place))
+    (record { other = tt; reads = refl; ends = λ x f z. absurd (none_ran x f); runs = λ x f. absurd (none_ran x f) }) (mild_judged n told (need_of n.orb.cdb (plan_of n) plain place))
 
 mild_ahead : (dead : Option FailCause) (next : OrbPointer) (s : AgentStep × Machine) → Mild s → Mild (ahead_of dead next s)
-mild_ahead None (At next) s h = record { other = h.other; reads = refl; ends = h.ends }
+mild_ahead None (At next) s h = record { other = h.other; reads = refl; ends = h.ends; runs = h.runs }
 mild_ahead None Null s h = h
 mild_ahead (Some cause) (At next) s h = h
 mild_ahead (Some cause) Null s h = h
@@ -137,8 +139,8 @@ module _ (place : ℕ) (plain : PlainDisk) (told : Told) where
   moved_if false p q h i = i
 
   turn_moves : (m : Machine) (next : ℕ) (ahead : ReadAhead) → Moved (turn_step m next ahead)
-  turn_moves m next aheads.Idle = record { other = tt; reads = refl; ends = λ x f z. absurd (none_ran x f) }
-  turn_moves m next (aheads.UnderWay rung) = record { other = tt; reads = refl; ends = λ x f z. absurd (none_ran x f) }
+  turn_moves m next aheads.Idle = record { other = tt; reads = refl; ends = λ x f z. absurd (none_ran x f); runs = λ x f. absurd (none_ran x f) }
+  turn_moves m next (aheads.UnderWay rung) = record { other = tt; reads = refl; ends = λ x f z. absurd (none_ran x f); runs = λ x f. absurd (none_ran x f) }
   turn_moves m next (aheads.Kept orb) = mild_check (record (turned m next) { orb = orb }) place plain told
 
   follow_moves : (m : Machine) (next : OrbPointer) → Moved (follow_step m next)
@@ -146,11 +148,11 @@ module _ (place : ℕ) (plain : PlainDisk) (told : Told) where
   follow_moves m Null = mild_wait m
 
   status_moves : (m : Machine) (failure : Option FailCause) → IsOther failure → Moved (status_written m failure)
-  status_moves m (Some cause) o = record { other = o; reads = refl; ends = λ x f z. absurd (none_ran x f) }
+  status_moves m (Some cause) o = record { other = o; reads = refl; ends = λ x f z. absurd (none_ran x f); runs = λ x f. absurd (none_ran x f) }
   status_moves m None o = follow_moves m m.orb.next
 
   next_moves : (m : Machine) (read : Result (List ℕ) FailCause) → Fails read → Moved (next_read m read)
-  next_moves m (Err cause) o = record { other = o; reads = refl; ends = λ x f z. absurd (none_ran x f) }
+  next_moves m (Err cause) o = record { other = o; reads = refl; ends = λ x f z. absurd (none_ran x f); runs = λ x f. absurd (none_ran x f) }
   next_moves m (Ok bytes) o = follow_moves (record m { orb = record m.orb { next = pointer_at bytes 0 } }) (pointer_at bytes 0)
 
   orb_moves : (m : Machine) (read : Result (List ℕ) FailCause) → Fails read → Moved (orb_read m read)
@@ -187,19 +189,19 @@ module _ (place : ℕ) (plain : PlainDisk) (told : Told) where
   main_moves phases.Answering m answer g = chunk_moves m (write_failure answer) (write_fails answer g)
   main_moves phases.WritingStatus m answer g = status_moves m (write_failure answer) (write_fails answer g)
   main_moves phases.ReadingNext m answer g = next_moves m (payload_of answer 8) (payload_fails answer 8 g)
-  main_moves phases.WritingLastStatus m answer g = record { other = tt; reads = refl; ends = λ x f z. absurd (none_ran x f) }
-  main_moves phases.Reset m answer g = record { other = tt; reads = refl; ends = λ x f z. absurd (none_ran x f) }
-  main_moves phases.Suspended m answer g = record { other = tt; reads = refl; ends = λ x f z. absurd (none_ran x f) }
-  main_moves phases.Dead m answer g = record { other = tt; reads = refl; ends = λ x f z. absurd (none_ran x f) }
+  main_moves phases.WritingLastStatus m answer g = record { other = tt; reads = refl; ends = λ x f z. absurd (none_ran x f); runs = λ x f. absurd (none_ran x f) }
+  main_moves phases.Reset m answer g = record { other = tt; reads = refl; ends = λ x f z. absurd (none_ran x f); runs = λ x f. absurd (none_ran x f) }
+  main_moves phases.Suspended m answer g = record { other = tt; reads = refl; ends = λ x f z. absurd (none_ran x f); runs = λ x f. absurd (none_ran x f) }
+  main_moves phases.Dead m answer g = record { other = tt; reads = refl; ends = λ x f z. absurd (none_ran x f); runs = λ x f. absurd (none_ran x f) }
 
   ahead_moves : (m : Machine) (read : Result (List ℕ) FailCause) → Mild (ahead_read m read)
-  ahead_moves m (Ok bytes) = record { other = tt; reads = refl; ends = λ x f z. absurd (none_ran x f) }
-  ahead_moves m (Err cause) = record { other = tt; reads = refl; ends = λ x f z. absurd (none_ran x f) }
+  ahead_moves m (Ok bytes) = record { other = tt; reads = refl; ends = λ x f z. absurd (none_ran x f); runs = λ x f. absurd (none_ran x f) }
+  ahead_moves m (Err cause) = record { other = tt; reads = refl; ends = λ x f z. absurd (none_ran x f); runs = λ x f. absurd (none_ran x f) }
 
   all_mild : (which : Which) (m : Machine) (answer : Answer) → IsGiven answer → Mild (replied m place plain told which answer)
   all_mild Main m answer g = main_moves m.phase m answer g
   all_mild Ahead m answer g =
-      mild_if (is_ahead m.ahead) (ahead_step m answer) (quiet, m) (ahead_moves m (payload_of answer 32)) (record { other = tt; reads = refl; ends = λ x f z. absurd (none_ran x f) })
+      mild_if (is_ahead m.ahead) (ahead_step m answer) (quiet, m) (ahead_moves m (payload_of answer 32)) (record { other = tt; reads = refl; ends = λ x f z. absurd (none_ran x f); runs = λ x f. absurd (none_ran x f) })
 
 pub reply_mild : (m : Machine) (place : ℕ) (plain : PlainDisk) (told : Option Told) (which : Which) (answer : Answer) → IsGiven answer → Mild (reply_step m place plain told which answer)
 unfolding reply_step

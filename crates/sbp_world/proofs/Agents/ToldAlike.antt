@@ -65,7 +65,7 @@ good_alike (Some bytes) count len answer e size same = record {
   answer = λ yes. sym same;
 }
 
-run_alike : (outcome : Outcome) (m : Machine) (place : ℕ) (plain : PlainDisk) → MayRun m place outcome plain → TellsAlike (is_none (check_of outcome) && is_none (answer_of m.orb.cdb plain.medium)) (told_of (check_of outcome) m.orb.cdb plain) (record { outcome = outcome; answer = m.answer })
+pub run_alike : (outcome : Outcome) (m : Machine) (place : ℕ) (plain : PlainDisk) → MayRun m place outcome plain → TellsAlike (is_none (check_of outcome) && is_none (answer_of m.orb.cdb plain.medium)) (told_of (check_of outcome) m.orb.cdb plain) (record { outcome = outcome; answer = m.answer })
 run_alike (outcomes.Check check) m place plain may = record { outcome = refl; size = sym may.size; answer = λ yes. empty m.answer may.size }
 run_alike (outcomes.Good len) m place plain may =
     good_alike (answer_of m.orb.cdb plain.medium) (answer_length_of plain.medium.is_bay m.orb.cdb) len m.answer (may.len refl) may.size (may.answered refl)

@@ -170,9 +170,9 @@ runless_theirs : (told : List Side) → AreRunless told → AreTheirs told
 runless_theirs [] h = tt
 runless_theirs (side ∷ later) h = (runless_one side h.0, runless_theirs later h.1)
 
-run_theirs : (Ran : (place : ℕ) → (cdb payload : List ℕ) → Outcome → Type 0) (told : List Side) → TellsRun Ran told → AreTheirs told
-run_theirs Ran told (of_none h) = runless_theirs told h
-run_theirs Ran told (of_run place orb cdb payload outcome more ran h is) = subst AreTheirs (sym is) (tt, runless_theirs more h)
+run_theirs : (None_ran : Type 0) (Ran : (place orb : ℕ) → (cdb payload : List ℕ) → Outcome → Type 0) (told : List Side) → TellsRun None_ran Ran told → AreTheirs told
+run_theirs None_ran Ran told (of_none n h) = runless_theirs told h
+run_theirs None_ran Ran told (of_run place orb cdb payload outcome more ran h is) = subst AreTheirs (sym is) (tt, runless_theirs more h)
 
 other_plain : (side : Side) → IsTheirs side → IsMild side → IsPlainSide side
 other_plain (sides.Own note) o m = absurd o
@@ -389,7 +389,7 @@ module _ (s : Scene) (good : Good s.world.target) (serial : ℕ) (again : Bool) 
         (received_is run serial s one found ∙ ap (λ b. cond b (at_target one.to (target_received run one w.target s.media) s) (initiator_received one s)) (to_zero one.to zero_to))
         ∙ ap (λ n. handed_out n 0 x.1.outbox (with_note (judged_note serial x.0) (marked serial again (with_target x.1.node w)))) zero_to in
         subst (λ (v : WorldState). Delivers (IsEndBy s run) w.fresh v.fresh) (sym last_is)
-        (handed_delivers zero_to x.1.outbox x.1.node (run_theirs _ x.1.outbox.sides (delivery_tells w.target good.mid.size good.table.sound one run s.media may)) x.0
+        (handed_delivers zero_to x.1.outbox x.1.node (run_theirs _ _ x.1.outbox.sides (delivery_tells w.target good.mid.size good.table.sound one run s.media may)) x.0
         (λ place orb status r. ended_got w.target one run s.media place orb status r) (delivery_ends w.target good.mid.size good.table.sound one run s.media))
 
     own_comes : (i : ℕ) → one.to ≡ suc i → i < length w.initiators → C

@@ -1,12 +1,15 @@
 -- In every run a command runs on the unit of a live login of its initiator; where lists were open as they should be before, the command of an ORB of an initiator that
 -- injected no packets has the outcome that the plain disk allows for its request; and with the laws of lists this is the execution law.
-use Rattle.std.proofs.Common.{arith, ◌≡◌, ◌∙◌, refl, sym, ap, subst, ℕ, ◌+◌, ◌^◌, ◌<◌, ◌≤◌, Bool, true, false, List, [], ◌∷◌, ◌++◌, map, length, Option, Some, None}
+use Rattle.std.proofs.Common.{arith, ◌≡◌, ◌∙◌, inl, inr, ◌⊎◌, refl, sym, ap, subst, ℕ, ◌+◌, ◌^◌, ◌<◌, ◌≤◌, Bool, true, false, List, [], ◌∷◌, ◌++◌, map, length, Option, Some, None}
+use Rattle.bus_transactions.specs.Judging.{AreJudged}
 use Rattle.bus_transactions.specs.May.{is_reset}
 use Rattle.rbc_disk.specs.Disk.{Disk}
 use Rattle.rbc_disk.specs.Runs.{Told}
-use Rattle.sbp_bus.specs.Packets.{end_note}
+use Rattle.sbp_bus.specs.Packets.{end_note, judged_note}
 use Rattle.sbp_bus.specs.Places.{or_nobody}
 use Rattle.sbp_bus.specs.declared.places.Holder.{Holder}
+use Rattle.sbp_journal.specs.declared.cause.Judged.{Judged}
+use Rattle.sbp_journal.specs.declared.cause.Judged.TheVariants as judgements
 use Rattle.sbp_journal.specs.declared.event.Event.{Event}
 use Rattle.sbp_journal.specs.declared.event.Event.TheVariants as events
 use Rattle.sbp_journal.specs.declared.note.Note.{Note}
@@ -44,12 +47,16 @@ use Rattle.sbp_world.proofs.Hosts.Orbs.{orbs_law}
 use Rattle.sbp_world.proofs.Hosts.Runs.{count_after, count_between}
 use Rattle.sbp_world.specs.Lists.CarriedRuns.{ReadAt, RunsAreRead, RunsReadLaw}
 use Rattle.sbp_world.specs.Lists.EndReads.{EndAt, EndsAreRead, EndsReadLaw}
+use Rattle.sbp_world.specs.Lists.DueRuns.{DueRunsLaw}
 use Rattle.sbp_world.specs.Lists.Execution.{ExecutionRunLaw, LoginAt, LoginsLaw, LoginsRunLaw, OutcomeAt, OutcomesLaw, OutcomesRunLaw}
 use Rattle.sbp_world.specs.Lists.Needs.{IsCalm, IsNamed, OpenAfter, OpenBefore, OpenBetween, OpenIn, OpenLists, OpenWhile}
 use Rattle.sbp_world.specs.Lists.Opens.{OpensLaw}
 use Rattle.sbp_world.specs.Lists.OrbReads.{AskedAsGot}
 use Rattle.sbp_world.specs.Lists.Running.{ListsAt, ListsLaw, RunsAt, RunsLaw}
 use Rattle.sbp_world.proofs.Lists.Calm.{asked_calm, calm_before}
+use Rattle.sbp_world.proofs.Lists.DueRuns.{AtDelivery}
+use Rattle.sbp_world.proofs.Lists.DueWalk.{AreDue, where_due, end_due, line_due, next_due, one_due}
+use Rattle.sbp_world.proofs.Wire.Starts.{laws_of}
 use Rattle.sbp_world.proofs.Lists.Endless as endless
 use Rattle.sbp_world.proofs.Lists.Endless.{IsEndBy, OneEnd, no_end, one_end}
 use Rattle.sbp_world.proofs.Lists.EndReads.{ended_so, plain_at as end_plain}
@@ -60,12 +67,12 @@ use Rattle.sbp_world.proofs.Lists.OrbWaits.{asked_everywhere}
 use Rattle.sbp_world.proofs.Lists.Passes.{Facts, ready}
 use Rattle.sbp_world.proofs.Lists.Passing.{PassLaw}
 use Rattle.sbp_world.proofs.Lists.RunFits.{stands_asked}
-use Rattle.sbp_world.proofs.Lists.Runless.{AllPlain, Delivers, IsPlain, IsRunBy, OneRan, Plainly, acts, delivery_comes, injects, keys, late, loses, no_run, one_comes, one_run, resets, sights, ticks}
+use Rattle.sbp_world.proofs.Lists.Runless.{AllPlain, Delivers, IsPlain, IsRunBy, IsRunlessBy, NoneRun, OneRan, Plainly, acts, delivery_comes, injects, keys, late, loses, no_run, none_judged, one_comes, one_run, plain_none, resets, sights, ticks}
 use Rattle.sbp_world.proofs.Lists.OnceLaws.{lists_run_law, runs_run_law}
 use Rattle.sbp_world.proofs.Lists.RunOutcomes.{AreAsked, IsSet, run_so}
 use Rattle.sbp_world.proofs.Lists.RunReads.{read_so}
 use Rattle.sbp_world.proofs.Lists.RunSites.{more_by}
-use Rattle.sbp_world.proofs.Lists.Runs.{At, EarlyAfter, KeptAfter, as_front, at_told, calm_at, calm_back, early_after, facts, facts_at, history_is, holds_at, is_run, kept_told, lists_at, lists_here, moments_same, next_is, next_kept, site, site_at}
+use Rattle.sbp_world.proofs.Lists.Runs.{At, EarlyAfter, KeptAfter, as_front, at_told, calm_at, calm_back, early_after, facts, facts_at, history_is, holds_at, hosts, is_run, kept_told, lists_at, lists_here, moments_same, next_holds, next_is, next_kept, site, site_at}
 use Rattle.sbp_world.proofs.Lists.Sites.{Site, named_prepared}
 use Rattle.sbp_world.proofs.Lists.Stays.{ready_now}
 use Rattle.sbp_world.proofs.Lists.Turns.{Ready}
@@ -100,12 +107,21 @@ module _ (wild : ℕ → Bool) (start : List Disk) where
   passed (note ∷ more) past p = passed more past p.1
 
   -- a packet is delivered
-  delivers_law : (past : List Moment) (Ran : ℕ → Note → Type 0) (old new : List Note) → ((serial : ℕ) (ran : Note) → Ran serial ran → (let now = said (notes.Got serial) ∷ (map said old ++ past) in PassLaw wild (said ran ∷ now) → RunAt wild start (said ran) now)) → Delivers Ran old new → PassLaw wild (map said new ++ past) → Law wild start (map said old ++ past) → Law wild start (map said new ++ past)
-  delivers_law past Ran old new f (no_run q) passes l = plainly_law past old new q l
-  delivers_law past Ran old new f (one_run serial ran r q) passes l =
+  judged_at : (serial : ℕ) (judged : Judged) (past : List Moment) → RunAt wild start (said (judged_note serial judged)) past
+  judged_at serial judgements.Got past = (tt, (tt, tt))
+  judged_at serial (judgements.Ignored cause) past = (tt, (tt, tt))
+
+  delivers_law : (past : List Moment) (None_ran : ℕ → Judged → Type 0) (Ran : ℕ → Note → Type 0) (old new : List Note) → ((serial : ℕ) (ran : Note) → Ran serial ran → (let now = said (notes.Got serial) ∷ (map said old ++ past) in PassLaw wild (said ran ∷ now) → RunAt wild start (said ran) now)) → Delivers None_ran Ran old new → PassLaw wild (map said new ++ past) → Law wild start (map said old ++ past) → Law wild start (map said new ++ past)
+  delivers_law past None_ran Ran old new f (none_judged e) passes l = subst (λ ns. Law wild start (map said ns ++ past)) (sym e) l
+  delivers_law past None_ran Ran old new f (no_run serial judged none q) passes l = plainly_law past (judged_note serial judged ∷ old) new q (judged_at serial judged (map said old ++ past), l)
+  delivers_law past None_ran Ran old new f (one_run serial ran r q) passes l =
       let front = ran ∷ notes.Got serial ∷ old in
       let before : PassLaw wild (map said front ++ past) = passed q.more (map said front ++ past) (subst (PassLaw wild) (split q.more front past) (subst (λ ns. PassLaw wild (map said ns ++ past)) (sym q.is) passes)) in
       plainly_law past front new q (f serial ran r before, ((tt, (tt, tt)), l))
+
+  one_law : (past : List Moment) (None_ran : ℕ → Judged → Type 0) (Ran : ℕ → Note → Type 0) (old new : List Note) → ((serial : ℕ) (ran : Note) → Ran serial ran → (let now = said (notes.Got serial) ∷ (map said old ++ past) in PassLaw wild (said ran ∷ now) → RunAt wild start (said ran) now)) → Plainly old new ⊎ Delivers None_ran Ran old new → PassLaw wild (map said new ++ past) → Law wild start (map said old ++ past) → Law wild start (map said new ++ past)
+  one_law past None_ran Ran old new f (inl q) passes l = plainly_law past old new q l
+  one_law past None_ran Ran old new f (inr d) passes l = delivers_law past None_ran Ran old new f d passes l
 
   run_told : (past : List Moment) (s : Scene) → IsSet wild start past s → (run : Option Told) (serial : ℕ) (ran : Note) → IsRunBy s run serial ran → (let now = said (notes.Got serial) ∷ hist past s.world in PassLaw wild (said ran ∷ now) → RunAt wild start (said ran) now)
   run_told past s set run serial ran r passes = let x = run_so wild start past s set run ran serial r passes.0 in (x.0, (x.1, read_so wild start past s set run ran serial r passes.0))
@@ -117,7 +133,7 @@ module _ (wild : ℕ → Bool) (start : List Disk) where
   lowest_law : (past : List Moment) (s : Scene) → IsSet wild start past s → (one : Option Told) (o : Option ℕ) → MayAt o one s → PassLaw wild (hist past (delivered_at o one s).world) → Law wild start (hist past s.world) → Law wild start (hist past (delivered_at o one s).world)
   lowest_law past s set one None m passes l = absurd m
   lowest_law past s set one (Some serial) m passes l =
-      delivers_law past (IsRunBy s one) s.world.fresh (delivered_at (Some serial) one s).world.fresh (run_told past s set one) (delivery_comes s set.ready.good serial false one m) passes l
+      delivers_law past (IsRunlessBy s one) (IsRunBy s one) s.world.fresh (delivered_at (Some serial) one s).world.fresh (run_told past s set one) (delivery_comes s set.ready.good serial false one m) passes l
 
   next_law : (past : List Moment) (s : Scene) → IsSet wild start past s → (one : Option Told) → MayNext one s → PassLaw wild (hist past (delivered_next one s).world) → Law wild start (hist past s.world) → Law wild start (hist past (delivered_next one s).world)
   unfolding delivered_next MayNext
@@ -207,7 +223,7 @@ module _ (wild : ℕ → Bool) (line : ℕ) (run : Run) (few : run.initiators �
   AllCalm ms = (i : ℕ) → wild i ≡ false → IsCalm ms i
 
   abbrev L : List Moment → Type 0
-  L ms = Law wild start ms × EndsAreRead wild start ms
+  L ms = Law wild start ms × (EndsAreRead wild start ms × AreDue start ms)
 
   -- behind some of its lines
   module _ (entries : List Entry) (short : length entries + 2 < 2 ^ 32) (all : AreEntries (beginning run) entries) (fit : AreLines run entries) (so_far : Given (OpenBefore line run entries)) (x : EarlyAfter wild (opened wild) line run few has small size entries (after (beginning run) entries).world) (ends : Given (OpenAfter line run entries)) (calm : AllCalm (moments_behind line run entries)) where
@@ -271,6 +287,15 @@ module _ (wild : ℕ → Bool) (line : ℕ) (run : Run) (few : run.initiators �
 
       begin_units : Units start (asked next event ∷ hist b.past here.world) (without_notes here.world) here.media.disks
       begin_units = units_opened run.units logins has start b.past next event here.world here.media.disks units_here
+
+      at_begin : AtDelivery start (asked next event ∷ hist b.past here.world) (without_notes here.world)
+      at_begin =
+          let x = (site_at wild (opened wild) line run few has small size entries short all fit b.past (length entries) b.holds b.is next events.Settle tt [] tt).agents in
+          record {
+            agents = record { requests = x.requests; are = x.are; known = x.known };
+            held = are_held run.units logins has start (without_notes here.world) begins begin_seats;
+            rows = (hosts wild (opened wild) line run few has small size entries short all fit b.past (length entries) b.holds b.is next event).rows;
+          }
 
       set_open : Given (HasReads start (asked next event ∷ hist b.past here.world) (without_notes here.world)) → IsSet wild start (asked next event ∷ hist b.past here.world) (begun here)
       set_open reads = record {
@@ -354,7 +379,7 @@ module _ (wild : ℕ → Bool) (line : ℕ) (run : Run) (few : run.initiators �
         }
 
       law_at : (told : List (Option Told)) → MayAll told (begun here) → Before told → AllCalm (hist now (at told)) → L (hist b.past here.world) → L (hist now (at told))
-      law_at [] m before c l = (((tt, (tt, tt)), l.0), (tt, l.1))
+      law_at [] m before c l = (((tt, (tt, tt)), l.0), ((tt, l.1.0), line_due start next event (hist b.past here.world) [] (plain_none []) l.1.1))
       law_at (one ∷ told) m before c l =
           let back = calm_at wild (opened wild) line run few has small size entries short all fit b.past (length entries) b.holds b.is next event d one told c in
           let rest : Before told = λ i own. (before i own).1 in
@@ -362,59 +387,76 @@ module _ (wild : ℕ → Bool) (line : ℕ) (run : Run) (few : run.initiators �
           let kept = (kept_told wild (opened wild) line run few has small size entries short all fit b.past (length entries) b.holds b.is next event d so_far open_here past_calm b.kept x.early (one ∷ told) m before c).kept_there in
           let set = set_there told m.1 rest lists back in
           let so_far = law_at told m.1 rest back l in
-          (next_law wild start now (after_all told (begun here)) set one m.0 kept.passes so_far.0, next_ends wild start now (after_all told (begun here)) set one m.0 so_far.1)
+          let site_now = site_at wild (opened wild) line run few has small size entries short all fit b.past (length entries) b.holds b.is next event d told m.1 in
+          let holds_now = holds_at wild (opened wild) line run few has small size entries short all fit b.past (length entries) b.holds b.is next event d told m.1 in
+          let holds_next = holds_at wild (opened wild) line run few has small size entries short all fit b.past (length entries) b.holds b.is next event d (one ∷ told) m in
+          (
+            next_law wild start now (after_all told (begun here)) set one m.0 kept.passes so_far.0,
+            (
+              next_ends wild start now (after_all told (begun here)) set one m.0 so_far.1.0,
+              next_due start run.units logins has (after_all told (begun here)) holds_now (record { agents = site_now.agents; held = site_now.held; rows = site_now.rows }) set.units one m.0 (laws_of now (at (one ∷ told)) holds_next.sound.stands).judged so_far.1.1,
+            ),
+          )
 
     -- a line that follows
     abbrev Goes : ℕ → Event → List (Option Told) → Type 0
     Goes next event told =
-        MayHappen event told here → Given (OpenIn event (asked next event ∷ moments_behind line run entries) told (begun here)) → AllCalm (hist (asked next event ∷ hist b.past here.world) (happens next event told here).world) → PassLaw wild (hist (asked next event ∷ hist b.past here.world) (happens next event told here).world) → L (hist b.past here.world) → L (hist (asked next event ∷ hist b.past here.world) (happens next event told here).world)
+        MayHappen event told here → Given (OpenIn event (asked next event ∷ moments_behind line run entries) told (begun here)) → AllCalm (hist (asked next event ∷ hist b.past here.world) (happens next event told here).world) → PassLaw wild (hist (asked next event ∷ hist b.past here.world) (happens next event told here).world) → AreJudged (hist (asked next event ∷ hist b.past here.world) (happens next event told here).world) → L (hist b.past here.world) → L (hist (asked next event ∷ hist b.past here.world) (happens next event told here).world)
 
     plain_line : (next : ℕ) (event : Event) (new : List Note) → Plainly [] new → endless.Plainly [] new → L (hist b.past here.world) → L (map said new ++ asked next event ∷ hist b.past here.world)
     plain_line next event new q e l =
-        let past = asked next event ∷ hist b.past here.world in (plainly_law wild start past [] new q ((tt, (tt, tt)), l.0), mildly_law wild start past [] new e (tt, l.1))
+        let past = asked next event ∷ hist b.past here.world in (plainly_law wild start past [] new q ((tt, (tt, tt)), l.0), (mildly_law wild start past [] new e (tt, l.1.0), line_due start next event (hist b.past here.world) new q l.1.1))
 
     desks : length (without_notes here.world).target.desks ≡ 8
     desks = ready_here.good.mid.size
 
     law_line : (next : ℕ) (event : Event) (told : List (Option Told)) → IsLine event (length here.world.initiators) → Goes next event told
     unfolding happens MayHappen
-    law_line next (events.Step count) told q m before c p l = law_at next (events.Step count) tt told m.may before c l
-    law_line next events.Settle told q m before c p l =
+    law_line next (events.Step count) told q m before c p j l = law_at next (events.Step count) tt told m.may before c l
+    law_line next events.Settle told q m before c p j l =
         let now = asked next events.Settle ∷ hist b.past here.world in
         let t = after_all told (begun here) in
         let rest : Given (OpenWhile (asked next events.Settle ∷ moments_behind line run entries) told (begun here)) = λ i own. (before i own).1 in
         let back : AllCalm (hist now t.world) = λ i own. calm_before (said (end_note (is_settled t.world)) ∷ []) (hist now t.world) i (c i own) in
         let last = end_law wild start (hist now t.world) (is_settled t.world) in
         let so_far = law_at next events.Settle tt told m.may rest back l in
-        ((last.0, so_far.0), (last.1, so_far.1))
-    law_line next (events.Begin initiators is_ready) told q m before c p l = absurd q
-    law_line next (events.Act i action) told q m before c p l = plain_line next (events.Act i action) _ (acts (without_notes here.world) next i action) (endless.acts (without_notes here.world) desks next i action) l
-    law_line next (events.Reset physical) told q m before c p l = plain_line next (events.Reset physical) _ (resets (without_notes here.world) physical) (endless.resets (without_notes here.world) desks physical) l
-    law_line next (events.See node) told q m before c p l = plain_line next (events.See node) _ (sights (without_notes here.world) node) (endless.sights (without_notes here.world) desks node) l
-    law_line next (events.Deliver serial) told q m before c p l =
+        ((last.0, so_far.0), ((last.1, so_far.1.0), end_due start (is_settled t.world) (hist now t.world) so_far.1.1))
+    law_line next (events.Begin initiators is_ready) told q m before c p j l = absurd q
+    law_line next (events.Act i action) told q m before c p j l = plain_line next (events.Act i action) _ (acts (without_notes here.world) next i action) (endless.acts (without_notes here.world) desks next i action) l
+    law_line next (events.Reset physical) told q m before c p j l = plain_line next (events.Reset physical) _ (resets (without_notes here.world) physical) (endless.resets (without_notes here.world) desks physical) l
+    law_line next (events.See node) told q m before c p j l = plain_line next (events.See node) _ (sights (without_notes here.world) node) (endless.sights (without_notes here.world) desks node) l
+    law_line next (events.Deliver serial) told q m before c p j l =
         let e = events.Deliver serial in
-        let set = set_open next e refl (λ i own. line_reads start next (events.Deliver serial) false (λ t. refl) b.past here.world (reads_here i own)) in (
-          delivers_law wild start (asked next e ∷ hist b.past here.world) (OneRan (begun here) set.ready.good next serial false told) [] _ (one_told wild start (asked next e ∷ hist b.past here.world) (begun here) set next serial false told)
-              (one_comes (begun here) set.ready.good next serial false (is_in_flight serial (begun here).world) told m) p ((tt, (tt, tt)), l.0),
-          ends_law wild start (asked next e ∷ hist b.past here.world) (OneEnd (begun here) set.ready.good next serial false told) [] _ (one_ended wild start (asked next e ∷ hist b.past here.world) (begun here) set next serial false told)
-              (endless.one_comes (begun here) set.ready.good next serial false (is_in_flight serial (begun here).world) told m) (tt, l.1),
+        let past = asked next e ∷ hist b.past here.world in
+        let set = set_open next e refl (λ i own. line_reads start next e false (λ t. refl) b.past here.world (reads_here i own)) in
+        let comes = one_comes (begun here) set.ready.good next serial false (is_in_flight serial (begun here).world) told m in (
+          one_law wild start past (NoneRun (begun here) set.ready.good next serial false told) (OneRan (begun here) set.ready.good next serial false told) [] _ (one_told wild start past (begun here) set next serial false told) comes p ((tt, (tt, tt)), l.0),
+          (
+            ends_law wild start past (OneEnd (begun here) set.ready.good next serial false told) [] _ (one_ended wild start past (begun here) set next serial false told)
+                (endless.one_comes (begun here) set.ready.good next serial false (is_in_flight serial (begun here).world) told m) (tt, l.1.0),
+            one_due start run.units logins has next e (begun here) (begins next e refl) refl (at_begin next e refl) set.units set.ready.good serial false told _ comes j l.1.1,
+          ),
         )
-    law_line next (events.Repeat serial) told q m before c p l =
+    law_line next (events.Repeat serial) told q m before c p j l =
         let e = events.Repeat serial in
-        let set = set_open next e refl (λ i own. line_reads start next (events.Repeat serial) true (λ t. refl) b.past here.world (reads_here i own)) in (
-          delivers_law wild start (asked next e ∷ hist b.past here.world) (OneRan (begun here) set.ready.good next serial true told) [] _ (one_told wild start (asked next e ∷ hist b.past here.world) (begun here) set next serial true told)
-              (one_comes (begun here) set.ready.good next serial true (may_repeat serial (begun here).world) told m) p ((tt, (tt, tt)), l.0),
-          ends_law wild start (asked next e ∷ hist b.past here.world) (OneEnd (begun here) set.ready.good next serial true told) [] _ (one_ended wild start (asked next e ∷ hist b.past here.world) (begun here) set next serial true told)
-              (endless.one_comes (begun here) set.ready.good next serial true (may_repeat serial (begun here).world) told m) (tt, l.1),
+        let past = asked next e ∷ hist b.past here.world in
+        let set = set_open next e refl (λ i own. line_reads start next e true (λ t. refl) b.past here.world (reads_here i own)) in
+        let comes = one_comes (begun here) set.ready.good next serial true (may_repeat serial (begun here).world) told m in (
+          one_law wild start past (NoneRun (begun here) set.ready.good next serial true told) (OneRan (begun here) set.ready.good next serial true told) [] _ (one_told wild start past (begun here) set next serial true told) comes p ((tt, (tt, tt)), l.0),
+          (
+            ends_law wild start past (OneEnd (begun here) set.ready.good next serial true told) [] _ (one_ended wild start past (begun here) set next serial true told)
+                (endless.one_comes (begun here) set.ready.good next serial true (may_repeat serial (begun here).world) told m) (tt, l.1.0),
+            one_due start run.units logins has next e (begun here) (begins next e refl) refl (at_begin next e refl) set.units set.ready.good serial true told _ comes j l.1.1,
+          ),
         )
-    law_line next (events.Lose serial) told q m before c p l = plain_line next (events.Lose serial) _ (loses (without_notes here.world) next serial) (endless.loses (without_notes here.world) desks next serial) l
-    law_line next (events.Timeout serial) told q m before c p l = plain_line next (events.Timeout serial) _ (late (without_notes here.world) next serial) (endless.late (without_notes here.world) desks next serial) l
-    law_line next events.Tick told q m before c p l = plain_line next events.Tick _ (ticks (without_notes here.world)) (endless.ticks (without_notes here.world) desks) l
-    law_line next (events.Inject i bytes) told q m before c p l = plain_line next (events.Inject i bytes) _ (injects (without_notes here.world) next i bytes) (endless.injects (without_notes here.world) desks next i bytes) l
-    law_line next (events.Key unit key) told q m before c p l = plain_line next (events.Key unit key) _ (keys (without_notes here.world) next unit key) (endless.keys (without_notes here.world) desks next unit key) l
+    law_line next (events.Lose serial) told q m before c p j l = plain_line next (events.Lose serial) _ (loses (without_notes here.world) next serial) (endless.loses (without_notes here.world) desks next serial) l
+    law_line next (events.Timeout serial) told q m before c p j l = plain_line next (events.Timeout serial) _ (late (without_notes here.world) next serial) (endless.late (without_notes here.world) desks next serial) l
+    law_line next events.Tick told q m before c p j l = plain_line next events.Tick _ (ticks (without_notes here.world)) (endless.ticks (without_notes here.world) desks) l
+    law_line next (events.Inject i bytes) told q m before c p j l = plain_line next (events.Inject i bytes) _ (injects (without_notes here.world) next i bytes) (endless.injects (without_notes here.world) desks next i bytes) l
+    law_line next (events.Key unit key) told q m before c p j l = plain_line next (events.Key unit key) _ (keys (without_notes here.world) next unit key) (endless.keys (without_notes here.world) desks next unit key) l
 
   law_after : (entries : List Entry) → length entries + 2 < 2 ^ 32 → AreEntries (beginning run) entries → AreLines run entries → Given (OpenBefore line run entries) → AllCalm (moments_behind line run entries) → L (moments_behind line run entries)
-  law_after [] short all fit lists calm = (((tt, (tt, tt)), ((tt, (tt, tt)), tt)), (tt, (tt, tt)))
+  law_after [] short all fit lists calm = (((tt, (tt, tt)), ((tt, (tt, tt)), tt)), ((tt, (tt, tt)), line_due start line (events.Begin run.initiators run.ready) [] (notes.Begin run.initiators run.ready ∷ []) (record { more = notes.Begin run.initiators run.ready ∷ []; is = refl; plain = (tt, tt) }) tt))
   law_after (e ∷ before) short all fit lists calm =
       let s = after (beginning run) before in
       let few_lines : length before + 2 < 2 ^ 32 = omega arith in
@@ -425,9 +467,10 @@ module _ (wild : ℕ → Bool) (line : ℕ) (run : Run) (few : run.initiators �
       let x = early_after wild (opened wild) line run few has small size before few_lines all.1 fit.1 rest begins back in
       let is = next_is wild (opened wild) line run few has small size e before few_lines short all fit rest x begins goes calm in
       let kept = next_kept wild (opened wild) line run few has small size e before few_lines short all fit rest x begins goes calm in
+      let holds = next_holds wild (opened wild) line run few has small size e before few_lines short all fit rest x begins goes calm in
       let there = subst L (sym x.so_far.is) (law_after before few_lines all.1 fit.1 rest back) in
       subst L is
-      (law_line before few_lines all.1 fit.1 rest x begins back e.line e.event e.told fit.0 all.0.may goes (λ i own. subst (λ ms. IsCalm ms i) (sym is) (calm i own)) kept.passes there)
+      (law_line before few_lines all.1 fit.1 rest x begins back e.line e.event e.told fit.0 all.0.may goes (λ i own. subst (λ ms. IsCalm ms i) (sym is) (calm i own)) kept.passes (laws_of (asked e.line e.event ∷ hist x.so_far.past s.world) (happens e.line e.event e.told s).world holds.sound.stands).judged there)
 
 -- ---- so it is of every run
 module _ (line : ℕ) (run : Run) (r : IsRun run) (has : 0 < run.units) (small : run.units ≤ 4) (size : length run.start.disks ≡ run.units) (wild : ℕ → Bool) where
@@ -438,7 +481,7 @@ module _ (line : ℕ) (run : Run) (r : IsRun run) (has : 0 < run.units) (small :
   last = after (beginning run) run.entries
 
   abbrev Both : List Moment → Type 0
-  Both ms = Law wild run.start.disks ms × EndsAreRead wild run.start.disks ms
+  Both ms = Law wild run.start.disks ms × (EndsAreRead wild run.start.disks ms × AreDue run.start.disks ms)
 
   lines_law : Known (OpenBefore line run run.entries) → ((i : ℕ) → wild i ≡ false → IsCalm (history_of line run) i) → Both (history_of line run)
   lines_law so_far calm = law_after wild line run r.few has small size run.entries r.short r.entries r.lines so_far calm
@@ -533,8 +576,20 @@ runs_read_law = record {
 -- and the ORBs that end
 pub ends_read_law : EndsReadLaw
 ends_read_law = record {
-  after_lines = λ line run r has small size so_far. (lines_law line run r has small size (injectors (history_of line run)) (λ i own. so_far) (λ i own. own)).1;
+  after_lines = λ line run r has small size so_far. (lines_law line run r has small size (injectors (history_of line run)) (λ i own. so_far) (λ i own. own)).1.0;
   between = λ line run r has small size next event d told m so_far.
       let now = map said (after_all told (begun (after (beginning run) run.entries))).world.fresh ++ asked next event ∷ history_of line run in
-      (between_law line run r has small size (injectors now) next event d told m (λ i own. so_far) (λ i own. own)).1;
+      (between_law line run r has small size (injectors now) next event d told m (λ i own. so_far) (λ i own. own)).1.0;
+}
+
+-- and each turn tells the runs that are due, whoever injected packets
+pub due_runs_law : DueRunsLaw
+due_runs_law = record {
+  after_lines = λ line run r has small size others.
+      let wild : ℕ → Bool = λ i. true in
+      where_due others run.start.disks (history_of line run) (lines_law line run r has small size wild (λ i f. nobody (OpenBefore line run run.entries) f) (λ i f. nobody (IsCalm (history_of line run) i) f)).1.1;
+  between = λ line run r has small size next event d told m others.
+      let wild : ℕ → Bool = λ i. true in
+      let now = map said (after_all told (begun (after (beginning run) run.entries))).world.fresh ++ asked next event ∷ history_of line run in
+      where_due others run.start.disks now (between_law line run r has small size wild next event d told m (λ i f. nobody (OpenBetween line run next event told) f) (λ i f. nobody (IsCalm now i) f)).1.1;
 }

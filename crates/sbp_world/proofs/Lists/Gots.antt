@@ -22,7 +22,7 @@ pub data Next (before now : List Moment) : Type 0 where
   next : (front : List Note) → AllQuiet front → (moment : Moment) → map said front ++ moment ∷ before ≡ now → Next before now
   next_line : (front : List Note) → AllQuiet front → (note : Note) (line : ℕ) (event : Event) → map said front ++ said note ∷ asked line event ∷ before ≡ now → Next before now
 
-split : (a b : List Note) (past : List Moment) → map said (a ++ b) ++ past ≡ map said a ++ (map said b ++ past)
+pub split : (a b : List Note) (past : List Moment) → map said (a ++ b) ++ past ≡ map said a ++ (map said b ++ past)
 split [] b past = refl
 split (n ∷ a) b past = ap (λ ms. said n ∷ ms) (split a b past)
 

@@ -1,6 +1,6 @@
 -- What the target tells in a call of a run: none; or, as it goes on by the answer to a transaction of an agent, first of all the one run of the command of that agent's
 -- present ORB, as the medium may have told it, and of no run behind it.
-use Rattle.std.proofs.Common.{arith, ◌≡◌, refl, sym, ap, subst, ℕ, zero, suc, ◌+◌, ◌<◌, nat_lt, Bool, true, false, cond, List, [], ◌∷◌, ◌++◌, length, Option, Some, None, Result, Ok, Err}
+use Rattle.std.proofs.Common.{arith, ◌≡◌, ◌∙◌, refl, sym, ap, subst, ℕ, zero, suc, ◌+◌, ◌<◌, nat_lt, Bool, true, false, cond, List, [], ◌∷◌, ◌++◌, length, Option, Some, None, Result, Ok, Err}
 use Rattle.std.specs.Prelude.{slice_set}
 use Rattle.std.proofs.lemmas.List.{get_or-set_same}
 use Rattle.async_packet.specs.Labels.{LabelParts}
@@ -21,7 +21,7 @@ use Rattle.packet_store.specs.declared.sent.Sent.{Sent}
 use Rattle.rbc_disk.specs.declared.command.Outcome.{Outcome}
 use Rattle.rbc_disk.specs.Disk.{Disk, disk_at}
 use Rattle.rbc_disk.specs.Held.{Held}
-use Rattle.rbc_disk.specs.Runs.{Told, left_by}
+use Rattle.rbc_disk.specs.Runs.{Told, left_by, told_in}
 use Rattle.rbc_disk.specs.Units.{PlainDisk}
 use Rattle.command_agent.specs.declared.step.AgentStep.{AgentStep}
 use Rattle.command_agent.specs.declared.step.Which.{Which}
@@ -167,18 +167,18 @@ pub lapse_runless : (peer : ℕ) (label : LabelParts) (node : NodeState) → Are
 unfolding expired
 lapse_runless peer label node = lapse_by node (expiring_step node.layer peer label) peer label
 
--- ---- of one run, first of all
-pub data TellsRun (Ran : (place : ℕ) → (cdb payload : List ℕ) → Outcome → Type 0) (told : List Side) : Type 0 where
-  of_none : AreRunless told → TellsRun Ran told
-  of_run : (place orb : ℕ) (cdb payload : List ℕ) (outcome : Outcome) (more : List Side) → Ran place cdb payload outcome → AreRunless more → told ≡ sides.Ran place orb cdb payload outcome ∷ more → TellsRun Ran told
+-- ---- of one run, first of all; and of none where no command ran
+pub data TellsRun (None_ran : Type 0) (Ran : (place orb : ℕ) → (cdb payload : List ℕ) → Outcome → Type 0) (told : List Side) : Type 0 where
+  of_none : None_ran → AreRunless told → TellsRun None_ran Ran told
+  of_run : (place orb : ℕ) (cdb payload : List ℕ) (outcome : Outcome) (more : List Side) → Ran place orb cdb payload outcome → AreRunless more → told ≡ sides.Ran place orb cdb payload outcome ∷ more → TellsRun None_ran Ran told
 
-module _ (Ran : (place : ℕ) → (cdb payload : List ℕ) → Outcome → Type 0) where
-  run_more : (told : List Side) (side : Side) → IsRunless side → TellsRun Ran told → TellsRun Ran (told ++ side ∷ [])
-  run_more told side f (of_none h) = of_none (runless_more told side h f)
+module _ (None_ran : Type 0) (Ran : (place orb : ℕ) → (cdb payload : List ℕ) → Outcome → Type 0) where
+  run_more : (told : List Side) (side : Side) → IsRunless side → TellsRun None_ran Ran told → TellsRun None_ran Ran (told ++ side ∷ [])
+  run_more told side f (of_none n h) = of_none n (runless_more told side h f)
   run_more told side f (of_run place orb cdb payload outcome more ran h is) =
       of_run place orb cdb payload outcome (more ++ side ∷ []) ran (runless_more more side h f) (ap (λ xs. xs ++ side ∷ []) is)
 
-  run_keeps : Keeps (TellsRun Ran)
+  run_keeps : Keeps (TellsRun None_ran Ran)
   run_keeps = record { tells = λ told side f h. run_more told side (spared_runless side f) h }
 
 -- what follows a step of an agent keeps what is said of what is told, where its run does
@@ -224,7 +224,7 @@ module _ (P : List Side → Type 0) (keeps : Keeps P) (node : NodeState) (place 
 
 -- ---- a packet that the target gets
 -- the agent of a place runs the command of its present ORB as an answer is delivered, as its unit may
-pub record RanBy (node : NodeState) (sent : Sent) (run : Option Told) (media : Held) (place : ℕ) (cdb payload : List ℕ) (outcome : Outcome) : Type 0 where
+pub record RanBy (node : NodeState) (sent : Sent) (run : Option Told) (media : Held) (place orb : ℕ) (cdb payload : List ℕ) (outcome : Outcome) : Type 0 where
   pub login : Login
   pub served : served_login node place ≡ Some login
   pub packet : Packet
@@ -233,14 +233,31 @@ pub record RanBy (node : NodeState) (sent : Sent) (run : Option Told) (media : H
   pub found : (judging_step node.layer sent.generation sent.bytes).0 ≡ of_response packet label (Some (purposes.Agent place))
   pub is_which : which_in (desk_at node place) (header_in packet).source label ≡ Some which
   pub ran : (reply_step (desk_at node place).agent place (plain_in node.units media.disks login.unit) run which (answer_in packet)).0.ran ≡ Some outcome
+  pub told_is : run ≡ Some (record { outcome = outcome; answer = (reply_step (desk_at node place).agent place (plain_in node.units media.disks login.unit) run which (answer_in packet)).1.answer })
+  pub orb_is : orb ≡ orb_of (reply_step (desk_at node place).agent place (plain_in node.units media.disks login.unit) run which (answer_in packet)).1
   pub cdb_is : cdb ≡ (reply_step (desk_at node place).agent place (plain_in node.units media.disks login.unit) run which (answer_in packet)).1.orb.cdb
   pub payload_is : payload ≡ (reply_step (desk_at node place).agent place (plain_in node.units media.disks login.unit) run which (answer_in packet)).1.payload
   pub may : MayRun (reply_step (desk_at node place).agent place (plain_in node.units media.disks login.unit) run which (answer_in packet)).1 place outcome (plain_in node.units media.disks login.unit)
 
+-- how the command ran that an agent runs as a packet is delivered, by what the packet is found to be; None where none runs
+abbrev pub ran_for : NodeState → Option Told → List Disk → (place : ℕ) → Packet → Option Login → Option Which → Option Outcome
+ran_for node run disks place packet None which = None
+ran_for node run disks place packet (Some login) None = None
+ran_for node run disks place packet (Some login) (Some which) = (reply_step (desk_at node place).agent place (plain_in node.units disks login.unit) run which (answer_in packet)).0.ran
+
+abbrev pub ran_as : NodeState → Option Told → List Disk → Finding Purpose → Option Outcome
+ran_as node run disks (of_response packet label (Some (purposes.Agent place))) =
+    ran_for node run disks place packet (served_login node place) (which_in (desk_at node place) (header_in packet).source label)
+ran_as node run disks _ = None
+
+pub record NoneRan (node : NodeState) (sent : Sent) (run : Option Told) (media : Held) : Type 0 where
+  pub ran : ran_as node run media.disks (judging_step node.layer sent.generation sent.bytes).0 ≡ None
+  pub untold : run ≡ None
+
 -- such a packet is got
-pub is_got : (node : NodeState) (sent : Sent) (run : Option Told) (media : Held) (place : ℕ) (cdb payload : List ℕ) (outcome : Outcome) → RanBy node sent run media place cdb payload outcome → (received run sent.generation sent.bytes (whole_of node media)).0 ≡ judgements.Got
+pub is_got : (node : NodeState) (sent : Sent) (run : Option Told) (media : Held) (place orb : ℕ) (cdb payload : List ℕ) (outcome : Outcome) → RanBy node sent run media place orb cdb payload outcome → (received run sent.generation sent.bytes (whole_of node media)).0 ≡ judgements.Got
 unfolding received
-is_got node sent run media place cdb payload outcome r =
+is_got node sent run media place orb cdb payload outcome r =
     let found = judging_step node.layer sent.generation sent.bytes in ap (λ f. (received_as run sent.bytes f (with_layer found.1 (whole_of node media))).0) r.found
 
 -- the login that is served is in its place
@@ -256,11 +273,14 @@ served_there node place login e = by (login_at node place) e
     by (Some other) e = inside other (nat_lt other.unit (length node.units)) e
 
 module _ (node : NodeState) (size : length node.desks ≡ 8) (sound : IsSound node.logins.places) (sent : Sent) (run : Option Told) (media : Held) where
-  abbrev Ran : (place : ℕ) → (cdb payload : List ℕ) → Outcome → Type 0
-  Ran place cdb payload outcome = RanBy node sent run media place cdb payload outcome
+  abbrev Ran : (place orb : ℕ) → (cdb payload : List ℕ) → Outcome → Type 0
+  Ran place orb cdb payload outcome = RanBy node sent run media place orb cdb payload outcome
+
+  abbrev None_ran : Type 0
+  None_ran = NoneRan node sent run media
 
   abbrev P : List Side → Type 0
-  P told = TellsRun Ran told
+  P told = TellsRun None_ran Ran told
 
   abbrev layer : Layer Purpose
   layer = (judging_step node.layer sent.generation sent.bytes).1
@@ -275,7 +295,10 @@ module _ (node : NodeState) (size : length node.desks ≡ 8) (sound : IsSound no
   Found f = (judging_step node.layer sent.generation sent.bytes).0 ≡ f
 
   keeps : Keeps P
-  keeps = run_keeps Ran
+  keeps = run_keeps None_ran Ran
+
+  as_found : (f : Finding Purpose) → Found f → ran_as node run media.disks f ≡ None → run ≡ None → None_ran
+  as_found f e none untold = record { ran = ap (λ (x : Finding Purpose). ran_as node run media.disks x) e ∙ none; untold = untold }
 
   -- an answer to a transaction of an agent
   module _ (packet : Packet) (label : LabelParts) (place : ℕ) (found : Found (of_response packet label (Some (purposes.Agent place)))) where
@@ -283,9 +306,13 @@ module _ (node : NodeState) (size : length node.desks ≡ 8) (sound : IsSound no
       abbrev step : AgentStep × Machine
       step = reply_step (desk_at node place).agent place (plain_in node.units media.disks login.unit) run which (answer_in packet)
 
-      first_told : MayTell step.0.ran step.1 place (plain_in node.units media.disks login.unit) → (x : Option Outcome) → step.0.ran ≡ x → P (tell_ran place step.1 x empty_outbox).sides
-      first_told may None e = of_none tt
-      first_told may (Some outcome) e =
+      first_told : run ≡ told_in step.0.ran step.1.answer → MayTell step.0.ran step.1 place (plain_in node.units media.disks login.unit) → (x : Option Outcome) → step.0.ran ≡ x → P (tell_ran place step.1 x empty_outbox).sides
+      first_told so may None e =
+          of_none (as_found (of_response packet label (Some (purposes.Agent place))) found
+          (ap (λ (x : Option Login). ran_for node run media.disks place packet x (which_in (desk_at node place) (header_in packet).source label)) served
+          ∙ ap (λ x. ran_for node run media.disks place packet (Some login) x) is_which ∙ e)
+          (so ∙ ap (λ x. told_in x step.1.answer) e)) tt
+      first_told so may (Some outcome) e =
           of_run place (orb_of step.1) step.1.orb.cdb step.1.payload outcome []
           (record {
             login = login;
@@ -296,42 +323,49 @@ module _ (node : NodeState) (size : length node.desks ≡ 8) (sound : IsSound no
             found = found;
             is_which = is_which;
             ran = e;
+            told_is = so ∙ ap (λ x. told_in x step.1.answer) e;
+            orb_is = refl;
             cdb_is = refl;
             payload_is = refl;
             may = subst (λ x. MayTell x step.1 place (plain_in node.units media.disks login.unit)) e may;
           }) tt refl
 
-      steps : MayTell step.0.ran step.1 place (plain_in node.units media.disks login.unit) → P (advance run place login which (answer_in packet) all).outbox.sides
-      steps may =
+      steps : run ≡ told_in step.0.ran step.1.answer → MayTell step.0.ran step.1 place (plain_in node.units media.disks login.unit) → P (advance run place login which (answer_in packet) all).outbox.sides
+      steps so may =
           let there = served_there node place login served in
           let inside : place < length node.desks = (let l = within node.logins.places place login there in let c = sound.size in omega arith) in
-          advance_tells P keeps (record node { layer = layer }) place inside login media.disks run which (answer_in packet) (first_told may step.0.ran refl)
+          advance_tells P keeps (record node { layer = layer }) place inside login media.disks run which (answer_in packet) (first_told so may step.0.ran refl)
 
     replies : (there : Option Login) → served_login node place ≡ there → (which : Option Which) → which_in (desk_at node place) (header_in packet).source label ≡ which → (before now : List ℕ) → TellsBy run place (answer_in packet) there which (stage (record node { layer = layer }) media.disks) before now → P (replied_by run place (answer_in packet) there which all).outbox.sides
-    replies None e which f before now t = of_none tt
-    replies (Some login) e None f before now t = of_none tt
-    replies (Some login) e (Some which) f before now t = steps login e which f t.may
+    replies None e which f before now t =
+        of_none (as_found (of_response packet label (Some (purposes.Agent place))) found
+        (ap (λ (x : Option Login). ran_for node run media.disks place packet x (which_in (desk_at node place) (header_in packet).source label)) e) t.0) tt
+    replies (Some login) e None f before now t =
+        of_none (as_found (of_response packet label (Some (purposes.Agent place))) found
+        (ap (λ (x : Option Login). ran_for node run media.disks place packet x (which_in (desk_at node place) (header_in packet).source label)) e
+        ∙ ap (λ x. ran_for node run media.disks place packet (Some login) x) f) t.0) tt
+    replies (Some login) e (Some which) f before now t = steps login e which f t.so t.may
 
   concludes : (packet : Packet) (label : LabelParts) (purpose : Option Purpose) → Found (of_response packet label purpose) → (before now : List ℕ) → TellsAt run purpose (header_in packet).source label (answer_in packet) all before now → P (concluded run purpose (header_in packet).source label (answer_in packet) all).outbox.sides
   unfolding concluded replied_to
-  concludes packet label None f before now t = of_none tt
+  concludes packet label None f before now t = of_none (as_found (of_response packet label None) f refl t.0) tt
   concludes packet label (Some (purposes.Agent place)) f before now t =
       replies packet label place f (served_login node place) refl (which_in (desk_at node place) (header_in packet).source label) refl before now t
-  concludes packet label (Some purposes.Management) f before now t = of_none (manages (answer_in packet) here tt)
-  concludes packet label (Some purposes.Unsolicited) f before now t = of_none tt
+  concludes packet label (Some purposes.Management) f before now t = of_none (as_found (of_response packet label (Some purposes.Management)) f refl t.0) (manages (answer_in packet) here tt)
+  concludes packet label (Some purposes.Unsolicited) f before now t = of_none (as_found (of_response packet label (Some purposes.Unsolicited)) f refl t.0) tt
 
-  judged_told : (r : Judged × Scene) → AreRunless r.1.outbox.sides → P (judged_scene r all).1.outbox.sides
-  judged_told (judged, s) h = of_none h
+  judged_told : (r : Judged × Scene) → None_ran → AreRunless r.1.outbox.sides → P (judged_scene r all).1.outbox.sides
+  judged_told (judged, s) n h = of_none n h
 
   finds : (f : Finding Purpose) → Found f → (before now : List ℕ) → TellsIn run f all before now → P (received_as run sent.bytes f all).1.outbox.sides
-  finds of_generation f before now t = of_none tt
-  finds of_grammar f before now t = of_none tt
-  finds of_label f before now t = of_none tt
+  finds of_generation f before now t = of_none (as_found of_generation f refl t.0) tt
+  finds of_grammar f before now t = of_none (as_found of_grammar f refl t.0) tt
+  finds of_label f before now t = of_none (as_found of_label f refl t.0) tt
   finds (of_response packet label purpose) f before now t = concludes packet label purpose f before now t
   finds (of_again packet rcode) f before now t =
-      of_none (answers AreRunless here.node.units here.node.logins packet sent.bytes rcode [] here (as_in AreRunless here tt)).told
+      of_none (as_found (of_again packet rcode) f refl t.0) (answers AreRunless here.node.units here.node.logins packet sent.bytes rcode [] here (as_in AreRunless here tt)).told
   finds (of_request packet) f before now t =
-      judged_told (request_step packet sent.bytes here) (request_tells AreRunless here.node.units here.node.logins k packet sent.bytes here (as_in AreRunless here tt)).told
+      judged_told (request_step packet sent.bytes here) (as_found (of_request packet) f refl t.0) (request_tells AreRunless here.node.units here.node.logins k packet sent.bytes here (as_in AreRunless here tt)).told
 
   pub delivery_tells : delivering.MayTell run sent node media → P (received run sent.generation sent.bytes (whole_of node media)).1.outbox.sides
   unfolding received delivering.MayTell

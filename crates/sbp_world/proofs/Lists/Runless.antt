@@ -1,12 +1,13 @@
 -- What a node hands out in a turn, where it tells of no run: notes of no run stand in front of a history. So it is of each line with no packet; and of a packet that is
 -- delivered, but for the run that the target may tell of first, directly behind the note of the packet.
-use Rattle.std.proofs.Common.{◌≡◌, ◌∙◌, refl, sym, ap, subst, ℕ, zero, suc, ◌+◌, ◌-◌, ◌==◌, ◌<◌, ◌≤◌, nat_lt, Bool, true, false, cond, List, [], ◌∷◌, ◌++◌, length, Option, Some, None, Result, Ok, Err, arith}
+use Rattle.std.proofs.Common.{◌≡◌, ◌∙◌, inl, inr, ◌⊎◌, refl, sym, ap, subst, ℕ, zero, suc, ◌+◌, ◌-◌, ◌==◌, ◌<◌, ◌≤◌, ◌||◌, not, nat_lt, Bool, true, false, cond, if◌then◌else◌, List, [], ◌∷◌, ◌++◌, length, Option, Some, None, Result, Ok, Err, arith}
 use Rattle.std.proofs.lemmas.Bool.Decides.{nat_tests}
 use Rattle.std.specs.Prelude.{slice_index_or, slice_set}
 use Rattle.async_packet.specs.Labels.{LabelParts}
 use Rattle.label_table.specs.declared.reply.Stale.{Stale}
 use Rattle.packet_store.specs.declared.sent.Sent.{Sent}
-use Rattle.packet_store.specs.Kept.{found_sent}
+use Rattle.packet_store.specs.Kept.{found_sent, is_flying}
+use Rattle.packet_store.specs.Stored.{deliver_step}
 use Rattle.rbc_disk.specs.Runs.{Told}
 use Rattle.sbp_bus.specs.declared.requests.Request.{Request}
 use Rattle.sbp_bus.specs.Generations.{id_of, node_of}
@@ -52,12 +53,14 @@ use Rattle.sbp_world.proofs.Agents.Management.Owned.{AreOwn, IsNoRun}
 use Rattle.sbp_world.proofs.Agents.Seats.{marked_same}
 use Rattle.sbp_world.proofs.Agents.UnitsTurns.{second_spares, sight_spares}
 use Rattle.sbp_target.proofs.Histories.Calling.{Good}
-use Rattle.sbp_world.proofs.Lists.RunTells.{AreRunless, IsRunless, RanBy, TellsRun, all_runless, delivery_tells, is_got, lapse_runless, of_none, of_run}
+use Rattle.sbp_world.proofs.Lists.RunTells.{AreRunless, IsRunless, NoneRan, RanBy, TellsRun, all_runless, delivery_tells, is_got, lapse_runless, of_none, of_run}
 use Rattle.sbp_world.proofs.Lists.Extends.{marked_fresh}
 
--- ---- notes
+-- ---- notes: of no run, and of no packet that is judged
 abbrev pub IsPlain : Note → Type 0
 IsPlain (notes.Ran i n k unit cdb bytes check) = ⊥
+IsPlain (notes.Got serial) = ⊥
+IsPlain (notes.Ignored serial cause) = ⊥
 IsPlain note = Unit {0}
 
 abbrev pub AllPlain : List Note → Type 0
@@ -157,6 +160,8 @@ others_plain (one ∷ later) o = (other_plain one o.0, others_plain later o.1)
 
 note_plain : (note : Note) → IsNoRun note → IsPlain note
 note_plain (notes.Ran i n k unit cdb bytes check) h = absurd h
+note_plain (notes.Got serial) h = absurd h
+note_plain (notes.Ignored serial cause) h = absurd h
 note_plain note h = tt
 
 own_plain : (side : List Side) → AreOwn side → ArePlain side
@@ -178,14 +183,18 @@ own_plain (sides.Unsolicited a ∷ later) h = absurd h.0
 own_plain (sides.Unsent a ∷ later) h = absurd h.0
 
 -- ---- a packet is delivered
--- notes of no run stand in front of others; or the target got the packet, told of a run, and then of none
-pub data Delivers (Ran : ℕ → Note → Type 0) (old new : List Note) : Type 0 where
-  no_run : Plainly old new → Delivers Ran old new
-  one_run : (serial : ℕ) (ran : Note) → Ran serial ran → Plainly (ran ∷ notes.Got serial ∷ old) new → Delivers Ran old new
+-- Nothing is told; or a packet is judged, and runs no command; or the target got the packet and told of a run. Then notes of no run stand in front.
+pub data Delivers (None_ran : ℕ → Judged → Type 0) (Ran : ℕ → Note → Type 0) (old new : List Note) : Type 0 where
+  none_judged : new ≡ old → Delivers None_ran Ran old new
+  no_run : (serial : ℕ) (judged : Judged) → None_ran serial judged → Plainly (judged_note serial judged ∷ old) new → Delivers None_ran Ran old new
+  one_run : (serial : ℕ) (ran : Note) → Ran serial ran → Plainly (ran ∷ notes.Got serial ∷ old) new → Delivers None_ran Ran old new
 
-plain_judged : (serial : ℕ) (judged : Judged) → IsPlain (judged_note serial judged)
-plain_judged serial judgements.Got = tt
-plain_judged serial (judgements.Ignored cause) = tt
+-- The packet runs no command.
+pub record IsRunlessBy (s : Scene) (run : Option Told) (serial : ℕ) (judged : Judged) : Type 0 where
+  pub sent : Sent
+  pub found : found_sent serial s.world.store.kept ≡ Some sent
+  pub none : sent.to ≡ 0 → NoneRan s.world.target sent run s.media
+  pub judged_is : sent.to ≡ 0 → judged ≡ (received run sent.generation sent.bytes (whole_of s.world.target s.media)).0
 
 -- The note is of a run of the agent of a place, as its unit may run the command.
 pub record IsRunBy (s : Scene) (run : Option Told) (serial : ℕ) (ran : Note) : Type 0 where
@@ -193,12 +202,15 @@ pub record IsRunBy (s : Scene) (run : Option Told) (serial : ℕ) (ran : Note) :
   pub found : found_sent serial s.world.store.kept ≡ Some sent
   pub to : sent.to ≡ 0
   pub place : ℕ
+  pub orb : ℕ
   pub cdb : List ℕ
   pub payload : List ℕ
   pub outcome : Outcome
-  pub by : RanBy s.world.target sent run s.media place cdb payload outcome
+  pub by : RanBy s.world.target sent run s.media place orb cdb payload outcome
   pub list : Option ℕ
   pub number : Option ℕ
+  pub list_is : list ≡ list_in (ticket_at s.world place orb)
+  pub number_is : number ≡ orb_in (ticket_at s.world place orb)
   pub is : ran ≡ notes.Ran (holder s.world place).initiator list number (holder s.world place).unit cdb payload (check_of outcome)
 
 module _ (s : Scene) (good : Good s.world.target) (serial : ℕ) (again : Bool) (run : Option Told) where
@@ -209,11 +221,14 @@ module _ (s : Scene) (good : Good s.world.target) (serial : ℕ) (again : Bool) 
   after_it = (delivered serial again run s).world
 
   abbrev C : Type 0
-  C = Delivers (IsRunBy s run) w.fresh after_it.fresh
+  C = Delivers (IsRunlessBy s run) (IsRunBy s run) w.fresh after_it.fresh
 
   module _ (one : Sent) (found : found_sent serial w.store.kept ≡ Some one) where
-    abbrev Ran : (place : ℕ) → (cdb payload : List ℕ) → Outcome → Type 0
-    Ran place cdb payload outcome = RanBy w.target one run s.media place cdb payload outcome
+    abbrev Ran : (place orb : ℕ) → (cdb payload : List ℕ) → Outcome → Type 0
+    Ran place orb cdb payload outcome = RanBy w.target one run s.media place orb cdb payload outcome
+
+    abbrev None_ran : Type 0
+    None_ran = NoneRan w.target one run s.media
 
     -- what is told behind the note of the packet
     module _ (zero_to : one.to ≡ 0) (outbox : OutboxState) (node : NodeState) where
@@ -223,14 +238,12 @@ module _ (s : Scene) (good : Good s.world.target) (serial : ℕ) (again : Bool) 
       abbrev handed : Judged → WorldState
       handed judged = handed_out 0 0 outbox (noted judged)
 
-      none_told : (judged : Judged) → AreRunless outbox.sides → Plainly w.fresh (handed judged).fresh
+      none_told : (judged : Judged) → AreRunless outbox.sides → Plainly (judged_note serial judged ∷ w.fresh) (handed judged).fresh
       none_told judged h =
           let u = noted judged in
-          plain_then w.fresh u.fresh (handed judged).fresh
-          (subst (λ ns. Plainly w.fresh (judged_note serial judged ∷ ns)) (sym (marked_fresh serial again (with_target node w))) (plain_one (judged_note serial judged) w.fresh (plain_judged serial judged)))
-          (handed_plain 0 0 outbox u (others_plain outbox.sides h))
+          subst (λ ns. Plainly (judged_note serial judged ∷ ns) (handed judged).fresh) (marked_fresh serial again (with_target node w)) (handed_plain 0 0 outbox u (others_plain outbox.sides h))
 
-      module _ (place orb : ℕ) (cdb payload : List ℕ) (outcome : Outcome) (more : List Side) (ran : Ran place cdb payload outcome) (h : AreRunless more) (is : outbox.sides ≡ sides.Ran place orb cdb payload outcome ∷ more) where
+      module _ (place orb : ℕ) (cdb payload : List ℕ) (outcome : Outcome) (more : List Side) (ran : Ran place orb cdb payload outcome) (h : AreRunless more) (is : outbox.sides ≡ sides.Ran place orb cdb payload outcome ∷ more) where
         abbrev u : WorldState
         u = noted judgements.Got
 
@@ -249,7 +262,14 @@ module _ (s : Scene) (good : Good s.world.target) (serial : ℕ) (again : Bool) 
         holder_is : holder u place ≡ holder w place
         holder_is = ap (λ ps. holder_at ps place) (marked_same serial again (with_target node w))
 
-        run_told : (judged : Judged) → judged ≡ judgements.Got → Delivers (IsRunBy s run) w.fresh (handed judged).fresh
+        ticket_is : ticket_at u place orb ≡ ticket_at w place orb
+        ticket_is = by (again || not (is_flying serial (with_target node w).store.kept))
+          where
+            by : (b : Bool) → ticket_at (with_note (notes.Got serial) (if b then with_target node w else record (with_target node w) { store = deliver_step (with_target node w).store serial })) place orb ≡ ticket_at w place orb
+            by true = refl
+            by false = refl
+
+        run_told : (judged : Judged) → judged ≡ judgements.Got → Delivers (IsRunlessBy s run) (IsRunBy s run) w.fresh (handed judged).fresh
         run_told judgements.Got e =
             one_run serial note
             (record {
@@ -257,20 +277,23 @@ module _ (s : Scene) (good : Good s.world.target) (serial : ℕ) (again : Bool) 
               found = found;
               to = zero_to;
               place = place;
+              orb = orb;
               cdb = cdb;
               payload = payload;
               outcome = outcome;
               by = ran;
               list = list_in (ticket_at u place orb);
               number = orb_in (ticket_at u place orb);
+              list_is = ap list_in ticket_is;
+              number_is = ap orb_in ticket_is;
               is = ap (λ (x : Holder). ran_note x (ticket_at u place orb) cdb payload outcome) holder_is;
             })
             (subst (λ ns. Plainly (note ∷ notes.Got serial ∷ ns) (handed judgements.Got).fresh) (marked_fresh serial again (with_target node w)) behind_run)
         run_told (judgements.Ignored cause) e = absurd (let no : judgements.Ignored cause ≡ judgements.Got = e in cc)
 
-      handed_delivers : (judged : Judged) → ((place : ℕ) (cdb payload : List ℕ) (outcome : Outcome) → Ran place cdb payload outcome → judged ≡ judgements.Got) → TellsRun Ran outbox.sides → Delivers (IsRunBy s run) w.fresh (handed judged).fresh
-      handed_delivers judged got (of_none h) = no_run (none_told judged h)
-      handed_delivers judged got (of_run place orb cdb payload outcome more ran h is) = run_told place orb cdb payload outcome more ran h is judged (got place cdb payload outcome ran)
+      handed_delivers : (judged : Judged) → judged ≡ (received run one.generation one.bytes (whole_of w.target s.media)).0 → ((place orb : ℕ) (cdb payload : List ℕ) (outcome : Outcome) → Ran place orb cdb payload outcome → judged ≡ judgements.Got) → TellsRun None_ran Ran outbox.sides → Delivers (IsRunlessBy s run) (IsRunBy s run) w.fresh (handed judged).fresh
+      handed_delivers judged is_so got (of_none n h) = no_run serial judged (record { sent = one; found = found; none = λ zero_is. n; judged_is = λ zero_is. is_so }) (none_told judged h)
+      handed_delivers judged is_so got (of_run place orb cdb payload outcome more ran h is) = run_told place orb cdb payload outcome more ran h is judged (got place orb cdb payload outcome ran)
 
     target_comes : one.to ≡ 0 → MayTell run one w.target s.media → C
     unfolding delivered target_received arrived
@@ -280,8 +303,8 @@ module _ (s : Scene) (good : Good s.world.target) (serial : ℕ) (again : Bool) 
         ap (λ (y : Option Arrival × (OutboxState × Scene)). (delivered_by serial again y).world)
         (received_is run serial s one found ∙ ap (λ b. cond b (at_target one.to (target_received run one w.target s.media) s) (initiator_received one s)) (to_zero one.to zero_to))
         ∙ ap (λ n. handed_out n 0 x.1.outbox (with_note (judged_note serial x.0) (marked serial again (with_target x.1.node w)))) zero_to in
-        subst (λ (v : WorldState). Delivers (IsRunBy s run) w.fresh v.fresh) (sym last_is)
-        (handed_delivers zero_to x.1.outbox x.1.node x.0 (λ place cdb payload outcome r. is_got w.target one run s.media place cdb payload outcome r) (delivery_tells w.target good.mid.size good.table.sound one run s.media may))
+        subst (λ (v : WorldState). Delivers (IsRunlessBy s run) (IsRunBy s run) w.fresh v.fresh) (sym last_is)
+        (handed_delivers zero_to x.1.outbox x.1.node x.0 refl (λ place orb cdb payload outcome r. is_got w.target one run s.media place orb cdb payload outcome r) (delivery_tells w.target good.mid.size good.table.sound one run s.media may))
 
     own_comes : (i : ℕ) → one.to ≡ suc i → i < length w.initiators → C
     unfolding delivered initiators_received arrived
@@ -293,15 +316,15 @@ module _ (s : Scene) (good : Good s.world.target) (serial : ℕ) (again : Bool) 
         let u = with_note note (marked serial again v) in
         let last_is : after_it ≡ handed_out one.to 0 x.1.0 u =
         ap (λ (y : Option Arrival × (OutboxState × Scene)). (delivered_by serial again y).world) (to_own run serial i s one found to_is ∙ own_inside one i s inside) in
-        let first : Plainly w.fresh u.fresh = subst (λ ns. Plainly w.fresh (note ∷ ns)) (sym (marked_fresh serial again v)) (plain_one note w.fresh (plain_judged serial x.0)) in
-        no_run (subst (λ (y : WorldState). Plainly w.fresh y.fresh) (sym last_is)
-        (plain_then w.fresh u.fresh (handed_out one.to 0 x.1.0 u).fresh first (handed_plain one.to 0 x.1.0 u (own_plain x.1.0.sides (own.receives one.generation one.bytes empty_outbox old tt)))))
+        no_run serial x.0 (record { sent = one; found = found; none = λ zero_is. absurd (omega (arith, zero_is, to_is)); judged_is = λ zero_is. absurd (omega (arith, zero_is, to_is)) })
+        (subst (λ (y : WorldState). Plainly (note ∷ w.fresh) y.fresh) (sym last_is)
+        (subst (λ ns. Plainly (note ∷ ns) (handed_out one.to 0 x.1.0 u).fresh) (marked_fresh serial again v) (handed_plain one.to 0 x.1.0 u (own_plain x.1.0.sides (own.receives one.generation one.bytes empty_outbox old tt)))))
 
     none_comes : (i : ℕ) → one.to ≡ suc i → length w.initiators ≤ i → C
     unfolding delivered
     none_comes i to_is outside =
         let same : after_it.fresh ≡ w.fresh = ap (λ (y : Option Arrival × (OutboxState × Scene)). (delivered_by serial again y).world.fresh) (to_own run serial i s one found to_is ∙ own_outside one i s outside) in
-        no_run (subst (Plainly w.fresh) (sym same) (plain_none w.fresh))
+        none_judged same
 
     comes_at : (to : ℕ) → one.to ≡ to → (one.to ≡ 0 → MayTell run one w.target s.media) → C
     comes_at zero e o = target_comes e (o e)
@@ -315,7 +338,7 @@ module _ (s : Scene) (good : Good s.world.target) (serial : ℕ) (again : Bool) 
   unfolding delivered received_step
   comes_by None e m =
       let same : after_it.fresh ≡ w.fresh = ap (λ o. (delivered_by serial again (received_by run o s)).world.fresh) e in
-      no_run (subst (Plainly w.fresh) (sym same) (plain_none w.fresh))
+      none_judged same
   comes_by (Some one) e m = comes_at one e one.to refl (λ z. subst (λ b. MayTold b run one s) (to_zero one.to z) m)
 
   pub delivery_comes : MayReceive run serial s → C
@@ -446,12 +469,16 @@ module _ (w : WorldState) where
 -- ---- a line that delivers one packet at most
 module _ (s : Scene) (good : Good s.world.target) (line serial : ℕ) (again : Bool) where
   -- what its run told
+  abbrev pub NoneRun : List (Option Told) → ℕ → Judged → Type 0
+  NoneRun [] packet judged = ⊥
+  NoneRun (one ∷ more) packet judged = IsRunlessBy s one packet judged
+
   abbrev pub OneRan : List (Option Told) → ℕ → Note → Type 0
   OneRan [] judged ran = ⊥
   OneRan (one ∷ more) judged ran = IsRunBy s one judged ran
 
-  pub one_comes : (b : Bool) (run : List (Option Told)) → MayIf b serial run s → Delivers (OneRan run) s.world.fresh (delivered_if b line serial again run s).world.fresh
+  pub one_comes : (b : Bool) (run : List (Option Told)) → MayIf b serial run s → Plainly s.world.fresh (delivered_if b line serial again run s).world.fresh ⊎ Delivers (NoneRun run) (OneRan run) s.world.fresh (delivered_if b line serial again run s).world.fresh
   one_comes true [] m = absurd m
-  one_comes true (one ∷ []) m = delivery_comes s good serial again one m
+  one_comes true (one ∷ []) m = inr (delivery_comes s good serial again one m)
   one_comes true (one ∷ other ∷ more) m = absurd m
-  one_comes false run m = no_run (plain_one (notes.Refused line no_packet) s.world.fresh tt)
+  one_comes false run m = inl (plain_one (notes.Refused line no_packet) s.world.fresh tt)

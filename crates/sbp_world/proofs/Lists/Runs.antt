@@ -184,7 +184,7 @@ module _ (wild : ℕ → Bool) (opened : (i : ℕ) → wild i ≡ false → Open
         take = all_take run.units logins run.start.disks here.world h site.held site.rows wild;
       }
 
-      hosts : (next : ℕ) (event : Event) → Hosts wild (asked next event ∷ hist past here.world) (without_notes here.world)
+      pub hosts : (next : ℕ) (event : Event) → Hosts wild (asked next event ∷ hist past here.world) (without_notes here.world)
       hosts next event = record {
         number = λ i b. (run_law.rows line (front entries) is_run i (inside i b)).number;
         rows = λ i b.
