@@ -9,6 +9,7 @@ pub mod Contents
 pub mod CutLists
 pub mod EndedLists
 pub mod Execution
+pub mod FedRuns
 pub mod FifoWrites
 pub mod Firsts
 pub mod InPlace
