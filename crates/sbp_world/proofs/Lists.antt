@@ -41,6 +41,14 @@ pub mod Endless
 pub mod EndReads
 pub mod Executes
 pub mod Extends
+pub mod FedFolds
+pub mod FedLaid
+pub mod FedNotes
+pub mod FedPieces
+pub mod FedPlaces
+pub mod FedReads
+pub mod FedRuns
+pub mod FedSteps
 pub mod FifoLines
 pub mod FifoManages
 pub mod FifoOwn

@@ -3,6 +3,7 @@ ghost use Rattle.sbp_world.specs.Lists.Along.{AlongLaw};
 ghost use Rattle.sbp_world.specs.Lists.Bases.{BasesLaw};
 ghost use Rattle.sbp_world.specs.Lists.Brings.{BringsLaw};
 ghost use Rattle.sbp_world.specs.Lists.CarriedRuns.{RunsReadLaw};
+ghost use Rattle.sbp_world.specs.Lists.FedRuns.{RunsFedLaw};
 ghost use Rattle.sbp_world.specs.Lists.Lists.{GrowingLaw};
 ghost use Rattle.sbp_world.specs.Lists.CutLists.{CutListsLaw};
 ghost use Rattle.sbp_world.specs.Lists.Closes.{ClosingLaw, OpenListsLaw};
@@ -141,6 +142,14 @@ pub fn commands_end_as_the_disk_allows()
 #[tactic(auto, using(crate::proofs::Lists::Executes::runs_read_law))]
 pub fn orbs_that_run_were_read()
     ensures { RunsReadLaw }
+{}
+
+/// And each such ORB runs on the buffer and with the data that the main requests of the agent brought since its turn came to the ORB,
+/// behind the response that brought it: the buffer by its page table, as that was read then, has the length of the append's, and
+/// the bytes of the command are the payloads of the reads of the buffer's chunks, joined in order.
+#[tactic(auto, using(crate::proofs::Lists::Executes::runs_fed_law))]
+pub fn orbs_that_run_were_fed()
+    ensures { RunsFedLaw }
 {}
 
 /// Each ORB that ends, but with the status failed, was read so too: its format is 3 exactly where its status is dummy; and where it

@@ -15,7 +15,7 @@ use Rattle.sbp_journal.specs.declared.event.Event.TheVariants as events
 use Rattle.sbp_journal.specs.declared.note.Note.{Note}
 use Rattle.sbp_journal.specs.declared.note.Note.TheVariants as notes
 use Rattle.sbp_journal.specs.Run.{Moment, asked, said}
-use Rattle.sbp_journal.specs.Wire.{terms}
+use Rattle.sbp_journal.specs.Wire.{Terms, opened as opened_by, terms}
 use Rattle.sbp_laws.specs.ExecutionLaw.{ExecutionAt, ExecutionLaw}
 use Rattle.sbp_laws.specs.Lawful.{injectors}
 use Rattle.sbp_laws.specs.Lists.{linked, orb, slot_at}
@@ -48,6 +48,7 @@ use Rattle.sbp_world.proofs.Hosts.Runs.{count_after, count_between}
 use Rattle.sbp_world.specs.Lists.CarriedRuns.{ReadAt, RunsAreRead, RunsReadLaw}
 use Rattle.sbp_world.specs.Lists.EndReads.{EndAt, EndsAreRead, EndsReadLaw}
 use Rattle.sbp_world.specs.Lists.DueRuns.{DueRunsLaw}
+use Rattle.sbp_world.specs.Lists.FedRuns.{FedAt, RunsAreFed, RunsFedLaw}
 use Rattle.sbp_world.specs.Lists.Execution.{ExecutionRunLaw, LoginAt, LoginsLaw, LoginsRunLaw, OutcomeAt, OutcomesLaw, OutcomesRunLaw}
 use Rattle.sbp_world.specs.Lists.Needs.{IsCalm, IsNamed, OpenAfter, OpenBefore, OpenBetween, OpenIn, OpenLists, OpenWhile}
 use Rattle.sbp_world.specs.Lists.Opens.{OpensLaw}
@@ -60,10 +61,13 @@ use Rattle.sbp_world.proofs.Wire.Starts.{laws_of}
 use Rattle.sbp_world.proofs.Lists.Endless as endless
 use Rattle.sbp_world.proofs.Lists.Endless.{IsEndBy, OneEnd, no_end, one_end}
 use Rattle.sbp_world.proofs.Lists.EndReads.{ended_so, plain_at as end_plain}
+use Rattle.sbp_world.proofs.Lists.FedPlaces.{HasHeard, has_heard, line_heard}
+use Rattle.sbp_world.proofs.Lists.FedRuns.{fed_so}
 use Rattle.sbp_world.proofs.Lists.OpenProved.{opens_law}
 use Rattle.sbp_world.proofs.Lists.OrbLines.{line_reads}
 use Rattle.sbp_world.proofs.Lists.OrbPlaces.{HasReads, has_reads}
-use Rattle.sbp_world.proofs.Lists.OrbWaits.{asked_everywhere}
+use Rattle.sbp_world.proofs.Lists.OrbWaits.{asked_everywhere, delivering_asks, repeating_asks}
+use Rattle.sbp_world.specs.Agents.AskedRuns.{AreAskedAt}
 use Rattle.sbp_world.proofs.Lists.Passes.{Facts, ready}
 use Rattle.sbp_world.proofs.Lists.Passing.{PassLaw}
 use Rattle.sbp_world.proofs.Lists.RunFits.{stands_asked}
@@ -79,7 +83,7 @@ use Rattle.sbp_world.proofs.Lists.Turns.{Ready}
 
 -- ---- the law at a moment
 abbrev RunAt : (ℕ → Bool) → List Disk → Moment → List Moment → Type 0
-RunAt wild start moment past = LoginAt start moment past × (OutcomeAt wild start moment past × ReadAt wild start moment past)
+RunAt wild start moment past = LoginAt start moment past × (OutcomeAt wild start moment past × (ReadAt wild start moment past × FedAt wild start moment past))
 
 abbrev Law : (ℕ → Bool) → List Disk → List Moment → Type 0
 Law wild start past = EachMoment (RunAt wild start) past
@@ -91,7 +95,7 @@ split (n ∷ a) b past = ap (λ ms. said n ∷ ms) (split a b past)
 module _ (wild : ℕ → Bool) (start : List Disk) where
   plain_at : (note : Note) → IsPlain note → (past : List Moment) → RunAt wild start (said note) past
   plain_at (notes.Ran i n k unit cdb bytes check) h past = absurd h
-  plain_at note h past = (tt, (tt, tt))
+  plain_at note h past = (tt, (tt, (tt, tt)))
 
   plain_law : (more : List Note) → AllPlain more → (past : List Moment) → Law wild start past → Law wild start (map said more ++ past)
   plain_law [] h past l = l
@@ -108,8 +112,8 @@ module _ (wild : ℕ → Bool) (start : List Disk) where
 
   -- a packet is delivered
   judged_at : (serial : ℕ) (judged : Judged) (past : List Moment) → RunAt wild start (said (judged_note serial judged)) past
-  judged_at serial judgements.Got past = (tt, (tt, tt))
-  judged_at serial (judgements.Ignored cause) past = (tt, (tt, tt))
+  judged_at serial judgements.Got past = (tt, (tt, (tt, tt)))
+  judged_at serial (judgements.Ignored cause) past = (tt, (tt, (tt, tt)))
 
   delivers_law : (past : List Moment) (None_ran : ℕ → Judged → Type 0) (Ran : ℕ → Note → Type 0) (old new : List Note) → ((serial : ℕ) (ran : Note) → Ran serial ran → (let now = said (notes.Got serial) ∷ (map said old ++ past) in PassLaw wild (said ran ∷ now) → RunAt wild start (said ran) now)) → Delivers None_ran Ran old new → PassLaw wild (map said new ++ past) → Law wild start (map said old ++ past) → Law wild start (map said new ++ past)
   delivers_law past None_ran Ran old new f (none_judged e) passes l = subst (λ ns. Law wild start (map said ns ++ past)) (sym e) l
@@ -117,14 +121,14 @@ module _ (wild : ℕ → Bool) (start : List Disk) where
   delivers_law past None_ran Ran old new f (one_run serial ran r q) passes l =
       let front = ran ∷ notes.Got serial ∷ old in
       let before : PassLaw wild (map said front ++ past) = passed q.more (map said front ++ past) (subst (PassLaw wild) (split q.more front past) (subst (λ ns. PassLaw wild (map said ns ++ past)) (sym q.is) passes)) in
-      plainly_law past front new q (f serial ran r before, ((tt, (tt, tt)), l))
+      plainly_law past front new q (f serial ran r before, ((tt, (tt, (tt, tt))), l))
 
   one_law : (past : List Moment) (None_ran : ℕ → Judged → Type 0) (Ran : ℕ → Note → Type 0) (old new : List Note) → ((serial : ℕ) (ran : Note) → Ran serial ran → (let now = said (notes.Got serial) ∷ (map said old ++ past) in PassLaw wild (said ran ∷ now) → RunAt wild start (said ran) now)) → Plainly old new ⊎ Delivers None_ran Ran old new → PassLaw wild (map said new ++ past) → Law wild start (map said old ++ past) → Law wild start (map said new ++ past)
   one_law past None_ran Ran old new f (inl q) passes l = plainly_law past old new q l
   one_law past None_ran Ran old new f (inr d) passes l = delivers_law past None_ran Ran old new f d passes l
 
   run_told : (past : List Moment) (s : Scene) → IsSet wild start past s → (run : Option Told) (serial : ℕ) (ran : Note) → IsRunBy s run serial ran → (let now = said (notes.Got serial) ∷ hist past s.world in PassLaw wild (said ran ∷ now) → RunAt wild start (said ran) now)
-  run_told past s set run serial ran r passes = let x = run_so wild start past s set run ran serial r passes.0 in (x.0, (x.1, read_so wild start past s set run ran serial r passes.0))
+  run_told past s set run serial ran r passes = let x = run_so wild start past s set run ran serial r passes.0 in (x.0, (x.1, (read_so wild start past s set run ran serial r passes.0, fed_so wild start past s set run ran serial r passes.0)))
 
   one_told : (past : List Moment) (s : Scene) (set : IsSet wild start past s) (line packet : ℕ) (again : Bool) (run : List (Option Told)) (serial : ℕ) (ran : Note) → OneRan s set.ready.good line packet again run serial ran → (let now = said (notes.Got serial) ∷ hist past s.world in PassLaw wild (said ran ∷ now) → RunAt wild start (said ran) now)
   one_told past s set line packet again [] serial ran r passes = absurd r
@@ -140,8 +144,8 @@ module _ (wild : ℕ → Bool) (start : List Disk) where
   next_law past s set one m passes l = lowest_law past s set one (lowest s.world) m passes l
 
   end_law : (past : List Moment) (done : Bool) → RunAt wild start (said (end_note done)) past × EndAt wild start (said (end_note done)) past
-  end_law past true = ((tt, (tt, tt)), tt)
-  end_law past false = ((tt, (tt, tt)), tt)
+  end_law past true = ((tt, (tt, (tt, tt))), tt)
+  end_law past false = ((tt, (tt, (tt, tt))), tt)
 
   -- ---- the ORBs that end were read
   abbrev E : List Moment → Type 0
@@ -203,7 +207,7 @@ module _ (wild : ℕ → Bool) (start : List Disk) where
         let named : (j : ℕ) → ends ms i n ≤ j → j < linked ms i n → IsNamed ms w place n j = subst (λ x. (j : ℕ) → ends ms i x ≤ j → j < linked ms i x → IsNamed ms w place x j) same o.named in
         let slot = slot_at ms i n number in
         let prepared = named_prepared units logins has start w h s place n number o.inside (named number from below) in
-        stands_asked ms i (initiator_at w i).lists.memory slot (orb n number) ((orbs i o.inside).stands slot (orb n number) prepared.small prepared.there)
+        stands_asked ms i (initiator_at w i).lists.memory slot (orb n number) prepared.small ((orbs i o.inside).stands slot (orb n number) prepared.small prepared.there)
 
 -- ---- over a run
 abbrev opened : (wild : ℕ → Bool) → (i : ℕ) → wild i ≡ false → OpensLaw
@@ -277,6 +281,15 @@ module _ (wild : ℕ → Bool) (line : ℕ) (run : Run) (few : run.initiators �
         has_reads run.units logins has start here.world b.holds (site wild (opened wild) line run few has small size entries short all fit b.past (length entries) b.holds b.is)
         (subst (λ ms. EachMoment (AskedAsGot start) ms) same_history (asked_everywhere.after_lines line front front_run has small size (as_front line run entries entries (so_far i own))))
 
+    site_here : Site start b.past here.world
+    site_here = site wild (opened wild) line run few has small size entries short all fit b.past (length entries) b.holds b.is
+
+    asked_so_far : (i : ℕ) → wild i ≡ false → EachMoment (AskedAsGot start) (hist b.past here.world)
+    asked_so_far i own = subst (λ ms. EachMoment (AskedAsGot start) ms) same_history (asked_everywhere.after_lines line front front_run has small size (as_front line run entries entries (so_far i own)))
+
+    line_heard_here : (next : ℕ) (event : Event) (r : Bool) → ((t : Terms) → opened_by event t ≡ record t { repeats = r }) → AreAskedAt start (asked next event ∷ hist b.past here.world) → Given (HasHeard start (asked next event ∷ hist b.past here.world) (without_notes here.world))
+    line_heard_here next event r as_opened waits i own = line_heard run.units logins has start here.world b.holds site_here next event r as_opened waits (asked_so_far i own)
+
     -- as a line begins
     module _ (next : ℕ) (event : Event) (e : is_reset event ≡ false) where
       begins : Holding run.units logins start (asked next event ∷ hist b.past here.world) (length entries + 1) (without_notes here.world)
@@ -297,13 +310,14 @@ module _ (wild : ℕ → Bool) (line : ℕ) (run : Run) (few : run.initiators �
             rows = (hosts wild (opened wild) line run few has small size entries short all fit b.past (length entries) b.holds b.is next event).rows;
           }
 
-      set_open : Given (HasReads start (asked next event ∷ hist b.past here.world) (without_notes here.world)) → IsSet wild start (asked next event ∷ hist b.past here.world) (begun here)
-      set_open reads = record {
+      set_open : Given (HasReads start (asked next event ∷ hist b.past here.world) (without_notes here.world)) → Given (HasHeard start (asked next event ∷ hist b.past here.world) (without_notes here.world)) → IsSet wild start (asked next event ∷ hist b.past here.world) (begun here)
+      set_open reads heard = record {
         ready = ready_now wild next event b.past here.world ready_here;
         units = begin_units.each;
         found = found_of wild start run.units logins has (without_notes here.world) begins begin_seats;
         appended = λ place c is_open own n list number from below. asked_here place c is_open own n list number from below;
         reads = reads;
+        heard = heard;
       }
 
     -- between deliveries of a line that follows
@@ -366,6 +380,10 @@ module _ (wild : ℕ → Bool) (line : ℕ) (run : Run) (few : run.initiators �
         reads_there i own =
             has_reads run.units logins has start (at told) holds_there (site_at wild (opened wild) line run few has small size entries short all fit b.past (length entries) b.holds b.is next event d told m) (asked_there i own)
 
+        heard_there : (i : ℕ) → wild i ≡ false → HasHeard start (hist now (at told)) (at told)
+        heard_there i own =
+            has_heard run.units logins has start (at told) holds_there (site_at wild (opened wild) line run few has small size entries short all fit b.past (length entries) b.holds b.is next event d told m) (asked_there i own)
+
         set_there : IsSet wild start now (after_all told (begun here))
         set_there = record {
           ready = ready_there;
@@ -376,10 +394,11 @@ module _ (wild : ℕ → Bool) (line : ℕ) (run : Run) (few : run.initiators �
               (site_at wild (opened wild) line run few has small size entries short all fit b.past (length entries) b.holds b.is next event d told m)
               lists c orbs_there;
           reads = reads_there;
+          heard = heard_there;
         }
 
       law_at : (told : List (Option Told)) → MayAll told (begun here) → Before told → AllCalm (hist now (at told)) → L (hist b.past here.world) → L (hist now (at told))
-      law_at [] m before c l = (((tt, (tt, tt)), l.0), ((tt, l.1.0), line_due start next event (hist b.past here.world) [] (plain_none []) l.1.1))
+      law_at [] m before c l = (((tt, (tt, (tt, tt))), l.0), ((tt, l.1.0), line_due start next event (hist b.past here.world) [] (plain_none []) l.1.1))
       law_at (one ∷ told) m before c l =
           let back = calm_at wild (opened wild) line run few has small size entries short all fit b.past (length entries) b.holds b.is next event d one told c in
           let rest : Before told = λ i own. (before i own).1 in
@@ -405,7 +424,7 @@ module _ (wild : ℕ → Bool) (line : ℕ) (run : Run) (few : run.initiators �
 
     plain_line : (next : ℕ) (event : Event) (new : List Note) → Plainly [] new → endless.Plainly [] new → L (hist b.past here.world) → L (map said new ++ asked next event ∷ hist b.past here.world)
     plain_line next event new q e l =
-        let past = asked next event ∷ hist b.past here.world in (plainly_law wild start past [] new q ((tt, (tt, tt)), l.0), (mildly_law wild start past [] new e (tt, l.1.0), line_due start next event (hist b.past here.world) new q l.1.1))
+        let past = asked next event ∷ hist b.past here.world in (plainly_law wild start past [] new q ((tt, (tt, (tt, tt))), l.0), (mildly_law wild start past [] new e (tt, l.1.0), line_due start next event (hist b.past here.world) new q l.1.1))
 
     desks : length (without_notes here.world).target.desks ≡ 8
     desks = ready_here.good.mid.size
@@ -428,9 +447,9 @@ module _ (wild : ℕ → Bool) (line : ℕ) (run : Run) (few : run.initiators �
     law_line next (events.Deliver serial) told q m before c p j l =
         let e = events.Deliver serial in
         let past = asked next e ∷ hist b.past here.world in
-        let set = set_open next e refl (λ i own. line_reads start next e false (λ t. refl) b.past here.world (reads_here i own)) in
+        let set = set_open next e refl (λ i own. line_reads start next e false (λ t. refl) b.past here.world (reads_here i own)) (λ i own. line_heard_here next e false (λ t. refl) (delivering_asks start (hist b.past here.world) site_here.asked next serial) i own) in
         let comes = one_comes (begun here) set.ready.good next serial false (is_in_flight serial (begun here).world) told m in (
-          one_law wild start past (NoneRun (begun here) set.ready.good next serial false told) (OneRan (begun here) set.ready.good next serial false told) [] _ (one_told wild start past (begun here) set next serial false told) comes p ((tt, (tt, tt)), l.0),
+          one_law wild start past (NoneRun (begun here) set.ready.good next serial false told) (OneRan (begun here) set.ready.good next serial false told) [] _ (one_told wild start past (begun here) set next serial false told) comes p ((tt, (tt, (tt, tt))), l.0),
           (
             ends_law wild start past (OneEnd (begun here) set.ready.good next serial false told) [] _ (one_ended wild start past (begun here) set next serial false told)
                 (endless.one_comes (begun here) set.ready.good next serial false (is_in_flight serial (begun here).world) told m) (tt, l.1.0),
@@ -440,9 +459,9 @@ module _ (wild : ℕ → Bool) (line : ℕ) (run : Run) (few : run.initiators �
     law_line next (events.Repeat serial) told q m before c p j l =
         let e = events.Repeat serial in
         let past = asked next e ∷ hist b.past here.world in
-        let set = set_open next e refl (λ i own. line_reads start next e true (λ t. refl) b.past here.world (reads_here i own)) in
+        let set = set_open next e refl (λ i own. line_reads start next e true (λ t. refl) b.past here.world (reads_here i own)) (λ i own. line_heard_here next e true (λ t. refl) (repeating_asks start (hist b.past here.world) site_here.asked next serial) i own) in
         let comes = one_comes (begun here) set.ready.good next serial true (may_repeat serial (begun here).world) told m in (
-          one_law wild start past (NoneRun (begun here) set.ready.good next serial true told) (OneRan (begun here) set.ready.good next serial true told) [] _ (one_told wild start past (begun here) set next serial true told) comes p ((tt, (tt, tt)), l.0),
+          one_law wild start past (NoneRun (begun here) set.ready.good next serial true told) (OneRan (begun here) set.ready.good next serial true told) [] _ (one_told wild start past (begun here) set next serial true told) comes p ((tt, (tt, (tt, tt))), l.0),
           (
             ends_law wild start past (OneEnd (begun here) set.ready.good next serial true told) [] _ (one_ended wild start past (begun here) set next serial true told)
                 (endless.one_comes (begun here) set.ready.good next serial true (may_repeat serial (begun here).world) told m) (tt, l.1.0),
@@ -456,7 +475,7 @@ module _ (wild : ℕ → Bool) (line : ℕ) (run : Run) (few : run.initiators �
     law_line next (events.Key unit key) told q m before c p j l = plain_line next (events.Key unit key) _ (keys (without_notes here.world) next unit key) (endless.keys (without_notes here.world) desks next unit key) l
 
   law_after : (entries : List Entry) → length entries + 2 < 2 ^ 32 → AreEntries (beginning run) entries → AreLines run entries → Given (OpenBefore line run entries) → AllCalm (moments_behind line run entries) → L (moments_behind line run entries)
-  law_after [] short all fit lists calm = (((tt, (tt, tt)), ((tt, (tt, tt)), tt)), ((tt, (tt, tt)), line_due start line (events.Begin run.initiators run.ready) [] (notes.Begin run.initiators run.ready ∷ []) (record { more = notes.Begin run.initiators run.ready ∷ []; is = refl; plain = (tt, tt) }) tt))
+  law_after [] short all fit lists calm = (((tt, (tt, (tt, tt))), ((tt, (tt, (tt, tt))), tt)), ((tt, (tt, tt)), line_due start line (events.Begin run.initiators run.ready) [] (notes.Begin run.initiators run.ready ∷ []) (record { more = notes.Begin run.initiators run.ready ∷ []; is = refl; plain = (tt, tt) }) tt))
   law_after (e ∷ before) short all fit lists calm =
       let s = after (beginning run) before in
       let few_lines : length before + 2 < 2 ^ 32 = omega arith in
@@ -514,7 +533,11 @@ module _ (wild : ℕ → Bool) (start : List Disk) where
 
   reads_part : (past : List Moment) → Law wild start past → RunsAreRead wild start past
   reads_part [] l = tt
-  reads_part (m ∷ past) l = (l.0.1.1, reads_part past l.1)
+  reads_part (m ∷ past) l = (l.0.1.1.0, reads_part past l.1)
+
+  fed_part : (past : List Moment) → Law wild start past → RunsAreFed wild start past
+  fed_part [] l = tt
+  fed_part (m ∷ past) l = (l.0.1.1.1, fed_part past l.1)
 
   -- with the laws of lists
   execution_at : (m : Moment) (past : List Moment) → ListsAt wild m past → RunsAt wild m past → RunAt wild start m past → ExecutionAt wild start m past
@@ -592,4 +615,14 @@ due_runs_law = record {
       let wild : ℕ → Bool = λ i. true in
       let now = map said (after_all told (begun (after (beginning run) run.entries))).world.fresh ++ asked next event ∷ history_of line run in
       where_due others run.start.disks now (between_law line run r has small size wild next event d told m (λ i f. nobody (OpenBetween line run next event told) f) (λ i f. nobody (IsCalm now i) f)).1.1;
+}
+
+pub runs_fed_law : RunsFedLaw
+runs_fed_law = record {
+  after_lines = λ line run r has small size so_far.
+      let wild = injectors (history_of line run) in
+      fed_part wild run.start.disks (history_of line run) (lines_law line run r has small size wild (λ i own. so_far) (λ i own. own)).0;
+  between = λ line run r has small size next event d told m so_far.
+      let now = map said (after_all told (begun (after (beginning run) run.entries))).world.fresh ++ asked next event ∷ history_of line run in
+      fed_part (injectors now) run.start.disks now (between_law line run r has small size (injectors now) next event d told m (λ i own. so_far) (λ i own. own)).0;
 }

@@ -25,7 +25,7 @@ use Rattle.sbp_journal.specs.Transactions.{Kind, Part, Sending, Transaction, ask
 use Rattle.sbp_journal.specs.Wire.{Terms, terms, waits}
 use Rattle.sbp_laws.specs.Packets as laws
 use Rattle.sbp_laws.specs.Packets.{receiver_in}
-use Rattle.sbp_laws.specs.Targets.{Target, agent_at, over, target_at}
+use Rattle.sbp_laws.specs.Targets.{Target, agent_at, for_agent, over, purpose_of, target_at}
 use Rattle.sbp_target.specs.declared.purpose.Purpose.{Purpose}
 use Rattle.sbp_target.specs.declared.purpose.Purpose.TheVariants as purposes
 use Rattle.sbp_target.specs.Agents.{sent_to}
@@ -216,6 +216,12 @@ module _ (units ready : ℕ) (has : 0 < units) (start : List Disk) {past : List 
     waits_so which f =
         let same : for_it.which ≡ which = which_same for_it.which which (sym serving_it.which_is ∙ f) in
         subst (λ (x : Which). serial_of x (agent_at T place) ≡ Some asked_by_it) same (asked.handed asked_by_it place for_it.which for_it.is).1
+
+    -- it is for that transaction of the agent, by the terms
+    pub purpose_so : (which : Which) → which_in (desk_at w.target place) source label ≡ Some which → purpose_of T asked_by_it ≡ for_agent place which
+    purpose_so which f =
+        let same : for_it.which ≡ which = which_same for_it.which which (sym serving_it.which_is ∙ f) in
+        subst (λ (x : Which). purpose_of T asked_by_it ≡ for_agent place x) same for_it.is
 
     -- ---- what it answers, by the history
     spelled : Spells p

@@ -18,10 +18,10 @@ use Rattle.sbp_world.proofs.Lists.ManageTerms.{none_is, untrue}
 use Rattle.sbp_world.proofs.Lists.OrbSteps.{Reads, lost_steps, new_reads, reply_steps, reset_reads}
 
 -- ---- lists of agents
-abbrev at_place : List Agent → ℕ → Agent
+abbrev pub at_place : List Agent → ℕ → Agent
 at_place agents q = slice_index_or agents q new_agent
 
-set_or : (agents : List Agent) (k : ℕ) (x : Agent) (q : ℕ) → ((q ≡ k) × (at_place (slice_set agents k x) q ≡ x)) ⊎ (at_place (slice_set agents k x) q ≡ at_place agents q)
+pub set_or : (agents : List Agent) (k : ℕ) (x : Agent) (q : ℕ) → ((q ≡ k) × (at_place (slice_set agents k x) q ≡ x)) ⊎ (at_place (slice_set agents k x) q ≡ at_place agents q)
 set_or [] k x q = inr refl
 set_or (a ∷ agents) zero x zero = inl (refl, refl)
 set_or (a ∷ agents) zero x (suc q) = inr refl
@@ -32,7 +32,7 @@ set_or (a ∷ agents) (suc k) x (suc q) = by (set_or agents k x q)
     by (inl h) = inl (ap suc h.0, h.1)
     by (inr h) = inr h
 
-map_or : (f : Agent → Agent) (agents : List Agent) (q : ℕ) → (at_place (map f agents) q ≡ f (at_place agents q)) ⊎ (at_place (map f agents) q ≡ new_agent)
+pub map_or : (f : Agent → Agent) (agents : List Agent) (q : ℕ) → (at_place (map f agents) q ≡ f (at_place agents q)) ⊎ (at_place (map f agents) q ≡ new_agent)
 map_or f [] q = inr refl
 map_or f (a ∷ agents) zero = inl refl
 map_or f (a ∷ agents) (suc q) = map_or f agents q
@@ -41,7 +41,7 @@ cut_if : (b : Bool) (a : Agent) → (cond b (cut_agent a) a ≡ cut_agent a) ⊎
 cut_if true a = inl refl
 cut_if false a = inr refl
 
-cut_or : (test : ℕ → Bool) (p : ℕ) (agents : List Agent) (q : ℕ) → (at_place (cut_where test p agents) q ≡ cut_agent (at_place agents q)) ⊎ (at_place (cut_where test p agents) q ≡ at_place agents q)
+pub cut_or : (test : ℕ → Bool) (p : ℕ) (agents : List Agent) (q : ℕ) → (at_place (cut_where test p agents) q ≡ cut_agent (at_place agents q)) ⊎ (at_place (cut_where test p agents) q ≡ at_place agents q)
 cut_or test p [] q = inr refl
 cut_or test p (a ∷ agents) zero = cut_if (test p) a
 cut_or test p (a ∷ agents) (suc q) = cut_or test (p + 1) agents q

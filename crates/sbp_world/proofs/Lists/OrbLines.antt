@@ -28,7 +28,7 @@ as_same t r (request label kind) sending = refl
 as_same t r (response label kind) sending = refl
 as_same t r no_packet sending = refl
 
-answered_same : (t : Terms) (r : Bool) (sent : Option Sending) → answered_in (record t { repeats = r }) sent ≡ answered_in t sent
+pub answered_same : (t : Terms) (r : Bool) (sent : Option Sending) → answered_in (record t { repeats = r }) sent ≡ answered_in t sent
 answered_same t r None = refl
 answered_same t r (Some sending) = as_same t r (part_of sending.bytes) sending
 

@@ -34,7 +34,7 @@ use Rattle.sbp_world.proofs.Lists.OrbSteps.{ReadAheadOf, Reads, new_reads}
 
 -- ---- what was brought is so later
 module _ (R S : ℕ → CommandOrb → Type 0) (f : (address : ℕ) (orb : CommandOrb) → R address orb → S address orb) where
-  ahead_more : (next : OrbPointer) (ahead : ReadAhead) → ReadAheadOf R next ahead → ReadAheadOf S next ahead
+  pub ahead_more : (next : OrbPointer) (ahead : ReadAhead) → ReadAheadOf R next ahead → ReadAheadOf S next ahead
   ahead_more next aheads.Idle h = tt
   ahead_more next (aheads.UnderWay rung) h = record { offset = h.offset; is = h.is }
   ahead_more next (aheads.Kept orb) h = record { offset = h.offset; is = h.is; read = f (aligned h.offset) orb h.read }
@@ -51,7 +51,7 @@ module _ (R S : ℕ → ℕ → CommandOrb → Type 0) (f : (place address : ℕ
         record { main = λ w p bytes g. f _ _ _ (b.main w p bytes g); ahead = λ w a offset n bytes g. f _ _ _ (b.ahead w a offset n bytes g) };
   }
 
-pub brought_more : (start : List Disk) (m : Moment) (past : List Moment) (place address : ℕ) (orb : CommandOrb) → IsBrought start past place address orb → IsBrought start (m ∷ past) place address orb
+unfoldable pub brought_more : (start : List Disk) (m : Moment) (past : List Moment) (place address : ℕ) (orb : CommandOrb) → IsBrought start past place address orb → IsBrought start (m ∷ past) place address orb
 brought_more start m past place address orb b = record {
   response = b.response;
   request = b.request;

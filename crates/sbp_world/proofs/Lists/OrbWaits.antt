@@ -101,13 +101,13 @@ module _ (start : List Disk) where
     all_twice : (place : ℕ) → place < 8 → WaitsForAsked (terms past) (initiator_at (over T) (terms past) place) (fifo_in (login_at (over T) place)) (agent_at (over T) place)
     all_twice = subst (λ (t : Target). (place : ℕ) → place < 8 → WaitsForAsked (terms past) (initiator_at t (terms past) place) (fifo_in (login_at t place)) (agent_at t place)) (sym (over_twice (target_at start past))) a.all
 
-    delivering_asks : (line serial : ℕ) → AreAskedAt start (asked line (events.Deliver serial) ∷ past)
+    pub delivering_asks : (line serial : ℕ) → AreAskedAt start (asked line (events.Deliver serial) ∷ past)
     delivering_asks line serial = record {
       handed = handed_twice;
       all = λ place b. asked_same (terms past) false (initiator_at (over T) (terms past) place) (fifo_in (login_at (over T) place)) (agent_at (over T) place) (all_twice place b);
     }
 
-    repeating_asks : (line serial : ℕ) → AreAskedAt start (asked line (events.Repeat serial) ∷ past)
+    pub repeating_asks : (line serial : ℕ) → AreAskedAt start (asked line (events.Repeat serial) ∷ past)
     repeating_asks line serial = record {
       handed = handed_twice;
       all = λ place b. asked_same (terms past) true (initiator_at (over T) (terms past) place) (fifo_in (login_at (over T) place)) (agent_at (over T) place) (all_twice place b);

@@ -47,6 +47,7 @@ use Rattle.sbp_world.specs.Lists.Execution.{LoginAt, OutcomeAt}
 use Rattle.sbp_world.specs.Lists.Lists.{orbs}
 use Rattle.sbp_world.specs.Lists.Needs.{IsFor, IsOpenAt, initiator_in, is_open_at}
 use Rattle.sbp_world.proofs.Lists.Lists.{laid}
+use Rattle.sbp_world.proofs.Lists.FedPlaces.{HasHeard}
 use Rattle.sbp_world.proofs.Lists.OrbPlaces.{HasReads}
 use Rattle.sbp_world.proofs.Lists.Passing.{GoesOn, PassAt, RunsNext}
 use Rattle.sbp_world.proofs.Lists.RunFits.{WasAsked, runs_on}
@@ -67,6 +68,7 @@ pub record IsSet (wild : ℕ → Bool) (start : List Disk) (past : List Moment) 
   pub found : AreFound start past s.world s.world.target.logins.places
   pub appended : AreAsked wild (hist past s.world) s.world
   pub reads : (i : ℕ) → wild i ≡ false → HasReads start past s.world
+  pub heard : (i : ℕ) → wild i ≡ false → HasHeard start (hist past s.world) s.world
 
 -- ---- an agent that runs a command has a list
 unlisted_main : (place : ℕ) (plain : PlainDisk) (told : Told) (phase : Phase) (m : Machine) (answer : Answer) → has_list phase ≡ false → (served place plain told (advanced phase m answer).0 (advanced phase m answer).1).0.ran ≡ None

@@ -95,7 +95,7 @@ module _ (wild : ℕ → Bool) (start : List Disk) (past : List Moment) (s : Sce
     not_dummy e = untrue (sym (runs wild start past s set run ran serial r own).proper ∙ ap (λ n. n == 3) e)
 
     module _ (n number : ℕ) (next : RunsNext now i n number r.cdb r.payload) where
-      present_is : step.1.present ≡ address_of now i n number
+      pub present_is : step.1.present ≡ address_of now i n number
       present_is =
           (runs wild start past s set run ran serial r own).turn.place
           ∙ (ap (λ x. start_of (windows.Orb (slot_at ms i x (heard_by r.by.which M (answer_in r.by.packet) (goes wild start past s set run ran serial r own).progress).ended))) (list_is wild start past s set run ran serial r own n number next)

@@ -1,0 +1,79 @@
+-- On which buffer and with which data a command runs (NCITS 325-1998, command block agents, command block ORB and page tables), of an initiator that injected no packets. Behind the
+-- response that brought the ORB the agent of its place turned to it, and has read since, one read behind the other: its page table, where the ORB has one, and its data. The
+-- buffer by that table has the length of the append's; and the bytes with which the command runs are the payloads of those reads, joined in order.
+use Rattle.std.specs.Prelude.{◌≡◌, ◌<◌, ◌≤◌, ◌==◌, ℕ, Bool, false, if◌then◌else◌, List, [], ◌∷◌, ◌++◌, length, map, Option, Some, None, IsSomeAnd}
+use Rattle.command_agent.specs.Machine as agent
+use Rattle.command_agent.specs.declared.step.Which.TheVariants.{Ahead, Main}
+use Rattle.orb_layout.specs.declared.command.CommandOrb.{CommandOrb}
+use Rattle.page_table.specs.Buffer.{bytes_of, chunks}
+use Rattle.rbc_disk.specs.Disk.{Disk}
+use Rattle.rbc_disk.specs.Runs.{Told}
+use Rattle.sbp_journal.specs.Run.{Moment, asked, said}
+use Rattle.sbp_journal.specs.Wire.{Terms, terms}
+use Rattle.sbp_journal.specs.declared.event.Event.{Event}
+use Rattle.sbp_journal.specs.declared.note.Note.TheVariants as notes
+use Rattle.sbp_laws.specs.CarriedBytes.{Moved, address_of, buffer_in, joined, moved_by, payload_at}
+use Rattle.sbp_laws.specs.Lawful.{injectors}
+use Rattle.sbp_laws.specs.Packets.{access_at, answered_at, receiver_in}
+use Rattle.sbp_laws.specs.Targets.{Purpose, Target, for_agent, for_manager, for_nobody, is_serial, over, purpose_of, target_at}
+use Rattle.sbp_laws.specs.Terms.{plan_of, request_at}
+use Rattle.sbp_laws.specs.Turns.{EachMoment}
+use Rattle.sbp_world.specs.Histories.{history_of}
+use Rattle.sbp_world.specs.Runs.{Run, after, beginning}
+use Rattle.sbp_world.specs.Settling.{MayAll, after_all}
+use Rattle.sbp_world.specs.Worlds.{begun}
+use Rattle.sbp_world.specs.Agents.Management.Terms.{DeliversMore}
+use Rattle.sbp_world.specs.Hosts.Runs.{IsRun}
+use Rattle.sbp_world.specs.Lists.Needs.{OpenBefore, OpenBetween}
+use Rattle.sbp_world.specs.Lists.OrbReads.{IsBrought}
+
+-- ---- what the main transactions of the agent of a place brought
+abbrev pub is_main_of : Purpose → ℕ → Bool
+is_main_of (for_agent place Main) own = place == own
+is_main_of (for_agent place Ahead) own = false
+is_main_of for_manager own = false
+is_main_of for_nobody own = false
+
+abbrev pub main_moved : Terms → Target → (place serial : ℕ) → Option ℕ → List Moved
+main_moved wire target place serial None = []
+main_moved wire target place serial (Some request) =
+    if is_main_of (purpose_of target request) place then moved_by (access_at wire request) (payload_at wire serial) else []
+
+-- by a packet that is got behind this
+abbrev pub main_read : List Disk → List Moment → (place serial : ℕ) → List Moved
+main_read start past place serial =
+    if is_serial (receiver_in ((terms past).sent serial)) 0
+    then main_moved (terms past) (over (target_at start past)) place serial (answered_at (terms past) serial)
+    else []
+
+-- in later moments, behind those before, in order
+abbrev pub own_reads : List Disk → (place : ℕ) → (later before : List Moment) → List Moved
+own_reads start place [] before = []
+own_reads start place (said (notes.Got serial) ∷ later) before = own_reads start place later before ++ main_read start (later ++ before) place serial
+own_reads start place (moment ∷ later) before = own_reads start place later before
+
+-- ---- a run
+-- since the agent turned to the ORB, behind the response that brought it
+pub record RunIsFed (start : List Disk) (past : List Moment) (i n k : ℕ) (bytes : List ℕ) : Type 0 where
+  pub place : ℕ
+  pub orb : CommandOrb
+  pub brought : IsBrought start past place (address_of past i n k) orb
+  pub later : List Moment
+  pub between : List Moment
+  pub is : later ++ (between ++ said (notes.Got brought.response) ∷ brought.earlier) ≡ past
+  pub reads : List Moved
+  pub reads_are : reads ≡ own_reads start place later (between ++ said (notes.Got brought.response) ∷ brought.earlier)
+  pub size : IsSomeAnd (request_at past i n k) (λ request. bytes_of (buffer_in orb reads) ≡ (plan_of request.buffer).bytes)
+  pub payloads : bytes ≡ joined (chunks (agent.limit_of orb) (buffer_in orb reads)) reads
+
+abbrev pub FedAt : (ℕ → Bool) → List Disk → Moment → List Moment → Type 0
+FedAt wild start (said (notes.Ran i (Some n) (Some k) unit cdb bytes check)) past = wild i ≡ false → RunIsFed start past i n k bytes
+FedAt wild start moment past = Unit {0}
+
+abbrev pub RunsAreFed : (ℕ → Bool) → List Disk → List Moment → Type 0
+RunsAreFed wild start past = EachMoment (FedAt wild start) past
+
+-- After every line of every run, and behind each delivery of a line that may follow, where lists were open as they should be before in this run.
+pub record RunsFedLaw : Type 0 where
+  pub after_lines : (line : ℕ) (run : Run) → IsRun run → 0 < run.units → run.units ≤ 4 → length run.start.disks ≡ run.units → OpenBefore line run run.entries → RunsAreFed (injectors (history_of line run)) run.start.disks (history_of line run)
+  pub between : (line : ℕ) (run : Run) → IsRun run → 0 < run.units → run.units ≤ 4 → length run.start.disks ≡ run.units → (next : ℕ) (event : Event) → DeliversMore event → (told : List (Option Told)) → MayAll told (begun (after (beginning run) run.entries)) → OpenBetween line run next event told → (let w = (after_all told (begun (after (beginning run) run.entries))).world in let now = map said w.fresh ++ asked next event ∷ history_of line run in RunsAreFed (injectors now) run.start.disks now)
