@@ -48,6 +48,7 @@ pub mod FedPlaces
 pub mod FedReads
 pub mod FedRuns
 pub mod FedSteps
+pub mod FedWindows
 pub mod FifoLines
 pub mod FifoManages
 pub mod FifoOwn
