@@ -2,7 +2,7 @@
 -- response that brought the ORB the agent of its place turned to it, and has read since, one read behind the other: its page table, where the ORB has one, and its data. The
 -- buffer by that table has the length of the append's; and the bytes with which the command runs are the payloads of those reads, joined in order; so they are too by all reads of the target, where the others begin
 -- elsewhere than in the page table and the buffer of the ORB's slot.
-use Rattle.std.specs.Prelude.{◌≡◌, ◌<◌, ◌≤◌, ◌==◌, ℕ, Bool, false, if◌then◌else◌, List, [], ◌∷◌, ◌++◌, length, map, Option, Some, None, IsSomeAnd}
+use Rattle.std.specs.Prelude.{◌≡◌, ◌⊎◌, ◌<◌, ◌≤◌, ◌==◌, ℕ, Bool, false, if◌then◌else◌, List, [], ◌∷◌, ◌++◌, length, map, Option, Some, None, IsSomeAnd}
 use Rattle.bus_memory.specs.declared.window.Window.TheVariants as windows
 use Rattle.bus_memory.specs.Windows.{window_at}
 use Rattle.command_agent.specs.Machine as agent
@@ -15,7 +15,7 @@ use Rattle.sbp_journal.specs.Run.{Moment, asked, said}
 use Rattle.sbp_journal.specs.Wire.{Terms, terms}
 use Rattle.sbp_journal.specs.declared.event.Event.{Event}
 use Rattle.sbp_journal.specs.declared.note.Note.TheVariants as notes
-use Rattle.sbp_laws.specs.CarriedBytes.{Moved, address_of, buffer_in, joined, moved_by, payload_at}
+use Rattle.sbp_laws.specs.CarriedBytes.{Moved, address_of, buffer_in, joined, moved_by, payload_at, read_by, reads_since}
 use Rattle.sbp_laws.specs.Lawful.{injectors}
 use Rattle.sbp_laws.specs.Lists.{slot_at}
 use Rattle.sbp_laws.specs.Packets.{access_at, answered_at, receiver_in}
@@ -67,6 +67,37 @@ pub data AreBeside (slot : ℕ) : List Moved → List Moved → Type 0 where
   no_more : AreBeside slot [] []
   own_read : (one : Moved) (all own : List Moved) → AreBeside slot all own → AreBeside slot (one ∷ all) (one ∷ own)
   other_read : (one : Moved) (all own : List Moved) → IsElsewhere slot one → AreBeside slot all own → AreBeside slot (one ∷ all) own
+
+-- all of them do
+abbrev pub AllElsewhere : (slot : ℕ) → List Moved → Type 0
+AllElsewhere slot [] = Unit {0}
+AllElsewhere slot (one ∷ more) = IsElsewhere slot one × AllElsewhere slot more
+
+-- what the target gets of an initiator by a packet, which is not the response itself, begins elsewhere
+pub record IsOther (past : List Moment) (i slot response serial : ℕ) : Type 0 where
+  pub again : (serial == response) ≡ false
+  pub elsewhere : AllElsewhere slot (read_by (terms past) i serial (answered_at (terms past) serial))
+
+-- or the main transaction of the agent of a place brought it
+pub record IsOwnOrOther (start : List Disk) (past : List Moment) (i place slot response serial : ℕ) : Type 0 where
+  pub again : (serial == response) ≡ false
+  pub own : (read_by (terms past) i serial (answered_at (terms past) serial) ≡ main_read start past place serial) ⊎ ((main_read start past place serial ≡ []) × AllElsewhere slot (read_by (terms past) i serial (answered_at (terms past) serial)))
+
+abbrev pub AreOthers : (i slot response : ℕ) → (between before : List Moment) → Type 0
+AreOthers i slot response [] before = Unit {0}
+AreOthers i slot response (said (notes.Got serial) ∷ between) before = IsOther (between ++ before) i slot response serial × AreOthers i slot response between before
+AreOthers i slot response (moment ∷ between) before = AreOthers i slot response between before
+
+abbrev pub AreOwnOrOthers : List Disk → (i place slot response : ℕ) → (later before : List Moment) → Type 0
+AreOwnOrOthers start i place slot response [] before = Unit {0}
+AreOwnOrOthers start i place slot response (said (notes.Got serial) ∷ later) before =
+    IsOwnOrOther start (later ++ before) i place slot response serial × AreOwnOrOthers start i place slot response later before
+AreOwnOrOthers start i place slot response (moment ∷ later) before = AreOwnOrOthers start i place slot response later before
+
+-- Then what the target got of the initiator since the response is what the agent read, and others.
+abbrev pub BesideLaw : Type 0
+BesideLaw =
+    (start : List Disk) (i place slot response : ℕ) (later between earlier : List Moment) → (let behind = said (notes.Got response) ∷ earlier in AreOthers i slot response between behind → AreOwnOrOthers start i place slot response later (between ++ behind) → AreBeside slot (reads_since (later ++ (between ++ behind)) i response) (own_reads start place later (between ++ behind)))
 
 -- ---- a run
 -- since the agent turned to the ORB, behind the response that brought it
