@@ -48,7 +48,9 @@ pub mod FedPieces
 pub mod FedPlaces
 pub mod FedReads
 pub mod FedRuns
+pub mod FedSince
 pub mod FedSteps
+pub mod FedWindows
 pub mod FifoLines
 pub mod FifoManages
 pub mod FifoOwn

@@ -124,6 +124,7 @@ pub use of_lists::orbs_that_run_were_fed;
 pub use of_lists::places_are_read_as_they_stood;
 pub use of_lists::pointers_name_first_orbs;
 pub use of_lists::present_lists_are_the_latest;
+pub use of_lists::reads_are_own_or_elsewhere;
 pub use of_lists::reads_are_sent_behind_appends;
 pub use of_lists::registers_are_of_the_login;
 pub use of_lists::sessions_have_their_logins;

@@ -3,7 +3,7 @@ ghost use Rattle.sbp_world.specs.Lists.Along.{AlongLaw};
 ghost use Rattle.sbp_world.specs.Lists.Bases.{BasesLaw};
 ghost use Rattle.sbp_world.specs.Lists.Brings.{BringsLaw};
 ghost use Rattle.sbp_world.specs.Lists.CarriedRuns.{RunsReadLaw};
-ghost use Rattle.sbp_world.specs.Lists.FedRuns.{RunsFedLaw};
+ghost use Rattle.sbp_world.specs.Lists.FedRuns.{BesideLaw, RunsFedLaw};
 ghost use Rattle.sbp_world.specs.Lists.Lists.{GrowingLaw};
 ghost use Rattle.sbp_world.specs.Lists.CutLists.{CutListsLaw};
 ghost use Rattle.sbp_world.specs.Lists.Closes.{ClosingLaw, OpenListsLaw};
@@ -150,6 +150,13 @@ pub fn orbs_that_run_were_read()
 #[tactic(auto, using(crate::proofs::Lists::Executes::runs_fed_law))]
 pub fn orbs_that_run_were_fed()
     ensures { RunsFedLaw }
+{}
+
+/// By every history, what the target got of an initiator since a response is what the agent of a place read since its turn came, and
+/// others that begin elsewhere than in a slot: where each packet that it got since brought the one or the other.
+#[tactic(auto, using(crate::proofs::Lists::FedSince::beside_law))]
+pub fn reads_are_own_or_elsewhere()
+    ensures { BesideLaw }
 {}
 
 /// Each ORB that ends, but with the status failed, was read so too: its format is 3 exactly where its status is dummy; and where it

@@ -207,7 +207,7 @@ module _ (wild : ℕ → Bool) (start : List Disk) where
         let named : (j : ℕ) → ends ms i n ≤ j → j < linked ms i n → IsNamed ms w place n j = subst (λ x. (j : ℕ) → ends ms i x ≤ j → j < linked ms i x → IsNamed ms w place x j) same o.named in
         let slot = slot_at ms i n number in
         let prepared = named_prepared units logins has start w h s place n number o.inside (named number from below) in
-        stands_asked ms i (initiator_at w i).lists.memory slot (orb n number) prepared.small ((orbs i o.inside).stands slot (orb n number) prepared.small prepared.there)
+        stands_asked ms i (initiator_at w i).lists.memory slot (orb n number) prepared.small (λ cmd command. s.filled i o.inside slot n number cmd prepared.small prepared.there command) ((orbs i o.inside).stands slot (orb n number) prepared.small prepared.there)
 
 -- ---- over a run
 abbrev opened : (wild : ℕ → Bool) → (i : ℕ) → wild i ≡ false → OpensLaw

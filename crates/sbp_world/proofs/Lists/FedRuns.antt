@@ -37,7 +37,11 @@ use Rattle.sbp_world.specs.Telling.{holder}
 use Rattle.sbp_world.specs.Worlds.{Scene, WorldState}
 use Rattle.sbp_world.proofs.Agents.Management.Still.{hist}
 use Rattle.sbp_world.proofs.Agents.UnitsRun.{ahead_none, none_if}
-use Rattle.sbp_world.specs.Lists.FedRuns.{FedAt, RunIsFed}
+use Rattle.agent_laws.specs.Along.Steps.{heard_by}
+use Rattle.sbp_laws.specs.Lists.{slot_at}
+use Rattle.sbp_world.specs.Lists.FedRuns.{AreBeside, FedAt, RunIsFed}
+use Rattle.sbp_world.proofs.Lists.FedWindows.{beside_joined, beside_read}
+use Rattle.sbp_world.proofs.Lists.Slots.{IsFilled}
 use Rattle.sbp_world.specs.Lists.Lists.{IsBufferOf, IsOrbOf}
 use Rattle.sbp_world.specs.Lists.OrbReads.{IsBrought}
 use Rattle.sbp_world.proofs.Lists.Brought.{has_a_table}
@@ -48,7 +52,7 @@ use Rattle.sbp_world.proofs.Lists.FedSteps.{FedStep, Feeding, HasRun, Hears, Tab
 use Rattle.sbp_world.proofs.Lists.Passing.{PassAt, RunsNext}
 use Rattle.sbp_world.proofs.Lists.RunFits.{WasAsked}
 use Rattle.sbp_world.proofs.Lists.Runless.{IsRunBy}
-use Rattle.sbp_world.proofs.Lists.RunOutcomes.{IsSet, asked_so, is_open, request_is, runs, small}
+use Rattle.sbp_world.proofs.Lists.RunOutcomes.{IsSet, asked_so, goes, is_open, list_is, opened, orb_is, request_is, runs, small}
 use Rattle.sbp_world.proofs.Lists.RunReads.{present_is}
 use Rattle.sbp_world.proofs.Lists.ManageTerms.{untrue}
 
@@ -130,6 +134,33 @@ module _ (command : Option Cmd) (request : Option Request) (slot : ℕ) (a : Was
       let fit : AllFit pieces_there pieces = all_fit (laid_out slot cmd cmd.segments) (limit_of orb) wanted (sound t) positive pieces (subst (λ (xs : List Segment). InTurn xs (limit_of orb) wanted 0 pieces) laid_is turn) in
       sym (ap (λ (xs : List Segment). joined (chunks (limit_of orb) xs) (tables ++ pieces)) (buffer_by (reads_table orb) refl t ∙ laid_is) ∙ tables_by (reads_table orb) refl t ∙ fit_joined pieces_there pieces fit)
 
+  -- and so it is by all reads
+  filled : IsFilled slot cmd
+  filled = subst (IsFilled slot) (sym cmd_is) a.filled
+
+  module _ (all : List Moved) (beside : AreBeside slot all (tables ++ pieces)) where
+    plain_beside : (has : Bool) → orb.has_table ≡ has → reads_table orb ≡ false → buffer_in orb all ≡ buffer_in orb (tables ++ pieces)
+    plain_beside true e f = absurd (no_empty_table cmd.segments orb.has_table orb.data_size (ap (λ (x : CommandOrb). x.has_table) o.orb) (ap (λ (x : CommandOrb). x.data_size) o.orb) e f)
+    plain_beside false e f =
+        ap (λ b. cond b (elements_of (read_at orb.descriptor all)) (single orb.descriptor orb.data_size)) e
+        ∙ sym (ap (λ b. cond b (elements_of (read_at orb.descriptor (tables ++ pieces))) (single orb.descriptor orb.data_size)) e)
+
+    buffer_beside : (b : Bool) → reads_table orb ≡ b → buffer_in orb all ≡ buffer_in orb (tables ++ pieces)
+    buffer_beside true e =
+        ap (λ xs. cond orb.has_table (elements_of xs) (single orb.descriptor orb.data_size)) (beside_read slot a.small orb.descriptor (has_a_table command slot orb o e).descriptor all (tables ++ pieces) beside)
+    buffer_beside false e = plain_beside orb.has_table refl e
+
+    pub size_beside : TableBy (reads_table orb) orb segments tables → bytes_of (buffer_in orb all) ≡ (plan_of (buffer_of a.cmd)).bytes
+    size_beside t = ap (λ (xs : List Segment). bytes_of xs) (buffer_beside (reads_table orb) refl) ∙ size_is t
+
+    pub joined_beside : (wanted : ℕ) → TableBy (reads_table orb) orb segments tables → InTurn segments (limit_of orb) wanted 0 pieces → all_bytes pieces ≡ joined (chunks (limit_of orb) (buffer_in orb all)) all
+    joined_beside wanted t turn =
+        let same : buffer_in orb (tables ++ pieces) ≡ laid_out slot cmd cmd.segments = buffer_by (reads_table orb) refl t ∙ laid_is in
+        joined_is wanted t turn
+        ∙ ap (λ (xs : List Segment). joined (chunks (limit_of orb) xs) (tables ++ pieces)) same
+        ∙ sym (beside_joined slot a.small cmd filled (limit_of orb) positive (sound t) all (tables ++ pieces) beside)
+        ∙ sym (ap (λ (xs : List Segment). joined (chunks (limit_of orb) xs) all) (buffer_beside (reads_table orb) refl ∙ same))
+
 -- ---- a command runs behind the answer to a main transaction
 ahead_runs_none : (m : Machine) (place : ℕ) (plain : PlainDisk) (told : Option Told) (answer : Answer) → (reply_step m place plain told Ahead answer).0.ran ≡ None
 unfolding reply_step
@@ -204,6 +235,25 @@ module _ (wild : ℕ → Bool) (start : List Disk) (past : List Moment) (s : Sce
           let x = runs wild start past s set run ran serial r own in
           r.by.payload_is ∙ (d.bytes ∙ joined_is _ _ _ a step.1.orb x.good.own step.1.segments x.buffer d.tables d.pieces has_run.wanted d.table d.turn)
 
+      slot_is : slot_at now i n number ≡ slot_at ms i (opened wild start past s set run ran serial r own).n (heard_by r.by.which M (answer_in r.by.packet) (goes wild start past s set run ran serial r own).progress).ended
+      slot_is =
+          sym (ap (λ x. slot_at ms i x (heard_by r.by.which M (answer_in r.by.packet) (goes wild start past s set run ran serial r own).progress).ended) (list_is wild start past s set run ran serial r own n number next)
+          ∙ ap (λ x. slot_at ms i n x) (orb_is wild start past s set run ran serial r own n number next))
+
+      sized_beside : (all : List Moved) → AreBeside (slot_at now i n number) all reads → IsSomeAnd (request_at now i n number) (λ request. bytes_of (buffer_in step.1.orb all) ≡ (plan_of request.buffer).bytes)
+      sized_beside all beside =
+          let a = asked_so wild start past s set run ran serial r own in
+          let x = runs wild start past s set run ran serial r own in
+          subst (λ q. IsSomeAnd q (λ request. bytes_of (buffer_in step.1.orb all) ≡ (plan_of request.buffer).bytes)) (sym (request_is wild start past s set run ran serial r own n number next))
+          (size_beside _ _ _ a step.1.orb x.good.own step.1.segments x.buffer d.tables d.pieces all (subst (λ slot. AreBeside slot all reads) slot_is beside) d.table)
+
+      paid_beside : (all : List Moved) → AreBeside (slot_at now i n number) all reads → r.payload ≡ joined (chunks (limit_of step.1.orb) (buffer_in step.1.orb all)) all
+      paid_beside all beside =
+          let a = asked_so wild start past s set run ran serial r own in
+          let x = runs wild start past s set run ran serial r own in
+          r.by.payload_is
+          ∙ (d.bytes ∙ joined_beside _ _ _ a step.1.orb x.good.own step.1.segments x.buffer d.tables d.pieces all (subst (λ slot. AreBeside slot all reads) slot_is beside) has_run.wanted d.table d.turn)
+
       run_fed : RunIsFed start now i n number r.payload
       run_fed = record {
         place = place;
@@ -216,6 +266,8 @@ module _ (wild : ℕ → Bool) (start : List Disk) (past : List Moment) (s : Sce
         reads_are = t.reads_are;
         size = sized;
         payloads = paid_so;
+        size_beside = sized_beside;
+        payloads_beside = paid_beside;
       }
 
   abbrev note_of : Option ℕ → Option ℕ → Note

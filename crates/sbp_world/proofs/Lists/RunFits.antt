@@ -31,23 +31,26 @@ use Rattle.sbp_laws.specs.Lists.{Orb, command_at}
 use Rattle.sbp_laws.specs.Terms.{Request, data_of, plan_of, request_at}
 use Rattle.sbp_world.specs.Hosts.Orbs.{StandsIn, request_of}
 use Rattle.sbp_world.specs.Lists.Lists.{IsBufferOf, IsDataIn, IsDataOf, IsOrbOf}
+use Rattle.sbp_world.proofs.Lists.Slots.{IsFilled}
 
 -- the command of an append, and its request; its buffer is laid out in a slot, as long as the command says
 pub record WasAsked (command : Option Cmd) (request : Option Request) (slot : ℕ) : Type 0 where
   pub cmd : Cmd
   pub command_is : command ≡ Some cmd
   pub small : slot < 32
+  pub filled : IsFilled slot cmd
   pub request_is : request ≡ Some (request_of cmd)
   pub fits : IsCommand cmd
   pub fills : (plan_of (buffer_of cmd)).bytes ≡ cmd.length
   pub direction : (cmd.to_initiator && nat_lt 0 cmd.length) ≡ (plan_of (buffer_of cmd)).to_initiator
   pub whole : bytes_of (laid_out slot cmd cmd.segments) ≡ cmd.length
 
-pub stands_asked : (past : List Moment) (i : ℕ) (memory : Memory) (slot : ℕ) (one : Orb) → slot < 32 → StandsIn past i memory slot one → WasAsked (command_at past i one.list one.number) (request_at past i one.list one.number) slot
-stands_asked past i memory slot one small s = record {
+pub stands_asked : (past : List Moment) (i : ℕ) (memory : Memory) (slot : ℕ) (one : Orb) → slot < 32 → ((cmd : Cmd) → command_at past i one.list one.number ≡ Some cmd → IsFilled slot cmd) → StandsIn past i memory slot one → WasAsked (command_at past i one.list one.number) (request_at past i one.list one.number) slot
+stands_asked past i memory slot one small filled s = record {
   cmd = s.cmd;
   command_is = s.command;
   small = small;
+  filled = filled s.cmd s.command;
   request_is = s.request;
   fits = s.fits;
   fills = s.fills;

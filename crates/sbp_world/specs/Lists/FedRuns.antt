@@ -1,7 +1,10 @@
 -- On which buffer and with which data a command runs (NCITS 325-1998, command block agents, command block ORB and page tables), of an initiator that injected no packets. Behind the
 -- response that brought the ORB the agent of its place turned to it, and has read since, one read behind the other: its page table, where the ORB has one, and its data. The
--- buffer by that table has the length of the append's; and the bytes with which the command runs are the payloads of those reads, joined in order.
-use Rattle.std.specs.Prelude.{◌≡◌, ◌<◌, ◌≤◌, ◌==◌, ℕ, Bool, false, if◌then◌else◌, List, [], ◌∷◌, ◌++◌, length, map, Option, Some, None, IsSomeAnd}
+-- buffer by that table has the length of the append's; and the bytes with which the command runs are the payloads of those reads, joined in order; so they are too by all reads of the target, where the others begin
+-- elsewhere than in the page table and the buffer of the ORB's slot.
+use Rattle.std.specs.Prelude.{◌≡◌, ◌⊎◌, ◌<◌, ◌≤◌, ◌==◌, ℕ, Bool, false, if◌then◌else◌, List, [], ◌∷◌, ◌++◌, length, map, Option, Some, None, IsSomeAnd}
+use Rattle.bus_memory.specs.declared.window.Window.TheVariants as windows
+use Rattle.bus_memory.specs.Windows.{window_at}
 use Rattle.command_agent.specs.Machine as agent
 use Rattle.command_agent.specs.declared.step.Which.TheVariants.{Ahead, Main}
 use Rattle.orb_layout.specs.declared.command.CommandOrb.{CommandOrb}
@@ -12,8 +15,9 @@ use Rattle.sbp_journal.specs.Run.{Moment, asked, said}
 use Rattle.sbp_journal.specs.Wire.{Terms, terms}
 use Rattle.sbp_journal.specs.declared.event.Event.{Event}
 use Rattle.sbp_journal.specs.declared.note.Note.TheVariants as notes
-use Rattle.sbp_laws.specs.CarriedBytes.{Moved, address_of, buffer_in, joined, moved_by, payload_at}
+use Rattle.sbp_laws.specs.CarriedBytes.{Moved, address_of, buffer_in, joined, moved_by, payload_at, read_by, reads_since}
 use Rattle.sbp_laws.specs.Lawful.{injectors}
+use Rattle.sbp_laws.specs.Lists.{slot_at}
 use Rattle.sbp_laws.specs.Packets.{access_at, answered_at, receiver_in}
 use Rattle.sbp_laws.specs.Targets.{Purpose, Target, for_agent, for_manager, for_nobody, is_serial, over, purpose_of, target_at}
 use Rattle.sbp_laws.specs.Terms.{plan_of, request_at}
@@ -52,6 +56,49 @@ own_reads start place [] before = []
 own_reads start place (said (notes.Got serial) ∷ later) before = own_reads start place later before ++ main_read start (later ++ before) place serial
 own_reads start place (moment ∷ later) before = own_reads start place later before
 
+-- ---- other reads
+-- what was moved begins not in the page table of a slot; and where it begins in its buffer, it is no bytes, as what is moved in answer to a write
+pub record IsElsewhere (slot : ℕ) (one : Moved) : Type 0 where
+  pub table : window_at one.offset ≡ Some (windows.Table slot) → ⊥
+  pub buffer : window_at one.offset ≡ Some (windows.Buffer slot) → one.bytes ≡ []
+
+-- all reads are an agent's own and others that begin elsewhere than in the slot of its ORB, in order
+pub data AreBeside (slot : ℕ) : List Moved → List Moved → Type 0 where
+  no_more : AreBeside slot [] []
+  own_read : (one : Moved) (all own : List Moved) → AreBeside slot all own → AreBeside slot (one ∷ all) (one ∷ own)
+  other_read : (one : Moved) (all own : List Moved) → IsElsewhere slot one → AreBeside slot all own → AreBeside slot (one ∷ all) own
+
+-- all of them do
+abbrev pub AllElsewhere : (slot : ℕ) → List Moved → Type 0
+AllElsewhere slot [] = Unit {0}
+AllElsewhere slot (one ∷ more) = IsElsewhere slot one × AllElsewhere slot more
+
+-- what the target gets of an initiator by a packet, which is not the response itself, begins elsewhere
+pub record IsOther (past : List Moment) (i slot response serial : ℕ) : Type 0 where
+  pub again : (serial == response) ≡ false
+  pub elsewhere : AllElsewhere slot (read_by (terms past) i serial (answered_at (terms past) serial))
+
+-- or the main transaction of the agent of a place brought it
+pub record IsOwnOrOther (start : List Disk) (past : List Moment) (i place slot response serial : ℕ) : Type 0 where
+  pub again : (serial == response) ≡ false
+  pub own : (read_by (terms past) i serial (answered_at (terms past) serial) ≡ main_read start past place serial) ⊎ ((main_read start past place serial ≡ []) × AllElsewhere slot (read_by (terms past) i serial (answered_at (terms past) serial)))
+
+abbrev pub AreOthers : (i slot response : ℕ) → (between before : List Moment) → Type 0
+AreOthers i slot response [] before = Unit {0}
+AreOthers i slot response (said (notes.Got serial) ∷ between) before = IsOther (between ++ before) i slot response serial × AreOthers i slot response between before
+AreOthers i slot response (moment ∷ between) before = AreOthers i slot response between before
+
+abbrev pub AreOwnOrOthers : List Disk → (i place slot response : ℕ) → (later before : List Moment) → Type 0
+AreOwnOrOthers start i place slot response [] before = Unit {0}
+AreOwnOrOthers start i place slot response (said (notes.Got serial) ∷ later) before =
+    IsOwnOrOther start (later ++ before) i place slot response serial × AreOwnOrOthers start i place slot response later before
+AreOwnOrOthers start i place slot response (moment ∷ later) before = AreOwnOrOthers start i place slot response later before
+
+-- Then what the target got of the initiator since the response is what the agent read, and others.
+abbrev pub BesideLaw : Type 0
+BesideLaw =
+    (start : List Disk) (i place slot response : ℕ) (later between earlier : List Moment) → (let behind = said (notes.Got response) ∷ earlier in AreOthers i slot response between behind → AreOwnOrOthers start i place slot response later (between ++ behind) → AreBeside slot (reads_since (later ++ (between ++ behind)) i response) (own_reads start place later (between ++ behind)))
+
 -- ---- a run
 -- since the agent turned to the ORB, behind the response that brought it
 pub record RunIsFed (start : List Disk) (past : List Moment) (i n k : ℕ) (bytes : List ℕ) : Type 0 where
@@ -65,6 +112,9 @@ pub record RunIsFed (start : List Disk) (past : List Moment) (i n k : ℕ) (byte
   pub reads_are : reads ≡ own_reads start place later (between ++ said (notes.Got brought.response) ∷ brought.earlier)
   pub size : IsSomeAnd (request_at past i n k) (λ request. bytes_of (buffer_in orb reads) ≡ (plan_of request.buffer).bytes)
   pub payloads : bytes ≡ joined (chunks (agent.limit_of orb) (buffer_in orb reads)) reads
+  -- and so it is by all reads, where the others begin elsewhere
+  pub size_beside : (all : List Moved) → AreBeside (slot_at past i n k) all reads → IsSomeAnd (request_at past i n k) (λ request. bytes_of (buffer_in orb all) ≡ (plan_of request.buffer).bytes)
+  pub payloads_beside : (all : List Moved) → AreBeside (slot_at past i n k) all reads → bytes ≡ joined (chunks (agent.limit_of orb) (buffer_in orb all)) all
 
 abbrev pub FedAt : (ℕ → Bool) → List Disk → Moment → List Moment → Type 0
 FedAt wild start (said (notes.Ran i (Some n) (Some k) unit cdb bytes check)) past = wild i ≡ false → RunIsFed start past i n k bytes

@@ -1,0 +1,73 @@
+-- What the target got of an initiator since a response is what the agent of a place read, and others that begin elsewhere: where each packet that it got since brought the one or
+-- the other, and the response was not got again.
+use Rattle.std.proofs.Common.{arith, ◌≡◌, ◌∙◌, sym, ap, subst, inl, inr, ◌⊎◌, ◌==◌, ℕ, true, false, cond, append-nil, List, [], ◌∷◌, ◌++◌}
+use Rattle.std.proofs.lemmas.Bool.Decides.{nat_tests}
+use Rattle.rbc_disk.specs.Disk.{Disk}
+use Rattle.sbp_journal.specs.Run.{Moment, asked, said}
+use Rattle.sbp_journal.specs.Wire.{terms}
+use Rattle.sbp_journal.specs.declared.note.Note.{Note}
+use Rattle.sbp_journal.specs.declared.note.Note.TheVariants as notes
+use Rattle.sbp_laws.specs.CarriedBytes.{Moved, read_by, reads_since}
+use Rattle.sbp_laws.specs.Packets.{answered_at}
+use Rattle.sbp_world.specs.Lists.FedRuns.{AllElsewhere, AreBeside, AreOthers, AreOwnOrOthers, BesideLaw, IsOther, IsOwnOrOther, main_read, no_more, other_read, own_read, own_reads}
+
+-- ---- one behind the other
+both : (slot : ℕ) (all own more : List Moved) → AreBeside slot all own → AreBeside slot (all ++ more) (own ++ more)
+both slot _ _ more no_more = same more
+  where
+    same : (xs : List Moved) → AreBeside slot xs xs
+    same [] = no_more
+    same (x ∷ xs) = own_read x xs xs (same xs)
+both slot _ _ more (own_read one all own b) = own_read one (all ++ more) (own ++ more) (both slot all own more b)
+both slot _ _ more (other_read one all own e b) = other_read one (all ++ more) (own ++ more) e (both slot all own more b)
+
+others : (slot : ℕ) (all own more : List Moved) → AllElsewhere slot more → AreBeside slot all own → AreBeside slot (all ++ more) own
+others slot _ _ more e no_more = all_others more e
+  where
+    all_others : (xs : List Moved) → AllElsewhere slot xs → AreBeside slot xs []
+    all_others [] e = no_more
+    all_others (x ∷ xs) e = other_read x xs [] e.0 (all_others xs e.1)
+others slot _ _ more e (own_read one all own b) = own_read one (all ++ more) own (others slot all own more e b)
+others slot _ _ more e (other_read one all own f b) = other_read one (all ++ more) own f (others slot all own more e b)
+
+-- ---- a packet is got
+module _ (start : List Disk) (i place slot response : ℕ) where
+  got_more : (past : List Moment) (serial : ℕ) → (serial == response) ≡ false → reads_since past i response ++ read_by (terms past) i serial (answered_at (terms past) serial) ≡ reads_since (said (notes.Got serial) ∷ past) i response
+  got_more past serial e = ap (λ b. cond b [] (reads_since past i response ++ read_by (terms past) i serial (answered_at (terms past) serial))) (sym e)
+
+  got_first : (earlier : List Moment) → reads_since (said (notes.Got response) ∷ earlier) i response ≡ []
+  got_first earlier = ap (λ b. cond b [] (reads_since earlier i response ++ read_by (terms earlier) i response (answered_at (terms earlier) response))) (let z : (response == response) ≡ true = grind (arith, nat_tests) in z)
+
+  other_got : (past : List Moment) (own : List Moved) (serial : ℕ) → IsOther past i slot response serial → AreBeside slot (reads_since past i response) own → AreBeside slot (reads_since (said (notes.Got serial) ∷ past) i response) own
+  other_got past own serial o b = subst (λ xs. AreBeside slot xs own) (got_more past serial o.again) (others slot (reads_since past i response) own _ o.elsewhere b)
+
+  between_beside : (between earlier : List Moment) → AreOthers i slot response between (said (notes.Got response) ∷ earlier) → AreBeside slot (reads_since (between ++ said (notes.Got response) ∷ earlier) i response) []
+  between_beside [] earlier o = subst (λ xs. AreBeside slot xs []) (sym (got_first earlier)) no_more
+  between_beside (asked line event ∷ between) earlier o = between_beside between earlier o
+  between_beside (said note ∷ between) earlier o = by note o (λ p. between_beside between earlier p)
+    where
+      by : (note : Note) → AreOthers i slot response (said note ∷ between) (said (notes.Got response) ∷ earlier) → (AreOthers i slot response between (said (notes.Got response) ∷ earlier) → AreBeside slot (reads_since (between ++ said (notes.Got response) ∷ earlier) i response) []) → AreBeside slot (reads_since (said note ∷ (between ++ said (notes.Got response) ∷ earlier)) i response) []
+      by (notes.Got serial) o again = other_got (between ++ said (notes.Got response) ∷ earlier) [] serial o.0 (again o.1)
+      by note o again = again o
+
+  own_got : (past : List Moment) (own : List Moved) (serial : ℕ) → IsOwnOrOther start past i place slot response serial → AreBeside slot (reads_since past i response) own → AreBeside slot (reads_since (said (notes.Got serial) ∷ past) i response) (own ++ main_read start past place serial)
+  own_got past own serial o b = by o.own
+    where
+      by : (read_by (terms past) i serial (answered_at (terms past) serial) ≡ main_read start past place serial) ⊎ ((main_read start past place serial ≡ []) × AllElsewhere slot (read_by (terms past) i serial (answered_at (terms past) serial))) → AreBeside slot (reads_since (said (notes.Got serial) ∷ past) i response) (own ++ main_read start past place serial)
+      by (inl e) =
+          subst (λ xs. AreBeside slot xs (own ++ main_read start past place serial)) (ap (λ xs. reads_since past i response ++ xs) (sym e) ∙ got_more past serial o.again)
+          (both slot (reads_since past i response) own (main_read start past place serial) b)
+      by (inr e) = subst (λ xs. AreBeside slot (reads_since (said (notes.Got serial) ∷ past) i response) xs) (sym (ap (λ xs. own ++ xs) e.0 ∙ append-nil own)) (other_got past own serial (record { again = o.again; elsewhere = e.1 }) b)
+
+  later_beside : (later before : List Moment) → AreBeside slot (reads_since before i response) [] → AreOwnOrOthers start i place slot response later before → AreBeside slot (reads_since (later ++ before) i response) (own_reads start place later before)
+  later_beside [] before b o = b
+  later_beside (asked line event ∷ later) before b o = later_beside later before b o
+  later_beside (said note ∷ later) before b o = by note o (λ p. later_beside later before b p)
+    where
+      by : (note : Note) → AreOwnOrOthers start i place slot response (said note ∷ later) before → (AreOwnOrOthers start i place slot response later before → AreBeside slot (reads_since (later ++ before) i response) (own_reads start place later before)) → AreBeside slot (reads_since (said note ∷ (later ++ before)) i response) (own_reads start place (said note ∷ later) before)
+      by (notes.Got serial) o again = own_got (later ++ before) (own_reads start place later before) serial o.0 (again o.1)
+      by note o again = again o
+
+pub beside_law : BesideLaw
+beside_law start i place slot response later between earlier o p =
+    later_beside start i place slot response later (between ++ said (notes.Got response) ∷ earlier) (between_beside start i place slot response between earlier o) p
