@@ -376,6 +376,7 @@ pub mod DataPieces
 pub mod DataRuns
 pub mod DataFollows
 pub mod DataActs
+pub mod DataHears
 pub mod DataCalls
 pub mod DataSteps
 pub mod DataLines

@@ -35,7 +35,7 @@ use Rattle.sbp_target.specs.declared.purpose.Purpose.TheVariants as purposes
 use Rattle.sbp_target.specs.Desks.{which_in}
 use Rattle.sbp_target.specs.Management.{manage}
 use Rattle.sbp_target.specs.Nodes.{Scene, desk_at, login_at, scene}
-use Rattle.sbp_target.specs.Receiving.{answer_in, received, timed_out}
+use Rattle.sbp_target.specs.Receiving.{answer_in, received, timed_out, received_as, with_layer}
 use Rattle.sbp_target.specs.Replies.{plain_in}
 use Rattle.sbp_world.specs.Delivering.{whole_of}
 use Rattle.sbp_world.specs.Handing.{handed_out}
@@ -49,8 +49,8 @@ use Rattle.sbp_world.specs.Lists.Needs.{IsFor, machine_at}
 use Rattle.sbp_world.specs.Lists.OwnLogins.{AreOwn, IsLoginFifo}
 use Rattle.sbp_world.proofs.Lists.DataCalls.{AllFifo, WroteSo, delivery_wrote, lapse_wrote, manages, steps_so, to_logins}
 use Rattle.sbp_world.proofs.Lists.DataFollows.{AllSo, IsBy, of_step, to_fifo}
-use Rattle.sbp_world.proofs.Lists.DataSteps.{reply_piece}
-use Rattle.sbp_world.proofs.Lists.DataTurns.{AllDue, AreTold, IsPieceNow, Sends, all_leave, all_same, all_told, noted}
+use Rattle.sbp_world.proofs.Lists.DataSteps.{reply_piece, ArePrepared, IsTurnNow, now_first, now_follows, reply_turn}
+use Rattle.sbp_world.proofs.Lists.DataTurns.{AllDue, AreTold, IsPieceNow, Sends, all_leave, all_same, all_told, noted, IsTurnBy, by_first, by_follows}
 use Rattle.sbp_world.proofs.Lists.Deliveries.{waits_has}
 use Rattle.sbp_world.proofs.Lists.OwnFifos.{fifo_low, fifo_no_window}
 use Rattle.sbp_world.proofs.Lists.RunOutcomes.{AreAsked}
@@ -60,6 +60,8 @@ use Rattle.sbp_world.proofs.Lists.StatusBytes.{same_address, written_at}
 use Rattle.sbp_world.proofs.Lists.StatusDue.{Ours}
 use Rattle.sbp_world.proofs.Lists.StatusTurn.{Behind, IsFirst, Up, got_first, ignored_first, judged_first, late_first}
 use Rattle.sbp_world.proofs.Lists.Turns.{Ready}
+use Rattle.sbp_journal.specs.declared.cause.Judged.TheVariants as judgements
+use Rattle.sbp_world.proofs.Lists.DataHears.{AreHeard}
 
 no_ask : (offset size : ℕ) → asks.Nothing ≡ asks.Write offset size → ⊥
 no_ask offset size e = cc
@@ -76,10 +78,10 @@ fifo_dry fifo offset slot own e goes =
 above_zero : (at slot : ℕ) → window_at at ≡ Some (windows.Buffer slot) → 0 < at
 above_zero at slot e = let share = (subst (IfShare at) e (window_share at)).1 in omega (arith, share)
 
-others_told : (i : ℕ) (past ms : List Moment) (side : List Side) → AreOthers side → AreTold i past ms side
-others_told i past ms [] h = tt
-others_told i past ms (sides.Own note ∷ later) h = absurd h.0
-others_told i past ms (_ ∷ later) h = (tt, others_told i past ms later h.1)
+others_told : (i : ℕ) (past ms : List Moment) (start : Note) (side : List Side) → AreOthers side → AreTold i past ms start side
+others_told i past ms start [] h = tt
+others_told i past ms start (sides.Own note ∷ later) h = absurd h.0
+others_told i past ms start (_ ∷ later) h = (tt, others_told i past ms start later h.1)
 
 first_so : (i : ℕ) (note : Note) (ms : List Moment) → IsFirst note → DataSo i (said note) ms
 first_so i _ ms (got_first serial) = tt
@@ -90,65 +92,79 @@ module _ (wild : ℕ → Bool) (i : ℕ) (own : wild i ≡ false) (past : List M
   abbrev ms : List Moment
   ms = hist past w
 
-  record IsStepPiece (j : ℕ) (m : Machine) (offset size : ℕ) : Type 0 where
+  record IsStepPiece (note : Note) (j : ℕ) (m : Machine) (offset size : ℕ) : Type 0 where
     list : ℕ
     piece : IsPieceOf ms j list (ends ms j list) m offset size
+    turn : IsTurnBy ms j list (ends ms j list) m note
 
   -- what is known of the agent of a place that makes a step
-  record StepSo (q : ℕ) (one : AgentStep × Machine) : Type 0 where
+  record StepSo (note : Note) (q : ℕ) (one : AgentStep × Machine) : Type 0 where
     mine : (login : Login) → login_at w.target q ≡ Some login → node_of w.generations 0 login.node ≡ Some (suc i) → (holder w q).initiator ≡ i
-    piece : Ours wild past w r q → one.0.ended ≡ None → (at size : ℕ) → one.0.ask ≡ asks.Write at size → (slot : ℕ) → window_at (written_at at) ≡ Some (windows.Buffer slot) → IsStepPiece (holder w q).initiator one.1 (written_at at) size
+    piece : Ours wild past w r q → one.0.ended ≡ None → (at size : ℕ) → one.0.ask ≡ asks.Write at size → (slot : ℕ) → window_at (written_at at) ≡ Some (windows.Buffer slot) → IsStepPiece note (holder w q).initiator one.1 (written_at at) size
 
-  abbrev pub Due : List Outgoing → Type 0
-  Due packets = AllDue i past ms w.generations packets
+  abbrev pub Due : Note → List Outgoing → Type 0
+  Due note packets = AllDue i past ms note w.generations packets
 
   -- ---- what a call writes
-  by_fifo : (to : ℕ) (access : Access) → IsBy IsLoginFifo quiet new_machine 0 to access.offset access.payload → (slot : ℕ) → window_at access.offset ≡ Some (windows.Buffer slot) → IsPieceNow ms i access
-  by_fifo to access (to_fifo fifo own e) slot goes = absurd (fifo_dry fifo access.offset slot own e goes)
-  by_fifo to access (of_step at size none ask to_is offset_is payload_is) slot goes = absurd (no_ask at size ask)
+  by_fifo : (note : Note) (to : ℕ) (access : Access) → IsBy IsLoginFifo quiet new_machine 0 to access.offset access.payload → (slot : ℕ) → window_at access.offset ≡ Some (windows.Buffer slot) → IsPieceNow ms i note access
+  by_fifo note to access (to_fifo fifo own e) slot goes = absurd (fifo_dry fifo access.offset slot own e goes)
+  by_fifo note to access (of_step at size none ask to_is offset_is payload_is) slot goes = absurd (no_ask at size ask)
 
-  due_fifo : (packets : List Outgoing) → AllFifo IsLoginFifo packets → Due packets
-  due_fifo [] h = tt
-  due_fifo (packet ∷ later) h = ((λ there slot x. by_fifo packet.to x.access (h.0 x.access x.is x.writes) slot x.goes), due_fifo later h.1)
+  due_fifo : (note : Note) (packets : List Outgoing) → AllFifo IsLoginFifo packets → Due note packets
+  due_fifo note [] h = tt
+  due_fifo note (packet ∷ later) h = ((λ there slot x. by_fifo note packet.to x.access (h.0 x.access x.is x.writes) slot x.goes), due_fifo note later h.1)
 
-  by_step : (q : ℕ) (login : Login) → login_at w.target q ≡ Some login → (one : AgentStep × Machine) → StepSo q one → (to : ℕ) (access : Access) → node_of w.generations 0 to ≡ Some (suc i) → IsBy IsLoginFifo one.0 one.1 login.node to access.offset access.payload → (slot : ℕ) → window_at access.offset ≡ Some (windows.Buffer slot) → IsPieceNow ms i access
-  by_step q login is one s to access there (to_fifo fifo own e) slot goes = absurd (fifo_dry fifo access.offset slot own e goes)
-  by_step q login is one s to access there (of_step at size none ask to_is offset_is payload_is) slot goes =
+  by_step : (note : Note) (q : ℕ) (login : Login) → login_at w.target q ≡ Some login → (one : AgentStep × Machine) → StepSo note q one → (to : ℕ) (access : Access) → node_of w.generations 0 to ≡ Some (suc i) → IsBy IsLoginFifo one.0 one.1 login.node to access.offset access.payload → (slot : ℕ) → window_at access.offset ≡ Some (windows.Buffer slot) → IsPieceNow ms i note access
+  by_step note q login is one s to access there (to_fifo fifo own e) slot goes = absurd (fifo_dry fifo access.offset slot own e goes)
+  by_step note q login is one s to access there (of_step at size none ask to_is offset_is payload_is) slot goes =
       let mine = s.mine login is (ap (λ a. node_of w.generations 0 a) (sym to_is) ∙ there) in
       let p = s.piece (ap wild mine ∙ own) none at size ask slot (ap window_at (sym offset_is) ∙ goes) in
-      subst (λ j. IsPieceNow ms j access) mine (record {
+      subst (λ j. IsPieceNow ms j note access) mine (record {
         list = p.list;
         machine = one.1;
         size = size;
         piece = subst (λ o. IsPieceOf ms (holder w q).initiator p.list (ends ms (holder w q).initiator p.list) one.1 o size) (sym offset_is) p.piece;
         bytes = payload_is;
+        turn = p.turn;
       })
 
-  due_step : (q : ℕ) (login : Login) → login_at w.target q ≡ Some login → (one : AgentStep × Machine) → StepSo q one → (packets : List Outgoing) → AllSo IsLoginFifo one.0 one.1 login.node packets → Due packets
-  due_step q login is one s [] h = tt
-  due_step q login is one s (packet ∷ later) h = ((λ there slot x. by_step q login is one s packet.to x.access there (h.0 x.access x.is x.writes) slot x.goes), due_step q login is one s later h.1)
+  due_step : (note : Note) (q : ℕ) (login : Login) → login_at w.target q ≡ Some login → (one : AgentStep × Machine) → StepSo note q one → (packets : List Outgoing) → AllSo IsLoginFifo one.0 one.1 login.node packets → Due note packets
+  due_step note q login is one s [] h = tt
+  due_step note q login is one s (packet ∷ later) h = ((λ there slot x. by_step note q login is one s packet.to x.access there (h.0 x.access x.is x.writes) slot x.goes), due_step note q login is one s later h.1)
 
   -- ---- it leaves
   module _ (note : Note) (f : IsFirst note) (u : WorldState) (b : Behind note w u) (outbox : OutboxState) (others : AreOthers outbox.sides) where
-    started : Sends i past ms (hist past u)
-    started = subst (Sends i past ms) (ap (λ ns. map said ns ++ past) (sym b.fresh)) (noted i past ms (said note) ms (first_so i note ms f) (record { grown = record { new = []; is = refl }; so = each }))
+    started : Sends i past ms note (hist past u)
+    started = subst (Sends i past ms note) (ap (λ ns. map said ns ++ past) (sym b.fresh)) (record { grown = record { new = []; is = refl }; so = (first_so i note ms f, each) })
 
-    pub hands : Due outbox.packets → EachMoment (DataSo i) (hist past (handed_out 0 0 outbox u))
+    pub hands : Due note outbox.packets → EachMoment (DataSo i) (hist past (handed_out 0 0 outbox u))
     hands due =
-        (all_leave i past ms w.generations outbox.packets (told_all 0 outbox.sides u) (all_same i past ms 0 outbox.sides u ∙ b.generations) due
-        (all_told i past ms 0 outbox.sides u (others_told i past ms outbox.sides others) started)).so
+        (all_leave i past ms note w.generations outbox.packets (told_all 0 outbox.sides u) (all_same i past ms note 0 outbox.sides u ∙ b.generations) due
+        (all_told i past ms note 0 outbox.sides u (others_told i past ms note outbox.sides others) started)).so
 
-  abbrev C : (Answer → Type 0) → Layer Purpose → Scene → Type 0
-  C Its layer s = WroteSo w r.good IsLoginFifo (λ q login is. owned q login is) StepSo Its layer s
+  abbrev C : Note → (Answer → Type 0) → Layer Purpose → Scene → Type 0
+  C note Its layer s = WroteSo w r.good IsLoginFifo (λ q login is. owned q login is) (StepSo note) Its layer s
 
-  called : (Its : Answer → Type 0) (layer : Layer Purpose) (s : Scene) (note : Note) (f : IsFirst note) (u : WorldState) (b : Behind note w u) (others : AreOthers s.outbox.sides) → ((answer : Answer) → Its answer → s ≡ manage answer (first w r.good layer) → EachMoment (DataSo i) (hist past (handed_out 0 0 s.outbox u))) → C Its layer s → EachMoment (DataSo i) (hist past (handed_out 0 0 s.outbox u))
-  called Its layer s note f u b others managed (to_logins h) = hands note f u b s.outbox others (due_fifo s.outbox.packets h)
-  called Its layer s note f u b others managed (steps_so q small login is one known h) = hands note f u b s.outbox others (due_step q login is one known s.outbox.packets h)
+  called : (Its : Answer → Type 0) (layer : Layer Purpose) (s : Scene) (note : Note) (f : IsFirst note) (u : WorldState) (b : Behind note w u) (others : AreOthers s.outbox.sides) → ((answer : Answer) → Its answer → s ≡ manage answer (first w r.good layer) → EachMoment (DataSo i) (hist past (handed_out 0 0 s.outbox u))) → C note Its layer s → EachMoment (DataSo i) (hist past (handed_out 0 0 s.outbox u))
+  called Its layer s note f u b others managed (to_logins h) = hands note f u b s.outbox others (due_fifo note s.outbox.packets h)
+  called Its layer s note f u b others managed (steps_so q small login is one known h) = hands note f u b s.outbox others (due_step note q login is one known s.outbox.packets h)
   called Its layer s note f u b others managed (manages answer its e) = managed answer its e
 
   -- ---- a packet is delivered
-  module _ (up : (q : ℕ) → q < 8 → has_list (machine_at w q).phase ≡ true → Up wild i own past w q) (sent : Sent) (is_for : IsFor w sent) (run : Option Told) (media : Held) (serial : ℕ) where
-    reply_so : (p : Packet) (label : LabelParts) (place : ℕ) → (judging_step w.target.layer sent.generation sent.bytes).0 ≡ of_response p label (Some (purposes.Agent place)) → (b : place < 8) (login : Login) → login_at w.target place ≡ Some login → (which : Which) → which_in (desk_at w.target place) (header_in p).source label ≡ Some which → StepSo place (reply_step (machine_at w place) place (plain_in w.target.units media.disks login.unit) run which (answer_in p))
+  module _ (up : (q : ℕ) → q < 8 → has_list (machine_at w q).phase ≡ true → Up wild i own past w q) (sent : Sent) (is_for : IsFor w sent) (run : Option Told) (media : Held) (serial : ℕ) (prepared : ArePrepared ms w) (heard_so : AreHeard wild ms w) (same_serial : is_for.serial ≡ serial) where
+    got_heard : (p : Packet) (label : LabelParts) (place : ℕ) → (judging_step w.target.layer sent.generation sent.bytes).0 ≡ of_response p label (Some (purposes.Agent place)) → (received run sent.generation sent.bytes (whole_of w.target media)).0 ≡ judgements.Got
+    unfolding received
+    got_heard p label place f =
+        let found = judging_step w.target.layer sent.generation sent.bytes in ap (λ x. (received_as run sent.bytes x (with_layer found.1 (whole_of w.target media))).0) f
+
+    abbrev first_note : Note
+    first_note = judged_note serial (received run sent.generation sent.bytes (whole_of w.target media)).0
+
+    as_turn : (j n k : ℕ) (m : Machine) → first_note ≡ notes.Got is_for.serial → IsTurnNow ms j n k m is_for.serial → IsTurnBy ms j n k m first_note
+    as_turn j n k m e (now_first none start) = by_first none start
+    as_turn j n k m e (now_follows x) = by_follows is_for.serial e x
+
+    reply_so : (p : Packet) (label : LabelParts) (place : ℕ) → (judging_step w.target.layer sent.generation sent.bytes).0 ≡ of_response p label (Some (purposes.Agent place)) → (b : place < 8) (login : Login) → login_at w.target place ≡ Some login → (which : Which) → which_in (desk_at w.target place) (header_in p).source label ≡ Some which → StepSo first_note place (reply_step (machine_at w place) place (plain_in w.target.units media.disks login.unit) run which (answer_in p))
     reply_so p label place f b login is which e = record {
       mine = (up place b (waits_has wild past w r place b (header_in p).source label which e)).mine;
       piece = λ ours none at size ask slot goes.
@@ -160,7 +176,9 @@ module _ (wild : ℕ → Bool) (i : ℕ) (own : wild i ≡ false) (past : List M
           record {
             list = o.n;
             piece = subst (λ z. IsPieceOf ms j o.n (ends ms j o.n) step.1 z size) (sym same)
-                (reply_piece wild past w r asked sent is_for run media.disks p label place f b login which e ours none at size ask (above_zero at slot (ap window_at (sym same) ∙ goes)));
+                (reply_piece wild past w r asked sent is_for run media.disks p label place f b login which e ours prepared none at size ask (above_zero at slot (ap window_at (sym same) ∙ goes)));
+            turn = as_turn j o.n (ends ms j o.n) step.1 (ap (λ x. judged_note serial x) (got_heard p label place f) ∙ ap (λ n. notes.Got n) (sym same_serial))
+                (reply_turn wild past w r asked sent is_for run media.disks p label place f b login which e ours heard_so none at size ask (above_zero at slot (ap window_at (sym same) ∙ goes)));
           };
     }
 
@@ -176,11 +194,11 @@ module _ (wild : ℕ → Bool) (i : ℕ) (own : wild i ≡ false) (past : List M
         let x = received run sent.generation sent.bytes (whole_of w.target media) in
         called IsHeard (judging_step w.target.layer sent.generation sent.bytes).1 (scene x.1.node x.1.outbox) (judged_note serial x.0) (judged_first serial x.0) u b others
         (λ answer its e. managed its.packet its.label its.found (subst (λ a. scene x.1.node x.1.outbox ≡ manage a (first w r.good (judging_step w.target.layer sent.generation sent.bytes).1)) its.is e))
-        (delivery_wrote w r.good IsLoginFifo (λ q login is. owned q login is) StepSo IsHeard sent run media reply_so (λ p label f. record { packet = p; label = label; found = f; is = refl }))
+        (delivery_wrote w r.good IsLoginFifo (λ q login is. owned q login is) (StepSo first_note) IsHeard sent run media reply_so (λ p label f. record { packet = p; label = label; found = f; is = refl }))
 
   -- ---- a transaction of it times out
   pub data_late : (layer : Layer Purpose) (peer : ℕ) (label : LabelParts) (purpose : Option Purpose) (serial : ℕ) (u : WorldState) → (let y = timed_out purpose peer label (first w r.good layer) in Behind (notes.TimedOut serial) w u → AreOthers y.outbox.sides → (y ≡ manage Expired (first w r.good layer) → EachMoment (DataSo i) (hist past (handed_out 0 0 y.outbox u))) → EachMoment (DataSo i) (hist past (handed_out 0 0 y.outbox u)))
   data_late layer peer label purpose serial u b others managed =
       called (λ answer. answer ≡ Expired) layer (timed_out purpose peer label (first w r.good layer)) (notes.TimedOut serial) (late_first serial) u b others
       (λ answer its e. managed (subst (λ a. timed_out purpose peer label (first w r.good layer) ≡ manage a (first w r.good layer)) its e))
-      (lapse_wrote w r.good IsLoginFifo (λ q login is. owned q login is) StepSo (λ answer. answer ≡ Expired) layer peer label purpose (λ e. refl))
+      (lapse_wrote w r.good IsLoginFifo (λ q login is. owned q login is) (StepSo (notes.TimedOut serial)) (λ answer. answer ≡ Expired) layer peer label purpose (λ e. refl))

@@ -161,19 +161,19 @@ module _ (wild : ℕ → Bool) (i : ℕ) (own : wild i ≡ false) (past : List M
     unfolding manage
     manage_leaves = by_operation w.target.manager.operation refl
 
-  due_leaving : (source : ℕ) (packets : List Outgoing) → Leaves source (Ours source) packets → Due wild i own past w r asked owned each packets
-  due_leaving source _ (leaves_none packets e) = subst (Due wild i own past w r asked owned each) (sym e) tt
-  due_leaving source _ (leaves_one packets packet e to dry) =
-      subst (Due wild i own past w r asked owned each) (sym e) ((λ there slot x. absurd (dry (ap (λ a. node_of w.generations 0 a) (sym to) ∙ there) slot x)), tt)
+  due_leaving : (note : Note) (source : ℕ) (packets : List Outgoing) → Leaves source (Ours source) packets → Due wild i own past w r asked owned each note packets
+  due_leaving note source _ (leaves_none packets e) = subst (Due wild i own past w r asked owned each note) (sym e) tt
+  due_leaving note source _ (leaves_one packets packet e to dry) =
+      subst (Due wild i own past w r asked owned each note) (sym e) ((λ there slot x. absurd (dry (ap (λ a. node_of w.generations 0 a) (sym to) ∙ there) slot x)), tt)
 
-  due_of : (source : Option ℕ) (packets : List Outgoing) → IfLeaves Ours source packets → Due wild i own past w r asked owned each packets
-  due_of None packets e = subst (Due wild i own past w r asked owned each) (sym e) tt
-  due_of (Some source) packets l = due_leaving source packets l
+  due_of : (note : Note) (source : Option ℕ) (packets : List Outgoing) → IfLeaves Ours source packets → Due wild i own past w r asked owned each note packets
+  due_of note None packets e = subst (Due wild i own past w r asked owned each note) (sym e) tt
+  due_of note (Some source) packets l = due_leaving note source packets l
 
   managed_data : (layer : Layer Purpose) (answer : Answer) → AreAsksDry w i answer → (s : Scene) (note : Note) → IsFirst note → (u : WorldState) → Behind note w u → AreOthers s.outbox.sides → s ≡ manage answer (first w r.good layer) → EachMoment (DataSo i) (hist past (handed_out 0 0 s.outbox u))
   managed_data layer answer dry s note f u b others e =
       hands wild i own past w r asked owned each note f u b s.outbox others
-      (due_of (management.source_in w.target.manager.operation) s.outbox.packets
+      (due_of note (management.source_in w.target.manager.operation) s.outbox.packets
       (subst (λ (y : Scene). IfLeaves Ours (management.source_in w.target.manager.operation) y.outbox.packets) (sym e) (manage_leaves layer answer dry)))
 
   -- so what is known of the management follows from where it asks to write

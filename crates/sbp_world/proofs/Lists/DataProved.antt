@@ -21,6 +21,8 @@ use Rattle.sbp_world.proofs.Lists.StatusProved.{AreNames, Ground}
 use Rattle.sbp_world.proofs.Lists.TameWalks.{tame_after, tame_between}
 use Rattle.sbp_world.proofs.Lists.Turns.{Ready}
 use Rattle.sbp_world.proofs.Lists.Walks.{Step, Walks}
+use Rattle.sbp_world.proofs.Lists.DataHears.{AreHeard, heard_there}
+use Rattle.sbp_world.proofs.Lists.Sites.{named_prepared}
 
 abbrev pub AllData : (ℕ → Bool) → List Moment → WorldState → Type 0
 AllData wild ms w = (i : ℕ) → i < length w.initiators → wild i ≡ false → EachMoment (DataSo i) ms
@@ -60,11 +62,17 @@ module _ (Placed : ℕ → WorldState → Type 0) (placed_on : (i : ℕ) (w : Wo
           each = p i inside own;
           asked_orbs = asked_of wild start units ready has w h site step.stands.lists step.stands.reached.calm k.orbs;
           placed = o.1.1 i inside calm;
+          prepared = λ place n j there named. (named_prepared units ready has start w h site place n j there named).there;
           up = λ q c l. open_up wild i own units ready has start w h site inside calm lists k.opened k.caught k.known.pointers k.known.first here q c l;
         }
 
+    heard_so : AreHeard wild ms w
+    heard_so serial sent found zero_to packet label place e is_which c mild answering =
+        heard_there wild units ready has start w step.stands.reached.holds step.stands.reached.site step.stands.lists step.stands.reached.calm step.known.orbs (λ p d. step.stands.reached.kept.on p d)
+        serial sent found zero_to packet label place e is_which c mild answering
+
     data_now : EachMoment (DataSo i) (hist later t.world)
-    data_now = turn_data wild i own (Placed i) (placed_on i) (gives wild i own) past s later t step.turn facts
+    data_now = turn_data wild i own (Placed i) (placed_on i) (gives wild i own) past s later t step.turn facts heard_so
 
   data_walk : (wild : ℕ → Bool) (units ready : ℕ) → 0 < units → (start : List Disk) → Walks wild units ready start Ground Over (AllData wild)
   data_walk wild units ready has start past s later t step p = λ i b own. data_now wild units ready has start past s later t step p i b own

@@ -1,6 +1,6 @@
 -- A reply to an agent along a list of an initiator that injected no packets: what it asks to write, but for a status block, is the next chunk of the answer of its present
 -- ORB, in the buffer that is laid out for the command of this ORB.
-use Rattle.std.proofs.Common.{arith, ◌≡◌, ◌∙◌, refl, sym, ap, subst, ◌<◌, ℕ, Bool, List, length, take, drop, Option, Some, None}
+use Rattle.std.proofs.Common.{arith, ◌≡◌, ◌∙◌, refl, sym, ap, subst, ◌<◌, ℕ, Bool, List, length, take, drop, Option, Some, None, true, false, cond, ◌+◌, ◌-◌, ◌^◌, Result, Ok, Err, IfSome}
 use Rattle.async_packet.specs.Labels.{LabelParts}
 use Rattle.async_packet.specs.Packet.{Packet, header_in}
 use Rattle.label_table.specs.Layer.{judging_step, of_response}
@@ -13,13 +13,13 @@ use Rattle.command_agent.specs.declared.phase.Phase.{Phase}
 use Rattle.command_agent.specs.declared.phase.Phase.TheVariants as phases
 use Rattle.command_agent.specs.declared.step.AgentStep.{AgentStep}
 use Rattle.command_agent.specs.declared.step.Which.{Which}
-use Rattle.command_agent.specs.Machine.{Machine, chunk_of}
-use Rattle.agent_laws.specs.Along.Along.{Knows, Progress}
-use Rattle.agent_laws.specs.Along.Requests.{main_ask}
-use Rattle.agent_laws.specs.Along.Steps.{progress_by}
+use Rattle.command_agent.specs.Machine.{Machine, chunk_of, cut_to, is_ahead}
+use Rattle.agent_laws.specs.Along.Along.{Knows, Progress, Answers, HasTold}
+use Rattle.agent_laws.specs.Along.Requests.{main_ask, ahead_beside, main_beside}
+use Rattle.agent_laws.specs.Along.Steps.{progress_by, IsRun, Keeps, chunk_by, end_by, heard_by, main_heard, run_by}
 use Rattle.sbp_journal.specs.Run.{Moment}
-use Rattle.sbp_laws.specs.Lists.{command_at, slot_at}
-use Rattle.sbp_laws.specs.Terms.{ends, request_at}
+use Rattle.sbp_laws.specs.Lists.{command_at, slot_at, orb, prepared_in}
+use Rattle.sbp_laws.specs.Terms.{ends, request_at, ran_status, runs}
 use Rattle.sbp_target.specs.declared.purpose.Purpose.TheVariants as purposes
 use Rattle.sbp_target.specs.Desks.{which_in}
 use Rattle.sbp_target.specs.Nodes.{desk_at}
@@ -27,16 +27,33 @@ use Rattle.sbp_target.specs.Receiving.{answer_in}
 use Rattle.sbp_world.specs.Telling.{holder}
 use Rattle.sbp_world.specs.Worlds.{WorldState}
 use Rattle.sbp_world.proofs.Agents.Management.Still.{hist}
-use Rattle.sbp_world.specs.Lists.DataWrites.{IsPieceOf}
+use Rattle.sbp_world.specs.Lists.DataWrites.{IsPieceOf, IsAnswered}
 use Rattle.sbp_world.specs.Lists.Lists.{orbs}
-use Rattle.sbp_world.specs.Lists.Needs.{IsFor, machine_at}
+use Rattle.sbp_world.specs.Lists.Needs.{IsFor, machine_at, IsNamed, IsOpenAt, initiator_in}
 use Rattle.sbp_world.proofs.Lists.DataPieces.{chunk_is, same_piece}
 use Rattle.sbp_world.proofs.Lists.Deliveries.{waits_has}
 use Rattle.sbp_world.proofs.Lists.RunFits.{WasAsked}
 use Rattle.sbp_world.proofs.Lists.RunOutcomes.{AreAsked}
 use Rattle.sbp_world.proofs.Lists.StatusAnswers.{answering_next, goes, heard, keeps, main_wrote, opened, reply, small, step_ended}
 use Rattle.sbp_world.proofs.Lists.StatusDue.{Ours}
-use Rattle.sbp_world.proofs.Lists.Turns.{Ready, heard_ended}
+use Rattle.sbp_world.proofs.Lists.Turns.{Ready, heard_ended, heard_outcome}
+use Rattle.orb_layout.specs.declared.ask.FailCause.{FailCause}
+use Rattle.orb_layout.specs.declared.ask.FailCause.TheVariants as causes
+use Rattle.orb_layout.specs.declared.status.StatusKind.TheVariants as kinds
+use Rattle.orb_layout.specs.Replies.{Answer, Done, Expired, NoLabel, Payload, Refused, payload_of, write_failure}
+use Rattle.agent_laws.specs.Answers.{is_good}
+use Rattle.agent_laws.specs.Along.Lists.{OrbList}
+use Rattle.command_agent.specs.Steps.{advanced, ahead_read, ahead_step, answer_chunk, chunk_written, quiet, reply_step, served, src_of, told_or}
+use Rattle.command_agent.specs.declared.step.Which.TheVariants.{Ahead, Main}
+use Rattle.rbc_disk.specs.Units.{PlainDisk}
+use Rattle.rbc_disk.specs.declared.command.Outcome.{Outcome}
+use Rattle.page_table.specs.Buffer.{chunk, chunk_from}
+use Rattle.sbp_laws.specs.CarriedBytes.{laid_out}
+use Rattle.sbp_target.specs.Replies.{plain_in}
+use Rattle.sbp_world.specs.Agents.Alike.{has_list}
+use Rattle.sbp_world.proofs.Lists.DataHears.{AreHeard, IsHeard}
+use Rattle.sbp_world.proofs.Lists.Passing.{GoesOn, HasRun}
+use Rattle.sbp_world.proofs.Lists.UnrunLaws.{unrun_law}
 
 same_offset : (a b offset size : ℕ) → asks.Write a b ≡ asks.Write offset size → a ≡ offset
 same_offset a b offset size e = cc
@@ -50,18 +67,84 @@ read_write at len offset size e = cc
 none_write : (offset size : ℕ) → asks.Nothing ≡ asks.Write offset size → ⊥
 none_write offset size e = cc
 
+-- an ORB that is named stands in its slot
+abbrev pub ArePrepared : List Moment → WorldState → Type 0
+ArePrepared ms w = (place n k : ℕ) → initiator_in w place < length w.initiators → IsNamed ms w place n k → prepared_in ms (initiator_in w place) (slot_at ms (initiator_in w place) n k) ≡ Some (orb n k)
+
+-- as a turn begins with a packet that is got
+pub data IsTurnNow (ms : List Moment) (i n k : ℕ) (m : Machine) (got : ℕ) : Type 0 where
+  now_first : runs ms i n k ≡ 0 → m.written ≡ 0 → IsTurnNow ms i n k m got
+  now_follows : IsAnswered ms i n k m got → IsTurnNow ms i n k m got
+
+-- a write to an address but 0 is one of an answer
+is_answering : (phase : Phase) (m : Machine) (offset size : ℕ) → main_ask phase m ≡ asks.Write offset size → 0 < offset → phase ≡ phases.Answering
+is_answering phases.Answering m offset size e some = refl
+is_answering phases.WritingStatus m offset size e some = absurd (let z = same_offset 0 (length m.outgoing) offset size e in omega (arith, z, some))
+is_answering phases.WritingLastStatus m offset size e some = absurd (let z = same_offset 0 (length m.outgoing) offset size e in omega (arith, z, some))
+is_answering phases.Fetching m offset size e some = absurd (read_write _ _ offset size e)
+is_answering phases.ReadingTable m offset size e some = absurd (read_write _ _ offset size e)
+is_answering (phases.ReadingData wanted) m offset size e some = absurd (read_write _ _ offset size e)
+is_answering phases.ReadingNext m offset size e some = absurd (read_write _ _ offset size e)
+is_answering phases.Suspended m offset size e some = absurd (none_write offset size e)
+is_answering phases.Reset m offset size e some = absurd (none_write offset size e)
+is_answering phases.Dead m offset size e some = absurd (none_write offset size e)
+
+-- an agent whose present ORB ran good writes its answer
+unrun : (o : Option Outcome) → o ≡ None → is_good o ≡ true → ⊥
+unrun o e g = let z : false ≡ true = sym (ap is_good e) ∙ g in cc
+
+good_answers : (l : OrbList) (p : Progress) (phase : Phase) (m : Machine) → Knows l p phase m → has_list phase ≡ true → is_good p.outcome ≡ true → phase ≡ phases.Answering
+good_answers l p phases.Answering m k h g = refl
+good_answers l p phases.Fetching m k h g = absurd (unrun p.outcome k.unrun g)
+good_answers l p phases.ReadingTable m k h g = absurd (unrun p.outcome k.awaits.unrun g)
+good_answers l p (phases.ReadingData wanted) m k h g = absurd (unrun p.outcome k.awaits.unrun g)
+good_answers l p phases.WritingStatus m k h g = absurd (unrun p.outcome k.over.unrun g)
+good_answers l p phases.WritingLastStatus m k h g = absurd (unrun p.outcome k.over.unrun g)
+good_answers l p phases.ReadingNext m k h g = absurd (unrun p.outcome k.over.unrun g)
+good_answers l p phases.Suspended m k h g = absurd (unrun p.outcome k.over.unrun g)
+good_answers l p phases.Reset m k h g = absurd (let z : false ≡ true = h in cc)
+good_answers l p phases.Dead m k h g = absurd (let z : false ≡ true = h in cc)
+
+-- its write failed, or the read ahead was answered: it asks for no write of an answer
+module _ (m : Machine) (place : ℕ) (plain : PlainDisk) (told : Option Told) (answer : Answer) where
+  pub failed_ends : m.phase ≡ phases.Answering → (cause : FailCause) → write_failure answer ≡ Some cause → (reply_step m place plain told Main answer).0.ended ≡ Some kinds.Failed
+  unfolding reply_step
+  failed_ends e cause f =
+      subst (λ ph. (served place plain (told_or told) (advanced ph m answer).0 (advanced ph m answer).1).0.ended ≡ Some kinds.Failed) (sym e)
+      (subst (λ x. (served place plain (told_or told) (chunk_written m x).0 (chunk_written m x).1).0.ended ≡ Some kinds.Failed) (sym f) refl)
+
+  ahead_asks : (r : Result (List ℕ) FailCause) → (ahead_read m r).0.ask ≡ asks.Nothing
+  ahead_asks (Ok bytes) = refl
+  ahead_asks (Err cause) = refl
+
+  if_asks : (b : Bool) (x y : AgentStep × Machine) → x.0.ask ≡ asks.Nothing → y.0.ask ≡ asks.Nothing → (cond b x y).0.ask ≡ asks.Nothing
+  if_asks true x y h k = h
+  if_asks false x y h k = k
+
+  pub ahead_nothing : (reply_step m place plain told Ahead answer).0.ask ≡ asks.Nothing
+  unfolding reply_step
+  ahead_nothing = if_asks (is_ahead m.ahead) (ahead_step m answer) (quiet, m) (ahead_asks (payload_of answer 32)) refl
+
+pub done_of : (a : Answer) → write_failure a ≡ None → a ≡ Done
+done_of Done e = refl
+done_of (Payload bytes) e = absurd (let z : Some causes.Grammar ≡ None = e in cc)
+done_of (Refused rcode) e = absurd (let z : Some causes.Refused ≡ None = e in cc)
+done_of Expired e = absurd (let z : Some causes.Timeout ≡ None = e in cc)
+done_of NoLabel e = absurd (let z : Some causes.Label ≡ None = e in cc)
+
 module _ (past : List Moment) (i n : ℕ) (small_slots : (k : ℕ) → slot_at past i n k < 32) where
   not_zero : (len offset size : ℕ) → asks.Write 0 len ≡ asks.Write offset size → 0 < offset → ⊥
   not_zero len offset size e some = let z = same_offset 0 len offset size e in omega (arith, z, some)
 
-  piece_by : (p : Progress) (phase : Phase) (m : Machine) → Knows (orbs past i n) p phase m → (phase ≡ phases.Answering → WasAsked (command_at past i n p.ended) (request_at past i n p.ended) (slot_at past i n p.ended)) → (offset size : ℕ) → main_ask phase m ≡ asks.Write offset size → 0 < offset → IsPieceOf past i n p.ended m offset size
-  piece_by p phases.Answering m k l offset size e some =
+  piece_by : (p : Progress) (phase : Phase) (m : Machine) → Knows (orbs past i n) p phase m → (phase ≡ phases.Answering → WasAsked (command_at past i n p.ended) (request_at past i n p.ended) (slot_at past i n p.ended)) → (phase ≡ phases.Answering → prepared_in past i (slot_at past i n p.ended) ≡ Some (orb n p.ended)) → (offset size : ℕ) → main_ask phase m ≡ asks.Write offset size → 0 < offset → IsPieceOf past i n p.ended m offset size
+  piece_by p phases.Answering m k l there offset size e some =
       let a = l refl in
       let c = chunk_of m m.written (length m.answer) in
       let at : c.offset ≡ offset = same_offset c.offset c.length offset size e in
       let long : c.length ≡ size = same_size c.offset c.length offset size e in
       record {
         below = k.told.turn.linked;
+        has = there refl;
         cmd = a.cmd;
         command = a.command_is;
         small = small_slots p.ended;
@@ -69,15 +152,15 @@ module _ (past : List Moment) (i n : ℕ) (small_slots : (k : ℕ) → slot_at p
         piece = same_piece offset size c (sym at) (sym long) ∙ chunk_is past i n p m k a;
         bytes = k.bytes ∙ ap (λ j. take j (drop m.written m.answer)) long;
       }
-  piece_by p phases.WritingStatus m k l offset size e some = absurd (not_zero (length m.outgoing) offset size e some)
-  piece_by p phases.WritingLastStatus m k l offset size e some = absurd (not_zero (length m.outgoing) offset size e some)
-  piece_by p phases.Fetching m k l offset size e some = absurd (read_write _ _ offset size e)
-  piece_by p phases.ReadingTable m k l offset size e some = absurd (read_write _ _ offset size e)
-  piece_by p (phases.ReadingData wanted) m k l offset size e some = absurd (read_write _ _ offset size e)
-  piece_by p phases.ReadingNext m k l offset size e some = absurd (read_write _ _ offset size e)
-  piece_by p phases.Suspended m k l offset size e some = absurd (none_write offset size e)
-  piece_by p phases.Reset m k l offset size e some = absurd (none_write offset size e)
-  piece_by p phases.Dead m k l offset size e some = absurd (none_write offset size e)
+  piece_by p phases.WritingStatus m k l there offset size e some = absurd (not_zero (length m.outgoing) offset size e some)
+  piece_by p phases.WritingLastStatus m k l there offset size e some = absurd (not_zero (length m.outgoing) offset size e some)
+  piece_by p phases.Fetching m k l there offset size e some = absurd (read_write _ _ offset size e)
+  piece_by p phases.ReadingTable m k l there offset size e some = absurd (read_write _ _ offset size e)
+  piece_by p (phases.ReadingData wanted) m k l there offset size e some = absurd (read_write _ _ offset size e)
+  piece_by p phases.ReadingNext m k l there offset size e some = absurd (read_write _ _ offset size e)
+  piece_by p phases.Suspended m k l there offset size e some = absurd (none_write offset size e)
+  piece_by p phases.Reset m k l there offset size e some = absurd (none_write offset size e)
+  piece_by p phases.Dead m k l there offset size e some = absurd (none_write offset size e)
 
 -- ---- a reply to an agent
 module _ (wild : ℕ → Bool) (past : List Moment) (w : WorldState) (r : Ready wild past w) (asked : AreAsked wild (hist past w) w) (sent : Sent) (is_for : IsFor w sent) (run : Option Told) (disks : List Disk) (p : Packet) (label : LabelParts) (place : ℕ) (f : (judging_step w.target.layer sent.generation sent.bytes).0 ≡ of_response p label (Some (purposes.Agent place))) (b : place < 8) (login : Login) (which : Which) (e : which_in (desk_at w.target place) (header_in p).source label ≡ Some which) (own : Ours wild past w r place) where
@@ -90,8 +173,8 @@ module _ (wild : ℕ → Bool) (past : List Moment) (w : WorldState) (r : Ready 
   abbrev step : AgentStep × Machine
   step = reply wild past w r asked sent is_for run disks p label place f b login which e
 
-  pub reply_piece : step.0.ended ≡ None → (offset size : ℕ) → step.0.ask ≡ asks.Write offset size → 0 < offset → (let o = opened wild past w r asked sent is_for run disks p label place f b login which e own in IsPieceOf ms i o.n (ends ms i o.n) step.1 offset size)
-  reply_piece none offset size wrote some =
+  pub reply_piece : ArePrepared ms w → step.0.ended ≡ None → (offset size : ℕ) → step.0.ask ≡ asks.Write offset size → 0 < offset → (let o = opened wild past w r asked sent is_for run disks p label place f b login which e own in IsPieceOf ms i o.n (ends ms i o.n) step.1 offset size)
+  reply_piece prepared none offset size wrote some =
       let o = opened wild past w r asked sent is_for run disks p label place f b login which e own in
       let g = goes wild past w r asked sent is_for run disks p label place f b login which e own in
       let k = keeps wild past w r asked sent is_for run disks p label place f b login which e own in
@@ -101,4 +184,108 @@ module _ (wild : ℕ → Bool) (past : List Moment) (w : WorldState) (r : Ready 
       subst (λ j. IsPieceOf ms i o.n j step.1 offset size) same
       (piece_by ms i o.n (small wild past w r asked sent is_for run disks p label place f b login which e own) now step.1.phase step.1 k.along.main
       (λ a. asked place b (waits_has wild past w r place b (header_in p).source label which e) own o.n o.list now.ended (omega (arith, same)) (answering_next ms i o.n now step.1.phase step.1 k.along.main a))
+      (λ a. prepared place o.n now.ended o.inside (o.named now.ended (omega (arith, same)) (answering_next ms i o.n now step.1.phase step.1 k.along.main a)))
       offset size (k.main_is ∙ main_wrote step.0.promoted step.0.ask _ _ offset size wrote) some)
+
+  -- ---- in turn
+  abbrev O : IsOpenAt ms w place
+  O = opened wild past w r asked sent is_for run disks p label place f b login which e own
+
+  abbrev G : GoesOn ms i O.n (machine_at w place)
+  G = goes wild past w r asked sent is_for run disks p label place f b login which e own
+
+  abbrev before_now : Progress
+  before_now = heard wild past w r asked sent is_for run disks p label place f b login which e own
+
+  abbrev now_then : Progress
+  now_then = progress_by step before_now
+
+  abbrev M : Machine
+  M = machine_at w place
+
+  none_then : step.0.ended ≡ None → now_then ≡ run_by step.0.ran step.1.answer before_now
+  none_then none = ap (λ x. end_by x (src_of step.1.orb.next) (run_by step.0.ran step.1.answer before_now)) none
+
+  is_open : has_list M.phase ≡ true
+  is_open = waits_has wild past w r place b (header_in p).source label which e
+
+  -- its command ran in this turn
+  ran_now : (outcome : Outcome) → step.0.ran ≡ Some outcome → runs ms i O.n (ends ms i O.n) ≡ 0
+  ran_now outcome ran =
+      let k = keeps wild past w r asked sent is_for run disks p label place f b login which e own in
+      let once = (subst (λ x. IfSome x (λ o. IsRun (orbs ms i O.n) before_now place (plain_in w.target.units disks login.unit) step.1.present step.1.orb step.1.segments step.1.payload)) ran k.runs).once in
+      let none : G.progress.outcome ≡ None = sym (heard_outcome which M (answer_in p) G.progress) ∙ once in
+      let had : runs ms i O.n G.progress.ended ≡ 0 = subst (λ o. HasRun o (runs ms i O.n G.progress.ended) (ran_status ms i O.n G.progress.ended)) none (G.ran unrun_law) in
+      ap (λ j. runs ms i O.n j) (sym G.is) ∙ had
+
+  -- it goes on behind the chunk that was written
+  module _ (answering : M.phase ≡ phases.Answering) (done : write_failure (answer_in p) ≡ None) (main : which ≡ Main) (x : IsHeard ms w is_for.serial place (answer_in p)) where
+    abbrev was : Answers (orbs ms i O.n) G.progress M.present M.orb M.segments M.answer M.written M.outgoing
+    was = subst (λ ph. Knows (orbs ms i O.n) G.progress ph M) answering G.along.main
+
+    by_main : before_now ≡ main_heard M.phase M (answer_in p) G.progress
+    by_main = ap (λ (x : Which). heard_by x M (answer_in p) G.progress) main
+
+    as_answered : before_now ≡ record G.progress { carried = G.progress.carried + answer_chunk M }
+    as_answered =
+        by_main ∙ (ap (λ ph. main_heard ph M (answer_in p) G.progress) answering ∙ ap (λ x. chunk_by x (answer_chunk M) G.progress) done)
+
+    goes_behind : now_then ≡ before_now → (there : HasTold (orbs ms i O.n) now_then step.1.present step.1.orb step.1.segments step.1.answer step.1.written) → IsAnswered ms i O.n (ends ms i O.n) step.1 is_for.serial
+    goes_behind same there =
+        let c = x.chunk in
+        let written : step.1.written ≡ M.written + answer_chunk M =
+            there.done ∙ (ap (λ (y : Progress). y.carried) (same ∙ as_answered) ∙ ap (λ j. j + answer_chunk M) (sym was.told.done)) in
+        let answers : step.1.answer ≡ M.answer = there.told ∙ (ap (λ (y : Progress). y.answer) (same ∙ as_answered) ∙ sym was.told.told) in
+        let list_same : c.list ≡ O.n = (let z : Some c.list ≡ Some O.n = sym c.list_is ∙ O.list in cc) in
+        let built : IsAnswered ms i c.list c.number step.1 is_for.serial = record {
+          serial = x.request;
+          closed = x.closed;
+          done = x.told ∙ done_of (answer_in p) done;
+          from = c.from;
+          to = c.to;
+          under_way = c.under_way;
+          access = c.access;
+          is = c.is;
+          writes = c.writes;
+          cmd = c.cmd;
+          command = c.command;
+          done_before = M.written;
+          piece = subst (λ xs. chunk c.access.offset (length c.access.payload) ≡ cut_to (length xs - M.written) (chunk_from (laid_out (slot_at ms i c.list c.number) c.cmd c.cmd.segments) M.written (2 ^ (c.cmd.max_payload + 2)))) (sym answers) c.piece;
+          behind = written ∙ ap (λ j. M.written + j) (sym (x.size c.access c.is));
+          stands = c.stands;
+        } in
+        subst (λ l. IsAnswered ms i l (ends ms i l) step.1 is_for.serial) list_same (subst (λ k. IsAnswered ms i c.list k step.1 is_for.serial) c.number_is built)
+
+  pub reply_turn : AreHeard wild ms w → step.0.ended ≡ None → (offset size : ℕ) → step.0.ask ≡ asks.Write offset size → 0 < offset → IsTurnNow ms i O.n (ends ms i O.n) step.1 is_for.serial
+  reply_turn heard_so none offset size wrote some = by_run step.0.ran refl
+    where
+      k : Keeps (orbs ms i O.n) before_now place (plain_in w.target.units disks login.unit) (main_beside which M) (ahead_beside which M) step
+      k = keeps wild past w r asked sent is_for run disks p label place f b login which e own
+
+      there : HasTold (orbs ms i O.n) now_then step.1.present step.1.orb step.1.segments step.1.answer step.1.written
+      there =
+          let answering = is_answering step.1.phase step.1 offset size (k.main_is ∙ main_wrote step.0.promoted step.0.ask _ _ offset size wrote) some in
+          (subst (λ ph. Knows (orbs ms i O.n) now_then ph step.1) answering k.along.main).told
+
+      by_failure : (same : now_then ≡ before_now) (answering : M.phase ≡ phases.Answering) (main : which ≡ Main) (x : Option FailCause) → write_failure (answer_in p) ≡ x → IsTurnNow ms i O.n (ends ms i O.n) step.1 is_for.serial
+      by_failure same answering main None g =
+          now_follows (goes_behind answering g main
+          (heard_so is_for.serial sent is_for.found is_for.to p label place f (subst (λ y. which_in (desk_at w.target place) (header_in p).source label ≡ Some y) main e) b own answering) same there)
+      by_failure same answering main (Some cause) g =
+          let ends_so : step.0.ended ≡ Some kinds.Failed = ap (λ (y : Which). (reply_step M place (plain_in w.target.units disks login.unit) run y (answer_in p)).0.ended) main ∙ failed_ends M place (plain_in w.target.units disks login.unit) run (answer_in p) answering cause g in
+          absurd (let z : None ≡ Some kinds.Failed = sym none ∙ ends_so in cc)
+
+      by_which : (same : now_then ≡ before_now) (answering : M.phase ≡ phases.Answering) (y : Which) → which ≡ y → IsTurnNow ms i O.n (ends ms i O.n) step.1 is_for.serial
+      by_which same answering Main g = by_failure same answering g (write_failure (answer_in p)) refl
+      by_which same answering Ahead g =
+          let nothing : step.0.ask ≡ asks.Nothing = ap (λ (y : Which). (reply_step M place (plain_in w.target.units disks login.unit) run y (answer_in p)).0.ask) g ∙ ahead_nothing M place (plain_in w.target.units disks login.unit) run (answer_in p) in
+          absurd (none_write offset size (sym nothing ∙ wrote))
+
+      by_run : (o : Option Outcome) → step.0.ran ≡ o → IsTurnNow ms i O.n (ends ms i O.n) step.1 is_for.serial
+      by_run (Some outcome) ran =
+          let is : now_then ≡ run_by (Some outcome) step.1.answer before_now = none_then none ∙ ap (λ o. run_by o step.1.answer before_now) ran in
+          now_first (ran_now outcome ran) (there.done ∙ ap (λ (y : Progress). y.carried) is)
+      by_run None ran =
+          let same : now_then ≡ before_now = none_then none ∙ ap (λ o. run_by o step.1.answer before_now) ran in
+          let good : is_good G.progress.outcome ≡ true = ap is_good (sym (ap (λ (y : Progress). y.outcome) same ∙ heard_outcome which M (answer_in p) G.progress)) ∙ there.ran in
+          by_which same (good_answers (orbs ms i O.n) G.progress M.phase M G.along.main is_open good) which refl

@@ -1,6 +1,6 @@
 -- A delivery to the target sends the data of answers as they are to be sent: each write into a buffer of an initiator that injected no packets is of the next chunk of the
 -- present ORB of one of its lists, as the turn began; where this is known of the management.
-use Rattle.std.proofs.Common.{◌≡◌, ◌∙◌, refl, sym, ap, ℕ, suc, List, [], ◌∷◌, ◌++◌, Some, None}
+use Rattle.std.proofs.Common.{◌≡◌, ◌∙◌, refl, sym, ap, ℕ, suc, List, [], ◌∷◌, ◌++◌, Some, None, subst}
 use Rattle.command_agent.specs.Machine.{Machine, new_machine}
 use Rattle.sbp_bus.specs.Generations.{GenerationsState, node_of, topology_at}
 use Rattle.sbp_journal.specs.Addresses.{Access}
@@ -9,15 +9,16 @@ use Rattle.sbp_journal.specs.declared.outbox.Outgoing.{Outgoing}
 use Rattle.sbp_journal.specs.declared.side.Side.{Side}
 use Rattle.sbp_journal.specs.declared.side.Side.TheVariants as sides
 use Rattle.sbp_journal.specs.Run.{Moment, said}
-use Rattle.sbp_laws.specs.Terms.{ends}
+use Rattle.sbp_laws.specs.Terms.{ends, runs}
 use Rattle.sbp_laws.specs.Turns.{EachMoment}
 use Rattle.sbp_world.specs.Sending.{sent as sent_one, sent_all}
 use Rattle.sbp_world.specs.Telling.{told, told_all}
 use Rattle.sbp_world.specs.Worlds.{WorldState}
 use Rattle.sbp_world.proofs.Agents.Management.Still.{hist}
-use Rattle.sbp_world.specs.Lists.DataWrites.{DataSo, IsDataWrite, IsPieceOf}
+use Rattle.sbp_world.specs.Lists.DataWrites.{DataSo, IsDataWrite, IsPieceOf, IsAnswered, IsInTurn, is_first, follows}
 use Rattle.sbp_world.proofs.Lists.Judging.{Grown}
 use Rattle.sbp_world.proofs.Lists.StatusSends.{sent_generations, sent_on}
+use Rattle.sbp_journal.specs.declared.note.Note.{Note}
 
 -- ---- a history grows
 assoc : (a b c : List Moment) → (a ++ b) ++ c ≡ a ++ (b ++ c)
@@ -28,16 +29,22 @@ grown_note : (moment : Moment) (a b : List Moment) → Grown a b → Grown a (mo
 grown_note moment a b g = record { new = moment ∷ g.new; is = ap (λ ms. moment ∷ ms) g.is }
 
 -- ---- a write that is sent now
-pub record IsPieceNow (ms : List Moment) (i : ℕ) (access : Access) : Type 0 where
+-- it comes in turn, behind the first note
+pub data IsTurnBy (ms : List Moment) (i n k : ℕ) (m : Machine) (note : Note) : Type 0 where
+  by_first : runs ms i n k ≡ 0 → m.written ≡ 0 → IsTurnBy ms i n k m note
+  by_follows : (got : ℕ) → note ≡ notes.Got got → IsAnswered ms i n k m got → IsTurnBy ms i n k m note
+
+pub record IsPieceNow (ms : List Moment) (i : ℕ) (note : Note) (access : Access) : Type 0 where
   pub list : ℕ
   pub machine : Machine
   pub size : ℕ
   pub piece : IsPieceOf ms i list (ends ms i list) machine access.offset size
   pub bytes : access.payload ≡ machine.outgoing
+  pub turn : IsTurnBy ms i list (ends ms i list) machine note
 
-module _ (i : ℕ) (past ms : List Moment) where
+module _ (i : ℕ) (past ms : List Moment) (note : Note) where
   pub record Sends (now : List Moment) : Type 0 where
-    pub grown : Grown ms now
+    pub grown : Grown (said note ∷ ms) now
     pub so : EachMoment (DataSo i) now
 
   -- sides that are no notes of its own
@@ -50,7 +57,7 @@ module _ (i : ℕ) (past ms : List Moment) where
   AreTold (side ∷ later) = IsTold side × AreTold later
 
   pub noted : (moment : Moment) (now : List Moment) → DataSo i moment now → Sends now → Sends (moment ∷ now)
-  noted moment now d h = record { grown = grown_note moment ms now h.grown; so = (d, h.so) }
+  noted moment now d h = record { grown = grown_note moment (said note ∷ ms) now h.grown; so = (d, h.so) }
 
   told_one : (weight : ℕ) (side : Side) (w : WorldState) → IsTold side → Sends (hist past w) → Sends (hist past (told weight side w))
   unfolding told
@@ -100,7 +107,11 @@ module _ (i : ℕ) (past ms : List Moment) where
 
   -- ---- packets that leave, each write of data among them as it is to be
   abbrev pub IsDue : GenerationsState → Outgoing → Type 0
-  IsDue g packet = node_of g 0 packet.to ≡ Some (suc i) → (slot : ℕ) (x : IsDataWrite packet.bytes slot) → IsPieceNow ms i x.access
+  IsDue g packet = node_of g 0 packet.to ≡ Some (suc i) → (slot : ℕ) (x : IsDataWrite packet.bytes slot) → IsPieceNow ms i note x.access
+
+  turn_of : (n k : ℕ) (m : Machine) (later now : List Moment) → later ++ said note ∷ ms ≡ now → IsTurnBy ms i n k m note → IsInTurn now ms i n k m
+  turn_of n k m later now is (by_first none start) = is_first none start
+  turn_of n k m later now is (by_follows got e x) = follows got later (subst (λ y. later ++ said y ∷ ms ≡ now) e is) x
 
   abbrev pub AllDue : GenerationsState → List Outgoing → Type 0
   AllDue g [] = Unit {0}
@@ -116,5 +127,15 @@ module _ (i : ℕ) (past ms : List Moment) where
       noted (said (notes.Sent s (topology_at w.generations 0).generation 0 t packet.bytes)) (hist past w)
       (λ of to slot x.
       let p = f.0 (ap (λ (y : GenerationsState). node_of y 0 packet.to) (sym e) ∙ (there ∙ ap (λ n. Some n) to)) slot x in
-      record { later = h.grown.new; before = ms; is = h.grown.is; list = p.list; machine = p.machine; size = p.size; piece = p.piece; bytes = p.bytes })
+      record {
+        later = h.grown.new ++ said note ∷ [];
+        before = ms;
+        is = assoc h.grown.new (said note ∷ []) ms ∙ h.grown.is;
+        list = p.list;
+        machine = p.machine;
+        size = p.size;
+        piece = p.piece;
+        bytes = p.bytes;
+        turn = turn_of p.list (ends ms i p.list) p.machine h.grown.new (hist past w) h.grown.is p.turn;
+      })
       h))
