@@ -17,7 +17,7 @@ use Rattle.sbp_journal.specs.Wire.{Terms, opened, terms}
 use Rattle.sbp_journal.specs.declared.event.Event.{Event}
 use Rattle.sbp_laws.specs.Packets.{access_at, answered_as, answered_at, answered_in, begun_in, is_under_way, receiver_in, sender_in, waits_for}
 use Rattle.sbp_laws.specs.Packets as laws
-use Rattle.sbp_laws.specs.Targets.{Target, agent_at, over, target_at}
+use Rattle.sbp_laws.specs.Targets.{agent_at, over, target_at}
 use Rattle.sbp_target.specs.declared.purpose.Purpose.TheVariants as purposes
 use Rattle.sbp_target.specs.Desks.{which_in}
 use Rattle.sbp_target.specs.Nodes.{desk_at}

@@ -35,4 +35,4 @@ module _ (short : ShortLaw) where
       }
 
   pub data_sent_law : Under (WhereTame AllDataSo)
-  data_sent_law = data_sent opened_known.laws.pointers opened_known.laws.begun (here_by short) (places.names opened_known.laws.pointers opened_known.laws.begun (here_by short) (placed_by short)) dry_by
+  data_sent_law = data_sent opened_known.laws.pointers opened_known.laws.begun (here_by short) (places.names opened_known.laws.pointers opened_known.laws.begun (here_by short) (placed_by short)) (places.untaken_law opened_known.laws.pointers opened_known.laws.begun (here_by short) (placed_by short)) dry_by

@@ -1,5 +1,5 @@
 -- At each place of a run, the write that an agent along a list waits for while it writes its answer is of the next chunk of the buffer of its present ORB.
-use Rattle.std.proofs.Common.{arith, ◌≡◌, ◌∙◌, sym, ap, subst, ◌<◌, ◌≤◌, ◌+◌, ◌-◌, ◌^◌, ℕ, Bool, true, false, List, length, take, drop, Some, Option}
+use Rattle.std.proofs.Common.{arith, ◌≡◌, ◌∙◌, sym, ap, subst, ◌<◌, ◌≤◌, ◌+◌, ◌-◌, ◌^◌, ℕ, Bool, true, false, List, length, take, drop, Some}
 use Rattle.command_agent.specs.declared.phase.Phase.{Phase}
 use Rattle.command_agent.specs.declared.phase.Phase.TheVariants as phases
 use Rattle.command_agent.specs.declared.step.Which.TheVariants.{Main}

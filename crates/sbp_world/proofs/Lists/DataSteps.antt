@@ -1,6 +1,6 @@
 -- A reply to an agent along a list of an initiator that injected no packets: what it asks to write, but for a status block, is the next chunk of the answer of its present
 -- ORB, in the buffer that is laid out for the command of this ORB.
-use Rattle.std.proofs.Common.{arith, ◌≡◌, ◌∙◌, refl, sym, ap, subst, ◌<◌, ℕ, Bool, List, length, take, drop, Option, Some, None, true, false, cond, ◌+◌, ◌-◌, ◌^◌, Result, Ok, Err, IfSome}
+use Rattle.std.proofs.Common.{arith, ◌≡◌, ◌∙◌, refl, sym, ap, subst, ◌<◌, ℕ, Bool, List, length, take, drop, Option, Some, None, true, false, cond, ◌+◌, ◌-◌, ◌^◌, Result, Ok, Err, IfSome, ◌∷◌, [], suc, nat_eq, nat_lt}
 use Rattle.async_packet.specs.Labels.{LabelParts}
 use Rattle.async_packet.specs.Packet.{Packet, header_in}
 use Rattle.label_table.specs.Layer.{judging_step, of_response}
@@ -13,18 +13,18 @@ use Rattle.command_agent.specs.declared.phase.Phase.{Phase}
 use Rattle.command_agent.specs.declared.phase.Phase.TheVariants as phases
 use Rattle.command_agent.specs.declared.step.AgentStep.{AgentStep}
 use Rattle.command_agent.specs.declared.step.Which.{Which}
-use Rattle.command_agent.specs.Machine.{Machine, chunk_of, cut_to, is_ahead}
+use Rattle.command_agent.specs.Machine.{Machine, chunk_of, cut_to, is_ahead, has_present}
 use Rattle.agent_laws.specs.Along.Along.{Knows, Progress, Answers, HasTold}
 use Rattle.agent_laws.specs.Along.Requests.{main_ask, ahead_beside, main_beside}
 use Rattle.agent_laws.specs.Along.Steps.{progress_by, IsRun, Keeps, chunk_by, end_by, heard_by, main_heard, run_by}
-use Rattle.sbp_journal.specs.Run.{Moment}
-use Rattle.sbp_laws.specs.Lists.{command_at, slot_at, orb, prepared_in}
-use Rattle.sbp_laws.specs.Terms.{ends, request_at, ran_status, runs}
+use Rattle.sbp_journal.specs.Run.{Moment, said}
+use Rattle.sbp_laws.specs.Lists.{command_at, slot_at, orb, prepared_in, linked}
+use Rattle.sbp_laws.specs.Terms.{ends, request_at, ran_status, runs, status_of}
 use Rattle.sbp_target.specs.declared.purpose.Purpose.TheVariants as purposes
 use Rattle.sbp_target.specs.Desks.{which_in}
 use Rattle.sbp_target.specs.Nodes.{desk_at}
 use Rattle.sbp_target.specs.Receiving.{answer_in}
-use Rattle.sbp_world.specs.Telling.{holder}
+use Rattle.sbp_world.specs.Telling.{holder, ticket_at}
 use Rattle.sbp_world.specs.Worlds.{WorldState}
 use Rattle.sbp_world.proofs.Agents.Management.Still.{hist}
 use Rattle.sbp_world.specs.Lists.DataWrites.{IsPieceOf, IsAnswered}
@@ -47,13 +47,30 @@ use Rattle.command_agent.specs.Steps.{advanced, ahead_read, ahead_step, answer_c
 use Rattle.command_agent.specs.declared.step.Which.TheVariants.{Ahead, Main}
 use Rattle.rbc_disk.specs.Units.{PlainDisk}
 use Rattle.rbc_disk.specs.declared.command.Outcome.{Outcome}
-use Rattle.page_table.specs.Buffer.{chunk, chunk_from}
+use Rattle.page_table.specs.Buffer.{chunk, chunk_from, addresses, buffer_addresses}
 use Rattle.sbp_laws.specs.CarriedBytes.{laid_out}
 use Rattle.sbp_target.specs.Replies.{plain_in}
 use Rattle.sbp_world.specs.Agents.Alike.{has_list}
 use Rattle.sbp_world.proofs.Lists.DataHears.{AreHeard, IsHeard}
 use Rattle.sbp_world.proofs.Lists.Passing.{GoesOn, HasRun}
 use Rattle.sbp_world.proofs.Lists.UnrunLaws.{unrun_law}
+use Rattle.std.specs.Prelude.{min}
+use Rattle.std.proofs.lemmas.Bool.Decides.{nat_tests}
+use Rattle.std.proofs.lemmas.Nat.{pow_pos}
+use Rattle.bus_memory.specs.declared.window.Window.TheVariants as windows
+use Rattle.bus_memory.specs.Windows.{start as start_of, window_at}
+use Rattle.orb_layout.specs.declared.status.StatusKind.{StatusKind}
+use Rattle.page_table.proofs.Places.{chunk_in_place}
+use Rattle.page_table.specs.declared.segment.Chunk.{Chunk}
+use Rattle.page_table.specs.declared.segment.Segment.{Segment}
+use Rattle.sbp_bus.specs.Telling.{list_in, orb_in}
+use Rattle.sbp_journal.specs.Addresses.{Access}
+use Rattle.sbp_journal.specs.declared.event.Cmd.{Cmd}
+use Rattle.sbp_journal.specs.declared.note.Note.TheVariants as notes
+use Rattle.sbp_target.specs.Telling.{orb_of}
+use Rattle.sbp_world.specs.Hosts.Carrying.{Follows}
+use Rattle.sbp_world.proofs.Lists.Slots.{IsFilled, data_window}
+use Rattle.sbp_world.proofs.Lists.StatusLosses.{present_is}
 
 same_offset : (a b offset size : ℕ) → asks.Write a b ≡ asks.Write offset size → a ≡ offset
 same_offset a b offset size e = cc
@@ -67,14 +84,73 @@ read_write at len offset size e = cc
 none_write : (offset size : ℕ) → asks.Nothing ≡ asks.Write offset size → ⊥
 none_write offset size e = cc
 
--- an ORB that is named stands in its slot
+-- an ORB that is named stands in its slot, and its command fills the buffer
+pub record IsStored (ms : List Moment) (i n k : ℕ) : Type 0 where
+  pub there : prepared_in ms i (slot_at ms i n k) ≡ Some (orb n k)
+  pub small : slot_at ms i n k < 32
+  pub filled : (cmd : Cmd) → command_at ms i n k ≡ Some cmd → IsFilled (slot_at ms i n k) cmd
+
 abbrev pub ArePrepared : List Moment → WorldState → Type 0
-ArePrepared ms w = (place n k : ℕ) → initiator_in w place < length w.initiators → IsNamed ms w place n k → prepared_in ms (initiator_in w place) (slot_at ms (initiator_in w place) n k) ≡ Some (orb n k)
+ArePrepared ms w = (place n k : ℕ) → initiator_in w place < length w.initiators → IsNamed ms w place n k → IsStored ms (initiator_in w place) n k
+
+-- a chunk of the buffer is in its window
+min_some : (a b : ℕ) → 0 < a → 0 < b → 0 < min a b
+min_some a b x y = grind (arith, nat_tests)
+
+pick_chunk : (b : Bool) (x y : Option Chunk) → (b ≡ true → IfSome x (λ c. 0 < c.length)) → (b ≡ false → IfSome y (λ c. 0 < c.length)) → IfSome (cond b x y) (λ c. 0 < c.length)
+pick_chunk true x y f g = f refl
+pick_chunk false x y f g = g refl
+
+some_chunk : (limit : ℕ) → 0 < limit → (segments : List Segment) (done : ℕ) → IfSome (chunk_from segments done limit) (λ c. 0 < c.length)
+some_chunk limit l [] done = tt
+some_chunk limit l (segment ∷ rest) done =
+    pick_chunk (nat_lt done segment.length) _ _
+    (λ e. let inside : done < segment.length = grind (arith, nat_tests) in min_some limit (segment.length - done) l (omega (arith, inside)))
+    (λ e. some_chunk limit l rest (done - segment.length))
+
+module _ (slot : ℕ) (small : slot < 32) (cmd : Cmd) (f : IsFilled slot cmd) (left done limit offset size : ℕ) (l : 0 < limit) (some : 0 < offset) where
+  abbrev laid : List Segment
+  laid = laid_out slot cmd cmd.segments
+
+  window_by : (found : Option Chunk) → chunk_from laid done limit ≡ found → chunk offset size ≡ cut_to left found → window_at offset ≡ Some (windows.Buffer slot)
+  window_by None e is = absurd (let z : offset ≡ 0 = ap (λ (c : Chunk). c.offset) is in omega (arith, z, some))
+  window_by (Some c) e is =
+      let at : Access = record { is_lock = false; is_write = true; is_block = true; offset = c.offset; count = c.length; payload = [] } in
+      let long : 0 < c.length = subst (λ x. IfSome x (λ y. 0 < y.length)) e (some_chunk limit l laid done) in
+      let place : Follows at slot cmd done = subst (λ x. IfSome x (λ piece. addresses piece.offset piece.length ≡ take piece.length (drop done (buffer_addresses laid)))) e (chunk_in_place laid done limit) in
+      ap window_at (ap (λ (y : Chunk). y.offset) is) ∙ data_window slot small cmd f at done long place
+
+  pub chunk_window : chunk offset size ≡ cut_to left (chunk_from laid done limit) → window_at offset ≡ Some (windows.Buffer slot)
+  chunk_window is = window_by (chunk_from laid done limit) refl is
 
 -- as a turn begins with a packet that is got
-pub data IsTurnNow (ms : List Moment) (i n k : ℕ) (m : Machine) (got : ℕ) : Type 0 where
-  now_first : runs ms i n k ≡ 0 → m.written ≡ 0 → IsTurnNow ms i n k m got
-  now_follows : IsAnswered ms i n k m got → IsTurnNow ms i n k m got
+pub record IsFirstNow (ms : List Moment) (w : WorldState) (place n k : ℕ) (one : AgentStep × Machine) : Type 0 where
+  pub outcome : Outcome
+  pub ran : one.0.ran ≡ Some outcome
+  pub none : runs ms (initiator_in w place) n k ≡ 0
+  pub start : one.1.written ≡ 0
+  pub list : list_in (ticket_at w place (orb_of one.1)) ≡ Some n
+  pub number : orb_in (ticket_at w place (orb_of one.1)) ≡ Some k
+
+pub data IsTurnNow (ms : List Moment) (w : WorldState) (place n k : ℕ) (one : AgentStep × Machine) (got : ℕ) : Type 0 where
+  now_first : IsFirstNow ms w place n k one → IsTurnNow ms w place n k one got
+  now_follows : 0 < runs ms (initiator_in w place) n k → IsAnswered ms (initiator_in w place) n k one.1 got → IsTurnNow ms w place n k one got
+
+-- what ran with a status ran
+ran_some : (ms : List Moment) (i n k : ℕ) (x : StatusKind) → ran_status ms i n k ≡ Some x → 0 < runs ms i n k
+ran_some [] i n k x e = absurd (let z : None ≡ Some x = e in cc)
+ran_some (said (notes.Ran j (Some m) (Some l) unit cdb bytes check) ∷ ms) i n k x e = pick (nat_eq i j) (nat_eq n m) (nat_eq k l) (ran_some ms i n k x) e
+  where
+    pick : (a b c : Bool) → (ran_status ms i n k ≡ Some x → 0 < runs ms i n k) → cond a (cond b (cond c (Some (status_of check)) (ran_status ms i n k)) (ran_status ms i n k)) (ran_status ms i n k) ≡ Some x → 0 < cond a (cond b (cond c (suc (runs ms j m l)) (runs ms i n k)) (runs ms i n k)) (runs ms i n k)
+    pick true true true f g = omega arith
+    pick true true false f g = f g
+    pick true false c f g = f g
+    pick false b c f g = f g
+ran_some (_ ∷ ms) i n k x e = ran_some ms i n k x e
+
+has_run : (ms : List Moment) (i n k : ℕ) (o : Option Outcome) → is_good o ≡ true → HasRun o (runs ms i n k) (ran_status ms i n k) → 0 < runs ms i n k
+has_run ms i n k None g h = absurd (let z : false ≡ true = g in cc)
+has_run ms i n k (Some outcome) g h = ran_some ms i n k _ h
 
 -- a write to an address but 0 is one of an answer
 is_answering : (phase : Phase) (m : Machine) (offset size : ℕ) → main_ask phase m ≡ asks.Write offset size → 0 < offset → phase ≡ phases.Answering
@@ -136,7 +212,7 @@ module _ (past : List Moment) (i n : ℕ) (small_slots : (k : ℕ) → slot_at p
   not_zero : (len offset size : ℕ) → asks.Write 0 len ≡ asks.Write offset size → 0 < offset → ⊥
   not_zero len offset size e some = let z = same_offset 0 len offset size e in omega (arith, z, some)
 
-  piece_by : (p : Progress) (phase : Phase) (m : Machine) → Knows (orbs past i n) p phase m → (phase ≡ phases.Answering → WasAsked (command_at past i n p.ended) (request_at past i n p.ended) (slot_at past i n p.ended)) → (phase ≡ phases.Answering → prepared_in past i (slot_at past i n p.ended) ≡ Some (orb n p.ended)) → (offset size : ℕ) → main_ask phase m ≡ asks.Write offset size → 0 < offset → IsPieceOf past i n p.ended m offset size
+  piece_by : (p : Progress) (phase : Phase) (m : Machine) → Knows (orbs past i n) p phase m → (phase ≡ phases.Answering → WasAsked (command_at past i n p.ended) (request_at past i n p.ended) (slot_at past i n p.ended)) → (phase ≡ phases.Answering → IsStored past i n p.ended) → (offset size : ℕ) → main_ask phase m ≡ asks.Write offset size → 0 < offset → IsPieceOf past i n p.ended m offset size
   piece_by p phases.Answering m k l there offset size e some =
       let a = l refl in
       let c = chunk_of m m.written (length m.answer) in
@@ -144,7 +220,7 @@ module _ (past : List Moment) (i n : ℕ) (small_slots : (k : ℕ) → slot_at p
       let long : c.length ≡ size = same_size c.offset c.length offset size e in
       record {
         below = k.told.turn.linked;
-        has = there refl;
+        has = (there refl).there;
         cmd = a.cmd;
         command = a.command_is;
         small = small_slots p.ended;
@@ -186,6 +262,15 @@ module _ (wild : ℕ → Bool) (past : List Moment) (w : WorldState) (r : Ready 
       (λ a. asked place b (waits_has wild past w r place b (header_in p).source label which e) own o.n o.list now.ended (omega (arith, same)) (answering_next ms i o.n now step.1.phase step.1 k.along.main a))
       (λ a. prepared place o.n now.ended o.inside (o.named now.ended (omega (arith, same)) (answering_next ms i o.n now step.1.phase step.1 k.along.main a)))
       offset size (k.main_is ∙ main_wrote step.0.promoted step.0.ask _ _ offset size wrote) some)
+
+  -- it goes to the slot of this ORB
+  pub reply_slot : ArePrepared ms w → step.0.ended ≡ None → (offset size : ℕ) → step.0.ask ≡ asks.Write offset size → 0 < offset → (slot : ℕ) → window_at offset ≡ Some (windows.Buffer slot) → (let o = opened wild past w r asked sent is_for run disks p label place f b login which e own in slot_at ms i o.n (ends ms i o.n) ≡ slot)
+  reply_slot prepared none offset size wrote some slot goes =
+      let o = opened wild past w r asked sent is_for run disks p label place f b login which e own in
+      let x = reply_piece prepared none offset size wrote some in
+      let stored = prepared place o.n (ends ms i o.n) o.inside (o.named (ends ms i o.n) (omega arith) x.below) in
+      let there = chunk_window (slot_at ms i o.n (ends ms i o.n)) x.small x.cmd (stored.filled x.cmd x.command) _ step.1.written (2 ^ (x.cmd.max_payload + 2)) offset size (pow_pos (x.cmd.max_payload + 2)) some x.piece in
+      let both : Some (windows.Buffer (slot_at ms i o.n (ends ms i o.n))) ≡ Some (windows.Buffer slot) = sym there ∙ goes in cc
 
   -- ---- in turn
   abbrev O : IsOpenAt ms w place
@@ -256,36 +341,63 @@ module _ (wild : ℕ → Bool) (past : List Moment) (w : WorldState) (r : Ready 
         } in
         subst (λ l. IsAnswered ms i l (ends ms i l) step.1 is_for.serial) list_same (subst (λ k. IsAnswered ms i c.list k step.1 is_for.serial) c.number_is built)
 
-  pub reply_turn : AreHeard wild ms w → step.0.ended ≡ None → (offset size : ℕ) → step.0.ask ≡ asks.Write offset size → 0 < offset → IsTurnNow ms i O.n (ends ms i O.n) step.1 is_for.serial
+  -- it was named so
+  named_now : step.1.phase ≡ phases.Answering → (below : ends ms i O.n < linked ms i O.n) → step.1.present ≡ start_of (windows.Orb (slot_at ms i O.n (ends ms i O.n))) → (list_in (ticket_at w place (orb_of step.1)) ≡ Some O.n) × (orb_in (ticket_at w place (orb_of step.1)) ≡ Some (ends ms i O.n))
+  named_now answering below at =
+      let named = O.named (ends ms i O.n) (omega arith) below in
+      let is : orb_of step.1 ≡ start_of (windows.Orb (slot_at ms i O.n (ends ms i O.n))) = present_is step.1 (ap has_present answering) ∙ at in
+      (ap (λ x. list_in (ticket_at w place x)) is ∙ named.list, ap (λ x. orb_in (ticket_at w place x)) is ∙ named.number)
+
+  pub reply_turn : AreHeard wild ms w → step.0.ended ≡ None → (offset size : ℕ) → step.0.ask ≡ asks.Write offset size → 0 < offset → IsTurnNow ms w place O.n (ends ms i O.n) step is_for.serial
   reply_turn heard_so none offset size wrote some = by_run step.0.ran refl
     where
       k : Keeps (orbs ms i O.n) before_now place (plain_in w.target.units disks login.unit) (main_beside which M) (ahead_beside which M) step
       k = keeps wild past w r asked sent is_for run disks p label place f b login which e own
 
-      there : HasTold (orbs ms i O.n) now_then step.1.present step.1.orb step.1.segments step.1.answer step.1.written
-      there =
-          let answering = is_answering step.1.phase step.1 offset size (k.main_is ∙ main_wrote step.0.promoted step.0.ask _ _ offset size wrote) some in
-          (subst (λ ph. Knows (orbs ms i O.n) now_then ph step.1) answering k.along.main).told
+      answering_then : step.1.phase ≡ phases.Answering
+      answering_then = is_answering step.1.phase step.1 offset size (k.main_is ∙ main_wrote step.0.promoted step.0.ask _ _ offset size wrote) some
 
-      by_failure : (same : now_then ≡ before_now) (answering : M.phase ≡ phases.Answering) (main : which ≡ Main) (x : Option FailCause) → write_failure (answer_in p) ≡ x → IsTurnNow ms i O.n (ends ms i O.n) step.1 is_for.serial
-      by_failure same answering main None g =
-          now_follows (goes_behind answering g main
+      there : HasTold (orbs ms i O.n) now_then step.1.present step.1.orb step.1.segments step.1.answer step.1.written
+      there = (subst (λ ph. Knows (orbs ms i O.n) now_then ph step.1) answering_then k.along.main).told
+
+      number_then : now_then.ended ≡ ends ms i O.n
+      number_then = step_ended step before_now none ∙ (heard_ended which M (answer_in p) G.progress ∙ G.is)
+
+      named : (list_in (ticket_at w place (orb_of step.1)) ≡ Some O.n) × (orb_in (ticket_at w place (orb_of step.1)) ≡ Some (ends ms i O.n))
+      named =
+          named_now answering_then (subst (λ j. j < linked ms i O.n) number_then there.turn.linked)
+          (there.turn.place ∙ ap (λ j. start_of (windows.Orb (slot_at ms i O.n j))) number_then)
+
+      good_before : now_then ≡ before_now → is_good G.progress.outcome ≡ true
+      good_before same = ap is_good (sym (ap (λ (y : Progress). y.outcome) same ∙ heard_outcome which M (answer_in p) G.progress)) ∙ there.ran
+
+      by_failure : (ran_before : 0 < runs ms i O.n (ends ms i O.n)) (same : now_then ≡ before_now) (answering : M.phase ≡ phases.Answering) (main : which ≡ Main) (x : Option FailCause) → write_failure (answer_in p) ≡ x → IsTurnNow ms w place O.n (ends ms i O.n) step is_for.serial
+      by_failure ran_before same answering main None g =
+          now_follows ran_before (goes_behind answering g main
           (heard_so is_for.serial sent is_for.found is_for.to p label place f (subst (λ y. which_in (desk_at w.target place) (header_in p).source label ≡ Some y) main e) b own answering) same there)
-      by_failure same answering main (Some cause) g =
+      by_failure ran_before same answering main (Some cause) g =
           let ends_so : step.0.ended ≡ Some kinds.Failed = ap (λ (y : Which). (reply_step M place (plain_in w.target.units disks login.unit) run y (answer_in p)).0.ended) main ∙ failed_ends M place (plain_in w.target.units disks login.unit) run (answer_in p) answering cause g in
           absurd (let z : None ≡ Some kinds.Failed = sym none ∙ ends_so in cc)
 
-      by_which : (same : now_then ≡ before_now) (answering : M.phase ≡ phases.Answering) (y : Which) → which ≡ y → IsTurnNow ms i O.n (ends ms i O.n) step.1 is_for.serial
-      by_which same answering Main g = by_failure same answering g (write_failure (answer_in p)) refl
-      by_which same answering Ahead g =
+      by_which : (ran_before : 0 < runs ms i O.n (ends ms i O.n)) (same : now_then ≡ before_now) (answering : M.phase ≡ phases.Answering) (y : Which) → which ≡ y → IsTurnNow ms w place O.n (ends ms i O.n) step is_for.serial
+      by_which ran_before same answering Main g = by_failure ran_before same answering g (write_failure (answer_in p)) refl
+      by_which ran_before same answering Ahead g =
           let nothing : step.0.ask ≡ asks.Nothing = ap (λ (y : Which). (reply_step M place (plain_in w.target.units disks login.unit) run y (answer_in p)).0.ask) g ∙ ahead_nothing M place (plain_in w.target.units disks login.unit) run (answer_in p) in
           absurd (none_write offset size (sym nothing ∙ wrote))
 
-      by_run : (o : Option Outcome) → step.0.ran ≡ o → IsTurnNow ms i O.n (ends ms i O.n) step.1 is_for.serial
+      by_run : (o : Option Outcome) → step.0.ran ≡ o → IsTurnNow ms w place O.n (ends ms i O.n) step is_for.serial
       by_run (Some outcome) ran =
           let is : now_then ≡ run_by (Some outcome) step.1.answer before_now = none_then none ∙ ap (λ o. run_by o step.1.answer before_now) ran in
-          now_first (ran_now outcome ran) (there.done ∙ ap (λ (y : Progress). y.carried) is)
+          now_first (record {
+            outcome = outcome;
+            ran = ran;
+            none = ran_now outcome ran;
+            start = there.done ∙ ap (λ (y : Progress). y.carried) is;
+            list = named.0;
+            number = named.1;
+          })
       by_run None ran =
           let same : now_then ≡ before_now = none_then none ∙ ap (λ o. run_by o step.1.answer before_now) ran in
-          let good : is_good G.progress.outcome ≡ true = ap is_good (sym (ap (λ (y : Progress). y.outcome) same ∙ heard_outcome which M (answer_in p) G.progress)) ∙ there.ran in
-          by_which same (good_answers (orbs ms i O.n) G.progress M.phase M G.along.main is_open good) which refl
+          let good = good_before same in
+          let ran_before : 0 < runs ms i O.n (ends ms i O.n) = subst (λ j. 0 < runs ms i O.n j) G.is (has_run ms i O.n G.progress.ended G.progress.outcome good (G.ran unrun_law)) in
+          by_which ran_before same (good_answers (orbs ms i O.n) G.progress M.phase M G.along.main is_open good) which refl

@@ -44,7 +44,7 @@ use Rattle.sbp_world.proofs.Lists.Generations.{moment_generation}
 use Rattle.sbp_world.proofs.Lists.RunOutcomes.{AreAsked}
 use Rattle.sbp_world.proofs.Lists.StatusActs.{first}
 use Rattle.sbp_world.proofs.Lists.DataLines.{S, acts, heard, injects, keys, loses, notes_on, refuses, resets, seconds, sights, times_out}
-use Rattle.sbp_world.proofs.Lists.DataHeard.{data_heard, data_late}
+use Rattle.sbp_world.proofs.Lists.DataHeard.{data_heard, data_late, HaveSlots}
 use Rattle.sbp_world.proofs.Lists.StatusTurn.{Behind, IsFirst, Up, judged_first, late_first}
 use Rattle.sbp_world.proofs.Lists.StatusWalk.{behind_marks}
 use Rattle.sbp_world.proofs.Lists.Stays.{ready_now}
@@ -69,6 +69,7 @@ module _ (wild : ℕ → Bool) (i : ℕ) (own : wild i ≡ false) where
       pub asked_orbs : AreAsked wild (hist past w) w
       pub placed : Placed w
       pub prepared : ArePrepared (hist past w) w
+      pub slots : HaveSlots (hist past w) i
       pub up : (q : ℕ) → q < 8 → has_list (machine_at w q).phase ≡ true → Up wild i own past w q
 
     up_asked : (line : ℕ) (event : Event) (past : List Moment) (w : WorldState) (q : ℕ) → Up wild i own past w q → Up wild i own (asked line event ∷ hist past w) (without_notes w) q
@@ -87,11 +88,12 @@ module _ (wild : ℕ → Bool) (i : ℕ) (own : wild i ≡ false) where
         each = (tt, f.each);
         asked_orbs = λ place c is_open mine n list number from below. f.asked_orbs place c is_open mine n list number from below;
         placed = placed_on w f.placed;
-        prepared = λ place n k inside named. f.prepared place n k inside (record { list = named.list; number = named.number });
+        prepared = λ place n k inside named. let x = f.prepared place n k inside (record { list = named.list; number = named.number }) in record { there = x.there; small = x.small; filled = x.filled };
+        slots = λ n k e from below. let x = f.slots n k e from below in record { there = x.there; held = x.held };
         up = λ q b l. up_asked line event past w q (f.up q b l);
       }
 
-      module _ (gives : (past : List Moment) (w : WorldState) (r : Ready wild past w) → AreAsked wild (hist past w) w → Placed w → EachMoment (DataSo i) (hist past w) → Given past w r) where
+      module _ (gives : (past : List Moment) (w : WorldState) (r : Ready wild past w) → AreAsked wild (hist past w) w → Placed w → EachMoment (DataSo i) (hist past w) → HaveSlots (hist past w) i → Given past w r) where
         module _ (past : List Moment) where
           -- ---- a packet is delivered
           module _ (s : Scene) (f : Facts past s.world) (heard_so : AreHeard wild (hist past s.world) s.world) (serial : ℕ) (again : Bool) (run : Option Told) where
@@ -102,7 +104,7 @@ module _ (wild : ℕ → Bool) (i : ℕ) (own : wild i ≡ false) where
             end = (delivered serial again run s).world
 
             given : Given past w f.ready
-            given = gives past w f.ready f.asked_orbs f.placed f.each
+            given = gives past w f.ready f.asked_orbs f.placed f.each f.slots
 
             hands : MayReceive run serial s → (sent : Sent) (found : found_sent serial w.store.kept ≡ Some sent) → sent.to ≡ 0 → (let x = received run sent.generation sent.bytes (whole_of w.target s.media) in S i past (handed_out 0 0 x.1.outbox (with_note (judged_note serial x.0) (marked serial again (with_target x.1.node w)))))
             unfolding MayReceive target_received
@@ -112,7 +114,7 @@ module _ (wild : ℕ → Bool) (i : ℕ) (own : wild i ≡ false) where
                 let is_for : IsFor w sent = record { serial = serial; found = found; to = z } in
                 let others : AreOthers x.1.outbox.sides = hand_law.received run sent w.target s.media (subst (λ b. MayTold b run sent s) (to_zero sent.to z) (subst (λ so. MayAt run so s) found m)) in
                 let b = behind_marks w x.1.node serial again (judged_note serial x.0) in
-                data_heard wild i own past w f.ready f.asked_orbs given.owned f.each f.up sent is_for run s.media serial f.prepared heard_so refl u b others
+                data_heard wild i own past w f.ready f.asked_orbs given.owned f.each f.slots f.up sent is_for run s.media serial f.prepared heard_so refl u b others
                 (λ p label found e. given.managed sent is_for p label found (scene x.1.node x.1.outbox) (judged_note serial x.0) (judged_first serial x.0) u b others e)
 
             pub hears : MayReceive run serial s → S i past end
@@ -132,9 +134,9 @@ module _ (wild : ℕ → Bool) (i : ℕ) (own : wild i ≡ false) where
                 let t = (expired_in (Ok purpose, layer) request.peer request.label (scene w.target empty_outbox)).1 in
                 let u = with_note (notes.TimedOut serial) (with_target t.node w) in
                 let b : Behind (notes.TimedOut serial) w u = record { places = refl; initiators = refl; fresh = refl; generations = refl } in
-                let given = gives past w f.ready f.asked_orbs f.placed f.each in
+                let given = gives past w f.ready f.asked_orbs f.placed f.each f.slots in
                 subst (λ n. S i past (handed_out n 0 t.outbox u)) (sym z)
-                (data_late wild i own past w f.ready f.asked_orbs given.owned f.each layer request.peer request.label purpose serial u b others
+                (data_late wild i own past w f.ready f.asked_orbs given.owned f.each f.slots layer request.peer request.label purpose serial u b others
                 (λ e. given.lapsed layer t (notes.TimedOut serial) (late_first serial) u b others e))
             lapse_by request z (Err stale, layer) others = refuses i past w line no_packet f.each
 

@@ -30,6 +30,7 @@ use Rattle.sbp_world.specs.Agents.Management.Terms.{DeliversMore}
 use Rattle.sbp_world.specs.Hosts.Runs.{IsRun}
 use Rattle.sbp_world.specs.Lists.Closes.{Under, WhereTame}
 use Rattle.sbp_world.specs.Lists.Needs.{IsCalm, OpenAfter, OpenBefore, OpenBehind, OpenBetween, initiator_in, machine_at}
+use Rattle.sbp_world.specs.Lists.SlotsStay.{HasSlot}
 
 -- ---- a packet as it is sent
 
@@ -75,7 +76,7 @@ pub data IsInTurn (past before : List Moment) (i n number : ℕ) (m : Machine) :
   follows : (got : ℕ) (later : List Moment) → later ++ said (notes.Got got) ∷ before ≡ past → IsAnswered before i n number m got → IsInTurn past before i n number m
 
 -- As the turn began in which it was sent, it was that of the first ORB of a list that had not ended.
-pub record WasPiece (past : List Moment) (i : ℕ) (access : Access) : Type 0 where
+pub record WasPiece (past : List Moment) (i generation slot : ℕ) (access : Access) : Type 0 where
   pub later : List Moment
   pub before : List Moment
   pub is : later ++ before ≡ past
@@ -85,9 +86,14 @@ pub record WasPiece (past : List Moment) (i : ℕ) (access : Access) : Type 0 wh
   pub piece : IsPieceOf before i list (ends before i list) machine access.offset size
   pub bytes : access.payload ≡ machine.outgoing
   pub turn : IsInTurn past before i list (ends before i list) machine
+  -- it goes to the slot of this ORB, which ran, and which the slot has where the write is in the initiator's generation
+  pub slot_is : slot_at before i list (ends before i list) ≡ slot
+  pub ran : 0 < runs past i list (ends before i list)
+  pub seen : generation ≤ (terms before).generation (suc i)
+  pub held : generation ≡ (terms before).generation (suc i) → HasSlot before i slot (orb list (ends before i list))
 
 abbrev pub DataSo : ℕ → Moment → List Moment → Type 0
-DataSo i (said (notes.Sent serial generation from to bytes)) past = from ≡ 0 → to ≡ suc i → (slot : ℕ) (x : IsDataWrite bytes slot) → WasPiece past i x.access
+DataSo i (said (notes.Sent serial generation from to bytes)) past = from ≡ 0 → to ≡ suc i → (slot : ℕ) (x : IsDataWrite bytes slot) → WasPiece past i generation slot x.access
 DataSo i moment past = Unit {0}
 
 -- at each place of a run, of the initiators that injected no packets
