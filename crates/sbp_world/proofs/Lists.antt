@@ -384,6 +384,7 @@ pub mod DataTurns
 pub mod DataHeard
 pub mod DataWalk
 pub mod DataProved
+pub mod DataOver
 pub mod DataOffice
 pub mod DataPlaces
 pub mod DataDry

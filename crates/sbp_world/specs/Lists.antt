@@ -51,3 +51,4 @@ pub mod AnswerLengths
 pub mod AnsweredReads
 pub mod AnsweredEnds
 pub mod DataWrites
+pub mod DataEnds

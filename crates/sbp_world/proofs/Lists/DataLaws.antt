@@ -17,6 +17,9 @@ use Rattle.sbp_world.proofs.Lists.DataPlaces.{AllOfficeDry, data_sent}
 use Rattle.sbp_world.proofs.Lists.LiveShort.{here_by, placed_by}
 use Rattle.sbp_world.proofs.Lists.OpenedKnown as opened_known
 use Rattle.sbp_world.proofs.Lists.StatusPlaces as places
+use Rattle.sbp_world.specs.Lists.DataEnds.{AllEndSo}
+use Rattle.sbp_world.proofs.Lists.DataOver.{ends_law}
+use Rattle.sbp_world.proofs.Lists.StatusProved.{ground_law}
 
 all_office : (past : List Moment) (w : WorldState) → DryAt past w → AllPlaced past w → IsTame past → AreShort past → ((i : ℕ) → i < length w.initiators → EachMoment (BasedAt i) past) → AllOfficeDry past w
 all_office past w dry placed tame shorts based i inside calm = ((placed i inside calm).1, dry (tame, shorts, based) i inside)
@@ -36,3 +39,6 @@ module _ (short : ShortLaw) where
 
   pub data_sent_law : Under (WhereTame AllDataSo)
   data_sent_law = data_sent opened_known.laws.pointers opened_known.laws.begun (here_by short) (places.names opened_known.laws.pointers opened_known.laws.begun (here_by short) (placed_by short)) (places.untaken_law opened_known.laws.pointers opened_known.laws.begun (here_by short) (placed_by short)) dry_by
+
+pub answers_end_law : Under (WhereTame AllEndSo)
+answers_end_law = ends_law (ground_law opened_known.laws.pointers opened_known.laws.begun)

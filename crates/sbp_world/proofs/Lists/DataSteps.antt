@@ -1,6 +1,6 @@
 -- A reply to an agent along a list of an initiator that injected no packets: what it asks to write, but for a status block, is the next chunk of the answer of its present
 -- ORB, in the buffer that is laid out for the command of this ORB.
-use Rattle.std.proofs.Common.{arith, ◌≡◌, ◌∙◌, refl, sym, ap, subst, ◌<◌, ℕ, Bool, List, length, take, drop, Option, Some, None, true, false, cond, ◌+◌, ◌-◌, ◌^◌, Result, Ok, Err, IfSome, ◌∷◌, [], suc, nat_eq, nat_lt}
+use Rattle.std.proofs.Common.{arith, ◌≡◌, ◌∙◌, refl, sym, ap, subst, ◌<◌, ℕ, Bool, List, length, take, drop, Option, Some, None, true, false, cond, ◌+◌, ◌-◌, ◌^◌, Result, Ok, Err, IfSome, ◌∷◌, [], suc, nat_eq, nat_lt, ◌==◌}
 use Rattle.async_packet.specs.Labels.{LabelParts}
 use Rattle.async_packet.specs.Packet.{Packet, header_in}
 use Rattle.label_table.specs.Layer.{judging_step, of_response}
@@ -16,7 +16,7 @@ use Rattle.command_agent.specs.declared.step.Which.{Which}
 use Rattle.command_agent.specs.Machine.{Machine, chunk_of, cut_to, is_ahead, has_present}
 use Rattle.agent_laws.specs.Along.Along.{Knows, Progress, Answers, HasTold}
 use Rattle.agent_laws.specs.Along.Requests.{main_ask, ahead_beside, main_beside}
-use Rattle.agent_laws.specs.Along.Steps.{progress_by, IsRun, Keeps, chunk_by, end_by, heard_by, main_heard, run_by}
+use Rattle.agent_laws.specs.Along.Steps.{progress_by, IsRun, Keeps, chunk_by, end_by, heard_by, main_heard, run_by, IsEnd}
 use Rattle.sbp_journal.specs.Run.{Moment, said}
 use Rattle.sbp_laws.specs.Lists.{command_at, slot_at, orb, prepared_in, linked}
 use Rattle.sbp_laws.specs.Terms.{ends, request_at, ran_status, runs, status_of}
@@ -43,14 +43,14 @@ use Rattle.orb_layout.specs.declared.status.StatusKind.TheVariants as kinds
 use Rattle.orb_layout.specs.Replies.{Answer, Done, Expired, NoLabel, Payload, Refused, payload_of, write_failure}
 use Rattle.agent_laws.specs.Answers.{is_good}
 use Rattle.agent_laws.specs.Along.Lists.{OrbList}
-use Rattle.command_agent.specs.Steps.{advanced, ahead_read, ahead_step, answer_chunk, chunk_written, quiet, reply_step, served, src_of, told_or}
+use Rattle.command_agent.specs.Steps.{advanced, ahead_read, ahead_step, answer_chunk, chunk_written, quiet, reply_step, served, src_of, told_or, answer_step, end_step}
 use Rattle.command_agent.specs.declared.step.Which.TheVariants.{Ahead, Main}
 use Rattle.rbc_disk.specs.Units.{PlainDisk}
 use Rattle.rbc_disk.specs.declared.command.Outcome.{Outcome}
 use Rattle.page_table.specs.Buffer.{chunk, chunk_from, addresses, buffer_addresses}
 use Rattle.sbp_laws.specs.CarriedBytes.{laid_out}
 use Rattle.sbp_target.specs.Replies.{plain_in}
-use Rattle.sbp_world.specs.Agents.Alike.{has_list}
+use Rattle.sbp_world.specs.Agents.Alike.{has_list, answers}
 use Rattle.sbp_world.proofs.Lists.DataHears.{AreHeard, IsHeard}
 use Rattle.sbp_world.proofs.Lists.Passing.{GoesOn, HasRun}
 use Rattle.sbp_world.proofs.Lists.UnrunLaws.{unrun_law}
@@ -71,6 +71,7 @@ use Rattle.sbp_target.specs.Telling.{orb_of}
 use Rattle.sbp_world.specs.Hosts.Carrying.{Follows}
 use Rattle.sbp_world.proofs.Lists.Slots.{IsFilled, data_window}
 use Rattle.sbp_world.proofs.Lists.StatusLosses.{present_is}
+use Rattle.sbp_world.proofs.Lists.StatusSteps.{EndsSo, replied_leaves}
 
 same_offset : (a b offset size : ℕ) → asks.Write a b ≡ asks.Write offset size → a ≡ offset
 same_offset a b offset size e = cc
@@ -136,6 +137,11 @@ pub data IsTurnNow (ms : List Moment) (w : WorldState) (place n k : ℕ) (one : 
   now_first : IsFirstNow ms w place n k one → IsTurnNow ms w place n k one got
   now_follows : 0 < runs ms (initiator_in w place) n k → IsAnswered ms (initiator_in w place) n k one.1 got → IsTurnNow ms w place n k one got
 
+-- an ORB ends, but as failed
+pub data IsEndNow (ms : List Moment) (i n k got : ℕ) : Type 0 where
+  ends_fresh : runs ms i n k ≡ 0 → IsEndNow ms i n k got
+  ends_behind : (m : Machine) → m.written ≡ length m.answer → IsAnswered ms i n k m got → IsEndNow ms i n k got
+
 -- what ran with a status ran
 ran_some : (ms : List Moment) (i n k : ℕ) (x : StatusKind) → ran_status ms i n k ≡ Some x → 0 < runs ms i n k
 ran_some [] i n k x e = absurd (let z : None ≡ Some x = e in cc)
@@ -197,9 +203,62 @@ module _ (m : Machine) (place : ℕ) (plain : PlainDisk) (told : Option Told) (a
   if_asks true x y h k = h
   if_asks false x y h k = k
 
+  -- the write of the last chunk was answered
+  whole_by : (status : StatusKind) (n : Machine) (x : Bool) → (n.written == length n.answer) ≡ x → (cond x (end_step n kinds.Good None) (answer_step n)).0.ended ≡ Some status → n.written ≡ length n.answer
+  whole_by status n true e f = let z : n.written ≡ length n.answer = grind (arith, nat_tests) in z
+  whole_by status n false e f = absurd (let z : None ≡ Some status = f in cc)
+
+  pub ends_whole : m.phase ≡ phases.Answering → write_failure answer ≡ None → (status : StatusKind) → (reply_step m place plain told Main answer).0.ended ≡ Some status → m.written + answer_chunk m ≡ length m.answer
+  unfolding reply_step
+  ends_whole e f status g =
+      let n : Machine = record m { written = m.written + answer_chunk m } in
+      whole_by status n (n.written == length n.answer) refl
+      (subst (λ x. (served place plain (told_or told) (chunk_written m x).0 (chunk_written m x).1).0.ended ≡ Some status) f
+      (subst (λ ph. (served place plain (told_or told) (advanced ph m answer).0 (advanced ph m answer).1).0.ended ≡ Some status) e g))
+
+  ahead_ends : (r : Result (List ℕ) FailCause) → (ahead_read m r).0.ended ≡ None
+  ahead_ends (Ok bytes) = refl
+  ahead_ends (Err cause) = refl
+
+  if_ends : (b : Bool) (x y : AgentStep × Machine) → x.0.ended ≡ None → y.0.ended ≡ None → (cond b x y).0.ended ≡ None
+  if_ends true x y h k = h
+  if_ends false x y h k = k
+
+  pub ahead_endless : (reply_step m place plain told Ahead answer).0.ended ≡ None
+  unfolding reply_step
+  ahead_endless = if_ends (is_ahead m.ahead) (ahead_step m answer) (quiet, m) (ahead_ends (payload_of answer 32)) refl
+
   pub ahead_nothing : (reply_step m place plain told Ahead answer).0.ask ≡ asks.Nothing
   unfolding reply_step
   ahead_nothing = if_asks (is_ahead m.ahead) (ahead_step m answer) (quiet, m) (ahead_asks (payload_of answer 32)) refl
+
+answers_is : (phase : Phase) → answers phase ≡ true → phase ≡ phases.Answering
+answers_is phases.Answering e = refl
+answers_is phases.Fetching e = absurd (let z : false ≡ true = e in cc)
+answers_is phases.ReadingTable e = absurd (let z : false ≡ true = e in cc)
+answers_is (phases.ReadingData wanted) e = absurd (let z : false ≡ true = e in cc)
+answers_is phases.WritingStatus e = absurd (let z : false ≡ true = e in cc)
+answers_is phases.WritingLastStatus e = absurd (let z : false ≡ true = e in cc)
+answers_is phases.ReadingNext e = absurd (let z : false ≡ true = e in cc)
+answers_is phases.Suspended e = absurd (let z : false ≡ true = e in cc)
+answers_is phases.Reset e = absurd (let z : false ≡ true = e in cc)
+answers_is phases.Dead e = absurd (let z : false ≡ true = e in cc)
+
+unrun_in : (l : OrbList) (p : Progress) (phase : Phase) (m : Machine) → Knows l p phase m → has_list phase ≡ true → answers phase ≡ false → p.outcome ≡ None
+unrun_in l p phases.Answering m k h a = absurd (let z : true ≡ false = a in cc)
+unrun_in l p phases.Fetching m k h a = k.unrun
+unrun_in l p phases.ReadingTable m k h a = k.awaits.unrun
+unrun_in l p (phases.ReadingData wanted) m k h a = k.awaits.unrun
+unrun_in l p phases.WritingStatus m k h a = k.over.unrun
+unrun_in l p phases.WritingLastStatus m k h a = k.over.unrun
+unrun_in l p phases.ReadingNext m k h a = k.over.unrun
+unrun_in l p phases.Suspended m k h a = k.over.unrun
+unrun_in l p phases.Reset m k h a = absurd (let z : false ≡ true = h in cc)
+unrun_in l p phases.Dead m k h a = absurd (let z : false ≡ true = h in cc)
+
+run_ended : (ran : Option Outcome) (answer : List ℕ) (p : Progress) → (run_by ran answer p).ended ≡ p.ended
+run_ended None answer p = refl
+run_ended (Some outcome) answer p = refl
 
 pub done_of : (a : Answer) → write_failure a ≡ None → a ≡ Done
 done_of Done e = refl
@@ -401,3 +460,76 @@ module _ (wild : ℕ → Bool) (past : List Moment) (w : WorldState) (r : Ready 
           let good = good_before same in
           let ran_before : 0 < runs ms i O.n (ends ms i O.n) = subst (λ j. 0 < runs ms i O.n j) G.is (has_run ms i O.n G.progress.ended G.progress.outcome good (G.ran unrun_law)) in
           by_which ran_before same (good_answers (orbs ms i O.n) G.progress M.phase M G.along.main is_open good) which refl
+
+  -- ---- an end
+  module _ (status : StatusKind) (ended : step.0.ended ≡ Some status) where
+    end_keeps : Keeps (orbs ms i O.n) before_now place (plain_in w.target.units disks login.unit) (main_beside which M) (ahead_beside which M) step
+    end_keeps = keeps wild past w r asked sent is_for run disks p label place f b login which e own
+
+    end_so : IsEnd (orbs ms i O.n) (run_by step.0.ran step.1.answer before_now) status step.1.present step.1.orb step.1.outgoing step.0.ask
+    end_so = subst (λ x. IfSome x (λ kind. IsEnd (orbs ms i O.n) (run_by step.0.ran step.1.answer before_now) kind step.1.present step.1.orb step.1.outgoing step.0.ask)) ended end_keeps.ends
+
+    end_number : (run_by step.0.ran step.1.answer before_now).ended ≡ ends ms i O.n
+    end_number = run_ended step.0.ran step.1.answer before_now ∙ (heard_ended which M (answer_in p) G.progress ∙ G.is)
+
+    pub end_named : (list_in (ticket_at w place (orb_of step.1)) ≡ Some O.n) × (orb_in (ticket_at w place (orb_of step.1)) ≡ Some (ends ms i O.n))
+    end_named =
+        let so = subst (λ x. IfSome x (λ kind. EndsSo kind step.1)) ended (replied_leaves M place (plain_in w.target.units disks login.unit) run which (answer_in p)).ends in
+        let named = O.named (ends ms i O.n) (omega arith) (subst (λ j. j < linked ms i O.n) end_number end_so.turn.linked) in
+        let is : orb_of step.1 ≡ start_of (windows.Orb (slot_at ms i O.n (ends ms i O.n))) =
+            present_is step.1 so.present ∙ (end_so.turn.place ∙ ap (λ j. start_of (windows.Orb (slot_at ms i O.n j))) end_number) in
+        (ap (λ x. list_in (ticket_at w place x)) is ∙ named.list, ap (λ x. orb_in (ticket_at w place x)) is ∙ named.number)
+
+    end_answered : (x : IsHeard ms w is_for.serial place (answer_in p)) → write_failure (answer_in p) ≡ None → IsAnswered ms i O.n (ends ms i O.n) (record M { written = M.written + answer_chunk M }) is_for.serial
+    end_answered x done =
+        let c = x.chunk in
+        let list_same : c.list ≡ O.n = (let z : Some c.list ≡ Some O.n = sym c.list_is ∙ O.list in cc) in
+        let built : IsAnswered ms i c.list c.number (record M { written = M.written + answer_chunk M }) is_for.serial = record {
+          serial = x.request;
+          closed = x.closed;
+          done = x.told ∙ done_of (answer_in p) done;
+          from = c.from;
+          to = c.to;
+          under_way = c.under_way;
+          access = c.access;
+          is = c.is;
+          writes = c.writes;
+          cmd = c.cmd;
+          command = c.command;
+          done_before = M.written;
+          piece = c.piece;
+          behind = ap (λ j. M.written + j) (sym (x.size c.access c.is));
+          stands = c.stands;
+        } in
+        subst (λ l. IsAnswered ms i l (ends ms i l) (record M { written = M.written + answer_chunk M }) is_for.serial) list_same
+        (subst (λ k. IsAnswered ms i c.list k (record M { written = M.written + answer_chunk M }) is_for.serial) c.number_is built)
+
+    pub reply_ends : AreHeard wild ms w → (status ≡ kinds.Failed → ⊥) → IsEndNow ms i O.n (ends ms i O.n) is_for.serial
+    reply_ends heard_so proper = by_run step.0.ran refl
+      where
+        by_failure : (answering : M.phase ≡ phases.Answering) (main : which ≡ Main) (x : Option FailCause) → write_failure (answer_in p) ≡ x → IsEndNow ms i O.n (ends ms i O.n) is_for.serial
+        by_failure answering main None g =
+            ends_behind (record M { written = M.written + answer_chunk M })
+            (ends_whole M place (plain_in w.target.units disks login.unit) run (answer_in p) answering g status
+            (ap (λ (y : Which). (reply_step M place (plain_in w.target.units disks login.unit) run y (answer_in p)).0.ended) (sym main) ∙ ended))
+            (end_answered (heard_so is_for.serial sent is_for.found is_for.to p label place f (subst (λ y. which_in (desk_at w.target place) (header_in p).source label ≡ Some y) main e) b own answering) g)
+        by_failure answering main (Some cause) g =
+            let ends_so : step.0.ended ≡ Some kinds.Failed = ap (λ (y : Which). (reply_step M place (plain_in w.target.units disks login.unit) run y (answer_in p)).0.ended) main ∙ failed_ends M place (plain_in w.target.units disks login.unit) run (answer_in p) answering cause g in
+            absurd (proper (let z : Some status ≡ Some kinds.Failed = sym ended ∙ ends_so in cc))
+
+        by_which : (answering : M.phase ≡ phases.Answering) (y : Which) → which ≡ y → IsEndNow ms i O.n (ends ms i O.n) is_for.serial
+        by_which answering Main g = by_failure answering g (write_failure (answer_in p)) refl
+        by_which answering Ahead g =
+            let none : step.0.ended ≡ None = ap (λ (y : Which). (reply_step M place (plain_in w.target.units disks login.unit) run y (answer_in p)).0.ended) g ∙ ahead_endless M place (plain_in w.target.units disks login.unit) run (answer_in p) in
+            absurd (let z : None ≡ Some status = sym none ∙ ended in cc)
+
+        by_phase : (y : Bool) → answers M.phase ≡ y → IsEndNow ms i O.n (ends ms i O.n) is_for.serial
+        by_phase true g = by_which (answers_is M.phase g) which refl
+        by_phase false g =
+            let none = unrun_in (orbs ms i O.n) G.progress M.phase M G.along.main is_open g in
+            let had : runs ms i O.n G.progress.ended ≡ 0 = subst (λ o. HasRun o (runs ms i O.n G.progress.ended) (ran_status ms i O.n G.progress.ended)) none (G.ran unrun_law) in
+            ends_fresh (ap (λ j. runs ms i O.n j) (sym G.is) ∙ had)
+
+        by_run : (o : Option Outcome) → step.0.ran ≡ o → IsEndNow ms i O.n (ends ms i O.n) is_for.serial
+        by_run (Some outcome) ran = ends_fresh (ran_now outcome ran)
+        by_run None ran = by_phase (answers M.phase) refl
