@@ -400,6 +400,7 @@ pub mod DataPieces
 pub mod DataRuns
 pub mod DataFollows
 pub mod DataActs
+pub mod DataHears
 pub mod DataCalls
 pub mod DataSteps
 pub mod DataLines
@@ -411,6 +412,7 @@ pub mod DueRuns
 pub mod DueDeliveries
 pub mod DueWalk
 pub mod DataProved
+pub mod DataOver
 pub mod DataOffice
 pub mod DataPlaces
 pub mod DataDry

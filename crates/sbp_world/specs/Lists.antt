@@ -56,3 +56,4 @@ pub mod AnsweredReads
 pub mod AnsweredEnds
 pub mod DataWrites
 pub mod DueRuns
+pub mod DataEnds

@@ -29,6 +29,7 @@ ghost use Rattle.sbp_world.specs.Lists.AnswerLengths.{AnswerLengthsLaw};
 ghost use Rattle.sbp_world.specs.Lists.AnsweredEnds.{AnsweredEndsLaw};
 ghost use Rattle.sbp_world.specs.Lists.AnsweredReads.{AnsweredReadsLaw};
 ghost use Rattle.sbp_world.specs.Lists.EndReads.{EndsReadLaw};
+ghost use Rattle.sbp_world.specs.Lists.DataEnds.{AnswersEndLaw};
 ghost use Rattle.sbp_world.specs.Lists.DataWrites.{DataSentLaw, DataWritesLaw};
 ghost use Rattle.sbp_world.specs.Lists.DueRuns.{DueRunsLaw};
 ghost use Rattle.sbp_world.specs.Lists.FifoWrites.{FifoWritesLaw};
@@ -420,4 +421,12 @@ pub fn answers_are_sent_in_chunks()
 #[tactic(auto, using(crate::proofs::Lists::Executes::due_runs_law))]
 pub fn commands_run_where_they_are_due()
     ensures { DueRunsLaw }
+{}
+
+/// In every run in which no initiator injected packets, where lists were open as they should be before, each ORB of an initiator that
+/// ends, but as failed, had not run before the turn in which it ends; or in this turn the target gets the answer, with rcode 0, to the
+/// write of the last chunk of its answer.
+#[tactic(auto, using(crate::proofs::Lists::DataLaws::answers_end_law))]
+pub fn answers_are_written_before_the_end()
+    ensures { AnswersEndLaw }
 {}

@@ -1,5 +1,5 @@
 -- What each call of the target writes: to FIFOs of logins alone; or what the step of an agent asks for as a reply comes, beside; or the management goes on.
-use Rattle.std.proofs.Common.{◌≡◌, ◌∙◌, refl, sym, ap, subst, ◌<◌, nat_lt, ℕ, Bool, true, false, cond, List, [], ◌∷◌, length, Option, Some, None, Result, Ok, Err}
+use Rattle.std.proofs.Common.{◌≡◌, ◌∙◌, refl, sym, ap, subst, ◌<◌, nat_lt, ℕ, Bool, true, false, cond, List, [], ◌∷◌, length, Option, Some, None, Result, Ok, Err, arith, ◌++◌}
 use Rattle.std.proofs.Math.ListN.{length-set}
 use Rattle.async_packet.specs.Labels.{LabelParts}
 use Rattle.async_packet.specs.Packet.{Packet, header_in}
@@ -44,7 +44,7 @@ use Rattle.sbp_target.specs.Receiving.{answer_in, concluded, expire_agent, expir
 use Rattle.sbp_target.specs.Replies.{Whole, plain_in, replied_by, replied_to, served_login, whole}
 use Rattle.sbp_target.specs.Sending.{answer_step, with_side}
 use Rattle.sbp_target.specs.Serving.{accessed_by, answered, asked_in, enabled, is_barred, point, pointed_by, rcode_of, request_step as serving_step, ring, serve, served_as, start}
-use Rattle.sbp_target.specs.Telling.{orb_of}
+use Rattle.sbp_target.specs.Telling.{orb_of, tell_ran}
 use Rattle.sbp_world.specs.Delivering.{whole_of}
 use Rattle.sbp_world.specs.Worlds.{WorldState}
 use Rattle.sbp_target.proofs.Histories.Calling.{Good}
@@ -55,6 +55,10 @@ use Rattle.sbp_world.proofs.Lists.StatusActs.{first, there}
 use Rattle.sbp_world.proofs.Lists.StatusCalls.{cut_reads, placed, points_at, reads_answered, rung_reads, start_reads}
 use Rattle.sbp_world.proofs.Lists.StatusLosses.{lost_asks, quiet_ahead}
 use Rattle.sbp_world.proofs.Lists.StatusPackets.{AllRead}
+use Rattle.rbc_disk.specs.declared.command.Outcome.{Outcome}
+use Rattle.sbp_journal.specs.declared.side.Side.{Side}
+use Rattle.sbp_world.proofs.Agents.UnitsKept.{Keeps}
+use Rattle.sbp_world.proofs.Lists.RunTells.{advance_tells}
 
 no_ask : (offset size : ℕ) → asks.Nothing ≡ asks.Write offset size → ⊥
 no_ask offset size e = cc
@@ -81,13 +85,24 @@ module _ (Fifo : ℕ → Type 0) where
   tame_all step m node f (packet ∷ later) h = ((λ access e w. tame_by step m node packet.to access.offset access.payload f (h.0 access e w)), tame_all step m node f later h.1)
 
 -- ---- what a call is
+-- a run is told of first
+pub record IsFirstRun (q : ℕ) (m : Machine) (outcome : Outcome) (told : List Side) : Type 0 where
+  pub more : List Side
+  pub is : told ≡ sides.Ran q (orb_of m) m.orb.cdb m.payload outcome ∷ more
+
+first_keeps : (q : ℕ) (m : Machine) (outcome : Outcome) → Keeps (IsFirstRun q m outcome)
+first_keeps q m outcome = record { tells = λ told side f h. record { more = h.more ++ side ∷ []; is = ap (λ xs. xs ++ side ∷ []) h.is } }
+
+abbrev pub RunsFirst : ℕ → AgentStep × Machine → List Side → Type 0
+RunsFirst q one told = (outcome : Outcome) → one.0.ran ≡ Some outcome → IsFirstRun q one.1 outcome told
+
 module _ (w : WorldState) (g : Good w.target) (Fifo : ℕ → Type 0) (fifos : AreFifos Fifo w.target.logins) (Steps : ℕ → AgentStep × Machine → Type 0) (Its : Answer → Type 0) where
   abbrev M : ℕ → Machine
   M p = (desk_at w.target p).agent
 
   pub data WroteSo (layer : Layer Purpose) (s : Scene) : Type 0 where
     to_logins : AllFifo Fifo s.outbox.packets → WroteSo layer s
-    steps_so : (q : ℕ) (b : q < 8) (login : Login) → login_at w.target q ≡ Some login → (one : AgentStep × Machine) → Steps q one → AllSo Fifo one.0 one.1 login.node s.outbox.packets → WroteSo layer s
+    steps_so : (q : ℕ) (b : q < 8) (login : Login) → login_at w.target q ≡ Some login → (one : AgentStep × Machine) → Steps q one → RunsFirst q one s.outbox.sides → AllSo Fifo one.0 one.1 login.node s.outbox.packets → WroteSo layer s
     manages : (answer : Answer) → Its answer → s ≡ manage answer (first w g layer) → WroteSo layer s
 
   reads_only : (layer : Layer Purpose) (s : Scene) → AllRead s.outbox.packets → WroteSo layer s
@@ -205,7 +220,13 @@ module _ (w : WorldState) (g : Good w.target) (Fifo : ℕ → Type 0) (fifos : A
       reply_by p label place f (Some login) l (Some which) e =
           let b = placed w.target g.mid.size place (header_in p).source label which e in
           let is = login_of place login l in
-          steps_so place b login is _ (reply_ok p label place f b login is which e) (reply_so w g then Fifo fifos place b login is which run (answer_in p) media.disks)
+          let step : AgentStep × Machine = reply_step (M place) place (plain_in (there w g then).units media.disks login.unit) run which (answer_in p) in
+          let inside : place < length (there w g then).desks = (let z = g.mid.size in omega (arith, z, b)) in
+          steps_so place b login is step (reply_ok p label place f b login is which e)
+          (λ outcome ran.
+          advance_tells (IsFirstRun place step.1 outcome) (first_keeps place step.1 outcome) (there w g then) place inside login media.disks run which (answer_in p)
+          (subst (λ x. IsFirstRun place step.1 outcome (tell_ran place step.1 x empty_outbox).sides) (sym ran) (record { more = []; is = refl })))
+          (reply_so w g then Fifo fifos place b login is which run (answer_in p) media.disks)
 
       concludes : (p : Packet) (label : LabelParts) (purpose : Option Purpose) → Found (of_response p label purpose) → (let x = concluded run purpose (header_in p).source label (answer_in p) all in WroteSo then (scene x.node x.outbox))
       unfolding concluded replied_to

@@ -1,6 +1,6 @@
 -- A delivery to the target sends the data of answers as they are to be sent: each write into a buffer of an initiator that injected no packets is of the next chunk of the
 -- present ORB of a list of it, as the turn began; where this is known of the management. A time-out of its own sends none.
-use Rattle.std.proofs.Common.{arith, ◌≡◌, ◌∙◌, refl, sym, ap, subst, ◌<◌, ℕ, suc, Bool, true, false, List, [], ◌∷◌, ◌++◌, map, Option, Some, None}
+use Rattle.std.proofs.Common.{arith, ◌≡◌, ◌∙◌, refl, sym, ap, subst, ◌<◌, ℕ, suc, Bool, true, false, List, [], ◌∷◌, ◌++◌, map, Option, Some, None, ◌≤◌, cond, nat_eq, nat_lt, length}
 use Rattle.async_packet.specs.Labels.{LabelParts}
 use Rattle.async_packet.specs.Packet.{Packet, header_in}
 use Rattle.bus_memory.specs.declared.window.Window.{Window}
@@ -18,7 +18,7 @@ use Rattle.orb_layout.specs.Replies.{Answer, Expired}
 use Rattle.packet_store.specs.declared.sent.Sent.{Sent}
 use Rattle.rbc_disk.specs.Held.{Held}
 use Rattle.rbc_disk.specs.Runs.{Told}
-use Rattle.sbp_bus.specs.Generations.{node_of}
+use Rattle.sbp_bus.specs.Generations.{node_of, topology_at}
 use Rattle.sbp_bus.specs.Packets.{judged_note}
 use Rattle.sbp_journal.specs.Addresses.{Access}
 use Rattle.sbp_journal.specs.declared.note.Note.{Note}
@@ -28,29 +28,29 @@ use Rattle.sbp_journal.specs.declared.side.Side.{Side}
 use Rattle.sbp_journal.specs.declared.side.Side.TheVariants as sides
 use Rattle.sbp_journal.specs.Outgoings.{OutboxState}
 use Rattle.sbp_journal.specs.Run.{Moment, said}
-use Rattle.sbp_laws.specs.Terms.{ends}
+use Rattle.sbp_laws.specs.Terms.{ends, lists, runs}
 use Rattle.sbp_laws.specs.Turns.{EachMoment}
 use Rattle.sbp_target.specs.declared.purpose.Purpose.{Purpose}
 use Rattle.sbp_target.specs.declared.purpose.Purpose.TheVariants as purposes
 use Rattle.sbp_target.specs.Desks.{which_in}
 use Rattle.sbp_target.specs.Management.{manage}
 use Rattle.sbp_target.specs.Nodes.{Scene, desk_at, login_at, scene}
-use Rattle.sbp_target.specs.Receiving.{answer_in, received, timed_out}
+use Rattle.sbp_target.specs.Receiving.{answer_in, received, timed_out, received_as, with_layer}
 use Rattle.sbp_target.specs.Replies.{plain_in}
 use Rattle.sbp_world.specs.Delivering.{whole_of}
 use Rattle.sbp_world.specs.Handing.{handed_out}
-use Rattle.sbp_world.specs.Telling.{holder, told_all}
+use Rattle.sbp_world.specs.Telling.{holder, told_all, ticket_at, ticket_of, told}
 use Rattle.sbp_world.specs.Worlds.{WorldState}
 use Rattle.sbp_world.specs.Agents.Alike.{has_list}
 use Rattle.sbp_world.proofs.Agents.Management.Still.{hist}
 use Rattle.sbp_world.specs.Hosts.Handing.{AreOthers}
 use Rattle.sbp_world.specs.Lists.DataWrites.{DataSo, IsPieceOf}
-use Rattle.sbp_world.specs.Lists.Needs.{IsFor, machine_at}
+use Rattle.sbp_world.specs.Lists.Needs.{IsFor, machine_at, initiator_in}
 use Rattle.sbp_world.specs.Lists.OwnLogins.{AreOwn, IsLoginFifo}
-use Rattle.sbp_world.proofs.Lists.DataCalls.{AllFifo, WroteSo, delivery_wrote, lapse_wrote, manages, steps_so, to_logins}
+use Rattle.sbp_world.proofs.Lists.DataCalls.{AllFifo, WroteSo, delivery_wrote, lapse_wrote, manages, steps_so, to_logins, IsFirstRun, RunsFirst}
 use Rattle.sbp_world.proofs.Lists.DataFollows.{AllSo, IsBy, of_step, to_fifo}
-use Rattle.sbp_world.proofs.Lists.DataSteps.{reply_piece}
-use Rattle.sbp_world.proofs.Lists.DataTurns.{AllDue, AreTold, IsPieceNow, Sends, all_leave, all_same, all_told, noted}
+use Rattle.sbp_world.proofs.Lists.DataSteps.{reply_piece, ArePrepared, IsTurnNow, now_first, now_follows, reply_turn, reply_slot}
+use Rattle.sbp_world.proofs.Lists.DataTurns.{AllDue, AreTold, IsPieceNow, Sends, all_leave, all_same, all_told, IsTurnBy, by_first, by_follows, ran_on}
 use Rattle.sbp_world.proofs.Lists.Deliveries.{waits_has}
 use Rattle.sbp_world.proofs.Lists.OwnFifos.{fifo_low, fifo_no_window}
 use Rattle.sbp_world.proofs.Lists.RunOutcomes.{AreAsked}
@@ -60,6 +60,27 @@ use Rattle.sbp_world.proofs.Lists.StatusBytes.{same_address, written_at}
 use Rattle.sbp_world.proofs.Lists.StatusDue.{Ours}
 use Rattle.sbp_world.proofs.Lists.StatusTurn.{Behind, IsFirst, Up, got_first, ignored_first, judged_first, late_first}
 use Rattle.sbp_world.proofs.Lists.Turns.{Ready}
+use Rattle.sbp_journal.specs.declared.cause.Judged.TheVariants as judgements
+use Rattle.sbp_world.proofs.Lists.DataHears.{AreHeard}
+use Rattle.std.specs.Prelude.{slice_index_or}
+use Rattle.std.proofs.lemmas.Bool.Decides.{nat_tests}
+use Rattle.orb_list.specs.Lists.{last_at}
+use Rattle.orb_list.specs.Tickets.{TicketParts}
+use Rattle.rbc_command.specs.declared.sense.Sense.{Sense}
+use Rattle.rbc_disk.specs.declared.command.Outcome.{Outcome}
+use Rattle.sbp_bus.specs.declared.places.Holder.{Holder}
+use Rattle.sbp_bus.specs.Places.{holder_at}
+use Rattle.sbp_bus.specs.Telling.{list_in, orb_in, ran_note}
+use Rattle.sbp_bus.specs.Words.{check_of}
+use Rattle.sbp_initiator.specs.declared.state.InitiatorState.{InitiatorState}
+use Rattle.sbp_initiator.specs.Initiators.{new_state}
+use Rattle.sbp_journal.specs.Wire.{terms}
+use Rattle.sbp_laws.specs.Lists.{linked, orb, present_list, slot_at}
+use Rattle.sbp_target.specs.Telling.{orb_of}
+use Rattle.sbp_world.specs.Lists.SlotsStay.{HasSlot}
+use Rattle.sbp_world.proofs.Lists.Extends.{all_told as all_extends}
+use Rattle.sbp_world.proofs.Lists.OpenWorlds.{hist_on}
+use Rattle.sbp_world.proofs.Lists.StatusMoments.{latest_of}
 
 no_ask : (offset size : ℕ) → asks.Nothing ≡ asks.Write offset size → ⊥
 no_ask offset size e = cc
@@ -76,81 +97,164 @@ fifo_dry fifo offset slot own e goes =
 above_zero : (at slot : ℕ) → window_at at ≡ Some (windows.Buffer slot) → 0 < at
 above_zero at slot e = let share = (subst (IfShare at) e (window_share at)).1 in omega (arith, share)
 
-others_told : (i : ℕ) (past ms : List Moment) (side : List Side) → AreOthers side → AreTold i past ms side
-others_told i past ms [] h = tt
-others_told i past ms (sides.Own note ∷ later) h = absurd h.0
-others_told i past ms (_ ∷ later) h = (tt, others_told i past ms later h.1)
+others_told : (i : ℕ) (past ms : List Moment) (start : Note) (side : List Side) → AreOthers side → AreTold i past ms start side
+others_told i past ms start [] h = tt
+others_told i past ms start (sides.Own note ∷ later) h = absurd h.0
+others_told i past ms start (_ ∷ later) h = (tt, others_told i past ms start later h.1)
 
 first_so : (i : ℕ) (note : Note) (ms : List Moment) → IsFirst note → DataSo i (said note) ms
 first_so i _ ms (got_first serial) = tt
 first_so i _ ms (ignored_first serial cause) = tt
 first_so i _ ms (late_first serial) = tt
 
-module _ (wild : ℕ → Bool) (i : ℕ) (own : wild i ≡ false) (past : List Moment) (w : WorldState) (r : Ready wild past w) (asked : AreAsked wild (hist past w) w) (owned : AreOwn w) (each : EachMoment (DataSo i) (hist past w)) where
+-- the ORBs of the present list that have not ended have their slots
+abbrev pub HaveSlots : List Moment → ℕ → Type 0
+HaveSlots ms i = (n k : ℕ) → present_list ms i ≡ Some n → ends ms i n ≤ k → k < linked ms i n → HasSlot ms i (slot_at ms i n k) (orb n k)
+
+module _ (wild : ℕ → Bool) (i : ℕ) (own : wild i ≡ false) (past : List Moment) (w : WorldState) (r : Ready wild past w) (asked : AreAsked wild (hist past w) w) (owned : AreOwn w) (each : EachMoment (DataSo i) (hist past w)) (slots : HaveSlots (hist past w) i) where
   abbrev ms : List Moment
   ms = hist past w
 
-  record IsStepPiece (j : ℕ) (m : Machine) (offset size : ℕ) : Type 0 where
+  record IsStepPiece (note : Note) (q : ℕ) (one : AgentStep × Machine) (offset size slot : ℕ) : Type 0 where
     list : ℕ
-    piece : IsPieceOf ms j list (ends ms j list) m offset size
+    latest : suc list ≡ lists ms (initiator_in w q)
+    piece : IsPieceOf ms (initiator_in w q) list (ends ms (initiator_in w q) list) one.1 offset size
+    slot_is : slot_at ms (initiator_in w q) list (ends ms (initiator_in w q) list) ≡ slot
+    got : ℕ
+    got_is : note ≡ notes.Got got
+    turn : IsTurnNow ms w q list (ends ms (initiator_in w q) list) one got
 
   -- what is known of the agent of a place that makes a step
-  record StepSo (q : ℕ) (one : AgentStep × Machine) : Type 0 where
-    mine : (login : Login) → login_at w.target q ≡ Some login → node_of w.generations 0 login.node ≡ Some (suc i) → (holder w q).initiator ≡ i
-    piece : Ours wild past w r q → one.0.ended ≡ None → (at size : ℕ) → one.0.ask ≡ asks.Write at size → (slot : ℕ) → window_at (written_at at) ≡ Some (windows.Buffer slot) → IsStepPiece (holder w q).initiator one.1 (written_at at) size
+  record StepSo (note : Note) (q : ℕ) (one : AgentStep × Machine) : Type 0 where
+    up : Up wild i own past w q
+    piece : Ours wild past w r q → one.0.ended ≡ None → (at size : ℕ) → one.0.ask ≡ asks.Write at size → (slot : ℕ) → window_at (written_at at) ≡ Some (windows.Buffer slot) → IsStepPiece note q one (written_at at) size slot
 
-  abbrev pub Due : List Outgoing → Type 0
-  Due packets = AllDue i past ms w.generations packets
+  abbrev gen : ℕ
+  gen = (topology_at w.generations 0).generation
+
+  -- the world behind the first note
+  module _ (note : Note) (u : WorldState) (b : Behind note w u) where
+    ran_here : (base : List Moment) (j n k unit : ℕ) (cdb bytes : List ℕ) (check : Option Sense) → 0 < runs (said (notes.Ran j (Some n) (Some k) unit cdb bytes check) ∷ base) j n k
+    ran_here base j n k unit cdb bytes check = pick (nat_eq j j) (nat_eq n n) (nat_eq k k) (itself j) (itself n) (itself k)
+      where
+        itself : (a : ℕ) → nat_eq a a ≡ true
+        itself a = grind (arith, nat_tests)
+
+        pick : (a c d : Bool) → a ≡ true → c ≡ true → d ≡ true → 0 < cond a (cond c (cond d (suc (runs base j n k)) (runs base j n k)) (runs base j n k)) (runs base j n k)
+        pick true true true e f g = omega arith
+        pick true true false e f g = absurd (let z : false ≡ true = g in cc)
+        pick true false d e f g = absurd (let z : false ≡ true = f in cc)
+        pick false c d e f g = absurd (let z : false ≡ true = e in cc)
+
+    ran_note_here : (base : List Moment) (h : Holder) (t : Option TicketParts) (cdb payload : List ℕ) (outcome : Outcome) (n k : ℕ) → list_in t ≡ Some n → orb_in t ≡ Some k → 0 < runs (said (ran_note h t cdb payload outcome) ∷ base) h.initiator n k
+    ran_note_here base h t cdb payload outcome n k e f =
+        subst (λ x. 0 < runs (said (notes.Ran h.initiator x (orb_in t) h.unit cdb payload (check_of outcome)) ∷ base) h.initiator n k) (sym e)
+        (subst (λ x. 0 < runs (said (notes.Ran h.initiator (Some n) x h.unit cdb payload (check_of outcome)) ∷ base) h.initiator n k) (sym f)
+        (ran_here base h.initiator n k h.unit cdb payload (check_of outcome)))
+
+    ticket_same : (q at : ℕ) → ticket_at u q at ≡ ticket_at w q at
+    ticket_same q at =
+        ap (λ ps. ticket_of u (holder_at ps q).initiator at) b.places
+        ∙ ap (λ (is : List InitiatorState). cond (nat_lt (holder w q).initiator (length is)) (last_at (slice_index_or is (holder w q).initiator (new_state 0 false)).lists at) None) b.initiators
+
+    ran_told : (q n k : ℕ) (m : Machine) (outcome : Outcome) (told_sides : List Side) → IsFirstRun q m outcome told_sides → list_in (ticket_at w q (orb_of m)) ≡ Some n → orb_in (ticket_at w q (orb_of m)) ≡ Some k → 0 < runs (hist past (told_all 0 told_sides u)) (initiator_in w q) n k
+    unfolding told_all told
+    ran_told q n k m outcome told_sides f e g =
+        subst (λ xs. 0 < runs (hist past (told_all 0 xs u)) (initiator_in w q) n k) (sym f.is)
+        (let v = told 0 (sides.Ran q (orb_of m) m.orb.cdb m.payload outcome) u in
+        let on = hist_on past v (told_all 0 f.more v) (all_extends 0 f.more v) in
+        let here : 0 < runs (hist past v) (holder u q).initiator n k =
+            ran_note_here (hist past u) (holder u q) (ticket_at u q (orb_of m)) m.orb.cdb m.payload outcome n k (ap list_in (ticket_same q (orb_of m)) ∙ e) (ap orb_in (ticket_same q (orb_of m)) ∙ g) in
+        let there : 0 < runs (hist past v) (initiator_in w q) n k = subst (λ j. 0 < runs (hist past v) j n k) (ap (λ ps. (holder_at ps q).initiator) b.places) here in
+        subst (λ now. 0 < runs now (initiator_in w q) n k) on.is (ran_on on.more (hist past v) (initiator_in w q) n k there))
+
+    ran_by : (q list k got : ℕ) (one : AgentStep × Machine) (told_sides : List Side) → IsTurnNow ms w q list k one got → RunsFirst q one told_sides → 0 < runs (hist past (told_all 0 told_sides u)) (initiator_in w q) list k
+    ran_by q list k got one told_sides (now_first y) f = ran_told q list k one.1 y.outcome told_sides (f y.outcome y.ran) y.list y.number
+    ran_by q list k got one told_sides (now_follows ran x) f =
+        let start : hist past u ≡ said note ∷ ms = ap (λ ns. map said ns ++ past) b.fresh in
+        let on = hist_on past u (told_all 0 told_sides u) (all_extends 0 told_sides u) in
+        subst (λ now. 0 < runs now (initiator_in w q) list k) on.is
+        (ran_on on.more (hist past u) (initiator_in w q) list k (subst (λ now. 0 < runs now (initiator_in w q) list k) (sym start) (ran_on (said note ∷ []) ms (initiator_in w q) list k ran)))
+
+  abbrev pub Due : Note → List Moment → List Outgoing → Type 0
+  Due note start packets = AllDue i past ms note start w.generations packets
 
   -- ---- what a call writes
-  by_fifo : (to : ℕ) (access : Access) → IsBy IsLoginFifo quiet new_machine 0 to access.offset access.payload → (slot : ℕ) → window_at access.offset ≡ Some (windows.Buffer slot) → IsPieceNow ms i access
-  by_fifo to access (to_fifo fifo own e) slot goes = absurd (fifo_dry fifo access.offset slot own e goes)
-  by_fifo to access (of_step at size none ask to_is offset_is payload_is) slot goes = absurd (no_ask at size ask)
+  by_fifo : (note : Note) (start : List Moment) (to : ℕ) (access : Access) → IsBy IsLoginFifo quiet new_machine 0 to access.offset access.payload → (slot : ℕ) → window_at access.offset ≡ Some (windows.Buffer slot) → IsPieceNow ms start i note gen slot access
+  by_fifo note start to access (to_fifo fifo own e) slot goes = absurd (fifo_dry fifo access.offset slot own e goes)
+  by_fifo note start to access (of_step at size none ask to_is offset_is payload_is) slot goes = absurd (no_ask at size ask)
 
-  due_fifo : (packets : List Outgoing) → AllFifo IsLoginFifo packets → Due packets
-  due_fifo [] h = tt
-  due_fifo (packet ∷ later) h = ((λ there slot x. by_fifo packet.to x.access (h.0 x.access x.is x.writes) slot x.goes), due_fifo later h.1)
+  due_fifo : (note : Note) (start : List Moment) (packets : List Outgoing) → AllFifo IsLoginFifo packets → Due note start packets
+  due_fifo note start [] h = tt
+  due_fifo note start (packet ∷ later) h = ((λ there slot x. by_fifo note start packet.to x.access (h.0 x.access x.is x.writes) slot x.goes), due_fifo note start later h.1)
 
-  by_step : (q : ℕ) (login : Login) → login_at w.target q ≡ Some login → (one : AgentStep × Machine) → StepSo q one → (to : ℕ) (access : Access) → node_of w.generations 0 to ≡ Some (suc i) → IsBy IsLoginFifo one.0 one.1 login.node to access.offset access.payload → (slot : ℕ) → window_at access.offset ≡ Some (windows.Buffer slot) → IsPieceNow ms i access
-  by_step q login is one s to access there (to_fifo fifo own e) slot goes = absurd (fifo_dry fifo access.offset slot own e goes)
-  by_step q login is one s to access there (of_step at size none ask to_is offset_is payload_is) slot goes =
-      let mine = s.mine login is (ap (λ a. node_of w.generations 0 a) (sym to_is) ∙ there) in
+  by_step : (note : Note) (u : WorldState) (b : Behind note w u) (told_sides : List Side) (q : ℕ) (login : Login) → login_at w.target q ≡ Some login → (one : AgentStep × Machine) → StepSo note q one → RunsFirst q one told_sides → (to : ℕ) (access : Access) → node_of w.generations 0 to ≡ Some (suc i) → IsBy IsLoginFifo one.0 one.1 login.node to access.offset access.payload → (slot : ℕ) → window_at access.offset ≡ Some (windows.Buffer slot) → IsPieceNow ms (hist past (told_all 0 told_sides u)) i note gen slot access
+  by_step note u b told_sides q login is one s f to access there (to_fifo fifo own e) slot goes = absurd (fifo_dry fifo access.offset slot own e goes)
+  by_step note u b told_sides q login is one s f to access there (of_step at size none ask to_is offset_is payload_is) slot goes =
+      let mine = s.up.mine login is (ap (λ a. node_of w.generations 0 a) (sym to_is) ∙ there) in
       let p = s.piece (ap wild mine ∙ own) none at size ask slot (ap window_at (sym offset_is) ∙ goes) in
-      subst (λ j. IsPieceNow ms j access) mine (record {
+      let j = initiator_in w q in
+      let start = hist past (told_all 0 told_sides u) in
+      let latest : suc p.list ≡ lists ms i = p.latest ∙ ap (λ x. lists ms x) mine in
+      let below : ends ms i p.list < linked ms i p.list = subst (λ x. ends ms x p.list < linked ms x p.list) mine p.piece.below in
+      let there_slot : slot_at ms i p.list (ends ms i p.list) ≡ slot = subst (λ x. slot_at ms x p.list (ends ms x p.list) ≡ slot) mine p.slot_is in
+      subst (λ x. IsPieceNow ms start x note gen slot access) mine (record {
         list = p.list;
         machine = one.1;
         size = size;
-        piece = subst (λ o. IsPieceOf ms (holder w q).initiator p.list (ends ms (holder w q).initiator p.list) one.1 o size) (sym offset_is) p.piece;
+        piece = subst (λ o. IsPieceOf ms j p.list (ends ms j p.list) one.1 o size) (sym offset_is) p.piece;
         bytes = payload_is;
+        turn = turn_by p.list (ends ms j p.list) p.got p.got_is p.turn;
+        slot_is = p.slot_is;
+        ran = ran_by note u b q p.list (ends ms j p.list) p.got one told_sides p.turn f;
+        seen = subst (λ x. gen ≤ (terms ms).generation (suc x)) (sym mine) (s.up.caught mine);
+        held = λ e.
+            subst (λ x. HasSlot ms x slot (orb p.list (ends ms x p.list))) (sym mine)
+            (let e_i : gen ≡ (terms ms).generation (suc i) = e ∙ ap (λ x. (terms ms).generation (suc x)) mine in
+            let here = s.up.present mine e_i in
+            let same : here.0 ≡ p.list = (let z = latest_of wild ms r.kept.passes i here.0 here.1 in omega (arith, z, latest)) in
+            subst (λ y. HasSlot ms i y (orb p.list (ends ms i p.list))) there_slot (slots p.list (ends ms i p.list) (here.1 ∙ ap (λ y. Some y) same) (omega arith) below));
       })
+    where
+      turn_by : (n k got : ℕ) → note ≡ notes.Got got → IsTurnNow ms w q n k one got → IsTurnBy ms (initiator_in w q) n k one.1 note
+      turn_by n k got is (now_first y) = by_first y.none y.start
+      turn_by n k got is (now_follows ran x) = by_follows got is x
 
-  due_step : (q : ℕ) (login : Login) → login_at w.target q ≡ Some login → (one : AgentStep × Machine) → StepSo q one → (packets : List Outgoing) → AllSo IsLoginFifo one.0 one.1 login.node packets → Due packets
-  due_step q login is one s [] h = tt
-  due_step q login is one s (packet ∷ later) h = ((λ there slot x. by_step q login is one s packet.to x.access there (h.0 x.access x.is x.writes) slot x.goes), due_step q login is one s later h.1)
+  due_step : (note : Note) (u : WorldState) (b : Behind note w u) (told_sides : List Side) (q : ℕ) (login : Login) → login_at w.target q ≡ Some login → (one : AgentStep × Machine) → StepSo note q one → RunsFirst q one told_sides → (packets : List Outgoing) → AllSo IsLoginFifo one.0 one.1 login.node packets → Due note (hist past (told_all 0 told_sides u)) packets
+  due_step note u b told_sides q login is one s f [] h = tt
+  due_step note u b told_sides q login is one s f (packet ∷ later) h = ((λ there slot x. by_step note u b told_sides q login is one s f packet.to x.access there (h.0 x.access x.is x.writes) slot x.goes), due_step note u b told_sides q login is one s f later h.1)
 
   -- ---- it leaves
   module _ (note : Note) (f : IsFirst note) (u : WorldState) (b : Behind note w u) (outbox : OutboxState) (others : AreOthers outbox.sides) where
-    started : Sends i past ms (hist past u)
-    started = subst (Sends i past ms) (ap (λ ns. map said ns ++ past) (sym b.fresh)) (noted i past ms (said note) ms (first_so i note ms f) (record { grown = record { new = []; is = refl }; so = each }))
+    started : Sends i past ms note (hist past u)
+    started = subst (Sends i past ms note) (ap (λ ns. map said ns ++ past) (sym b.fresh)) (record { grown = record { new = []; is = refl }; so = (first_so i note ms f, each) })
 
-    pub hands : Due outbox.packets → EachMoment (DataSo i) (hist past (handed_out 0 0 outbox u))
+    pub hands : Due note (hist past (told_all 0 outbox.sides u)) outbox.packets → EachMoment (DataSo i) (hist past (handed_out 0 0 outbox u))
     hands due =
-        (all_leave i past ms w.generations outbox.packets (told_all 0 outbox.sides u) (all_same i past ms 0 outbox.sides u ∙ b.generations) due
-        (all_told i past ms 0 outbox.sides u (others_told i past ms outbox.sides others) started)).so
+        (all_leave i past ms note (hist past (told_all 0 outbox.sides u)) w.generations outbox.packets (told_all 0 outbox.sides u) (all_same i past ms note 0 outbox.sides u ∙ b.generations) due
+        (record { sends = all_told i past ms note 0 outbox.sides u (others_told i past ms note outbox.sides others) started; on = record { new = []; is = refl } })).sends.so
 
-  abbrev C : (Answer → Type 0) → Layer Purpose → Scene → Type 0
-  C Its layer s = WroteSo w r.good IsLoginFifo (λ q login is. owned q login is) StepSo Its layer s
+  abbrev C : Note → (Answer → Type 0) → Layer Purpose → Scene → Type 0
+  C note Its layer s = WroteSo w r.good IsLoginFifo (λ q login is. owned q login is) (StepSo note) Its layer s
 
-  called : (Its : Answer → Type 0) (layer : Layer Purpose) (s : Scene) (note : Note) (f : IsFirst note) (u : WorldState) (b : Behind note w u) (others : AreOthers s.outbox.sides) → ((answer : Answer) → Its answer → s ≡ manage answer (first w r.good layer) → EachMoment (DataSo i) (hist past (handed_out 0 0 s.outbox u))) → C Its layer s → EachMoment (DataSo i) (hist past (handed_out 0 0 s.outbox u))
-  called Its layer s note f u b others managed (to_logins h) = hands note f u b s.outbox others (due_fifo s.outbox.packets h)
-  called Its layer s note f u b others managed (steps_so q small login is one known h) = hands note f u b s.outbox others (due_step q login is one known s.outbox.packets h)
+  called : (Its : Answer → Type 0) (layer : Layer Purpose) (s : Scene) (note : Note) (f : IsFirst note) (u : WorldState) (b : Behind note w u) (others : AreOthers s.outbox.sides) → ((answer : Answer) → Its answer → s ≡ manage answer (first w r.good layer) → EachMoment (DataSo i) (hist past (handed_out 0 0 s.outbox u))) → C note Its layer s → EachMoment (DataSo i) (hist past (handed_out 0 0 s.outbox u))
+  called Its layer s note f u b others managed (to_logins h) = hands note f u b s.outbox others (due_fifo note (hist past (told_all 0 s.outbox.sides u)) s.outbox.packets h)
+  called Its layer s note f u b others managed (steps_so q small login is one known f_run h) = hands note f u b s.outbox others (due_step note u b s.outbox.sides q login is one known f_run s.outbox.packets h)
   called Its layer s note f u b others managed (manages answer its e) = managed answer its e
 
   -- ---- a packet is delivered
-  module _ (up : (q : ℕ) → q < 8 → has_list (machine_at w q).phase ≡ true → Up wild i own past w q) (sent : Sent) (is_for : IsFor w sent) (run : Option Told) (media : Held) (serial : ℕ) where
-    reply_so : (p : Packet) (label : LabelParts) (place : ℕ) → (judging_step w.target.layer sent.generation sent.bytes).0 ≡ of_response p label (Some (purposes.Agent place)) → (b : place < 8) (login : Login) → login_at w.target place ≡ Some login → (which : Which) → which_in (desk_at w.target place) (header_in p).source label ≡ Some which → StepSo place (reply_step (machine_at w place) place (plain_in w.target.units media.disks login.unit) run which (answer_in p))
+  module _ (up : (q : ℕ) → q < 8 → has_list (machine_at w q).phase ≡ true → Up wild i own past w q) (sent : Sent) (is_for : IsFor w sent) (run : Option Told) (media : Held) (serial : ℕ) (prepared : ArePrepared ms w) (heard_so : AreHeard wild ms w) (same_serial : is_for.serial ≡ serial) where
+    got_heard : (p : Packet) (label : LabelParts) (place : ℕ) → (judging_step w.target.layer sent.generation sent.bytes).0 ≡ of_response p label (Some (purposes.Agent place)) → (received run sent.generation sent.bytes (whole_of w.target media)).0 ≡ judgements.Got
+    unfolding received
+    got_heard p label place f =
+        let found = judging_step w.target.layer sent.generation sent.bytes in ap (λ x. (received_as run sent.bytes x (with_layer found.1 (whole_of w.target media))).0) f
+
+    abbrev first_note : Note
+    first_note = judged_note serial (received run sent.generation sent.bytes (whole_of w.target media)).0
+
+    reply_so : (p : Packet) (label : LabelParts) (place : ℕ) → (judging_step w.target.layer sent.generation sent.bytes).0 ≡ of_response p label (Some (purposes.Agent place)) → (b : place < 8) (login : Login) → login_at w.target place ≡ Some login → (which : Which) → which_in (desk_at w.target place) (header_in p).source label ≡ Some which → StepSo first_note place (reply_step (machine_at w place) place (plain_in w.target.units media.disks login.unit) run which (answer_in p))
     reply_so p label place f b login is which e = record {
-      mine = (up place b (waits_has wild past w r place b (header_in p).source label which e)).mine;
+      up = up place b (waits_has wild past w r place b (header_in p).source label which e);
       piece = λ ours none at size ask slot goes.
           let low = answer_low wild past w r asked sent is_for run media.disks p label place f b login which e ours none at size ask in
           let same : written_at at ≡ at = same_address at (omega (arith, low)) in
@@ -159,8 +263,13 @@ module _ (wild : ℕ → Bool) (i : ℕ) (own : wild i ≡ false) (past : List M
           let step = reply_step (machine_at w place) place (plain_in w.target.units media.disks login.unit) run which (answer_in p) in
           record {
             list = o.n;
+            latest = o.still.latest;
+            slot_is = reply_slot wild past w r asked sent is_for run media.disks p label place f b login which e ours prepared none at size ask (above_zero at slot (ap window_at (sym same) ∙ goes)) slot (ap window_at (sym same) ∙ goes);
             piece = subst (λ z. IsPieceOf ms j o.n (ends ms j o.n) step.1 z size) (sym same)
-                (reply_piece wild past w r asked sent is_for run media.disks p label place f b login which e ours none at size ask (above_zero at slot (ap window_at (sym same) ∙ goes)));
+                (reply_piece wild past w r asked sent is_for run media.disks p label place f b login which e ours prepared none at size ask (above_zero at slot (ap window_at (sym same) ∙ goes)));
+            got = is_for.serial;
+            got_is = ap (λ x. judged_note serial x) (got_heard p label place f) ∙ ap (λ n. notes.Got n) (sym same_serial);
+            turn = reply_turn wild past w r asked sent is_for run media.disks p label place f b login which e ours heard_so none at size ask (above_zero at slot (ap window_at (sym same) ∙ goes));
           };
     }
 
@@ -176,11 +285,11 @@ module _ (wild : ℕ → Bool) (i : ℕ) (own : wild i ≡ false) (past : List M
         let x = received run sent.generation sent.bytes (whole_of w.target media) in
         called IsHeard (judging_step w.target.layer sent.generation sent.bytes).1 (scene x.1.node x.1.outbox) (judged_note serial x.0) (judged_first serial x.0) u b others
         (λ answer its e. managed its.packet its.label its.found (subst (λ a. scene x.1.node x.1.outbox ≡ manage a (first w r.good (judging_step w.target.layer sent.generation sent.bytes).1)) its.is e))
-        (delivery_wrote w r.good IsLoginFifo (λ q login is. owned q login is) StepSo IsHeard sent run media reply_so (λ p label f. record { packet = p; label = label; found = f; is = refl }))
+        (delivery_wrote w r.good IsLoginFifo (λ q login is. owned q login is) (StepSo first_note) IsHeard sent run media reply_so (λ p label f. record { packet = p; label = label; found = f; is = refl }))
 
   -- ---- a transaction of it times out
   pub data_late : (layer : Layer Purpose) (peer : ℕ) (label : LabelParts) (purpose : Option Purpose) (serial : ℕ) (u : WorldState) → (let y = timed_out purpose peer label (first w r.good layer) in Behind (notes.TimedOut serial) w u → AreOthers y.outbox.sides → (y ≡ manage Expired (first w r.good layer) → EachMoment (DataSo i) (hist past (handed_out 0 0 y.outbox u))) → EachMoment (DataSo i) (hist past (handed_out 0 0 y.outbox u)))
   data_late layer peer label purpose serial u b others managed =
       called (λ answer. answer ≡ Expired) layer (timed_out purpose peer label (first w r.good layer)) (notes.TimedOut serial) (late_first serial) u b others
       (λ answer its e. managed (subst (λ a. timed_out purpose peer label (first w r.good layer) ≡ manage a (first w r.good layer)) its e))
-      (lapse_wrote w r.good IsLoginFifo (λ q login is. owned q login is) StepSo (λ answer. answer ≡ Expired) layer peer label purpose (λ e. refl))
+      (lapse_wrote w r.good IsLoginFifo (λ q login is. owned q login is) (StepSo (notes.TimedOut serial)) (λ answer. answer ≡ Expired) layer peer label purpose (λ e. refl))

@@ -1,9 +1,9 @@
 -- In every run in which no initiator injected packets, the target sent the data of answers as they are to be sent, where the lines name units of 16 bits.
-use Rattle.std.proofs.Common.{ℕ, ◌<◌, List, length}
+use Rattle.std.proofs.Common.{inl, ℕ, ◌<◌, List, length}
 use Rattle.sbp_journal.specs.Run.{Moment}
 use Rattle.sbp_laws.specs.Turns.{EachMoment}
 use Rattle.sbp_world.specs.Worlds.{WorldState}
-use Rattle.sbp_world.specs.Lists.Closes.{Under, WhereTame}
+use Rattle.sbp_world.specs.Lists.Closes.{AreUntaken, Under, WhereTame}
 use Rattle.sbp_world.specs.Lists.OwnLogins.{IsTame}
 use Rattle.sbp_world.specs.Lists.Placings.{BasedAt}
 use Rattle.sbp_world.specs.Lists.Shorts.{AreShort}
@@ -14,9 +14,12 @@ use Rattle.sbp_world.proofs.Lists.StatusPlaces.{AllPlaced}
 use Rattle.sbp_world.specs.Lists.DataWrites.{AllDataSo}
 use Rattle.sbp_world.proofs.Lists.DataClears.{DryAt, dry_everywhere}
 use Rattle.sbp_world.proofs.Lists.DataPlaces.{AllOfficeDry, data_sent}
-use Rattle.sbp_world.proofs.Lists.LiveShort.{here_by, placed_by}
+use Rattle.sbp_world.proofs.Lists.LiveShort.{here_beside, here_by, placed_beside, placed_by}
 use Rattle.sbp_world.proofs.Lists.OpenedKnown as opened_known
 use Rattle.sbp_world.proofs.Lists.StatusPlaces as places
+use Rattle.sbp_world.specs.Lists.DataEnds.{AllEndSo}
+use Rattle.sbp_world.proofs.Lists.DataOver.{ends_law}
+use Rattle.sbp_world.proofs.Lists.StatusProved.{ground_law}
 
 all_office : (past : List Moment) (w : WorldState) → DryAt past w → AllPlaced past w → IsTame past → AreShort past → ((i : ℕ) → i < length w.initiators → EachMoment (BasedAt i) past) → AllOfficeDry past w
 all_office past w dry placed tame shorts based i inside calm = ((placed i inside calm).1, dry (tame, shorts, based) i inside)
@@ -34,5 +37,16 @@ module _ (short : ShortLaw) where
             all_office _ _ (dry_everywhere.between line run r has small size next most told m so_far) (placed.between line run r has small size next most told m so_far tame) tame (shorts.between line run r has small size next most told m so_far) (based.between line run r has small size next most told m so_far tame);
       }
 
+  untaken_by : Under (WhereTame AreUntaken)
+  untaken_by =
+      let x = places.untaken_law opened_known.laws.pointers opened_known.laws.begun (here_beside short) (placed_beside short) in
+      record {
+        after_lines = λ line run r has small size so_far tame. x.after_lines line run r has small size so_far (inl tame);
+        between = λ line run r has small size next most told m so_far tame. x.between line run r has small size next most told m so_far (inl tame);
+      }
+
   pub data_sent_law : Under (WhereTame AllDataSo)
-  data_sent_law = data_sent opened_known.laws.pointers opened_known.laws.begun (here_by short) (places.names opened_known.laws.pointers opened_known.laws.begun (here_by short) (placed_by short)) dry_by
+  data_sent_law = data_sent opened_known.laws.pointers opened_known.laws.begun (here_by short) (places.names opened_known.laws.pointers opened_known.laws.begun (here_by short) (placed_by short)) untaken_by dry_by
+
+pub answers_end_law : Under (WhereTame AllEndSo)
+answers_end_law = ends_law (ground_law opened_known.laws.pointers opened_known.laws.begun)

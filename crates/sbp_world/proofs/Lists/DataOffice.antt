@@ -44,12 +44,13 @@ use Rattle.sbp_target.specs.Receiving.{answer_in}
 use Rattle.sbp_world.specs.Lists.DataWrites.{DataSo, IsDataWrite}
 use Rattle.sbp_world.specs.Lists.Needs.{IsFor}
 use Rattle.sbp_world.specs.Lists.OwnLogins.{AreOwn}
-use Rattle.sbp_world.proofs.Lists.DataHeard.{Due, hands}
+use Rattle.sbp_world.proofs.Lists.DataHeard.{Due, hands, HaveSlots}
 use Rattle.sbp_world.proofs.Lists.DataWalk.{Given}
 use Rattle.sbp_world.proofs.Lists.RunOutcomes.{AreAsked}
 use Rattle.sbp_world.proofs.Lists.StatusOffice.{Kept, decided_kept, failed_kept, lose_none}
 use Rattle.sbp_world.proofs.Lists.StatusTurn.{Behind, IsFirst}
 use Rattle.sbp_world.proofs.Lists.Turns.{Ready}
+use Rattle.sbp_world.specs.Telling.{told_all}
 
 no : false ≡ true → ⊥
 no e = cc
@@ -145,7 +146,7 @@ unfolding management.reply_step
 late_dry w i op is ours at len e slot goes =
     late_by op op.phase w at len (subst (λ (o : Option Operation). (management.reply_to o w.target.manager w.target.logins w.target.keys Expired).0.ask ≡ asks.Write at len) is e)
 
-module _ (wild : ℕ → Bool) (i : ℕ) (own : wild i ≡ false) (past : List Moment) (w : WorldState) (r : Ready wild past w) (asked : AreAsked wild (hist past w) w) (owned : AreOwn w) (each : EachMoment (DataSo i) (hist past w)) where
+module _ (wild : ℕ → Bool) (i : ℕ) (own : wild i ≡ false) (past : List Moment) (w : WorldState) (r : Ready wild past w) (asked : AreAsked wild (hist past w) w) (owned : AreOwn w) (each : EachMoment (DataSo i) (hist past w)) (slots : HaveSlots (hist past w) i) where
   abbrev Ours : ℕ → Type 0
   Ours source = node_of w.generations 0 source ≡ Some (suc i)
 
@@ -161,19 +162,19 @@ module _ (wild : ℕ → Bool) (i : ℕ) (own : wild i ≡ false) (past : List M
     unfolding manage
     manage_leaves = by_operation w.target.manager.operation refl
 
-  due_leaving : (source : ℕ) (packets : List Outgoing) → Leaves source (Ours source) packets → Due wild i own past w r asked owned each packets
-  due_leaving source _ (leaves_none packets e) = subst (Due wild i own past w r asked owned each) (sym e) tt
-  due_leaving source _ (leaves_one packets packet e to dry) =
-      subst (Due wild i own past w r asked owned each) (sym e) ((λ there slot x. absurd (dry (ap (λ a. node_of w.generations 0 a) (sym to) ∙ there) slot x)), tt)
+  due_leaving : (note : Note) (start : List Moment) (source : ℕ) (packets : List Outgoing) → Leaves source (Ours source) packets → Due wild i own past w r asked owned each slots note start packets
+  due_leaving note start source _ (leaves_none packets e) = subst (Due wild i own past w r asked owned each slots note start) (sym e) tt
+  due_leaving note start source _ (leaves_one packets packet e to dry) =
+      subst (Due wild i own past w r asked owned each slots note start) (sym e) ((λ there slot x. absurd (dry (ap (λ a. node_of w.generations 0 a) (sym to) ∙ there) slot x)), tt)
 
-  due_of : (source : Option ℕ) (packets : List Outgoing) → IfLeaves Ours source packets → Due wild i own past w r asked owned each packets
-  due_of None packets e = subst (Due wild i own past w r asked owned each) (sym e) tt
-  due_of (Some source) packets l = due_leaving source packets l
+  due_of : (note : Note) (start : List Moment) (source : Option ℕ) (packets : List Outgoing) → IfLeaves Ours source packets → Due wild i own past w r asked owned each slots note start packets
+  due_of note start None packets e = subst (Due wild i own past w r asked owned each slots note start) (sym e) tt
+  due_of note start (Some source) packets l = due_leaving note start source packets l
 
   managed_data : (layer : Layer Purpose) (answer : Answer) → AreAsksDry w i answer → (s : Scene) (note : Note) → IsFirst note → (u : WorldState) → Behind note w u → AreOthers s.outbox.sides → s ≡ manage answer (first w r.good layer) → EachMoment (DataSo i) (hist past (handed_out 0 0 s.outbox u))
   managed_data layer answer dry s note f u b others e =
-      hands wild i own past w r asked owned each note f u b s.outbox others
-      (due_of (management.source_in w.target.manager.operation) s.outbox.packets
+      hands wild i own past w r asked owned each slots note f u b s.outbox others
+      (due_of note (hist past (told_all 0 s.outbox.sides u)) (management.source_in w.target.manager.operation) s.outbox.packets
       (subst (λ (y : Scene). IfLeaves Ours (management.source_in w.target.manager.operation) y.outbox.packets) (sym e) (manage_leaves layer answer dry)))
 
   -- so what is known of the management follows from where it asks to write

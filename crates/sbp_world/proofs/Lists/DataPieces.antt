@@ -44,6 +44,8 @@ use Rattle.sbp_world.proofs.Lists.RunFits.{WasAsked}
 use Rattle.sbp_world.proofs.Lists.Sites.{Site, Waiting, named_prepared, waiting}
 use Rattle.sbp_world.proofs.Lists.Slots.{IsFilled, data_window}
 use Rattle.sbp_world.proofs.Lists.Told.{AgentOn}
+use Rattle.command_agent.specs.Steps.{answer_chunk}
+use Rattle.sbp_laws.specs.Packets.{access_at}
 
 -- ---- the access of a write of an answer
 record IsChunkOf (m : Machine) (access : Access) : Type 0 where
@@ -125,6 +127,12 @@ module _ (wild : ℕ → Bool) (units ready : ℕ) (has : 0 < units) (start : Li
         let status : writes_status a.machine.phase ≡ false = status_alike a.untold a.machine m is.machine ∙ ap writes_status answering in
         subst (λ y. IsAccessFor (main_ask phases.Answering m) y (fifo_in (term_login T place)) r.access) status
         (subst (λ y. IsAccessFor y (writes_status a.machine.phase) (fifo_in (term_login T place)) r.access) main r.asks)
+
+    -- it has as many bytes as the agent asked for
+    pub next_size : (access : Access) → access_at (terms ms) serial ≡ Some access → length access.payload ≡ answer_chunk m
+    next_size access e =
+        ap (λ (x : Access). length x.payload) (let same : access ≡ r.access = (let both : Some access ≡ Some r.access = sym e ∙ r.is in cc) in same)
+        ∙ ap (λ (x : Chunk). x.length) (chunk_written m (fifo_in (term_login T place)) r.access asks).piece
 
     pub next_chunk : IsNextChunk ms w place serial
     next_chunk =

@@ -13,7 +13,7 @@ use Rattle.sbp_target.specs.Receiving.{answer_in}
 use Rattle.sbp_world.specs.Worlds.{WorldState, without_notes}
 use Rattle.sbp_world.proofs.Agents.Management.Still.{hist}
 use Rattle.sbp_world.specs.Lists.Begun.{BegunLaw}
-use Rattle.sbp_world.specs.Lists.Closes.{AreHere, Under, WhereTame}
+use Rattle.sbp_world.specs.Lists.Closes.{AreHere, Under, WhereTame, AreUntaken}
 use Rattle.sbp_world.specs.Lists.DataWrites.{AllDataSo, DataSo}
 use Rattle.sbp_world.specs.Lists.Needs.{IsCalm, IsFor}
 use Rattle.sbp_world.specs.Lists.OwnLogins.{AreOwn}
@@ -23,6 +23,7 @@ use Rattle.sbp_world.proofs.Lists.DataWalk.{Given}
 use Rattle.sbp_world.proofs.Lists.RunOutcomes.{AreAsked}
 use Rattle.sbp_world.proofs.Lists.StatusProved.{AreNames, ground_law}
 use Rattle.sbp_world.proofs.Lists.Turns.{Ready}
+use Rattle.sbp_world.proofs.Lists.DataHeard.{HaveSlots}
 
 -- behind each packet that comes, the management asks to write into no buffer of an initiator
 abbrev pub IsOfficeDry : WorldState → ℕ → Type 0
@@ -38,14 +39,14 @@ placed_on : (i : ℕ) (w : WorldState) → Placed i w → Placed i (without_note
 placed_on i w p =
     ((λ place login e. p.0 place login e), (λ sent is_for packet label found op is ours at len e slot goes. p.1 sent (record { serial = is_for.serial; found = is_for.found; to = is_for.to }) packet label found op is ours at len e slot goes))
 
-gives : (wild : ℕ → Bool) (i : ℕ) (own : wild i ≡ false) (past : List Moment) (w : WorldState) (r : Ready wild past w) → AreAsked wild (hist past w) w → Placed i w → EachMoment (DataSo i) (hist past w) → Given wild i own past w r
-gives wild i own past w r asked placed each = given_data wild i own past w r asked placed.0 each placed.1
+gives : (wild : ℕ → Bool) (i : ℕ) (own : wild i ≡ false) (past : List Moment) (w : WorldState) (r : Ready wild past w) → AreAsked wild (hist past w) w → Placed i w → EachMoment (DataSo i) (hist past w) → HaveSlots (hist past w) i → Given wild i own past w r
+gives wild i own past w r asked placed each slots = given_data wild i own past w r asked placed.0 each slots placed.1
 
-module _ (pointers : PointersLaw) (begun : BegunLaw) (here : Under (WhereTame AreHere)) (names : Under (WhereTame AreNames)) (dry : Under (WhereTame AllOfficeDry)) where
+module _ (pointers : PointersLaw) (begun : BegunLaw) (here : Under (WhereTame AreHere)) (names : Under (WhereTame AreNames)) (untaken : Under (WhereTame AreUntaken)) (dry : Under (WhereTame AllOfficeDry)) where
   over : Under (WhereTame (Over Placed placed_on gives))
   over = record {
-    after_lines = λ line run r has small size so_far tame. (here.after_lines line run r has small size so_far tame, (names.after_lines line run r has small size so_far tame, dry.after_lines line run r has small size so_far tame));
-    between = λ line run r has small size next most told m so_far tame. (here.between line run r has small size next most told m so_far tame, (names.between line run r has small size next most told m so_far tame, dry.between line run r has small size next most told m so_far tame));
+    after_lines = λ line run r has small size so_far tame. (here.after_lines line run r has small size so_far tame, (names.after_lines line run r has small size so_far tame, (untaken.after_lines line run r has small size so_far tame, dry.after_lines line run r has small size so_far tame)));
+    between = λ line run r has small size next most told m so_far tame. (here.between line run r has small size next most told m so_far tame, (names.between line run r has small size next most told m so_far tame, (untaken.between line run r has small size next most told m so_far tame, dry.between line run r has small size next most told m so_far tame)));
   }
 
   pub data_sent : Under (WhereTame AllDataSo)

@@ -1,18 +1,18 @@
 -- At each place of a run in which no initiator injected packets, and before which lists were open as they should be, the target sent the data of answers as they are to be
 -- sent; where this is known of the management.
-use Rattle.std.proofs.Common.{◌≡◌, subst, ◌<◌, ℕ, Bool, false, List, [], length, Option, Some, None}
+use Rattle.std.proofs.Common.{◌≡◌, subst, ◌<◌, ℕ, Bool, false, List, [], length, Option, Some, None, arith}
 use Rattle.rbc_disk.specs.Disk.{Disk}
 use Rattle.sbp_journal.specs.Run.{Moment}
 use Rattle.sbp_laws.specs.Turns.{EachMoment}
 use Rattle.sbp_world.specs.Histories.{moments_behind}
 use Rattle.sbp_world.specs.Runs.{Run, beginning}
-use Rattle.sbp_world.specs.Worlds.{Scene, WorldState, without_notes}
+use Rattle.sbp_world.specs.Worlds.{Scene, WorldState, without_notes, initiator_at}
 use Rattle.sbp_world.proofs.Agents.Management.Still.{hist}
 use Rattle.sbp_world.specs.Agents.Management.Terms.{DeliversMore}
 use Rattle.sbp_world.specs.Hosts.Runs.{more_deliveries}
-use Rattle.sbp_world.specs.Lists.Closes.{Always, AreHere, Under, WhereTame}
+use Rattle.sbp_world.specs.Lists.Closes.{Always, AreHere, Under, WhereTame, AreUntaken}
 use Rattle.sbp_world.specs.Lists.DataWrites.{AllDataSo, DataSo}
-use Rattle.sbp_world.specs.Lists.Needs.{IsCalm}
+use Rattle.sbp_world.specs.Lists.Needs.{IsCalm, initiator_in}
 use Rattle.sbp_world.proofs.Lists.DataWalk.{Facts, Given, turn_data}
 use Rattle.sbp_world.proofs.Lists.Executes.{asked_of}
 use Rattle.sbp_world.proofs.Lists.RunOutcomes.{AreAsked}
@@ -21,6 +21,11 @@ use Rattle.sbp_world.proofs.Lists.StatusProved.{AreNames, Ground}
 use Rattle.sbp_world.proofs.Lists.TameWalks.{tame_after, tame_between}
 use Rattle.sbp_world.proofs.Lists.Turns.{Ready}
 use Rattle.sbp_world.proofs.Lists.Walks.{Step, Walks}
+use Rattle.sbp_world.proofs.Lists.DataHears.{AreHeard, heard_there}
+use Rattle.sbp_world.proofs.Lists.Sites.{named_prepared}
+use Rattle.sbp_laws.specs.Lists.{slot_at}
+use Rattle.sbp_world.proofs.Lists.DataHeard.{HaveSlots}
+use Rattle.sbp_world.proofs.Lists.StatusPlaced.{has_slot}
 
 abbrev pub AllData : (ℕ → Bool) → List Moment → WorldState → Type 0
 AllData wild ms w = (i : ℕ) → i < length w.initiators → wild i ≡ false → EachMoment (DataSo i) ms
@@ -29,10 +34,10 @@ delivers : (most : Option ℕ) → DeliversMore (more_deliveries most)
 delivers (Some count) = tt
 delivers None = tt
 
-module _ (Placed : ℕ → WorldState → Type 0) (placed_on : (i : ℕ) (w : WorldState) → Placed i w → Placed i (without_notes w)) (gives : (wild : ℕ → Bool) (i : ℕ) (own : wild i ≡ false) (past : List Moment) (w : WorldState) (r : Ready wild past w) → AreAsked wild (hist past w) w → Placed i w → EachMoment (DataSo i) (hist past w) → Given wild i own past w r) where
+module _ (Placed : ℕ → WorldState → Type 0) (placed_on : (i : ℕ) (w : WorldState) → Placed i w → Placed i (without_notes w)) (gives : (wild : ℕ → Bool) (i : ℕ) (own : wild i ≡ false) (past : List Moment) (w : WorldState) (r : Ready wild past w) → AreAsked wild (hist past w) w → Placed i w → EachMoment (DataSo i) (hist past w) → HaveSlots (hist past w) i → Given wild i own past w r) where
   -- what is known where lists were open as they should be before
   abbrev pub Over : List Moment → WorldState → Type 0
-  Over ms w = AreHere ms w × (AreNames ms w × ((i : ℕ) → i < length w.initiators → IsCalm ms i → Placed i w))
+  Over ms w = AreHere ms w × (AreNames ms w × (AreUntaken ms w × ((i : ℕ) → i < length w.initiators → IsCalm ms i → Placed i w)))
 
   module _ (wild : ℕ → Bool) (units ready : ℕ) (has : 0 < units) (start : List Disk) (past : List Moment) (s : Scene) (later : List Moment) (t : Scene) (step : Step wild units ready start Ground Over past s later t) (p : AllData wild (hist past s.world) s.world) (i : ℕ) (b : i < length t.world.initiators) (own : wild i ≡ false) where
     abbrev w : WorldState
@@ -59,12 +64,23 @@ module _ (Placed : ℕ → WorldState → Type 0) (placed_on : (i : ℕ) (w : Wo
           ready = step.stands.known_all;
           each = p i inside own;
           asked_orbs = asked_of wild start units ready has w h site step.stands.lists step.stands.reached.calm k.orbs;
-          placed = o.1.1 i inside calm;
+          placed = o.1.1.1 i inside calm;
+          prepared = λ place n j there named.
+              let x = named_prepared units ready has start w h site place n j there named in
+              record { there = x.there; small = x.small; filled = λ cmd e. site.filled (initiator_in w place) there (slot_at ms (initiator_in w place) n j) n j cmd x.small x.there e };
+          slots = λ n j e from below.
+              let inner = step.stands.known_all.within i n inside in
+              has_slot ms i n j (initiator_at w i).lists.slots (site.rows i inside) (omega (arith, inner, below)) (o.1.1.0 i inside calm n j from) e;
           up = λ q c l. open_up wild i own units ready has start w h site inside calm lists k.opened k.caught k.known.pointers k.known.first here q c l;
         }
 
+    heard_so : AreHeard wild ms w
+    heard_so serial sent found zero_to packet label place e is_which c mild answering =
+        heard_there wild units ready has start w step.stands.reached.holds step.stands.reached.site step.stands.lists step.stands.reached.calm step.known.orbs (λ p d. step.stands.reached.kept.on p d)
+        serial sent found zero_to packet label place e is_which c mild answering
+
     data_now : EachMoment (DataSo i) (hist later t.world)
-    data_now = turn_data wild i own (Placed i) (placed_on i) (gives wild i own) past s later t step.turn facts
+    data_now = turn_data wild i own (Placed i) (placed_on i) (gives wild i own) past s later t step.turn facts heard_so
 
   data_walk : (wild : ℕ → Bool) (units ready : ℕ) → 0 < units → (start : List Disk) → Walks wild units ready start Ground Over (AllData wild)
   data_walk wild units ready has start past s later t step p = λ i b own. data_now wild units ready has start past s later t step p i b own

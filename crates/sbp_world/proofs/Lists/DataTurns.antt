@@ -1,6 +1,6 @@
 -- A delivery to the target sends the data of answers as they are to be sent: each write into a buffer of an initiator that injected no packets is of the next chunk of the
 -- present ORB of one of its lists, as the turn began; where this is known of the management.
-use Rattle.std.proofs.Common.{◌≡◌, ◌∙◌, refl, sym, ap, ℕ, suc, List, [], ◌∷◌, ◌++◌, Some, None}
+use Rattle.std.proofs.Common.{◌≡◌, ◌∙◌, refl, sym, ap, ℕ, suc, List, [], ◌∷◌, ◌++◌, Some, None, subst, ◌≤◌, ◌<◌, Bool, true, false, cond, nat_eq, arith}
 use Rattle.command_agent.specs.Machine.{Machine, new_machine}
 use Rattle.sbp_bus.specs.Generations.{GenerationsState, node_of, topology_at}
 use Rattle.sbp_journal.specs.Addresses.{Access}
@@ -9,15 +9,19 @@ use Rattle.sbp_journal.specs.declared.outbox.Outgoing.{Outgoing}
 use Rattle.sbp_journal.specs.declared.side.Side.{Side}
 use Rattle.sbp_journal.specs.declared.side.Side.TheVariants as sides
 use Rattle.sbp_journal.specs.Run.{Moment, said}
-use Rattle.sbp_laws.specs.Terms.{ends}
+use Rattle.sbp_laws.specs.Terms.{ends, runs}
 use Rattle.sbp_laws.specs.Turns.{EachMoment}
 use Rattle.sbp_world.specs.Sending.{sent as sent_one, sent_all}
 use Rattle.sbp_world.specs.Telling.{told, told_all}
 use Rattle.sbp_world.specs.Worlds.{WorldState}
 use Rattle.sbp_world.proofs.Agents.Management.Still.{hist}
-use Rattle.sbp_world.specs.Lists.DataWrites.{DataSo, IsDataWrite, IsPieceOf}
+use Rattle.sbp_world.specs.Lists.DataWrites.{DataSo, IsDataWrite, IsPieceOf, IsAnswered, IsInTurn, is_first, follows}
 use Rattle.sbp_world.proofs.Lists.Judging.{Grown}
 use Rattle.sbp_world.proofs.Lists.StatusSends.{sent_generations, sent_on}
+use Rattle.sbp_journal.specs.declared.note.Note.{Note}
+use Rattle.sbp_journal.specs.Wire.{terms}
+use Rattle.sbp_laws.specs.Lists.{orb, slot_at}
+use Rattle.sbp_world.specs.Lists.SlotsStay.{HasSlot}
 
 -- ---- a history grows
 assoc : (a b c : List Moment) → (a ++ b) ++ c ≡ a ++ (b ++ c)
@@ -28,16 +32,41 @@ grown_note : (moment : Moment) (a b : List Moment) → Grown a b → Grown a (mo
 grown_note moment a b g = record { new = moment ∷ g.new; is = ap (λ ms. moment ∷ ms) g.is }
 
 -- ---- a write that is sent now
-pub record IsPieceNow (ms : List Moment) (i : ℕ) (access : Access) : Type 0 where
+-- it comes in turn, behind the first note
+pub data IsTurnBy (ms : List Moment) (i n k : ℕ) (m : Machine) (note : Note) : Type 0 where
+  by_first : runs ms i n k ≡ 0 → m.written ≡ 0 → IsTurnBy ms i n k m note
+  by_follows : (got : ℕ) → note ≡ notes.Got got → IsAnswered ms i n k m got → IsTurnBy ms i n k m note
+
+pub record IsPieceNow (ms start : List Moment) (i : ℕ) (note : Note) (generation slot : ℕ) (access : Access) : Type 0 where
   pub list : ℕ
   pub machine : Machine
   pub size : ℕ
   pub piece : IsPieceOf ms i list (ends ms i list) machine access.offset size
   pub bytes : access.payload ≡ machine.outgoing
+  pub turn : IsTurnBy ms i list (ends ms i list) machine note
+  pub slot_is : slot_at ms i list (ends ms i list) ≡ slot
+  pub ran : 0 < runs start i list (ends ms i list)
+  pub seen : generation ≤ (terms ms).generation (suc i)
+  pub held : generation ≡ (terms ms).generation (suc i) → HasSlot ms i slot (orb list (ends ms i list))
 
-module _ (i : ℕ) (past ms : List Moment) where
+-- what ran has run
+ran_more : (m : Moment) (before : List Moment) (i n k : ℕ) → 0 < runs before i n k → 0 < runs (m ∷ before) i n k
+ran_more (said (notes.Ran j (Some m) (Some l) unit cdb bytes check)) before i n k r = pick (nat_eq i j) (nat_eq n m) (nat_eq k l)
+  where
+    pick : (a b c : Bool) → 0 < cond a (cond b (cond c (suc (runs before j m l)) (runs before i n k)) (runs before i n k)) (runs before i n k)
+    pick true true true = omega arith
+    pick true true false = r
+    pick true false c = r
+    pick false b c = r
+ran_more _ before i n k r = r
+
+pub ran_on : (later before : List Moment) (i n k : ℕ) → 0 < runs before i n k → 0 < runs (later ++ before) i n k
+ran_on [] before i n k r = r
+ran_on (m ∷ later) before i n k r = ran_more m (later ++ before) i n k (ran_on later before i n k r)
+
+module _ (i : ℕ) (past ms : List Moment) (note : Note) where
   pub record Sends (now : List Moment) : Type 0 where
-    pub grown : Grown ms now
+    pub grown : Grown (said note ∷ ms) now
     pub so : EachMoment (DataSo i) now
 
   -- sides that are no notes of its own
@@ -50,7 +79,7 @@ module _ (i : ℕ) (past ms : List Moment) where
   AreTold (side ∷ later) = IsTold side × AreTold later
 
   pub noted : (moment : Moment) (now : List Moment) → DataSo i moment now → Sends now → Sends (moment ∷ now)
-  noted moment now d h = record { grown = grown_note moment ms now h.grown; so = (d, h.so) }
+  noted moment now d h = record { grown = grown_note moment (said note ∷ ms) now h.grown; so = (d, h.so) }
 
   told_one : (weight : ℕ) (side : Side) (w : WorldState) → IsTold side → Sends (hist past w) → Sends (hist past (told weight side w))
   unfolding told
@@ -99,22 +128,48 @@ module _ (i : ℕ) (past ms : List Moment) where
   all_same weight (side ∷ later) w = all_same weight later (told weight side w) ∙ told_same weight side w
 
   -- ---- packets that leave, each write of data among them as it is to be
-  abbrev pub IsDue : GenerationsState → Outgoing → Type 0
-  IsDue g packet = node_of g 0 packet.to ≡ Some (suc i) → (slot : ℕ) (x : IsDataWrite packet.bytes slot) → IsPieceNow ms i x.access
+  abbrev pub IsDue : List Moment → GenerationsState → Outgoing → Type 0
+  IsDue start g packet = node_of g 0 packet.to ≡ Some (suc i) → (slot : ℕ) (x : IsDataWrite packet.bytes slot) → IsPieceNow ms start i note (topology_at g 0).generation slot x.access
 
-  abbrev pub AllDue : GenerationsState → List Outgoing → Type 0
-  AllDue g [] = Unit {0}
-  AllDue g (packet ∷ later) = IsDue g packet × AllDue g later
+  turn_of : (n k : ℕ) (m : Machine) (later now : List Moment) → later ++ said note ∷ ms ≡ now → IsTurnBy ms i n k m note → IsInTurn now ms i n k m
+  turn_of n k m later now is (by_first none start) = is_first none start
+  turn_of n k m later now is (by_follows got e x) = follows got later (subst (λ y. later ++ said y ∷ ms ≡ now) e is) x
 
-  pub all_leave : (g : GenerationsState) (packets : List Outgoing) (w : WorldState) → w.generations ≡ g → AllDue g packets → Sends (hist past w) → Sends (hist past (sent_all 0 packets w))
+  abbrev pub AllDue : List Moment → GenerationsState → List Outgoing → Type 0
+  AllDue start g [] = Unit {0}
+  AllDue start g (packet ∷ later) = IsDue start g packet × AllDue start g later
+
+  -- behind what was told
+  pub record Leaves (start now : List Moment) : Type 0 where
+    pub sends : Sends now
+    pub on : Grown start now
+
+  noted_on : (start : List Moment) (moment : Moment) (now : List Moment) → DataSo i moment now → Leaves start now → Leaves start (moment ∷ now)
+  noted_on start moment now d h = record { sends = noted moment now d h.sends; on = grown_note moment start now h.on }
+
+  pub all_leave : (start : List Moment) (g : GenerationsState) (packets : List Outgoing) (w : WorldState) → w.generations ≡ g → AllDue start g packets → Leaves start (hist past w) → Leaves start (hist past (sent_all 0 packets w))
   unfolding sent_all
-  all_leave g [] w e f h = h
-  all_leave g (packet ∷ later) w e f h =
-      all_leave g later (sent_one 0 packet w) (sent_generations 0 0 0 0 0 0 (Unit {0}) (Unit {0}) (Unit {0}) None new_machine (λ a b c. tt) past packet w ∙ e) f.1
-      (sent_on 0 0 0 0 0 0 (Unit {0}) (Unit {0}) (Unit {0}) None new_machine (λ a b c. tt) past Sends packet w h
+  all_leave start g [] w e f h = h
+  all_leave start g (packet ∷ later) w e f h =
+      all_leave start g later (sent_one 0 packet w) (sent_generations 0 0 0 0 0 0 (Unit {0}) (Unit {0}) (Unit {0}) None new_machine (λ a b c. tt) past packet w ∙ e) f.1
+      (sent_on 0 0 0 0 0 0 (Unit {0}) (Unit {0}) (Unit {0}) None new_machine (λ a b c. tt) past (Leaves start) packet w h
       (λ s t there.
-      noted (said (notes.Sent s (topology_at w.generations 0).generation 0 t packet.bytes)) (hist past w)
+      noted_on start (said (notes.Sent s (topology_at w.generations 0).generation 0 t packet.bytes)) (hist past w)
       (λ of to slot x.
       let p = f.0 (ap (λ (y : GenerationsState). node_of y 0 packet.to) (sym e) ∙ (there ∙ ap (λ n. Some n) to)) slot x in
-      record { later = h.grown.new; before = ms; is = h.grown.is; list = p.list; machine = p.machine; size = p.size; piece = p.piece; bytes = p.bytes })
+      record {
+        later = h.sends.grown.new ++ said note ∷ [];
+        before = ms;
+        is = assoc h.sends.grown.new (said note ∷ []) ms ∙ h.sends.grown.is;
+        list = p.list;
+        machine = p.machine;
+        size = p.size;
+        piece = p.piece;
+        bytes = p.bytes;
+        turn = turn_of p.list (ends ms i p.list) p.machine h.sends.grown.new (hist past w) h.sends.grown.is p.turn;
+        slot_is = p.slot_is;
+        ran = subst (λ now. 0 < runs now i p.list (ends ms i p.list)) h.on.is (ran_on h.on.new start i p.list (ends ms i p.list) p.ran);
+        seen = subst (λ (y : GenerationsState). (topology_at y 0).generation ≤ (terms ms).generation (suc i)) (sym e) p.seen;
+        held = λ same. p.held (ap (λ (y : GenerationsState). (topology_at y 0).generation) (sym e) ∙ same);
+      })
       h))

@@ -44,13 +44,15 @@ use Rattle.sbp_world.proofs.Lists.Generations.{moment_generation}
 use Rattle.sbp_world.proofs.Lists.RunOutcomes.{AreAsked}
 use Rattle.sbp_world.proofs.Lists.StatusActs.{first}
 use Rattle.sbp_world.proofs.Lists.DataLines.{S, acts, heard, injects, keys, loses, notes_on, refuses, resets, seconds, sights, times_out}
-use Rattle.sbp_world.proofs.Lists.DataHeard.{data_heard, data_late}
+use Rattle.sbp_world.proofs.Lists.DataHeard.{data_heard, data_late, HaveSlots}
 use Rattle.sbp_world.proofs.Lists.StatusTurn.{Behind, IsFirst, Up, judged_first, late_first}
 use Rattle.sbp_world.proofs.Lists.StatusWalk.{behind_marks}
 use Rattle.sbp_world.proofs.Lists.Stays.{ready_now}
 use Rattle.sbp_world.proofs.Lists.Turned.{IsOne}
 use Rattle.sbp_world.proofs.Lists.Turns.{Ready}
 use Rattle.sbp_world.proofs.Lists.Walks.{Turn, by_delivery, by_end, by_line, by_start}
+use Rattle.sbp_world.proofs.Lists.DataHears.{AreHeard, heard_asked}
+use Rattle.sbp_world.proofs.Lists.DataSteps.{ArePrepared}
 
 module _ (wild : ℕ → Bool) (i : ℕ) (own : wild i ≡ false) where
   -- what the management is taken to write
@@ -66,6 +68,8 @@ module _ (wild : ℕ → Bool) (i : ℕ) (own : wild i ≡ false) where
       pub each : EachMoment (DataSo i) (hist past w)
       pub asked_orbs : AreAsked wild (hist past w) w
       pub placed : Placed w
+      pub prepared : ArePrepared (hist past w) w
+      pub slots : HaveSlots (hist past w) i
       pub up : (q : ℕ) → q < 8 → has_list (machine_at w q).phase ≡ true → Up wild i own past w q
 
     up_asked : (line : ℕ) (event : Event) (past : List Moment) (w : WorldState) (q : ℕ) → Up wild i own past w q → Up wild i own (asked line event ∷ hist past w) (without_notes w) q
@@ -84,13 +88,15 @@ module _ (wild : ℕ → Bool) (i : ℕ) (own : wild i ≡ false) where
         each = (tt, f.each);
         asked_orbs = λ place c is_open mine n list number from below. f.asked_orbs place c is_open mine n list number from below;
         placed = placed_on w f.placed;
+        prepared = λ place n k inside named. let x = f.prepared place n k inside (record { list = named.list; number = named.number }) in record { there = x.there; small = x.small; filled = x.filled };
+        slots = λ n k e from below. let x = f.slots n k e from below in record { there = x.there; held = x.held };
         up = λ q b l. up_asked line event past w q (f.up q b l);
       }
 
-      module _ (gives : (past : List Moment) (w : WorldState) (r : Ready wild past w) → AreAsked wild (hist past w) w → Placed w → EachMoment (DataSo i) (hist past w) → Given past w r) where
+      module _ (gives : (past : List Moment) (w : WorldState) (r : Ready wild past w) → AreAsked wild (hist past w) w → Placed w → EachMoment (DataSo i) (hist past w) → HaveSlots (hist past w) i → Given past w r) where
         module _ (past : List Moment) where
           -- ---- a packet is delivered
-          module _ (s : Scene) (f : Facts past s.world) (serial : ℕ) (again : Bool) (run : Option Told) where
+          module _ (s : Scene) (f : Facts past s.world) (heard_so : AreHeard wild (hist past s.world) s.world) (serial : ℕ) (again : Bool) (run : Option Told) where
             abbrev w : WorldState
             w = s.world
 
@@ -98,7 +104,7 @@ module _ (wild : ℕ → Bool) (i : ℕ) (own : wild i ≡ false) where
             end = (delivered serial again run s).world
 
             given : Given past w f.ready
-            given = gives past w f.ready f.asked_orbs f.placed f.each
+            given = gives past w f.ready f.asked_orbs f.placed f.each f.slots
 
             hands : MayReceive run serial s → (sent : Sent) (found : found_sent serial w.store.kept ≡ Some sent) → sent.to ≡ 0 → (let x = received run sent.generation sent.bytes (whole_of w.target s.media) in S i past (handed_out 0 0 x.1.outbox (with_note (judged_note serial x.0) (marked serial again (with_target x.1.node w)))))
             unfolding MayReceive target_received
@@ -108,15 +114,15 @@ module _ (wild : ℕ → Bool) (i : ℕ) (own : wild i ≡ false) where
                 let is_for : IsFor w sent = record { serial = serial; found = found; to = z } in
                 let others : AreOthers x.1.outbox.sides = hand_law.received run sent w.target s.media (subst (λ b. MayTold b run sent s) (to_zero sent.to z) (subst (λ so. MayAt run so s) found m)) in
                 let b = behind_marks w x.1.node serial again (judged_note serial x.0) in
-                data_heard wild i own past w f.ready f.asked_orbs given.owned f.each f.up sent is_for run s.media serial u b others
+                data_heard wild i own past w f.ready f.asked_orbs given.owned f.each f.slots f.up sent is_for run s.media serial f.prepared heard_so refl u b others
                 (λ p label found e. given.managed sent is_for p label found (scene x.1.node x.1.outbox) (judged_note serial x.0) (judged_first serial x.0) u b others e)
 
             pub hears : MayReceive run serial s → S i past end
             hears m = heard i past s serial again run f.each (hands m)
 
-          next_heard : (s : Scene) → Facts past s.world → (one : Option Told) (so : Option ℕ) → settling.MayAt so one s → S i past (delivered_at so one s).world
-          next_heard s f one None m = absurd m
-          next_heard s f one (Some serial) m = hears s f serial false one m
+          next_heard : (s : Scene) → Facts past s.world → AreHeard wild (hist past s.world) s.world → (one : Option Told) (so : Option ℕ) → settling.MayAt so one s → S i past (delivered_at so one s).world
+          next_heard s f h one None m = absurd m
+          next_heard s f h one (Some serial) m = hears s f h serial false one m
 
           -- ---- a transaction of the target times out
           module _ (w : WorldState) (f : Facts past w) (line serial : ℕ) where
@@ -128,9 +134,9 @@ module _ (wild : ℕ → Bool) (i : ℕ) (own : wild i ≡ false) where
                 let t = (expired_in (Ok purpose, layer) request.peer request.label (scene w.target empty_outbox)).1 in
                 let u = with_note (notes.TimedOut serial) (with_target t.node w) in
                 let b : Behind (notes.TimedOut serial) w u = record { places = refl; initiators = refl; fresh = refl; generations = refl } in
-                let given = gives past w f.ready f.asked_orbs f.placed f.each in
+                let given = gives past w f.ready f.asked_orbs f.placed f.each f.slots in
                 subst (λ n. S i past (handed_out n 0 t.outbox u)) (sym z)
-                (data_late wild i own past w f.ready f.asked_orbs given.owned f.each layer request.peer request.label purpose serial u b others
+                (data_late wild i own past w f.ready f.asked_orbs given.owned f.each f.slots layer request.peer request.label purpose serial u b others
                 (λ e. given.lapsed layer t (notes.TimedOut serial) (late_first serial) u b others e))
             lapse_by request z (Err stale, layer) others = refuses i past w line no_packet f.each
 
@@ -142,41 +148,41 @@ module _ (wild : ℕ → Bool) (i : ℕ) (own : wild i ≡ false) where
             lapses = times_out i past w line serial (λ request found z. lapse request found z) f.each
 
           -- ---- a line that delivers one packet at most
-          one_heard : (s : Scene) → Facts past s.world → (line serial : ℕ) (again b : Bool) (told : List (Option Told)) → MayIf b serial told s → S i past (delivered_if b line serial again told s).world
-          one_heard s f line serial again true [] m = absurd m
-          one_heard s f line serial again true (one ∷ []) m = hears s f serial again one m
-          one_heard s f line serial again true (one ∷ other ∷ more) m = absurd m
-          one_heard s f line serial again false told m = refuses i past s.world line no_packet f.each
+          one_heard : (s : Scene) → Facts past s.world → AreHeard wild (hist past s.world) s.world → (line serial : ℕ) (again b : Bool) (told : List (Option Told)) → MayIf b serial told s → S i past (delivered_if b line serial again told s).world
+          one_heard s f h line serial again true [] m = absurd m
+          one_heard s f h line serial again true (one ∷ []) m = hears s f h serial again one m
+          one_heard s f h line serial again true (one ∷ other ∷ more) m = absurd m
+          one_heard s f h line serial again false told m = refuses i past s.world line no_packet f.each
 
           ends_on : (done : Bool) (w : WorldState) → S i past w → S i past (with_note (end_note done) w)
           ends_on true w h = notes_on i past notes.Settled w refl h
           ends_on false w h = notes_on i past notes.Stopped w refl h
 
-        line_data : (past : List Moment) (line : ℕ) (s : Scene) (event : Event) (told : List (Option Told)) → IsOne event → IsLine event (length s.world.initiators) → MayHappen event told s → Facts (asked line event ∷ hist past s.world) (without_notes s.world) → S i (asked line event ∷ hist past s.world) (happens line event told s).world
+        line_data : (past : List Moment) (line : ℕ) (s : Scene) (event : Event) (told : List (Option Told)) → IsOne event → IsLine event (length s.world.initiators) → MayHappen event told s → Facts (asked line event ∷ hist past s.world) (without_notes s.world) → AreHeard wild (hist past s.world) s.world → S i (asked line event ∷ hist past s.world) (happens line event told s).world
         unfolding happens MayHappen
-        line_data past line s (events.Begin initiators is_ready) told o q m f = absurd q
-        line_data past line s (events.Act j action) told o q m f = acts i (asked line (events.Act j action) ∷ hist past s.world) (without_notes s.world) line j action f.each
-        line_data past line s (events.Reset physical) told o q m f = resets i (asked line (events.Reset physical) ∷ hist past s.world) (without_notes s.world) physical f.each
-        line_data past line s (events.See node) told o q m f = sights i (asked line (events.See node) ∷ hist past s.world) (without_notes s.world) node f.each
-        line_data past line s (events.Deliver serial) told o q m f =
-            one_heard (asked line (events.Deliver serial) ∷ hist past s.world) (begun s) f line serial false (is_in_flight serial (begun s).world) told m
-        line_data past line s (events.Repeat serial) told o q m f =
-            one_heard (asked line (events.Repeat serial) ∷ hist past s.world) (begun s) f line serial true (may_repeat serial (begun s).world) told m
-        line_data past line s (events.Lose serial) told o q m f = loses i (asked line (events.Lose serial) ∷ hist past s.world) (without_notes s.world) line serial f.each
-        line_data past line s (events.Timeout serial) told o q m f = lapses (asked line (events.Timeout serial) ∷ hist past s.world) (without_notes s.world) f line serial
-        line_data past line s (events.Step count) told o q m f = absurd o
-        line_data past line s events.Settle told o q m f = absurd o
-        line_data past line s events.Tick told o q m f = seconds i (asked line events.Tick ∷ hist past s.world) (without_notes s.world) f.each
-        line_data past line s (events.Inject j bytes) told o q m f = injects i (asked line (events.Inject j bytes) ∷ hist past s.world) (without_notes s.world) line j bytes f.each
-        line_data past line s (events.Key unit key) told o q m f = keys i (asked line (events.Key unit key) ∷ hist past s.world) (without_notes s.world) line unit key f.each
+        line_data past line s (events.Begin initiators is_ready) told o q m f h = absurd q
+        line_data past line s (events.Act j action) told o q m f h = acts i (asked line (events.Act j action) ∷ hist past s.world) (without_notes s.world) line j action f.each
+        line_data past line s (events.Reset physical) told o q m f h = resets i (asked line (events.Reset physical) ∷ hist past s.world) (without_notes s.world) physical f.each
+        line_data past line s (events.See node) told o q m f h = sights i (asked line (events.See node) ∷ hist past s.world) (without_notes s.world) node f.each
+        line_data past line s (events.Deliver serial) told o q m f h =
+            one_heard (asked line (events.Deliver serial) ∷ hist past s.world) (begun s) f (heard_asked wild line (events.Deliver serial) false (λ t. refl) (hist past s.world) s.world h) line serial false (is_in_flight serial (begun s).world) told m
+        line_data past line s (events.Repeat serial) told o q m f h =
+            one_heard (asked line (events.Repeat serial) ∷ hist past s.world) (begun s) f (heard_asked wild line (events.Repeat serial) true (λ t. refl) (hist past s.world) s.world h) line serial true (may_repeat serial (begun s).world) told m
+        line_data past line s (events.Lose serial) told o q m f h = loses i (asked line (events.Lose serial) ∷ hist past s.world) (without_notes s.world) line serial f.each
+        line_data past line s (events.Timeout serial) told o q m f h = lapses (asked line (events.Timeout serial) ∷ hist past s.world) (without_notes s.world) f line serial
+        line_data past line s (events.Step count) told o q m f h = absurd o
+        line_data past line s events.Settle told o q m f h = absurd o
+        line_data past line s events.Tick told o q m f h = seconds i (asked line events.Tick ∷ hist past s.world) (without_notes s.world) f.each
+        line_data past line s (events.Inject j bytes) told o q m f h = injects i (asked line (events.Inject j bytes) ∷ hist past s.world) (without_notes s.world) line j bytes f.each
+        line_data past line s (events.Key unit key) told o q m f h = keys i (asked line (events.Key unit key) ∷ hist past s.world) (without_notes s.world) line unit key f.each
 
-        delivery_turn : (past : List Moment) (s : Scene) (one : Option Told) → MayNext one s → Facts past s.world → S i past (delivered_next one s).world
+        delivery_turn : (past : List Moment) (s : Scene) (one : Option Told) → MayNext one s → Facts past s.world → AreHeard wild (hist past s.world) s.world → S i past (delivered_next one s).world
         unfolding delivered_next MayNext
-        delivery_turn past s one m f = next_heard past s f one (lowest s.world) m
+        delivery_turn past s one m f h = next_heard past s f h one (lowest s.world) m
 
         -- ---- each turn
-        pub turn_data : (past : List Moment) (s : Scene) (later : List Moment) (t : Scene) → Turn past s later t → Facts past s.world → EachMoment (DataSo i) (hist later t.world)
-        turn_data _ _ _ _ (by_line past s line event told o q m) f = line_data past line s event told o q m (facts_asked line event past s.world f)
-        turn_data _ _ _ _ (by_start past s line event d) f = (tt, f.each)
-        turn_data _ _ _ _ (by_delivery past s one m) f = delivery_turn past s one m f
-        turn_data _ _ _ _ (by_end past s done) f = ends_on past done s.world f.each
+        pub turn_data : (past : List Moment) (s : Scene) (later : List Moment) (t : Scene) → Turn past s later t → Facts past s.world → AreHeard wild (hist past s.world) s.world → EachMoment (DataSo i) (hist later t.world)
+        turn_data _ _ _ _ (by_line past s line event told o q m) f h = line_data past line s event told o q m (facts_asked line event past s.world f) h
+        turn_data _ _ _ _ (by_start past s line event d) f h = (tt, f.each)
+        turn_data _ _ _ _ (by_delivery past s one m) f h = delivery_turn past s one m f h
+        turn_data _ _ _ _ (by_end past s done) f h = ends_on past done s.world f.each

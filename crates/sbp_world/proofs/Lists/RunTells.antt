@@ -218,7 +218,7 @@ module _ (P : List Side → Type 0) (keeps : Keeps P) (node : NodeState) (place 
   unfolding follow_all
   advanced_tells which (step, a) h = ran_on (record (taken which (desk_at node place)) { agent = a }) step h
 
-  advance_tells : (told : Option Told) (which : Which) (answer : Answer) → (let r = reply_step (desk_at node place).agent place plain told which answer in P (tell_ran place r.1 r.0.ran empty_outbox).sides) → P (advance told place login which answer (whole (scene node empty_outbox) disks)).outbox.sides
+  pub advance_tells : (told : Option Told) (which : Which) (answer : Answer) → (let r = reply_step (desk_at node place).agent place plain told which answer in P (tell_ran place r.1 r.0.ran empty_outbox).sides) → P (advance told place login which answer (whole (scene node empty_outbox) disks)).outbox.sides
   unfolding advance step_replied
   advance_tells told which answer h = advanced_tells which (reply_step (desk_at node place).agent place plain told which answer) h
 

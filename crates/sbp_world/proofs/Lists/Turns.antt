@@ -151,7 +151,7 @@ main_outcome phases.WritingStatus m answer p = status_outcome (write_failure ans
 main_outcome phases.WritingLastStatus m answer p = status_outcome (write_failure answer) p
 main_outcome _ m answer p = refl
 
-heard_outcome : (which : Which) (m : Machine) (answer : Answer) (p : Progress) → (heard_by which m answer p).outcome ≡ p.outcome
+pub heard_outcome : (which : Which) (m : Machine) (answer : Answer) (p : Progress) → (heard_by which m answer p).outcome ≡ p.outcome
 heard_outcome Main m answer p = main_outcome m.phase m answer p
 heard_outcome Ahead m answer p = refl
 

@@ -5,6 +5,7 @@ use Rattle.command_agent.specs.declared.phase.Phase.TheVariants as phases
 use Rattle.command_agent.specs.Machine.{Machine, cut_to}
 use Rattle.bus_memory.specs.declared.window.Window.TheVariants as windows
 use Rattle.bus_memory.specs.Windows.{window_at}
+use Rattle.orb_layout.specs.Replies.{Done}
 use Rattle.page_table.specs.Buffer.{chunk, chunk_from}
 use Rattle.rbc_disk.specs.Disk.{Disk}
 use Rattle.rbc_disk.specs.Runs.{Told}
@@ -16,9 +17,9 @@ use Rattle.sbp_journal.specs.declared.event.Event.{Event}
 use Rattle.sbp_journal.specs.declared.note.Note.TheVariants as notes
 use Rattle.sbp_laws.specs.CarriedBytes.{laid_out}
 use Rattle.sbp_laws.specs.Lists.{command_at, linked, orb, prepared_in, slot_at}
-use Rattle.sbp_laws.specs.Packets.{access_at, access_in_bytes, is_under_way, receiver_in, sender_in}
+use Rattle.sbp_laws.specs.Packets.{access_at, access_in_bytes, answer_in, answered_at, is_under_way, packet_at, receiver_in, sender_in}
 use Rattle.sbp_laws.specs.Targets.{agent_at, over, target_at}
-use Rattle.sbp_laws.specs.Terms.{ends}
+use Rattle.sbp_laws.specs.Terms.{ends, runs}
 use Rattle.sbp_laws.specs.Turns.{EachMoment}
 use Rattle.sbp_world.specs.Histories.{history_of}
 use Rattle.sbp_world.specs.Runs.{Run, after, beginning}
@@ -29,6 +30,7 @@ use Rattle.sbp_world.specs.Agents.Management.Terms.{DeliversMore}
 use Rattle.sbp_world.specs.Hosts.Runs.{IsRun}
 use Rattle.sbp_world.specs.Lists.Closes.{Under, WhereTame}
 use Rattle.sbp_world.specs.Lists.Needs.{IsCalm, OpenAfter, OpenBefore, OpenBehind, OpenBetween, initiator_in, machine_at}
+use Rattle.sbp_world.specs.Lists.SlotsStay.{HasSlot}
 
 -- ---- a packet as it is sent
 
@@ -39,9 +41,10 @@ pub record IsDataWrite (bytes : List ℕ) (slot : ℕ) : Type 0 where
   pub writes : access.is_write ≡ true
   pub goes : window_at access.offset ≡ Some (windows.Buffer slot)
 
--- So many bytes at an address are the next chunk of the buffer of an ORB, behind those of its answer that its agent wrote; and the agent has its bytes.
+-- So many bytes at an address are the next chunk of the buffer of an ORB, which its slot has, behind those of its answer that its agent wrote; and the agent has its bytes.
 pub record IsPieceOf (past : List Moment) (i n number : ℕ) (m : Machine) (offset size : ℕ) : Type 0 where
   pub below : number < linked past i n
+  pub has : prepared_in past i (slot_at past i n number) ≡ Some (orb n number)
   pub cmd : Cmd
   pub command : command_at past i n number ≡ Some cmd
   pub small : slot_at past i n number < 32
@@ -49,8 +52,31 @@ pub record IsPieceOf (past : List Moment) (i n number : ℕ) (m : Machine) (offs
   pub piece : chunk offset size ≡ cut_to (length m.answer - m.written) (chunk_from (laid_out (slot_at past i n number) cmd cmd.segments) m.written (2 ^ (cmd.max_payload + 2)))
   pub bytes : m.outgoing ≡ take size (drop m.written m.answer)
 
+-- A packet answers with rcode 0 the write of the chunk before it, for which the agent waits: where that ended, the next one begins.
+pub record IsAnswered (past : List Moment) (i n number : ℕ) (m : Machine) (got : ℕ) : Type 0 where
+  pub serial : ℕ
+  pub closed : answered_at (terms past) got ≡ Some serial
+  pub done : answer_in (packet_at (terms past) got) ≡ Done
+  pub from : sender_in ((terms past).sent serial) ≡ Some 0
+  pub to : receiver_in ((terms past).sent serial) ≡ Some (suc i)
+  pub under_way : is_under_way (terms past) serial ≡ true
+  pub access : Access
+  pub is : access_at (terms past) serial ≡ Some access
+  pub writes : access.is_write ≡ true
+  pub cmd : Cmd
+  pub command : command_at past i n number ≡ Some cmd
+  pub done_before : ℕ
+  pub piece : chunk access.offset (length access.payload) ≡ cut_to (length m.answer - done_before) (chunk_from (laid_out (slot_at past i n number) cmd cmd.segments) done_before (2 ^ (cmd.max_payload + 2)))
+  pub behind : m.written ≡ done_before + length access.payload
+  pub stands : 0 < length access.payload → window_at access.offset ≡ Some (windows.Buffer (slot_at past i n number))
+
+-- Writes of an answer come in turn: the first one in the turn in which its command runs, and each later one as the write of the chunk before it is answered.
+pub data IsInTurn (past before : List Moment) (i n number : ℕ) (m : Machine) : Type 0 where
+  is_first : runs before i n number ≡ 0 → m.written ≡ 0 → IsInTurn past before i n number m
+  follows : (got : ℕ) (later : List Moment) → later ++ said (notes.Got got) ∷ before ≡ past → IsAnswered before i n number m got → IsInTurn past before i n number m
+
 -- As the turn began in which it was sent, it was that of the first ORB of a list that had not ended.
-pub record WasPiece (past : List Moment) (i : ℕ) (access : Access) : Type 0 where
+pub record WasPiece (past : List Moment) (i generation slot : ℕ) (access : Access) : Type 0 where
   pub later : List Moment
   pub before : List Moment
   pub is : later ++ before ≡ past
@@ -59,9 +85,15 @@ pub record WasPiece (past : List Moment) (i : ℕ) (access : Access) : Type 0 wh
   pub size : ℕ
   pub piece : IsPieceOf before i list (ends before i list) machine access.offset size
   pub bytes : access.payload ≡ machine.outgoing
+  pub turn : IsInTurn past before i list (ends before i list) machine
+  -- it goes to the slot of this ORB, which ran, and which the slot has where the write is in the initiator's generation
+  pub slot_is : slot_at before i list (ends before i list) ≡ slot
+  pub ran : 0 < runs past i list (ends before i list)
+  pub seen : generation ≤ (terms before).generation (suc i)
+  pub held : generation ≡ (terms before).generation (suc i) → HasSlot before i slot (orb list (ends before i list))
 
 abbrev pub DataSo : ℕ → Moment → List Moment → Type 0
-DataSo i (said (notes.Sent serial generation from to bytes)) past = from ≡ 0 → to ≡ suc i → (slot : ℕ) (x : IsDataWrite bytes slot) → WasPiece past i x.access
+DataSo i (said (notes.Sent serial generation from to bytes)) past = from ≡ 0 → to ≡ suc i → (slot : ℕ) (x : IsDataWrite bytes slot) → WasPiece past i generation slot x.access
 DataSo i moment past = Unit {0}
 
 -- at each place of a run, of the initiators that injected no packets
