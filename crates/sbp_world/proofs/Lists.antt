@@ -246,7 +246,7 @@ pub mod OpenedResets
 pub mod OpenedRuns
 pub mod OpenedSends
 pub mod OpenedStates
-pub mod OpenedTame
+pub mod OpenedBeside
 pub mod OpenedTarget
 pub mod OpenedTargets
 pub mod OpenedTelling

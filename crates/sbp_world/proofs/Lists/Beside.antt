@@ -3,7 +3,7 @@ use Rattle.std.proofs.Common.{arith, inl, inr, ℕ, ◌<◌, List, [], ◌++◌}
 use Rattle.rbc_disk.specs.Disk.{Disk}
 use Rattle.sbp_journal.specs.Run.{Moment}
 use Rattle.sbp_laws.specs.Turns.{EachMoment}
-use Rattle.sbp_world.specs.Lists.FewLogins.{FewLogins, IsCalmBeside, IsTameOrFew}
+use Rattle.sbp_world.specs.Lists.FewLogins.{FewLogins, IsCalmBeside, IsTameOf, IsTameOrFew}
 use Rattle.sbp_world.specs.Lists.Needs.{IsCalm}
 use Rattle.sbp_world.specs.Lists.OwnLogins.{IsTame}
 use Rattle.sbp_world.specs.Lists.Owners.{OwnedAt}
@@ -22,6 +22,9 @@ tame_or_few_before later past (inr few) = inr (few_back later past few)
 
 pub beside_before : (later past : List Moment) (i : ℕ) → IsCalmBeside (later ++ past) i → IsCalmBeside past i
 beside_before later past i c = (calm_before later past i c.0, tame_or_few_before later past c.1)
+
+pub tame_of_before : (later past : List Moment) (i : ℕ) → IsTameOf (later ++ past) i → IsTameOf past i
+tame_of_before later past i tame = (calm_before later past i tame.0, few_back later past tame.1)
 
 -- ---- the logins that were done
 -- Each had the base of the agent of a place: for every initiator, where none injected packets; or for this one, where few logins were given, and each was of an ID of it.

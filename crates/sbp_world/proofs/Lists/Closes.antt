@@ -75,8 +75,8 @@ module _ (pointers : PointersLaw) (begun_law : BegunLaw) where
 module _ (pointers : PointersLaw) (begun_law : BegunLaw) (places : PlacesLaw) where
   names : Under (WhereTameOrFew AreNames)
   names = record {
-    after_lines = λ line run r has small size so_far tame. still_after IsTameOrFew tame_or_few_before Known AreUntaken AllNamed (known pointers begun_law) places.untaken names_walk first_names line run r has small size so_far tame;
-    between = λ line run r has small size next most told m so_far tame. still_between IsTameOrFew tame_or_few_before Known AreUntaken AllNamed (known pointers begun_law) places.untaken names_walk first_names line run r has small size next (more_deliveries most) (delivers most) told m so_far tame;
+    after_lines = λ line run r has small size so_far beside. still_after IsTameOrFew tame_or_few_before Known AreUntaken AllNamed (known pointers begun_law) places.untaken names_walk first_names line run r has small size so_far beside;
+    between = λ line run r has small size next most told m so_far beside. still_between IsTameOrFew tame_or_few_before Known AreUntaken AllNamed (known pointers begun_law) places.untaken names_walk first_names line run r has small size next (more_deliveries most) (delivers most) told m so_far beside;
   }
 
   closes_at : (ms : List Moment) (w : WorldState) → AreFirsts ms w → AreHere ms w → AreNames ms w → AreUntaken ms w → AreBehind ms w → Closes ms w
@@ -88,11 +88,11 @@ module _ (pointers : PointersLaw) (begun_law : BegunLaw) (places : PlacesLaw) wh
 
   pub closes_law : ClosesLaw
   closes_law = record {
-    after_lines = λ line run r has small size so_far tame.
-        closes_at (history_of line run) (after (beginning run) run.entries).world (first_law.after_lines line run r has small size) (places.here.after_lines line run r has small size so_far tame)
-        (names.after_lines line run r has small size so_far tame) (places.untaken.after_lines line run r has small size so_far tame) (places.behind.after_lines line run r has small size so_far tame);
-    between = λ line run r has small size next most told m so_far tame.
+    after_lines = λ line run r has small size so_far beside.
+        closes_at (history_of line run) (after (beginning run) run.entries).world (first_law.after_lines line run r has small size) (places.here.after_lines line run r has small size so_far beside)
+        (names.after_lines line run r has small size so_far beside) (places.untaken.after_lines line run r has small size so_far beside) (places.behind.after_lines line run r has small size so_far beside);
+    between = λ line run r has small size next most told m so_far beside.
         let w = (after_all told (begun (after (beginning run) run.entries))).world in
-        closes_at (map said w.fresh ++ asked next (more_deliveries most) ∷ history_of line run) w (first_law.between line run r has small size next most told m) (places.here.between line run r has small size next most told m so_far tame)
-        (names.between line run r has small size next most told m so_far tame) (places.untaken.between line run r has small size next most told m so_far tame) (places.behind.between line run r has small size next most told m so_far tame);
+        closes_at (map said w.fresh ++ asked next (more_deliveries most) ∷ history_of line run) w (first_law.between line run r has small size next most told m) (places.here.between line run r has small size next most told m so_far beside)
+        (names.between line run r has small size next most told m so_far beside) (places.untaken.between line run r has small size next most told m so_far beside) (places.behind.between line run r has small size next most told m so_far beside);
   }

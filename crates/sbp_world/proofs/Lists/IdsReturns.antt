@@ -1,67 +1,64 @@
 -- In every run with few logins, at each place between two turns, each live login of the node of an initiator that injected no packets has the FIFO of a login, whatever the
 -- other initiators injected: where each login that was done for it was of an ID of it, with the base of the agent of a place.
-use Rattle.sbp_world.proofs.Agents.Management.Holding.{Holding}
-use Rattle.sbp_world.proofs.Agents.Management.Still.{hist}
+use Rattle.std.proofs.Common.{arith, ◌≡◌, ◌∙◌, refl, sym, ap, subst, ℕ, ◌+◌, ◌^◌, ◌<◌, ◌≤◌, true, List, [], ◌++◌, length, Option, Some}
 use Rattle.async_packet.specs.Labels.{LabelParts}
 use Rattle.async_packet.specs.Packet.{Packet}
 use Rattle.bus_transactions.specs.Packets.{SerialsCount}
-use Rattle.sbp_world.specs.Hosts.Carrying.{NoneInjected}
 use Rattle.label_table.specs.Layer.{judging_step, of_response}
-use Rattle.sbp_world.proofs.Lists.Courses.{EveryPlace, Keeps, at_between, at_lines}
-use Rattle.sbp_world.proofs.Lists.IdsOwned.{AreBehind, behind_everywhere}
-use Rattle.sbp_world.proofs.Lists.IdsPlaces.{IfOwnOrb, IsOwnOrb, held_own}
-use Rattle.sbp_world.proofs.Lists.IdsRuns.{AreFewIds, few_ids_everywhere}
-use Rattle.sbp_world.proofs.Lists.IdsTurns.{own_ids_turn}
-use Rattle.sbp_world.proofs.Lists.Judging.{goes_next, grown}
-use Rattle.sbp_world.proofs.Lists.KeptTurns.{id_is, operation_is}
-use Rattle.sbp_world.proofs.Lists.KeptTurns.{id_is}
-use Rattle.sbp_world.proofs.Lists.LiveReplies.{IsDecidedOn}
-use Rattle.sbp_world.proofs.Lists.LiveRuns.{goes_size}
-use Rattle.sbp_world.proofs.Lists.LiveSteps.{id_in}
-use Rattle.sbp_world.proofs.Lists.OwnCounts.{FewAt}
-use Rattle.sbp_world.proofs.Lists.OwnLogins.{AreOwnOpsAt, OwnKnown, decided_good, ops_everywhere, own_known}
-use Rattle.sbp_world.proofs.Lists.OwnOps.{AreOwnOps, IsOwnOp, StoodThere, brings_held, short_from}
-use Rattle.sbp_world.proofs.Lists.OwnOps.{short_from}
-use Rattle.sbp_world.proofs.Lists.OwnTables.{owned}
-use Rattle.sbp_world.proofs.Lists.PlacedOps.{each_from}
-use Rattle.sbp_world.specs.Lists.Contents.{AreAsked}
-use Rattle.sbp_world.specs.Lists.KeptOrbs.{KeepsIn}
-use Rattle.sbp_world.specs.Lists.Needs.{IsCalm}
-use Rattle.sbp_world.specs.Lists.PlaceReads.{BringPlaces}
-use Rattle.sbp_world.specs.Lists.Shorts.{AreShort}
 use Rattle.login_table.specs.Table.{Table, is_live, place_at}
 use Rattle.login_table.specs.declared.login.Login.{Login}
 use Rattle.mgmt_agent.specs.declared.operation.Operation.{Operation}
-use Rattle.mgmt_agent.specs.declared.operation.Phase.TheVariants as phases
 use Rattle.mgmt_agent.specs.declared.operation.Phase.{Phase}
 use Rattle.orb_layout.specs.ManagementOrbs.{management_orb}
+use Rattle.orb_layout.specs.Replies.{Answer}
 use Rattle.packet_store.specs.Kept.{found_sent}
 use Rattle.packet_store.specs.declared.sent.Sent.{Sent}
 use Rattle.rbc_disk.specs.Disk.{Disk}
 use Rattle.sbp_journal.specs.Run.{Moment}
 use Rattle.sbp_laws.specs.Hosts.{host_at}
 use Rattle.sbp_laws.specs.Served.{place_held}
+use Rattle.sbp_laws.specs.Targets.{Decided, bytes_in, decided_by, decided_in}
 use Rattle.sbp_laws.specs.Turns.{EachMoment}
 use Rattle.sbp_target.specs.Receiving.{answer_in}
-use Rattle.sbp_target.specs.Receiving.{answer_in}
+use Rattle.sbp_world.proofs.Agents.Management.Holding.{Holding}
+use Rattle.sbp_world.proofs.Agents.Management.Still.{hist}
+use Rattle.sbp_world.proofs.Lists.Beside.{tame_of_before}
+use Rattle.sbp_world.proofs.Lists.Courses.{EveryPlace, Keeps, at_between, at_lines}
+use Rattle.sbp_world.proofs.Lists.IdsBack.{AreBack, back_turn, stood_own}
+use Rattle.sbp_world.proofs.Lists.IdsHosts.{HostsOwn, hosts_own_everywhere}
+use Rattle.sbp_world.proofs.Lists.IdsLogins.{first_own, own_fifo}
+use Rattle.sbp_world.proofs.Lists.IdsOwned.{AreBehind, behind_everywhere}
+use Rattle.sbp_world.proofs.Lists.IdsPlaces.{IfOwnOrb, IsOwnOrb, held_own}
+use Rattle.sbp_world.proofs.Lists.IdsRuns.{AreFewIds, few_ids_everywhere}
+use Rattle.sbp_world.proofs.Lists.IdsTurns.{own_ids_turn}
+use Rattle.sbp_world.proofs.Lists.Judging.{goes_next, grown}
+use Rattle.sbp_world.proofs.Lists.KeptBrings.{none_decided, same_decided}
+use Rattle.sbp_world.proofs.Lists.KeptTurns.{id_is, operation_is}
+use Rattle.sbp_world.proofs.Lists.LiveReplies.{IsDecidedOn}
+use Rattle.sbp_world.proofs.Lists.LiveRuns.{goes_size}
+use Rattle.sbp_world.proofs.Lists.LiveSteps.{id_in}
+use Rattle.sbp_world.proofs.Lists.ManageTerms.{none_is}
+use Rattle.sbp_world.proofs.Lists.OwnCounts.{FewAt}
+use Rattle.sbp_world.proofs.Lists.OwnLogins.{AreOwnOpsAt, OwnKnown, decided_good, ops_everywhere, own_known}
+use Rattle.sbp_world.proofs.Lists.OwnOps.{AreOwnOps, IsOwnOp, StoodThere, brings_held, short_from}
+use Rattle.sbp_world.proofs.Lists.OwnTables.{owned}
+use Rattle.sbp_world.proofs.Lists.PlacedOps.{each_from}
 use Rattle.sbp_world.specs.Histories.{moments_behind}
+use Rattle.sbp_world.specs.Hosts.Carrying.{NoneInjected}
+use Rattle.sbp_world.specs.Lists.Contents.{AreAsked}
+use Rattle.sbp_world.specs.Lists.FewLogins.{IsTameOf}
+use Rattle.sbp_world.specs.Lists.KeptOrbs.{KeepsIn}
+use Rattle.sbp_world.specs.Lists.Needs.{IsCalm}
+use Rattle.sbp_world.specs.Lists.OwnLogins.{IsLoginFifo}
+use Rattle.sbp_world.specs.Lists.Owners.{AreOwnIds, HasOwn, OwnedAt}
+use Rattle.sbp_world.specs.Lists.PlaceReads.{BringPlaces}
+use Rattle.sbp_world.specs.Lists.Placings.{BasedAt}
+use Rattle.sbp_world.specs.Lists.Shorts.{AreShort}
 use Rattle.sbp_world.specs.Making.{new_world, ready_logins}
 use Rattle.sbp_world.specs.Runs.{Run, beginning}
 use Rattle.sbp_world.specs.Worlds.{WorldState}
-use Rattle.std.proofs.Common.{arith, ◌≡◌, ◌∙◌, refl, sym, ap, subst, ℕ, ◌+◌, ◌^◌, ◌<◌, ◌≤◌, true, List, [], ◌++◌, length, Option, Some}
-use Rattle.sbp_laws.specs.Targets.{Decided, bytes_in, decided_by, decided_in}
-use Rattle.orb_layout.specs.Replies.{Answer}
+use Rattle.mgmt_agent.specs.declared.operation.Phase.TheVariants as phases
 use Rattle.sbp_target.specs.declared.purpose.Purpose.TheVariants as purposes
-use Rattle.sbp_world.specs.Lists.FewLogins.{IsTameOf}
-use Rattle.sbp_world.specs.Lists.Owners.{AreOwnIds, HasOwn, OwnBy, OwnedAt}
-use Rattle.sbp_world.specs.Lists.Placings.{BasedAt}
-use Rattle.sbp_world.proofs.Lists.IdsBack.{AreBack, back_turn, stood_own}
-use Rattle.sbp_world.proofs.Lists.IdsHosts.{HostsOwn, hosts_own_everywhere}
-use Rattle.sbp_world.proofs.Lists.IdsLogins.{first_own, own_fifo, tame_of_before}
-use Rattle.sbp_world.specs.Lists.Live.{HasLogin}
-use Rattle.sbp_world.specs.Lists.OwnLogins.{IsLoginFifo}
-use Rattle.sbp_world.proofs.Lists.KeptBrings.{none_decided, same_decided}
-use Rattle.sbp_world.proofs.Lists.ManageTerms.{none_is}
 
 -- ---- what is known at each place of every run
 record Known (start : List Disk) (past : List Moment) (w : WorldState) : Type 0 where
@@ -130,7 +127,7 @@ all_so units ready has start past s later t lines more g h h_now q q_now had i w
     let inside : i < length s.world.initiators = subst (λ n. i < n) (goes_size past s later t g) within in
     let some : 0 < length s.world.initiators = omega (arith, inside) in
     let x = grown (hist past s.world) (hist later t.world) (goes_next past s later t g) in
-    let tame_old : IsTameOf (hist past s.world) i = tame_of_before start x.new (hist past s.world) i (subst (λ ms. IsTameOf ms i) (sym x.is) tame) in
+    let tame_old : IsTameOf (hist past s.world) i = tame_of_before x.new (hist past s.world) i (subst (λ ms. IsTameOf ms i) (sym x.is) tame) in
     let shorts_old : AreShort (hist past s.world) = short_from x.new (hist past s.world) (subst AreShort (sym x.is) shorts) in
     let based_old : EachMoment (BasedAt i) (hist past s.world) = each_from (BasedAt i) x.new (hist past s.world) (subst (EachMoment (BasedAt i)) (sym x.is) based) in
     let owned_old : EachMoment (OwnedAt start i) (hist past s.world) = each_from (OwnedAt start i) x.new (hist past s.world) (subst (EachMoment (OwnedAt start i)) (sym x.is) owned) in
@@ -154,7 +151,7 @@ first_so : (line : ℕ) (run : Run) → run.initiators ≤ 4 → 0 < run.units �
 unfolding new_world
 first_so line run few has small size i inside tame shorts based owned = record {
   back = λ op is source. none_is op is;
-  ids = first_own (λ start j past. Unit {0}) (λ start j later past u. u) line run few has small size i inside tame shorts based tt;
+  ids = first_own line run few has small size i inside;
 }
 
 so_everywhere : EveryPlace OwnSoAt
@@ -178,7 +175,3 @@ own_fifos_everywhere = record {
   after_lines = λ line run r has small size so_far i l tame shorts based owned. own_fifo _ _ _ _ _ (owned_ids_everywhere.after_lines line run r has small size so_far i l tame shorts based owned);
   between = λ line run r has small size next most told m so_far i l tame shorts based owned. own_fifo _ _ _ _ _ (owned_ids_everywhere.between line run r has small size next most told m so_far i l tame shorts based owned);
 }
-
--- a response that names a live login of its node names an ID of it
-pub named_own : (start : List Disk) (past : List Moment) (i node number : ℕ) (table : Table) → AreOwnIds start past i node table → HasLogin table.places node number → OwnBy start past i number
-named_own start past i node number table own x = subst (OwnBy start past i) x.own (own.own x.place x.login x.there x.live x.of_node)

@@ -236,7 +236,7 @@ entered_next asked t now rising few x =
     fails_all (next_id t.last) (left_for asked t.places) (λ place login e. let l = rising place login (left_stood asked t.places place login e) in omega (arith, l, next)) in
     x.last ∙ (fresh_first 7 (next_id t.last) (left_for asked t.places) free ∙ next)
 
-pub still_rises : (t now : Table) → IsStill t now → AreRising t → AreRising now
+still_rises : (t now : Table) → IsStill t now → AreRising t → AreRising now
 still_rises t now x rising place login e =
     let c = x.came place login e in
     let l = rising place c.before c.there in
@@ -244,7 +244,7 @@ still_rises t now x rising place login e =
     let b = x.last in
     omega (arith, l, a, b)
 
-pub entered_rises : (asked : LoginRequest) (t now : Table) → AreRising t → now.last ≡ t.last + 1 → IsEntered asked t now → AreRising now
+entered_rises : (asked : LoginRequest) (t now : Table) → AreRising t → now.last ≡ t.last + 1 → IsEntered asked t now → AreRising now
 entered_rises asked t now rising next x place login e = by (x.come place login e)
   where
     by : IsNew asked now.last login ⊎ (place_at t.places place ≡ Some login) → login.login ≤ now.last

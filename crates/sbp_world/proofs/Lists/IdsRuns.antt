@@ -102,7 +102,7 @@ module _ (units ready : ℕ) (more_units : 0 < units) (start : List Disk) (past 
   x : Grown old_past now_past
   x = grown old_past now_past (goes_next past s later t g)
 
-  pub entries_grow : entries old_past ≤ entries now_past
+  entries_grow : entries old_past ≤ entries now_past
   entries_grow = subst (λ ms. entries old_past ≤ entries ms) x.is (more_entries start x.new old_past)
 
   last_old : last_at start old_past ≡ s.world.target.logins.last
@@ -142,7 +142,7 @@ module _ (units ready : ℕ) (more_units : 0 < units) (start : List Disk) (past 
         let l = had.last in
         omega (arith, apart, most, l)
 
-    pub ids_turn : HasFewIds now_past t.world.target.logins
+    ids_turn : HasFewIds now_past t.world.target.logins
     ids_turn = record { last = last_by (nat_eq (entries now_past) (entries old_past)) refl; rising = rises.rising }
 
 -- ---- at each place of every run

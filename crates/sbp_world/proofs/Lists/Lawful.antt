@@ -28,12 +28,12 @@ use Rattle.sbp_world.proofs.Lists.StatusLaws.{status_of_run_law}
 use Rattle.sbp_world.proofs.Lists.StatusLogins.{at_logins}
 
 -- where lists are open as they should be, and statuses are sent and taken so
-module _ (here : Under (WhereTameOrFew AreHere)) (placed : Under (WhereTameOrFew AllPlacedFor)) (line : ℕ) (run : Run) (r : IsRun run) (has : 0 < run.units) (small : run.units ≤ 4) (size : length run.start.disks ≡ run.units) (tame : IsTameOrFew (history_of line run)) where
+module _ (here : Under (WhereTameOrFew AreHere)) (placed : Under (WhereTameOrFew AllPlacedFor)) (line : ℕ) (run : Run) (r : IsRun run) (has : 0 < run.units) (small : run.units ≤ 4) (size : length run.start.disks ≡ run.units) (beside : IsTameOrFew (history_of line run)) where
   abbrev past : List Moment
   past = history_of line run
 
   so_far : OpenBefore line run run.entries
-  so_far = open_before here placed line run r has small size tame
+  so_far = open_before here placed line run r has small size beside
 
   inside : (i : ℕ) → i < run.initiators → i < length (after (beginning run) run.entries).world.initiators
   inside i b = subst (λ n. i < n) (sym (count_after run run.entries)) b
@@ -41,14 +41,14 @@ module _ (here : Under (WhereTameOrFew AreHere)) (placed : Under (WhereTameOrFew
   logins : EachMoment (AtLogin (injectors past)) past
   logins =
       at_logins (injectors past) run.initiators past (run_inside line run r)
-      (λ i b own. (sent_so here placed).after_lines line run r has small size so_far tame i (inside i b) own)
-      (λ i b own. ((statuses here placed).after_lines line run r has small size so_far tame i (inside i b) own).taken)
+      (λ i b own. (sent_so here placed).after_lines line run r has small size so_far beside i (inside i b) own)
+      (λ i b own. ((statuses here placed).after_lines line run r has small size so_far beside i (inside i b) own).taken)
 
   lawful : LawfulOnLists (injectors (history_of line run)) run.start.disks (history_of line run)
   lawful = record {
     order = order_run_law.after_lines line run r has small size so_far;
     execution = execution_run_law.after_lines line run r has small size so_far;
-    status = (status_of_run_law (statuses here placed)).at_logins line run r has small size so_far tame logins;
+    status = (status_of_run_law (statuses here placed)).at_logins line run r has small size so_far beside logins;
   }
 
 -- by what is known of the lines
@@ -63,7 +63,7 @@ module _ (short : ShortLaw) where
   open_lists_law = open_lists (here_beside short) (placed_beside short)
 
   pub lists_beside_law : ListsBesideLaw
-  lists_beside_law = record { lists = λ line run r has small size tame. lawful (here_beside short) (placed_beside short) line run r has small size tame }
+  lists_beside_law = record { lists = λ line run r has small size beside. lawful (here_beside short) (placed_beside short) line run r has small size beside }
 
   -- so where no initiator injected packets
   pub lists_law : ListsLaw

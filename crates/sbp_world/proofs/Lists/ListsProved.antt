@@ -34,7 +34,7 @@ module _ (here : Under (WhereTameOrFew AreHere)) (placed : Under (WhereTameOrFew
   open_lists = closing.closes lists_places
 
   pub open_before : (line : ℕ) (run : Run) → IsRun run → 0 < run.units → run.units ≤ 4 → length run.start.disks ≡ run.units → IsTameOrFew (history_of line run) → OpenBefore line run run.entries
-  open_before line run r has small size tame = closing.before open_lists line run r has small size tame
+  open_before line run r has small size beside = closing.before open_lists line run r has small size beside
 
   -- and the statuses of ORBs are sent and taken as they should be
   pub sent_so : Under (WhereTameOrFew AllSentSo)

@@ -175,13 +175,13 @@ module _ (n : ℕ) (few : n ≤ 4) (units : ℕ) (small : units ≤ 4) (line : �
       let inside : i < n = subst (λ m. i < m) (initiators_size n is_ready) l in
       let none = first_none is_ready i inside in
       record {
-        grants = λ tame together. none_grants (id_in (world is_ready) i) _ (IsActive start past i) (IsTold start past i) (world is_ready).target.manager (world is_ready).target.logins.places (initiator_at (world is_ready) i) none;
-        buffer = λ tame orb bytes told good running is login. absurd (let no : None ≡ Some running = sym none ∙ is in cc);
-        good = λ tame. good;
-        based = λ tame. based;
-        named = λ tame orb bytes told good running is login. absurd (let no : None ≡ Some running = sym none ∙ is in cc);
-        ours = λ tame. ours;
-        owned = λ tame. owned;
-        unbad = λ tame. unbad;
-        logout = λ tame orb bytes told running is logout. absurd (let no : None ≡ Some running = sym none ∙ is in cc);
+        grants = λ beside together. none_grants (id_in (world is_ready) i) _ (IsActive start past i) (IsTold start past i) (world is_ready).target.manager (world is_ready).target.logins.places (initiator_at (world is_ready) i) none;
+        buffer = λ beside orb bytes told good running is login. absurd (let no : None ≡ Some running = sym none ∙ is in cc);
+        good = λ beside. good;
+        based = λ beside. based;
+        named = λ beside orb bytes told good running is login. absurd (let no : None ≡ Some running = sym none ∙ is in cc);
+        ours = λ beside. ours;
+        owned = λ beside. owned;
+        unbad = λ beside. unbad;
+        logout = λ beside orb bytes told running is logout. absurd (let no : None ≡ Some running = sym none ∙ is in cc);
       }

@@ -13,16 +13,16 @@ use Rattle.sbp_world.proofs.Lists.LiveRuns.{done_of, goes_beside, goes_size}
 use Rattle.sbp_world.proofs.Lists.LiveSteps.{GaveUpOf}
 
 pub buffer_turns : BufferTurns
-buffer_turns units ready start past s later t lines more has g h h_now q q_now p i inside tame bus same away keeps up =
+buffer_turns units ready start past s later t lines more has g h h_now q q_now p i inside beside bus same away keeps up =
     let w = s.world in
     let v = t.world in
     let before = hist past w in
     let now = hist later v in
     let within : i < length v.initiators = subst (λ n. i < n) (sym (goes_size past s later t g)) inside in
-    let tame_before = goes_beside past s later t g i tame in
-    let so = q.more.buffers i inside (done_of start before w p i inside tame_before) in
+    let was_beside = goes_beside past s later t g i beside in
+    let so = q.more.buffers i inside (done_of start before w p i inside was_beside) in
     let sources = q_now.more.sources i within in
-    let all : AreReplied start before i = replied_in (q.more.replied i inside tame_before.0 ((p i inside).grown.based tame_before)) in
+    let all : AreReplied start before i = replied_in (q.more.replied i inside was_beside.0 ((p i inside).grown.based was_beside)) in
     let same_in = λ (e : (host_at now i).responses ≡ (host_at before i).responses) (running : Running).
     buffers_same before now i (initiator_at w i) (initiator_at v i) (q.more.holds i inside) (q_now.more.holds i within) e running in
     record {

@@ -22,15 +22,15 @@ use Rattle.sbp_world.proofs.Lists.LiveSteps.{Grown}
 use Rattle.sbp_world.proofs.Lists.LiveUnrefused.{leaves_well, unbad_turn}
 use Rattle.sbp_world.proofs.Lists.ManageMoments.{Hands}
 
-module _ (units ready : ℕ) (start : List Disk) (past : List Moment) (s : Scene) (later : List Moment) (t : Scene) {lines more : ℕ} (has : 0 < units) (g : Goes past s later t) (h : Holding units ready start past lines s.world) (h_now : Holding units ready start later more t.world) (q : With Held start (hist past s.world) s.world) (q_now : With Held start (hist later t.world) t.world) (p : AllLive Held start (hist past s.world) s.world) (i : ℕ) (inside : i < length s.world.initiators) (tame : IsCalmBeside (hist later t.world) i) where
+module _ (units ready : ℕ) (start : List Disk) (past : List Moment) (s : Scene) (later : List Moment) (t : Scene) {lines more : ℕ} (has : 0 < units) (g : Goes past s later t) (h : Holding units ready start past lines s.world) (h_now : Holding units ready start later more t.world) (q : With Held start (hist past s.world) s.world) (q_now : With Held start (hist later t.world) t.world) (p : AllLive Held start (hist past s.world) s.world) (i : ℕ) (inside : i < length s.world.initiators) (beside : IsCalmBeside (hist later t.world) i) where
   abbrev was : List Moment
   was = hist past s.world
 
   abbrev is_now : List Moment
   is_now = hist later t.world
 
-  was_tame : IsCalmBeside was i
-  was_tame = goes_beside past s later t g i tame
+  was_beside : IsCalmBeside was i
+  was_beside = goes_beside past s later t g i beside
 
   now_inside : i < length t.world.initiators
   now_inside = subst (λ n. i < n) (sym (goes_size past s later t g)) inside
@@ -39,7 +39,7 @@ module _ (units ready : ℕ) (start : List Disk) (past : List Moment) (s : Scene
   grown = (p i inside).grown
 
   hands : Hands start i is_now
-  hands = q_now.more.given.laws.hands i now_inside tame.0
+  hands = q_now.more.given.laws.hands i now_inside beside.0
 
   on : Next was is_now
   on = goes_next past s later t g
@@ -47,7 +47,7 @@ module _ (units ready : ℕ) (start : List Disk) (past : List Moment) (s : Scene
   pub now_good : EachMoment (GoodAt i) is_now
   now_good =
       let k = q.known.cored i inside in
-      good_turn start was i (counts_at s.world h.sound.stands) q.more.contents (buffered HasBase start was i k.ready (initiator_at s.world i) k.cored (q.more.holds i inside) (grown.buffer was_tame)) is_now on hands (grown.good was_tame)
+      good_turn start was i (counts_at s.world h.sound.stands) q.more.contents (buffered HasBase start was i k.ready (initiator_at s.world i) k.cored (q.more.holds i inside) (grown.buffer was_beside)) is_now on hands (grown.good was_beside)
 
   pub now_based : EachMoment (BasedAt i) is_now
   now_based = based_of i is_now (q_now.more.granted i now_inside) now_good
@@ -55,7 +55,7 @@ module _ (units ready : ℕ) (start : List Disk) (past : List Moment) (s : Scene
   pub now_ours : EachMoment (OursAt start i) is_now
   now_ours =
       let k = q.known.cored i inside in
-      ours_turn start was i (counts_at s.world h.sound.stands) q.more.contents (buffered (λ response. OwnBy start was i response.login) start was i k.ready (initiator_at s.world i) k.cored (q.more.holds i inside) (grown.named was_tame)) is_now on hands (grown.ours was_tame)
+      ours_turn start was i (counts_at s.world h.sound.stands) q.more.contents (buffered (λ response. OwnBy start was i response.login) start was i k.ready (initiator_at s.world i) k.cored (q.more.holds i inside) (grown.named was_beside)) is_now on hands (grown.ours was_beside)
 
   pub now_owned : EachMoment (OwnedAt start i) is_now
   now_owned = owned_of start i is_now (q_now.more.granted i now_inside) now_ours
@@ -63,4 +63,4 @@ module _ (units ready : ℕ) (start : List Disk) (past : List Moment) (s : Scene
   pub now_unbad : EachMoment (NoBadAt i) is_now
   now_unbad =
       let k = q.known.cored i inside in
-      unbad_turn start was i (counts_at s.world h.sound.stands) q.more.contents (leaves_well start was i k.ready (initiator_at s.world i) k.cored (grown.logout was_tame)) is_now on hands (grown.unbad was_tame)
+      unbad_turn start was i (counts_at s.world h.sound.stands) q.more.contents (leaves_well start was i k.ready (initiator_at s.world i) k.cored (grown.logout was_beside)) is_now on hands (grown.unbad was_beside)

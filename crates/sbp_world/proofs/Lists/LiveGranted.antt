@@ -148,7 +148,7 @@ seen_told {past} w stands start i inside contents orb bytes told =
 
 -- ---- a turn
 module _ (placed : PlacedTurns) (stored : StoredTurns) (buffers : BufferTurns) where
-  module _ (units ready : ℕ) (start : List Disk) (past : List Moment) (s : Scene) (later : List Moment) (t : Scene) {lines more : ℕ} (has : 0 < units) (g : Goes past s later t) (h : Holding units ready start past lines s.world) (h_now : Holding units ready start later more t.world) (q : With Held start (hist past s.world) s.world) (q_now : With Held start (hist later t.world) t.world) (p : AllLive Held start (hist past s.world) s.world) (i : ℕ) (inside : i < length s.world.initiators) (tame : IsCalmBeside (hist later t.world) i) where
+  module _ (units ready : ℕ) (start : List Disk) (past : List Moment) (s : Scene) (later : List Moment) (t : Scene) {lines more : ℕ} (has : 0 < units) (g : Goes past s later t) (h : Holding units ready start past lines s.world) (h_now : Holding units ready start later more t.world) (q : With Held start (hist past s.world) s.world) (q_now : With Held start (hist later t.world) t.world) (p : AllLive Held start (hist past s.world) s.world) (i : ℕ) (inside : i < length s.world.initiators) (beside : IsCalmBeside (hist later t.world) i) where
     abbrev w : WorldState
     w = s.world
 
@@ -167,8 +167,8 @@ module _ (placed : PlacedTurns) (stored : StoredTurns) (buffers : BufferTurns) w
     within : i < length v.initiators
     within = subst (λ n. i < n) (sym (goes_size past s later t g)) inside
 
-    tame_before : IsCalmBeside before i
-    tame_before = goes_beside past s later t g i tame
+    was_beside : IsCalmBeside before i
+    was_beside = goes_beside past s later t g i beside
 
     abbrev c : IsCored before i (initiator_at w i)
     c = q.known.cored i inside
@@ -177,7 +177,7 @@ module _ (placed : PlacedTurns) (stored : StoredTurns) (buffers : BufferTurns) w
     c_now = q_now.known.cored i within
 
     abbrev hands : Hands start i now
-    hands = q_now.more.given.laws.hands i within tame.0
+    hands = q_now.more.given.laws.hands i within beside.0
 
     abbrev was_grown : Grown start before w i
     was_grown = (p i inside).grown
@@ -243,19 +243,19 @@ module _ (placed : PlacedTurns) (stored : StoredTurns) (buffers : BufferTurns) w
 
       module _ (up : GaveUpOf w i → ⊥) where
         abbrev k : ToTarget start (base_of g) before now w v i
-        k = target_turn units ready start past s later t has g h h_now q q_now p i inside tame placed was bus same told
+        k = target_turn units ready start past s later t has g h h_now q q_now p i inside beside placed was bus same told
 
         abbrev help : HelpsTarget start (base_of g) before now w v i
-        help = helps_target units ready start w h (as_given q) i inside tame_before.0 (base_of g) now v (p i inside).lives was up k
+        help = helps_target units ready start w h (as_given q) i inside was_beside.0 (base_of g) now v (p i inside).lives was up k
 
         abbrev grants : GrantsOf start before w i
-        grants = was_grown.grants tame_before was
+        grants = was_grown.grants was_beside was
 
         abbrev store : IsStored start (base_of g) before w v i
-        store = stored units ready start past s later t _ _ has g h h_now q q_now p i inside tame was bus told
+        store = stored units ready start past s later t _ _ has g h h_now q q_now p i inside beside was bus told
 
         taken : IsActive start before i → IsTaken start before i
-        taken active = active_taken start before i (q.more.given.managed i inside tame_before.0) (λ x. up (gave_up c.ready before w i c.cored x)) active
+        taken active = active_taken start before i (q.more.given.managed i inside was_beside.0) (λ x. up (gave_up c.ready before w i c.cored x)) active
 
         called : TargetCall w (base_of g) v.fresh v.target → Now (id_in w i) own_number v.target (initiator_at w i)
         called (still x y) =
@@ -270,7 +270,7 @@ module _ (placed : PlacedTurns) (stored : StoredTurns) (buffers : BufferTurns) w
             delivery_grants (id_in w i) own_number (IsActive start before i) (IsActive start now i) (IsTold start before i) (IsTold start now i) w.target v.target (initiator_at w i) grants help.back help.waits sent.generation sent.bytes f.table (good units ready has start v h_now).table
             (λ packet label at left x of.
             let z = k.placed x.was x.is of in
-            let own = own_handled units ready start w h i inside was x.was x.is of z.place z.small z.orb (q.more.given.managed i inside tame_before.0) c.ready c.cored up x.unwritten in
+            let own = own_handled units ready start w h i inside was x.was x.is of z.place z.small z.orb (q.more.given.managed i inside was_beside.0) c.ready c.cored up x.unwritten in
             let u = own.taken.underway in
             let at_place = z.orb ∙ ap (λ n. start_of (windows.Management n)) own.place_is in
             let orb = k.brings serial sent comes packet label at left x of u own.taken.is own.taken.manages at_place in
@@ -296,10 +296,10 @@ module _ (placed : PlacedTurns) (stored : StoredTurns) (buffers : BufferTurns) w
       -- the operation stays
       module _ (same : (initiator_at v i).operation ≡ (initiator_at w i).operation) where
         kept_buffer : (GaveUpOf w i → ⊥) → KeepsBuffer start before w v i
-        kept_buffer = buffers units ready start past s later t _ _ has g h h_now q q_now p i inside tame bus same_target away same
+        kept_buffer = buffers units ready start past s later t _ _ has g h h_now q q_now p i inside beside bus same_target away same
 
         carried_so : CarriedOf start before now w i
-        carried_so = carried_on units ready start past s later t has g h h_now q q_now p i inside tame away same
+        carried_so = carried_on units ready start past s later t has g h h_now q q_now p i inside beside away same
 
         goes_own : (running : Running) → (initiator_at v i).operation ≡ Some running → HostGoes (host_at before i) (host_at now i)
         goes_own running e = own_host past s later t g i away running (sym same ∙ e)
@@ -314,14 +314,14 @@ module _ (placed : PlacedTurns) (stored : StoredTurns) (buffers : BufferTurns) w
                 subst (λ id. Now id (host_at now i).login.login v.target (initiator_at v i)) (sym bus.id)
                 (subst (λ (n : NodeState). Now (id_in w i) (host_at now i).login.login n (initiator_at v i)) (sym same_target)
                 (kept_grants (id_in w i) own_number (host_at now i).login.login (IsActive start before i) (IsActive start now i) (IsTold start before i) (IsTold start now i) w.target.manager w.target.logins.places (initiator_at w i) (initiator_at v i)
-                (was_grown.grants tame_before was) k.back k.tells same (λ running e. numbered (goes_own running e) running e) (λ op is of active phase running e. b.status was op is of phase running e) b.told))
+                (was_grown.grants was_beside was) k.back k.tells same (λ running e. numbered (goes_own running e) running e) (λ op is of active phase running e. b.status was op is of phase running e) b.told))
             by false f = out_grants (id_in v i) (host_at now i).login.login (IsActive start now i) (IsTold start now i) v.target.manager v.target.logins.places (initiator_at v i) (ap in_hand same ∙ f)
 
       idle_now : (initiator_at w i).operation ≡ None → is_stuck_seat (initiator_at v i).seat ≡ false → (op : Managed) → v.target.manager.operation ≡ Some op → op.source ≡ id_in v i → IsActive start now i → ⊥
-      idle_now none free op is of active = active (begun_rest units ready start past s later t has g h h_now q q_now p i inside tame none free)
+      idle_now none free op is of active = active (begun_rest units ready start past s later t has g h h_now q q_now p i inside beside none free)
 
       silent_now : (initiator_at w i).operation ≡ None → is_stuck_seat (initiator_at v i).seat ≡ false → (orb : ℕ) (bytes : List ℕ) → IsTold start now i orb bytes → ⊥
-      silent_now none free = begun_silent units ready start past s later t has g h h_now q q_now p i inside tame none free
+      silent_now none free = begun_silent units ready start past s later t has g h h_now q q_now p i inside beside none free
 
       own_grants : Ends (initiator_at w i) (initiator_at v i) → zero_of w ≡ own_of w i → GrantsOf start now v i
       own_grants (same_end e) was = same_grants e was
@@ -391,7 +391,7 @@ module _ (placed : PlacedTurns) (stored : StoredTurns) (buffers : BufferTurns) w
 
     -- it has the base of the agent of a place
     now_buffered : TurnOf i w (base_of g) v → (orb : ℕ) (bytes : List ℕ) → IsTold start now i orb bytes → bytes ≡ good_block orb → (running : Running) → (initiator_at v i).operation ≡ Some running → running.operation ≡ operations.Login → HasBase (login_response (response_of running (initiator_at v i)))
-    now_buffered = turn_buffer HasBase HasBase (λ response b. b) (was_grown.buffer tame_before) (λ response n. n.based)
+    now_buffered = turn_buffer HasBase HasBase (λ response b. b) (was_grown.buffer was_beside) (λ response n. n.based)
 
     -- and names a login that the initiator's node had
     now_lives : (number : ℕ) → HasLogin v.target.logins.places (id_in v i) number → LivesWith start now i number
@@ -406,7 +406,7 @@ module _ (placed : PlacedTurns) (stored : StoredTurns) (buffers : BufferTurns) w
 
     now_named : TurnOf i w (base_of g) v → (orb : ℕ) (bytes : List ℕ) → IsTold start now i orb bytes → bytes ≡ good_block orb → (running : Running) → (initiator_at v i).operation ≡ Some running → running.operation ≡ operations.Login → OwnBy start now i (login_response (response_of running (initiator_at v i))).login
     now_named =
-        turn_buffer (λ response. OwnBy start before i response.login) (λ response. OwnBy start now i response.login) (λ response o. own_on start i response.login past s later t g o) (was_grown.named tame_before)
+        turn_buffer (λ response. OwnBy start before i response.login) (λ response. OwnBy start now i response.login) (λ response o. own_on start i response.login past s later t g o) (was_grown.named was_beside)
         (λ response n. inl (now_lives response.login n.has))
 
     -- ---- what waits for a logout
@@ -414,11 +414,11 @@ module _ (placed : PlacedTurns) (stored : StoredTurns) (buffers : BufferTurns) w
     Logged x = (orb : ℕ) (bytes : List ℕ) → IsTold start now i orb bytes → (running : Running) → x.operation ≡ Some running → running.operation ≡ operations.Logout → bytes ≡ good_block orb
 
     old_logged : (orb : ℕ) (bytes : List ℕ) → IsTold start before i orb bytes → (running : Running) → (initiator_at w i).operation ≡ Some running → running.operation ≡ operations.Logout → bytes ≡ good_block orb
-    old_logged = was_grown.logout tame_before
+    old_logged = was_grown.logout was_beside
 
     module _ (lives : Lives start now v i) where
       says_so : zero_of v ≡ own_of v i → (orb : ℕ) (bytes : List ℕ) → IsTold start now i orb bytes → (running : Running) → (initiator_at v i).operation ≡ Some running → running.operation ≡ operations.Logout → bytes ≡ good_block orb
-      says_so e orb bytes x running is logout = by (lives.claims tame e)
+      says_so e orb bytes x running is logout = by (lives.claims beside e)
         where
           by : GaveUpOf v i ⊎ ClaimsOf start now v i → bytes ≡ good_block orb
           by (inl up) = no_entry (initiator_at v i) up.none running is (ap is_management logout)
@@ -446,13 +446,13 @@ module _ (placed : PlacedTurns) (stored : StoredTurns) (buffers : BufferTurns) w
   grown_by units ready start past s later t lines more has g h h_now q q_now p i inside lives =
       let turn = goes_turned units ready has start past s later t g h i inside in
       record {
-        grants = λ tame e. turn_grants units ready start past s later t has g h h_now q q_now p i inside tame turn e;
-        buffer = λ tame. now_buffered units ready start past s later t has g h h_now q q_now p i inside tame turn;
-        named = λ tame. now_named units ready start past s later t has g h h_now q q_now p i inside tame turn;
-        ours = λ tame. now_ours units ready start past s later t has g h h_now q q_now p i inside tame;
-        owned = λ tame. now_owned units ready start past s later t has g h h_now q q_now p i inside tame;
-        good = λ tame. now_good units ready start past s later t has g h h_now q q_now p i inside tame;
-        based = λ tame. now_based units ready start past s later t has g h h_now q q_now p i inside tame;
-        logout = λ tame. turn_logged units ready start past s later t has g h h_now q q_now p i inside tame lives turn;
-        unbad = λ tame. now_unbad units ready start past s later t has g h h_now q q_now p i inside tame;
+        grants = λ beside e. turn_grants units ready start past s later t has g h h_now q q_now p i inside beside turn e;
+        buffer = λ beside. now_buffered units ready start past s later t has g h h_now q q_now p i inside beside turn;
+        named = λ beside. now_named units ready start past s later t has g h h_now q q_now p i inside beside turn;
+        ours = λ beside. now_ours units ready start past s later t has g h h_now q q_now p i inside beside;
+        owned = λ beside. now_owned units ready start past s later t has g h h_now q q_now p i inside beside;
+        good = λ beside. now_good units ready start past s later t has g h h_now q q_now p i inside beside;
+        based = λ beside. now_based units ready start past s later t has g h h_now q q_now p i inside beside;
+        logout = λ beside. turn_logged units ready start past s later t has g h h_now q q_now p i inside beside lives turn;
+        unbad = λ beside. now_unbad units ready start past s later t has g h h_now q q_now p i inside beside;
       }

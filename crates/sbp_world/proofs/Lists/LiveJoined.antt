@@ -110,7 +110,7 @@ BufferTurns = OfTurn (λ start base before now w v i. SameBus i w v → v.target
 
 -- ---- a turn
 
-module _ (units ready : ℕ) (start : List Disk) (past : List Moment) (s : Scene) (later : List Moment) (t : Scene) {lines more : ℕ} (has : 0 < units) (g : Goes past s later t) (h : Holding units ready start past lines s.world) (h_now : Holding units ready start later more t.world) (q : With Held start (hist past s.world) s.world) (q_now : With Held start (hist later t.world) t.world) (p : AllLive Held start (hist past s.world) s.world) (i : ℕ) (inside : i < length s.world.initiators) (tame : IsCalmBeside (hist later t.world) i) where
+module _ (units ready : ℕ) (start : List Disk) (past : List Moment) (s : Scene) (later : List Moment) (t : Scene) {lines more : ℕ} (has : 0 < units) (g : Goes past s later t) (h : Holding units ready start past lines s.world) (h_now : Holding units ready start later more t.world) (q : With Held start (hist past s.world) s.world) (q_now : With Held start (hist later t.world) t.world) (p : AllLive Held start (hist past s.world) s.world) (i : ℕ) (inside : i < length s.world.initiators) (beside : IsCalmBeside (hist later t.world) i) where
   abbrev pub w : WorldState
   w = s.world
 
@@ -126,11 +126,11 @@ module _ (units ready : ℕ) (start : List Disk) (past : List Moment) (s : Scene
   pub within : i < length v.initiators
   within = subst (λ n. i < n) (sym (goes_size past s later t g)) inside
 
-  pub tame_before : IsCalmBeside before i
-  tame_before = goes_beside past s later t g i tame
+  pub was_beside : IsCalmBeside before i
+  was_beside = goes_beside past s later t g i beside
 
   abbrev pub calm : IsCalm before i
-  calm = tame_before.0
+  calm = was_beside.0
 
   abbrev pub c : IsCored before i (initiator_at w i)
   c = q.known.cored i inside
@@ -147,28 +147,28 @@ module _ (units ready : ℕ) (start : List Disk) (past : List Moment) (s : Scene
     not_given up = not_up (initiator_at v i).operation (initiator_at v i).seat free (gave_up c_now.ready now v i c_now.cored up)
 
     pub begun_rest : IsRest start now i
-    begun_rest = fresh_rest start now i (q_now.more.given.managed i within tame.0) not_given unjudged
+    begun_rest = fresh_rest start now i (q_now.more.given.managed i within beside.0) not_given unjudged
 
     pub begun_silent : (orb : ℕ) (bytes : List ℕ) → IsTold start now i orb bytes → ⊥
-    begun_silent = fresh_silent start now i (q_now.more.given.managed i within tame.0) not_given unjudged
+    begun_silent = fresh_silent start now i (q_now.more.given.managed i within beside.0) not_given unjudged
 
   -- ---- the target is called
   pub target_turn : PlacedTurns → zero_of w ≡ own_of w i → SameBus i w v → initiator_at v i ≡ initiator_at w i → TargetTold (base_of g) v.fresh → ToTarget start (base_of g) before now w v i
   target_turn placed was bus same told =
-      let x = placed units ready start past s later t _ _ has g h h_now q q_now p i inside tame was bus told in
-      to_target units ready start past s later t g h h_now i inside within (q_now.more.given.laws.hands i within tame.0) (q.more.given.managed i inside calm) c.ready c_now.ready c.cored c_now.cored bus same was told
+      let x = placed units ready start past s later t _ _ has g h h_now q q_now p i inside beside was bus told in
+      to_target units ready start past s later t g h h_now i inside within (q_now.more.given.laws.hands i within beside.0) (q.more.given.managed i inside calm) c.ready c_now.ready c.cored c_now.cored bus same was told
       (has_orbs units ready has start w v h (as_given q) i inside calm was (base_of g) x)
 
   -- ---- the initiator is called, or another
   pub carried_on : TellsAway i w (base_of g) v → (initiator_at v i).operation ≡ (initiator_at w i).operation → CarriedOf start before now w i
-  carried_on away same = own_carried units ready start past s later t g h i inside (q_now.more.given.laws.hands i within tame.0) away c.ready c_now.ready c.cored c_now.cored (q.more.given.managed i inside calm) same
+  carried_on away same = own_carried units ready start past s later t g h i inside (q_now.more.given.laws.hands i within beside.0) away c.ready c_now.ready c.cored c_now.cored (q.more.given.managed i inside calm) same
 
   own_turn : zero_of w ≡ own_of w i → TellsAway i w (base_of g) v → HelpsOwn start (base_of g) before now w v i
   own_turn was away = record {
     carried = carried_on away;
     hearing = λ serial sent found to_is first.
-        let hands = q_now.more.given.laws.hands i within tame.0 in
-        let grants = (p i inside).grown.grants tame_before was in
+        let hands = q_now.more.given.laws.hands i within beside.0 in
+        let grants = (p i inside).grown.grants was_beside was in
         record {
           pend = λ running status is a.
               let x = pends_now units ready start past s later t g h i inside hands (counts_at w h.sound.stands) q.more.contents serial sent found to_is running status is first a in
@@ -188,9 +188,9 @@ module _ (units ready : ℕ) (start : List Disk) (past : List Moment) (s : Scene
   }
 
 pub helped : PlacedTurns → HelpedBy Held
-helped placed units ready start past s later t lines more has g h h_now q q_now p i inside tame e was = record {
+helped placed units ready start past s later t lines more has g h h_now q q_now p i inside beside e was = record {
   target = λ bus same told up.
-      helps_target units ready start s.world h (as_given q) i inside (goes_beside past s later t g i tame).0 (base_of g) (hist later t.world) t.world (p i inside).lives was up
-      (target_turn units ready start past s later t has g h h_now q q_now p i inside tame placed was bus same told);
-  own = λ bus same away. own_turn units ready start past s later t has g h h_now q q_now p i inside tame was away;
+      helps_target units ready start s.world h (as_given q) i inside (goes_beside past s later t g i beside).0 (base_of g) (hist later t.world) t.world (p i inside).lives was up
+      (target_turn units ready start past s later t has g h h_now q q_now p i inside beside placed was bus same told);
+  own = λ bus same away. own_turn units ready start past s later t has g h h_now q q_now p i inside beside was away;
 }

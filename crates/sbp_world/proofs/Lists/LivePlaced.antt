@@ -7,11 +7,11 @@ use Rattle.sbp_world.proofs.Lists.LiveRuns.{goes_beside}
 use Rattle.sbp_world.proofs.Lists.PlacedOps.{Written, asked_placed}
 
 pub placed_turns : PlacedTurns
-placed_turns units ready start past s later t lines more has g h h_now q q_now p i inside tame was bus told =
+placed_turns units ready start past s later t lines more has g h h_now q q_now p i inside beside was bus told =
     let w = s.world in
-    let calm = (goes_beside past s later t g i tame).0 in
+    let calm = (goes_beside past s later t g i beside).0 in
     let wrote = q.more.wrote in
-    let based = (p i inside).grown.based (goes_beside past s later t g i tame) in
+    let based = (p i inside).grown.based (goes_beside past s later t g i beside) in
     let known : Written (hist past w) i = record { asks = wrote.asks i inside; rings = wrote.rings i inside; wrote = wrote.wrote i inside; based = based } in
     let few : i < 8 = (let few = wrote.few in omega (arith, inside, few)) in
     record {

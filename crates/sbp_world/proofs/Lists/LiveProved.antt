@@ -102,12 +102,12 @@ module _ (laws : EveryPlace LawsAt) (buffers : EveryPlace AreBuffersAt) (stored 
   -- no logout is refused
   pub none_refused : Under (WhereTameOrFew NoneRefused)
   none_refused = record {
-    after_lines = λ line run r has small size so_far tame i l calm.
+    after_lines = λ line run r has small size so_far beside i l calm.
         unrefused_of i (history_of line run) (granted_everywhere.after_lines line run r has small size so_far i l)
-        ((all_after Held held (helped placed_turns) (grown_by placed_turns stored_turns buffer_turns) line run r has small size so_far i l).grown.unbad (calm, tame));
-    between = λ line run r has small size next most told m so_far tame i l calm.
+        ((all_after Held held (helped placed_turns) (grown_by placed_turns stored_turns buffer_turns) line run r has small size so_far i l).grown.unbad (calm, beside));
+    between = λ line run r has small size next most told m so_far beside i l calm.
         unrefused_of i _ (granted_everywhere.between line run r has small size next most told m so_far i l)
-        ((all_between Held held (helped placed_turns) (grown_by placed_turns stored_turns buffer_turns) line run r has small size next most told m so_far i l).grown.unbad (calm, tame));
+        ((all_between Held held (helped placed_turns) (grown_by placed_turns stored_turns buffer_turns) line run r has small size next most told m so_far i l).grown.unbad (calm, beside));
   }
 
   -- and what is known of the logins that were done

@@ -152,13 +152,13 @@ goes_calm past s later t (by_end past0 s0 done) i c = calm_before (said (end_not
 
 -- and so none did before it, or few logins were given
 pub goes_beside : (past : List Moment) (s : Scene) (later : List Moment) (t : Scene) → Goes past s later t → (i : ℕ) → IsCalmBeside (hist later t.world) i → IsCalmBeside (hist past s.world) i
-goes_beside past s later t g i tame =
+goes_beside past s later t g i beside =
     let x = grown (hist past s.world) (hist later t.world) (goes_next past s later t g) in
-    beside_before x.new (hist past s.world) i (subst (λ ms. IsCalmBeside ms i) (sym x.is) tame)
+    beside_before x.new (hist past s.world) i (subst (λ ms. IsCalmBeside ms i) (sym x.is) beside)
 
 -- what is known of the logins that were done
 pub done_of : (start : List Disk) (past : List Moment) (w : WorldState) → ((j : ℕ) → j < length w.initiators → Alive start past w j) → (i : ℕ) → i < length w.initiators → IsCalmBeside past i → AreDone start (length w.initiators) past i
-done_of start past w p i inside (calm, inl tame) = all_done tame (λ j l. (p j l).grown.based (tame j, inl tame))
+done_of start past w p i inside (calm, inl beside) = all_done beside (λ j l. (p j l).grown.based (beside j, inl beside))
 done_of start past w p i inside (calm, inr few) = own_done calm few ((p i inside).grown.based (calm, inr few)) ((p i inside).grown.owned (calm, inr few))
 
 -- ---- the runs

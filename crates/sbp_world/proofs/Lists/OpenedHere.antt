@@ -86,6 +86,6 @@ module _ (past : List Moment) (w : WorldState) (i : ℕ) (o : AreOpenFor (view p
 -- ---- at the places before which lists were so
 pub here_of : Under (WhereTameOrFew AreAllOpenFor) → Under (WhereTameOrFew AreHere)
 here_of law = record {
-  after_lines = λ line run r has small size so_far tame i b calm names. is_here _ _ i (law.after_lines line run r has small size so_far tame i b calm) names;
-  between = λ line run r has small size next most told m so_far tame i b calm names. is_here _ _ i (law.between line run r has small size next most told m so_far tame i b calm) names;
+  after_lines = λ line run r has small size so_far beside i b calm names. is_here _ _ i (law.after_lines line run r has small size so_far beside i b calm) names;
+  between = λ line run r has small size next most told m so_far beside i b calm names. is_here _ _ i (law.between line run r has small size next most told m so_far beside i b calm) names;
 }

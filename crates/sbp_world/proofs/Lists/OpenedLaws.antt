@@ -13,8 +13,8 @@ use Rattle.sbp_world.proofs.Lists.OpenedTelling.{telling}
 -- where no initiator injected packets, or few logins were given
 pub opened_law : Laws → ManagementLaw → Under (WhereTameOrFew AreAllOpenFor)
 opened_law laws management = record {
-  after_lines = λ line run r has small size so_far tame. open_after telling laws management line run r has small size so_far tame;
-  between = λ line run r has small size next most told m so_far tame. open_between telling laws management line run r has small size next most told m so_far tame;
+  after_lines = λ line run r has small size so_far beside. open_after telling laws management line run r has small size so_far beside;
+  between = λ line run r has small size next most told m so_far beside. open_between telling laws management line run r has small size next most told m so_far beside;
 }
 
 -- by the logins of the initiators' nodes, and as no logout is refused

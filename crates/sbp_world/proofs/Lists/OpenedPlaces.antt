@@ -152,10 +152,10 @@ module _ (laws : Laws) (management : ManagementLaw) (line : ℕ) (run : Run) (r 
   wire_after = let k = known in subst IsOfWire k.is (laws_of k.past last.world k.holds.sound.stands)
 
   pub place_after : OpenBefore line run run.entries → IsTameOrFew past → IsPlace run.start.disks run.initiators past last.world
-  place_after so_far tame = record {
+  place_after so_far beside = record {
     here = λ i b calm.
         here run.start.disks past last.world i calm (laws.pointers.after_lines line run r i b) (laws.begun.after_lines line run r has small size i b)
-        (laws.firsts.after_lines line run r has small size i (count_is i b) calm) (laws.bases.after_lines line run r i b) (management.unrefused.after_lines line run r has small size so_far tame i (count_is i b) calm)
+        (laws.firsts.after_lines line run r has small size i (count_is i b) calm) (laws.bases.after_lines line run r i b) (management.unrefused.after_lines line run r has small size so_far beside i (count_is i b) calm)
         (opens_law.after_lines line run r has small size) (holders_law line run r.few has small size r.short r.entries r.lines) (laws.caught line run r.few has small size r.short r.entries r.lines)
         (λ c. (run_law.rows line run r i b).rows);
     behind = λ i b calm. record {
@@ -164,9 +164,9 @@ module _ (laws : Laws) (management : ManagementLaw) (line : ℕ) (run : Run) (r 
       moments = laws.moments.after_lines line run r i b;
       ends = ends_law.after_lines line run r has small size i (count_is i b) calm;
       begins = begins_after laws.joined line run has small size r i b;
-      told = judged_first run.start.disks past i (management.minded.after_lines line run r has small size so_far i b (calm, tame)).tells;
+      told = judged_first run.start.disks past i (management.minded.after_lines line run r has small size so_far i b (calm, beside)).tells;
     };
-    minded = λ i b calm. management.minded.after_lines line run r has small size so_far i b (calm, tame);
+    minded = λ i b calm. management.minded.after_lines line run r has small size so_far i b (calm, beside);
     opened = opens_law.after_lines line run r has small size;
     bases = λ i b. laws.bases.after_lines line run r i b;
   }
@@ -191,10 +191,10 @@ module _ (laws : Laws) (management : ManagementLaw) (line : ℕ) (run : Run) (r 
         subst (λ ms. IsOfWire (map said end.fresh ++ asked next event ∷ ms)) k.is (laws_of (asked next event ∷ hist k.past last.world) end f.holds.sound.stands)
 
     pub place_between : OpenBetween line run next event told → IsTameOrFew now → IsPlace run.start.disks run.initiators now end
-    place_between so_far tame = record {
+    place_between so_far beside = record {
       here = λ i b calm.
           here run.start.disks now end i calm (laws.pointers.between line run r next most told m i b) (laws.begun.between line run r has small size next most told m i b)
-          (laws.firsts.between line run r has small size next most told m i (count_end i b) calm) (laws.bases.between line run r next most told m i b) (management.unrefused.between line run r has small size next most told m so_far tame i (count_end i b) calm)
+          (laws.firsts.between line run r has small size next most told m i (count_end i b) calm) (laws.bases.between line run r next most told m i b) (management.unrefused.between line run r has small size next most told m so_far beside i (count_end i b) calm)
           (opens_law.between line run r has small size next event (delivers most) told m) (holders_between_law line run r.few has small size r.short r.entries r.lines next event (delivers most) told m) (laws.caught_between line run r.few has small size r.short r.entries r.lines next event (delivers most) told m)
           (λ c. (run_law.between line run r next most told m i b).rows);
       behind = λ i b calm. record {
@@ -203,9 +203,9 @@ module _ (laws : Laws) (management : ManagementLaw) (line : ℕ) (run : Run) (r 
         moments = laws.moments.between line run r next most told m i b;
         ends = ends_law.between line run r has small size next most told m i (count_end i b) calm;
         begins = begins_between laws.joined line run has small size r next most told m i b;
-        told = judged_first run.start.disks now i (management.minded.between line run r has small size next most told m so_far i b (calm, tame)).tells;
+        told = judged_first run.start.disks now i (management.minded.between line run r has small size next most told m so_far i b (calm, beside)).tells;
       };
-      minded = λ i b calm. management.minded.between line run r has small size next most told m so_far i b (calm, tame);
+      minded = λ i b calm. management.minded.between line run r has small size next most told m so_far i b (calm, beside);
       opened = opens_law.between line run r has small size next event (delivers most) told m;
       bases = λ i b. laws.bases.between line run r next most told m i b;
     }

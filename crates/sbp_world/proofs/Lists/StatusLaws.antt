@@ -102,26 +102,26 @@ delivers None = tt
 module _ (statuses : Under (WhereTameOrFew AllStatuses)) where
   places : Under (WhereTameOrFew AllTakenOf)
   places = record {
-    after_lines = λ line run r has small size so_far tame i b calm.
+    after_lines = λ line run r has small size so_far beside i b calm.
         let past = history_of line run in
         let inside : i < run.initiators = subst (λ n. i < n) (count_after run run.entries) b in
-        each_taken (injectors past) run.start.disks i calm past (statuses.after_lines line run r has small size so_far tame i b calm).taken (taking_law.takings line run r i inside).taken (execution_run_law.after_lines line run r has small size so_far);
-    between = λ line run r has small size next most told m so_far tame i b calm.
+        each_taken (injectors past) run.start.disks i calm past (statuses.after_lines line run r has small size so_far beside i b calm).taken (taking_law.takings line run r i inside).taken (execution_run_law.after_lines line run r has small size so_far);
+    between = λ line run r has small size next most told m so_far beside i b calm.
         let s = after (beginning run) run.entries in
         let now = map said (after_all told (begun s)).world.fresh ++ asked next (more_deliveries most) ∷ history_of line run in
         let inside : i < run.initiators = subst (λ n. i < n) (count_between told s ∙ count_after run run.entries) b in
-        each_taken (injectors now) run.start.disks i calm now (statuses.between line run r has small size next most told m so_far tame i b calm).taken (taking_law.between line run r next most told m i inside).taken
+        each_taken (injectors now) run.start.disks i calm now (statuses.between line run r has small size next most told m so_far beside i b calm).taken (taking_law.between line run r next most told m i inside).taken
         (execution_run_law.between line run r has small size next (more_deliveries most) (delivers most) told m so_far);
   }
 
-  module _ (line : ℕ) (run : Run) (r : IsRun run) (has : 0 < run.units) (small : run.units ≤ 4) (size : length run.start.disks ≡ run.units) (so_far : OpenBefore line run run.entries) (tame : IsTameOrFew (history_of line run)) where
+  module _ (line : ℕ) (run : Run) (r : IsRun run) (has : 0 < run.units) (small : run.units ≤ 4) (size : length run.start.disks ≡ run.units) (so_far : OpenBefore line run run.entries) (beside : IsTameOrFew (history_of line run)) where
     abbrev past : List Moment
     past = history_of line run
 
     taken_here : EachMoment (TakenOfAt (injectors past)) past
     taken_here =
         all_taken (injectors past) run.initiators past (run_inside line run r)
-        (λ i b own. places.after_lines line run r has small size so_far tame i (subst (λ n. i < n) (sym (count_after run run.entries)) b) own)
+        (λ i b own. places.after_lines line run r has small size so_far beside i (subst (λ n. i < n) (sym (count_after run run.entries)) b) own)
 
     law_here : StatusOfLaw (injectors past) past
     law_here = record { taken = taken_here; each = finished_law.each line run r (injectors past) }
@@ -132,6 +132,6 @@ module _ (statuses : Under (WhereTameOrFew AllStatuses)) where
   pub status_of_run_law : StatusOfRunLaw
   status_of_run_law = record {
     places = places;
-    after_lines = λ line run r has small size so_far tame. law_here line run r has small size so_far tame;
-    at_logins = λ line run r has small size so_far tame f. at_logins_here line run r has small size so_far tame f;
+    after_lines = λ line run r has small size so_far beside. law_here line run r has small size so_far beside;
+    at_logins = λ line run r has small size so_far beside f. at_logins_here line run r has small size so_far beside f;
   }

@@ -94,8 +94,8 @@ AllHere ms w = (i : ℕ) → i < length w.initiators → IsCalm ms i → IsHere 
 
 pub all_here : Under (WhereTameOrFew AreHere) → Under (WhereTameOrFew AreNames) → Under (WhereTameOrFew AllHere)
 all_here here names = record {
-  after_lines = λ line run r has small size so_far tame i b calm. here.after_lines line run r has small size so_far tame i b calm (names.after_lines line run r has small size so_far tame i b calm);
-  between = λ line run r has small size next most told m so_far tame i b calm. here.between line run r has small size next most told m so_far tame i b calm (names.between line run r has small size next most told m so_far tame i b calm);
+  after_lines = λ line run r has small size so_far beside i b calm. here.after_lines line run r has small size so_far beside i b calm (names.after_lines line run r has small size so_far beside i b calm);
+  between = λ line run r has small size next most told m so_far beside i b calm. here.between line run r has small size next most told m so_far beside i b calm (names.between line run r has small size next most told m so_far beside i b calm);
 }
 
 pub record Over (ms : List Moment) (w : WorldState) : Type 0 where
@@ -105,15 +105,15 @@ pub record Over (ms : List Moment) (w : WorldState) : Type 0 where
 
 pub over_law : Under (WhereTameOrFew AllHere) → Under (WhereTameOrFew AllStatuses) → Under (WhereTameOrFew AreUntaken) → Under (WhereTameOrFew Over)
 over_law here statuses untaken = record {
-  after_lines = λ line run r has small size so_far tame. record {
-    here = here.after_lines line run r has small size so_far tame;
-    statuses = statuses.after_lines line run r has small size so_far tame;
-    untaken = untaken.after_lines line run r has small size so_far tame;
+  after_lines = λ line run r has small size so_far beside. record {
+    here = here.after_lines line run r has small size so_far beside;
+    statuses = statuses.after_lines line run r has small size so_far beside;
+    untaken = untaken.after_lines line run r has small size so_far beside;
   };
-  between = λ line run r has small size next most told m so_far tame. record {
-    here = here.between line run r has small size next most told m so_far tame;
-    statuses = statuses.between line run r has small size next most told m so_far tame;
-    untaken = untaken.between line run r has small size next most told m so_far tame;
+  between = λ line run r has small size next most told m so_far beside. record {
+    here = here.between line run r has small size next most told m so_far beside;
+    statuses = statuses.between line run r has small size next most told m so_far beside;
+    untaken = untaken.between line run r has small size next most told m so_far beside;
   };
 }
 
@@ -235,14 +235,14 @@ module _ (free : (wild : ℕ → Bool) (past : List Moment) (w : WorldState) →
 
   pub behind_law : Always Grounds → Under (WhereTameOrFew Over) → Under (WhereTameOrFew AreBehind)
   behind_law grounds over = record {
-    after_lines = λ line run r has small size so_far tame.
+    after_lines = λ line run r has small size so_far beside.
         let w = (after (beginning run) run.entries).world in
-        behind_at (history_of line run) w (injectors (history_of line run)) (λ i calm. calm) (still_after IsTameOrFew tame_or_few_before Grounds Over AreRested grounds over rested_walk first_rested line run r has small size so_far tame)
+        behind_at (history_of line run) w (injectors (history_of line run)) (λ i calm. calm) (still_after IsTameOrFew tame_or_few_before Grounds Over AreRested grounds over rested_walk first_rested line run r has small size so_far beside)
         (grounds.after_lines line run r has small size).ground.opened (λ i b. (run_law.rows line run r i (subst (λ n. i < n) (count_after run run.entries) b)).rows);
-    between = λ line run r has small size next most told m so_far tame.
+    between = λ line run r has small size next most told m so_far beside.
         let s = after (beginning run) run.entries in
         let w = (after_all told (begun s)).world in
         let now = map said w.fresh ++ asked next (more_deliveries most) ∷ history_of line run in
-        behind_at now w (injectors now) (λ i calm. calm) (still_between IsTameOrFew tame_or_few_before Grounds Over AreRested grounds over rested_walk first_rested line run r has small size next (more_deliveries most) (delivers most) told m so_far tame)
+        behind_at now w (injectors now) (λ i calm. calm) (still_between IsTameOrFew tame_or_few_before Grounds Over AreRested grounds over rested_walk first_rested line run r has small size next (more_deliveries most) (delivers most) told m so_far beside)
         (grounds.between line run r has small size next most told m).ground.opened (λ i b. (run_law.between line run r next most told m i (subst (λ n. i < n) (count_after run run.entries) (subst (λ n. i < n) (count_between told s) b))).rows);
   }

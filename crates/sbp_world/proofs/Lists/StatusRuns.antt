@@ -142,11 +142,11 @@ module _ (line : ℕ) (run : Run) (r : IsRun run) (has : 0 < run.units) (small :
 pub statuses_law : StatusesLaw
 statuses_law = record {
   statuses = λ sent. record {
-    after_lines = λ line run r has small size so_far tame. after_by line run r has small size AreStatuses statuses_at so_far (sent.after_lines line run r has small size so_far tame);
-    between = λ line run r has small size next most told m so_far tame. between_by line run r has small size next most told m AreStatuses statuses_at so_far (sent.between line run r has small size next most told m so_far tame);
+    after_lines = λ line run r has small size so_far beside. after_by line run r has small size AreStatuses statuses_at so_far (sent.after_lines line run r has small size so_far beside);
+    between = λ line run r has small size next most told m so_far beside. between_by line run r has small size next most told m AreStatuses statuses_at so_far (sent.between line run r has small size next most told m so_far beside);
   };
   untaken = λ sent. record {
-    after_lines = λ line run r has small size so_far tame. after_by line run r has small size (λ ms i. (n k : ℕ) → ends ms i n ≤ k → taken_at ms i n k ≡ None) untaken_at so_far (sent.after_lines line run r has small size so_far tame);
-    between = λ line run r has small size next most told m so_far tame. between_by line run r has small size next most told m (λ ms i. (n k : ℕ) → ends ms i n ≤ k → taken_at ms i n k ≡ None) untaken_at so_far (sent.between line run r has small size next most told m so_far tame);
+    after_lines = λ line run r has small size so_far beside. after_by line run r has small size (λ ms i. (n k : ℕ) → ends ms i n ≤ k → taken_at ms i n k ≡ None) untaken_at so_far (sent.after_lines line run r has small size so_far beside);
+    between = λ line run r has small size next most told m so_far beside. between_by line run r has small size next most told m (λ ms i. (n k : ℕ) → ends ms i n ≤ k → taken_at ms i n k ≡ None) untaken_at so_far (sent.between line run r has small size next most told m so_far beside);
   };
 }

@@ -206,10 +206,10 @@ module _ (units ready : ℕ) (has : 0 < units) (start : List Disk) {past : List 
 
 -- ---- at each turn
 pub stored_turns : StoredTurns
-stored_turns units ready start past s later t lines more has g h h_now q q_now p i inside tame was bus told =
-    let tame_before = goes_beside past s later t g i tame in
+stored_turns units ready start past s later t lines more has g h h_now q q_now p i inside beside was bus told =
+    let was_beside = goes_beside past s later t g i beside in
     record {
       stored = λ serial sent comes op fifo is source taken phase packet label e done running under login long.
-          stored units ready has start s.world h q i inside tame_before.0 ((p i inside).grown.based tame_before) was (q.more.read i inside tame_before.0)
-          (q.more.stored i inside (done_of start (hist past s.world) s.world p i inside tame_before)) serial sent comes.found comes.to_is op fifo is source taken phase packet label e done running under login long;
+          stored units ready has start s.world h q i inside was_beside.0 ((p i inside).grown.based was_beside) was (q.more.read i inside was_beside.0)
+          (q.more.stored i inside (done_of start (hist past s.world) s.world p i inside was_beside)) serial sent comes.found comes.to_is op fifo is source taken phase packet label e done running under login long;
     }

@@ -12,12 +12,12 @@ use Rattle.sbp_world.proofs.Lists.Extends.{Extends, delivered_extends, extends_n
 use Rattle.sbp_world.proofs.Lists.OpenedNotes.{split}
 
 -- before a line and its notes
-pub tame_line : (notes : List Note) (line : ℕ) (event : Event) (past : List Moment) → IsTameOrFew (map said notes ++ asked line event ∷ past) → IsTameOrFew past
-tame_line notes line event past tame = tame_or_few_before (asked line event ∷ []) past (tame_or_few_before (map said notes) (asked line event ∷ past) tame)
+pub beside_line : (notes : List Note) (line : ℕ) (event : Event) (past : List Moment) → IsTameOrFew (map said notes ++ asked line event ∷ past) → IsTameOrFew past
+beside_line notes line event past beside = tame_or_few_before (asked line event ∷ []) past (tame_or_few_before (map said notes) (asked line event ∷ past) beside)
 
 -- before a delivery of a line
-more_tame : (old new : List Note) (past : List Moment) → Extends old new → IsTameOrFew (map said new ++ past) → IsTameOrFew (map said old ++ past)
-more_tame old new past e tame = tame_or_few_before (map said e.more) (map said old ++ past) (subst IsTameOrFew (ap (λ ns. map said ns ++ past) (sym e.is) ∙ split e.more old past) tame)
+more_beside : (old new : List Note) (past : List Moment) → Extends old new → IsTameOrFew (map said new ++ past) → IsTameOrFew (map said old ++ past)
+more_beside old new past e beside = tame_or_few_before (map said e.more) (map said old ++ past) (subst IsTameOrFew (ap (λ ns. map said ns ++ past) (sym e.is) ∙ split e.more old past) beside)
 
 next_extends : (one : Option Told) (s : Scene) → Extends s.world.fresh (delivered_next one s).world.fresh
 unfolding delivered_next
@@ -27,5 +27,5 @@ next_extends one s = by (lowest s.world)
     by None = extends_none s.world.fresh
     by (Some serial) = delivered_extends serial false one s
 
-pub tame_next : (past : List Moment) (one : Option Told) (s : Scene) → IsTameOrFew (map said (delivered_next one s).world.fresh ++ past) → IsTameOrFew (map said s.world.fresh ++ past)
-tame_next past one s tame = more_tame s.world.fresh (delivered_next one s).world.fresh past (next_extends one s) tame
+pub beside_next : (past : List Moment) (one : Option Told) (s : Scene) → IsTameOrFew (map said (delivered_next one s).world.fresh ++ past) → IsTameOrFew (map said s.world.fresh ++ past)
+beside_next past one s beside = more_beside s.world.fresh (delivered_next one s).world.fresh past (next_extends one s) beside
