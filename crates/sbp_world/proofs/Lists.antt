@@ -368,6 +368,7 @@ pub mod ShortLines
 pub mod AnswerLengths
 pub mod LinedAppends
 pub mod AnswerChecks
+pub mod SentGots
 pub mod WasReads
 pub mod AnswerGots
 pub mod AnsweredReads
@@ -388,3 +389,8 @@ pub mod DataPlaces
 pub mod DataDry
 pub mod DataClears
 pub mod DataLaws
+pub mod LedReads
+pub mod LedRuns
+pub mod NamedReads
+pub mod TurnReads
+pub mod StillReads

@@ -21,6 +21,7 @@ pub mod LoginAnswers
 pub mod OrbReads
 pub mod CarriedRuns
 pub mod EndReads
+pub mod OrbNames
 pub mod ManagedFor
 pub mod Managing
 pub mod Names

@@ -1,0 +1,62 @@
+-- Which ORB an agent of the target reads, by its name (NCITS 325-1998, command block agents and linked lists of ORBs), as it waits for the read: the one that its initiator
+-- prepared last in the slot at the address, an ORB of its latest list.
+use Rattle.std.specs.Prelude.{◌≡◌, ◌<◌, ◌≤◌, ℕ, suc, true, List, Some}
+use Rattle.bus_memory.specs.declared.window.Window.TheVariants as windows
+use Rattle.bus_memory.specs.Windows.{start as start_of}
+use Rattle.command_agent.specs.declared.phase.Phase.TheVariants as phases
+use Rattle.command_agent.specs.Machine.{aligned, is_ahead}
+use Rattle.orb_layout.specs.declared.command.CommandOrb.{CommandOrb}
+use Rattle.orb_layout.specs.declared.pointer.OrbPointer.TheVariants.{At}
+use Rattle.rbc_disk.specs.Disk.{Disk}
+use Rattle.sbp_journal.specs.Run.{Moment, said}
+use Rattle.sbp_journal.specs.Wire.{terms}
+use Rattle.sbp_journal.specs.declared.note.Note.TheVariants as notes
+use Rattle.sbp_laws.specs.CarriedBytes.{address_of}
+use Rattle.sbp_laws.specs.Lists.{linked, orb, prepared_in}
+use Rattle.sbp_laws.specs.Packets.{receiver_in}
+use Rattle.sbp_laws.specs.Targets.{agent_at, over, target_at}
+use Rattle.sbp_laws.specs.Terms.{ends, lists}
+use Rattle.sbp_world.specs.Telling.{holder}
+use Rattle.sbp_world.specs.Worlds.{WorldState}
+use Rattle.sbp_world.specs.Lists.Needs.{initiator_in}
+use Rattle.sbp_world.specs.Lists.OrbReads.{IsBrought}
+
+-- an address is that of the slot in which an ORB of the latest list stands, which is linked and has not ended
+pub record IsLedTo (past : List Moment) (i address : ℕ) : Type 0 where
+  pub n : ℕ
+  pub k : ℕ
+  pub slot : ℕ
+  pub small : slot < 32
+  pub stands : address ≡ start_of (windows.Orb slot)
+  pub there : prepared_in past i slot ≡ Some (orb n k)
+  pub latest : suc n ≡ lists past i
+  pub at : address ≡ address_of past i n k
+  pub after : ends past i n ≤ k
+  pub before : k < linked past i n
+
+-- each agent that reads its present ORB, and each that reads one ahead, of the initiator to which the read was sent
+pub record AreLed (start : List Disk) (past : List Moment) : Type 0 where
+  pub main : (place : ℕ) → place < 8 → (serial i : ℕ) → receiver_in ((terms past).sent serial) ≡ Some (suc i) → (let a = agent_at (over (target_at start past)) place in a.main ≡ Some serial → a.machine.phase ≡ phases.Fetching → IsLedTo past i a.machine.present)
+  pub ahead : (place : ℕ) → place < 8 → (serial i offset : ℕ) → receiver_in ((terms past).sent serial) ≡ Some (suc i) → (let a = agent_at (over (target_at start past)) place in a.ahead ≡ Some serial → is_ahead a.machine.ahead ≡ true → a.machine.orb.next ≡ At offset → IsLedTo past i (aligned offset))
+
+-- as a packet is got
+abbrev pub LedAsGot : List Disk → Moment → List Moment → Type 0
+LedAsGot start (said (notes.Got serial)) past = AreLed start past
+LedAsGot start moment past = Unit {0}
+
+-- a response brought an ORB, to the read that was sent to an initiator, of the ORB that this had in the slot then
+pub record IsNamedBrought (start : List Disk) (past : List Moment) (place address : ℕ) (orb : CommandOrb) : Type 0 where
+  pub brought : IsBrought start past place address orb
+  pub i : ℕ
+  pub to : receiver_in ((terms brought.earlier).sent brought.request) ≡ Some (suc i)
+  pub led : IsLedTo brought.earlier i address
+
+-- ---- while an agent has an ORB that has not ended
+-- it was brought of this slot as the ORB of this name, of the list that the place has; this has not ended
+pub record IsStillBrought (start : List Disk) (past : List Moment) (w : WorldState) (place address : ℕ) (orb : CommandOrb) : Type 0 where
+  pub named : IsNamedBrought start past place address orb
+  pub initiator : named.i ≡ initiator_in w place
+  pub list : (holder w place).list ≡ Some named.led.n
+  pub stands : address ≡ address_of past named.i named.led.n named.led.k
+  pub after : ends past named.i named.led.n ≤ named.led.k
+  pub before : named.led.k < linked past named.i named.led.n
