@@ -394,3 +394,6 @@ pub mod LedRuns
 pub mod NamedReads
 pub mod TurnReads
 pub mod StillReads
+pub mod StillTurns
+pub mod StillRuns
+pub mod PlaceOwners

@@ -1,5 +1,5 @@
 -- Each response that is got answers the request that its label waits for, of nodes that injected no packets.
-use Rattle.std.proofs.Common.{arith, ◌≡◌, ◌∙◌, refl, sym, ap, subst, ◌<◌, ℕ, Bool, true, false, cond, List, [], ◌∷◌, ◌++◌, map, Option, Some, None, Result, Ok, Err}
+use Rattle.std.proofs.Common.{◌≡◌, ◌∙◌, refl, sym, ap, subst, ◌<◌, ℕ, Bool, true, false, cond, List, [], ◌∷◌, Option, Some, None, Result, Ok, Err}
 use Rattle.sbp_world.proofs.Agents.Management.Still.{hist}
 use Rattle.bus_transactions.specs.May.{May, MayAll, is_plain}
 use Rattle.bus_transactions.specs.Moves.{Move, after, answer, answered, answering, ask, asking, deliver, disown, expire, expiring, inject, lose, moved, reset, see, start, tell}
@@ -14,8 +14,8 @@ use Rattle.label_table.specs.declared.reply.Stale.{Stale}
 use Rattle.label_table.specs.Layer.{Finding, answering_step, asking_step, expiring_step, judging_step, of_again, of_generation, of_grammar, of_label, of_request, of_response}
 use Rattle.packet_store.specs.declared.sent.Kept.{Kept}
 use Rattle.packet_store.specs.Kept.{found}
-use Rattle.sbp_journal.specs.Run.{Moment, asked, said}
-use Rattle.sbp_journal.specs.Transactions.{Kind, Part, Sending, Transaction, asked_as, asked_by, begun_by, between, is_same_kind, no_packet, part_of, request, response}
+use Rattle.sbp_journal.specs.Run.{Moment, said}
+use Rattle.sbp_journal.specs.Transactions.{Kind, Part, Sending, Transaction, asked_as, asked_by, between, is_same_kind, no_packet, part_of, request, response}
 use Rattle.sbp_journal.specs.Wire.{Held, Terms, free, rests, terms, waits}
 use Rattle.sbp_journal.specs.declared.cause.Cause.{Cause}
 use Rattle.sbp_journal.specs.declared.note.Note.{Note}
@@ -25,7 +25,7 @@ use Rattle.sbp_laws.specs.Turns.{EachMoment}
 use Rattle.sbp_world.specs.Worlds.{WorldState}
 use Rattle.sbp_world.specs.Wire.Wires.{Stands}
 use Rattle.sbp_world.specs.Lists.OrbReads.{AnswersAt}
-use Rattle.sbp_world.proofs.Lists.ManageTerms.{same_some, untrue}
+use Rattle.sbp_world.proofs.Lists.ManageTerms.{same_some}
 
 abbrev E : List Moment → Type 0
 E past = EachMoment AnswersAt past

@@ -39,7 +39,7 @@ use Rattle.sbp_world.specs.Lists.Along.{AreAlong}
 use Rattle.sbp_world.specs.Lists.Closes.{OpenListsLaw}
 use Rattle.sbp_world.specs.Lists.Needs.{IsCalm, OpenBefore, OpenLists}
 use Rattle.sbp_world.specs.Lists.Opens.{OpensLaw}
-use Rattle.sbp_world.specs.Lists.OrbNames.{AreLed, IsLedTo, IsNamedBrought, LedAsGot}
+use Rattle.sbp_world.specs.Lists.OrbNames.{AreLed, IsJustBrought, IsLedTo, IsNamedBrought, LedAsGot}
 use Rattle.sbp_world.specs.Lists.OrbReads.{AskedAsGot}
 use Rattle.sbp_world.specs.Lists.OwnLogins.{IsTame}
 use Rattle.sbp_world.proofs.Lists.Courses.{EveryPlace, Keeps, at_between, at_lines, more_than_one}
@@ -194,26 +194,29 @@ module _ (start : List Disk) (past : List Moment) (serial : ℕ) (waits : AreAsk
     to_own : {ask : Ask} {is_status : Bool} → Asks ask is_status → receiver_in ((terms past).sent own) ≡ Some (suc i)
     to_own asks = asks.to ∙ (let e : i + 1 ≡ suc i = omega arith in ap (λ j. Some j) e)
 
-    made : (address : ℕ) (bytes : List ℕ) → payload_of (answer_in (packet_at (terms past) serial)) 32 ≡ Ok bytes → Asks (Read address 32) false → (receiver_in ((terms past).sent own) ≡ Some (suc i) → IsLedTo past i address) → IsNamedBrought start now place address (command_orb bytes)
+    made : (address : ℕ) (bytes : List ℕ) → payload_of (answer_in (packet_at (terms past) serial)) 32 ≡ Ok bytes → Asks (Read address 32) false → (receiver_in ((terms past).sent own) ≡ Some (suc i) → IsLedTo past i address) → IsJustBrought start past serial place address (command_orb bytes)
     made address bytes e asks l = record {
-      brought = record {
-        response = serial;
-        request = own;
-        later = [];
-        earlier = past;
-        is = refl;
-        by_target = by_target;
-        closed = closed;
-        bytes = bytes;
-        brings = e;
-        spells = refl;
-        which = which;
-        waited = waited;
-        asked = asks;
+      named = record {
+        brought = record {
+          response = serial;
+          request = own;
+          later = [];
+          earlier = past;
+          is = refl;
+          by_target = by_target;
+          closed = closed;
+          bytes = bytes;
+          brings = e;
+          spells = refl;
+          which = which;
+          waited = waited;
+          asked = asks;
+        };
+        i = i;
+        to = to_own asks;
+        led = l (to_own asks);
       };
-      i = i;
-      to = to_own asks;
-      led = l (to_own asks);
+      now = refl;
     }
 
     main_is : which ≡ Main → (agent_at t place).main ≡ Some own
@@ -230,20 +233,25 @@ module _ (start : List Disk) (past : List Moment) (serial : ℕ) (waits : AreAsk
     ahead_asks : which ≡ Ahead → is_ahead m.ahead ≡ true → (offset : ℕ) → m.orb.next ≡ At offset → Asks (Read (aligned offset) 32) false
     ahead_asks w a offset n = subst (λ ask. Asks ask false) (under_way m.ahead m.orb.next offset a n) ((waits.all place few).ahead own (ahead_is w))
 
-    brings : Brings (IsNamedBrought start now) m (record { place = place; which = which; answer = answer_in (packet_at (terms past) serial) })
-    brings = record {
+    just : Brings (IsJustBrought start past serial) m (record { place = place; which = which; answer = answer_in (packet_at (terms past) serial) })
+    just = record {
       main = λ w p bytes e. made m.present bytes e (main_asks w p) (λ to. led.main place few own i to (main_is w) p);
       ahead = λ w a offset n bytes e. made (aligned offset) bytes e (ahead_asks w a offset n) (λ to. led.ahead place few own i offset to (ahead_is w) a n);
     }
 
+  pub got_just : GotBrings (IsJustBrought start past serial) (terms past) serial t
+  got_just own closed place which purpose = let x = waits.handed own place which purpose in just own closed place which x.0 x.1
+
   got_brings : GotBrings (IsNamedBrought start now) (terms past) serial t
-  got_brings own closed place which purpose = let x = waits.handed own place which purpose in brings own closed place which x.0 x.1
+  got_brings own closed place which purpose =
+      let b = got_just own closed place which purpose in
+      record { main = λ w p bytes e. (b.main w p bytes e).named; ahead = λ w a offset n bytes e. (b.ahead w a offset n bytes e).named }
 
 if_got : (start : List Disk) (note : Note) (past : List Moment) → AskedAsGot start (said note) past → LedAsGot start (said note) past → IfGot (IsNamedBrought start (said note ∷ past)) note (terms past) (target_at start past)
 if_got start (notes.Got serial) past waits led = λ e. got_brings start past serial waits led e
 if_got start note past waits led = tt
 
-named_more : (start : List Disk) (m : Moment) (past : List Moment) (place address : ℕ) (orb : CommandOrb) → IsNamedBrought start past place address orb → IsNamedBrought start (m ∷ past) place address orb
+pub named_more : (start : List Disk) (m : Moment) (past : List Moment) (place address : ℕ) (orb : CommandOrb) → IsNamedBrought start past place address orb → IsNamedBrought start (m ∷ past) place address orb
 named_more start m past place address orb x =
     let b = x.brought in
     record {

@@ -1,31 +1,21 @@
 -- Each agent of the terms of the target has an ORB that a response brought: what each note makes of the agents, one after the other.
-use Rattle.std.proofs.Common.{arith, ◌≡◌, ◌∙◌, ◌⊎◌, inl, inr, refl, sym, ap, subst, ◌<◌, ◌+◌, ℕ, zero, suc, ◌==◌, ◌&&◌, not, Bool, true, false, cond, List, [], ◌∷◌, ◌++◌, map, Option, Some, None, Result, Ok, Err}
-use Rattle.std.specs.Prelude.{is_none, position, replicate, slice_index_or, slice_set}
+use Rattle.std.proofs.Common.{◌≡◌, ◌∙◌, ◌⊎◌, inl, inr, refl, sym, ap, subst, ◌+◌, ℕ, zero, suc, Bool, true, false, cond, List, [], ◌∷◌, map, Option, Some, None, Ok}
+use Rattle.std.specs.Prelude.{replicate, slice_index_or, slice_set}
 use Rattle.command_agent.specs.declared.phase.Phase.TheVariants as phases
-use Rattle.command_agent.specs.declared.phase.ReadAhead.{ReadAhead}
-use Rattle.command_agent.specs.declared.phase.ReadAhead.TheVariants as aheads
-use Rattle.command_agent.specs.declared.step.AgentStep.{AgentStep}
-use Rattle.command_agent.specs.declared.step.PointRefusal.{PointRefusal}
-use Rattle.command_agent.specs.declared.step.Which.{Which}
 use Rattle.command_agent.specs.declared.step.Which.TheVariants.{Ahead, Main}
 use Rattle.command_agent.specs.Machine.{Machine, aligned, is_ahead, new_machine}
-use Rattle.command_agent.specs.Steps.{abort_step, asks, doorbell_step, lost_step, point_step, reply_step, reset_step}
-use Rattle.mgmt_agent.specs.declared.decision.Effect.{Effect}
-use Rattle.mgmt_agent.specs.declared.decision.Effect.TheVariants as effects
-use Rattle.orb_layout.specs.declared.ask.Ask.{Ask}
+use Rattle.command_agent.specs.Steps.{lost_step}
 use Rattle.orb_layout.specs.declared.ask.Ask.TheVariants.{Nothing}
 use Rattle.orb_layout.specs.declared.ask.FailCause.TheVariants as causes
 use Rattle.orb_layout.specs.declared.command.CommandOrb.{CommandOrb}
 use Rattle.orb_layout.specs.declared.pointer.OrbPointer.TheVariants.{At}
 use Rattle.orb_layout.specs.CommandOrbs.{command_orb}
-use Rattle.orb_layout.specs.Pointers.{offset_at, pointer_at}
-use Rattle.orb_layout.specs.Replies.{Answer, payload_of}
+use Rattle.orb_layout.specs.Replies.{payload_of}
 use Rattle.rbc_disk.specs.Runs.{Told}
-use Rattle.sbp_journal.specs.Addresses.{Access}
 use Rattle.sbp_journal.specs.declared.note.Note.{Note}
-use Rattle.sbp_laws.specs.Targets.{Agent, Reply, Target, agent_at, agent_over, ahead_lost, closed, cut_agent, cut_at, cut_where, effect_on, going_on, is_nothing, main_lost, moved, new_agent, over, pointed_by, points, reply_of, rings, sends_of, taken_on, told_in, wants, with_agent, with_untold}
-use Rattle.sbp_world.proofs.Lists.ManageTerms.{none_is, same_some, untrue}
-use Rattle.sbp_world.proofs.Lists.OrbSteps.{Names, NamesRead, ReadAheadOf, Reads, Stepped, abort_reads, bell_reads, lost_steps, new_reads, point_reads, reply_steps, reset_reads}
+use Rattle.sbp_laws.specs.Targets.{Agent, Reply, Target, agent_at, agent_over, ahead_lost, closed, cut_agent, cut_where, going_on, is_nothing, main_lost, moved, new_agent, over, reply_of, taken_on, told_in, with_agent, with_untold}
+use Rattle.sbp_world.proofs.Lists.ManageTerms.{none_is, untrue}
+use Rattle.sbp_world.proofs.Lists.OrbSteps.{Reads, lost_steps, new_reads, reply_steps, reset_reads}
 
 -- ---- lists of agents
 abbrev at_place : List Agent → ℕ → Agent

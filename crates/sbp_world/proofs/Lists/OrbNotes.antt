@@ -1,11 +1,9 @@
 -- What each note makes of the agents of the terms of the target, which have ORBs that responses brought.
-use Rattle.std.proofs.Common.{arith, ◌≡◌, ◌∙◌, ◌⊎◌, inl, inr, refl, sym, ap, subst, ◌+◌, ℕ, zero, suc, ◌==◌, not, Bool, true, false, cond, List, [], ◌∷◌, ◌++◌, map, Option, Some, None, Result, Ok, Err}
-use Rattle.std.specs.Prelude.{is_none, position, slice_index_or, slice_set, unwrap_or}
-use Rattle.command_agent.specs.declared.phase.Phase.TheVariants as phases
+use Rattle.std.proofs.Common.{◌≡◌, ◌∙◌, refl, sym, ap, subst, ℕ, ◌==◌, not, Bool, true, false, cond, List, map, Option, Some, None, Result, Ok, Err}
+use Rattle.std.specs.Prelude.{is_none, position, slice_index_or, unwrap_or}
 use Rattle.command_agent.specs.declared.step.PointRefusal.{PointRefusal}
 use Rattle.command_agent.specs.declared.step.Which.{Which}
-use Rattle.command_agent.specs.declared.step.Which.TheVariants.{Ahead, Main}
-use Rattle.command_agent.specs.Machine.{Machine, is_ahead, new_machine}
+use Rattle.command_agent.specs.Machine.{Machine}
 use Rattle.command_agent.specs.Steps.{abort_step, point_step}
 use Rattle.mgmt_agent.specs.declared.decision.Effect.{Effect}
 use Rattle.mgmt_agent.specs.declared.decision.Effect.TheVariants as effects
@@ -17,7 +15,7 @@ use Rattle.orb_layout.specs.declared.ask.FailCause.{FailCause}
 use Rattle.orb_layout.specs.declared.ask.FailCause.TheVariants as causes
 use Rattle.orb_layout.specs.declared.command.CommandOrb.{CommandOrb}
 use Rattle.orb_layout.specs.Pointers.{offset_at, pointer_at}
-use Rattle.orb_layout.specs.Replies.{Answer, Expired, payload_of}
+use Rattle.orb_layout.specs.Replies.{Answer, Expired}
 use Rattle.login_table.specs.Table.{Table}
 use Rattle.sbp_journal.specs.Addresses.{Access, Register, Start, agent_reset, agent_state, doorbell, management_agent, no_start, orb_pointer, register, rom_start, start_at, start_serves, unsolicited_enable}
 use Rattle.sbp_journal.specs.Run.{Moment}
@@ -30,11 +28,10 @@ use Rattle.sbp_journal.specs.declared.note.Note.TheVariants as notes
 use Rattle.sbp_journal.specs.declared.operation.FunctionWord.{FunctionWord}
 use Rattle.sbp_journal.specs.declared.operation.FunctionWord.TheVariants as functions
 use Rattle.sbp_laws.specs.Packets.{access_at, access_in_bytes, answer_in, answered_at, id_for, packet_at, receiver_in, sender_in}
-use Rattle.sbp_laws.specs.Targets.{Agent, Decided, Purpose, Reply, Target, agent_at, cut_agent, cut_at, effect_on, enters, enters_in, entered_by, for_agent, for_manager, for_nobody, going_on, got_by, is_nothing, is_serial, is_write_access, key_by, main_lost, managed_by, manager_step, moved, new_agent, on_unit, over, pointed_by, points, purpose_of, register_got, replied, replied_to, request_got, reset_seen, rings, sends_of, sent_as, sent_for, start_got, started_by, taken_on, target_by, wants, wants_it, with_agent}
+use Rattle.sbp_laws.specs.Targets.{Agent, Decided, Purpose, Reply, Target, agent_at, cut_agent, cut_at, effect_on, enters_in, entered_by, for_agent, for_manager, for_nobody, going_on, got_by, is_serial, is_write_access, key_by, main_lost, managed_by, manager_step, new_agent, on_unit, over, pointed_by, points, purpose_of, register_got, replied, replied_to, request_got, reset_seen, rings, sends_of, sent_as, sent_for, start_got, started_by, taken_on, target_by, wants, wants_it, with_agent}
 use Rattle.sbp_laws.specs.Turns.{event_of}
-use Rattle.sbp_world.proofs.Lists.ManageTerms.{none_is, same_some, untrue}
 use Rattle.sbp_world.proofs.Lists.OrbFolds.{AreReading, AreSettled, Brings, cut_reads, going_reads, main_reads, map_settled, over_reads, same_machines, set_new, set_settled, settled_by, settles, where_settled}
-use Rattle.sbp_world.proofs.Lists.OrbSteps.{Reads, abort_reads, bell_reads, new_reads, point_reads}
+use Rattle.sbp_world.proofs.Lists.OrbSteps.{Reads, abort_reads, bell_reads, point_reads}
 
 module _ (Read : ℕ → ℕ → CommandOrb → Type 0) where
   abbrev Is : Target → Type 0

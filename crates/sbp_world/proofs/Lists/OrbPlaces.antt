@@ -1,11 +1,9 @@
 -- At a place of a run the agent of the target has an ORB that a response brought; and so has it what a packet brings to it that it gets.
-use Rattle.std.proofs.Common.{arith, ◌≡◌, ◌∙◌, sym, ap, subst, ◌<◌, ◌==◌, ℕ, suc, Bool, true, false, List, ◌∷◌, length, Option, Some, None, Ok}
+use Rattle.std.proofs.Common.{◌≡◌, ◌∙◌, sym, ap, subst, ◌<◌, ◌==◌, ℕ, suc, Bool, true, false, List, ◌∷◌, Some}
 use Rattle.async_packet.specs.Labels.{LabelParts}
 use Rattle.async_packet.specs.Packet.{Packet, header_in}
-use Rattle.command_agent.specs.declared.phase.Phase.{Phase}
-use Rattle.command_agent.specs.declared.phase.Phase.TheVariants as phases
 use Rattle.command_agent.specs.declared.step.Which.{Which}
-use Rattle.command_agent.specs.Machine.{Machine, aligned, is_ahead}
+use Rattle.command_agent.specs.Machine.{Machine}
 use Rattle.label_table.specs.Layer.{judging_step, of_response}
 use Rattle.orb_layout.specs.declared.command.CommandOrb.{CommandOrb}
 use Rattle.orb_layout.specs.CommandOrbs.{command_orb}
@@ -18,7 +16,7 @@ use Rattle.sbp_journal.specs.Wire.{Terms, terms}
 use Rattle.sbp_journal.specs.declared.note.Note.TheVariants as notes
 use Rattle.sbp_laws.specs.Packets.{answered_at, receiver_in}
 use Rattle.sbp_laws.specs.Packets as laws
-use Rattle.sbp_laws.specs.Targets.{Agent, Reply, Target, agent_at, is_serial, over, target_at}
+use Rattle.sbp_laws.specs.Targets.{Target, agent_at, is_serial, over, target_at}
 use Rattle.sbp_laws.specs.Turns.{EachMoment}
 use Rattle.sbp_target.specs.declared.purpose.Purpose.TheVariants as purposes
 use Rattle.sbp_target.specs.Desks.{which_in}
@@ -33,13 +31,13 @@ use Rattle.sbp_world.specs.Lists.Needs.{IsCalm, initiator_in, is_open_at, machin
 use Rattle.sbp_world.specs.Lists.OrbReads.{AskedAsGot, IsBrought}
 use Rattle.sbp_world.proofs.Lists.Heard.{closed, request_to, tells, waiting, waits_so}
 use Rattle.sbp_world.proofs.Lists.OrbFolds.{Brings, over_reads}
-use Rattle.sbp_world.proofs.Lists.OrbReading.{brings, brought_more, reading, reads_more}
+use Rattle.sbp_world.proofs.Lists.OrbReading.{brings, reading}
 use Rattle.sbp_world.proofs.Lists.OrbSteps.{ReadAheadOf, Reads, has_read, holds_read}
 use Rattle.sbp_world.proofs.Lists.Sites.{Site, Waiting, waiting as agent_waiting}
 
 -- ---- agents that are alike
 module _ (R : ℕ → CommandOrb → Type 0) (u : Bool) (a m : Machine) (alike : Alike u a m) (open_there : has_list m.phase ≡ true) where
-  alike_reads : Reads R a → Reads R m
+  pub alike_reads : Reads R a → Reads R m
   alike_reads h = record {
     main = λ e. subst (λ n. R n m.orb) (alike.present open_there) (subst (R a.present) (alike.orb open_there) (h.main (ap holds_read alike.phase ∙ e)));
     ahead = subst (λ x. ReadAheadOf R m.orb.next x) (alike.ahead open_there) (subst (λ (o : CommandOrb). ReadAheadOf R o.next a.ahead) (alike.orb open_there) h.ahead);
@@ -47,7 +45,7 @@ module _ (R : ℕ → CommandOrb → Type 0) (u : Bool) (a m : Machine) (alike :
   }
 
 module _ (R : ℕ → ℕ → CommandOrb → Type 0) (u : Bool) (a m : Machine) (alike : Alike u a m) (open_there : has_list m.phase ≡ true) (place : ℕ) (which : Which) (told heard : Answer) (same : told ≡ heard) where
-  alike_brings : Brings R a (record { place = place; which = which; answer = told }) → Brings R m (record { place = place; which = which; answer = heard })
+  pub alike_brings : Brings R a (record { place = place; which = which; answer = told }) → Brings R m (record { place = place; which = which; answer = heard })
   alike_brings b = record {
     main = λ w p bytes e. subst (λ n. R place n (command_orb bytes)) (alike.present open_there) (b.main w (alike.phase ∙ p) bytes (ap (λ x. payload_of x 32) same ∙ e));
     ahead = λ w f offset n bytes e. b.ahead w (alike.flag ∙ f) offset (ap (λ (o : CommandOrb). o.next) (alike.orb open_there) ∙ n) bytes (ap (λ x. payload_of x 32) same ∙ e);

@@ -1,8 +1,7 @@
 -- At each place of a run the agents of the target waited for what they asked for as each packet was got; so each agent has an ORB that a response brought.
-use Rattle.std.proofs.Common.{arith, ◌≡◌, ◌∙◌, refl, sym, ap, subst, ◌+◌, ◌<◌, ◌≤◌, ◌^◌, ℕ, Bool, true, false, cond, List, [], ◌∷◌, ◌++◌, map, length, Option, Some, None}
+use Rattle.std.proofs.Common.{◌≡◌, ◌∙◌, refl, sym, ap, subst, ◌<◌, ℕ, Bool, true, false, cond, List, [], ◌∷◌, ◌++◌, map, Option, Some, None}
 use Rattle.sbp_world.specs.Agents.AskedRuns.{AreAskedAt, HasAsked, WaitsForAsked, serial_of}
 use Rattle.sbp_world.proofs.Agents.AskedRuns.{asked_between_law, asked_run_law}
-use Rattle.sbp_world.proofs.Agents.Management.Holding.{Holding}
 use Rattle.sbp_world.proofs.Agents.Management.Still.{hist}
 use Rattle.command_agent.specs.declared.step.Which.{Which}
 use Rattle.command_agent.specs.declared.step.Which.TheVariants.{Ahead}
@@ -22,14 +21,12 @@ use Rattle.sbp_journal.specs.declared.event.Event.TheVariants as events
 use Rattle.sbp_journal.specs.declared.note.Note.{Note}
 use Rattle.sbp_journal.specs.declared.note.Note.TheVariants as notes
 use Rattle.sbp_laws.specs.Agents.{fifo_in, initiator_at}
-use Rattle.sbp_laws.specs.Packets.{begun_in, is_under_way, waits_for}
-use Rattle.sbp_laws.specs.Targets.{Agent, Reply, Target, agent_at, agent_over, ahead_lost, for_agent, is_nothing, login_at, main_lost, over, purpose_of, taken_on, target_at}
+use Rattle.sbp_laws.specs.Packets.{begun_in, waits_for}
+use Rattle.sbp_laws.specs.Targets.{Agent, Reply, Target, agent_at, agent_over, for_agent, is_nothing, login_at, main_lost, over, purpose_of, taken_on, target_at}
 use Rattle.sbp_laws.specs.Turns.{EachMoment}
-use Rattle.sbp_world.specs.Histories.{moments_behind}
 use Rattle.sbp_world.specs.Lines.{MayHappen, happens}
 use Rattle.sbp_world.specs.Making.{ready_logins}
 use Rattle.sbp_world.specs.Packets.{is_in_flight, may_repeat}
-use Rattle.sbp_world.specs.Runs.{Run, after, beginning}
 use Rattle.sbp_world.specs.Settling.{MayAt, MayNext, delivered_at, delivered_next, lowest}
 use Rattle.sbp_world.specs.Worlds.{Scene, WorldState, begun, without_notes}
 use Rattle.sbp_world.specs.Lists.OrbReads.{AskedAsGot, IsBrought}

@@ -18,6 +18,7 @@ use Rattle.sbp_initiator.specs.declared.state.InitiatorState.{InitiatorState}
 use Rattle.sbp_initiator.specs.Receiving.{expire_step, receive_step}
 use Rattle.sbp_initiator.specs.Seeing.{see_step}
 use Rattle.sbp_journal.specs.Outgoings.{OutboxState, empty_outbox}
+use Rattle.sbp_journal.specs.declared.cause.Judged.{Judged}
 use Rattle.sbp_journal.specs.declared.event.Action.{Action}
 use Rattle.sbp_journal.specs.declared.note.Note.{Note}
 use Rattle.sbp_journal.specs.declared.note.Note.TheVariants as notes
@@ -181,9 +182,18 @@ own_quiet (sides.Unsolicited a ∷ later) h = absurd h.0
 own_quiet (sides.Unsent a ∷ later) h = absurd h.0
 
 -- ---- a packet is delivered: the note of its judgement comes first
+pub data Hears (old new : List Note) : Type 0 where
+  unheard : new ≡ old → Hears old new
+  hears : (serial : ℕ) (judged : Judged) → Quietly (judged_note serial judged ∷ old) new → Hears old new
+
+-- or a line is refused
 pub data Comes (old new : List Note) : Type 0 where
   nothing : new ≡ old → Comes old new
   comes : (note : Note) → Quietly (note ∷ old) new → Comes old new
+
+heard_comes : (old new : List Note) → Hears old new → Comes old new
+heard_comes old new (unheard e) = nothing e
+heard_comes old new (hears serial judged q) = comes (judged_note serial judged) q
 
 module _ (s : Scene) (serial : ℕ) (again : Bool) (run : Option Told) where
   abbrev w : WorldState
@@ -193,12 +203,13 @@ module _ (s : Scene) (serial : ℕ) (again : Bool) (run : Option Told) where
   after_it = (delivered serial again run s).world
 
   abbrev C : Type 0
-  C = Comes w.fresh after_it.fresh
+  C = Hears w.fresh after_it.fresh
 
-  behind_judged : (node : ℕ) (note : Note) (outbox : OutboxState) (v : WorldState) → v.fresh ≡ w.fresh → AreQuiet outbox.sides → Comes w.fresh (handed_out node 0 outbox (with_note note (marked serial again v))).fresh
-  behind_judged node note outbox v e q =
+  behind_judged : (node : ℕ) (judged : Judged) (outbox : OutboxState) (v : WorldState) → v.fresh ≡ w.fresh → AreQuiet outbox.sides → Hears w.fresh (handed_out node 0 outbox (with_note (judged_note serial judged) (marked serial again v))).fresh
+  behind_judged node judged outbox v e q =
+      let note = judged_note serial judged in
       let u = with_note note (marked serial again v) in
-      comes note (subst (λ ns. Quietly (note ∷ ns) (handed_out node 0 outbox u).fresh) (marked_fresh serial again v ∙ e) (handed_quiet node 0 outbox u q))
+      hears serial judged (subst (λ ns. Quietly (note ∷ ns) (handed_out node 0 outbox u).fresh) (marked_fresh serial again v ∙ e) (handed_quiet node 0 outbox u q))
 
   module _ (one : Sent) (found : found_sent serial w.store.kept ≡ Some one) where
     target_comes : one.to ≡ 0 → AreOthers (target_received run one w.target s.media).1.0.sides → C
@@ -208,7 +219,7 @@ module _ (s : Scene) (serial : ℕ) (again : Bool) (run : Option Told) where
         let last_is : after_it ≡ handed_out one.to 0 x.1.0 (with_note (judged_note serial x.0) (marked serial again (with_target x.1.1.0 w))) =
         ap (λ (y : Option Arrival × (OutboxState × Scene)). (delivered_by serial again y).world)
         (received_is run serial s one found ∙ ap (λ b. cond b (at_target one.to (target_received run one w.target s.media) s) (initiator_received one s)) (to_zero one.to zero_to)) in
-        subst (λ (v : WorldState). Comes w.fresh v.fresh) (sym last_is) (behind_judged one.to (judged_note serial x.0) x.1.0 (with_target x.1.1.0 w) refl (others_quiet x.1.0.sides others))
+        subst (λ (v : WorldState). Hears w.fresh v.fresh) (sym last_is) (behind_judged one.to x.0 x.1.0 (with_target x.1.1.0 w) refl (others_quiet x.1.0.sides others))
 
     own_comes : (i : ℕ) → one.to ≡ suc i → i < length w.initiators → C
     unfolding delivered initiators_received arrived
@@ -218,12 +229,12 @@ module _ (s : Scene) (serial : ℕ) (again : Bool) (run : Option Told) where
         let v = with_initiators (slice_set w.initiators i x.1.1) w in
         let last_is : after_it ≡ handed_out one.to 0 x.1.0 (with_note (judged_note serial x.0) (marked serial again v)) =
         ap (λ (y : Option Arrival × (OutboxState × Scene)). (delivered_by serial again y).world) (to_own run serial i s one found to_is ∙ own_inside one i s inside) in
-        subst (λ (u : WorldState). Comes w.fresh u.fresh) (sym last_is) (behind_judged one.to (judged_note serial x.0) x.1.0 v refl (own_quiet x.1.0.sides (own.receives one.generation one.bytes empty_outbox old tt)))
+        subst (λ (u : WorldState). Hears w.fresh u.fresh) (sym last_is) (behind_judged one.to x.0 x.1.0 v refl (own_quiet x.1.0.sides (own.receives one.generation one.bytes empty_outbox old tt)))
 
     none_comes : (i : ℕ) → one.to ≡ suc i → length w.initiators ≤ i → C
     unfolding delivered
     none_comes i to_is outside =
-        nothing (ap (λ (y : Option Arrival × (OutboxState × Scene)). (delivered_by serial again y).world.fresh) (to_own run serial i s one found to_is ∙ own_outside one i s outside))
+        unheard (ap (λ (y : Option Arrival × (OutboxState × Scene)). (delivered_by serial again y).world.fresh) (to_own run serial i s one found to_is ∙ own_outside one i s outside))
 
     comes_at : (to : ℕ) → one.to ≡ to → (one.to ≡ 0 → AreOthers (target_received run one w.target s.media).1.0.sides) → C
     comes_at zero e o = target_comes e (o e)
@@ -235,12 +246,15 @@ module _ (s : Scene) (serial : ℕ) (again : Bool) (run : Option Told) where
 
   comes_by : (found : Option Sent) → found_sent serial w.store.kept ≡ found → MayAt run found s → C
   unfolding delivered received_step
-  comes_by None e m = nothing (ap (λ o. (delivered_by serial again (received_by run o s)).world.fresh) e)
+  comes_by None e m = unheard (ap (λ o. (delivered_by serial again (received_by run o s)).world.fresh) e)
   comes_by (Some one) e m = comes_at one e one.to refl (λ z. hand_law.received run one w.target s.media (subst (λ b. MayTold b run one s) (to_zero one.to z) m))
 
-  pub delivery_comes : MayReceive run serial s → C
+  pub delivery_hears : MayReceive run serial s → C
   unfolding MayReceive
-  delivery_comes m = comes_by (found_sent serial w.store.kept) refl m
+  delivery_hears m = comes_by (found_sent serial w.store.kept) refl m
+
+  pub delivery_comes : MayReceive run serial s → Comes w.fresh after_it.fresh
+  delivery_comes m = heard_comes w.fresh after_it.fresh (delivery_hears m)
 
 -- ---- the other lines
 module _ (w : WorldState) where

@@ -1,5 +1,5 @@
 -- A run that the target tells of is of an ORB that a response brought of the place of its ORB: that of its append.
-use Rattle.std.proofs.Common.{arith, ◌≡◌, ◌∙◌, refl, sym, ap, subst, ℕ, suc, ◌+◌, ◌<◌, ◌≤◌, ◌==◌, ◌&&◌, is_some, nat_lt, Bool, true, false, List, ◌∷◌, Option, Some, None, IsSomeAnd}
+use Rattle.std.proofs.Common.{◌≡◌, ◌∙◌, sym, ap, subst, ℕ, ◌<◌, ◌==◌, ◌&&◌, is_some, nat_lt, Bool, false, List, ◌∷◌, Option, Some, None, IsSomeAnd}
 use Rattle.bus_memory.specs.declared.window.Window.TheVariants as windows
 use Rattle.bus_memory.specs.Windows.{start as start_of}
 use Rattle.command_agent.specs.declared.step.AgentStep.{AgentStep}
@@ -15,8 +15,8 @@ use Rattle.sbp_journal.specs.declared.note.Note.{Note}
 use Rattle.sbp_journal.specs.declared.note.Note.TheVariants as notes
 use Rattle.sbp_laws.specs.CarriedBytes.{address_of}
 use Rattle.sbp_laws.specs.CarriedLaw.{IsAsAppended}
-use Rattle.sbp_laws.specs.Lists.{command_at, slot_at}
-use Rattle.sbp_laws.specs.Terms.{Request, ends, request_at}
+use Rattle.sbp_laws.specs.Lists.{slot_at}
+use Rattle.sbp_laws.specs.Terms.{Request, request_at}
 use Rattle.sbp_target.specs.Nodes.{desk_at}
 use Rattle.sbp_target.specs.Replies.{plain_in}
 use Rattle.sbp_target.specs.Receiving.{answer_in}

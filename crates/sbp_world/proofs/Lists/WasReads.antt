@@ -1,8 +1,8 @@
 -- What is known of a response that brought an ORB, at a later moment: the read that it answered, what it spells, and when the read was sent.
-use Rattle.std.proofs.Common.{arith, ◌≡◌, ◌∙◌, refl, sym, ap, subst, ◌<◌, ◌≤◌, ◌+◌, ◌==◌, ℕ, suc, Bool, true, false, cond, List, [], ◌∷◌, ◌++◌, length, Option, Some, None, Result, Ok, Err}
+use Rattle.std.proofs.Common.{arith, ◌≡◌, ◌∙◌, refl, sym, ap, subst, ◌<◌, ◌≤◌, ◌+◌, ◌==◌, ℕ, suc, Bool, true, false, cond, List, [], ◌∷◌, ◌++◌, length, Option, Some, None, Ok, Err}
 use Rattle.std.specs.Prelude.{IsSomeAnd}
 use Rattle.std.proofs.lemmas.Bool.Decides.{nat_tests}
-use Rattle.sbp_world.specs.Agents.AskedRuns.{HasAsked, read_access}
+use Rattle.sbp_world.specs.Agents.AskedRuns.{read_access}
 use Rattle.bus_transactions.specs.Packets.{SerialsCount}
 use Rattle.sbp_world.proofs.Hosts.Remaining.{remains}
 use Rattle.sbp_world.proofs.Hosts.SentMoments.{sent_below, serials_from}
@@ -15,7 +15,7 @@ use Rattle.rbc_disk.specs.Disk.{Disk}
 use Rattle.sbp_journal.specs.Addresses.{Access}
 use Rattle.sbp_journal.specs.Run.{Moment, asked, said}
 use Rattle.sbp_journal.specs.Transactions.{Sending}
-use Rattle.sbp_journal.specs.Wire.{Terms, terms}
+use Rattle.sbp_journal.specs.Wire.{terms}
 use Rattle.sbp_journal.specs.declared.note.Note.{Note}
 use Rattle.sbp_journal.specs.declared.note.Note.TheVariants as notes
 use Rattle.sbp_laws.specs.Agents.{initiator_at}
@@ -101,7 +101,7 @@ pub record IsAnswered (past : List Moment) (address : ℕ) (orb : CommandOrb) : 
   pub asks : IsSomeAnd (access_at (terms past) request) (λ access. IsRead access address 32)
   pub orb_is : orb_read past response ≡ orb
 
-each_at : (P : Moment → List Moment → Type 0) (later : List Moment) (m : Moment) (earlier : List Moment) → EachMoment P (later ++ m ∷ earlier) → P m earlier
+pub each_at : (P : Moment → List Moment → Type 0) (later : List Moment) (m : Moment) (earlier : List Moment) → EachMoment P (later ++ m ∷ earlier) → P m earlier
 each_at P [] m earlier e = e.0
 each_at P (x ∷ later) m earlier e = each_at P later m earlier e.1
 

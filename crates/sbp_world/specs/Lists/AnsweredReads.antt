@@ -1,7 +1,6 @@
 -- How the ORB of a command that runs was read (NCITS 325-1998, command block agents and command block ORB), in runs in which no initiator injected packets: the target got
 -- a response of 32 bytes, which answers its read of the ORB's slot; what the bytes spell is no dummy, and has the command block and the direction of the append.
 use Rattle.std.specs.Prelude.{◌≡◌, ◌<◌, ◌≤◌, ℕ, true, List, ◌∷◌, ◌++◌, length, map, Option, Some, IsSomeAnd}
-use Rattle.rbc_disk.specs.Disk.{Disk}
 use Rattle.rbc_disk.specs.Runs.{Told}
 use Rattle.sbp_journal.specs.Run.{Moment, asked, said}
 use Rattle.sbp_journal.specs.Wire.{terms}

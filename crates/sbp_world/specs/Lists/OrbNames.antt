@@ -1,6 +1,6 @@
 -- Which ORB an agent of the target reads, by its name (NCITS 325-1998, command block agents and linked lists of ORBs), as it waits for the read: the one that its initiator
 -- prepared last in the slot at the address, an ORB of its latest list.
-use Rattle.std.specs.Prelude.{◌≡◌, ◌<◌, ◌≤◌, ℕ, suc, true, List, Some}
+use Rattle.std.specs.Prelude.{◌≡◌, ◌<◌, ◌≤◌, ℕ, suc, true, List, ◌∷◌, Some}
 use Rattle.bus_memory.specs.declared.window.Window.TheVariants as windows
 use Rattle.bus_memory.specs.Windows.{start as start_of}
 use Rattle.command_agent.specs.declared.phase.Phase.TheVariants as phases
@@ -12,11 +12,10 @@ use Rattle.sbp_journal.specs.Run.{Moment, said}
 use Rattle.sbp_journal.specs.Wire.{terms}
 use Rattle.sbp_journal.specs.declared.note.Note.TheVariants as notes
 use Rattle.sbp_laws.specs.CarriedBytes.{address_of}
-use Rattle.sbp_laws.specs.Lists.{linked, orb, prepared_in}
+use Rattle.sbp_laws.specs.Lists.{linked, orb as named_orb, prepared_in}
 use Rattle.sbp_laws.specs.Packets.{receiver_in}
 use Rattle.sbp_laws.specs.Targets.{agent_at, over, target_at}
 use Rattle.sbp_laws.specs.Terms.{ends, lists}
-use Rattle.sbp_world.specs.Telling.{holder}
 use Rattle.sbp_world.specs.Worlds.{WorldState}
 use Rattle.sbp_world.specs.Lists.Needs.{initiator_in}
 use Rattle.sbp_world.specs.Lists.OrbReads.{IsBrought}
@@ -28,7 +27,7 @@ pub record IsLedTo (past : List Moment) (i address : ℕ) : Type 0 where
   pub slot : ℕ
   pub small : slot < 32
   pub stands : address ≡ start_of (windows.Orb slot)
-  pub there : prepared_in past i slot ≡ Some (orb n k)
+  pub there : prepared_in past i slot ≡ Some (named_orb n k)
   pub latest : suc n ≡ lists past i
   pub at : address ≡ address_of past i n k
   pub after : ends past i n ≤ k
@@ -51,12 +50,14 @@ pub record IsNamedBrought (start : List Disk) (past : List Moment) (place addres
   pub to : receiver_in ((terms brought.earlier).sent brought.request) ≡ Some (suc i)
   pub led : IsLedTo brought.earlier i address
 
+-- a response brought it so as the last of these packets
+pub record IsJustBrought (start : List Disk) (past : List Moment) (serial place address : ℕ) (orb : CommandOrb) : Type 0 where
+  pub named : IsNamedBrought start (said (notes.Got serial) ∷ past) place address orb
+  pub now : named.brought.earlier ≡ past
+
 -- ---- while an agent has an ORB that has not ended
--- it was brought of this slot as the ORB of this name, of the list that the place has; this has not ended
+-- it was brought of the initiator that has the place, and is the one that was prepared last in its slot still
 pub record IsStillBrought (start : List Disk) (past : List Moment) (w : WorldState) (place address : ℕ) (orb : CommandOrb) : Type 0 where
   pub named : IsNamedBrought start past place address orb
   pub initiator : named.i ≡ initiator_in w place
-  pub list : (holder w place).list ≡ Some named.led.n
-  pub stands : address ≡ address_of past named.i named.led.n named.led.k
-  pub after : ends past named.i named.led.n ≤ named.led.k
-  pub before : named.led.k < linked past named.i named.led.n
+  pub there : prepared_in past named.i named.led.slot ≡ Some (named_orb named.led.n named.led.k)

@@ -1,6 +1,6 @@
 -- By which response an agent of the target has an ORB (NCITS 325-1998, command block agents and command block ORB): the target got it, whole, and it answered the
 -- agent's read of the 32 bytes where the ORB stands, of the initiator that had the login then; its bytes spell the ORB.
-use Rattle.std.specs.Prelude.{◌≡◌, ◌<◌, ℕ, true, false, List, [], ◌∷◌, ◌++◌, Option, Some, Ok}
+use Rattle.std.specs.Prelude.{◌≡◌, ℕ, true, false, List, ◌∷◌, ◌++◌, Some, Ok}
 use Rattle.orb_layout.specs.declared.ask.Ask.TheVariants.{Read}
 use Rattle.orb_layout.specs.declared.command.CommandOrb.{CommandOrb}
 use Rattle.orb_layout.specs.CommandOrbs.{command_orb}
