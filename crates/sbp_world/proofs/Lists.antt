@@ -396,4 +396,8 @@ pub mod TurnReads
 pub mod StillReads
 pub mod StillTurns
 pub mod StillRuns
+pub mod NamedPlaces
+pub mod EndNames
+pub mod RunNames
+pub mod CarriedEnds
 pub mod PlaceOwners

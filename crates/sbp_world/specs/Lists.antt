@@ -20,6 +20,7 @@ pub mod Live
 pub mod LoginAnswers
 pub mod OrbReads
 pub mod CarriedRuns
+pub mod CarriedEnds
 pub mod EndReads
 pub mod OrbNames
 pub mod ManagedFor

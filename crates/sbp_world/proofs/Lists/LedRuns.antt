@@ -233,7 +233,7 @@ module _ (start : List Disk) (past : List Moment) (serial : ℕ) (waits : AreAsk
     ahead_asks : which ≡ Ahead → is_ahead m.ahead ≡ true → (offset : ℕ) → m.orb.next ≡ At offset → Asks (Read (aligned offset) 32) false
     ahead_asks w a offset n = subst (λ ask. Asks ask false) (under_way m.ahead m.orb.next offset a n) ((waits.all place few).ahead own (ahead_is w))
 
-    just : Brings (IsJustBrought start past serial) m (record { place = place; which = which; answer = answer_in (packet_at (terms past) serial) })
+    pub just : Brings (IsJustBrought start past serial) m (record { place = place; which = which; answer = answer_in (packet_at (terms past) serial) })
     just = record {
       main = λ w p bytes e. made m.present bytes e (main_asks w p) (λ to. led.main place few own i to (main_is w) p);
       ahead = λ w a offset n bytes e. made (aligned offset) bytes e (ahead_asks w a offset n) (λ to. led.ahead place few own i offset to (ahead_is w) a n);

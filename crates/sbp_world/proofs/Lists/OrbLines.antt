@@ -28,7 +28,7 @@ as_same t r (request label kind) sending = refl
 as_same t r (response label kind) sending = refl
 as_same t r no_packet sending = refl
 
-answered_same : (t : Terms) (r : Bool) (sent : Option Sending) → answered_in (record t { repeats = r }) sent ≡ answered_in t sent
+pub answered_same : (t : Terms) (r : Bool) (sent : Option Sending) → answered_in (record t { repeats = r }) sent ≡ answered_in t sent
 answered_same t r None = refl
 answered_same t r (Some sending) = as_same t r (part_of sending.bytes) sending
 
@@ -38,7 +38,7 @@ module _ (start : List Disk) (line : ℕ) (event : Event) (r : Bool) (as_opened 
     After = IsBrought start (said (notes.Got serial) ∷ asked line event ∷ past) place address orb
 
     -- by this packet
-    here : (b : IsBrought start (said (notes.Got serial) ∷ past) place address orb) → said (notes.Got b.response) ∷ b.earlier ≡ said (notes.Got serial) ∷ past → After
+    abbrev pub here : (b : IsBrought start (said (notes.Got serial) ∷ past) place address orb) → said (notes.Got b.response) ∷ b.earlier ≡ said (notes.Got serial) ∷ past → After
     here b e =
         let t = terms b.earlier in
         let same : opened event (terms b.earlier) ≡ record (terms b.earlier) { repeats = r } = as_opened (terms b.earlier) in
@@ -63,7 +63,7 @@ module _ (start : List Disk) (line : ℕ) (event : Event) (r : Bool) (as_opened 
         }
 
     -- or by an earlier one
-    there : (b : IsBrought start (said (notes.Got serial) ∷ past) place address orb) (later : List Moment) → later ++ said (notes.Got b.response) ∷ b.earlier ≡ past → After
+    abbrev pub there : (b : IsBrought start (said (notes.Got serial) ∷ past) place address orb) (later : List Moment) → later ++ said (notes.Got b.response) ∷ b.earlier ≡ past → After
     there b later e = record {
       response = b.response;
       request = b.request;

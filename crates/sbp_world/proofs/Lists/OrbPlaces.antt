@@ -70,24 +70,24 @@ module _ (units ready : ℕ) (has : 0 < units) (start : List Disk) {past : List 
   T = over (target_at start ms)
 
   module _ (serial : ℕ) (sent : Sent) (found : found_sent serial w.store.kept ≡ Some sent) (zero_to : sent.to ≡ 0) (packet : Packet) (label : LabelParts) (place : ℕ) (which : Which) (e : (judging_step w.target.layer sent.generation sent.bytes).0 ≡ of_response packet label (Some (purposes.Agent place))) (is_which : which_in (desk_at w.target place) (header_in packet).source label ≡ Some which) (b : place < 8) (calm : IsCalm ms (initiator_in w place)) where
-    abbrev request : ℕ
+    abbrev pub request : ℕ
     request = (waiting units ready has start w h s.agents.requests s.agents.are s.agents.known s.asked serial sent found zero_to packet label place e).serial
 
-    waits : serial_of which (agent_at T place) ≡ Some request
+    pub waits : serial_of which (agent_at T place) ≡ Some request
     waits = waits_so units ready has start w h s.agents.requests s.agents.are s.agents.known s.asked serial sent found zero_to packet label place e which is_which
 
-    asked : Waiting units ready has start w h s place b which request
+    pub asked : Waiting units ready has start w h s place b which request
     asked = agent_waiting units ready has start w h s place b which request waits
 
-    calm_from : t.injects sent.from ≡ false
+    pub calm_from : t.injects sent.from ≡ false
     calm_from =
         let from_is : sent.from ≡ suc (initiator_in w place) = same_node sent.from (suc (initiator_in w place)) (sym (request_to units ready has start w h s.agents.requests s.agents.are s.agents.known s.asked serial sent found zero_to packet label place e) ∙ asked.to) in
         ap t.injects from_is ∙ calm
 
-    closes : answered_at t serial ≡ Some request
+    pub closes : answered_at t serial ≡ Some request
     closes = closed units ready has start w h s.agents.requests s.agents.are s.agents.known s.asked serial sent found zero_to packet label place e calm_from
 
-    by_target : is_serial (receiver_in (t.sent serial)) 0 ≡ true
+    pub by_target : is_serial (receiver_in (t.sent serial)) 0 ≡ true
     by_target = ap (λ x. is_serial (receiver_in x) 0) (was_sent w h.sound.stands serial sent found) ∙ ap (λ n. n == 0) zero_to
 
     brings_there : Brings (IsBrought start (said (notes.Got serial) ∷ ms)) (machine_at w place) (record { place = place; which = which; answer = answer_in packet })

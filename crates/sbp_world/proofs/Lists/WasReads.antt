@@ -19,7 +19,8 @@ use Rattle.sbp_journal.specs.Wire.{terms}
 use Rattle.sbp_journal.specs.declared.note.Note.{Note}
 use Rattle.sbp_journal.specs.declared.note.Note.TheVariants as notes
 use Rattle.sbp_laws.specs.Agents.{initiator_at}
-use Rattle.sbp_laws.specs.CarriedBytes.{IsRead, WasRead, address_of, before_sent, bytes_in, open_list, orb_read, payload_at, was_got}
+use Rattle.sbp_laws.specs.CarriedBytes.{IsRead, address_of, before_sent, bytes_in, orb_read, payload_at, was_got}
+use Rattle.sbp_world.specs.Lists.CarriedEnds.{WasReadBehind}
 use Rattle.sbp_laws.specs.Packets.{access_at, access_in, answer_in, packet_at, packet_in, receiver_in, sender_in}
 use Rattle.sbp_laws.specs.Targets.{is_serial, over, target_at}
 use Rattle.sbp_laws.specs.Terms.{appends}
@@ -100,6 +101,11 @@ pub record IsAnswered (past : List Moment) (address : ℕ) (orb : CommandOrb) : 
   pub of_target : sender_in ((terms past).sent request) ≡ Some 0
   pub asks : IsSomeAnd (access_at (terms past) request) (λ access. IsRead access address 32)
   pub orb_is : orb_read past response ≡ orb
+
+-- an ORB was read behind its append, and its response spells it
+pub record SpellsOrb (past : List Moment) (i n k : ℕ) (orb : CommandOrb) : Type 0 where
+  pub read : WasReadBehind past i n k
+  pub spells : orb_read past read.response ≡ orb
 
 pub each_at : (P : Moment → List Moment → Type 0) (later : List Moment) (m : Moment) (earlier : List Moment) → EachMoment P (later ++ m ∷ earlier) → P m earlier
 each_at P [] m earlier e = e.0
@@ -195,17 +201,19 @@ module _ (start : List Disk) (past : List Moment) (place address : ℕ) (orb : C
           there = there;
         })
 
-  module _ (i n k : ℕ) (of_it : initiator_at (over (target_at start b.earlier)) (terms b.earlier) place ≡ i) (stands : address ≡ address_of past i n k) (answers : (terms b.earlier).answers b.response ≡ Some b.request) (appended : k < appends (before_sent b.earlier b.request) i n) (opened : open_list start (before_sent b.earlier b.request) i ≡ Some n) where
-    pub was_read : WasRead start past i n k
+  module _ (i n k : ℕ) (of_it : initiator_at (over (target_at start b.earlier)) (terms b.earlier) place ≡ i) (stands : address ≡ address_of past i n k) (answers : (terms b.earlier).answers b.response ≡ Some b.request) (appended : k < appends (before_sent b.earlier b.request) i n) where
+    pub was_read : SpellsOrb past i n k orb
     was_read = record {
-      response = b.response;
-      request = b.request;
-      got = subst (λ ms. was_got ms b.response ≡ true) b.is (got_later b.later then b.response (got_now b.earlier b.response));
-      whole = ap length payload_is ∙ is_whole.whole;
-      answers = stays.answers b.response response_below ∙ answers;
-      of_target = ap sender_in (stays.sent b.request request_below) ∙ b.asked.from;
-      of_initiator = ap receiver_in (stays.sent b.request request_below) ∙ (b.asked.to ∙ ap (λ j. Some (j + 1)) of_it ∙ (let e : i + 1 ≡ suc i = omega arith in ap (λ j. Some j) e));
-      asks = subst (λ x. IsSomeAnd x (λ access. IsRead access (address_of past i n k) 32)) (sym access_is) (record { read = refl; block = refl; from = stands; size = refl });
-      appended = subst (λ ms. k < appends ms i n) (sym (stays.before_it b.request request_below)) appended;
-      opened = subst (λ ms. open_list start ms i ≡ Some n) (sym (stays.before_it b.request request_below)) opened;
+      read = record {
+        response = b.response;
+        request = b.request;
+        got = subst (λ ms. was_got ms b.response ≡ true) b.is (got_later b.later then b.response (got_now b.earlier b.response));
+        whole = ap length payload_is ∙ is_whole.whole;
+        answers = stays.answers b.response response_below ∙ answers;
+        of_target = ap sender_in (stays.sent b.request request_below) ∙ b.asked.from;
+        of_initiator = ap receiver_in (stays.sent b.request request_below) ∙ (b.asked.to ∙ ap (λ j. Some (j + 1)) of_it ∙ (let e : i + 1 ≡ suc i = omega arith in ap (λ j. Some j) e));
+        asks = subst (λ x. IsSomeAnd x (λ access. IsRead access (address_of past i n k) 32)) (sym access_is) (record { read = refl; block = refl; from = stands; size = refl });
+        appended = subst (λ ms. k < appends ms i n) (sym (stays.before_it b.request request_below)) appended;
+      };
+      spells = orb_is;
     }

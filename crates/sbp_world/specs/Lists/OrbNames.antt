@@ -1,21 +1,23 @@
 -- Which ORB an agent of the target reads, by its name (NCITS 325-1998, command block agents and linked lists of ORBs), as it waits for the read: the one that its initiator
 -- prepared last in the slot at the address, an ORB of its latest list.
-use Rattle.std.specs.Prelude.{◌≡◌, ◌<◌, ◌≤◌, ℕ, suc, true, List, ◌∷◌, Some}
+use Rattle.std.specs.Prelude.{◌≡◌, ◌<◌, ◌≤◌, ℕ, suc, true, List, ◌∷◌, Some, IsSomeAnd}
 use Rattle.bus_memory.specs.declared.window.Window.TheVariants as windows
 use Rattle.bus_memory.specs.Windows.{start as start_of}
 use Rattle.command_agent.specs.declared.phase.Phase.TheVariants as phases
 use Rattle.command_agent.specs.Machine.{aligned, is_ahead}
 use Rattle.orb_layout.specs.declared.command.CommandOrb.{CommandOrb}
 use Rattle.orb_layout.specs.declared.pointer.OrbPointer.TheVariants.{At}
+use Rattle.orb_layout.specs.declared.status.StatusKind.{StatusKind}
 use Rattle.rbc_disk.specs.Disk.{Disk}
 use Rattle.sbp_journal.specs.Run.{Moment, said}
 use Rattle.sbp_journal.specs.Wire.{terms}
 use Rattle.sbp_journal.specs.declared.note.Note.TheVariants as notes
 use Rattle.sbp_laws.specs.CarriedBytes.{address_of}
+use Rattle.sbp_laws.specs.CarriedLaw.{IsAsAppended, MatchesStatus}
 use Rattle.sbp_laws.specs.Lists.{linked, orb as named_orb, prepared_in}
 use Rattle.sbp_laws.specs.Packets.{receiver_in}
 use Rattle.sbp_laws.specs.Targets.{agent_at, over, target_at}
-use Rattle.sbp_laws.specs.Terms.{ends, lists}
+use Rattle.sbp_laws.specs.Terms.{ends, lists, request_at}
 use Rattle.sbp_world.specs.Worlds.{WorldState}
 use Rattle.sbp_world.specs.Lists.Needs.{initiator_in}
 use Rattle.sbp_world.specs.Lists.OrbReads.{IsBrought}
@@ -61,3 +63,27 @@ pub record IsStillBrought (start : List Disk) (past : List Moment) (w : WorldSta
   pub named : IsNamedBrought start past place address orb
   pub initiator : named.i ≡ initiator_in w place
   pub there : prepared_in past named.i named.led.slot ≡ Some (named_orb named.led.n named.led.k)
+
+-- ---- the ORB of an end, and of a run
+-- by this name, but of a status failed: its format is 3 exactly where the status is dummy, and where it is not, it is that of the append
+pub record EndIsNamed (start : List Disk) (past : List Moment) (i n k : ℕ) (status : StatusKind) : Type 0 where
+  pub place : ℕ
+  pub small : place < 8
+  pub orb : CommandOrb
+  pub named : IsNamedBrought start past place (address_of past i n k) orb
+  pub initiator : named.i ≡ i
+  pub list : named.led.n ≡ n
+  pub number : named.led.k ≡ k
+  pub matches : IsSomeAnd (request_at past i n k) (λ request. MatchesStatus status orb request)
+
+-- no dummy, and that of the append
+pub record RunIsNamed (start : List Disk) (past : List Moment) (i n k : ℕ) : Type 0 where
+  pub place : ℕ
+  pub small : place < 8
+  pub orb : CommandOrb
+  pub named : IsNamedBrought start past place (address_of past i n k) orb
+  pub initiator : named.i ≡ i
+  pub list : named.led.n ≡ n
+  pub number : named.led.k ≡ k
+  pub not_dummy : orb.format ≡ 3 → ⊥
+  pub as_appended : IsSomeAnd (request_at past i n k) (λ request. IsAsAppended orb request)
