@@ -392,6 +392,7 @@ pub mod ShortLines
 pub mod AnswerLengths
 pub mod LinedAppends
 pub mod AnswerChecks
+pub mod SentGots
 pub mod WasReads
 pub mod AnswerGots
 pub mod AnsweredReads
@@ -418,3 +419,15 @@ pub mod DataPlaces
 pub mod DataDry
 pub mod DataClears
 pub mod DataLaws
+pub mod LedReads
+pub mod LedRuns
+pub mod NamedReads
+pub mod TurnReads
+pub mod StillReads
+pub mod StillTurns
+pub mod StillRuns
+pub mod NamedPlaces
+pub mod EndNames
+pub mod RunNames
+pub mod CarriedEnds
+pub mod PlaceOwners

@@ -23,7 +23,9 @@ pub mod Live
 pub mod LoginAnswers
 pub mod OrbReads
 pub mod CarriedRuns
+pub mod CarriedEnds
 pub mod EndReads
+pub mod OrbNames
 pub mod ManagedFor
 pub mod Managing
 pub mod Names

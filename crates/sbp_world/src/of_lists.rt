@@ -2,6 +2,7 @@
 ghost use Rattle.sbp_world.specs.Lists.Along.{AlongLaw};
 ghost use Rattle.sbp_world.specs.Lists.Bases.{BasesLaw};
 ghost use Rattle.sbp_world.specs.Lists.Brings.{BringsLaw};
+ghost use Rattle.sbp_world.specs.Lists.CarriedEnds.{WereReadLaw};
 ghost use Rattle.sbp_world.specs.Lists.CarriedRuns.{RunsReadLaw};
 ghost use Rattle.sbp_world.specs.Lists.FedRuns.{BesideLaw, RunsFedLaw};
 ghost use Rattle.sbp_world.specs.Lists.Lists.{GrowingLaw};
@@ -429,4 +430,14 @@ pub fn commands_run_where_they_are_due()
 #[tactic(auto, using(crate::proofs::Lists::DataLaws::answers_end_law))]
 pub fn answers_are_written_before_the_end()
     ensures { AnswersEndLaw }
+{}
+
+/// In every run in which no initiator injected packets the ORB of each run, and of each end but with the status failed, was read as
+/// the carried law says, all but that its list was open as the read was sent: the target got a response of 32 bytes, which answers
+/// its read of the ORB's slot in its initiator, sent behind the ORB's append. What runs is no dummy, an ORB has format 3 exactly
+/// where it ends so, and else the command and the direction of its append. After every line, and behind each delivery of a line
+/// that delivers one packet after the other.
+#[tactic(auto, using(crate::proofs::Lists::Clauses::reads_law))]
+pub fn orbs_were_read_behind_their_appends()
+    ensures { WereReadLaw }
 {}

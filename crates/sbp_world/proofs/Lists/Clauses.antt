@@ -1,5 +1,6 @@
 -- The laws of lists, as the clauses of a world have them: with the lines of a run, which name units of 16 bits.
 use Rattle.sbp_world.specs.Lists.AnswerLengths.{AnswerLengthsLaw}
+use Rattle.sbp_world.specs.Lists.CarriedEnds.{WereReadLaw}
 use Rattle.sbp_world.specs.Lists.Closes.{OpenListsLaw}
 use Rattle.sbp_world.specs.Lists.DataWrites.{DataSentLaw}
 use Rattle.sbp_world.specs.Lists.Live.{LiveLaw}
@@ -7,6 +8,7 @@ use Rattle.sbp_world.specs.Lists.Opened.{LogoutsLaw}
 use Rattle.sbp_world.specs.Lists.ListsBeside.{ListsBesideLaw}
 use Rattle.sbp_world.specs.Lists.TameLists.{ListsLaw}
 use Rattle.sbp_world.proofs.Lists.AnswerLengths.{answer_lengths_law}
+use Rattle.sbp_world.proofs.Lists.CarriedEnds.{were_read_law}
 use Rattle.sbp_world.proofs.Lists.DataLaws.{data_sent_law}
 use Rattle.sbp_world.proofs.Lists.Lawful as proved
 use Rattle.sbp_world.proofs.Lists.ShortLines.{short_law}
@@ -31,3 +33,6 @@ lengths_law = answer_lengths_law lists_law
 
 pub data_law : DataSentLaw
 data_law = data_sent_law short_law
+
+pub reads_law : WereReadLaw
+reads_law = were_read_law open_lists_law

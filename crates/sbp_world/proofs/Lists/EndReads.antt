@@ -110,7 +110,7 @@ is_three : (n : ℕ) → (n == 3) ≡ true → n ≡ 3
 is_three n e = grind (arith, nat_tests)
 
 module _ (command : Option Cmd) (request : Option Request) (slot : ℕ) (a : WasAsked command request slot) (l : OrbList) (k : ℕ) (orb : CommandOrb) (own : l.is_orb k orb → IsOrbOf command slot orb) where
-  matches : (status : StatusKind) → ends_read (Some status) ≡ true → WasRead status l k orb → MatchesStatus status orb (request_of a.cmd)
+  pub matches : (status : StatusKind) → ends_read (Some status) ≡ true → WasRead status l k orb → MatchesStatus status orb (request_of a.cmd)
   matches kinds.Failed e r = untrue e
   matches kinds.Dummy e r = is_three orb.format r.1
   matches kinds.Good e r = (proper orb r.1, as_appended command request slot a orb (own r.0))
@@ -152,11 +152,11 @@ module _ (i n k : ℕ) where
   one_slot _ past (light_run a b c d e f g) = refl
   one_slot _ past (light_death a b c) = refl
 
-  light_request : (early : List Note) (past : List Moment) → AllLight early → request_at (map said early ++ past) i n k ≡ request_at past i n k
+  pub light_request : (early : List Note) (past : List Moment) → AllLight early → request_at (map said early ++ past) i n k ≡ request_at past i n k
   light_request [] past l = refl
   light_request (note ∷ early) past l = one_request note (map said early ++ past) l.0 ∙ light_request early past l.1
 
-  light_slot : (early : List Note) (past : List Moment) → AllLight early → slot_at (map said early ++ past) i n k ≡ slot_at past i n k
+  pub light_slot : (early : List Note) (past : List Moment) → AllLight early → slot_at (map said early ++ past) i n k ≡ slot_at past i n k
   light_slot [] past l = refl
   light_slot (note ∷ early) past l = one_slot note (map said early ++ past) l.0 ∙ light_slot early past l.1
 
@@ -165,50 +165,50 @@ brought_behind start [] past place address orb b = b
 brought_behind start (note ∷ early) past place address orb b = brought_more start (said note) (map said early ++ past) place address orb (brought_behind start early past place address orb b)
 
 module _ (wild : ℕ → Bool) (start : List Disk) (past : List Moment) (s : Scene) (set : IsSet wild start past s) (run : Option Told) (serial : ℕ) (early : List Note) (ended : Note) (r : IsEndBy s run serial early ended) where
-  abbrev w : WorldState
+  abbrev pub w : WorldState
   w = s.world
 
-  abbrev ms : List Moment
+  abbrev pub ms : List Moment
   ms = hist past w
 
   -- behind the note of the packet, and at the note of the end
-  abbrev got : List Moment
+  abbrev pub got : List Moment
   got = said (notes.Got serial) ∷ ms
 
-  abbrev now : List Moment
+  abbrev pub now : List Moment
   now = map said early ++ got
 
-  abbrev place : ℕ
+  abbrev pub place : ℕ
   place = r.place
 
-  abbrev i : ℕ
+  abbrev pub i : ℕ
   i = (holder w place).initiator
 
-  abbrev login : Login
+  abbrev pub login : Login
   login = r.by.login
 
-  abbrev M : Machine
+  abbrev pub M : Machine
   M = (desk_at w.target place).agent
 
-  abbrev answer : Answer
+  abbrev pub answer : Answer
   answer = answer_in r.by.packet
 
-  abbrev plain : PlainDisk
+  abbrev pub plain : PlainDisk
   plain = plain_in w.target.units s.media.disks login.unit
 
-  abbrev step : AgentStep × Machine
+  abbrev pub step : AgentStep × Machine
   step = reply_step M place plain run r.by.which answer
 
-  abbrev R : ℕ → CommandOrb → Type 0
+  abbrev pub R : ℕ → CommandOrb → Type 0
   R = IsBrought start got place
 
   there : login_at w.target place ≡ Some login
   there = served_there w.target place login r.by.served
 
-  small : place < 8
+  pub small : place < 8
   small = let l = within w.target.logins.places place login there in let c = set.ready.good.table.sound.size in omega arith
 
-  is_open : has_list M.phase ≡ true
+  pub is_open : has_list M.phase ≡ true
   is_open = listed M place plain run r.by.which answer r.status r.by.ended
 
   module _ (own : wild i ≡ false) where
@@ -226,16 +226,16 @@ module _ (wild : ℕ → Bool) (start : List Disk) (past : List Moment) (s : Sce
     brought = stepped.ended (ap ends_read r.by.ended ∙ r.by.read)
 
     -- along its list
-    opened : IsOpenAt ms w place
+    pub opened : IsOpenAt ms w place
     opened = (set.ready.needs i own).lists.listed place small is_open (set.ready.calm i own)
 
-    abbrev list : OrbList
+    abbrev pub list : OrbList
     list = orbs ms i opened.n
 
-    goes : GoesOn ms i opened.n M
+    pub goes : GoesOn ms i opened.n M
     goes = set.ready.kept.on place small is_open opened.n opened.list own
 
-    abbrev heard : Progress
+    abbrev pub heard : Progress
     heard = heard_by r.by.which M answer goes.progress
 
     number_is : heard.ended ≡ ends ms i opened.n
@@ -249,38 +249,38 @@ module _ (wild : ℕ → Bool) (start : List Disk) (past : List Moment) (s : Sce
         (keeps_along list).replies goes.progress M place plain run r.by.which answer (laid ms i opened.n) goes.along
         ((set.ready.needs i own).brings r.sent is_for r.by.packet r.by.label place r.by.which r.by.found r.by.is_which small refl opened.n opened.list goes.progress goes.is goes.along)
 
-    abbrev ran : Progress
+    abbrev pub ran : Progress
     ran = run_by step.0.ran step.1.answer heard
 
-    ends_so : IsEnd list ran r.status step.1.present step.1.orb step.1.outgoing step.0.ask
+    pub ends_so : IsEnd list ran r.status step.1.present step.1.orb step.1.outgoing step.0.ask
     ends_so = subst (λ x. IfSome x (λ kind. IsEnd list ran kind step.1.present step.1.orb step.1.outgoing step.0.ask)) r.by.ended keeps.ends
 
-    abbrev k : ℕ
+    abbrev pub k : ℕ
     k = ran.ended
 
     k_is : k ≡ ends ms i opened.n
     k_is = run_ended step.0.ran step.1.answer heard ∙ number_is
 
-    after_ends : ends ms i opened.n ≤ k
+    pub after_ends : ends ms i opened.n ≤ k
     after_ends = let e = k_is in omega (arith, e)
 
-    asked_so : WasAsked (command_at ms i opened.n k) (request_at ms i opened.n k) (slot_at ms i opened.n k)
+    pub asked_so : WasAsked (command_at ms i opened.n k) (request_at ms i opened.n k) (slot_at ms i opened.n k)
     asked_so = set.appended place small is_open own opened.n opened.list k after_ends ends_so.turn.linked
 
     -- and named so
     ends_as : EndsSo r.status step.1
     ends_as = subst (λ x. IfSome x (λ kind. EndsSo kind step.1)) r.by.ended (replied_leaves M place plain run r.by.which answer).ends
 
-    orb_is : r.orb ≡ address_of ms i opened.n k
+    pub orb_is : r.orb ≡ address_of ms i opened.n k
     orb_is = r.by.orb_is ∙ (present_is step.1 ends_as.present ∙ ends_so.turn.place)
 
-    named : IsNamed ms w place opened.n k
+    pub named : IsNamed ms w place opened.n k
     named = opened.named k after_ends ends_so.turn.linked
 
-    list_is : list_in (ticket_at w place r.orb) ≡ Some opened.n
+    pub list_is : list_in (ticket_at w place r.orb) ≡ Some opened.n
     list_is = ap (λ at. list_in (ticket_at w place at)) orb_is ∙ named.list
 
-    number : orb_in (ticket_at w place r.orb) ≡ Some k
+    pub number : orb_in (ticket_at w place r.orb) ≡ Some k
     number = ap (λ at. orb_in (ticket_at w place at)) orb_is ∙ named.number
 
     end_read : EndIsRead start now i opened.n k r.status

@@ -63,6 +63,16 @@ use Rattle.sbp_world.proofs.Lists.Endless.{IsEndBy, OneEnd, no_end, one_end}
 use Rattle.sbp_world.proofs.Lists.EndReads.{ended_so, plain_at as end_plain}
 use Rattle.sbp_world.proofs.Lists.FedPlaces.{HasHeard, has_heard, line_heard}
 use Rattle.sbp_world.proofs.Lists.FedRuns.{fed_so}
+use Rattle.sbp_world.proofs.Lists.EndNames.{EndNamedAt, ended_named, plain_named}
+use Rattle.sbp_world.proofs.Lists.RunNames.{RunNamedAt, named_so, plain_named as run_plain}
+use Rattle.sbp_world.proofs.Lists.NamedPlaces.{HasNames, has_names, line_names}
+use Rattle.sbp_world.proofs.Lists.LedRuns.{led_everywhere}
+use Rattle.sbp_world.proofs.Lists.StillRuns.{still_everywhere}
+use Rattle.sbp_world.proofs.Lists.StillReads.{AreStill}
+use Rattle.sbp_world.specs.Lists.OrbNames.{AreLed}
+use Rattle.sbp_world.specs.Lists.OwnLogins.{IsTame}
+use Rattle.sbp_world.specs.Lists.Closes.{OpenListsLaw}
+use Rattle.sbp_world.proofs.Lists.Courses.{EveryPlace, more_than_one}
 use Rattle.sbp_world.proofs.Lists.OpenProved.{opens_law}
 use Rattle.sbp_world.proofs.Lists.OrbLines.{line_reads}
 use Rattle.sbp_world.proofs.Lists.OrbPlaces.{HasReads, has_reads}
@@ -82,8 +92,16 @@ use Rattle.sbp_world.proofs.Lists.Stays.{ready_now}
 use Rattle.sbp_world.proofs.Lists.Turns.{Ready}
 
 -- ---- the law at a moment
+-- where no initiator injected packets
+abbrev pub Tamely : (ℕ → Bool) → Type 0
+Tamely wild = OpenListsLaw × ((i : ℕ) → wild i ≡ false)
+
 abbrev RunAt : (ℕ → Bool) → List Disk → Moment → List Moment → Type 0
-RunAt wild start moment past = LoginAt start moment past × (OutcomeAt wild start moment past × (ReadAt wild start moment past × FedAt wild start moment past))
+RunAt wild start moment past = LoginAt start moment past × (OutcomeAt wild start moment past × (ReadAt wild start moment past × (FedAt wild start moment past × RunNamedAt (Tamely wild) wild start moment past)))
+
+-- an ORB that ends was read, by its name
+abbrev pub EndSo : (ℕ → Bool) → List Disk → Moment → List Moment → Type 0
+EndSo wild start moment past = EndAt wild start moment past × EndNamedAt (Tamely wild) wild start moment past
 
 abbrev Law : (ℕ → Bool) → List Disk → List Moment → Type 0
 Law wild start past = EachMoment (RunAt wild start) past
@@ -95,7 +113,7 @@ split (n ∷ a) b past = ap (λ ms. said n ∷ ms) (split a b past)
 module _ (wild : ℕ → Bool) (start : List Disk) where
   plain_at : (note : Note) → IsPlain note → (past : List Moment) → RunAt wild start (said note) past
   plain_at (notes.Ran i n k unit cdb bytes check) h past = absurd h
-  plain_at note h past = (tt, (tt, (tt, tt)))
+  plain_at note h past = (tt, (tt, (tt, (tt, run_plain (Tamely wild) wild start note h past))))
 
   plain_law : (more : List Note) → AllPlain more → (past : List Moment) → Law wild start past → Law wild start (map said more ++ past)
   plain_law [] h past l = l
@@ -112,8 +130,8 @@ module _ (wild : ℕ → Bool) (start : List Disk) where
 
   -- a packet is delivered
   judged_at : (serial : ℕ) (judged : Judged) (past : List Moment) → RunAt wild start (said (judged_note serial judged)) past
-  judged_at serial judgements.Got past = (tt, (tt, (tt, tt)))
-  judged_at serial (judgements.Ignored cause) past = (tt, (tt, (tt, tt)))
+  judged_at serial judgements.Got past = (tt, (tt, (tt, (tt, tt))))
+  judged_at serial (judgements.Ignored cause) past = (tt, (tt, (tt, (tt, tt))))
 
   delivers_law : (past : List Moment) (None_ran : ℕ → Judged → Type 0) (Ran : ℕ → Note → Type 0) (old new : List Note) → ((serial : ℕ) (ran : Note) → Ran serial ran → (let now = said (notes.Got serial) ∷ (map said old ++ past) in PassLaw wild (said ran ∷ now) → RunAt wild start (said ran) now)) → Delivers None_ran Ran old new → PassLaw wild (map said new ++ past) → Law wild start (map said old ++ past) → Law wild start (map said new ++ past)
   delivers_law past None_ran Ran old new f (none_judged e) passes l = subst (λ ns. Law wild start (map said ns ++ past)) (sym e) l
@@ -121,72 +139,77 @@ module _ (wild : ℕ → Bool) (start : List Disk) where
   delivers_law past None_ran Ran old new f (one_run serial ran r q) passes l =
       let front = ran ∷ notes.Got serial ∷ old in
       let before : PassLaw wild (map said front ++ past) = passed q.more (map said front ++ past) (subst (PassLaw wild) (split q.more front past) (subst (λ ns. PassLaw wild (map said ns ++ past)) (sym q.is) passes)) in
-      plainly_law past front new q (f serial ran r before, ((tt, (tt, (tt, tt))), l))
+      plainly_law past front new q (f serial ran r before, ((tt, (tt, (tt, (tt, tt)))), l))
 
   one_law : (past : List Moment) (None_ran : ℕ → Judged → Type 0) (Ran : ℕ → Note → Type 0) (old new : List Note) → ((serial : ℕ) (ran : Note) → Ran serial ran → (let now = said (notes.Got serial) ∷ (map said old ++ past) in PassLaw wild (said ran ∷ now) → RunAt wild start (said ran) now)) → Plainly old new ⊎ Delivers None_ran Ran old new → PassLaw wild (map said new ++ past) → Law wild start (map said old ++ past) → Law wild start (map said new ++ past)
   one_law past None_ran Ran old new f (inl q) passes l = plainly_law past old new q l
   one_law past None_ran Ran old new f (inr d) passes l = delivers_law past None_ran Ran old new f d passes l
 
-  run_told : (past : List Moment) (s : Scene) → IsSet wild start past s → (run : Option Told) (serial : ℕ) (ran : Note) → IsRunBy s run serial ran → (let now = said (notes.Got serial) ∷ hist past s.world in PassLaw wild (said ran ∷ now) → RunAt wild start (said ran) now)
-  run_told past s set run serial ran r passes = let x = run_so wild start past s set run ran serial r passes.0 in (x.0, (x.1, (read_so wild start past s set run ran serial r passes.0, fed_so wild start past s set run ran serial r passes.0)))
+  run_told : (past : List Moment) (s : Scene) → IsSet wild start past s → (Tamely wild → HasNames start past s.world) → (run : Option Told) (serial : ℕ) (ran : Note) → IsRunBy s run serial ran → (let now = said (notes.Got serial) ∷ hist past s.world in PassLaw wild (said ran ∷ now) → RunAt wild start (said ran) now)
+  run_told past s set names run serial ran r passes =
+      let x = run_so wild start past s set run ran serial r passes.0 in
+      (x.0, (x.1, (read_so wild start past s set run ran serial r passes.0, (fed_so wild start past s set run ran serial r passes.0, named_so (Tamely wild) wild start past s set names run ran serial r passes.0))))
 
-  one_told : (past : List Moment) (s : Scene) (set : IsSet wild start past s) (line packet : ℕ) (again : Bool) (run : List (Option Told)) (serial : ℕ) (ran : Note) → OneRan s set.ready.good line packet again run serial ran → (let now = said (notes.Got serial) ∷ hist past s.world in PassLaw wild (said ran ∷ now) → RunAt wild start (said ran) now)
-  one_told past s set line packet again [] serial ran r passes = absurd r
-  one_told past s set line packet again (one ∷ more) serial ran r passes = run_told past s set one serial ran r passes
+  one_told : (past : List Moment) (s : Scene) (set : IsSet wild start past s) → (Tamely wild → HasNames start past s.world) → (line packet : ℕ) (again : Bool) (run : List (Option Told)) (serial : ℕ) (ran : Note) → OneRan s set.ready.good line packet again run serial ran → (let now = said (notes.Got serial) ∷ hist past s.world in PassLaw wild (said ran ∷ now) → RunAt wild start (said ran) now)
+  one_told past s set names line packet again [] serial ran r passes = absurd r
+  one_told past s set names line packet again (one ∷ more) serial ran r passes = run_told past s set names one serial ran r passes
 
-  lowest_law : (past : List Moment) (s : Scene) → IsSet wild start past s → (one : Option Told) (o : Option ℕ) → MayAt o one s → PassLaw wild (hist past (delivered_at o one s).world) → Law wild start (hist past s.world) → Law wild start (hist past (delivered_at o one s).world)
-  lowest_law past s set one None m passes l = absurd m
-  lowest_law past s set one (Some serial) m passes l =
-      delivers_law past (IsRunlessBy s one) (IsRunBy s one) s.world.fresh (delivered_at (Some serial) one s).world.fresh (run_told past s set one) (delivery_comes s set.ready.good serial false one m) passes l
+  lowest_law : (past : List Moment) (s : Scene) → IsSet wild start past s → (Tamely wild → HasNames start past s.world) → (one : Option Told) (o : Option ℕ) → MayAt o one s → PassLaw wild (hist past (delivered_at o one s).world) → Law wild start (hist past s.world) → Law wild start (hist past (delivered_at o one s).world)
+  lowest_law past s set names one None m passes l = absurd m
+  lowest_law past s set names one (Some serial) m passes l =
+      delivers_law past (IsRunlessBy s one) (IsRunBy s one) s.world.fresh (delivered_at (Some serial) one s).world.fresh (run_told past s set names one) (delivery_comes s set.ready.good serial false one m) passes l
 
-  next_law : (past : List Moment) (s : Scene) → IsSet wild start past s → (one : Option Told) → MayNext one s → PassLaw wild (hist past (delivered_next one s).world) → Law wild start (hist past s.world) → Law wild start (hist past (delivered_next one s).world)
+  next_law : (past : List Moment) (s : Scene) → IsSet wild start past s → (Tamely wild → HasNames start past s.world) → (one : Option Told) → MayNext one s → PassLaw wild (hist past (delivered_next one s).world) → Law wild start (hist past s.world) → Law wild start (hist past (delivered_next one s).world)
   unfolding delivered_next MayNext
-  next_law past s set one m passes l = lowest_law past s set one (lowest s.world) m passes l
+  next_law past s set names one m passes l = lowest_law past s set names one (lowest s.world) m passes l
 
-  end_law : (past : List Moment) (done : Bool) → RunAt wild start (said (end_note done)) past × EndAt wild start (said (end_note done)) past
-  end_law past true = ((tt, (tt, (tt, tt))), tt)
-  end_law past false = ((tt, (tt, (tt, tt))), tt)
+  end_law : (past : List Moment) (done : Bool) → RunAt wild start (said (end_note done)) past × EndSo wild start (said (end_note done)) past
+  end_law past true = ((tt, (tt, (tt, (tt, tt)))), (tt, tt))
+  end_law past false = ((tt, (tt, (tt, (tt, tt)))), (tt, tt))
 
   -- ---- the ORBs that end were read
   abbrev E : List Moment → Type 0
-  E past = EndsAreRead wild start past
+  E past = EachMoment (EndSo wild start) past
+
+  plain_end : (note : Note) → endless.IsPlain note → (past : List Moment) → EndSo wild start (said note) past
+  plain_end note h past = (end_plain wild start note h past, plain_named (Tamely wild) wild start note h past)
 
   mild_law : (more : List Note) → endless.AllPlain more → (past : List Moment) → E past → E (map said more ++ past)
   mild_law [] h past l = l
-  mild_law (note ∷ more) h past l = (end_plain wild start note h.0 (map said more ++ past), mild_law more h.1 past l)
+  mild_law (note ∷ more) h past l = (plain_end note h.0 (map said more ++ past), mild_law more h.1 past l)
 
   mildly_law : (past : List Moment) (old new : List Note) → endless.Plainly old new → E (map said old ++ past) → E (map said new ++ past)
   mildly_law past old new q l = subst (λ ns. E (map said ns ++ past)) q.is (subst E (sym (split q.more old past)) (mild_law q.more q.plain (map said old ++ past) l))
 
   early_law : (early : List Note) → endless.AllLight early → (past : List Moment) → E past → E (map said early ++ past)
   early_law [] h past l = l
-  early_law (note ∷ early) h past l = (end_plain wild start note (endless.light_plain note h.0) (map said early ++ past), early_law early h.1 past l)
+  early_law (note ∷ early) h past l = (plain_end note (endless.light_plain note h.0) (map said early ++ past), early_law early h.1 past l)
 
-  ends_law : (past : List Moment) (End : ℕ → List Note → Note → Type 0) (old new : List Note) → ((serial : ℕ) (early : List Note) (ended : Note) → End serial early ended → (let now = map said early ++ said (notes.Got serial) ∷ (map said old ++ past) in EndAt wild start (said ended) now × endless.AllLight early)) → endless.Delivers End old new → E (map said old ++ past) → E (map said new ++ past)
+  ends_law : (past : List Moment) (End : ℕ → List Note → Note → Type 0) (old new : List Note) → ((serial : ℕ) (early : List Note) (ended : Note) → End serial early ended → (let now = map said early ++ said (notes.Got serial) ∷ (map said old ++ past) in EndSo wild start (said ended) now × endless.AllLight early)) → endless.Delivers End old new → E (map said old ++ past) → E (map said new ++ past)
   ends_law past End old new f (no_end q) l = mildly_law past old new q l
   ends_law past End old new f (one_end serial early ended x q) l =
       let got = said (notes.Got serial) ∷ (map said old ++ past) in
       let is = f serial early ended x in
       mildly_law past (ended ∷ (early ++ notes.Got serial ∷ old)) new q (
-        subst (λ ms. EndAt wild start (said ended) ms) (sym (split early (notes.Got serial ∷ old) past)) is.0,
-        subst E (sym (split early (notes.Got serial ∷ old) past)) (early_law early is.1 got (tt, l)),
+        subst (λ ms. EndSo wild start (said ended) ms) (sym (split early (notes.Got serial ∷ old) past)) is.0,
+        subst E (sym (split early (notes.Got serial ∷ old) past)) (early_law early is.1 got ((tt, tt), l)),
       )
 
-  end_told : (past : List Moment) (s : Scene) → IsSet wild start past s → (run : Option Told) (serial : ℕ) (early : List Note) (ended : Note) → IsEndBy s run serial early ended → (let now = map said early ++ said (notes.Got serial) ∷ hist past s.world in EndAt wild start (said ended) now × endless.AllLight early)
-  end_told past s set run serial early ended r = (ended_so wild start past s set run serial early ended r, r.light)
+  end_told : (past : List Moment) (s : Scene) → IsSet wild start past s → (Tamely wild → HasNames start past s.world) → (run : Option Told) (serial : ℕ) (early : List Note) (ended : Note) → IsEndBy s run serial early ended → (let now = map said early ++ said (notes.Got serial) ∷ hist past s.world in EndSo wild start (said ended) now × endless.AllLight early)
+  end_told past s set names run serial early ended r = ((ended_so wild start past s set run serial early ended r, ended_named (Tamely wild) wild start past s set names run serial early ended r), r.light)
 
-  one_ended : (past : List Moment) (s : Scene) (set : IsSet wild start past s) (line packet : ℕ) (again : Bool) (run : List (Option Told)) (serial : ℕ) (early : List Note) (ended : Note) → OneEnd s set.ready.good line packet again run serial early ended → (let now = map said early ++ said (notes.Got serial) ∷ hist past s.world in EndAt wild start (said ended) now × endless.AllLight early)
-  one_ended past s set line packet again [] serial early ended r = absurd r
-  one_ended past s set line packet again (one ∷ more) serial early ended r = end_told past s set one serial early ended r
+  one_ended : (past : List Moment) (s : Scene) (set : IsSet wild start past s) → (Tamely wild → HasNames start past s.world) → (line packet : ℕ) (again : Bool) (run : List (Option Told)) (serial : ℕ) (early : List Note) (ended : Note) → OneEnd s set.ready.good line packet again run serial early ended → (let now = map said early ++ said (notes.Got serial) ∷ hist past s.world in EndSo wild start (said ended) now × endless.AllLight early)
+  one_ended past s set names line packet again [] serial early ended r = absurd r
+  one_ended past s set names line packet again (one ∷ more) serial early ended r = end_told past s set names one serial early ended r
 
-  lowest_ends : (past : List Moment) (s : Scene) → IsSet wild start past s → (one : Option Told) (o : Option ℕ) → MayAt o one s → E (hist past s.world) → E (hist past (delivered_at o one s).world)
-  lowest_ends past s set one None m l = absurd m
-  lowest_ends past s set one (Some serial) m l =
-      ends_law past (IsEndBy s one) s.world.fresh (delivered_at (Some serial) one s).world.fresh (end_told past s set one) (endless.delivery_comes s set.ready.good serial false one m) l
+  lowest_ends : (past : List Moment) (s : Scene) → IsSet wild start past s → (Tamely wild → HasNames start past s.world) → (one : Option Told) (o : Option ℕ) → MayAt o one s → E (hist past s.world) → E (hist past (delivered_at o one s).world)
+  lowest_ends past s set names one None m l = absurd m
+  lowest_ends past s set names one (Some serial) m l =
+      ends_law past (IsEndBy s one) s.world.fresh (delivered_at (Some serial) one s).world.fresh (end_told past s set names one) (endless.delivery_comes s set.ready.good serial false one m) l
 
-  next_ends : (past : List Moment) (s : Scene) → IsSet wild start past s → (one : Option Told) → MayNext one s → E (hist past s.world) → E (hist past (delivered_next one s).world)
+  next_ends : (past : List Moment) (s : Scene) → IsSet wild start past s → (Tamely wild → HasNames start past s.world) → (one : Option Told) → MayNext one s → E (hist past s.world) → E (hist past (delivered_next one s).world)
   unfolding delivered_next MayNext
-  next_ends past s set one m l = lowest_ends past s set one (lowest s.world) m l
+  next_ends past s set names one m l = lowest_ends past s set names one (lowest s.world) m l
 
   -- ---- what is known as a turn begins
   module _ (units logins : ℕ) (has : 0 < units) {past : List Moment} {lines : ℕ} (w : WorldState) (h : Holding units logins start past lines w) where
@@ -227,7 +250,7 @@ module _ (wild : ℕ → Bool) (line : ℕ) (run : Run) (few : run.initiators �
   AllCalm ms = (i : ℕ) → wild i ≡ false → IsCalm ms i
 
   abbrev L : List Moment → Type 0
-  L ms = Law wild start ms × (EndsAreRead wild start ms × AreDue start ms)
+  L ms = Law wild start ms × (EachMoment (EndSo wild start) ms × AreDue start ms)
 
   -- behind some of its lines
   module _ (entries : List Entry) (short : length entries + 2 < 2 ^ 32) (all : AreEntries (beginning run) entries) (fit : AreLines run entries) (so_far : Given (OpenBefore line run entries)) (x : EarlyAfter wild (opened wild) line run few has small size entries (after (beginning run) entries).world) (ends : Given (OpenAfter line run entries)) (calm : AllCalm (moments_behind line run entries)) where
@@ -289,6 +312,16 @@ module _ (wild : ℕ → Bool) (line : ℕ) (run : Run) (few : run.initiators �
 
     line_heard_here : (next : ℕ) (event : Event) (r : Bool) → ((t : Terms) → opened_by event t ≡ record t { repeats = r }) → AreAskedAt start (asked next event ∷ hist b.past here.world) → Given (HasHeard start (asked next event ∷ hist b.past here.world) (without_notes here.world))
     line_heard_here next event r as_opened waits i own = line_heard run.units logins has start here.world b.holds site_here next event r as_opened waits (asked_so_far i own)
+
+    -- and by which names
+    names_here : Tamely wild → HasNames start b.past here.world
+    names_here tamely =
+        let place = as_front line run entries entries (so_far 0 (tamely.1 0)) in
+        let tame : IsTame (hist b.past here.world) = λ i. past_calm i (tamely.1 i) in
+        let tame_front = subst IsTame (sym same_history) tame in
+        has_names run.units logins has start here.world b.holds (site wild (opened wild) line run few has small size entries short all fit b.past (length entries) b.holds b.is)
+        (subst (AreLed start) same_history ((led_everywhere tamely.0).after_lines line front front_run has small size place tame_front))
+        (subst (λ ms. AreStill start ms here.world) same_history ((still_everywhere tamely.0).after_lines line front front_run has small size place tame_front))
 
     -- as a line begins
     module _ (next : ℕ) (event : Event) (e : is_reset event ≡ false) where
@@ -384,6 +417,26 @@ module _ (wild : ℕ → Bool) (line : ℕ) (run : Run) (few : run.initiators �
         heard_there i own =
             has_heard run.units logins has start (at told) holds_there (site_at wild (opened wild) line run few has small size entries short all fit b.past (length entries) b.holds b.is next event d told m) (asked_there i own)
 
+        names_by : Tamely wild → (o : Option ℕ) → OpenWhile (asked next (more_deliveries o) ∷ moments_behind line run entries) told (begun here) → IsTame (map said (at told).fresh ++ asked next (more_deliveries o) ∷ hist b.past here.world) → (let ms = map said (at told).fresh ++ asked next (more_deliveries o) ∷ hist b.past here.world in AreLed start ms × AreStill start ms (at told))
+        names_by tamely o goes tame =
+            let same = sym (moments_same line run entries entries) in
+            let back = sym same_history in
+            let place : OpenBetween line front next (more_deliveries o) told = record {
+              before = as_front line run entries entries (so_far 0 (tamely.1 0));
+              begins = subst (λ ms. OpenLists ms here.world) same (ends 0 (tamely.1 0));
+              goes = subst (λ ms. OpenWhile (asked next (more_deliveries o) ∷ ms) told (begun here)) same goes;
+            } in
+            let tame_front = subst (λ ms. IsTame (map said (at told).fresh ++ asked next (more_deliveries o) ∷ ms)) back tame in (
+              subst (λ ms. AreLed start (map said (at told).fresh ++ asked next (more_deliveries o) ∷ ms)) same_history ((led_everywhere tamely.0).between line front front_run has small size next o told m place tame_front),
+              subst (λ ms. AreStill start (map said (at told).fresh ++ asked next (more_deliveries o) ∷ ms) (at told)) same_history ((still_everywhere tamely.0).between line front front_run has small size next o told m place tame_front),
+            )
+
+        names_there : Tamely wild → HasNames start now (at told)
+        names_there tamely =
+            let x = more_by (λ y. OpenWhile (asked next y ∷ moments_behind line run entries) told (begun here) → IsTame (map said (at told).fresh ++ asked next y ∷ hist b.past here.world) → (let ms = map said (at told).fresh ++ asked next y ∷ hist b.past here.world in AreLed start ms × AreStill start ms (at told)))
+            (λ o. names_by tamely o) event d (before 0 (tamely.1 0)) (λ i. c i (tamely.1 i)) in
+            has_names run.units logins has start (at told) holds_there (site_at wild (opened wild) line run few has small size entries short all fit b.past (length entries) b.holds b.is next event d told m) x.0 x.1
+
         set_there : IsSet wild start now (after_all told (begun here))
         set_there = record {
           ready = ready_there;
@@ -398,21 +451,22 @@ module _ (wild : ℕ → Bool) (line : ℕ) (run : Run) (few : run.initiators �
         }
 
       law_at : (told : List (Option Told)) → MayAll told (begun here) → Before told → AllCalm (hist now (at told)) → L (hist b.past here.world) → L (hist now (at told))
-      law_at [] m before c l = (((tt, (tt, (tt, tt))), l.0), ((tt, l.1.0), line_due start next event (hist b.past here.world) [] (plain_none []) l.1.1))
+      law_at [] m before c l = (((tt, (tt, (tt, (tt, tt)))), l.0), (((tt, tt), l.1.0), line_due start next event (hist b.past here.world) [] (plain_none []) l.1.1))
       law_at (one ∷ told) m before c l =
           let back = calm_at wild (opened wild) line run few has small size entries short all fit b.past (length entries) b.holds b.is next event d one told c in
           let rest : Before told = λ i own. (before i own).1 in
           let lists = lists_at wild (opened wild) line run few has small size entries short all fit b.past (length entries) b.holds b.is next event d told (λ i own. (before i own).0) in
           let kept = (kept_told wild (opened wild) line run few has small size entries short all fit b.past (length entries) b.holds b.is next event d so_far open_here past_calm b.kept x.early (one ∷ told) m before c).kept_there in
           let set = set_there told m.1 rest lists back in
+          let names = names_there told m.1 rest lists back in
           let so_far = law_at told m.1 rest back l in
           let site_now = site_at wild (opened wild) line run few has small size entries short all fit b.past (length entries) b.holds b.is next event d told m.1 in
           let holds_now = holds_at wild (opened wild) line run few has small size entries short all fit b.past (length entries) b.holds b.is next event d told m.1 in
           let holds_next = holds_at wild (opened wild) line run few has small size entries short all fit b.past (length entries) b.holds b.is next event d (one ∷ told) m in
           (
-            next_law wild start now (after_all told (begun here)) set one m.0 kept.passes so_far.0,
+            next_law wild start now (after_all told (begun here)) set names one m.0 kept.passes so_far.0,
             (
-              next_ends wild start now (after_all told (begun here)) set one m.0 so_far.1.0,
+              next_ends wild start now (after_all told (begun here)) set names one m.0 so_far.1.0,
               next_due start run.units logins has (after_all told (begun here)) holds_now (record { agents = site_now.agents; held = site_now.held; rows = site_now.rows }) set.units one m.0 (laws_of now (at (one ∷ told)) holds_next.sound.stands).judged so_far.1.1,
             ),
           )
@@ -424,7 +478,7 @@ module _ (wild : ℕ → Bool) (line : ℕ) (run : Run) (few : run.initiators �
 
     plain_line : (next : ℕ) (event : Event) (new : List Note) → Plainly [] new → endless.Plainly [] new → L (hist b.past here.world) → L (map said new ++ asked next event ∷ hist b.past here.world)
     plain_line next event new q e l =
-        let past = asked next event ∷ hist b.past here.world in (plainly_law wild start past [] new q ((tt, (tt, (tt, tt))), l.0), (mildly_law wild start past [] new e (tt, l.1.0), line_due start next event (hist b.past here.world) new q l.1.1))
+        let past = asked next event ∷ hist b.past here.world in (plainly_law wild start past [] new q ((tt, (tt, (tt, (tt, tt)))), l.0), (mildly_law wild start past [] new e ((tt, tt), l.1.0), line_due start next event (hist b.past here.world) new q l.1.1))
 
     desks : length (without_notes here.world).target.desks ≡ 8
     desks = ready_here.good.mid.size
@@ -448,11 +502,12 @@ module _ (wild : ℕ → Bool) (line : ℕ) (run : Run) (few : run.initiators �
         let e = events.Deliver serial in
         let past = asked next e ∷ hist b.past here.world in
         let set = set_open next e refl (λ i own. line_reads start next e false (λ t. refl) b.past here.world (reads_here i own)) (λ i own. line_heard_here next e false (λ t. refl) (delivering_asks start (hist b.past here.world) site_here.asked next serial) i own) in
+        let names : Tamely wild → HasNames start past (without_notes here.world) = λ tamely. line_names start next e false (λ t. refl) b.past here.world (names_here tamely) in
         let comes = one_comes (begun here) set.ready.good next serial false (is_in_flight serial (begun here).world) told m in (
-          one_law wild start past (NoneRun (begun here) set.ready.good next serial false told) (OneRan (begun here) set.ready.good next serial false told) [] _ (one_told wild start past (begun here) set next serial false told) comes p ((tt, (tt, (tt, tt))), l.0),
+          one_law wild start past (NoneRun (begun here) set.ready.good next serial false told) (OneRan (begun here) set.ready.good next serial false told) [] _ (one_told wild start past (begun here) set names next serial false told) comes p ((tt, (tt, (tt, (tt, tt)))), l.0),
           (
-            ends_law wild start past (OneEnd (begun here) set.ready.good next serial false told) [] _ (one_ended wild start past (begun here) set next serial false told)
-                (endless.one_comes (begun here) set.ready.good next serial false (is_in_flight serial (begun here).world) told m) (tt, l.1.0),
+            ends_law wild start past (OneEnd (begun here) set.ready.good next serial false told) [] _ (one_ended wild start past (begun here) set names next serial false told)
+                (endless.one_comes (begun here) set.ready.good next serial false (is_in_flight serial (begun here).world) told m) ((tt, tt), l.1.0),
             one_due start run.units logins has next e (begun here) (begins next e refl) refl (at_begin next e refl) set.units set.ready.good serial false told _ comes j l.1.1,
           ),
         )
@@ -460,11 +515,12 @@ module _ (wild : ℕ → Bool) (line : ℕ) (run : Run) (few : run.initiators �
         let e = events.Repeat serial in
         let past = asked next e ∷ hist b.past here.world in
         let set = set_open next e refl (λ i own. line_reads start next e true (λ t. refl) b.past here.world (reads_here i own)) (λ i own. line_heard_here next e true (λ t. refl) (repeating_asks start (hist b.past here.world) site_here.asked next serial) i own) in
+        let names : Tamely wild → HasNames start past (without_notes here.world) = λ tamely. line_names start next e true (λ t. refl) b.past here.world (names_here tamely) in
         let comes = one_comes (begun here) set.ready.good next serial true (may_repeat serial (begun here).world) told m in (
-          one_law wild start past (NoneRun (begun here) set.ready.good next serial true told) (OneRan (begun here) set.ready.good next serial true told) [] _ (one_told wild start past (begun here) set next serial true told) comes p ((tt, (tt, (tt, tt))), l.0),
+          one_law wild start past (NoneRun (begun here) set.ready.good next serial true told) (OneRan (begun here) set.ready.good next serial true told) [] _ (one_told wild start past (begun here) set names next serial true told) comes p ((tt, (tt, (tt, (tt, tt)))), l.0),
           (
-            ends_law wild start past (OneEnd (begun here) set.ready.good next serial true told) [] _ (one_ended wild start past (begun here) set next serial true told)
-                (endless.one_comes (begun here) set.ready.good next serial true (may_repeat serial (begun here).world) told m) (tt, l.1.0),
+            ends_law wild start past (OneEnd (begun here) set.ready.good next serial true told) [] _ (one_ended wild start past (begun here) set names next serial true told)
+                (endless.one_comes (begun here) set.ready.good next serial true (may_repeat serial (begun here).world) told m) ((tt, tt), l.1.0),
             one_due start run.units logins has next e (begun here) (begins next e refl) refl (at_begin next e refl) set.units set.ready.good serial true told _ comes j l.1.1,
           ),
         )
@@ -475,7 +531,7 @@ module _ (wild : ℕ → Bool) (line : ℕ) (run : Run) (few : run.initiators �
     law_line next (events.Key unit key) told q m before c p j l = plain_line next (events.Key unit key) _ (keys (without_notes here.world) next unit key) (endless.keys (without_notes here.world) desks next unit key) l
 
   law_after : (entries : List Entry) → length entries + 2 < 2 ^ 32 → AreEntries (beginning run) entries → AreLines run entries → Given (OpenBefore line run entries) → AllCalm (moments_behind line run entries) → L (moments_behind line run entries)
-  law_after [] short all fit lists calm = (((tt, (tt, (tt, tt))), ((tt, (tt, (tt, tt))), tt)), ((tt, (tt, tt)), line_due start line (events.Begin run.initiators run.ready) [] (notes.Begin run.initiators run.ready ∷ []) (record { more = notes.Begin run.initiators run.ready ∷ []; is = refl; plain = (tt, tt) }) tt))
+  law_after [] short all fit lists calm = (((tt, (tt, (tt, (tt, tt)))), ((tt, (tt, (tt, (tt, tt)))), tt)), (((tt, tt), ((tt, tt), tt)), line_due start line (events.Begin run.initiators run.ready) [] (notes.Begin run.initiators run.ready ∷ []) (record { more = notes.Begin run.initiators run.ready ∷ []; is = refl; plain = (tt, tt) }) tt))
   law_after (e ∷ before) short all fit lists calm =
       let s = after (beginning run) before in
       let few_lines : length before + 2 < 2 ^ 32 = omega arith in
@@ -500,7 +556,7 @@ module _ (line : ℕ) (run : Run) (r : IsRun run) (has : 0 < run.units) (small :
   last = after (beginning run) run.entries
 
   abbrev Both : List Moment → Type 0
-  Both ms = Law wild run.start.disks ms × (EndsAreRead wild run.start.disks ms × AreDue run.start.disks ms)
+  Both ms = Law wild run.start.disks ms × (EachMoment (EndSo wild run.start.disks) ms × AreDue run.start.disks ms)
 
   lines_law : Known (OpenBefore line run run.entries) → ((i : ℕ) → wild i ≡ false → IsCalm (history_of line run) i) → Both (history_of line run)
   lines_law so_far calm = law_after wild line run r.few has small size run.entries r.short r.entries r.lines so_far calm
@@ -537,7 +593,19 @@ module _ (wild : ℕ → Bool) (start : List Disk) where
 
   fed_part : (past : List Moment) → Law wild start past → RunsAreFed wild start past
   fed_part [] l = tt
-  fed_part (m ∷ past) l = (l.0.1.1.1, fed_part past l.1)
+  fed_part (m ∷ past) l = (l.0.1.1.1.0, fed_part past l.1)
+
+  pub run_names_part : (past : List Moment) → Law wild start past → EachMoment (RunNamedAt (Tamely wild) wild start) past
+  run_names_part [] l = tt
+  run_names_part (m ∷ past) l = (l.0.1.1.1.1, run_names_part past l.1)
+
+  ends_part : (past : List Moment) → EachMoment (EndSo wild start) past → EndsAreRead wild start past
+  ends_part [] l = tt
+  ends_part (m ∷ past) l = (l.0.0, ends_part past l.1)
+
+  pub names_part : (past : List Moment) → EachMoment (EndSo wild start) past → EachMoment (EndNamedAt (Tamely wild) wild start) past
+  names_part [] l = tt
+  names_part (m ∷ past) l = (l.0.1, names_part past l.1)
 
   -- with the laws of lists
   execution_at : (m : Moment) (past : List Moment) → ListsAt wild m past → RunsAt wild m past → RunAt wild start m past → ExecutionAt wild start m past
@@ -599,10 +667,11 @@ runs_read_law = record {
 -- and the ORBs that end
 pub ends_read_law : EndsReadLaw
 ends_read_law = record {
-  after_lines = λ line run r has small size so_far. (lines_law line run r has small size (injectors (history_of line run)) (λ i own. so_far) (λ i own. own)).1.0;
+  after_lines = λ line run r has small size so_far.
+      let wild = injectors (history_of line run) in ends_part wild run.start.disks (history_of line run) (lines_law line run r has small size wild (λ i own. so_far) (λ i own. own)).1.0;
   between = λ line run r has small size next event d told m so_far.
       let now = map said (after_all told (begun (after (beginning run) run.entries))).world.fresh ++ asked next event ∷ history_of line run in
-      (between_law line run r has small size (injectors now) next event d told m (λ i own. so_far) (λ i own. own)).1.0;
+      ends_part (injectors now) run.start.disks now (between_law line run r has small size (injectors now) next event d told m (λ i own. so_far) (λ i own. own)).1.0;
 }
 
 -- and each turn tells the runs that are due, whoever injected packets
@@ -625,4 +694,29 @@ runs_fed_law = record {
   between = λ line run r has small size next event d told m so_far.
       let now = map said (after_all told (begun (after (beginning run) run.entries))).world.fresh ++ asked next event ∷ history_of line run in
       fed_part (injectors now) run.start.disks now (between_law line run r has small size (injectors now) next event d told m (λ i own. so_far) (λ i own. own)).0;
+}
+
+-- by their names, where no initiator injected packets
+abbrev pub NamedEnds : List Disk → List Moment → WorldState → Type 0
+NamedEnds start past w = EachMoment (EndNamedAt (Tamely (injectors past)) (injectors past) start) past
+
+pub ends_named : EveryPlace NamedEnds
+ends_named = record {
+  after_lines = λ line run r has small size so_far.
+      let wild = injectors (history_of line run) in names_part wild run.start.disks (history_of line run) (lines_law line run r has small size wild (λ i own. so_far) (λ i own. own)).1.0;
+  between = λ line run r has small size next most told m so_far.
+      let now = map said (after_all told (begun (after (beginning run) run.entries))).world.fresh ++ asked next (more_deliveries most) ∷ history_of line run in
+      names_part (injectors now) run.start.disks now (between_law line run r has small size (injectors now) next (more_deliveries most) (more_than_one most) told m (λ i own. so_far) (λ i own. own)).1.0;
+}
+
+abbrev pub NamedRuns : List Disk → List Moment → WorldState → Type 0
+NamedRuns start past w = EachMoment (RunNamedAt (Tamely (injectors past)) (injectors past) start) past
+
+pub runs_named : EveryPlace NamedRuns
+runs_named = record {
+  after_lines = λ line run r has small size so_far.
+      let wild = injectors (history_of line run) in run_names_part wild run.start.disks (history_of line run) (lines_law line run r has small size wild (λ i own. so_far) (λ i own. own)).0;
+  between = λ line run r has small size next most told m so_far.
+      let now = map said (after_all told (begun (after (beginning run) run.entries))).world.fresh ++ asked next (more_deliveries most) ∷ history_of line run in
+      run_names_part (injectors now) run.start.disks now (between_law line run r has small size (injectors now) next (more_deliveries most) (more_than_one most) told m (λ i own. so_far) (λ i own. own)).0;
 }

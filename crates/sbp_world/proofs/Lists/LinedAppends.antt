@@ -1,5 +1,5 @@
 -- Each append of an initiator is told with the command block and the buffer of the command of its line, in every run.
-use Rattle.std.proofs.Common.{arith, ◌≡◌, refl, sym, ap, subst, ◌∙◌, ◌<◌, ℕ, zero, suc, nat_eq, ◌==◌, not, Bool, true, false, List, [], ◌∷◌, Option, Some, None}
+use Rattle.std.proofs.Common.{arith, ◌≡◌, refl, sym, ap, subst, ◌∙◌, ◌<◌, ℕ, zero, suc, nat_eq, ◌==◌, not, Bool, true, false, List, [], ◌∷◌, ◌++◌, map, Option, Some, None}
 use Rattle.std.proofs.lemmas.Bool.Decides.{nat_tests}
 use Rattle.sbp_bus.specs.Packets.{judged_note}
 use Rattle.sbp_initiator.specs.declared.state.InitiatorState.{InitiatorState}
@@ -25,12 +25,15 @@ use Rattle.sbp_laws.specs.Actions.{action_notes, append_notes, new_list, new_num
 use Rattle.sbp_laws.specs.Lists.{cmd_of}
 use Rattle.sbp_laws.specs.Turns.{EachMoment, event_of}
 use Rattle.sbp_world.specs.Histories.{history_of}
-use Rattle.sbp_world.specs.Runs.{Run}
+use Rattle.sbp_world.specs.Runs.{Run, after, beginning}
+use Rattle.sbp_world.specs.Settling.{MayAll, after_all}
+use Rattle.sbp_world.specs.Worlds.{begun}
+use Rattle.rbc_disk.specs.Runs.{Told}
 use Rattle.sbp_initiator.specs.Histories.Ends.{own}
 use Rattle.sbp_world.specs.Hosts.Calls.{behind, by_side}
 use Rattle.sbp_world.specs.Hosts.Fits.{AreRows}
-use Rattle.sbp_world.specs.Hosts.Runs.{IsRun}
-use Rattle.sbp_world.proofs.Hosts.Carried.{of_runs}
+use Rattle.sbp_world.specs.Hosts.Runs.{IsRun, more_deliveries}
+use Rattle.sbp_world.proofs.Hosts.Carried.{between_runs, of_runs}
 use Rattle.sbp_world.proofs.Hosts.Carries.{Carries, Does, Tells, is_apart}
 use Rattle.sbp_world.proofs.Hosts.OrbRuns.{Orbs, Rowed, first_orbs, orbs_carried, rows_known}
 use Rattle.sbp_world.proofs.Hosts.OrbTells as tell
@@ -161,3 +164,7 @@ first_lined line i initiators ready = record { orbs = first_orbs line i initiato
 
 pub lined_appends : (line : ℕ) (run : Run) → IsRun run → (i : ℕ) → i < run.initiators → AllLined (history_of line run) i
 lined_appends line run r i b = (of_runs (Lined run.ready) (lined_carried run.ready) line run (rows_known line run) (λ j c. first_lined line j run.initiators run.ready) r i b).all
+
+pub lined_between : (line : ℕ) (run : Run) → IsRun run → (next : ℕ) (most : Option ℕ) (told : List (Option Told)) → MayAll told (begun (after (beginning run) run.entries)) → (i : ℕ) → i < run.initiators → AllLined (map said (after_all told (begun (after (beginning run) run.entries))).world.fresh ++ asked next (more_deliveries most) ∷ history_of line run) i
+lined_between line run r next most told m i b =
+    (between_runs (Lined run.ready) (lined_carried run.ready) line run (rows_known line run) (λ j c. first_lined line j run.initiators run.ready) r next most told m i b).all

@@ -19,7 +19,7 @@ use Rattle.sbp_world.proofs.Lists.StatusPlaces as places
 last : LastLaw
 last = last_law (listed_law laws.pointers laws.moments laws.caught laws.caught_between) laws.pointers laws.moments laws.joined
 
-closing : ClosingLaw
+pub closing : ClosingLaw
 closing = closing_law last laws.pointers laws.begun
 
 module _ (here : Under (WhereTameOrFew AreHere)) (placed : Under (WhereTameOrFew AllPlacedFor)) where

@@ -37,6 +37,7 @@ use Rattle.sbp_world.proofs.Lists.Extends.{Extends, delivered_extends, extends_n
 use Rattle.sbp_world.proofs.Lists.LiveBegins.{first_grown, first_lives}
 use Rattle.sbp_world.proofs.Lists.LiveKept.{turn_kept}
 use Rattle.sbp_world.proofs.Lists.LiveLines.{end_turn, line_turn, next_turn}
+use Rattle.sbp_world.specs.Lists.OwnLogins.{IsTame}
 use Rattle.sbp_world.specs.Lists.FewLogins.{IsCalmBeside}
 use Rattle.sbp_world.proofs.Lists.LiveSteps.{Alive, Grown, Helps, Knows, Lives, id_in, own_of, zero_of}
 use Rattle.sbp_world.proofs.Lists.LiveTold.{none_told}
@@ -149,6 +150,9 @@ goes_calm past s later t (by_line past0 s0 line event told one fit may) i c =
 goes_calm past s later t (by_start past0 s0 line most) i c = asked_calm line (more_deliveries most) (hist past s.world) i c
 goes_calm past s later t (by_delivery past0 s0 one may no_act) i c = more_calm s.world.fresh (delivered_next one s).world.fresh past (next_extends one s) i c
 goes_calm past s later t (by_end past0 s0 done) i c = calm_before (said (end_note done) ∷ []) (hist past s.world) i c
+
+pub goes_tame : (past : List Moment) (s : Scene) (later : List Moment) (t : Scene) → Goes past s later t → IsTame (hist later t.world) → IsTame (hist past s.world)
+goes_tame past s later t g tame = λ i. goes_calm past s later t g i (tame i)
 
 -- and so none did before it, or few logins were given
 pub goes_beside : (past : List Moment) (s : Scene) (later : List Moment) (t : Scene) → Goes past s later t → (i : ℕ) → IsCalmBeside (hist later t.world) i → IsCalmBeside (hist past s.world) i

@@ -38,7 +38,7 @@ module _ (start : List Disk) (line : ℕ) (event : Event) (r : Bool) (as_opened 
     After = IsBrought start (said (notes.Got serial) ∷ asked line event ∷ past) place address orb
 
     -- by this packet
-    here : (b : IsBrought start (said (notes.Got serial) ∷ past) place address orb) → said (notes.Got b.response) ∷ b.earlier ≡ said (notes.Got serial) ∷ past → After
+    abbrev pub here : (b : IsBrought start (said (notes.Got serial) ∷ past) place address orb) → said (notes.Got b.response) ∷ b.earlier ≡ said (notes.Got serial) ∷ past → After
     here b e =
         let t = terms b.earlier in
         let same : opened event (terms b.earlier) ≡ record (terms b.earlier) { repeats = r } = as_opened (terms b.earlier) in
@@ -63,7 +63,7 @@ module _ (start : List Disk) (line : ℕ) (event : Event) (r : Bool) (as_opened 
         }
 
     -- or by an earlier one
-    there : (b : IsBrought start (said (notes.Got serial) ∷ past) place address orb) (later : List Moment) → later ++ said (notes.Got b.response) ∷ b.earlier ≡ past → After
+    abbrev pub there : (b : IsBrought start (said (notes.Got serial) ∷ past) place address orb) (later : List Moment) → later ++ said (notes.Got b.response) ∷ b.earlier ≡ past → After
     there b later e = record {
       response = b.response;
       request = b.request;

@@ -32,20 +32,20 @@ use Rattle.sbp_world.specs.Lists.OrbReads.{AskedAsGot, IsBrought}
 use Rattle.sbp_world.proofs.Lists.Heard.{closed, request_to, tells, waiting, waits_so}
 use Rattle.sbp_world.proofs.Lists.OrbFolds.{Brings, over_reads}
 use Rattle.sbp_world.proofs.Lists.OrbReading.{brings, reading}
-use Rattle.sbp_world.proofs.Lists.OrbSteps.{ReadAheadOf, Reads, has_read}
+use Rattle.sbp_world.proofs.Lists.OrbSteps.{ReadAheadOf, Reads, has_read, holds_read}
 use Rattle.sbp_world.proofs.Lists.Sites.{Site, Waiting, waiting as agent_waiting}
 
 -- ---- agents that are alike
 module _ (R : ℕ → CommandOrb → Type 0) (u : Bool) (a m : Machine) (alike : Alike u a m) (open_there : has_list m.phase ≡ true) where
-  alike_reads : Reads R a → Reads R m
+  pub alike_reads : Reads R a → Reads R m
   alike_reads h = record {
-    main = λ e. subst (λ n. R n m.orb) (alike.present open_there) (subst (R a.present) (alike.orb open_there) (h.main (ap has_read alike.phase ∙ e)));
+    main = λ e. subst (λ n. R n m.orb) (alike.present open_there) (subst (R a.present) (alike.orb open_there) (h.main (ap holds_read alike.phase ∙ e)));
     ahead = subst (λ x. ReadAheadOf R m.orb.next x) (alike.ahead open_there) (subst (λ (o : CommandOrb). ReadAheadOf R o.next a.ahead) (alike.orb open_there) h.ahead);
     idle = λ e. sym (alike.ahead open_there) ∙ h.idle (ap has_read alike.phase ∙ e);
   }
 
 module _ (R : ℕ → ℕ → CommandOrb → Type 0) (u : Bool) (a m : Machine) (alike : Alike u a m) (open_there : has_list m.phase ≡ true) (place : ℕ) (which : Which) (told heard : Answer) (same : told ≡ heard) where
-  alike_brings : Brings R a (record { place = place; which = which; answer = told }) → Brings R m (record { place = place; which = which; answer = heard })
+  pub alike_brings : Brings R a (record { place = place; which = which; answer = told }) → Brings R m (record { place = place; which = which; answer = heard })
   alike_brings b = record {
     main = λ w p bytes e. subst (λ n. R place n (command_orb bytes)) (alike.present open_there) (b.main w (alike.phase ∙ p) bytes (ap (λ x. payload_of x 32) same ∙ e));
     ahead = λ w f offset n bytes e. b.ahead w (alike.flag ∙ f) offset (ap (λ (o : CommandOrb). o.next) (alike.orb open_there) ∙ n) bytes (ap (λ x. payload_of x 32) same ∙ e);

@@ -69,7 +69,7 @@ brought_more start m past place address orb b = record {
 }
 
 -- ---- a response is got
-under_way : (ahead : ReadAhead) (next : OrbPointer) (offset : ℕ) → is_ahead ahead ≡ true → next ≡ At offset → ahead_ask ahead next ≡ Read (aligned offset) 32
+pub under_way : (ahead : ReadAhead) (next : OrbPointer) (offset : ℕ) → is_ahead ahead ≡ true → next ≡ At offset → ahead_ask ahead next ≡ Read (aligned offset) 32
 under_way aheads.Idle next offset a e = untrue a
 under_way (aheads.UnderWay rung) next offset a e = ap (λ (p : OrbPointer). ahead_ask (aheads.UnderWay rung) p) e
 under_way (aheads.Kept orb) next offset a e = untrue a
@@ -129,11 +129,14 @@ if_got : (start : List Disk) (note : Note) (past : List Moment) → AskedAsGot s
 if_got start (notes.Got serial) past waits = λ e. got_brings start past serial waits e
 if_got start note past waits = tt
 
-pub reading : (start : List Disk) (past : List Moment) → EachMoment (AskedAsGot start) past → AreReading (IsBrought start past) (target_at start past)
-reading start [] h = record {
-  agents = λ q. subst (λ (a : Agent). Reads (IsBrought start [] q) a.machine) (sym (new_there 8 q)) (new_reads (IsBrought start [] q));
+pub nothing_read : (start : List Disk) (R : ℕ → ℕ → CommandOrb → Type 0) → AreReading R (target_at start [])
+nothing_read start R = record {
+  agents = λ q. subst (λ (a : Agent). Reads (R q) a.machine) (sym (new_there 8 q)) (new_reads (R q));
   pending = λ reply e. none_is reply e;
 }
+
+pub reading : (start : List Disk) (past : List Moment) → EachMoment (AskedAsGot start) past → AreReading (IsBrought start past) (target_at start past)
+reading start [] h = nothing_read start (IsBrought start [])
 reading start (asked line event ∷ past) h =
     (over_reads (IsBrought start (asked line event ∷ past)) (target_at start past) (are_more (IsBrought start past) (IsBrought start (asked line event ∷ past)) (brought_more start (asked line event) past) (target_at start past) (reading start past h.1))).reading
 reading start (said note ∷ past) h =

@@ -50,6 +50,13 @@ has_read phases.Answering = true
 has_read phases.WritingStatus = true
 has_read _ = false
 
+-- and has not ended
+abbrev pub holds_read : Phase → Bool
+holds_read phases.ReadingTable = true
+holds_read (phases.ReadingData wanted) = true
+holds_read phases.Answering = true
+holds_read _ = false
+
 -- an ORB ends so once it was read
 abbrev pub ends_read : Option StatusKind → Bool
 ends_read None = false
@@ -73,7 +80,7 @@ module _ (Read : ℕ → CommandOrb → Type 0) where
   ReadAheadOf next (aheads.Kept orb) = NamesRead next orb
 
   pub record Reads (m : Machine) : Type 0 where
-    pub main : has_read m.phase ≡ true → Read m.present m.orb
+    pub main : holds_read m.phase ≡ true → Read m.present m.orb
     pub ahead : ReadAheadOf m.orb.next m.ahead
     pub idle : has_read m.phase ≡ false → m.ahead ≡ aheads.Idle
 
@@ -107,7 +114,7 @@ module _ (Read : ℕ → CommandOrb → Type 0) where
 
   ends : (m : Machine) (kind : StatusKind) (dead : Option FailCause) → Read m.present m.orb → ReadAheadOf m.orb.next m.ahead → Alive (end_step m kind dead)
   ends m kind None r a = record {
-    stepped = record { reads = record { main = λ e. r; ahead = a; idle = λ e. yes e }; ran = λ e. no e; ended = λ e. r };
+    stepped = record { reads = record { main = λ e. no e; ahead = a; idle = λ e. yes e }; ran = λ e. no e; ended = λ e. r };
     alive = λ e. refl;
   }
   ends m kind (Some cause) r a = record {
@@ -292,7 +299,7 @@ module _ (Read : ℕ → CommandOrb → Type 0) where
   chunk_goes m (Some cause) r a = fails m cause
   chunk_goes m None r a = grows (record m { written = m.written + answer_chunk m }) r a
 
-  quiet_step : (m : Machine) (phase : Phase) → has_read phase ≡ false → ReadAheadOf m.orb.next m.ahead → m.ahead ≡ aheads.Idle → Stepped (quiet, record m { phase = phase })
+  quiet_step : (m : Machine) (phase : Phase) → holds_read phase ≡ false → ReadAheadOf m.orb.next m.ahead → m.ahead ≡ aheads.Idle → Stepped (quiet, record m { phase = phase })
   quiet_step m phase e a f = stands quiet (record m { phase = phase }) refl refl (record { main = λ x. no (sym e ∙ x); ahead = a; idle = λ x. f })
 
   -- what comes of a reply to the main transaction, where an ORB that is read was brought

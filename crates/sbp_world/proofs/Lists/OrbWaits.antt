@@ -29,9 +29,11 @@ use Rattle.sbp_world.specs.Making.{ready_logins}
 use Rattle.sbp_world.specs.Packets.{is_in_flight, may_repeat}
 use Rattle.sbp_world.specs.Settling.{MayAt, MayNext, delivered_at, delivered_next, lowest}
 use Rattle.sbp_world.specs.Worlds.{Scene, WorldState, begun, without_notes}
-use Rattle.sbp_world.specs.Lists.OrbReads.{AskedAsGot}
+use Rattle.sbp_world.specs.Lists.OrbReads.{AskedAsGot, IsBrought}
 use Rattle.sbp_world.proofs.Lists.Courses.{EveryPlace, Goes, Keeps, at_between, at_lines, by_delivery, by_end, by_line, by_start, more_than_one}
 use Rattle.sbp_world.proofs.Lists.ManageTerms.{untrue}
+use Rattle.sbp_world.proofs.Lists.OrbFolds.{AreReading}
+use Rattle.sbp_world.proofs.Lists.OrbReading.{reading}
 use Rattle.sbp_world.proofs.Lists.Quiet.{AllQuiet, Comes, IsQuiet, Quietly, acts, comes, delivery_comes, injects, keys, late, loses, nothing, one_comes, quiet_none, resets, sights, ticks}
 use Rattle.sbp_world.proofs.Lists.Turned.{IsOne}
 
@@ -197,4 +199,11 @@ asked_everywhere = record {
       at_lines Asks (λ past w. EachMoment (AskedAsGot run.start.disks) past) asks_everywhere line run r.few has small size (all_asks run.units (ready_logins run.initiators run.ready) run.start.disks) (tt, (tt, tt)) r so_far;
   between = λ line run r has small size next most told m so_far.
       at_between Asks (λ past w. EachMoment (AskedAsGot run.start.disks) past) asks_everywhere line run r.few has small size (all_asks run.units (ready_logins run.initiators run.ready) run.start.disks) (tt, (tt, tt)) r next most told m so_far;
+}
+
+-- so each agent has an ORB that a response brought
+pub brought_everywhere : EveryPlace (λ start past w. AreReading (IsBrought start past) (target_at start past))
+brought_everywhere = record {
+  after_lines = λ line run r has small size so_far. reading run.start.disks _ (asked_everywhere.after_lines line run r has small size so_far);
+  between = λ line run r has small size next most told m so_far. reading run.start.disks _ (asked_everywhere.between line run r has small size next most told m so_far);
 }

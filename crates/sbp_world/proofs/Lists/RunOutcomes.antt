@@ -192,7 +192,7 @@ module _ (wild : ℕ → Bool) (start : List Disk) (past : List Moment) (s : Sce
     abbrev heard : Progress
     heard = heard_by r.by.which M answer goes.progress
 
-    number_is : heard.ended ≡ ends ms i opened.n
+    pub number_is : heard.ended ≡ ends ms i opened.n
     number_is = heard_ended r.by.which M answer goes.progress ∙ goes.is
 
     is_for : IsFor w r.sent

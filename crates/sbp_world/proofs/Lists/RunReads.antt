@@ -50,31 +50,31 @@ as_appended command request slot a orb o =
     }
 
 module _ (wild : ℕ → Bool) (start : List Disk) (past : List Moment) (s : Scene) (set : IsSet wild start past s) (run : Option Told) (ran : Note) (serial : ℕ) (r : IsRunBy s run serial ran) where
-  abbrev w : WorldState
+  abbrev pub w : WorldState
   w = s.world
 
-  abbrev ms : List Moment
+  abbrev pub ms : List Moment
   ms = hist past w
 
-  abbrev now : List Moment
+  abbrev pub now : List Moment
   now = said (notes.Got serial) ∷ ms
 
-  abbrev place : ℕ
+  abbrev pub place : ℕ
   place = r.place
 
-  abbrev i : ℕ
+  abbrev pub i : ℕ
   i = (holder w place).initiator
 
-  abbrev M : Machine
+  abbrev pub M : Machine
   M = (desk_at w.target place).agent
 
-  abbrev step : AgentStep × Machine
+  abbrev pub step : AgentStep × Machine
   step = reply_step M place (plain_in w.target.units s.media.disks r.by.login.unit) run r.by.which (answer_in r.by.packet)
 
   abbrev R : ℕ → CommandOrb → Type 0
   R = IsBrought start now place
 
-  below : place < 8
+  pub below : place < 8
   below = small wild start past s set run ran serial r
 
   module _ (own : wild i ≡ false) where
@@ -91,7 +91,7 @@ module _ (wild : ℕ → Bool) (start : List Disk) (past : List Moment) (s : Sce
     brought : IsBrought start now place step.1.present step.1.orb
     brought = stepped.ran (ap is_some r.by.ran)
 
-    not_dummy : step.1.orb.format ≡ 3 → ⊥
+    pub not_dummy : step.1.orb.format ≡ 3 → ⊥
     not_dummy e = untrue (sym (runs wild start past s set run ran serial r own).proper ∙ ap (λ n. n == 3) e)
 
     module _ (n number : ℕ) (next : RunsNext now i n number r.cdb r.payload) where
@@ -101,7 +101,7 @@ module _ (wild : ℕ → Bool) (start : List Disk) (past : List Moment) (s : Sce
           ∙ (ap (λ x. start_of (windows.Orb (slot_at ms i x (heard_by r.by.which M (answer_in r.by.packet) (goes wild start past s set run ran serial r own).progress).ended))) (list_is wild start past s set run ran serial r own n number next)
           ∙ ap (λ x. start_of (windows.Orb (slot_at ms i n x))) (orb_is wild start past s set run ran serial r own n number next))
 
-      appended : IsSomeAnd (request_at now i n number) (λ request. IsAsAppended step.1.orb request)
+      pub appended : IsSomeAnd (request_at now i n number) (λ request. IsAsAppended step.1.orb request)
       appended =
           let a = asked_so wild start past s set run ran serial r own in
           subst (λ x. IsSomeAnd x (λ request. IsAsAppended step.1.orb request)) (sym (request_is wild start past s set run ran serial r own n number next))

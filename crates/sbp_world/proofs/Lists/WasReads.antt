@@ -1,5 +1,5 @@
--- What is known of a response that brought an ORB, at a later moment: the read that it answered, and what it spells.
-use Rattle.std.proofs.Common.{arith, ◌≡◌, ◌∙◌, refl, sym, ap, subst, ◌≤◌, ◌==◌, ℕ, Bool, true, false, cond, List, [], ◌∷◌, ◌++◌, length, Option, Some, None, Ok, Err}
+-- What is known of a response that brought an ORB, at a later moment: the read that it answered, what it spells, and when the read was sent.
+use Rattle.std.proofs.Common.{arith, ◌≡◌, ◌∙◌, refl, sym, ap, subst, ◌<◌, ◌≤◌, ◌+◌, ◌==◌, ℕ, suc, Bool, true, false, cond, List, [], ◌∷◌, ◌++◌, length, Option, Some, None, Ok, Err}
 use Rattle.std.specs.Prelude.{IsSomeAnd}
 use Rattle.std.proofs.lemmas.Bool.Decides.{nat_tests}
 use Rattle.sbp_world.specs.Agents.AskedRuns.{read_access}
@@ -18,13 +18,22 @@ use Rattle.sbp_journal.specs.Transactions.{Sending}
 use Rattle.sbp_journal.specs.Wire.{terms}
 use Rattle.sbp_journal.specs.declared.note.Note.{Note}
 use Rattle.sbp_journal.specs.declared.note.Note.TheVariants as notes
-use Rattle.sbp_laws.specs.CarriedBytes.{IsRead, bytes_in, orb_read, payload_at, was_got}
+use Rattle.sbp_laws.specs.Agents.{initiator_at}
+use Rattle.sbp_laws.specs.CarriedBytes.{IsRead, address_of, before_sent, bytes_in, orb_read, payload_at, was_got}
+use Rattle.sbp_world.specs.Lists.CarriedEnds.{WasReadBehind}
 use Rattle.sbp_laws.specs.Packets.{access_at, access_in, answer_in, packet_at, packet_in, receiver_in, sender_in}
-use Rattle.sbp_laws.specs.Targets.{is_serial}
+use Rattle.sbp_laws.specs.Targets.{is_serial, over, target_at}
+use Rattle.sbp_laws.specs.Terms.{appends}
+use Rattle.bus_memory.specs.declared.window.Window.TheVariants as windows
+use Rattle.bus_memory.specs.Windows.{start as start_of}
+use Rattle.sbp_laws.specs.Lists.{orb as named_orb, prepared_in}
 use Rattle.sbp_laws.specs.Turns.{EachMoment}
-use Rattle.sbp_world.specs.Lists.OrbReads.{AnswersAt, IsBrought}
+use Rattle.sbp_world.specs.Lists.Needs.{IsCalm}
+use Rattle.sbp_world.specs.Lists.OrbReads.{AnswersAt, IsBrought, SentAsGot}
+use Rattle.sbp_world.specs.Lists.SentReads.{AreSentBehind}
 use Rattle.sbp_world.proofs.Lists.Calm.{injects_before}
-use Rattle.sbp_world.proofs.Lists.ManageTerms.{untrue}
+use Rattle.sbp_world.proofs.Lists.Slots.{orb_slot}
+use Rattle.sbp_world.proofs.Lists.ManageTerms.{same_some, untrue}
 
 -- ---- a packet that was got was got
 got_on : (note : Note) (past : List Moment) (r : ℕ) → was_got past r ≡ true → was_got (said note ∷ past) r ≡ true
@@ -93,7 +102,12 @@ pub record IsAnswered (past : List Moment) (address : ℕ) (orb : CommandOrb) : 
   pub asks : IsSomeAnd (access_at (terms past) request) (λ access. IsRead access address 32)
   pub orb_is : orb_read past response ≡ orb
 
-each_at : (P : Moment → List Moment → Type 0) (later : List Moment) (m : Moment) (earlier : List Moment) → EachMoment P (later ++ m ∷ earlier) → P m earlier
+-- an ORB was read behind its append, and its response spells it
+pub record SpellsOrb (past : List Moment) (i n k : ℕ) (orb : CommandOrb) : Type 0 where
+  pub read : WasReadBehind past i n k
+  pub spells : orb_read past read.response ≡ orb
+
+pub each_at : (P : Moment → List Moment → Type 0) (later : List Moment) (m : Moment) (earlier : List Moment) → EachMoment P (later ++ m ∷ earlier) → P m earlier
 each_at P [] m earlier e = e.0
 each_at P (x ∷ later) m earlier e = each_at P later m earlier e.1
 
@@ -129,7 +143,7 @@ module _ (start : List Disk) (past : List Moment) (place address : ℕ) (orb : C
   payload_is = ap (λ (x : Option Sending). bytes_in (answer_in (packet_in x))) (stays.sent b.response response_below) ∙ is_whole.is
 
   -- what it spells
-  orb_is : orb_read past b.response ≡ orb
+  pub orb_is : orb_read past b.response ≡ orb
   orb_is = ap command_orb payload_is ∙ b.spells
 
   access_is : access_at (terms past) b.request ≡ Some (read_access address 32)
@@ -159,3 +173,47 @@ module _ (start : List Disk) (past : List Moment) (place address : ℕ) (orb : C
     asks = subst (λ x. IsSomeAnd x (λ access. IsRead access address 32)) (sym access_is) (record { read = refl; block = refl; from = refl; size = refl });
     orb_is = orb_is;
   }
+
+  module _ (i : ℕ) (of_it : initiator_at (over (target_at start b.earlier)) (terms b.earlier) place ≡ i) (calm : IsCalm past i) where
+    to_initiator : receiver_in ((terms b.earlier).sent b.request) ≡ Some (suc i)
+    to_initiator = b.asked.to ∙ ap (λ j. Some (j + 1)) of_it ∙ (let e : i + 1 ≡ suc i = omega arith in ap (λ j. Some j) e)
+
+    pub it_answers : EachMoment AnswersAt past → (terms past).injects 0 ≡ false → (terms b.earlier).answers b.response ≡ Some b.request
+    it_answers answers fair =
+        let from : read.0.from ≡ 0 = same_some read.0.from 0 (sym (ap sender_in read.1) ∙ b.asked.from) in
+        let to : read.0.to ≡ suc i = same_some read.0.to (suc i) (sym (ap receiver_in read.1) ∙ to_initiator) in
+        each_at AnswersAt b.later (said (notes.Got b.response)) b.earlier (subst (EachMoment AnswersAt) (sym b.is) answers) b.request b.closed read.0 read.1
+        (ap (terms b.earlier).injects from ∙ injects_then 0 fair) (ap (terms b.earlier).injects to ∙ injects_then (suc i) calm)
+
+    -- and the read was sent when the ORB that the slot had then had been appended
+    pub was_appended : EachMoment (SentAsGot start) past → place < 8 → (slot n k : ℕ) → slot < 32 → address ≡ start_of (windows.Orb slot) → prepared_in b.earlier i slot ≡ Some (named_orb n k) → k < appends (before_sent b.earlier b.request) i n
+    was_appended sent small slot n k inside stands there =
+        let a : AreSentBehind start b.earlier = each_at (SentAsGot start) b.later (said (notes.Got b.response)) b.earlier (subst (EachMoment (SentAsGot start)) (sym b.is) sent) in
+        a place small b.which b.request i slot n k (record {
+          waits = b.waited;
+          to = to_initiator;
+          calm = injects_then (suc i) calm;
+          access = read_access address 32;
+          is = b.asked.is ∙ ap (λ (x : Access). Some x) b.asked.asks;
+          reads = refl;
+          some = omega arith;
+          stands = orb_slot (read_access address 32) slot 32 inside (record { read = refl; block = refl; from = stands; size = refl });
+          there = there;
+        })
+
+  module _ (i n k : ℕ) (of_it : initiator_at (over (target_at start b.earlier)) (terms b.earlier) place ≡ i) (stands : address ≡ address_of past i n k) (answers : (terms b.earlier).answers b.response ≡ Some b.request) (appended : k < appends (before_sent b.earlier b.request) i n) where
+    pub was_read : SpellsOrb past i n k orb
+    was_read = record {
+      read = record {
+        response = b.response;
+        request = b.request;
+        got = subst (λ ms. was_got ms b.response ≡ true) b.is (got_later b.later then b.response (got_now b.earlier b.response));
+        whole = ap length payload_is ∙ is_whole.whole;
+        answers = stays.answers b.response response_below ∙ answers;
+        of_target = ap sender_in (stays.sent b.request request_below) ∙ b.asked.from;
+        of_initiator = ap receiver_in (stays.sent b.request request_below) ∙ (b.asked.to ∙ ap (λ j. Some (j + 1)) of_it ∙ (let e : i + 1 ≡ suc i = omega arith in ap (λ j. Some j) e));
+        asks = subst (λ x. IsSomeAnd x (λ access. IsRead access (address_of past i n k) 32)) (sym access_is) (record { read = refl; block = refl; from = stands; size = refl });
+        appended = subst (λ ms. k < appends ms i n) (sym (stays.before_it b.request request_below)) appended;
+      };
+      spells = orb_is;
+    }

@@ -15,6 +15,7 @@ use Rattle.sbp_laws.specs.Agents.{fifo_in, initiator_at}
 use Rattle.sbp_laws.specs.Packets.{answer_in, answered_at, packet_at, receiver_in}
 use Rattle.sbp_laws.specs.Targets.{agent_at, is_serial, login_at, over, target_at}
 use Rattle.sbp_world.specs.Agents.AskedRuns.{AreAskedAt, HasAsked, serial_of}
+use Rattle.sbp_world.specs.Lists.SentReads.{AreSentBehind}
 
 pub record IsBrought (start : List Disk) (past : List Moment) (place address : ℕ) (orb : CommandOrb) : Type 0 where
   pub response : ℕ
@@ -37,6 +38,11 @@ pub record IsBrought (start : List Disk) (past : List Moment) (place address : �
 abbrev pub AskedAsGot : List Disk → Moment → List Moment → Type 0
 AskedAsGot start (said (notes.Got serial)) past = AreAskedAt start past
 AskedAsGot start moment past = Unit {0}
+
+-- and what they wait for, to read in a slot, was sent behind the append of the ORB there
+abbrev pub SentAsGot : List Disk → Moment → List Moment → Type 0
+SentAsGot start (said (notes.Got serial)) past = AreSentBehind start past
+SentAsGot start moment past = Unit {0}
 
 -- A response is got: it answers the request that its label waits for, of nodes that injected no packets.
 abbrev pub AnswersAt : Moment → List Moment → Type 0

@@ -1,0 +1,46 @@
+-- An ORB that was brought of a slot that it had then was read as the laws have it, behind its append; and where its list was open as its read was sent, whole.
+use Rattle.std.proofs.Common.{arith, ◌≡◌, ◌∙◌, refl, sym, ap, subst, ◌<◌, ◌+◌, ℕ, suc, false, List, Some}
+use Rattle.bus_transactions.specs.Packets.{SerialsCount}
+use Rattle.orb_layout.specs.declared.command.CommandOrb.{CommandOrb}
+use Rattle.rbc_disk.specs.Disk.{Disk}
+use Rattle.sbp_journal.specs.Run.{Moment}
+use Rattle.sbp_journal.specs.Wire.{terms}
+use Rattle.sbp_laws.specs.Agents.{initiator_at}
+use Rattle.sbp_laws.specs.CarriedBytes.{address_of}
+use Rattle.sbp_laws.specs.Lists.{orb as named_orb, prepared_in}
+use Rattle.sbp_laws.specs.Targets.{over, target_at}
+use Rattle.sbp_laws.specs.Turns.{EachMoment}
+use Rattle.sbp_world.specs.Lists.Needs.{IsCalm}
+use Rattle.sbp_world.specs.Lists.OrbNames.{IsNamedBrought}
+use Rattle.sbp_world.specs.Lists.OrbReads.{AnswersAt, IsBrought, SentAsGot}
+use Rattle.sbp_world.proofs.Lists.WasReads.{SpellsOrb, it_answers, was_appended, was_read}
+
+same_number : (a b : ℕ) → Some a ≡ Some b → a ≡ b
+same_number a b e = cc
+
+-- the ORB has this name
+pub record IsOfName (start : List Disk) (past : List Moment) (place address : ℕ) (orb : CommandOrb) (i n k : ℕ) (x : IsNamedBrought start past place address orb) : Type 0 where
+  pub initiator : x.i ≡ i
+  pub list : x.led.n ≡ n
+  pub number : x.led.k ≡ k
+
+module _ (start : List Disk) (past : List Moment) (place i n k : ℕ) (orb : CommandOrb) (x : IsNamedBrought start past place (address_of past i n k) orb) (name : IsOfName start past place (address_of past i n k) orb i n k x) (few : place < 8) (counts : SerialsCount past) (calm : IsCalm past i) (fair : (terms past).injects 0 ≡ false) (answers : EachMoment AnswersAt past) (sent : EachMoment (SentAsGot start) past) where
+  abbrev b : IsBrought start past place (address_of past i n k) orb
+  b = x.brought
+
+  of_it : initiator_at (over (target_at start b.earlier)) (terms b.earlier) place ≡ i
+  of_it =
+      let e = same_number (initiator_at (over (target_at start b.earlier)) (terms b.earlier) place + 1) (suc x.i) (sym b.asked.to ∙ x.to) in
+      let f = name.initiator in
+      omega (arith, e, f)
+
+  there : prepared_in b.earlier i x.led.slot ≡ Some (named_orb n k)
+  there =
+      subst (λ j. prepared_in b.earlier j x.led.slot ≡ Some (named_orb n k)) name.initiator
+      (x.led.there ∙ ap (λ a. Some (named_orb a x.led.k)) name.list ∙ ap (λ a. Some (named_orb n a)) name.number)
+
+  pub named_read : SpellsOrb past i n k orb
+  named_read =
+      was_read start past place (address_of past i n k) orb b counts i n k of_it refl
+      (it_answers start past place (address_of past i n k) orb b counts i of_it calm answers fair)
+      (was_appended start past place (address_of past i n k) orb b counts i of_it calm sent few x.led.slot n k x.led.small x.led.stands there)

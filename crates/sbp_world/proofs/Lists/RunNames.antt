@@ -1,0 +1,157 @@
+-- A run that the target tells of is of the ORB by whose name its response brought it, where agents have the ORBs prepared last in their slots.
+use Rattle.std.proofs.Common.{arith, ◌≡◌, ◌∙◌, refl, sym, ap, subst, ℕ, ◌<◌, Bool, true, false, is_some, List, [], ◌∷◌, Option, Some, None}
+use Rattle.command_agent.specs.declared.step.AgentStep.{AgentStep}
+use Rattle.command_agent.specs.Machine.{Machine}
+use Rattle.orb_layout.specs.declared.command.CommandOrb.{CommandOrb}
+use Rattle.rbc_disk.specs.Disk.{Disk}
+use Rattle.rbc_disk.specs.Runs.{Told}
+use Rattle.sbp_bus.specs.Words.{check_of}
+use Rattle.sbp_journal.specs.Run.{Moment, said}
+use Rattle.sbp_journal.specs.declared.note.Note.{Note}
+use Rattle.sbp_journal.specs.declared.note.Note.TheVariants as notes
+use Rattle.sbp_laws.specs.CarriedBytes.{address_of}
+use Rattle.sbp_laws.specs.Lists.{orb as named_orb, prepared_in, slot_at}
+use Rattle.sbp_target.specs.Receiving.{answer_in}
+use Rattle.sbp_target.specs.Replies.{plain_in}
+use Rattle.sbp_world.specs.Telling.{holder}
+use Rattle.sbp_world.specs.Worlds.{Scene, WorldState}
+use Rattle.sbp_world.proofs.Agents.Management.Still.{hist}
+use Rattle.agent_laws.specs.Along.Steps.{heard_by}
+use Rattle.sbp_world.specs.Lists.Needs.{IsNamed, IsOpenAt, is_open_at}
+use Rattle.sbp_world.specs.Lists.OrbNames.{IsNamedBrought, IsStillBrought, RunIsNamed}
+use Rattle.sbp_world.proofs.Lists.EndNames.{same_list, same_orb}
+use Rattle.sbp_world.proofs.Lists.NamedPlaces.{HasNames}
+use Rattle.sbp_world.proofs.Lists.OrbFolds.{Brings}
+use Rattle.sbp_world.proofs.Lists.OrbReading.{reads_more}
+use Rattle.sbp_world.proofs.Lists.OrbSteps.{Reads, Stepped, reply_steps}
+use Rattle.sbp_world.proofs.Lists.Passing.{PassAt, RunsNext}
+use Rattle.sbp_world.proofs.Lists.Runless.{IsPlain, IsRunBy}
+use Rattle.sbp_world.proofs.Lists.RunOutcomes.{IsSet, goes, is_open, list_is, number_is, opened, orb_is, runs}
+use Rattle.sbp_world.proofs.Lists.RunReads.{M as run_machine, appended, below, i as run_initiator, not_dummy, present_is, step as run_step}
+use Rattle.sbp_world.proofs.Lists.Sites.{IsPrepared, prepared}
+use Rattle.sbp_world.proofs.Lists.StillReads.{IsHad, same_slot, still_had}
+
+-- ---- the law at a run, where it is given so
+abbrev pub RunNamedAt : Type 0 → (ℕ → Bool) → List Disk → Moment → List Moment → Type 0
+RunNamedAt given wild start (said (notes.Ran i (Some n) (Some k) unit cdb bytes check)) past = given → wild i ≡ false → RunIsNamed start past i n k
+RunNamedAt given wild start moment past = Unit {0}
+
+pub plain_named : (given : Type 0) (wild : ℕ → Bool) (start : List Disk) (note : Note) → IsPlain note → (past : List Moment) → RunNamedAt given wild start (said note) past
+plain_named given wild start (notes.Ran i n k unit cdb bytes check) h past = absurd h
+plain_named given wild start note h past = tt
+
+module _ (given : Type 0) (wild : ℕ → Bool) (start : List Disk) (past : List Moment) (s : Scene) (set : IsSet wild start past s) (names : given → HasNames start past s.world) (run : Option Told) (ran : Note) (serial : ℕ) (r : IsRunBy s run serial ran) where
+  abbrev w : WorldState
+  w = s.world
+
+  abbrev ms : List Moment
+  ms = hist past w
+
+  abbrev now : List Moment
+  now = said (notes.Got serial) ∷ ms
+
+  abbrev p : ℕ
+  p = r.place
+
+  abbrev i : ℕ
+  i = run_initiator wild start past s set run ran serial r
+
+  abbrev m : Machine
+  m = run_machine wild start past s set run ran serial r
+
+  abbrev stepped : AgentStep × Machine
+  stepped = run_step wild start past s set run ran serial r
+
+  small : p < 8
+  small = below wild start past s set run ran serial r
+
+  module _ (so : given) (own : wild i ≡ false) where
+    abbrev R : ℕ → CommandOrb → Type 0
+    R address orb = IsHad start now ms w p address orb
+
+    known : HasNames start past w
+    known = names so
+
+    open_there : is_open_at w p ≡ true
+    open_there = is_open wild start past s set run ran serial r
+
+    brings : Brings (λ q address orb. IsHad start now ms w q address orb) m (record { place = p; which = r.by.which; answer = answer_in r.by.packet })
+    brings = known.brings serial r.sent r.found r.to r.by.packet r.by.label p r.by.which r.by.found r.by.is_which small (set.ready.calm i own)
+
+    had : Reads R m
+    had = reads_more (λ address orb. IsStillBrought start ms w p address orb) R (λ address orb x. still_had start ms now (said (notes.Got serial) ∷ []) refl w p address orb x) m (known.agents p small open_there)
+
+    steps : Stepped R stepped
+    steps = reply_steps R m p (plain_in w.target.units s.media.disks r.by.login.unit) run r.by.which (answer_in r.by.packet) had brings.main brings.ahead
+
+    x : IsHad start now ms w p stepped.1.present stepped.1.orb
+    x = steps.ran (ap is_some r.by.ran)
+
+    abbrev o : IsOpenAt ms w p
+    o = opened wild start past s set run ran serial r own
+
+    abbrev ended : ℕ
+    ended = (heard_by r.by.which m (answer_in r.by.packet) (goes wild start past s set run ran serial r own).progress).ended
+
+    is_prepared : IsPrepared ms i (slot_at ms i o.n ended) o.n ended
+    is_prepared =
+        let e = number_is wild start past s set run ran serial r own in
+        let name : IsNamed ms w p o.n ended = o.named ended (omega (arith, e)) (runs wild start past s set run ran serial r own).turn.linked in
+        prepared ms w i o.inside (known.rows i o.inside) (slot_at ms i o.n ended) o.n ended name.list name.number
+
+    module _ (n k : ℕ) (next : RunsNext now i n k r.cdb r.payload) where
+      here : IsPrepared ms i (slot_at ms i n k) n k
+      here =
+          subst (λ y. IsPrepared ms i (slot_at ms i n y) n y) (orb_is wild start past s set run ran serial r own n k next)
+          (subst (λ y. IsPrepared ms i (slot_at ms i y ended) y ended) (list_is wild start past s set run ran serial r own n k next) is_prepared)
+
+      place_is : stepped.1.present ≡ address_of now i n k
+      place_is = present_is wild start past s set run ran serial r own n k next
+
+      name_is : Some (named_orb x.named.led.n x.named.led.k) ≡ Some (named_orb n k)
+      name_is =
+          sym (ap (λ j. prepared_in ms j x.named.led.slot) (sym x.initiator) ∙ x.there)
+          ∙ subst (λ slot. prepared_in ms i slot ≡ Some (named_orb n k)) (same_slot (slot_at ms i n k) x.named.led.slot (sym place_is ∙ x.named.led.stands)) here.there
+
+      abbrev orb : CommandOrb
+      orb = stepped.1.orb
+
+      record IsOfName (address : ℕ) : Type 0 where
+        brought : IsNamedBrought start now p address orb
+        initiator : brought.i ≡ i
+        list_so : brought.led.n ≡ n
+        number_so : brought.led.k ≡ k
+
+      of_name : IsOfName stepped.1.present
+      of_name = record {
+        brought = x.named;
+        initiator = x.initiator;
+        list_so = same_list x.named.led.n x.named.led.k n k name_is;
+        number_so = same_orb x.named.led.n x.named.led.k n k name_is;
+      }
+
+      run_named : RunIsNamed start now i n k
+      run_named =
+          let y = subst IsOfName place_is of_name in
+          record {
+            place = p;
+            small = small;
+            orb = orb;
+            named = y.brought;
+            initiator = y.initiator;
+            list = y.list_so;
+            number = y.number_so;
+            not_dummy = not_dummy wild start past s set run ran serial r own;
+            as_appended = appended wild start past s set run ran serial r own n k next;
+          }
+
+  abbrev note_of : Option ℕ → Option ℕ → Note
+  note_of list number = notes.Ran i list number (holder w p).unit r.cdb r.payload (check_of r.outcome)
+
+  by_names : (list number : Option ℕ) → PassAt wild (said (note_of list number)) now → RunNamedAt given wild start (said (note_of list number)) now
+  by_names None number q = tt
+  by_names (Some n) None q = tt
+  by_names (Some n) (Some k) q = λ so own. run_named so own n k (q own)
+
+  pub named_so : PassAt wild (said ran) now → RunNamedAt given wild start (said ran) now
+  named_so = subst (λ note. PassAt wild (said note) now → RunNamedAt given wild start (said note) now) (sym r.is) (by_names r.list r.number)
