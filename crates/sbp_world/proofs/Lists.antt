@@ -422,6 +422,7 @@ pub mod DataLaws
 pub mod LedReads
 pub mod LedRuns
 pub mod NamedReads
+pub mod BegunLists
 pub mod TurnReads
 pub mod StillReads
 pub mod StillTurns

@@ -28,12 +28,14 @@ use Rattle.sbp_world.proofs.Lists.Executes.{Tamely, ends_named, runs_named}
 use Rattle.sbp_world.proofs.Lists.ListsProved.{closing}
 use Rattle.sbp_world.proofs.Lists.NamedReads.{named_read}
 use Rattle.sbp_world.proofs.Lists.RunNames.{RunNamedAt}
+use Rattle.sbp_laws.specs.OrderLaw.{OrderLaw}
+use Rattle.sbp_world.proofs.Lists.RunLaws.{order_run_law}
 use Rattle.sbp_world.proofs.Lists.SentGots.{sent_as_got}
 
-module _ (given : Type 0) (so : given) (wild : ℕ → Bool) (calm : (i : ℕ) → wild i ≡ false) (start : List Disk) (past : List Moment) (f : IsFair past) (sent : EachMoment (SentAsGot start) past) where
+module _ (given : Type 0) (so : given) (wild : ℕ → Bool) (calm : (i : ℕ) → wild i ≡ false) (start : List Disk) (past : List Moment) (f : IsFair past) (sent : EachMoment (SentAsGot start) past) (law : OrderLaw wild past) where
   end_read : (i n k : ℕ) (status : StatusKind) → EndIsNamed start past i n k status → EndWasRead past i n k status
   end_read i n k status e =
-      let x = named_read start past e.place i n k e.orb e.named (record { initiator = e.initiator; list = e.list; number = e.number }) e.small f.counts (f.fair (suc i)) (f.fair 0) f.answers sent in
+      let x = named_read start past e.place i n k e.orb e.named (record { initiator = e.initiator; list = e.list; number = e.number }) e.small f.counts (f.fair (suc i)) (f.fair 0) f.answers sent wild law in
       record {
         read = x.read;
         matches = subst (λ (orb : CommandOrb). IsSomeAnd (request_at past i n k) (λ request. MatchesStatus status orb request)) (sym x.spells) e.matches;
@@ -61,16 +63,16 @@ module _ (given : Type 0) (so : given) (wild : ℕ → Bool) (calm : (i : ℕ) �
   moment_read (asked line event) e = tt
   moment_read (said note) e = note_read note e
 
-all_read : (given : Type 0) → given → (wild : ℕ → Bool) → ((i : ℕ) → wild i ≡ false) → (start : List Disk) (past : List Moment) → IsFair past → EachMoment (SentAsGot start) past → EachMoment (EndNamedAt given wild start) past → EachMoment EndWasReadAt past
-all_read given so wild calm start [] f sent e = tt
-all_read given so wild calm start (m ∷ past) f sent e =
-    let g = fair_before m past f in (moment_read given so wild calm start past g sent.1 m e.0, all_read given so wild calm start past g sent.1 e.1)
+all_read : (given : Type 0) → given → (wild : ℕ → Bool) → ((i : ℕ) → wild i ≡ false) → (start : List Disk) (past : List Moment) → IsFair past → EachMoment (SentAsGot start) past → OrderLaw wild past → EachMoment (EndNamedAt given wild start) past → EachMoment EndWasReadAt past
+all_read given so wild calm start [] f sent law e = tt
+all_read given so wild calm start (m ∷ past) f sent law e =
+    let g = fair_before m past f in (moment_read given so wild calm start past g sent.1 law.1 m e.0, all_read given so wild calm start past g sent.1 law.1 e.1)
 
 -- ---- the ORBs that run
-module _ (given : Type 0) (so : given) (wild : ℕ → Bool) (calm : (i : ℕ) → wild i ≡ false) (start : List Disk) (past : List Moment) (f : IsFair past) (sent : EachMoment (SentAsGot start) past) where
+module _ (given : Type 0) (so : given) (wild : ℕ → Bool) (calm : (i : ℕ) → wild i ≡ false) (start : List Disk) (past : List Moment) (f : IsFair past) (sent : EachMoment (SentAsGot start) past) (law : OrderLaw wild past) where
   run_read : (i n k : ℕ) → RunIsNamed start past i n k → RunWasRead past i n k
   run_read i n k e =
-      let x = named_read start past e.place i n k e.orb e.named (record { initiator = e.initiator; list = e.list; number = e.number }) e.small f.counts (f.fair (suc i)) (f.fair 0) f.answers sent in
+      let x = named_read start past e.place i n k e.orb e.named (record { initiator = e.initiator; list = e.list; number = e.number }) e.small f.counts (f.fair (suc i)) (f.fair 0) f.answers sent wild law in
       record {
         read = x.read;
         not_dummy = λ y. e.not_dummy (ap (λ (orb : CommandOrb). orb.format) (sym x.spells) ∙ y);
@@ -90,17 +92,17 @@ module _ (given : Type 0) (so : given) (wild : ℕ → Bool) (calm : (i : ℕ) �
   run_moment (asked line event) e = tt
   run_moment (said note) e = run_note note e
 
-all_ran : (given : Type 0) → given → (wild : ℕ → Bool) → ((i : ℕ) → wild i ≡ false) → (start : List Disk) (past : List Moment) → IsFair past → EachMoment (SentAsGot start) past → EachMoment (RunNamedAt given wild start) past → EachMoment RunWasReadAt past
-all_ran given so wild calm start [] f sent e = tt
-all_ran given so wild calm start (m ∷ past) f sent e =
-    let g = fair_before m past f in (run_moment given so wild calm start past g sent.1 m e.0, all_ran given so wild calm start past g sent.1 e.1)
+all_ran : (given : Type 0) → given → (wild : ℕ → Bool) → ((i : ℕ) → wild i ≡ false) → (start : List Disk) (past : List Moment) → IsFair past → EachMoment (SentAsGot start) past → OrderLaw wild past → EachMoment (RunNamedAt given wild start) past → EachMoment RunWasReadAt past
+all_ran given so wild calm start [] f sent law e = tt
+all_ran given so wild calm start (m ∷ past) f sent law e =
+    let g = fair_before m past f in (run_moment given so wild calm start past g sent.1 law.1 m e.0, all_ran given so wild calm start past g sent.1 law.1 e.1)
 
 -- ---- where lists are open as they should be
-module _ (lists : OpenListsLaw) (start : List Disk) (past : List Moment) (tame : IsTame past) (f : IsFair past) (sent : EachMoment (SentAsGot start) past) where
+module _ (lists : OpenListsLaw) (start : List Disk) (past : List Moment) (tame : IsTame past) (f : IsFair past) (sent : EachMoment (SentAsGot start) past) (law : OrderLaw (injectors past) past) where
   were_read : EachMoment (RunNamedAt (Tamely (injectors past)) (injectors past) start) past → EachMoment (EndNamedAt (Tamely (injectors past)) (injectors past) start) past → WereRead past
   were_read runs ends =
       let so : Tamely (injectors past) = (lists, λ i. tame i) in
-      (all_ran (Tamely (injectors past)) so (injectors past) (λ i. tame i) start past f sent runs, all_read (Tamely (injectors past)) so (injectors past) (λ i. tame i) start past f sent ends)
+      (all_ran (Tamely (injectors past)) so (injectors past) (λ i. tame i) start past f sent law runs, all_read (Tamely (injectors past)) so (injectors past) (λ i. tame i) start past f sent law ends)
 
 pub were_read_law : OpenListsLaw → WereReadLaw
 were_read_law lists = record {
@@ -108,10 +110,10 @@ were_read_law lists = record {
       let so_far = closing.before lists line run r has small size (inl tame) in
       let past = history_of line run in
       were_read lists run.start.disks past tame (fair_of past (told_everywhere.after_lines line run r has small size so_far) tame)
-      ((sent_as_got lists).after_lines line run r has small size so_far tame) (runs_named.after_lines line run r has small size so_far) (ends_named.after_lines line run r has small size so_far);
+      ((sent_as_got lists).after_lines line run r has small size so_far tame) (order_run_law.after_lines line run r has small size so_far) (runs_named.after_lines line run r has small size so_far) (ends_named.after_lines line run r has small size so_far);
   between = λ line run r has small size next most told m tame.
       let now = map said (after_all told (begun (after (beginning run) run.entries))).world.fresh ++ asked next (more_deliveries most) ∷ history_of line run in
       let so_far = closing.between lists line run r has small size next (more_deliveries most) (more_than_one most) told m (inl tame) in
       were_read lists run.start.disks now tame (fair_of now (told_everywhere.between line run r has small size next most told m so_far) tame)
-      ((sent_as_got lists).between line run r has small size next most told m so_far tame) (runs_named.between line run r has small size next most told m so_far) (ends_named.between line run r has small size next most told m so_far);
+      ((sent_as_got lists).between line run r has small size next most told m so_far tame) (order_run_law.between line run r has small size next (more_deliveries most) (more_than_one most) told m so_far) (runs_named.between line run r has small size next most told m so_far) (ends_named.between line run r has small size next most told m so_far);
 }

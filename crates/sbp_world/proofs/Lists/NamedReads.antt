@@ -1,16 +1,20 @@
 -- An ORB that was brought of a slot that it had then was read as the laws have it, behind its append; and where its list was open as its read was sent, whole.
-use Rattle.std.proofs.Common.{arith, ◌≡◌, ◌∙◌, refl, sym, ap, subst, ◌<◌, ◌+◌, ℕ, suc, false, List, Some}
+use Rattle.std.proofs.Common.{arith, ◌≡◌, ◌∙◌, refl, sym, ap, subst, ◌<◌, ◌+◌, ℕ, suc, Bool, false, List, ◌∷◌, Some}
 use Rattle.bus_transactions.specs.Packets.{SerialsCount}
 use Rattle.orb_layout.specs.declared.command.CommandOrb.{CommandOrb}
 use Rattle.rbc_disk.specs.Disk.{Disk}
-use Rattle.sbp_journal.specs.Run.{Moment}
+use Rattle.sbp_journal.specs.Run.{Moment, said}
 use Rattle.sbp_journal.specs.Wire.{terms}
 use Rattle.sbp_laws.specs.Agents.{initiator_at}
-use Rattle.sbp_laws.specs.CarriedBytes.{address_of}
+use Rattle.sbp_laws.specs.CarriedBytes.{address_of, before_sent}
 use Rattle.sbp_laws.specs.Lists.{orb as named_orb, prepared_in}
 use Rattle.sbp_laws.specs.Targets.{over, target_at}
 use Rattle.sbp_laws.specs.Turns.{EachMoment}
+use Rattle.sbp_journal.specs.declared.note.Note.TheVariants as notes
+use Rattle.sbp_laws.specs.OrderLaw.{OrderLaw}
+use Rattle.sbp_laws.specs.Terms.{appends, lists}
 use Rattle.sbp_world.specs.Lists.Needs.{IsCalm}
+use Rattle.sbp_world.proofs.Lists.BegunLists.{latest_then, order_from}
 use Rattle.sbp_world.specs.Lists.OrbNames.{IsNamedBrought}
 use Rattle.sbp_world.specs.Lists.OrbReads.{AnswersAt, IsBrought, SentAsGot}
 use Rattle.sbp_world.proofs.Lists.WasReads.{SpellsOrb, it_answers, was_appended, was_read}
@@ -24,7 +28,7 @@ pub record IsOfName (start : List Disk) (past : List Moment) (place address : �
   pub list : x.led.n ≡ n
   pub number : x.led.k ≡ k
 
-module _ (start : List Disk) (past : List Moment) (place i n k : ℕ) (orb : CommandOrb) (x : IsNamedBrought start past place (address_of past i n k) orb) (name : IsOfName start past place (address_of past i n k) orb i n k x) (few : place < 8) (counts : SerialsCount past) (calm : IsCalm past i) (fair : (terms past).injects 0 ≡ false) (answers : EachMoment AnswersAt past) (sent : EachMoment (SentAsGot start) past) where
+module _ (start : List Disk) (past : List Moment) (place i n k : ℕ) (orb : CommandOrb) (x : IsNamedBrought start past place (address_of past i n k) orb) (name : IsOfName start past place (address_of past i n k) orb i n k x) (few : place < 8) (counts : SerialsCount past) (calm : IsCalm past i) (fair : (terms past).injects 0 ≡ false) (answers : EachMoment AnswersAt past) (sent : EachMoment (SentAsGot start) past) (wild : ℕ → Bool) (law : OrderLaw wild past) where
   abbrev b : IsBrought start past place (address_of past i n k) orb
   b = x.brought
 
@@ -39,8 +43,18 @@ module _ (start : List Disk) (past : List Moment) (place i n k : ℕ) (orb : Com
       subst (λ j. prepared_in b.earlier j x.led.slot ≡ Some (named_orb n k)) name.initiator
       (x.led.there ∙ ap (λ a. Some (named_orb a x.led.k)) name.list ∙ ap (λ a. Some (named_orb n a)) name.number)
 
+  appended : k < appends (before_sent b.earlier b.request) i n
+  appended = was_appended start past place (address_of past i n k) orb b counts i of_it calm sent few x.led.slot n k x.led.small x.led.stands there
+
+  latest : suc n ≡ lists (before_sent b.earlier b.request) i
+  latest =
+      let e = subst (λ j. suc x.led.n ≡ lists b.earlier j) name.initiator x.led.latest in
+      let f = name.list in
+      let law_then : OrderLaw wild (said (notes.Got b.response) ∷ b.earlier) = order_from wild i n b.later (said (notes.Got b.response) ∷ b.earlier) (subst (OrderLaw wild) (sym b.is) law) in
+      latest_then wild i n b.earlier b.request k law_then.1 (omega (arith, e, f)) appended
+
   pub named_read : SpellsOrb past i n k orb
   named_read =
       was_read start past place (address_of past i n k) orb b counts i n k of_it refl
       (it_answers start past place (address_of past i n k) orb b counts i of_it calm answers fair)
-      (was_appended start past place (address_of past i n k) orb b counts i of_it calm sent few x.led.slot n k x.led.small x.led.stands there)
+      appended latest

@@ -23,7 +23,7 @@ use Rattle.sbp_laws.specs.CarriedBytes.{IsRead, address_of, before_sent, bytes_i
 use Rattle.sbp_world.specs.Lists.CarriedEnds.{WasReadBehind}
 use Rattle.sbp_laws.specs.Packets.{access_at, access_in, answer_in, packet_at, packet_in, receiver_in, sender_in}
 use Rattle.sbp_laws.specs.Targets.{is_serial, over, target_at}
-use Rattle.sbp_laws.specs.Terms.{appends}
+use Rattle.sbp_laws.specs.Terms.{appends, lists}
 use Rattle.bus_memory.specs.declared.window.Window.TheVariants as windows
 use Rattle.bus_memory.specs.Windows.{start as start_of}
 use Rattle.sbp_laws.specs.Lists.{orb as named_orb, prepared_in}
@@ -201,7 +201,7 @@ module _ (start : List Disk) (past : List Moment) (place address : ℕ) (orb : C
           there = there;
         })
 
-  module _ (i n k : ℕ) (of_it : initiator_at (over (target_at start b.earlier)) (terms b.earlier) place ≡ i) (stands : address ≡ address_of past i n k) (answers : (terms b.earlier).answers b.response ≡ Some b.request) (appended : k < appends (before_sent b.earlier b.request) i n) where
+  module _ (i n k : ℕ) (of_it : initiator_at (over (target_at start b.earlier)) (terms b.earlier) place ≡ i) (stands : address ≡ address_of past i n k) (answers : (terms b.earlier).answers b.response ≡ Some b.request) (appended : k < appends (before_sent b.earlier b.request) i n) (latest : suc n ≡ lists (before_sent b.earlier b.request) i) where
     pub was_read : SpellsOrb past i n k orb
     was_read = record {
       read = record {
@@ -214,6 +214,7 @@ module _ (start : List Disk) (past : List Moment) (place address : ℕ) (orb : C
         of_initiator = ap receiver_in (stays.sent b.request request_below) ∙ (b.asked.to ∙ ap (λ j. Some (j + 1)) of_it ∙ (let e : i + 1 ≡ suc i = omega arith in ap (λ j. Some j) e));
         asks = subst (λ x. IsSomeAnd x (λ access. IsRead access (address_of past i n k) 32)) (sym access_is) (record { read = refl; block = refl; from = stands; size = refl });
         appended = subst (λ ms. k < appends ms i n) (sym (stays.before_it b.request request_below)) appended;
+        latest = subst (λ ms. suc n ≡ lists ms i) (sym (stays.before_it b.request request_below)) latest;
       };
       spells = orb_is;
     }

@@ -1,6 +1,7 @@
 -- How the ORB that runs, and the one that ends, was read (NCITS 325-1998, status block and command block ORB), but with the status failed, in every run in which no initiator injected
 -- packets. It is what the carried law says of its read, all but that the list was open as the read was sent: the target got a response of 32 bytes, which answers its read of the ORB's slot in its initiator,
--- sent behind the ORB's append. Of a run the bytes spell no dummy; of an end their format is 3 exactly where the status is dummy; and where it is not, they have the command block and the
+-- sent behind the ORB's append,
+-- and before its initiator began another list. Of a run the bytes spell no dummy; of an end their format is 3 exactly where the status is dummy; and where it is not, they have the command block and the
 -- direction of the append.
 use Rattle.std.specs.Prelude.{◌≡◌, ◌<◌, ◌≤◌, ℕ, suc, true, List, ◌∷◌, ◌++◌, length, map, Option, Some, IsSomeAnd}
 use Rattle.orb_layout.specs.declared.status.StatusKind.{StatusKind}
@@ -12,7 +13,7 @@ use Rattle.sbp_journal.specs.declared.note.Note.TheVariants.{Ended, Ran}
 use Rattle.sbp_laws.specs.CarriedBytes.{IsRead, address_of, before_sent, orb_read, payload_at, was_got}
 use Rattle.sbp_laws.specs.CarriedLaw.{IsAsAppended, MatchesStatus}
 use Rattle.sbp_laws.specs.Packets.{access_at, receiver_in, sender_in}
-use Rattle.sbp_laws.specs.Terms.{appends, request_at}
+use Rattle.sbp_laws.specs.Terms.{appends, lists, request_at}
 use Rattle.sbp_laws.specs.Turns.{EachMoment}
 use Rattle.sbp_world.specs.Histories.{history_of}
 use Rattle.sbp_world.specs.Runs.{Run, after, beginning}
@@ -31,6 +32,8 @@ pub record WasReadBehind (past : List Moment) (i n k : ℕ) : Type 0 where
   pub of_initiator : receiver_in ((terms past).sent request) ≡ Some (suc i)
   pub asks : IsSomeAnd (access_at (terms past) request) (λ access. IsRead access (address_of past i n k) 32)
   pub appended : k < appends (before_sent past request) i n
+  -- and the list was the latest one that its initiator had begun
+  pub latest : suc n ≡ lists (before_sent past request) i
 
 pub record EndWasRead (past : List Moment) (i n k : ℕ) (status : StatusKind) : Type 0 where
   pub read : WasReadBehind past i n k
