@@ -30,6 +30,7 @@ pub mod Opened
 pub mod Opens
 pub mod Orders
 pub mod OwnLogins
+pub mod OwnReads
 pub mod PlaceReads
 pub mod Places
 pub mod Placings
