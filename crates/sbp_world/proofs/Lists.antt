@@ -44,6 +44,8 @@ pub mod Extends
 pub mod FedFolds
 pub mod FedLaid
 pub mod FedNotes
+pub mod FedOwnerRuns
+pub mod FedOwners
 pub mod FedPieces
 pub mod FedPlaces
 pub mod FedReads

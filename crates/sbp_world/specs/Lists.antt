@@ -35,6 +35,7 @@ pub mod Opens
 pub mod Orders
 pub mod OwnLogins
 pub mod Owners
+pub mod OwnReads
 pub mod PlaceReads
 pub mod Places
 pub mod Placings

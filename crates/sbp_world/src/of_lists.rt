@@ -5,6 +5,7 @@ ghost use Rattle.sbp_world.specs.Lists.Brings.{BringsLaw};
 ghost use Rattle.sbp_world.specs.Lists.CarriedEnds.{WereReadLaw};
 ghost use Rattle.sbp_world.specs.Lists.CarriedRuns.{RunsReadLaw};
 ghost use Rattle.sbp_world.specs.Lists.FedRuns.{BesideLaw, RunsFedLaw};
+ghost use Rattle.sbp_world.specs.Lists.OwnReads.{OwnReadsLaw};
 ghost use Rattle.sbp_world.specs.Lists.Lists.{GrowingLaw};
 ghost use Rattle.sbp_world.specs.Lists.CutLists.{CutListsLaw};
 ghost use Rattle.sbp_world.specs.Lists.Closes.{ClosingLaw, OpenListsLaw};
@@ -152,6 +153,14 @@ pub fn orbs_that_run_were_read()
 #[tactic(auto, using(crate::proofs::Lists::Executes::runs_fed_law))]
 pub fn orbs_that_run_were_fed()
     ensures { RunsFedLaw }
+{}
+
+/// In every run in which no initiator injected packets, where lists were open as they should be before: what an agent waits for, to
+/// read in a page table or a buffer of an initiator that has a list open, is the main transaction of the agent that has this list,
+/// in the slot of the first ORB of it that has not ended.
+#[tactic(auto, using(crate::proofs::Lists::Clauses::own_law))]
+pub fn agents_read_for_their_own_orbs()
+    ensures { OwnReadsLaw }
 {}
 
 /// By every history, what the target got of an initiator since a response is what the agent of a place read since its turn came, and

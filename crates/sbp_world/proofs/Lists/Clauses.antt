@@ -6,10 +6,12 @@ use Rattle.sbp_world.specs.Lists.DataWrites.{DataSentLaw}
 use Rattle.sbp_world.specs.Lists.Live.{LiveLaw}
 use Rattle.sbp_world.specs.Lists.Opened.{LogoutsLaw}
 use Rattle.sbp_world.specs.Lists.ListsBeside.{ListsBesideLaw}
+use Rattle.sbp_world.specs.Lists.OwnReads.{OwnReadsLaw}
 use Rattle.sbp_world.specs.Lists.TameLists.{ListsLaw}
 use Rattle.sbp_world.proofs.Lists.AnswerLengths.{answer_lengths_law}
 use Rattle.sbp_world.proofs.Lists.CarriedEnds.{were_read_law}
 use Rattle.sbp_world.proofs.Lists.DataLaws.{data_sent_law}
+use Rattle.sbp_world.proofs.Lists.FedOwnerRuns.{own_reads_law}
 use Rattle.sbp_world.proofs.Lists.Lawful as proved
 use Rattle.sbp_world.proofs.Lists.ShortLines.{short_law}
 
@@ -36,3 +38,6 @@ data_law = data_sent_law short_law
 
 pub reads_law : WereReadLaw
 reads_law = were_read_law open_lists_law
+
+pub own_law : OwnReadsLaw
+own_law = own_reads_law open_lists_law

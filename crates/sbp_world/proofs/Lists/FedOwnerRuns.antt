@@ -1,0 +1,78 @@
+-- In every run in which no initiator injected packets, and in which lists were open as they should be before, the agents read the page tables and the data of the ORBs that are at the heads of
+-- their own lists alone.
+use Rattle.std.proofs.Common.{inl, ◌≡◌, sym, ap, subst, ◌<◌, ◌≤◌, ◌+◌, ℕ, Bool, true, false, List, ◌∷◌, ◌++◌, map, length, Option}
+use Rattle.sbp_world.proofs.Agents.Management.Still.{hist}
+use Rattle.rbc_disk.specs.Runs.{Told}
+use Rattle.sbp_journal.specs.Run.{Moment, asked, said}
+use Rattle.sbp_world.specs.Histories.{history_of}
+use Rattle.sbp_world.specs.Making.{ready_logins}
+use Rattle.sbp_world.specs.Runs.{Run, after, beginning}
+use Rattle.sbp_world.specs.Settling.{MayAll, after_all}
+use Rattle.sbp_world.specs.Worlds.{Scene, WorldState, begun}
+use Rattle.sbp_world.specs.Hosts.Runs.{IsRun, more_deliveries}
+use Rattle.sbp_world.specs.Lists.Along.{AreAlong}
+use Rattle.sbp_world.specs.Lists.Closes.{OpenListsLaw}
+use Rattle.sbp_world.specs.Lists.Needs.{IsCalm, OpenBefore, OpenLists}
+use Rattle.sbp_world.specs.Lists.Opens.{OpensLaw}
+use Rattle.sbp_world.specs.Lists.OwnLogins.{IsTame}
+use Rattle.sbp_world.specs.Lists.OwnReads.{AreOwnReads, OwnReadsLaw}
+use Rattle.sbp_world.proofs.Lists.Courses.{more_than_one}
+use Rattle.sbp_world.proofs.Lists.FedOwners.{are_own_reads}
+use Rattle.sbp_world.proofs.Lists.OpenProved.{opens_law}
+use Rattle.sbp_world.proofs.Lists.RunLaws.{along_law}
+use Rattle.sbp_world.proofs.Lists.RunSites.{site_after, site_between}
+use Rattle.sbp_world.proofs.Lists.Runs.{KeptAfter, holds_at, kept_after}
+
+nobody : (A : Type 0) → true ≡ false → A
+nobody A e = absurd (let no : true ≡ false = e in cc)
+
+abbrev wilds : ℕ → Bool
+wilds = λ i. true
+
+abbrev opened : (i : ℕ) → true ≡ false → OpensLaw
+opened i own = opens_law
+
+module _ (line : ℕ) (run : Run) (r : IsRun run) (has : 0 < run.units) (small : run.units ≤ 4) (size : length run.start.disks ≡ run.units) where
+  abbrev last : Scene
+  last = after (beginning run) run.entries
+
+  kept : KeptAfter wilds opened line run r.few has small size run.entries last.world
+  kept = kept_after wilds opened line run r.few has small size run.entries r.short r.entries r.lines (λ i f. nobody (OpenBefore line run run.entries) f) (λ i f. nobody (IsCalm (history_of line run) i) f)
+
+  abbrev logins : ℕ
+  logins = ready_logins run.initiators run.ready
+
+  own_after : OpenLists (history_of line run) last.world → AreAlong (history_of line run) last.world → IsTame (history_of line run) → AreOwnReads run.start.disks (history_of line run) last.world
+  own_after open_lists along tame =
+      let k = kept in
+      let back = sym k.is in
+      subst (λ ms. AreOwnReads run.start.disks ms last.world) k.is
+      (are_own_reads run.units logins has run.start.disks last.world k.holds (site_after line run r has small size k.past (length run.entries) k.holds back)
+      (subst (λ ms. OpenLists ms last.world) back open_lists) (subst (λ ms. AreAlong ms last.world) back along) (subst IsTame back tame))
+
+  module _ (next : ℕ) (most : Option ℕ) (told : List (Option Told)) (m : MayAll told (begun last)) where
+    abbrev end : WorldState
+    end = (after_all told (begun last)).world
+
+    abbrev ms : List Moment
+    ms = map said end.fresh ++ asked next (more_deliveries most) ∷ history_of line run
+
+    own_between : OpenLists ms end → AreAlong ms end → IsTame ms → AreOwnReads run.start.disks ms end
+    own_between open_lists along tame =
+        let k = kept in
+        let d = more_than_one most in
+        let holds = holds_at wilds opened line run r.few has small size run.entries r.short r.entries r.lines k.past (length run.entries) k.holds k.is next (more_deliveries most) d told m in
+        let is : hist (asked next (more_deliveries most) ∷ hist k.past last.world) end ≡ ms = ap (λ x. map said end.fresh ++ asked next (more_deliveries most) ∷ x) k.is in
+        let back = sym is in
+        subst (λ x. AreOwnReads run.start.disks x end) is
+        (are_own_reads run.units logins has run.start.disks end holds (site_between line run r has small size next (more_deliveries most) d told m (asked next (more_deliveries most) ∷ hist k.past last.world) (length run.entries + 1) holds back)
+        (subst (λ x. OpenLists x end) back open_lists) (subst (λ x. AreAlong x end) back along) (subst IsTame back tame))
+
+pub own_reads_law : OpenListsLaw → OwnReadsLaw
+own_reads_law lists = record {
+  after_lines = λ line run r has small size so_far tame.
+      own_after line run r has small size (lists.after_lines line run r has small size (inl tame)) (along_law.after_lines line run r has small size so_far) tame;
+  between = λ line run r has small size next most told m so_far tame.
+      own_between line run r has small size next most told m (lists.between line run r has small size next (more_deliveries most) (more_than_one most) told m (inl tame))
+      (along_law.between line run r has small size next (more_deliveries most) (more_than_one most) told m so_far) tame;
+}
