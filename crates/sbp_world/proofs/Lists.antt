@@ -401,4 +401,5 @@ pub mod NamedPlaces
 pub mod EndNames
 pub mod RunNames
 pub mod CarriedEnds
+pub mod OneUp
 pub mod PlaceOwners

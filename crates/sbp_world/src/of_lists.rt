@@ -33,6 +33,7 @@ ghost use Rattle.sbp_world.specs.Lists.DataWrites.{DataSentLaw, DataWritesLaw};
 ghost use Rattle.sbp_world.specs.Lists.FifoWrites.{FifoWritesLaw};
 ghost use Rattle.sbp_world.specs.Lists.Live.{LiveLaw};
 ghost use Rattle.sbp_world.specs.Lists.Managing.{ManagingLaw};
+ghost use Rattle.sbp_world.specs.Lists.OneUp.{OneUpLaw};
 ghost use Rattle.sbp_world.specs.Lists.Opened.{LogoutsLaw};
 ghost use Rattle.sbp_world.specs.Lists.TameLists.{ListsLaw};
 ghost use Rattle.sbp_world.specs.Lists.CarriedOrbs.{CarriedOrbsLaw};
@@ -397,4 +398,11 @@ pub fn answers_are_sent_in_chunks()
 #[tactic(auto, using(crate::proofs::Lists::Clauses::reads_law))]
 pub fn orbs_were_read_behind_their_appends()
     ensures { WereReadLaw }
+{}
+
+/// In every run in which no initiator injected packets no two agents of the target are out of RESET of one initiator, be they DEAD:
+/// after every line, and behind each delivery of a line that delivers one packet after the other.
+#[tactic(auto, using(crate::proofs::Lists::Clauses::one_up))]
+pub fn initiators_have_one_agent_up()
+    ensures { OneUpLaw }
 {}

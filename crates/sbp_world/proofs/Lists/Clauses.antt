@@ -4,12 +4,14 @@ use Rattle.sbp_world.specs.Lists.CarriedEnds.{WereReadLaw}
 use Rattle.sbp_world.specs.Lists.Closes.{OpenListsLaw}
 use Rattle.sbp_world.specs.Lists.DataWrites.{DataSentLaw}
 use Rattle.sbp_world.specs.Lists.Live.{LiveLaw}
+use Rattle.sbp_world.specs.Lists.OneUp.{OneUpLaw}
 use Rattle.sbp_world.specs.Lists.Opened.{LogoutsLaw}
 use Rattle.sbp_world.specs.Lists.TameLists.{ListsLaw}
 use Rattle.sbp_world.proofs.Lists.AnswerLengths.{answer_lengths_law}
 use Rattle.sbp_world.proofs.Lists.CarriedEnds.{were_read_law}
 use Rattle.sbp_world.proofs.Lists.DataLaws.{data_sent_law}
 use Rattle.sbp_world.proofs.Lists.Lawful as proved
+use Rattle.sbp_world.proofs.Lists.OneUp.{one_up_law}
 use Rattle.sbp_world.proofs.Lists.ShortLines.{short_law}
 
 pub sessions_law : LiveLaw
@@ -32,3 +34,6 @@ data_law = data_sent_law short_law
 
 pub reads_law : WereReadLaw
 reads_law = were_read_law open_lists_law
+
+pub one_up : OneUpLaw
+one_up = one_up_law short_law open_lists_law
