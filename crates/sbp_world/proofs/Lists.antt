@@ -402,4 +402,5 @@ pub mod EndNames
 pub mod RunNames
 pub mod CarriedEnds
 pub mod OneUp
+pub mod SendsLast
 pub mod PlaceOwners
