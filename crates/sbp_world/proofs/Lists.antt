@@ -433,4 +433,6 @@ pub mod NamedPlaces
 pub mod EndNames
 pub mod RunNames
 pub mod CarriedEnds
+pub mod OneUp
+pub mod SendsLast
 pub mod PlaceOwners

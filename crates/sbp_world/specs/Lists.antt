@@ -24,6 +24,7 @@ pub mod LoginAnswers
 pub mod OrbReads
 pub mod CarriedRuns
 pub mod CarriedEnds
+pub mod OneUp
 pub mod EndReads
 pub mod OrbNames
 pub mod ManagedFor

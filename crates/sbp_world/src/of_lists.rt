@@ -37,6 +37,7 @@ ghost use Rattle.sbp_world.specs.Lists.DueRuns.{DueRunsLaw};
 ghost use Rattle.sbp_world.specs.Lists.FifoWrites.{FifoWritesLaw};
 ghost use Rattle.sbp_world.specs.Lists.Live.{LiveLaw};
 ghost use Rattle.sbp_world.specs.Lists.Managing.{ManagingLaw};
+ghost use Rattle.sbp_world.specs.Lists.OneUp.{OneUpLaw};
 ghost use Rattle.sbp_world.specs.Lists.Opened.{LogoutsLaw};
 ghost use Rattle.sbp_world.specs.Lists.ListsBeside.{ListsBesideLaw};
 ghost use Rattle.sbp_world.specs.Lists.TameLists.{ListsLaw};
@@ -443,10 +444,17 @@ pub fn answers_are_written_before_the_end()
 
 /// In every run in which no initiator injected packets the ORB of each run, and of each end but with the status failed, was read as
 /// the carried law says, all but that its list was open as the read was sent: the target got a response of 32 bytes, which answers
-/// its read of the ORB's slot in its initiator, sent behind the ORB's append and before another list began. What runs is no dummy, an ORB has format 3 exactly
-/// where it ends so, and else the command and the direction of its append. After every line, and behind each delivery of a line
-/// that delivers one packet after the other.
+/// its read of the ORB's slot in its initiator, sent behind the ORB's append and before another list began. What runs is no dummy,
+/// an ORB has format 3 exactly where it ends so, and else the command and the direction of its append. After every line, and behind
+/// each delivery of a line that delivers one packet after the other.
 #[tactic(auto, using(crate::proofs::Lists::Clauses::reads_law))]
 pub fn orbs_were_read_behind_their_appends()
     ensures { WereReadLaw }
+{}
+
+/// In every run in which no initiator injected packets no two agents of the target are out of RESET of one initiator, be they DEAD:
+/// after every line, and behind each delivery of a line that delivers one packet after the other.
+#[tactic(auto, using(crate::proofs::Lists::Clauses::one_up))]
+pub fn initiators_have_one_agent_up()
+    ensures { OneUpLaw }
 {}

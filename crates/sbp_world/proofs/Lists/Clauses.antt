@@ -4,6 +4,7 @@ use Rattle.sbp_world.specs.Lists.CarriedEnds.{WereReadLaw}
 use Rattle.sbp_world.specs.Lists.Closes.{OpenListsLaw}
 use Rattle.sbp_world.specs.Lists.DataWrites.{DataSentLaw}
 use Rattle.sbp_world.specs.Lists.Live.{LiveLaw}
+use Rattle.sbp_world.specs.Lists.OneUp.{OneUpLaw}
 use Rattle.sbp_world.specs.Lists.Opened.{LogoutsLaw}
 use Rattle.sbp_world.specs.Lists.ListsBeside.{ListsBesideLaw}
 use Rattle.sbp_world.specs.Lists.OwnReads.{OwnReadsLaw}
@@ -13,6 +14,7 @@ use Rattle.sbp_world.proofs.Lists.CarriedEnds.{were_read_law}
 use Rattle.sbp_world.proofs.Lists.DataLaws.{data_sent_law}
 use Rattle.sbp_world.proofs.Lists.FedOwnerRuns.{own_reads_law}
 use Rattle.sbp_world.proofs.Lists.Lawful as proved
+use Rattle.sbp_world.proofs.Lists.OneUp.{one_up_law}
 use Rattle.sbp_world.proofs.Lists.ShortLines.{short_law}
 
 pub sessions_law : LiveLaw
@@ -41,3 +43,6 @@ reads_law = were_read_law open_lists_law
 
 pub own_law : OwnReadsLaw
 own_law = own_reads_law open_lists_law
+
+pub one_up : OneUpLaw
+one_up = one_up_law short_law open_lists_law

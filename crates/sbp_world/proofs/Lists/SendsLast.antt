@@ -1,0 +1,452 @@
+-- What a node hands out behind the first note of a turn: what it tells, and its packets behind that.
+use Rattle.std.proofs.Common.{◌≡◌, ◌∙◌, refl, sym, ap, subst, ℕ, zero, suc, ◌+◌, ◌-◌, ◌==◌, ◌<◌, ◌≤◌, nat_lt, Bool, true, false, cond, List, [], ◌∷◌, ◌++◌, length, Option, Some, None, Result, Ok, Err, arith}
+use Rattle.std.proofs.lemmas.Bool.Decides.{nat_tests}
+use Rattle.std.specs.Prelude.{slice_index_or, slice_set}
+use Rattle.async_packet.specs.Labels.{LabelParts}
+use Rattle.label_table.specs.declared.reply.Stale.{Stale}
+use Rattle.packet_store.specs.declared.sent.Sent.{Sent}
+use Rattle.packet_store.specs.Kept.{found_sent}
+use Rattle.rbc_disk.specs.Runs.{Told}
+use Rattle.sbp_bus.specs.declared.requests.Request.{Request}
+use Rattle.sbp_bus.specs.Generations.{id_of, node_of}
+use Rattle.sbp_bus.specs.Packets.{judged_note, no_node, no_packet}
+use Rattle.sbp_bus.specs.Requests.{find}
+use Rattle.sbp_initiator.specs.Acting.{act_step}
+use Rattle.sbp_initiator.specs.Effects.{Turn}
+use Rattle.sbp_initiator.specs.Initiators.{new_state}
+use Rattle.sbp_initiator.specs.declared.state.InitiatorState.{InitiatorState}
+use Rattle.sbp_initiator.specs.Receiving.{expire_step, receive_step}
+use Rattle.sbp_initiator.specs.Seeing.{see_step}
+use Rattle.sbp_journal.specs.Outgoings.{OutboxState, empty_outbox}
+use Rattle.sbp_journal.specs.declared.cause.Judged.{Judged}
+use Rattle.sbp_journal.specs.declared.cause.Judged.TheVariants as judgements
+use Rattle.sbp_journal.specs.declared.event.Action.{Action}
+use Rattle.sbp_journal.specs.declared.note.Note.{Note}
+use Rattle.sbp_journal.specs.declared.note.Note.TheVariants as notes
+use Rattle.sbp_journal.specs.declared.outbox.Outgoing.{Outgoing}
+use Rattle.sbp_journal.specs.declared.side.Side.{Side}
+use Rattle.sbp_journal.specs.declared.side.Side.TheVariants as sides
+use Rattle.sbp_target.specs.Nodes.{NodeState}
+use Rattle.sbp_target.specs.Nodes as target
+use Rattle.sbp_target.specs.Receiving.{expired, with_key}
+use Rattle.sbp_world.specs.declared.parts.delivering.Arrival.{Arrival}
+use Rattle.sbp_world.specs.Delivering.{MayAt, MayReceive, MayTold, arrived, at_target, delivered, delivered_by, initiator_received, initiators_received, marked, received_by, received_step, target_received, with_initiators}
+use Rattle.sbp_world.specs.Handing.{handed_out}
+use Rattle.sbp_world.specs.Lines.{acted, acted_by, keyed, no_unit, weight_in}
+use Rattle.sbp_world.specs.Nodes.{handed_all, initiator_learns, reset_line, see_line, target_learns, target_sees, target_ticks, tick_line, told_seen, with_seen}
+use Rattle.sbp_world.specs.Nodes as nodes
+use Rattle.sbp_world.specs.Packets.{MayIf, delivered_if, expires, initiator_expires, inject_line, injected, injected_to, is_in_flight, lose_line, lost, refused, target_expired, target_left, timed_out, timeout_line, timeout_of}
+use Rattle.sbp_world.specs.Packets as packets
+use Rattle.sbp_world.specs.Sending.{asked, posted, sent, sent_all, sent_to}
+use Rattle.sbp_world.specs.Telling.{told, told_all}
+use Rattle.sbp_world.specs.Worlds.{Scene, WorldState, initiator_at, with_initiator, with_note, with_target}
+use Rattle.sbp_world.proofs.Wire.Comes.{own_inside, own_outside, received_is, to_own, to_zero}
+use Rattle.sbp_world.proofs.Agents.Management.InitiatorTells as own
+use Rattle.sbp_world.proofs.Agents.Management.Owned.{AreOwn, IsNoRun}
+use Rattle.sbp_world.specs.Hosts.Handing.{AreOthers, IsOther}
+use Rattle.sbp_world.proofs.Hosts.Hands.{hand_law}
+use Rattle.sbp_world.proofs.Lists.Extends.{marked_fresh}
+
+-- ---- notes
+-- what begins a turn; a packet; and what else is told
+abbrev pub IsStart : Note → Type 0
+IsStart (notes.Got serial) = Unit {0}
+IsStart (notes.Ignored serial cause) = Unit {0}
+IsStart (notes.TimedOut serial) = Unit {0}
+IsStart (notes.Seen node generation) = Unit {0}
+IsStart notes.Tick = Unit {0}
+IsStart notes.Settled = Unit {0}
+IsStart notes.Stopped = Unit {0}
+IsStart note = ⊥
+
+abbrev pub IsSend : Note → Type 0
+IsSend (notes.Sent serial generation from to bytes) = Unit {0}
+IsSend note = ⊥
+
+abbrev pub IsEffect : Note → Type 0
+IsEffect (notes.Sent serial generation from to bytes) = ⊥
+IsEffect (notes.Got serial) = ⊥
+IsEffect (notes.Ignored serial cause) = ⊥
+IsEffect (notes.TimedOut serial) = ⊥
+IsEffect (notes.Seen node generation) = ⊥
+IsEffect notes.Tick = ⊥
+IsEffect notes.Settled = ⊥
+IsEffect notes.Stopped = ⊥
+IsEffect note = Unit {0}
+
+abbrev pub AllEffects : List Note → Type 0
+AllEffects [] = Unit {0}
+AllEffects (note ∷ later) = IsEffect note × AllEffects later
+
+abbrev pub AllSends : List Note → Type 0
+AllSends [] = Unit {0}
+AllSends (note ∷ later) = IsSend note × AllSends later
+
+-- notes stand behind others: effects, or packets, or effects and packets behind these
+pub record Effects (old new : List Note) : Type 0 where
+  pub more : List Note
+  pub is : more ++ old ≡ new
+  pub effects : AllEffects more
+
+pub record Sends (old new : List Note) : Type 0 where
+  pub more : List Note
+  pub is : more ++ old ≡ new
+  pub sends : AllSends more
+
+pub record Hands (old new : List Note) : Type 0 where
+  pub middle : List Note
+  pub told : Effects old middle
+  pub sent : Sends middle new
+
+-- behind the first note of a turn, or without one
+pub data Shaped (old new : List Note) : Type 0 where
+  goes : Hands old new → Shaped old new
+  begins : (note : Note) → IsStart note → Hands (note ∷ old) new → Shaped old new
+
+joined : (a b c : List Note) → (a ++ b) ++ c ≡ a ++ (b ++ c)
+joined [] b c = refl
+joined (m ∷ a) b c = ap (λ ns. m ∷ ns) (joined a b c)
+
+both : (a b : List Note) → AllEffects a → AllEffects b → AllEffects (a ++ b)
+both [] b x y = y
+both (m ∷ a) b x y = (x.0, both a b x.1 y)
+
+both_sends : (a b : List Note) → AllSends a → AllSends b → AllSends (a ++ b)
+both_sends [] b x y = y
+both_sends (m ∷ a) b x y = (x.0, both_sends a b x.1 y)
+
+quiet_none : (ns : List Note) → Effects ns ns
+quiet_none ns = record { more = []; is = refl; effects = tt }
+
+quiet_then : (one two three : List Note) → Effects one two → Effects two three → Effects one three
+quiet_then one two three a b = record { more = b.more ++ a.more; is = joined b.more a.more one ∙ ap (λ ns. b.more ++ ns) a.is ∙ b.is; effects = both b.more a.more b.effects a.effects }
+
+quiet_one : (note : Note) (ns : List Note) → IsEffect note → Effects ns (note ∷ ns)
+quiet_one note ns q = record { more = note ∷ []; is = refl; effects = (q, tt) }
+
+no_sends : (ns : List Note) → Sends ns ns
+no_sends ns = record { more = []; is = refl; sends = tt }
+
+sends_then : (one two three : List Note) → Sends one two → Sends two three → Sends one three
+sends_then one two three a b = record { more = b.more ++ a.more; is = joined b.more a.more one ∙ ap (λ ns. b.more ++ ns) a.is ∙ b.is; sends = both_sends b.more a.more b.sends a.sends }
+
+hands_none : (ns : List Note) → Hands ns ns
+hands_none ns = record { middle = ns; told = quiet_none ns; sent = no_sends ns }
+
+told_one : (note : Note) (ns : List Note) → IsEffect note → Shaped ns (note ∷ ns)
+told_one note ns q = goes (record { middle = note ∷ ns; told = quiet_one note ns q; sent = no_sends (note ∷ ns) })
+
+first_one : (note : Note) (ns : List Note) → IsStart note → Shaped ns (note ∷ ns)
+first_one note ns q = begins note q (hands_none (note ∷ ns))
+
+-- ---- packets
+asked_sends : (serial to node peer : ℕ) (label : Option LabelParts) (old : List Note) (w : WorldState) → Sends old w.fresh → Sends old (asked serial to node peer label w).fresh
+asked_sends serial to node peer None old w e = e
+asked_sends serial to node peer (Some label) old w e = e
+
+posted_sends : (from to : ℕ) (bytes : List ℕ) (w : WorldState) → Sends w.fresh (posted from to false bytes w).fresh
+unfolding posted
+posted_sends from to bytes w = record { more = notes.Sent _ _ from to bytes ∷ []; is = refl; sends = (tt, tt) }
+
+posted_shaped : (from to : ℕ) (bytes : List ℕ) (w : WorldState) → Shaped w.fresh (posted from to true bytes w).fresh
+unfolding posted
+posted_shaped from to bytes w =
+    goes (record { middle = notes.Injected _ ∷ w.fresh; told = quiet_one (notes.Injected _) w.fresh tt; sent = record { more = notes.Sent _ _ from to bytes ∷ []; is = refl; sends = (tt, tt) } })
+
+to_sends : (to : Option ℕ) (from : ℕ) (packet : Outgoing) (w : WorldState) → Sends w.fresh (sent_to to from packet w).fresh
+to_sends None from packet w = no_sends w.fresh
+to_sends (Some to) from packet w = asked_sends (w.store.last + 1) to from packet.to packet.label w.fresh (posted from to false packet.bytes w) (posted_sends from to packet.bytes w)
+
+all_sent : (from : ℕ) (outgoing : List Outgoing) (w : WorldState) → Sends w.fresh (sent_all from outgoing w).fresh
+unfolding sent_all sent
+all_sent from [] w = no_sends w.fresh
+all_sent from (packet ∷ later) w =
+    let v = sent from packet w in sends_then w.fresh v.fresh (sent_all from later v).fresh (to_sends (node_of w.generations from packet.to) from packet w) (all_sent from later v)
+
+-- ---- what is told
+abbrev IsQuietSide : Side → Type 0
+IsQuietSide (sides.Own note) = IsEffect note
+IsQuietSide side = Unit {0}
+
+abbrev AreQuiet : List Side → Type 0
+AreQuiet [] = Unit {0}
+AreQuiet (side ∷ later) = IsQuietSide side × AreQuiet later
+
+one_told : (weight : ℕ) (side : Side) (w : WorldState) → IsQuietSide side → Effects w.fresh (told weight side w).fresh
+unfolding told
+one_told weight (sides.Own note) w q = quiet_one note w.fresh q
+one_told weight (sides.Opened place orb) w q = quiet_none w.fresh
+one_told weight (sides.Ran place orb cdb payload outcome) w q = record { more = notes.Ran _ _ _ _ _ _ _ ∷ []; is = refl; effects = (tt, tt) }
+one_told weight (sides.Ended place orb status) w q = record { more = notes.Ended _ _ _ _ ∷ []; is = refl; effects = (tt, tt) }
+one_told weight (sides.Dead place cause) w q = record { more = notes.Dead _ _ _ ∷ []; is = refl; effects = (tt, tt) }
+one_told weight (sides.Cut place cause) w q = record { more = notes.Cut _ _ _ ∷ []; is = refl; effects = (tt, tt) }
+one_told weight (sides.Managed node function subject status login) w q = record { more = notes.Managed _ _ _ _ _ ∷ []; is = refl; effects = (tt, tt) }
+one_told weight (sides.ManageFailed node cause) w q = record { more = notes.ManageFailed _ _ ∷ []; is = refl; effects = (tt, tt) }
+one_told weight (sides.Held login) w q = quiet_one (notes.Held login) w.fresh tt
+one_told weight (sides.Expired login) w q = quiet_one (notes.Expired login) w.fresh tt
+one_told weight (sides.Back login) w q = quiet_one (notes.Back login) w.fresh tt
+one_told weight (sides.Left login) w q = quiet_one (notes.Left login) w.fresh tt
+one_told weight (sides.Cleared unit) w q = quiet_one (notes.Cleared unit) w.fresh tt
+one_told weight (sides.Unsolicited place) w q = record { more = notes.Unsolicited _ ∷ []; is = refl; effects = (tt, tt) }
+one_told weight (sides.Unsent place) w q = record { more = notes.Unsent _ ∷ []; is = refl; effects = (tt, tt) }
+
+all_told : (weight : ℕ) (side : List Side) (w : WorldState) → AreQuiet side → Effects w.fresh (told_all weight side w).fresh
+unfolding told_all
+all_told weight [] w q = quiet_none w.fresh
+all_told weight (side ∷ later) w q =
+    let v = told weight side w in quiet_then w.fresh v.fresh (told_all weight later v).fresh (one_told weight side w q.0) (all_told weight later v q.1)
+
+handed_quiet : (node weight : ℕ) (outbox : OutboxState) (w : WorldState) → AreQuiet outbox.sides → Hands w.fresh (handed_out node weight outbox w).fresh
+handed_quiet node weight outbox w q =
+    let v = told_all weight outbox.sides w in record { middle = v.fresh; told = all_told weight outbox.sides w q; sent = all_sent node outbox.packets v }
+
+-- the target, and the initiators
+other_quiet : (side : Side) → IsOther side → IsQuietSide side
+other_quiet (sides.Own note) o = absurd o
+other_quiet (sides.Opened place orb) o = tt
+other_quiet (sides.Ran place orb cdb payload outcome) o = tt
+other_quiet (sides.Ended place orb status) o = tt
+other_quiet (sides.Dead place cause) o = tt
+other_quiet (sides.Cut place cause) o = tt
+other_quiet (sides.Managed node function subject status login) o = tt
+other_quiet (sides.ManageFailed node cause) o = tt
+other_quiet (sides.Held login) o = tt
+other_quiet (sides.Expired login) o = tt
+other_quiet (sides.Back login) o = tt
+other_quiet (sides.Left login) o = tt
+other_quiet (sides.Cleared unit) o = tt
+other_quiet (sides.Unsolicited place) o = tt
+other_quiet (sides.Unsent place) o = tt
+
+others_quiet : (side : List Side) → AreOthers side → AreQuiet side
+others_quiet [] o = tt
+others_quiet (one ∷ later) o = (other_quiet one o.0, others_quiet later o.1)
+
+note_quiet : (note : Note) → IsNoRun note → IsEffect note
+note_quiet (notes.Sent serial generation from to bytes) h = absurd h
+note_quiet (notes.Got serial) h = absurd h
+note_quiet (notes.Ignored serial cause) h = absurd h
+note_quiet (notes.TimedOut serial) h = absurd h
+note_quiet (notes.Seen node generation) h = absurd h
+note_quiet notes.Tick h = absurd h
+note_quiet notes.Settled h = absurd h
+note_quiet notes.Stopped h = absurd h
+note_quiet note h = tt
+
+own_quiet : (side : List Side) → AreOwn side → AreQuiet side
+own_quiet [] h = tt
+own_quiet (sides.Own note ∷ later) h = (note_quiet note h.0.1, own_quiet later h.1)
+own_quiet (sides.Opened a b ∷ later) h = absurd h.0
+own_quiet (sides.Ran a b c d e ∷ later) h = absurd h.0
+own_quiet (sides.Ended a b c ∷ later) h = absurd h.0
+own_quiet (sides.Dead a b ∷ later) h = absurd h.0
+own_quiet (sides.Cut a b ∷ later) h = absurd h.0
+own_quiet (sides.Managed a b c d e ∷ later) h = absurd h.0
+own_quiet (sides.ManageFailed a b ∷ later) h = absurd h.0
+own_quiet (sides.Held a ∷ later) h = absurd h.0
+own_quiet (sides.Expired a ∷ later) h = absurd h.0
+own_quiet (sides.Back a ∷ later) h = absurd h.0
+own_quiet (sides.Left a ∷ later) h = absurd h.0
+own_quiet (sides.Cleared a ∷ later) h = absurd h.0
+own_quiet (sides.Unsolicited a ∷ later) h = absurd h.0
+own_quiet (sides.Unsent a ∷ later) h = absurd h.0
+
+-- ---- a packet is delivered: the note of its judgement comes first
+pub data Hears (old new : List Note) : Type 0 where
+  unheard : new ≡ old → Hears old new
+  hears : (serial : ℕ) (judged : Judged) → Hands (judged_note serial judged ∷ old) new → Hears old new
+
+module _ (s : Scene) (serial : ℕ) (again : Bool) (run : Option Told) where
+  abbrev w : WorldState
+  w = s.world
+
+  abbrev after_it : WorldState
+  after_it = (delivered serial again run s).world
+
+  abbrev C : Type 0
+  C = Hears w.fresh after_it.fresh
+
+  behind_judged : (node : ℕ) (judged : Judged) (outbox : OutboxState) (v : WorldState) → v.fresh ≡ w.fresh → AreQuiet outbox.sides → Hears w.fresh (handed_out node 0 outbox (with_note (judged_note serial judged) (marked serial again v))).fresh
+  behind_judged node judged outbox v e q =
+      let note = judged_note serial judged in
+      let u = with_note note (marked serial again v) in
+      hears serial judged (subst (λ ns. Hands (note ∷ ns) (handed_out node 0 outbox u).fresh) (marked_fresh serial again v ∙ e) (handed_quiet node 0 outbox u q))
+
+  module _ (one : Sent) (found : found_sent serial w.store.kept ≡ Some one) where
+    target_comes : one.to ≡ 0 → AreOthers (target_received run one w.target s.media).1.0.sides → C
+    unfolding delivered target_received arrived
+    target_comes zero_to others =
+        let x = target_received run one w.target s.media in
+        let last_is : after_it ≡ handed_out one.to 0 x.1.0 (with_note (judged_note serial x.0) (marked serial again (with_target x.1.1.0 w))) =
+        ap (λ (y : Option Arrival × (OutboxState × Scene)). (delivered_by serial again y).world)
+        (received_is run serial s one found ∙ ap (λ b. cond b (at_target one.to (target_received run one w.target s.media) s) (initiator_received one s)) (to_zero one.to zero_to)) in
+        subst (λ (v : WorldState). Hears w.fresh v.fresh) (sym last_is) (behind_judged one.to x.0 x.1.0 (with_target x.1.1.0 w) refl (others_quiet x.1.0.sides others))
+
+    own_comes : (i : ℕ) → one.to ≡ suc i → i < length w.initiators → C
+    unfolding delivered initiators_received arrived
+    own_comes i to_is inside =
+        let old = slice_index_or w.initiators i (new_state 0 false) in
+        let x = receive_step one.generation one.bytes empty_outbox old in
+        let v = with_initiators (slice_set w.initiators i x.1.1) w in
+        let last_is : after_it ≡ handed_out one.to 0 x.1.0 (with_note (judged_note serial x.0) (marked serial again v)) =
+        ap (λ (y : Option Arrival × (OutboxState × Scene)). (delivered_by serial again y).world) (to_own run serial i s one found to_is ∙ own_inside one i s inside) in
+        subst (λ (u : WorldState). Hears w.fresh u.fresh) (sym last_is) (behind_judged one.to x.0 x.1.0 v refl (own_quiet x.1.0.sides (own.receives one.generation one.bytes empty_outbox old tt)))
+
+    none_comes : (i : ℕ) → one.to ≡ suc i → length w.initiators ≤ i → C
+    unfolding delivered
+    none_comes i to_is outside =
+        unheard (ap (λ (y : Option Arrival × (OutboxState × Scene)). (delivered_by serial again y).world.fresh) (to_own run serial i s one found to_is ∙ own_outside one i s outside))
+
+    comes_at : (to : ℕ) → one.to ≡ to → (one.to ≡ 0 → AreOthers (target_received run one w.target s.media).1.0.sides) → C
+    comes_at zero e o = target_comes e (o e)
+    comes_at (suc i) e o = by (nat_lt i (length w.initiators)) refl
+      where
+        by : (b : Bool) → nat_lt i (length w.initiators) ≡ b → C
+        by true f = own_comes i e (grind (arith, nat_tests))
+        by false f = none_comes i e (grind (arith, nat_tests))
+
+  comes_by : (found : Option Sent) → found_sent serial w.store.kept ≡ found → MayAt run found s → C
+  unfolding delivered received_step
+  comes_by None e m = unheard (ap (λ o. (delivered_by serial again (received_by run o s)).world.fresh) e)
+  comes_by (Some one) e m = comes_at one e one.to refl (λ z. hand_law.received run one w.target s.media (subst (λ b. MayTold b run one s) (to_zero one.to z) m))
+
+  pub delivery_hears : MayReceive run serial s → C
+  unfolding MayReceive
+  delivery_hears m = comes_by (found_sent serial w.store.kept) refl m
+
+judged_starts : (serial : ℕ) (judged : Judged) → IsStart (judged_note serial judged)
+judged_starts serial judgements.Got = tt
+judged_starts serial (judgements.Ignored cause) = tt
+
+heard_shaped : (old new : List Note) → Hears old new → Shaped old new
+heard_shaped old new (unheard e) = goes (subst (Hands old) (sym e) (hands_none old))
+heard_shaped old new (hears serial judged h) = begins (judged_note serial judged) (judged_starts serial judged) h
+
+-- ---- the other lines
+module _ (w : WorldState) where
+  abbrev Q : WorldState → Type 0
+  Q v = Shaped w.fresh v.fresh
+
+  refuses : (line number : ℕ) → Q (refused line number w)
+  refuses line number = told_one (notes.Refused line number) w.fresh tt
+
+  -- an initiator acts
+  module _ (line i : ℕ) (action : Action) where
+    acts_by : (x : Option ℕ × Turn) → AreOwn x.1.0.sides → Q (acted_by x line i action w)
+    acts_by (Some number, (outbox, state)) h = told_one (notes.Refused line number) w.fresh tt
+    acts_by (None, (outbox, state)) h = goes (handed_quiet (i + 1) (weight_in action) outbox (with_initiator i state w) (own_quiet outbox.sides h))
+
+    pub acts : Q (acted line i action w)
+    unfolding acted
+    acts = acts_by (act_step action empty_outbox (initiator_at w i)) (own.acts action empty_outbox (initiator_at w i) tt)
+
+  -- the bus is reset, and a generation is seen
+  pub resets : (physical : List ℕ) → Q (reset_line physical w)
+  unfolding reset_line
+  resets physical = told_one (notes.Reset _) w.fresh tt
+
+  target_sight : Q (see_line 0 w)
+  unfolding see_line nodes.sees target_sees
+  target_sight =
+      let g = w.generations.latest in
+      let x = target_sees g.generation (id_of g 0) w.target in
+      let one = with_seen 0 (told_seen 0 w) in
+      begins (notes.Seen 0 g.generation) tt
+      (handed_quiet 0 0 x.0 (with_target x.1 one) (others_quiet x.0.sides (hand_law.sees g.generation (id_of g 0) w.target)))
+
+  own_sight : (i : ℕ) → Q (see_line (suc i) w)
+  unfolding see_line nodes.sees
+  own_sight i =
+      let g = w.generations.latest in
+      let one = with_seen (suc i) (told_seen (suc i) w) in
+      let t = see_step g.generation (id_of g (suc i)) (id_of g 0) empty_outbox (initiator_at w (suc i - 1)) in
+      let two = with_initiator (suc i - 1) t.1 one in
+      let other : (suc i == 0) ≡ false = grind (arith, nat_tests) in
+      subst (λ b. Q (handed_all (suc i) (cond b (target_learns one) (initiator_learns (suc i) one)))) (sym other)
+      (begins (notes.Seen (suc i) g.generation) tt
+      (handed_quiet (suc i) 0 t.0 two (own_quiet t.0.sides (own.sees g.generation (id_of g (suc i)) (id_of g 0) empty_outbox (initiator_at w (suc i - 1)) tt))))
+
+  pub sights : (node : ℕ) → Q (see_line node w)
+  sights zero = target_sight
+  sights (suc i) = own_sight i
+
+  -- a packet is lost, or injected
+  pub loses : (line serial : ℕ) → Q (lose_line line serial w)
+  unfolding lose_line
+  loses line serial = by (is_in_flight serial w)
+    where
+      by : (b : Bool) → Q (cond b (lost serial w) (refused line no_packet w))
+      by true = told_one (notes.Lost serial) w.fresh tt
+      by false = refuses line no_packet
+
+  injects_to : (line from : ℕ) (bytes : List ℕ) (to : Option ℕ) → Q (injected to line from bytes w)
+  injects_to line from bytes None = refuses line no_node
+  injects_to line from bytes (Some to) = posted_shaped from to bytes w
+
+  pub injects : (line i : ℕ) (bytes : List ℕ) → Q (inject_line line i bytes w)
+  unfolding inject_line
+  injects line i bytes = injects_to line (i + 1) bytes (injected_to (i + 1) bytes w)
+
+  -- a transaction times out
+  module _ (line serial : ℕ) (request : Request) where
+    target_lapse : (y : Result (Unit {0}) Stale × target.Scene) → AreOthers y.1.outbox.sides → Q (timed_out line serial request.node (packets.at_target (target_left y w.target) w))
+    target_lapse (Ok done, t) o =
+        let u = with_note (notes.TimedOut serial) (with_target t.node w) in
+        begins (notes.TimedOut serial) tt (handed_quiet request.node 0 t.outbox u (others_quiet t.outbox.sides o))
+    target_lapse (Err stale, t) o = refuses line no_packet
+
+    own_lapse : (i : ℕ) (x : Bool × Turn) → AreOwn x.1.0.sides → Q (timed_out line serial request.node (packets.at_initiator i x w))
+    own_lapse i (true, (outbox, state)) h =
+        let u = with_note (notes.TimedOut serial) (with_initiator i state w) in
+        begins (notes.TimedOut serial) tt (handed_quiet request.node 0 outbox u (own_quiet outbox.sides h))
+    own_lapse i (false, (outbox, state)) h = refuses line no_packet
+
+    own_lapses : Q (timed_out line serial request.node (initiator_expires request w))
+    own_lapses = by (nat_lt (request.node - 1) (length w.initiators))
+      where
+        old : InitiatorState
+        old = initiator_at w (request.node - 1)
+
+        by : (b : Bool) → Q (timed_out line serial request.node (cond b (packets.at_initiator (request.node - 1) (expire_step request.label empty_outbox old) w) (false, (empty_outbox, w))))
+        by true = own_lapse (request.node - 1) (expire_step request.label empty_outbox old) (own.expires request.label empty_outbox old tt)
+        by false = refuses line no_packet
+
+    lapses : Q (timed_out line serial request.node (expires request w))
+    unfolding expires target_expired
+    lapses = by (request.node == 0)
+      where
+        by : (b : Bool) → Q (timed_out line serial request.node (cond b (packets.at_target (target_expired request w.target) w) (initiator_expires request w)))
+        by true = target_lapse (expired request.peer request.label (target.scene w.target empty_outbox)) (hand_law.expires request.peer request.label w.target)
+        by false = own_lapses
+
+  late_by : (line serial : ℕ) (request : Option Request) → Q (timeout_of request line serial w)
+  late_by line serial None = refuses line no_packet
+  late_by line serial (Some request) = lapses line serial request
+
+  pub late : (line serial : ℕ) → Q (timeout_line line serial w)
+  unfolding timeout_line
+  late line serial = late_by line serial (find w.requests serial)
+
+  -- a second passes, and a key is set
+  pub ticks : Q (tick_line w)
+  unfolding tick_line target_ticks
+  ticks =
+      let x = target_ticks w.target in
+      let u = with_target x.1 (with_note notes.Tick w) in
+      begins notes.Tick tt (handed_quiet 0 0 x.0 u (others_quiet x.0.sides (hand_law.ticks w.target)))
+
+  pub keys : (line unit : ℕ) (key : List ℕ) → Q (keyed line unit key w)
+  unfolding keyed
+  keys line unit key = by (nat_lt unit (length w.target.units))
+    where
+      by : (b : Bool) → Q (cond b (with_note (notes.Key unit) (with_target (with_key unit key w.target) w)) (refused line no_unit w))
+      by true = told_one (notes.Key unit) w.fresh tt
+      by false = refuses line no_unit
+
+-- ---- a line that delivers one packet at most
+module _ (s : Scene) (line serial : ℕ) (again : Bool) where
+  pub one_comes : (b : Bool) (run : List (Option Told)) → MayIf b serial run s → Shaped s.world.fresh (delivered_if b line serial again run s).world.fresh
+  one_comes true [] m = absurd m
+  one_comes true (one ∷ []) m = heard_shaped s.world.fresh (delivered serial again one s).world.fresh (delivery_hears s serial again one m)
+  one_comes true (one ∷ other ∷ more) m = absurd m
+  one_comes false run m = told_one (notes.Refused line no_packet) s.world.fresh tt
