@@ -385,6 +385,7 @@ pub mod DataHeard
 pub mod DataWalk
 pub mod DataProved
 pub mod DataOver
+pub mod DataHolds
 pub mod DataOffice
 pub mod DataPlaces
 pub mod DataDry

@@ -52,3 +52,4 @@ pub mod AnsweredReads
 pub mod AnsweredEnds
 pub mod DataWrites
 pub mod DataEnds
+pub mod DataHolds

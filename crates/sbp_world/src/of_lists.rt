@@ -29,6 +29,7 @@ ghost use Rattle.sbp_world.specs.Lists.AnsweredEnds.{AnsweredEndsLaw};
 ghost use Rattle.sbp_world.specs.Lists.AnsweredReads.{AnsweredReadsLaw};
 ghost use Rattle.sbp_world.specs.Lists.EndReads.{EndsReadLaw};
 ghost use Rattle.sbp_world.specs.Lists.DataEnds.{AnswersEndLaw};
+ghost use Rattle.sbp_world.specs.Lists.DataHolds.{DataHeldLaw};
 ghost use Rattle.sbp_world.specs.Lists.DataWrites.{DataSentLaw, DataWritesLaw};
 ghost use Rattle.sbp_world.specs.Lists.FifoWrites.{FifoWritesLaw};
 ghost use Rattle.sbp_world.specs.Lists.Live.{LiveLaw};
@@ -382,8 +383,9 @@ pub fn agents_write_the_next_chunk()
 
 /// In every run in which no initiator injected packets, where lists were open as they should be before, each write of the target
 /// into a data buffer of an initiator was of the next chunk of the answer of an ORB as it was sent: as the turn began, that ORB
-/// was the first one of its list that had not ended, and the write has the bytes of its agent's answer behind those that were
-/// written.
+/// was the first one of its list that had not ended, its slot had it, and the write has the bytes of its agent's answer behind
+/// those that were written. These writes come in turn: the first one in the turn in which the command runs, and each later one
+/// as the target gets the answer, with rcode 0, to the write of the chunk before it, where that ended.
 #[tactic(auto, using(crate::proofs::Lists::Clauses::data_law))]
 pub fn answers_are_sent_in_chunks()
     ensures { DataSentLaw }
@@ -395,4 +397,12 @@ pub fn answers_are_sent_in_chunks()
 #[tactic(auto, using(crate::proofs::Lists::DataLaws::answers_end_law))]
 pub fn answers_are_written_before_the_end()
     ensures { AnswersEndLaw }
+{}
+
+/// In every run in which no initiator injected packets, where lists were open as they should be before, each write of the target into a
+/// data buffer of an initiator is of a generation that the initiator has seen; and in the present one it is of an ORB that ran, which
+/// its slot has until the status of the ORB is taken.
+#[tactic(auto, using(crate::proofs::Lists::Clauses::held_law))]
+pub fn slots_are_held_for_data()
+    ensures { DataHeldLaw }
 {}

@@ -6,9 +6,10 @@ use Rattle.sbp_world.specs.Lists.Live.{LiveLaw}
 use Rattle.sbp_world.specs.Lists.Opened.{LogoutsLaw}
 use Rattle.sbp_world.specs.Lists.TameLists.{ListsLaw}
 use Rattle.sbp_world.proofs.Lists.AnswerLengths.{answer_lengths_law}
-use Rattle.sbp_world.proofs.Lists.DataLaws.{data_sent_law}
+use Rattle.sbp_world.proofs.Lists.DataLaws.{data_sent_law, data_held_law}
 use Rattle.sbp_world.proofs.Lists.Lawful as proved
 use Rattle.sbp_world.proofs.Lists.ShortLines.{short_law}
+use Rattle.sbp_world.specs.Lists.DataHolds.{DataHeldLaw}
 
 pub sessions_law : LiveLaw
 sessions_law = proved.sessions_law short_law
@@ -27,3 +28,6 @@ lengths_law = answer_lengths_law lists_law
 
 pub data_law : DataSentLaw
 data_law = data_sent_law short_law
+
+pub held_law : DataHeldLaw
+held_law = data_held_law short_law

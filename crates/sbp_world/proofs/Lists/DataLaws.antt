@@ -20,6 +20,8 @@ use Rattle.sbp_world.proofs.Lists.StatusPlaces as places
 use Rattle.sbp_world.specs.Lists.DataEnds.{AllEndSo}
 use Rattle.sbp_world.proofs.Lists.DataOver.{ends_law}
 use Rattle.sbp_world.proofs.Lists.StatusProved.{ground_law}
+use Rattle.sbp_world.specs.Lists.DataHolds.{AllDataHeld}
+use Rattle.sbp_world.proofs.Lists.DataHolds.{held_law}
 
 all_office : (past : List Moment) (w : WorldState) → DryAt past w → AllPlaced past w → IsTame past → AreShort past → ((i : ℕ) → i < length w.initiators → EachMoment (BasedAt i) past) → AllOfficeDry past w
 all_office past w dry placed tame shorts based i inside calm = ((placed i inside calm).1, dry (tame, shorts, based) i inside)
@@ -39,6 +41,9 @@ module _ (short : ShortLaw) where
 
   pub data_sent_law : Under (WhereTame AllDataSo)
   data_sent_law = data_sent opened_known.laws.pointers opened_known.laws.begun (here_by short) (places.names opened_known.laws.pointers opened_known.laws.begun (here_by short) (placed_by short)) (places.untaken_law opened_known.laws.pointers opened_known.laws.begun (here_by short) (placed_by short)) dry_by
+
+  pub data_held_law : Under (WhereTame AllDataHeld)
+  data_held_law = held_law data_sent_law
 
 pub answers_end_law : Under (WhereTame AllEndSo)
 answers_end_law = ends_law (ground_law opened_known.laws.pointers opened_known.laws.begun)
