@@ -10,6 +10,7 @@ pub mod BufferGets
 pub mod BufferStores
 pub mod BufferTurns
 pub mod Busy
+pub mod Full
 pub mod BusyCuts
 pub mod BusyDeliveries
 pub mod BusyFollows

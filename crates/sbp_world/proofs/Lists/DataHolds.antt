@@ -12,7 +12,7 @@ use Rattle.sbp_laws.specs.Terms.{ends, runs}
 use Rattle.sbp_laws.specs.Turns.{EachMoment}
 use Rattle.sbp_world.specs.Histories.{moments_behind}
 use Rattle.sbp_world.specs.Runs.{Run, beginning}
-use Rattle.sbp_world.specs.Worlds.{Scene, WorldState}
+use Rattle.sbp_world.specs.Worlds.{WorldState}
 use Rattle.sbp_world.proofs.Agents.Management.Still.{hist}
 use Rattle.sbp_world.specs.Agents.Management.Terms.{DeliversMore}
 use Rattle.sbp_world.specs.Hosts.Runs.{more_deliveries}
@@ -29,7 +29,7 @@ use Rattle.sbp_world.proofs.Lists.StatusKnown.{each_from, generation_grows}
 use Rattle.sbp_world.proofs.Lists.StatusMoments.{HasTaken, over_taken, taken_stays}
 use Rattle.sbp_world.proofs.Lists.StatusRuns.{rises_of}
 use Rattle.sbp_world.proofs.Lists.TameWalks.{tame_after, tame_between}
-use Rattle.sbp_world.proofs.Lists.Walks.{Step, Walks}
+use Rattle.sbp_world.proofs.Lists.Walks.{Walks}
 
 no : false ≡ true → ⊥
 no e = cc
