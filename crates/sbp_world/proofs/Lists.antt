@@ -387,6 +387,7 @@ pub mod DataWalk
 pub mod DataProved
 pub mod DataOver
 pub mod DataHolds
+pub mod DataWhole
 pub mod DataOffice
 pub mod DataPlaces
 pub mod DataDry

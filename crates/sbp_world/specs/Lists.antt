@@ -53,3 +53,4 @@ pub mod AnsweredEnds
 pub mod DataWrites
 pub mod DataEnds
 pub mod DataHolds
+pub mod DataWhole

@@ -30,6 +30,7 @@ ghost use Rattle.sbp_world.specs.Lists.AnsweredReads.{AnsweredReadsLaw};
 ghost use Rattle.sbp_world.specs.Lists.EndReads.{EndsReadLaw};
 ghost use Rattle.sbp_world.specs.Lists.DataEnds.{AnswersEndLaw};
 ghost use Rattle.sbp_world.specs.Lists.DataHolds.{DataHeldLaw};
+ghost use Rattle.sbp_world.specs.Lists.DataWhole.{AnswersWholeLaw};
 ghost use Rattle.sbp_world.specs.Lists.DataWrites.{DataSentLaw, DataWritesLaw};
 ghost use Rattle.sbp_world.specs.Lists.FifoWrites.{FifoWritesLaw};
 ghost use Rattle.sbp_world.specs.Lists.Live.{LiveLaw};
@@ -405,4 +406,11 @@ pub fn answers_are_written_before_the_end()
 #[tactic(auto, using(crate::proofs::Lists::Clauses::held_law))]
 pub fn slots_are_held_for_data()
     ensures { DataHeldLaw }
+{}
+
+/// In every run in which no initiator injected packets, where lists were open as they should be before, the answer that an agent writes,
+/// where it has bytes, has as many as the buffer of the ORB.
+#[tactic(auto, using(crate::proofs::Lists::DataWhole::whole_law))]
+pub fn answers_fill_their_buffers()
+    ensures { AnswersWholeLaw }
 {}

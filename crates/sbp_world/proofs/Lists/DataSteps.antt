@@ -1,6 +1,6 @@
 -- A reply to an agent along a list of an initiator that injected no packets: what it asks to write, but for a status block, is the next chunk of the answer of its present
 -- ORB, in the buffer that is laid out for the command of this ORB.
-use Rattle.std.proofs.Common.{arith, ◌≡◌, ◌∙◌, refl, sym, ap, subst, ◌<◌, ℕ, Bool, List, length, take, drop, Option, Some, None, true, false, cond, ◌+◌, ◌-◌, ◌^◌, Result, Ok, Err, IfSome, ◌∷◌, [], suc, nat_eq, nat_lt, ◌==◌}
+use Rattle.std.proofs.Common.{arith, ◌≡◌, ◌∙◌, refl, sym, ap, subst, ◌<◌, ℕ, Bool, List, length, take, drop, Option, Some, None, true, false, cond, ◌+◌, ◌-◌, ◌^◌, Result, Ok, Err, IfSome, ◌∷◌, [], suc, nat_eq, nat_lt, ◌==◌, ◌&&◌}
 use Rattle.async_packet.specs.Labels.{LabelParts}
 use Rattle.async_packet.specs.Packet.{Packet, header_in}
 use Rattle.label_table.specs.Layer.{judging_step, of_response}
@@ -8,15 +8,15 @@ use Rattle.login_table.specs.declared.login.Login.{Login}
 use Rattle.orb_layout.specs.declared.ask.Ask.TheVariants as asks
 use Rattle.packet_store.specs.declared.sent.Sent.{Sent}
 use Rattle.rbc_disk.specs.Disk.{Disk}
-use Rattle.rbc_disk.specs.Runs.{Told}
+use Rattle.rbc_disk.specs.Runs.{Told, MayEnd, answer_length_of, check_in, failure_of}
 use Rattle.command_agent.specs.declared.phase.Phase.{Phase}
 use Rattle.command_agent.specs.declared.phase.Phase.TheVariants as phases
 use Rattle.command_agent.specs.declared.step.AgentStep.{AgentStep}
 use Rattle.command_agent.specs.declared.step.Which.{Which}
-use Rattle.command_agent.specs.Machine.{Machine, chunk_of, cut_to, is_ahead, has_present}
+use Rattle.command_agent.specs.Machine.{Machine, chunk_of, cut_to, is_ahead, has_present, plan_of}
 use Rattle.agent_laws.specs.Along.Along.{Knows, Progress, Answers, HasTold}
 use Rattle.agent_laws.specs.Along.Requests.{main_ask, ahead_beside, main_beside}
-use Rattle.agent_laws.specs.Along.Steps.{progress_by, IsRun, Keeps, chunk_by, end_by, heard_by, main_heard, run_by, IsEnd}
+use Rattle.agent_laws.specs.Along.Steps.{progress_by, IsRun, Keeps, chunk_by, end_by, heard_by, main_heard, run_by, IsEnd, status_by}
 use Rattle.sbp_journal.specs.Run.{Moment, said}
 use Rattle.sbp_laws.specs.Lists.{command_at, slot_at, orb, prepared_in, linked}
 use Rattle.sbp_laws.specs.Terms.{ends, request_at, ran_status, runs, status_of}
@@ -28,7 +28,7 @@ use Rattle.sbp_world.specs.Telling.{holder, ticket_at}
 use Rattle.sbp_world.specs.Worlds.{WorldState}
 use Rattle.sbp_world.proofs.Agents.Management.Still.{hist}
 use Rattle.sbp_world.specs.Lists.DataWrites.{IsPieceOf, IsAnswered}
-use Rattle.sbp_world.specs.Lists.Lists.{orbs}
+use Rattle.sbp_world.specs.Lists.Lists.{orbs, IsBufferOf}
 use Rattle.sbp_world.specs.Lists.Needs.{IsFor, machine_at, IsNamed, IsOpenAt, initiator_in}
 use Rattle.sbp_world.proofs.Lists.DataPieces.{chunk_is, same_piece}
 use Rattle.sbp_world.proofs.Lists.Deliveries.{waits_has}
@@ -47,7 +47,7 @@ use Rattle.command_agent.specs.Steps.{advanced, ahead_read, ahead_step, answer_c
 use Rattle.command_agent.specs.declared.step.Which.TheVariants.{Ahead, Main}
 use Rattle.rbc_disk.specs.Units.{PlainDisk}
 use Rattle.rbc_disk.specs.declared.command.Outcome.{Outcome}
-use Rattle.page_table.specs.Buffer.{chunk, chunk_from, addresses, buffer_addresses}
+use Rattle.page_table.specs.Buffer.{chunk, chunk_from, addresses, buffer_addresses, bytes_of}
 use Rattle.sbp_laws.specs.CarriedBytes.{laid_out}
 use Rattle.sbp_target.specs.Replies.{plain_in}
 use Rattle.sbp_world.specs.Agents.Alike.{has_list, answers}
@@ -72,6 +72,14 @@ use Rattle.sbp_world.specs.Hosts.Carrying.{Follows}
 use Rattle.sbp_world.proofs.Lists.Slots.{IsFilled, data_window}
 use Rattle.sbp_world.proofs.Lists.StatusLosses.{present_is}
 use Rattle.sbp_world.proofs.Lists.StatusSteps.{EndsSo, replied_leaves}
+use Rattle.command_agent.specs.Runs.{MayRun, MayTell}
+use Rattle.rbc_disk.specs.Checks.{check_of}
+use Rattle.rbc_disk.specs.declared.command.Outcome.TheVariants as outcomes
+use Rattle.orb_layout.specs.declared.command.CommandOrb.{CommandOrb}
+use Rattle.sbp_world.specs.Wire.Lines.{FillsBuffer}
+use Rattle.sbp_world.proofs.Hosts.OrbTables.{whole_bytes}
+use Rattle.sbp_world.proofs.Lists.AnswerChecks.{check_length, ended_none}
+use Rattle.sbp_world.proofs.Lists.Full.{IsFull}
 
 same_offset : (a b offset size : ℕ) → asks.Write a b ≡ asks.Write offset size → a ≡ offset
 same_offset a b offset size e = cc
@@ -255,6 +263,29 @@ unrun_in l p phases.ReadingNext m k h a = k.over.unrun
 unrun_in l p phases.Suspended m k h a = k.over.unrun
 unrun_in l p phases.Reset m k h a = absurd (let z : false ≡ true = h in cc)
 unrun_in l p phases.Dead m k h a = absurd (let z : false ≡ true = h in cc)
+
+-- the answer that was told is that from then on
+chunk_answer : (failure : Option FailCause) (size : ℕ) (p : Progress) → (chunk_by failure size p).answer ≡ p.answer
+chunk_answer None size p = refl
+chunk_answer (Some cause) size p = refl
+
+status_answer : (failure : Option FailCause) (p : Progress) → (status_by failure p).answer ≡ p.answer
+status_answer None p = refl
+status_answer (Some cause) p = refl
+
+main_answer : (phase : Phase) (m : Machine) (answer : Answer) (p : Progress) → (main_heard phase m answer p).answer ≡ p.answer
+main_answer phases.Answering m answer p = chunk_answer (write_failure answer) (answer_chunk m) p
+main_answer phases.WritingStatus m answer p = status_answer (write_failure answer) p
+main_answer phases.WritingLastStatus m answer p = status_answer (write_failure answer) p
+main_answer _ m answer p = refl
+
+heard_answer : (which : Which) (m : Machine) (answer : Answer) (p : Progress) → (heard_by which m answer p).answer ≡ p.answer
+heard_answer Main m answer p = main_answer m.phase m answer p
+heard_answer Ahead m answer p = refl
+
+good_check : (outcome : Outcome) → is_good (Some outcome) ≡ true → check_in outcome ≡ None
+good_check (outcomes.Good len) g = refl
+good_check (outcomes.Check sense) g = absurd (let z : false ≡ true = g in cc)
 
 run_ended : (ran : Option Outcome) (answer : List ℕ) (p : Progress) → (run_by ran answer p).ended ≡ p.ended
 run_ended None answer p = refl
@@ -533,3 +564,91 @@ module _ (wild : ℕ → Bool) (past : List Moment) (w : WorldState) (r : Ready 
         by_run : (o : Option Outcome) → step.0.ran ≡ o → IsEndNow ms i O.n (ends ms i O.n) is_for.serial
         by_run (Some outcome) ran = ends_fresh (ran_now outcome ran)
         by_run None ran = by_phase (answers M.phase) refl
+
+  -- ---- an answer with bytes has as many as the buffer of its ORB
+  module _ (may : MayTell step.0.ran step.1 place (plain_in w.target.units disks login.unit)) (prepared : ArePrepared ms w) (fills : (j n k : ℕ) (cmd : Cmd) → command_at ms j n k ≡ Some cmd → FillsBuffer cmd) (full : IsFull M) (e_then : answers step.1.phase ≡ true) (some : 0 < length step.1.answer) where
+    whole_keeps : Keeps (orbs ms i O.n) before_now place (plain_in w.target.units disks login.unit) (main_beside which M) (ahead_beside which M) step
+    whole_keeps = keeps wild past w r asked sent is_for run disks p label place f b login which e own
+
+    told_then : HasTold (orbs ms i O.n) now_then step.1.present step.1.orb step.1.segments step.1.answer step.1.written
+    told_then = (subst (λ ph. Knows (orbs ms i O.n) now_then ph step.1) (answers_is step.1.phase e_then) whole_keeps.along.main).told
+
+    still : step.0.ended ≡ None
+    still = by step.0.ended refl
+      where
+        by : (x : Option StatusKind) → step.0.ended ≡ x → x ≡ None
+        by None g = refl
+        by (Some kind) g =
+            let none : now_then.outcome ≡ None = ap (λ x. (end_by x (src_of step.1.orb.next) (run_by step.0.ran step.1.answer before_now)).outcome) g in
+            absurd (unrun now_then.outcome none told_then.ran)
+
+    number_now : now_then.ended ≡ ends ms i O.n
+    number_now = step_ended step before_now still ∙ (heard_ended which M (answer_in p) G.progress ∙ G.is)
+
+    below_now : ends ms i O.n < linked ms i O.n
+    below_now = subst (λ j. j < linked ms i O.n) number_now told_then.turn.linked
+
+    abbrev slot_now : ℕ
+    slot_now = slot_at ms i O.n (ends ms i O.n)
+
+    its : WasAsked (command_at ms i O.n (ends ms i O.n)) (request_at ms i O.n (ends ms i O.n)) (slot_at ms i O.n (ends ms i O.n))
+    its = asked place b is_open own O.n O.list (ends ms i O.n) (omega arith) below_now
+
+    filled : FillsBuffer its.cmd
+    filled = fills i O.n (ends ms i O.n) its.cmd its.command_is
+
+    laid_bytes : (segments : List Segment) (j : ℕ) → j ≡ ends ms i O.n → IsBufferOf (command_at ms i O.n j) (slot_at ms i O.n j) segments → bytes_of segments ≡ its.cmd.length
+    laid_bytes segments j same buffer =
+        let there = subst (λ x. IsBufferOf (command_at ms i O.n x) (slot_at ms i O.n x) segments) same buffer in
+        let is : segments ≡ laid_out slot_now its.cmd its.cmd.segments = subst (λ o. IsBufferOf o slot_now segments) its.command_is there in
+        ap bytes_of is ∙ whole_bytes slot_now its.cmd filled.segments
+
+    bytes_now : bytes_of step.1.segments ≡ its.cmd.length
+    bytes_now = laid_bytes step.1.segments now_then.ended number_now told_then.buffer
+
+    whole_ran : (outcome : Outcome) → step.0.ran ≡ Some outcome → length step.1.answer ≡ bytes_of step.1.segments
+    whole_ran outcome ran = by its.cmd.to_initiator refl
+      where
+        run_may : MayRun step.1 place outcome (plain_in w.target.units disks login.unit)
+        run_may = subst (λ x. MayTell x step.1 place (plain_in w.target.units disks login.unit)) ran may
+
+        good : is_good (Some outcome) ≡ true
+        good =
+            let is : now_then ≡ run_by (Some outcome) step.1.answer before_now = none_then still ∙ ap (λ o. run_by o step.1.answer before_now) ran in
+            ap is_good (sym (ap (λ (y : Progress). y.outcome) is)) ∙ told_then.ran
+
+        same_cmd : told_then.good.own.cmd ≡ its.cmd
+        same_cmd =
+            let c : command_at ms i O.n (ends ms i O.n) ≡ Some told_then.good.own.cmd = ap (λ j. command_at ms i O.n j) (sym number_now) ∙ told_then.good.own.command in
+            let both : Some told_then.good.own.cmd ≡ Some its.cmd = sym c ∙ its.command_is in cc
+
+        cdb_is : step.1.orb.cdb ≡ its.cmd.cdb
+        cdb_is = ap (λ (x : CommandOrb). x.cdb) told_then.good.own.orb ∙ ap (λ (c : Cmd). c.cdb) same_cmd
+
+        len : length step.1.answer ≡ answer_length_of (plain_in w.target.units disks login.unit).medium.is_bay step.1.orb.cdb
+        len = run_may.size ∙ run_may.len (good_check outcome good)
+
+        by : (t : Bool) → its.cmd.to_initiator ≡ t → length step.1.answer ≡ bytes_of step.1.segments
+        by true to = len ∙ (ap (λ xs. answer_length_of (plain_in w.target.units disks login.unit).medium.is_bay xs) cdb_is ∙ (filled.answered (plain_in w.target.units disks login.unit).medium.is_bay to ∙ sym bytes_now))
+        by false to =
+            let way : step.1.orb.to_initiator ≡ false = ap (λ (x : CommandOrb). x.to_initiator) told_then.good.own.orb ∙ (ap (λ (c : Cmd). c.to_initiator && nat_lt 0 c.length) same_cmd ∙ ap (λ y. y && nat_lt 0 its.cmd.length) to) in
+            let none = ended_none _ _ (subst (λ y. MayEnd (check_of step.1.orb.cdb (plan_of step.1) (plain_in w.target.units disks login.unit) place) (failure_of (plain_in w.target.units disks login.unit).medium.is_bay step.1.orb.cdb) y) (good_check outcome good) run_may.ended) in
+            let zero_there = check_length step.1.orb.cdb (plan_of step.1) (plain_in w.target.units disks login.unit) place way none in
+            absurd (let z = len ∙ zero_there in omega (arith, z, some))
+
+    whole_on : step.0.ran ≡ None → length step.1.answer ≡ bytes_of step.1.segments
+    whole_on ran =
+        let same : now_then ≡ before_now = none_then still ∙ ap (λ o. run_by o step.1.answer before_now) ran in
+        let good : is_good G.progress.outcome ≡ true = ap is_good (sym (ap (λ (y : Progress). y.outcome) same ∙ heard_outcome which M (answer_in p) G.progress)) ∙ told_then.ran in
+        let answering = good_answers (orbs ms i O.n) G.progress M.phase M G.along.main is_open good in
+        let had = (subst (λ ph. Knows (orbs ms i O.n) G.progress ph M) answering G.along.main).told in
+        let answers_same : step.1.answer ≡ M.answer = told_then.told ∙ (ap (λ (y : Progress). y.answer) same ∙ (heard_answer which M (answer_in p) G.progress ∙ sym had.told)) in
+        let before : length M.answer ≡ bytes_of M.segments = full (ap answers answering) (subst (λ xs. 0 < length xs) answers_same some) in
+        ap length answers_same ∙ (before ∙ (laid_bytes M.segments G.progress.ended G.is had.buffer ∙ sym bytes_now))
+
+    by_ran : (x : Option Outcome) → step.0.ran ≡ x → length step.1.answer ≡ bytes_of step.1.segments
+    by_ran None ran = whole_on ran
+    by_ran (Some outcome) ran = whole_ran outcome ran
+
+    pub reply_whole : length step.1.answer ≡ bytes_of step.1.segments
+    reply_whole = by_ran step.0.ran refl
