@@ -379,6 +379,7 @@ pub mod DataFollows
 pub mod DataActs
 pub mod DataHears
 pub mod DataCalls
+pub mod DataRan
 pub mod DataSteps
 pub mod DataLines
 pub mod DataTurns

@@ -408,8 +408,8 @@ pub fn slots_are_held_for_data()
     ensures { DataHeldLaw }
 {}
 
-/// In every run in which no initiator injected packets, where lists were open as they should be before, the answer that an agent writes,
-/// where it has bytes, has as many as the buffer of the ORB.
+/// In every run in which no initiator injected packets, where lists were open as they should be before, the answer that an agent writes
+/// has as many bytes as the buffer of the ORB, and not all of them were written.
 #[tactic(auto, using(crate::proofs::Lists::DataWhole::whole_law))]
 pub fn answers_fill_their_buffers()
     ensures { AnswersWholeLaw }

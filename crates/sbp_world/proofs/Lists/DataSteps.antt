@@ -1,6 +1,6 @@
 -- A reply to an agent along a list of an initiator that injected no packets: what it asks to write, but for a status block, is the next chunk of the answer of its present
 -- ORB, in the buffer that is laid out for the command of this ORB.
-use Rattle.std.proofs.Common.{arith, ◌≡◌, ◌∙◌, refl, sym, ap, subst, ◌<◌, ℕ, Bool, List, length, take, drop, Option, Some, None, true, false, cond, ◌+◌, ◌-◌, ◌^◌, Result, Ok, Err, IfSome, ◌∷◌, [], suc, nat_eq, nat_lt, ◌==◌, ◌&&◌}
+use Rattle.std.proofs.Common.{arith, ◌≡◌, ◌∙◌, refl, sym, ap, subst, ◌<◌, ℕ, Bool, List, length, take, drop, Option, Some, None, true, false, cond, ◌+◌, ◌-◌, ◌^◌, Result, Ok, Err, IfSome, ◌∷◌, [], suc, nat_eq, nat_lt, ◌==◌, ◌&&◌, ◌≤◌}
 use Rattle.async_packet.specs.Labels.{LabelParts}
 use Rattle.async_packet.specs.Packet.{Packet, header_in}
 use Rattle.label_table.specs.Layer.{judging_step, of_response}
@@ -8,12 +8,12 @@ use Rattle.login_table.specs.declared.login.Login.{Login}
 use Rattle.orb_layout.specs.declared.ask.Ask.TheVariants as asks
 use Rattle.packet_store.specs.declared.sent.Sent.{Sent}
 use Rattle.rbc_disk.specs.Disk.{Disk}
-use Rattle.rbc_disk.specs.Runs.{Told, MayEnd, answer_length_of, check_in, failure_of}
+use Rattle.rbc_disk.specs.Runs.{Told, MayEnd, answer_length_of, check_in, failure_of, answered_length}
 use Rattle.command_agent.specs.declared.phase.Phase.{Phase}
 use Rattle.command_agent.specs.declared.phase.Phase.TheVariants as phases
 use Rattle.command_agent.specs.declared.step.AgentStep.{AgentStep}
 use Rattle.command_agent.specs.declared.step.Which.{Which}
-use Rattle.command_agent.specs.Machine.{Machine, chunk_of, cut_to, is_ahead, has_present, plan_of}
+use Rattle.command_agent.specs.Machine.{Machine, chunk_of, cut_to, is_ahead, has_present, plan_of, limit_of}
 use Rattle.agent_laws.specs.Along.Along.{Knows, Progress, Answers, HasTold}
 use Rattle.agent_laws.specs.Along.Requests.{main_ask, ahead_beside, main_beside}
 use Rattle.agent_laws.specs.Along.Steps.{progress_by, IsRun, Keeps, chunk_by, end_by, heard_by, main_heard, run_by, IsEnd, status_by}
@@ -79,7 +79,8 @@ use Rattle.orb_layout.specs.declared.command.CommandOrb.{CommandOrb}
 use Rattle.sbp_world.specs.Wire.Lines.{FillsBuffer}
 use Rattle.sbp_world.proofs.Hosts.OrbTables.{whole_bytes}
 use Rattle.sbp_world.proofs.Lists.AnswerChecks.{check_length, ended_none}
-use Rattle.sbp_world.proofs.Lists.Full.{IsFull}
+use Rattle.sbp_world.proofs.Lists.Full.{IsFull, IsPart}
+use Rattle.sbp_world.proofs.Lists.DataRan.{goes_on as more_goes, reply_begins}
 
 same_offset : (a b offset size : ℕ) → asks.Write a b ≡ asks.Write offset size → a ≡ offset
 same_offset a b offset size e = cc
@@ -394,7 +395,7 @@ module _ (wild : ℕ → Bool) (past : List Moment) (w : WorldState) (r : Ready 
       ap (λ j. runs ms i O.n j) (sym G.is) ∙ had
 
   -- it goes on behind the chunk that was written
-  module _ (answering : M.phase ≡ phases.Answering) (done : write_failure (answer_in p) ≡ None) (main : which ≡ Main) (x : IsHeard ms w is_for.serial place (answer_in p)) where
+  module _ (answering : M.phase ≡ phases.Answering) (done : write_failure (answer_in p) ≡ None) (main : which ≡ Main) where
     abbrev was : Answers (orbs ms i O.n) G.progress M.present M.orb M.segments M.answer M.written M.outgoing
     was = subst (λ ph. Knows (orbs ms i O.n) G.progress ph M) answering G.along.main
 
@@ -405,8 +406,8 @@ module _ (wild : ℕ → Bool) (past : List Moment) (w : WorldState) (r : Ready 
     as_answered =
         by_main ∙ (ap (λ ph. main_heard ph M (answer_in p) G.progress) answering ∙ ap (λ x. chunk_by x (answer_chunk M) G.progress) done)
 
-    goes_behind : now_then ≡ before_now → (there : HasTold (orbs ms i O.n) now_then step.1.present step.1.orb step.1.segments step.1.answer step.1.written) → IsAnswered ms i O.n (ends ms i O.n) step.1 is_for.serial
-    goes_behind same there =
+    goes_behind : IsHeard ms w is_for.serial place (answer_in p) → now_then ≡ before_now → (there : HasTold (orbs ms i O.n) now_then step.1.present step.1.orb step.1.segments step.1.answer step.1.written) → IsAnswered ms i O.n (ends ms i O.n) step.1 is_for.serial
+    goes_behind x same there =
         let c = x.chunk in
         let written : step.1.written ≡ M.written + answer_chunk M =
             there.done ∙ (ap (λ (y : Progress). y.carried) (same ∙ as_answered) ∙ ap (λ j. j + answer_chunk M) (sym was.told.done)) in
@@ -566,7 +567,7 @@ module _ (wild : ℕ → Bool) (past : List Moment) (w : WorldState) (r : Ready 
         by_run None ran = by_phase (answers M.phase) refl
 
   -- ---- an answer with bytes has as many as the buffer of its ORB
-  module _ (may : MayTell step.0.ran step.1 place (plain_in w.target.units disks login.unit)) (prepared : ArePrepared ms w) (fills : (j n k : ℕ) (cmd : Cmd) → command_at ms j n k ≡ Some cmd → FillsBuffer cmd) (full : IsFull M) (e_then : answers step.1.phase ≡ true) (some : 0 < length step.1.answer) where
+  module _ (may : MayTell step.0.ran step.1 place (plain_in w.target.units disks login.unit)) (prepared : ArePrepared ms w) (fills : (j n k : ℕ) (cmd : Cmd) → command_at ms j n k ≡ Some cmd → FillsBuffer cmd) (full : IsFull M) (e_then : answers step.1.phase ≡ true) where
     whole_keeps : Keeps (orbs ms i O.n) before_now place (plain_in w.target.units disks login.unit) (main_beside which M) (ahead_beside which M) step
     whole_keeps = keeps wild past w r asked sent is_for run disks p label place f b login which e own
 
@@ -606,8 +607,8 @@ module _ (wild : ℕ → Bool) (past : List Moment) (w : WorldState) (r : Ready 
     bytes_now : bytes_of step.1.segments ≡ its.cmd.length
     bytes_now = laid_bytes step.1.segments now_then.ended number_now told_then.buffer
 
-    whole_ran : (outcome : Outcome) → step.0.ran ≡ Some outcome → length step.1.answer ≡ bytes_of step.1.segments
-    whole_ran outcome ran = by its.cmd.to_initiator refl
+    whole_ran : (outcome : Outcome) → step.0.ran ≡ Some outcome → IsPart step.1.written (length step.1.answer) (bytes_of step.1.segments)
+    whole_ran outcome ran = record { more = more_now; fills = by its.cmd.to_initiator refl }
       where
         run_may : MayRun step.1 place outcome (plain_in w.target.units disks login.unit)
         run_may = subst (λ x. MayTell x step.1 place (plain_in w.target.units disks login.unit)) ran may
@@ -628,6 +629,17 @@ module _ (wild : ℕ → Bool) (past : List Moment) (w : WorldState) (r : Ready 
         len : length step.1.answer ≡ answer_length_of (plain_in w.target.units disks login.unit).medium.is_bay step.1.orb.cdb
         len = run_may.size ∙ run_may.len (good_check outcome good)
 
+        some : 0 < length step.1.answer
+        some =
+            let begins : 0 < answered_length outcome = subst (λ x. IfSome x (λ o. 0 < answered_length o)) ran (reply_begins M place (plain_in w.target.units disks login.unit) run (answer_in p) which e_then) in
+            subst (λ n. 0 < n) (sym run_may.size) begins
+
+        more_now : step.1.written < length step.1.answer
+        more_now =
+            let is : now_then ≡ run_by (Some outcome) step.1.answer before_now = none_then still ∙ ap (λ o. run_by o step.1.answer before_now) ran in
+            let zero_there : step.1.written ≡ 0 = told_then.done ∙ ap (λ (y : Progress). y.carried) is in
+            omega (arith, zero_there, some)
+
         by : (t : Bool) → its.cmd.to_initiator ≡ t → length step.1.answer ≡ bytes_of step.1.segments
         by true to = len ∙ (ap (λ xs. answer_length_of (plain_in w.target.units disks login.unit).medium.is_bay xs) cdb_is ∙ (filled.answered (plain_in w.target.units disks login.unit).medium.is_bay to ∙ sym bytes_now))
         by false to =
@@ -636,19 +648,54 @@ module _ (wild : ℕ → Bool) (past : List Moment) (w : WorldState) (r : Ready 
             let zero_there = check_length step.1.orb.cdb (plan_of step.1) (plain_in w.target.units disks login.unit) place way none in
             absurd (let z = len ∙ zero_there in omega (arith, z, some))
 
-    whole_on : step.0.ran ≡ None → length step.1.answer ≡ bytes_of step.1.segments
+    cut_within : (left : ℕ) (found : Option Chunk) → (cut_to left found).length ≤ left
+    cut_within left None = omega arith
+    cut_within left (Some c) = let z : min left c.length ≤ left = grind (arith, nat_tests) in z
+
+    -- it is behind what was written
+    more_on : now_then ≡ before_now → (answering : M.phase ≡ phases.Answering) → step.1.answer ≡ M.answer → (y : Which) → which ≡ y → step.1.written < length step.1.answer
+    more_on same answering kept Ahead g =
+        let had = (subst (λ ph. Knows (orbs ms i O.n) G.progress ph M) answering G.along.main).told in
+        let carried : before_now.carried ≡ G.progress.carried = ap (λ (x : Which). (heard_by x M (answer_in p) G.progress).carried) g in
+        let written : step.1.written ≡ M.written = told_then.done ∙ (ap (λ (x : Progress). x.carried) same ∙ (carried ∙ sym had.done)) in
+        let more = (full (ap answers answering)).more in
+        subst (λ n. n < length step.1.answer) (sym written) (subst (λ xs. M.written < length xs) (sym kept) more)
+    more_on same answering kept Main g = by_failure (write_failure (answer_in p)) refl
+      where
+        by_failure : (x : Option FailCause) → write_failure (answer_in p) ≡ x → step.1.written < length step.1.answer
+        by_failure (Some cause) f_is =
+            let ends_so : step.0.ended ≡ Some kinds.Failed = ap (λ (y : Which). (reply_step M place (plain_in w.target.units disks login.unit) run y (answer_in p)).0.ended) g ∙ failed_ends M place (plain_in w.target.units disks login.unit) run (answer_in p) answering cause f_is in
+            absurd (let z : None ≡ Some kinds.Failed = sym still ∙ ends_so in cc)
+        by_failure None f_is =
+            let had = (subst (λ ph. Knows (orbs ms i O.n) G.progress ph M) answering G.along.main).told in
+            let written : step.1.written ≡ M.written + answer_chunk M =
+                told_then.done ∙ (ap (λ (x : Progress). x.carried) (same ∙ as_answered answering f_is g) ∙ ap (λ j. j + answer_chunk M) (sym had.done)) in
+            let unlike = more_goes M place (plain_in w.target.units disks login.unit) run (answer_in p) answering f_is (ap (λ (y : Which). answers (reply_step M place (plain_in w.target.units disks login.unit) run y (answer_in p)).1.phase) (sym g) ∙ e_then) in
+            let within : answer_chunk M ≤ length M.answer - M.written = cut_within (length M.answer - M.written) (chunk_from M.segments M.written (limit_of M.orb)) in
+            let before = (full (ap answers answering)).more in
+            let other : M.written + answer_chunk M ≡ length M.answer → ⊥ = λ z. (let t : (M.written + answer_chunk M == length M.answer) ≡ true = grind (arith, nat_tests) in let c : false ≡ true = sym unlike ∙ t in cc) in
+            let there : M.written + answer_chunk M < length M.answer = below_by (M.written + answer_chunk M) (length M.answer) (omega (arith, within, before)) other in
+            subst (λ n. n < length step.1.answer) (sym written) (subst (λ xs. M.written + answer_chunk M < length xs) (sym kept) there)
+          where
+            below_by : (a c : ℕ) → a ≤ c → (a ≡ c → ⊥) → a < c
+            below_by a c l f = grind arith
+
+    whole_on : step.0.ran ≡ None → IsPart step.1.written (length step.1.answer) (bytes_of step.1.segments)
     whole_on ran =
         let same : now_then ≡ before_now = none_then still ∙ ap (λ o. run_by o step.1.answer before_now) ran in
         let good : is_good G.progress.outcome ≡ true = ap is_good (sym (ap (λ (y : Progress). y.outcome) same ∙ heard_outcome which M (answer_in p) G.progress)) ∙ told_then.ran in
         let answering = good_answers (orbs ms i O.n) G.progress M.phase M G.along.main is_open good in
         let had = (subst (λ ph. Knows (orbs ms i O.n) G.progress ph M) answering G.along.main).told in
         let answers_same : step.1.answer ≡ M.answer = told_then.told ∙ (ap (λ (y : Progress). y.answer) same ∙ (heard_answer which M (answer_in p) G.progress ∙ sym had.told)) in
-        let before : length M.answer ≡ bytes_of M.segments = full (ap answers answering) (subst (λ xs. 0 < length xs) answers_same some) in
-        ap length answers_same ∙ (before ∙ (laid_bytes M.segments G.progress.ended G.is had.buffer ∙ sym bytes_now))
+        let before : length M.answer ≡ bytes_of M.segments = (full (ap answers answering)).fills in
+        record {
+          more = more_on same answering answers_same which refl;
+          fills = ap length answers_same ∙ (before ∙ (laid_bytes M.segments G.progress.ended G.is had.buffer ∙ sym bytes_now));
+        }
 
-    by_ran : (x : Option Outcome) → step.0.ran ≡ x → length step.1.answer ≡ bytes_of step.1.segments
+    by_ran : (x : Option Outcome) → step.0.ran ≡ x → IsPart step.1.written (length step.1.answer) (bytes_of step.1.segments)
     by_ran None ran = whole_on ran
     by_ran (Some outcome) ran = whole_ran outcome ran
 
-    pub reply_whole : length step.1.answer ≡ bytes_of step.1.segments
+    pub reply_whole : IsPart step.1.written (length step.1.answer) (bytes_of step.1.segments)
     reply_whole = by_ran step.0.ran refl

@@ -1,4 +1,4 @@
--- While an agent writes an answer that has bytes, it has as many as the buffer of the ORB: the command of a line fills its buffer, and what a run tells has the length of the answer to it.
+-- While an agent writes an answer, it has as many bytes as the buffer of the ORB, and not all were written: the command of a line fills its buffer, and what a run tells has the length of the answer to it.
 use Rattle.sbp_journal.specs.declared.event.Event.TheVariants as events
 use Rattle.sbp_journal.specs.declared.note.Note.TheVariants as notes
 use Rattle.sbp_world.specs.Packets as packets
@@ -129,9 +129,9 @@ module _ (wild : ℕ → Bool) (past : List Moment) where
         let x = received run sent.generation sent.bytes (whole_of w.target media) in
         called (with_note (judged_note serial x.0) (marked serial again (with_target x.1.node w))) (judging_step w.target.layer sent.generation sent.bytes).1 (scene x.1.node x.1.outbox) (by (again || not (is_flying serial w.store.kept)))
         (delivery_called w f.ready.good (Unit {0}) f.seats sent run media
-        (λ p label place judged b login served which e given full e_then some.
+        (λ p label place judged b login served which e given full e_then.
         reply_whole wild past w f.ready f.asked_orbs sent (record { serial = serial; found = found; to = zero_to }) run media.disks p label place judged b login which e (f.all_own (holder w place).initiator)
-        (delivery_may w.target f.ready.good.mid.size f.ready.good.table.sound sent run media may p label place judged login served which e) f.prepared f.fills full e_then some))
+        (delivery_may w.target f.ready.good.mid.size f.ready.good.table.sound sent run media may p label place judged login served which e) f.prepared f.fills full e_then))
       where
         by : (b : Bool) → (let x = received run sent.generation sent.bytes (whole_of w.target media) in (cond b (with_target x.1.node w) (record (with_target x.1.node w) { store = deliver_step w.store serial })).target ≡ x.1.node)
         by true = refl
@@ -331,7 +331,7 @@ full_walk wild units ready has start past s later t step p all_own =
 
 first_full : (wild : ℕ → Bool) (line : ℕ) (run : Run) → AllFull wild (moments_behind line run []) (beginning run).world
 unfolding new_world
-first_full wild line run all_own q b = subst (λ (d : Desk). IsFull d.agent) (sym (new_desks 8 q)) (λ e some. absurd (no e))
+first_full wild line run all_own q b = subst (λ (d : Desk). IsFull d.agent) (sym (new_desks 8 q)) (λ e. absurd (no e))
   where
     new_desks : (n p : ℕ) → slice_index_or (replicate n new_desk) p new_desk ≡ new_desk
     new_desks zero p = refl
@@ -347,8 +347,8 @@ delivers None = tt
 
 pub whole_law : AnswersWholeLaw
 whole_law = record {
-  after_lines = λ line run r has small size so_far tame place b answering some.
-      tame_after Ground Nothing AllFull all_filled nothing full_walk first_full line run r has small size so_far tame tame place b (ap answers answering) some;
-  between = λ line run r has small size next most told m so_far tame place b answering some.
-      tame_between Ground Nothing AllFull all_filled nothing full_walk first_full line run r has small size next (more_deliveries most) (delivers most) told m so_far tame tame place b (ap answers answering) some;
+  after_lines = λ line run r has small size so_far tame place b answering.
+      let x = tame_after Ground Nothing AllFull all_filled nothing full_walk first_full line run r has small size so_far tame tame place b (ap answers answering) in (x.more, x.fills);
+  between = λ line run r has small size next most told m so_far tame place b answering.
+      let x = tame_between Ground Nothing AllFull all_filled nothing full_walk first_full line run r has small size next (more_deliveries most) (delivers most) told m so_far tame tame place b (ap answers answering) in (x.more, x.fills);
 }
