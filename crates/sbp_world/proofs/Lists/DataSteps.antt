@@ -118,6 +118,24 @@ some_chunk limit l (segment ∷ rest) done =
     (λ e. let inside : done < segment.length = grind (arith, nat_tests) in min_some limit (segment.length - done) l (omega (arith, inside)))
     (λ e. some_chunk limit l rest (done - segment.length))
 
+pick_long : (left : ℕ) (b : Bool) (x y : Option Chunk) → (b ≡ true → 0 < (cut_to left x).length) → (b ≡ false → 0 < (cut_to left y).length) → 0 < (cut_to left (cond b x y)).length
+pick_long left true x y f g = f refl
+pick_long left false x y f g = g refl
+
+chunk_long : (left limit : ℕ) → 0 < left → 0 < limit → (segments : List Segment) (done : ℕ) → done < bytes_of segments → 0 < (cut_to left (chunk_from segments done limit)).length
+chunk_long left limit l k [] done b = absurd (omega (arith, b))
+chunk_long left limit l k (segment ∷ rest) done b =
+    pick_long left (nat_lt done segment.length) _ _
+    (λ e. let inside : done < segment.length = grind (arith, nat_tests) in min_some left (min limit (segment.length - done)) l (min_some limit (segment.length - done) k (omega (arith, inside))))
+    (λ e. let outside : segment.length ≤ done = grind (arith, nat_tests) in chunk_long left limit l k rest (done - segment.length) (omega (arith, outside, b)))
+
+-- the next chunk of an answer of which not all is written has bytes
+part_chunk : (m : Machine) → IsPart m.written (length m.answer) (bytes_of m.segments) → 0 < answer_chunk m
+part_chunk m p =
+    let more = p.more in
+    let fills = p.fills in
+    chunk_long (length m.answer - m.written) (limit_of m.orb) (omega (arith, more)) (pow_pos (m.orb.max_payload + 2)) m.segments m.written (omega (arith, more, fills))
+
 module _ (slot : ℕ) (small : slot < 32) (cmd : Cmd) (f : IsFilled slot cmd) (left done limit offset size : ℕ) (l : 0 < limit) (some : 0 < offset) where
   abbrev laid : List Segment
   laid = laid_out slot cmd cmd.segments
@@ -241,7 +259,7 @@ module _ (m : Machine) (place : ℕ) (plain : PlainDisk) (told : Option Told) (a
   unfolding reply_step
   ahead_nothing = if_asks (is_ahead m.ahead) (ahead_step m answer) (quiet, m) (ahead_asks (payload_of answer 32)) refl
 
-answers_is : (phase : Phase) → answers phase ≡ true → phase ≡ phases.Answering
+pub answers_is : (phase : Phase) → answers phase ≡ true → phase ≡ phases.Answering
 answers_is phases.Answering e = refl
 answers_is phases.Fetching e = absurd (let z : false ≡ true = e in cc)
 answers_is phases.ReadingTable e = absurd (let z : false ≡ true = e in cc)
@@ -406,9 +424,10 @@ module _ (wild : ℕ → Bool) (past : List Moment) (w : WorldState) (r : Ready 
     as_answered =
         by_main ∙ (ap (λ ph. main_heard ph M (answer_in p) G.progress) answering ∙ ap (λ x. chunk_by x (answer_chunk M) G.progress) done)
 
-    goes_behind : IsHeard ms w is_for.serial place (answer_in p) → now_then ≡ before_now → (there : HasTold (orbs ms i O.n) now_then step.1.present step.1.orb step.1.segments step.1.answer step.1.written) → IsAnswered ms i O.n (ends ms i O.n) step.1 is_for.serial
-    goes_behind x same there =
+    goes_behind : IsFull M → IsHeard ms w is_for.serial place (answer_in p) → now_then ≡ before_now → (there : HasTold (orbs ms i O.n) now_then step.1.present step.1.orb step.1.segments step.1.answer step.1.written) → IsAnswered ms i O.n (ends ms i O.n) step.1 is_for.serial
+    goes_behind full x same there =
         let c = x.chunk in
+        let long : 0 < length c.access.payload = subst (λ n. 0 < n) (sym (x.size c.access c.is)) (part_chunk M (full (ap answers answering))) in
         let written : step.1.written ≡ M.written + answer_chunk M =
             there.done ∙ (ap (λ (y : Progress). y.carried) (same ∙ as_answered) ∙ ap (λ j. j + answer_chunk M) (sym was.told.done)) in
         let answers : step.1.answer ≡ M.answer = there.told ∙ (ap (λ (y : Progress). y.answer) (same ∙ as_answered) ∙ sym was.told.told) in
@@ -423,12 +442,13 @@ module _ (wild : ℕ → Bool) (past : List Moment) (w : WorldState) (r : Ready 
           access = c.access;
           is = c.is;
           writes = c.writes;
+          some = long;
           cmd = c.cmd;
           command = c.command;
           done_before = M.written;
           piece = subst (λ xs. chunk c.access.offset (length c.access.payload) ≡ cut_to (length xs - M.written) (chunk_from (laid_out (slot_at ms i c.list c.number) c.cmd c.cmd.segments) M.written (2 ^ (c.cmd.max_payload + 2)))) (sym answers) c.piece;
           behind = written ∙ ap (λ j. M.written + j) (sym (x.size c.access c.is));
-          stands = c.stands;
+          stands = c.stands long;
         } in
         subst (λ l. IsAnswered ms i l (ends ms i l) step.1 is_for.serial) list_same (subst (λ k. IsAnswered ms i c.list k step.1 is_for.serial) c.number_is built)
 
@@ -439,8 +459,8 @@ module _ (wild : ℕ → Bool) (past : List Moment) (w : WorldState) (r : Ready 
       let is : orb_of step.1 ≡ start_of (windows.Orb (slot_at ms i O.n (ends ms i O.n))) = present_is step.1 (ap has_present answering) ∙ at in
       (ap (λ x. list_in (ticket_at w place x)) is ∙ named.list, ap (λ x. orb_in (ticket_at w place x)) is ∙ named.number)
 
-  pub reply_turn : AreHeard wild ms w → step.0.ended ≡ None → (offset size : ℕ) → step.0.ask ≡ asks.Write offset size → 0 < offset → IsTurnNow ms w place O.n (ends ms i O.n) step is_for.serial
-  reply_turn heard_so none offset size wrote some = by_run step.0.ran refl
+  pub reply_turn : IsFull M → AreHeard wild ms w → step.0.ended ≡ None → (offset size : ℕ) → step.0.ask ≡ asks.Write offset size → 0 < offset → IsTurnNow ms w place O.n (ends ms i O.n) step is_for.serial
+  reply_turn full heard_so none offset size wrote some = by_run step.0.ran refl
     where
       k : Keeps (orbs ms i O.n) before_now place (plain_in w.target.units disks login.unit) (main_beside which M) (ahead_beside which M) step
       k = keeps wild past w r asked sent is_for run disks p label place f b login which e own
@@ -464,7 +484,7 @@ module _ (wild : ℕ → Bool) (past : List Moment) (w : WorldState) (r : Ready 
 
       by_failure : (ran_before : 0 < runs ms i O.n (ends ms i O.n)) (same : now_then ≡ before_now) (answering : M.phase ≡ phases.Answering) (main : which ≡ Main) (x : Option FailCause) → write_failure (answer_in p) ≡ x → IsTurnNow ms w place O.n (ends ms i O.n) step is_for.serial
       by_failure ran_before same answering main None g =
-          now_follows ran_before (goes_behind answering g main
+          now_follows ran_before (goes_behind answering g main full
           (heard_so is_for.serial sent is_for.found is_for.to p label place f (subst (λ y. which_in (desk_at w.target place) (header_in p).source label ≡ Some y) main e) b own answering) same there)
       by_failure ran_before same answering main (Some cause) g =
           let ends_so : step.0.ended ≡ Some kinds.Failed = ap (λ (y : Which). (reply_step M place (plain_in w.target.units disks login.unit) run y (answer_in p)).0.ended) main ∙ failed_ends M place (plain_in w.target.units disks login.unit) run (answer_in p) answering cause g in
@@ -512,9 +532,10 @@ module _ (wild : ℕ → Bool) (past : List Moment) (w : WorldState) (r : Ready 
             present_is step.1 so.present ∙ (end_so.turn.place ∙ ap (λ j. start_of (windows.Orb (slot_at ms i O.n j))) end_number) in
         (ap (λ x. list_in (ticket_at w place x)) is ∙ named.list, ap (λ x. orb_in (ticket_at w place x)) is ∙ named.number)
 
-    end_answered : (x : IsHeard ms w is_for.serial place (answer_in p)) → write_failure (answer_in p) ≡ None → IsAnswered ms i O.n (ends ms i O.n) (record M { written = M.written + answer_chunk M }) is_for.serial
-    end_answered x done =
+    end_answered : IsFull M → M.phase ≡ phases.Answering → (x : IsHeard ms w is_for.serial place (answer_in p)) → write_failure (answer_in p) ≡ None → IsAnswered ms i O.n (ends ms i O.n) (record M { written = M.written + answer_chunk M }) is_for.serial
+    end_answered full answering x done =
         let c = x.chunk in
+        let long : 0 < length c.access.payload = subst (λ n. 0 < n) (sym (x.size c.access c.is)) (part_chunk M (full (ap answers answering))) in
         let list_same : c.list ≡ O.n = (let z : Some c.list ≡ Some O.n = sym c.list_is ∙ O.list in cc) in
         let built : IsAnswered ms i c.list c.number (record M { written = M.written + answer_chunk M }) is_for.serial = record {
           serial = x.request;
@@ -526,25 +547,26 @@ module _ (wild : ℕ → Bool) (past : List Moment) (w : WorldState) (r : Ready 
           access = c.access;
           is = c.is;
           writes = c.writes;
+          some = long;
           cmd = c.cmd;
           command = c.command;
           done_before = M.written;
           piece = c.piece;
           behind = ap (λ j. M.written + j) (sym (x.size c.access c.is));
-          stands = c.stands;
+          stands = c.stands long;
         } in
         subst (λ l. IsAnswered ms i l (ends ms i l) (record M { written = M.written + answer_chunk M }) is_for.serial) list_same
         (subst (λ k. IsAnswered ms i c.list k (record M { written = M.written + answer_chunk M }) is_for.serial) c.number_is built)
 
-    pub reply_ends : AreHeard wild ms w → (status ≡ kinds.Failed → ⊥) → IsEndNow ms i O.n (ends ms i O.n) is_for.serial
-    reply_ends heard_so proper = by_run step.0.ran refl
+    pub reply_ends : IsFull M → AreHeard wild ms w → (status ≡ kinds.Failed → ⊥) → IsEndNow ms i O.n (ends ms i O.n) is_for.serial
+    reply_ends full heard_so proper = by_run step.0.ran refl
       where
         by_failure : (answering : M.phase ≡ phases.Answering) (main : which ≡ Main) (x : Option FailCause) → write_failure (answer_in p) ≡ x → IsEndNow ms i O.n (ends ms i O.n) is_for.serial
         by_failure answering main None g =
             ends_behind (record M { written = M.written + answer_chunk M })
             (ends_whole M place (plain_in w.target.units disks login.unit) run (answer_in p) answering g status
             (ap (λ (y : Which). (reply_step M place (plain_in w.target.units disks login.unit) run y (answer_in p)).0.ended) (sym main) ∙ ended))
-            (end_answered (heard_so is_for.serial sent is_for.found is_for.to p label place f (subst (λ y. which_in (desk_at w.target place) (header_in p).source label ≡ Some y) main e) b own answering) g)
+            (end_answered full answering (heard_so is_for.serial sent is_for.found is_for.to p label place f (subst (λ y. which_in (desk_at w.target place) (header_in p).source label ≡ Some y) main e) b own answering) g)
         by_failure answering main (Some cause) g =
             let ends_so : step.0.ended ≡ Some kinds.Failed = ap (λ (y : Which). (reply_step M place (plain_in w.target.units disks login.unit) run y (answer_in p)).0.ended) main ∙ failed_ends M place (plain_in w.target.units disks login.unit) run (answer_in p) answering cause g in
             absurd (proper (let z : Some status ≡ Some kinds.Failed = sym ended ∙ ends_so in cc))
