@@ -11,6 +11,7 @@ pub mod BufferGets
 pub mod BufferStores
 pub mod BufferTurns
 pub mod Busy
+pub mod Full
 pub mod BusyCuts
 pub mod BusyDeliveries
 pub mod BusyFollows
@@ -405,6 +406,7 @@ pub mod DataFollows
 pub mod DataActs
 pub mod DataHears
 pub mod DataCalls
+pub mod DataRan
 pub mod DataSteps
 pub mod DataLines
 pub mod DataTurns
@@ -416,6 +418,8 @@ pub mod DueDeliveries
 pub mod DueWalk
 pub mod DataProved
 pub mod DataOver
+pub mod DataHolds
+pub mod DataWhole
 pub mod DataOffice
 pub mod DataPlaces
 pub mod DataDry

@@ -61,3 +61,5 @@ pub mod AnsweredEnds
 pub mod DataWrites
 pub mod DueRuns
 pub mod DataEnds
+pub mod DataHolds
+pub mod DataWhole

@@ -32,6 +32,8 @@ ghost use Rattle.sbp_world.specs.Lists.AnsweredEnds.{AnsweredEndsLaw};
 ghost use Rattle.sbp_world.specs.Lists.AnsweredReads.{AnsweredReadsLaw};
 ghost use Rattle.sbp_world.specs.Lists.EndReads.{EndsReadLaw};
 ghost use Rattle.sbp_world.specs.Lists.DataEnds.{AnswersEndLaw};
+ghost use Rattle.sbp_world.specs.Lists.DataHolds.{DataHeldLaw};
+ghost use Rattle.sbp_world.specs.Lists.DataWhole.{AnswersWholeLaw};
 ghost use Rattle.sbp_world.specs.Lists.DataWrites.{DataSentLaw, DataWritesLaw};
 ghost use Rattle.sbp_world.specs.Lists.DueRuns.{DueRunsLaw};
 ghost use Rattle.sbp_world.specs.Lists.FifoWrites.{FifoWritesLaw};
@@ -419,8 +421,9 @@ pub fn agents_write_the_next_chunk()
 
 /// In every run in which no initiator injected packets, where lists were open as they should be before, each write of the target
 /// into a data buffer of an initiator was of the next chunk of the answer of an ORB as it was sent: as the turn began, that ORB
-/// was the first one of its list that had not ended, and the write has the bytes of its agent's answer behind those that were
-/// written.
+/// was the first one of its list that had not ended, its slot had it, and the write has the bytes of its agent's answer behind
+/// those that were written. These writes come in turn: the first one in the turn in which the command runs, and each later one
+/// as the target gets the answer, with rcode 0, to the write of the chunk before it, where that ended.
 #[tactic(auto, using(crate::proofs::Lists::Clauses::data_law))]
 pub fn answers_are_sent_in_chunks()
     ensures { DataSentLaw }
@@ -457,4 +460,19 @@ pub fn orbs_were_read_behind_their_appends()
 #[tactic(auto, using(crate::proofs::Lists::Clauses::one_up))]
 pub fn initiators_have_one_agent_up()
     ensures { OneUpLaw }
+{}
+
+/// In every run in which no initiator injected packets, where lists were open as they should be before, each write of the target into a
+/// data buffer of an initiator is of a generation that the initiator has seen; and in the present one it is of an ORB that ran, which
+/// its slot has until the status of the ORB is taken.
+#[tactic(auto, using(crate::proofs::Lists::Clauses::held_law))]
+pub fn slots_are_held_for_data()
+    ensures { DataHeldLaw }
+{}
+
+/// In every run in which no initiator injected packets, where lists were open as they should be before, the answer that an agent writes
+/// has as many bytes as the buffer of the ORB, and not all of them were written.
+#[tactic(auto, using(crate::proofs::Lists::DataWhole::whole_law))]
+pub fn answers_fill_their_buffers()
+    ensures { AnswersWholeLaw }
 {}

@@ -50,16 +50,16 @@ use Rattle.sbp_world.proofs.Lists.LinedAppends.{AllLined, LinedAt, lined_appends
 use Rattle.sbp_world.proofs.Lists.PlacedOps.{each_from}
 
 -- ---- the commands of lines fill their buffers
-abbrev FillsEvent : Event → Type 0
+abbrev pub FillsEvent : Event → Type 0
 FillsEvent (events.Act i action) = FillsAction action
 FillsEvent event = Unit {0}
 
-abbrev AreFilled : List Moment → Type 0
+abbrev pub AreFilled : List Moment → Type 0
 AreFilled [] = Unit {0}
 AreFilled (asked line event ∷ past) = FillsEvent event × AreFilled past
 AreFilled (said note ∷ past) = AreFilled past
 
-filled_said : (ns : List Note) (past : List Moment) → AreFilled past → AreFilled (map said ns ++ past)
+pub filled_said : (ns : List Note) (past : List Moment) → AreFilled past → AreFilled (map said ns ++ past)
 filled_said [] past f = f
 filled_said (n ∷ ns) past f = filled_said ns past f
 
@@ -67,7 +67,7 @@ event_fills : (event : Event) (n : ℕ) → IsLine event n → FillsEvent event
 event_fills (events.Act i action) n h = h.3
 event_fills event n h = tt
 
-filled_behind : (line : ℕ) (run : Run) (entries : List Entry) → AreLines run entries → AreFilled (moments_behind line run entries)
+pub filled_behind : (line : ℕ) (run : Run) (entries : List Entry) → AreLines run entries → AreFilled (moments_behind line run entries)
 filled_behind line run [] lines = (tt, tt)
 filled_behind line run (e ∷ before) lines = filled_said e.notes _ (event_fills e.event _ lines.0, filled_behind line run before lines.1)
 
@@ -105,7 +105,7 @@ pick_fills true true false now old cmd f g e = g e
 pick_fills true false c now old cmd f g e = g e
 pick_fills false b c now old cmd f g e = g e
 
-commands_fill : (past : List Moment) → AreFilled past → (i n k : ℕ) (cmd : Cmd) → command_at past i n k ≡ Some cmd → FillsBuffer cmd
+pub commands_fill : (past : List Moment) → AreFilled past → (i n k : ℕ) (cmd : Cmd) → command_at past i n k ≡ Some cmd → FillsBuffer cmd
 commands_fill [] f i n k cmd e = none_cmd cmd e
 commands_fill (said (notes.Append j m l cdb buffer) ∷ past) f i n k cmd e =
     pick_fills (nat_eq i j) (nat_eq n m) (nat_eq k l) (cmd_of (event_of past)) (command_at past i n k) cmd

@@ -11,11 +11,12 @@ use Rattle.sbp_world.specs.Lists.OwnReads.{OwnReadsLaw}
 use Rattle.sbp_world.specs.Lists.TameLists.{ListsLaw}
 use Rattle.sbp_world.proofs.Lists.AnswerLengths.{answer_lengths_law}
 use Rattle.sbp_world.proofs.Lists.CarriedEnds.{were_read_law}
-use Rattle.sbp_world.proofs.Lists.DataLaws.{data_sent_law}
+use Rattle.sbp_world.proofs.Lists.DataLaws.{data_sent_law, data_held_law}
 use Rattle.sbp_world.proofs.Lists.FedOwnerRuns.{own_reads_law}
 use Rattle.sbp_world.proofs.Lists.Lawful as proved
 use Rattle.sbp_world.proofs.Lists.OneUp.{one_up_law}
 use Rattle.sbp_world.proofs.Lists.ShortLines.{short_law}
+use Rattle.sbp_world.specs.Lists.DataHolds.{DataHeldLaw}
 
 pub sessions_law : LiveLaw
 sessions_law = proved.sessions_law short_law
@@ -46,3 +47,6 @@ own_law = own_reads_law open_lists_law
 
 pub one_up : OneUpLaw
 one_up = one_up_law short_law open_lists_law
+
+pub held_law : DataHeldLaw
+held_law = data_held_law short_law

@@ -81,6 +81,7 @@ use Rattle.sbp_world.specs.Lists.SlotsStay.{HasSlot}
 use Rattle.sbp_world.proofs.Lists.Extends.{all_told as all_extends}
 use Rattle.sbp_world.proofs.Lists.OpenWorlds.{hist_on}
 use Rattle.sbp_world.proofs.Lists.StatusMoments.{latest_of}
+use Rattle.sbp_world.proofs.Lists.Full.{IsFull}
 
 no_ask : (offset size : ℕ) → asks.Nothing ≡ asks.Write offset size → ⊥
 no_ask offset size e = cc
@@ -243,7 +244,7 @@ module _ (wild : ℕ → Bool) (i : ℕ) (own : wild i ≡ false) (past : List M
   called Its layer s note f u b others managed (manages answer its e) = managed answer its e
 
   -- ---- a packet is delivered
-  module _ (up : (q : ℕ) → q < 8 → has_list (machine_at w q).phase ≡ true → Up wild i own past w q) (sent : Sent) (is_for : IsFor w sent) (run : Option Told) (media : Held) (serial : ℕ) (prepared : ArePrepared ms w) (heard_so : AreHeard wild ms w) (same_serial : is_for.serial ≡ serial) where
+  module _ (up : (q : ℕ) → q < 8 → has_list (machine_at w q).phase ≡ true → Up wild i own past w q) (sent : Sent) (is_for : IsFor w sent) (run : Option Told) (media : Held) (serial : ℕ) (prepared : ArePrepared ms w) (heard_so : AreHeard wild ms w) (same_serial : is_for.serial ≡ serial) (full : (q : ℕ) → q < 8 → IsFull (machine_at w q)) where
     got_heard : (p : Packet) (label : LabelParts) (place : ℕ) → (judging_step w.target.layer sent.generation sent.bytes).0 ≡ of_response p label (Some (purposes.Agent place)) → (received run sent.generation sent.bytes (whole_of w.target media)).0 ≡ judgements.Got
     unfolding received
     got_heard p label place f =
@@ -269,7 +270,7 @@ module _ (wild : ℕ → Bool) (i : ℕ) (own : wild i ≡ false) (past : List M
                 (reply_piece wild past w r asked sent is_for run media.disks p label place f b login which e ours prepared none at size ask (above_zero at slot (ap window_at (sym same) ∙ goes)));
             got = is_for.serial;
             got_is = ap (λ x. judged_note serial x) (got_heard p label place f) ∙ ap (λ n. notes.Got n) (sym same_serial);
-            turn = reply_turn wild past w r asked sent is_for run media.disks p label place f b login which e ours heard_so none at size ask (above_zero at slot (ap window_at (sym same) ∙ goes));
+            turn = reply_turn wild past w r asked sent is_for run media.disks p label place f b login which e ours (full place b) heard_so none at size ask (above_zero at slot (ap window_at (sym same) ∙ goes));
           };
     }
 

@@ -1,5 +1,5 @@
 -- In every run in which no initiator injected packets, the target sent the data of answers as they are to be sent, where the lines name units of 16 bits.
-use Rattle.std.proofs.Common.{inl, ℕ, ◌<◌, List, length}
+use Rattle.std.proofs.Common.{ℕ, ◌<◌, List, length}
 use Rattle.sbp_journal.specs.Run.{Moment}
 use Rattle.sbp_laws.specs.Turns.{EachMoment}
 use Rattle.sbp_world.specs.Worlds.{WorldState}
@@ -20,6 +20,9 @@ use Rattle.sbp_world.proofs.Lists.StatusPlaces as places
 use Rattle.sbp_world.specs.Lists.DataEnds.{AllEndSo}
 use Rattle.sbp_world.proofs.Lists.DataOver.{ends_law}
 use Rattle.sbp_world.proofs.Lists.StatusProved.{ground_law}
+use Rattle.sbp_world.proofs.Lists.TameWalks.{tame_part}
+use Rattle.sbp_world.specs.Lists.DataHolds.{AllDataHeld}
+use Rattle.sbp_world.proofs.Lists.DataHolds.{held_law}
 
 all_office : (past : List Moment) (w : WorldState) → DryAt past w → AllPlaced past w → IsTame past → AreShort past → ((i : ℕ) → i < length w.initiators → EachMoment (BasedAt i) past) → AllOfficeDry past w
 all_office past w dry placed tame shorts based i inside calm = ((placed i inside calm).1, dry (tame, shorts, based) i inside)
@@ -38,15 +41,13 @@ module _ (short : ShortLaw) where
       }
 
   untaken_by : Under (WhereTame AreUntaken)
-  untaken_by =
-      let x = places.untaken_law opened_known.laws.pointers opened_known.laws.begun (here_beside short) (placed_beside short) in
-      record {
-        after_lines = λ line run r has small size so_far tame. x.after_lines line run r has small size so_far (inl tame);
-        between = λ line run r has small size next most told m so_far tame. x.between line run r has small size next most told m so_far (inl tame);
-      }
+  untaken_by = tame_part AreUntaken (places.untaken_law opened_known.laws.pointers opened_known.laws.begun (here_beside short) (placed_beside short))
 
   pub data_sent_law : Under (WhereTame AllDataSo)
   data_sent_law = data_sent opened_known.laws.pointers opened_known.laws.begun (here_by short) (places.names opened_known.laws.pointers opened_known.laws.begun (here_by short) (placed_by short)) untaken_by dry_by
+
+  pub data_held_law : Under (WhereTame AllDataHeld)
+  data_held_law = held_law data_sent_law
 
 pub answers_end_law : Under (WhereTame AllEndSo)
 answers_end_law = ends_law (ground_law opened_known.laws.pointers opened_known.laws.begun)

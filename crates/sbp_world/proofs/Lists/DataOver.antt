@@ -29,7 +29,7 @@ use Rattle.sbp_world.specs.Hosts.Runs.{more_deliveries}
 use Rattle.sbp_world.specs.Lists.Closes.{Always, Under, WhereTame}
 use Rattle.sbp_world.specs.Lists.DataEnds.{AllEndSo, EndSo, WasWritten, is_behind, is_fresh, IsWritten}
 use Rattle.sbp_world.specs.Lists.DataWrites.{IsAnswered}
-use Rattle.sbp_world.specs.Lists.Needs.{IsFor}
+use Rattle.sbp_world.specs.Lists.Needs.{IsFor, machine_at}
 use Rattle.sbp_world.proofs.Lists.DataHears.{AreHeard, heard_asked, heard_there}
 use Rattle.sbp_world.proofs.Lists.DataSteps.{IsEndNow, end_named, ends_behind, ends_fresh, reply_ends}
 use Rattle.sbp_world.proofs.Lists.Endless.{AllLight, AllPlain, Delivers, IsEndBy, IsPlain, OneEnd, Plainly, delivery_comes, light_plain, no_end, one_comes, one_end}
@@ -44,6 +44,10 @@ use Rattle.sbp_world.proofs.Lists.TameWalks.{tame_after, tame_between}
 use Rattle.sbp_world.proofs.Lists.Turned.{IsOne}
 use Rattle.sbp_world.proofs.Lists.Turns.{Ready}
 use Rattle.sbp_world.proofs.Lists.Walks.{Turn, Walks, by_delivery, by_end, by_line, by_start}
+use Rattle.sbp_world.specs.Lists.DataWhole.{AreWhole}
+use Rattle.sbp_world.proofs.Lists.DataProved.{full_of}
+use Rattle.sbp_world.proofs.Lists.DataWhole.{whole_law}
+use Rattle.sbp_world.proofs.Lists.Full.{IsFull}
 
 no : false ≡ true → ⊥
 no e = cc
@@ -100,6 +104,7 @@ pub record Known (wild : ℕ → Bool) (past : List Moment) (w : WorldState) : T
   pub ready : Ready wild past w
   pub asked_orbs : AreAsked wild (hist past w) w
   pub heard : AreHeard wild (hist past w) w
+  pub full : (q : ℕ) → q < 8 → IsFull (machine_at w q)
 
 same_number : (a b : ℕ) → Some a ≡ Some b → a ≡ b
 same_number a b e = cc
@@ -128,7 +133,7 @@ module _ (wild : ℕ → Bool) (i : ℕ) (own : wild i ≡ false) (past : List M
     n = (opened wild past w known.ready known.asked_orbs r.sent is_for run s.media.disks r.by.packet r.by.label r.place r.by.found small r.by.login r.by.which r.by.is_which ours).n
 
     it : IsEndNow ms (holder w r.place).initiator n (ends ms (holder w r.place).initiator n) serial
-    it = reply_ends wild past w known.ready known.asked_orbs r.sent is_for run s.media.disks r.by.packet r.by.label r.place r.by.found small r.by.login r.by.which r.by.is_which ours r.status r.by.ended known.heard proper
+    it = reply_ends wild past w known.ready known.asked_orbs r.sent is_for run s.media.disks r.by.packet r.by.label r.place r.by.found small r.by.login r.by.which r.by.is_which ours r.status r.by.ended (known.full r.place small) known.heard proper
 
     names : (list_in (ticket_at w r.place r.orb) ≡ Some n) × (orb_in (ticket_at w r.place r.orb) ≡ Some (ends ms (holder w r.place).initiator n))
     names =
@@ -166,6 +171,7 @@ module _ (wild : ℕ → Bool) (i : ℕ) (own : wild i ≡ false) where
     ready = ready_now wild line event past w k.ready;
     asked_orbs = λ place c is_open mine n list number from below. k.asked_orbs place c is_open mine n list number from below;
     heard = heard;
+    full = λ q b. k.full q b;
   }
 
   told_so : (past : List Moment) (s : Scene) → Known wild past s.world → (run : Option Told) (serial : ℕ) (early : List Note) (ended : Note) → IsEndBy s run serial early ended → EndSo i (said ended) (map said early ++ said (notes.Got serial) ∷ hist past s.world) × AllLight early
@@ -222,13 +228,10 @@ module _ (wild : ℕ → Bool) (i : ℕ) (own : wild i ≡ false) where
   turn_ends _ _ _ _ (by_end past s done) k e = done_ends past s.world done e
 
 -- ---- over a run in which no initiator injected packets
-abbrev Nothing : List Moment → WorldState → Type 0
-Nothing past w = Unit {0}
-
 abbrev AllEnds : (ℕ → Bool) → List Moment → WorldState → Type 0
 AllEnds wild ms w = (i : ℕ) → i < length w.initiators → wild i ≡ false → EachMoment (EndSo i) ms
 
-ends_walk : (wild : ℕ → Bool) (units ready : ℕ) → 0 < units → (start : List Disk) → Walks wild units ready start Ground Nothing (AllEnds wild)
+ends_walk : (wild : ℕ → Bool) (units ready : ℕ) → 0 < units → (start : List Disk) → Walks wild units ready start Ground AreWhole (AllEnds wild)
 ends_walk wild units ready has start past s later t step p i b own =
     let w = s.world in
     let at = step.stands.reached in
@@ -237,11 +240,9 @@ ends_walk wild units ready has start past s later t step p i b own =
       asked_orbs = asked_of wild start units ready has w at.holds at.site step.stands.lists at.calm step.known.orbs;
       heard = λ serial sent found zero_to packet label place e is_which c mild answering.
           heard_there wild units ready has start w at.holds at.site step.stands.lists at.calm step.known.orbs (λ p d. at.kept.on p d) serial sent found zero_to packet label place e is_which c mild answering;
+      full = full_of (hist past w) w (step.so_far i own);
     } in
     turn_ends wild i own past s later t step.turn known (p i (subst (λ n. i < n) step.count b) own)
-
-nothing : Under (WhereTame Nothing)
-nothing = record { after_lines = λ line run r has small size so_far tame. tt; between = λ line run r has small size next most told m so_far tame. tt }
 
 first_ends : (wild : ℕ → Bool) (line : ℕ) (run : Run) → AllEnds wild (moments_behind line run []) (beginning run).world
 first_ends wild line run = λ i b own. (tt, (tt, tt))
@@ -252,7 +253,7 @@ delivers None = tt
 
 pub ends_law : Always Ground → Under (WhereTame AllEndSo)
 ends_law ground = record {
-  after_lines = λ line run r has small size so_far tame i b calm. tame_after Ground Nothing AllEnds ground nothing ends_walk first_ends line run r has small size so_far tame i b calm;
+  after_lines = λ line run r has small size so_far tame i b calm. tame_after Ground AreWhole AllEnds ground whole_law ends_walk first_ends line run r has small size so_far tame i b calm;
   between = λ line run r has small size next most told m so_far tame i b calm.
-      tame_between Ground Nothing AllEnds ground nothing ends_walk first_ends line run r has small size next (more_deliveries most) (delivers most) told m so_far tame i b calm;
+      tame_between Ground AreWhole AllEnds ground whole_law ends_walk first_ends line run r has small size next (more_deliveries most) (delivers most) told m so_far tame i b calm;
 }

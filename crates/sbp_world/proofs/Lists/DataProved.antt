@@ -12,7 +12,7 @@ use Rattle.sbp_world.specs.Agents.Management.Terms.{DeliversMore}
 use Rattle.sbp_world.specs.Hosts.Runs.{more_deliveries}
 use Rattle.sbp_world.specs.Lists.Closes.{Always, AreHere, Under, WhereTame, AreUntaken}
 use Rattle.sbp_world.specs.Lists.DataWrites.{AllDataSo, DataSo}
-use Rattle.sbp_world.specs.Lists.Needs.{IsCalm, initiator_in}
+use Rattle.sbp_world.specs.Lists.Needs.{IsCalm, initiator_in, machine_at}
 use Rattle.sbp_world.proofs.Lists.DataWalk.{Facts, Given, turn_data}
 use Rattle.sbp_world.proofs.Lists.Executes.{asked_of}
 use Rattle.sbp_world.proofs.Lists.RunOutcomes.{AreAsked}
@@ -26,9 +26,15 @@ use Rattle.sbp_world.proofs.Lists.Sites.{named_prepared}
 use Rattle.sbp_laws.specs.Lists.{slot_at}
 use Rattle.sbp_world.proofs.Lists.DataHeard.{HaveSlots}
 use Rattle.sbp_world.proofs.Lists.StatusPlaced.{has_slot}
+use Rattle.sbp_world.specs.Lists.DataWhole.{AreWhole}
+use Rattle.sbp_world.proofs.Lists.DataSteps.{answers_is}
+use Rattle.sbp_world.proofs.Lists.Full.{IsFull}
 
 abbrev pub AllData : (ℕ → Bool) → List Moment → WorldState → Type 0
 AllData wild ms w = (i : ℕ) → i < length w.initiators → wild i ≡ false → EachMoment (DataSo i) ms
+
+pub full_of : (past : List Moment) (w : WorldState) → AreWhole past w → (q : ℕ) → q < 8 → IsFull (machine_at w q)
+full_of past w whole q b e = let x = whole q b (answers_is (machine_at w q).phase e) in record { more = x.0; fills = x.1 }
 
 delivers : (most : Option ℕ) → DeliversMore (more_deliveries most)
 delivers (Some count) = tt
@@ -37,7 +43,7 @@ delivers None = tt
 module _ (Placed : ℕ → WorldState → Type 0) (placed_on : (i : ℕ) (w : WorldState) → Placed i w → Placed i (without_notes w)) (gives : (wild : ℕ → Bool) (i : ℕ) (own : wild i ≡ false) (past : List Moment) (w : WorldState) (r : Ready wild past w) → AreAsked wild (hist past w) w → Placed i w → EachMoment (DataSo i) (hist past w) → HaveSlots (hist past w) i → Given wild i own past w r) where
   -- what is known where lists were open as they should be before
   abbrev pub Over : List Moment → WorldState → Type 0
-  Over ms w = AreHere ms w × (AreNames ms w × (AreUntaken ms w × ((i : ℕ) → i < length w.initiators → IsCalm ms i → Placed i w)))
+  Over ms w = AreHere ms w × (AreNames ms w × (AreUntaken ms w × (AreWhole ms w × ((i : ℕ) → i < length w.initiators → IsCalm ms i → Placed i w))))
 
   module _ (wild : ℕ → Bool) (units ready : ℕ) (has : 0 < units) (start : List Disk) (past : List Moment) (s : Scene) (later : List Moment) (t : Scene) (step : Step wild units ready start Ground Over past s later t) (p : AllData wild (hist past s.world) s.world) (i : ℕ) (b : i < length t.world.initiators) (own : wild i ≡ false) where
     abbrev w : WorldState
@@ -64,7 +70,8 @@ module _ (Placed : ℕ → WorldState → Type 0) (placed_on : (i : ℕ) (w : Wo
           ready = step.stands.known_all;
           each = p i inside own;
           asked_orbs = asked_of wild start units ready has w h site step.stands.lists step.stands.reached.calm k.orbs;
-          placed = o.1.1.1 i inside calm;
+          placed = o.1.1.1.1 i inside calm;
+          full = λ q b. full_of ms w o.1.1.1.0 q b;
           prepared = λ place n j there named.
               let x = named_prepared units ready has start w h site place n j there named in
               record { there = x.there; small = x.small; filled = λ cmd e. site.filled (initiator_in w place) there (slot_at ms (initiator_in w place) n j) n j cmd x.small x.there e };

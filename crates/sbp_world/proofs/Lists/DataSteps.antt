@@ -1,6 +1,6 @@
 -- A reply to an agent along a list of an initiator that injected no packets: what it asks to write, but for a status block, is the next chunk of the answer of its present
 -- ORB, in the buffer that is laid out for the command of this ORB.
-use Rattle.std.proofs.Common.{arith, ◌≡◌, ◌∙◌, refl, sym, ap, subst, ◌<◌, ℕ, Bool, List, length, take, drop, Option, Some, None, true, false, cond, ◌+◌, ◌-◌, ◌^◌, Result, Ok, Err, IfSome, ◌∷◌, [], suc, nat_eq, nat_lt, ◌==◌}
+use Rattle.std.proofs.Common.{arith, ◌≡◌, ◌∙◌, refl, sym, ap, subst, ◌<◌, ℕ, Bool, List, length, take, drop, Option, Some, None, true, false, cond, ◌+◌, ◌-◌, ◌^◌, Result, Ok, Err, IfSome, ◌∷◌, [], suc, nat_eq, nat_lt, ◌==◌, ◌&&◌, ◌≤◌}
 use Rattle.async_packet.specs.Labels.{LabelParts}
 use Rattle.async_packet.specs.Packet.{Packet, header_in}
 use Rattle.label_table.specs.Layer.{judging_step, of_response}
@@ -8,15 +8,15 @@ use Rattle.login_table.specs.declared.login.Login.{Login}
 use Rattle.orb_layout.specs.declared.ask.Ask.TheVariants as asks
 use Rattle.packet_store.specs.declared.sent.Sent.{Sent}
 use Rattle.rbc_disk.specs.Disk.{Disk}
-use Rattle.rbc_disk.specs.Runs.{Told}
+use Rattle.rbc_disk.specs.Runs.{Told, MayEnd, answer_length_of, check_in, failure_of, answered_length}
 use Rattle.command_agent.specs.declared.phase.Phase.{Phase}
 use Rattle.command_agent.specs.declared.phase.Phase.TheVariants as phases
 use Rattle.command_agent.specs.declared.step.AgentStep.{AgentStep}
 use Rattle.command_agent.specs.declared.step.Which.{Which}
-use Rattle.command_agent.specs.Machine.{Machine, chunk_of, cut_to, is_ahead, has_present}
+use Rattle.command_agent.specs.Machine.{Machine, chunk_of, cut_to, is_ahead, has_present, plan_of, limit_of}
 use Rattle.agent_laws.specs.Along.Along.{Knows, Progress, Answers, HasTold}
 use Rattle.agent_laws.specs.Along.Requests.{main_ask, ahead_beside, main_beside}
-use Rattle.agent_laws.specs.Along.Steps.{progress_by, IsRun, Keeps, chunk_by, end_by, heard_by, main_heard, run_by, IsEnd}
+use Rattle.agent_laws.specs.Along.Steps.{progress_by, IsRun, Keeps, chunk_by, end_by, heard_by, main_heard, run_by, IsEnd, status_by}
 use Rattle.sbp_journal.specs.Run.{Moment, said}
 use Rattle.sbp_laws.specs.Lists.{command_at, slot_at, orb, prepared_in, linked}
 use Rattle.sbp_laws.specs.Terms.{ends, request_at, ran_status, runs, status_of}
@@ -28,7 +28,7 @@ use Rattle.sbp_world.specs.Telling.{holder, ticket_at}
 use Rattle.sbp_world.specs.Worlds.{WorldState}
 use Rattle.sbp_world.proofs.Agents.Management.Still.{hist}
 use Rattle.sbp_world.specs.Lists.DataWrites.{IsPieceOf, IsAnswered}
-use Rattle.sbp_world.specs.Lists.Lists.{orbs}
+use Rattle.sbp_world.specs.Lists.Lists.{orbs, IsBufferOf}
 use Rattle.sbp_world.specs.Lists.Needs.{IsFor, machine_at, IsNamed, IsOpenAt, initiator_in}
 use Rattle.sbp_world.proofs.Lists.DataPieces.{chunk_is, same_piece}
 use Rattle.sbp_world.proofs.Lists.Deliveries.{waits_has}
@@ -47,7 +47,7 @@ use Rattle.command_agent.specs.Steps.{advanced, ahead_read, ahead_step, answer_c
 use Rattle.command_agent.specs.declared.step.Which.TheVariants.{Ahead, Main}
 use Rattle.rbc_disk.specs.Units.{PlainDisk}
 use Rattle.rbc_disk.specs.declared.command.Outcome.{Outcome}
-use Rattle.page_table.specs.Buffer.{chunk, chunk_from, addresses, buffer_addresses}
+use Rattle.page_table.specs.Buffer.{chunk, chunk_from, addresses, buffer_addresses, bytes_of}
 use Rattle.sbp_laws.specs.CarriedBytes.{laid_out}
 use Rattle.sbp_target.specs.Replies.{plain_in}
 use Rattle.sbp_world.specs.Agents.Alike.{has_list, answers}
@@ -72,6 +72,15 @@ use Rattle.sbp_world.specs.Hosts.Carrying.{Follows}
 use Rattle.sbp_world.proofs.Lists.Slots.{IsFilled, data_window}
 use Rattle.sbp_world.proofs.Lists.StatusLosses.{present_is}
 use Rattle.sbp_world.proofs.Lists.StatusSteps.{EndsSo, replied_leaves}
+use Rattle.command_agent.specs.Runs.{MayRun, MayTell}
+use Rattle.rbc_disk.specs.Checks.{check_of}
+use Rattle.rbc_disk.specs.declared.command.Outcome.TheVariants as outcomes
+use Rattle.orb_layout.specs.declared.command.CommandOrb.{CommandOrb}
+use Rattle.sbp_world.specs.Wire.Lines.{FillsBuffer}
+use Rattle.sbp_world.proofs.Hosts.OrbTables.{whole_bytes}
+use Rattle.sbp_world.proofs.Lists.AnswerChecks.{check_length, ended_none}
+use Rattle.sbp_world.proofs.Lists.Full.{IsFull, IsPart}
+use Rattle.sbp_world.proofs.Lists.DataRan.{goes_on as more_goes, reply_begins}
 
 same_offset : (a b offset size : ℕ) → asks.Write a b ≡ asks.Write offset size → a ≡ offset
 same_offset a b offset size e = cc
@@ -108,6 +117,24 @@ some_chunk limit l (segment ∷ rest) done =
     pick_chunk (nat_lt done segment.length) _ _
     (λ e. let inside : done < segment.length = grind (arith, nat_tests) in min_some limit (segment.length - done) l (omega (arith, inside)))
     (λ e. some_chunk limit l rest (done - segment.length))
+
+pick_long : (left : ℕ) (b : Bool) (x y : Option Chunk) → (b ≡ true → 0 < (cut_to left x).length) → (b ≡ false → 0 < (cut_to left y).length) → 0 < (cut_to left (cond b x y)).length
+pick_long left true x y f g = f refl
+pick_long left false x y f g = g refl
+
+chunk_long : (left limit : ℕ) → 0 < left → 0 < limit → (segments : List Segment) (done : ℕ) → done < bytes_of segments → 0 < (cut_to left (chunk_from segments done limit)).length
+chunk_long left limit l k [] done b = absurd (omega (arith, b))
+chunk_long left limit l k (segment ∷ rest) done b =
+    pick_long left (nat_lt done segment.length) _ _
+    (λ e. let inside : done < segment.length = grind (arith, nat_tests) in min_some left (min limit (segment.length - done)) l (min_some limit (segment.length - done) k (omega (arith, inside))))
+    (λ e. let outside : segment.length ≤ done = grind (arith, nat_tests) in chunk_long left limit l k rest (done - segment.length) (omega (arith, outside, b)))
+
+-- the next chunk of an answer of which not all is written has bytes
+part_chunk : (m : Machine) → IsPart m.written (length m.answer) (bytes_of m.segments) → 0 < answer_chunk m
+part_chunk m p =
+    let more = p.more in
+    let fills = p.fills in
+    chunk_long (length m.answer - m.written) (limit_of m.orb) (omega (arith, more)) (pow_pos (m.orb.max_payload + 2)) m.segments m.written (omega (arith, more, fills))
 
 module _ (slot : ℕ) (small : slot < 32) (cmd : Cmd) (f : IsFilled slot cmd) (left done limit offset size : ℕ) (l : 0 < limit) (some : 0 < offset) where
   abbrev laid : List Segment
@@ -232,7 +259,7 @@ module _ (m : Machine) (place : ℕ) (plain : PlainDisk) (told : Option Told) (a
   unfolding reply_step
   ahead_nothing = if_asks (is_ahead m.ahead) (ahead_step m answer) (quiet, m) (ahead_asks (payload_of answer 32)) refl
 
-answers_is : (phase : Phase) → answers phase ≡ true → phase ≡ phases.Answering
+pub answers_is : (phase : Phase) → answers phase ≡ true → phase ≡ phases.Answering
 answers_is phases.Answering e = refl
 answers_is phases.Fetching e = absurd (let z : false ≡ true = e in cc)
 answers_is phases.ReadingTable e = absurd (let z : false ≡ true = e in cc)
@@ -255,6 +282,29 @@ unrun_in l p phases.ReadingNext m k h a = k.over.unrun
 unrun_in l p phases.Suspended m k h a = k.over.unrun
 unrun_in l p phases.Reset m k h a = absurd (let z : false ≡ true = h in cc)
 unrun_in l p phases.Dead m k h a = absurd (let z : false ≡ true = h in cc)
+
+-- the answer that was told is that from then on
+chunk_answer : (failure : Option FailCause) (size : ℕ) (p : Progress) → (chunk_by failure size p).answer ≡ p.answer
+chunk_answer None size p = refl
+chunk_answer (Some cause) size p = refl
+
+status_answer : (failure : Option FailCause) (p : Progress) → (status_by failure p).answer ≡ p.answer
+status_answer None p = refl
+status_answer (Some cause) p = refl
+
+main_answer : (phase : Phase) (m : Machine) (answer : Answer) (p : Progress) → (main_heard phase m answer p).answer ≡ p.answer
+main_answer phases.Answering m answer p = chunk_answer (write_failure answer) (answer_chunk m) p
+main_answer phases.WritingStatus m answer p = status_answer (write_failure answer) p
+main_answer phases.WritingLastStatus m answer p = status_answer (write_failure answer) p
+main_answer _ m answer p = refl
+
+heard_answer : (which : Which) (m : Machine) (answer : Answer) (p : Progress) → (heard_by which m answer p).answer ≡ p.answer
+heard_answer Main m answer p = main_answer m.phase m answer p
+heard_answer Ahead m answer p = refl
+
+good_check : (outcome : Outcome) → is_good (Some outcome) ≡ true → check_in outcome ≡ None
+good_check (outcomes.Good len) g = refl
+good_check (outcomes.Check sense) g = absurd (let z : false ≡ true = g in cc)
 
 run_ended : (ran : Option Outcome) (answer : List ℕ) (p : Progress) → (run_by ran answer p).ended ≡ p.ended
 run_ended None answer p = refl
@@ -363,7 +413,7 @@ module _ (wild : ℕ → Bool) (past : List Moment) (w : WorldState) (r : Ready 
       ap (λ j. runs ms i O.n j) (sym G.is) ∙ had
 
   -- it goes on behind the chunk that was written
-  module _ (answering : M.phase ≡ phases.Answering) (done : write_failure (answer_in p) ≡ None) (main : which ≡ Main) (x : IsHeard ms w is_for.serial place (answer_in p)) where
+  module _ (answering : M.phase ≡ phases.Answering) (done : write_failure (answer_in p) ≡ None) (main : which ≡ Main) where
     abbrev was : Answers (orbs ms i O.n) G.progress M.present M.orb M.segments M.answer M.written M.outgoing
     was = subst (λ ph. Knows (orbs ms i O.n) G.progress ph M) answering G.along.main
 
@@ -374,9 +424,10 @@ module _ (wild : ℕ → Bool) (past : List Moment) (w : WorldState) (r : Ready 
     as_answered =
         by_main ∙ (ap (λ ph. main_heard ph M (answer_in p) G.progress) answering ∙ ap (λ x. chunk_by x (answer_chunk M) G.progress) done)
 
-    goes_behind : now_then ≡ before_now → (there : HasTold (orbs ms i O.n) now_then step.1.present step.1.orb step.1.segments step.1.answer step.1.written) → IsAnswered ms i O.n (ends ms i O.n) step.1 is_for.serial
-    goes_behind same there =
+    goes_behind : IsFull M → IsHeard ms w is_for.serial place (answer_in p) → now_then ≡ before_now → (there : HasTold (orbs ms i O.n) now_then step.1.present step.1.orb step.1.segments step.1.answer step.1.written) → IsAnswered ms i O.n (ends ms i O.n) step.1 is_for.serial
+    goes_behind full x same there =
         let c = x.chunk in
+        let long : 0 < length c.access.payload = subst (λ n. 0 < n) (sym (x.size c.access c.is)) (part_chunk M (full (ap answers answering))) in
         let written : step.1.written ≡ M.written + answer_chunk M =
             there.done ∙ (ap (λ (y : Progress). y.carried) (same ∙ as_answered) ∙ ap (λ j. j + answer_chunk M) (sym was.told.done)) in
         let answers : step.1.answer ≡ M.answer = there.told ∙ (ap (λ (y : Progress). y.answer) (same ∙ as_answered) ∙ sym was.told.told) in
@@ -391,12 +442,13 @@ module _ (wild : ℕ → Bool) (past : List Moment) (w : WorldState) (r : Ready 
           access = c.access;
           is = c.is;
           writes = c.writes;
+          some = long;
           cmd = c.cmd;
           command = c.command;
           done_before = M.written;
           piece = subst (λ xs. chunk c.access.offset (length c.access.payload) ≡ cut_to (length xs - M.written) (chunk_from (laid_out (slot_at ms i c.list c.number) c.cmd c.cmd.segments) M.written (2 ^ (c.cmd.max_payload + 2)))) (sym answers) c.piece;
           behind = written ∙ ap (λ j. M.written + j) (sym (x.size c.access c.is));
-          stands = c.stands;
+          stands = c.stands long;
         } in
         subst (λ l. IsAnswered ms i l (ends ms i l) step.1 is_for.serial) list_same (subst (λ k. IsAnswered ms i c.list k step.1 is_for.serial) c.number_is built)
 
@@ -407,8 +459,8 @@ module _ (wild : ℕ → Bool) (past : List Moment) (w : WorldState) (r : Ready 
       let is : orb_of step.1 ≡ start_of (windows.Orb (slot_at ms i O.n (ends ms i O.n))) = present_is step.1 (ap has_present answering) ∙ at in
       (ap (λ x. list_in (ticket_at w place x)) is ∙ named.list, ap (λ x. orb_in (ticket_at w place x)) is ∙ named.number)
 
-  pub reply_turn : AreHeard wild ms w → step.0.ended ≡ None → (offset size : ℕ) → step.0.ask ≡ asks.Write offset size → 0 < offset → IsTurnNow ms w place O.n (ends ms i O.n) step is_for.serial
-  reply_turn heard_so none offset size wrote some = by_run step.0.ran refl
+  pub reply_turn : IsFull M → AreHeard wild ms w → step.0.ended ≡ None → (offset size : ℕ) → step.0.ask ≡ asks.Write offset size → 0 < offset → IsTurnNow ms w place O.n (ends ms i O.n) step is_for.serial
+  reply_turn full heard_so none offset size wrote some = by_run step.0.ran refl
     where
       k : Keeps (orbs ms i O.n) before_now place (plain_in w.target.units disks login.unit) (main_beside which M) (ahead_beside which M) step
       k = keeps wild past w r asked sent is_for run disks p label place f b login which e own
@@ -432,7 +484,7 @@ module _ (wild : ℕ → Bool) (past : List Moment) (w : WorldState) (r : Ready 
 
       by_failure : (ran_before : 0 < runs ms i O.n (ends ms i O.n)) (same : now_then ≡ before_now) (answering : M.phase ≡ phases.Answering) (main : which ≡ Main) (x : Option FailCause) → write_failure (answer_in p) ≡ x → IsTurnNow ms w place O.n (ends ms i O.n) step is_for.serial
       by_failure ran_before same answering main None g =
-          now_follows ran_before (goes_behind answering g main
+          now_follows ran_before (goes_behind answering g main full
           (heard_so is_for.serial sent is_for.found is_for.to p label place f (subst (λ y. which_in (desk_at w.target place) (header_in p).source label ≡ Some y) main e) b own answering) same there)
       by_failure ran_before same answering main (Some cause) g =
           let ends_so : step.0.ended ≡ Some kinds.Failed = ap (λ (y : Which). (reply_step M place (plain_in w.target.units disks login.unit) run y (answer_in p)).0.ended) main ∙ failed_ends M place (plain_in w.target.units disks login.unit) run (answer_in p) answering cause g in
@@ -480,9 +532,10 @@ module _ (wild : ℕ → Bool) (past : List Moment) (w : WorldState) (r : Ready 
             present_is step.1 so.present ∙ (end_so.turn.place ∙ ap (λ j. start_of (windows.Orb (slot_at ms i O.n j))) end_number) in
         (ap (λ x. list_in (ticket_at w place x)) is ∙ named.list, ap (λ x. orb_in (ticket_at w place x)) is ∙ named.number)
 
-    end_answered : (x : IsHeard ms w is_for.serial place (answer_in p)) → write_failure (answer_in p) ≡ None → IsAnswered ms i O.n (ends ms i O.n) (record M { written = M.written + answer_chunk M }) is_for.serial
-    end_answered x done =
+    end_answered : IsFull M → M.phase ≡ phases.Answering → (x : IsHeard ms w is_for.serial place (answer_in p)) → write_failure (answer_in p) ≡ None → IsAnswered ms i O.n (ends ms i O.n) (record M { written = M.written + answer_chunk M }) is_for.serial
+    end_answered full answering x done =
         let c = x.chunk in
+        let long : 0 < length c.access.payload = subst (λ n. 0 < n) (sym (x.size c.access c.is)) (part_chunk M (full (ap answers answering))) in
         let list_same : c.list ≡ O.n = (let z : Some c.list ≡ Some O.n = sym c.list_is ∙ O.list in cc) in
         let built : IsAnswered ms i c.list c.number (record M { written = M.written + answer_chunk M }) is_for.serial = record {
           serial = x.request;
@@ -494,25 +547,26 @@ module _ (wild : ℕ → Bool) (past : List Moment) (w : WorldState) (r : Ready 
           access = c.access;
           is = c.is;
           writes = c.writes;
+          some = long;
           cmd = c.cmd;
           command = c.command;
           done_before = M.written;
           piece = c.piece;
           behind = ap (λ j. M.written + j) (sym (x.size c.access c.is));
-          stands = c.stands;
+          stands = c.stands long;
         } in
         subst (λ l. IsAnswered ms i l (ends ms i l) (record M { written = M.written + answer_chunk M }) is_for.serial) list_same
         (subst (λ k. IsAnswered ms i c.list k (record M { written = M.written + answer_chunk M }) is_for.serial) c.number_is built)
 
-    pub reply_ends : AreHeard wild ms w → (status ≡ kinds.Failed → ⊥) → IsEndNow ms i O.n (ends ms i O.n) is_for.serial
-    reply_ends heard_so proper = by_run step.0.ran refl
+    pub reply_ends : IsFull M → AreHeard wild ms w → (status ≡ kinds.Failed → ⊥) → IsEndNow ms i O.n (ends ms i O.n) is_for.serial
+    reply_ends full heard_so proper = by_run step.0.ran refl
       where
         by_failure : (answering : M.phase ≡ phases.Answering) (main : which ≡ Main) (x : Option FailCause) → write_failure (answer_in p) ≡ x → IsEndNow ms i O.n (ends ms i O.n) is_for.serial
         by_failure answering main None g =
             ends_behind (record M { written = M.written + answer_chunk M })
             (ends_whole M place (plain_in w.target.units disks login.unit) run (answer_in p) answering g status
             (ap (λ (y : Which). (reply_step M place (plain_in w.target.units disks login.unit) run y (answer_in p)).0.ended) (sym main) ∙ ended))
-            (end_answered (heard_so is_for.serial sent is_for.found is_for.to p label place f (subst (λ y. which_in (desk_at w.target place) (header_in p).source label ≡ Some y) main e) b own answering) g)
+            (end_answered full answering (heard_so is_for.serial sent is_for.found is_for.to p label place f (subst (λ y. which_in (desk_at w.target place) (header_in p).source label ≡ Some y) main e) b own answering) g)
         by_failure answering main (Some cause) g =
             let ends_so : step.0.ended ≡ Some kinds.Failed = ap (λ (y : Which). (reply_step M place (plain_in w.target.units disks login.unit) run y (answer_in p)).0.ended) main ∙ failed_ends M place (plain_in w.target.units disks login.unit) run (answer_in p) answering cause g in
             absurd (proper (let z : Some status ≡ Some kinds.Failed = sym ended ∙ ends_so in cc))
@@ -533,3 +587,137 @@ module _ (wild : ℕ → Bool) (past : List Moment) (w : WorldState) (r : Ready 
         by_run : (o : Option Outcome) → step.0.ran ≡ o → IsEndNow ms i O.n (ends ms i O.n) is_for.serial
         by_run (Some outcome) ran = ends_fresh (ran_now outcome ran)
         by_run None ran = by_phase (answers M.phase) refl
+
+  -- ---- an answer with bytes has as many as the buffer of its ORB
+  module _ (may : MayTell step.0.ran step.1 place (plain_in w.target.units disks login.unit)) (prepared : ArePrepared ms w) (fills : (j n k : ℕ) (cmd : Cmd) → command_at ms j n k ≡ Some cmd → FillsBuffer cmd) (full : IsFull M) (e_then : answers step.1.phase ≡ true) where
+    whole_keeps : Keeps (orbs ms i O.n) before_now place (plain_in w.target.units disks login.unit) (main_beside which M) (ahead_beside which M) step
+    whole_keeps = keeps wild past w r asked sent is_for run disks p label place f b login which e own
+
+    told_then : HasTold (orbs ms i O.n) now_then step.1.present step.1.orb step.1.segments step.1.answer step.1.written
+    told_then = (subst (λ ph. Knows (orbs ms i O.n) now_then ph step.1) (answers_is step.1.phase e_then) whole_keeps.along.main).told
+
+    still : step.0.ended ≡ None
+    still = by step.0.ended refl
+      where
+        by : (x : Option StatusKind) → step.0.ended ≡ x → x ≡ None
+        by None g = refl
+        by (Some kind) g =
+            let none : now_then.outcome ≡ None = ap (λ x. (end_by x (src_of step.1.orb.next) (run_by step.0.ran step.1.answer before_now)).outcome) g in
+            absurd (unrun now_then.outcome none told_then.ran)
+
+    number_now : now_then.ended ≡ ends ms i O.n
+    number_now = step_ended step before_now still ∙ (heard_ended which M (answer_in p) G.progress ∙ G.is)
+
+    below_now : ends ms i O.n < linked ms i O.n
+    below_now = subst (λ j. j < linked ms i O.n) number_now told_then.turn.linked
+
+    abbrev slot_now : ℕ
+    slot_now = slot_at ms i O.n (ends ms i O.n)
+
+    its : WasAsked (command_at ms i O.n (ends ms i O.n)) (request_at ms i O.n (ends ms i O.n)) (slot_at ms i O.n (ends ms i O.n))
+    its = asked place b is_open own O.n O.list (ends ms i O.n) (omega arith) below_now
+
+    filled : FillsBuffer its.cmd
+    filled = fills i O.n (ends ms i O.n) its.cmd its.command_is
+
+    laid_bytes : (segments : List Segment) (j : ℕ) → j ≡ ends ms i O.n → IsBufferOf (command_at ms i O.n j) (slot_at ms i O.n j) segments → bytes_of segments ≡ its.cmd.length
+    laid_bytes segments j same buffer =
+        let there = subst (λ x. IsBufferOf (command_at ms i O.n x) (slot_at ms i O.n x) segments) same buffer in
+        let is : segments ≡ laid_out slot_now its.cmd its.cmd.segments = subst (λ o. IsBufferOf o slot_now segments) its.command_is there in
+        ap bytes_of is ∙ whole_bytes slot_now its.cmd filled.segments
+
+    bytes_now : bytes_of step.1.segments ≡ its.cmd.length
+    bytes_now = laid_bytes step.1.segments now_then.ended number_now told_then.buffer
+
+    whole_ran : (outcome : Outcome) → step.0.ran ≡ Some outcome → IsPart step.1.written (length step.1.answer) (bytes_of step.1.segments)
+    whole_ran outcome ran = record { more = more_now; fills = by its.cmd.to_initiator refl }
+      where
+        run_may : MayRun step.1 place outcome (plain_in w.target.units disks login.unit)
+        run_may = subst (λ x. MayTell x step.1 place (plain_in w.target.units disks login.unit)) ran may
+
+        good : is_good (Some outcome) ≡ true
+        good =
+            let is : now_then ≡ run_by (Some outcome) step.1.answer before_now = none_then still ∙ ap (λ o. run_by o step.1.answer before_now) ran in
+            ap is_good (sym (ap (λ (y : Progress). y.outcome) is)) ∙ told_then.ran
+
+        same_cmd : told_then.good.own.cmd ≡ its.cmd
+        same_cmd =
+            let c : command_at ms i O.n (ends ms i O.n) ≡ Some told_then.good.own.cmd = ap (λ j. command_at ms i O.n j) (sym number_now) ∙ told_then.good.own.command in
+            let both : Some told_then.good.own.cmd ≡ Some its.cmd = sym c ∙ its.command_is in cc
+
+        cdb_is : step.1.orb.cdb ≡ its.cmd.cdb
+        cdb_is = ap (λ (x : CommandOrb). x.cdb) told_then.good.own.orb ∙ ap (λ (c : Cmd). c.cdb) same_cmd
+
+        len : length step.1.answer ≡ answer_length_of (plain_in w.target.units disks login.unit).medium.is_bay step.1.orb.cdb
+        len = run_may.size ∙ run_may.len (good_check outcome good)
+
+        some : 0 < length step.1.answer
+        some =
+            let begins : 0 < answered_length outcome = subst (λ x. IfSome x (λ o. 0 < answered_length o)) ran (reply_begins M place (plain_in w.target.units disks login.unit) run (answer_in p) which e_then) in
+            subst (λ n. 0 < n) (sym run_may.size) begins
+
+        more_now : step.1.written < length step.1.answer
+        more_now =
+            let is : now_then ≡ run_by (Some outcome) step.1.answer before_now = none_then still ∙ ap (λ o. run_by o step.1.answer before_now) ran in
+            let zero_there : step.1.written ≡ 0 = told_then.done ∙ ap (λ (y : Progress). y.carried) is in
+            omega (arith, zero_there, some)
+
+        by : (t : Bool) → its.cmd.to_initiator ≡ t → length step.1.answer ≡ bytes_of step.1.segments
+        by true to = len ∙ (ap (λ xs. answer_length_of (plain_in w.target.units disks login.unit).medium.is_bay xs) cdb_is ∙ (filled.answered (plain_in w.target.units disks login.unit).medium.is_bay to ∙ sym bytes_now))
+        by false to =
+            let way : step.1.orb.to_initiator ≡ false = ap (λ (x : CommandOrb). x.to_initiator) told_then.good.own.orb ∙ (ap (λ (c : Cmd). c.to_initiator && nat_lt 0 c.length) same_cmd ∙ ap (λ y. y && nat_lt 0 its.cmd.length) to) in
+            let none = ended_none _ _ (subst (λ y. MayEnd (check_of step.1.orb.cdb (plan_of step.1) (plain_in w.target.units disks login.unit) place) (failure_of (plain_in w.target.units disks login.unit).medium.is_bay step.1.orb.cdb) y) (good_check outcome good) run_may.ended) in
+            let zero_there = check_length step.1.orb.cdb (plan_of step.1) (plain_in w.target.units disks login.unit) place way none in
+            absurd (let z = len ∙ zero_there in omega (arith, z, some))
+
+    cut_within : (left : ℕ) (found : Option Chunk) → (cut_to left found).length ≤ left
+    cut_within left None = omega arith
+    cut_within left (Some c) = let z : min left c.length ≤ left = grind (arith, nat_tests) in z
+
+    -- it is behind what was written
+    more_on : now_then ≡ before_now → (answering : M.phase ≡ phases.Answering) → step.1.answer ≡ M.answer → (y : Which) → which ≡ y → step.1.written < length step.1.answer
+    more_on same answering kept Ahead g =
+        let had = (subst (λ ph. Knows (orbs ms i O.n) G.progress ph M) answering G.along.main).told in
+        let carried : before_now.carried ≡ G.progress.carried = ap (λ (x : Which). (heard_by x M (answer_in p) G.progress).carried) g in
+        let written : step.1.written ≡ M.written = told_then.done ∙ (ap (λ (x : Progress). x.carried) same ∙ (carried ∙ sym had.done)) in
+        let more = (full (ap answers answering)).more in
+        subst (λ n. n < length step.1.answer) (sym written) (subst (λ xs. M.written < length xs) (sym kept) more)
+    more_on same answering kept Main g = by_failure (write_failure (answer_in p)) refl
+      where
+        by_failure : (x : Option FailCause) → write_failure (answer_in p) ≡ x → step.1.written < length step.1.answer
+        by_failure (Some cause) f_is =
+            let ends_so : step.0.ended ≡ Some kinds.Failed = ap (λ (y : Which). (reply_step M place (plain_in w.target.units disks login.unit) run y (answer_in p)).0.ended) g ∙ failed_ends M place (plain_in w.target.units disks login.unit) run (answer_in p) answering cause f_is in
+            absurd (let z : None ≡ Some kinds.Failed = sym still ∙ ends_so in cc)
+        by_failure None f_is =
+            let had = (subst (λ ph. Knows (orbs ms i O.n) G.progress ph M) answering G.along.main).told in
+            let written : step.1.written ≡ M.written + answer_chunk M =
+                told_then.done ∙ (ap (λ (x : Progress). x.carried) (same ∙ as_answered answering f_is g) ∙ ap (λ j. j + answer_chunk M) (sym had.done)) in
+            let unlike = more_goes M place (plain_in w.target.units disks login.unit) run (answer_in p) answering f_is (ap (λ (y : Which). answers (reply_step M place (plain_in w.target.units disks login.unit) run y (answer_in p)).1.phase) (sym g) ∙ e_then) in
+            let within : answer_chunk M ≤ length M.answer - M.written = cut_within (length M.answer - M.written) (chunk_from M.segments M.written (limit_of M.orb)) in
+            let before = (full (ap answers answering)).more in
+            let other : M.written + answer_chunk M ≡ length M.answer → ⊥ = λ z. (let t : (M.written + answer_chunk M == length M.answer) ≡ true = grind (arith, nat_tests) in let c : false ≡ true = sym unlike ∙ t in cc) in
+            let there : M.written + answer_chunk M < length M.answer = below_by (M.written + answer_chunk M) (length M.answer) (omega (arith, within, before)) other in
+            subst (λ n. n < length step.1.answer) (sym written) (subst (λ xs. M.written + answer_chunk M < length xs) (sym kept) there)
+          where
+            below_by : (a c : ℕ) → a ≤ c → (a ≡ c → ⊥) → a < c
+            below_by a c l f = grind arith
+
+    whole_on : step.0.ran ≡ None → IsPart step.1.written (length step.1.answer) (bytes_of step.1.segments)
+    whole_on ran =
+        let same : now_then ≡ before_now = none_then still ∙ ap (λ o. run_by o step.1.answer before_now) ran in
+        let good : is_good G.progress.outcome ≡ true = ap is_good (sym (ap (λ (y : Progress). y.outcome) same ∙ heard_outcome which M (answer_in p) G.progress)) ∙ told_then.ran in
+        let answering = good_answers (orbs ms i O.n) G.progress M.phase M G.along.main is_open good in
+        let had = (subst (λ ph. Knows (orbs ms i O.n) G.progress ph M) answering G.along.main).told in
+        let answers_same : step.1.answer ≡ M.answer = told_then.told ∙ (ap (λ (y : Progress). y.answer) same ∙ (heard_answer which M (answer_in p) G.progress ∙ sym had.told)) in
+        let before : length M.answer ≡ bytes_of M.segments = (full (ap answers answering)).fills in
+        record {
+          more = more_on same answering answers_same which refl;
+          fills = ap length answers_same ∙ (before ∙ (laid_bytes M.segments G.progress.ended G.is had.buffer ∙ sym bytes_now));
+        }
+
+    by_ran : (x : Option Outcome) → step.0.ran ≡ x → IsPart step.1.written (length step.1.answer) (bytes_of step.1.segments)
+    by_ran None ran = whole_on ran
+    by_ran (Some outcome) ran = whole_ran outcome ran
+
+    pub reply_whole : IsPart step.1.written (length step.1.answer) (bytes_of step.1.segments)
+    reply_whole = by_ran step.0.ran refl

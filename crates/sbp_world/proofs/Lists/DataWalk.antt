@@ -53,6 +53,7 @@ use Rattle.sbp_world.proofs.Lists.Turns.{Ready}
 use Rattle.sbp_world.proofs.Lists.Walks.{Turn, by_delivery, by_end, by_line, by_start}
 use Rattle.sbp_world.proofs.Lists.DataHears.{AreHeard, heard_asked}
 use Rattle.sbp_world.proofs.Lists.DataSteps.{ArePrepared}
+use Rattle.sbp_world.proofs.Lists.Full.{IsFull}
 
 module _ (wild : ℕ → Bool) (i : ℕ) (own : wild i ≡ false) where
   -- what the management is taken to write
@@ -70,6 +71,7 @@ module _ (wild : ℕ → Bool) (i : ℕ) (own : wild i ≡ false) where
       pub placed : Placed w
       pub prepared : ArePrepared (hist past w) w
       pub slots : HaveSlots (hist past w) i
+      pub full : (q : ℕ) → q < 8 → IsFull (machine_at w q)
       pub up : (q : ℕ) → q < 8 → has_list (machine_at w q).phase ≡ true → Up wild i own past w q
 
     up_asked : (line : ℕ) (event : Event) (past : List Moment) (w : WorldState) (q : ℕ) → Up wild i own past w q → Up wild i own (asked line event ∷ hist past w) (without_notes w) q
@@ -89,6 +91,7 @@ module _ (wild : ℕ → Bool) (i : ℕ) (own : wild i ≡ false) where
         asked_orbs = λ place c is_open mine n list number from below. f.asked_orbs place c is_open mine n list number from below;
         placed = placed_on w f.placed;
         prepared = λ place n k inside named. let x = f.prepared place n k inside (record { list = named.list; number = named.number }) in record { there = x.there; small = x.small; filled = x.filled };
+        full = λ q b. f.full q b;
         slots = λ n k e from below. let x = f.slots n k e from below in record { there = x.there; held = x.held };
         up = λ q b l. up_asked line event past w q (f.up q b l);
       }
@@ -114,7 +117,7 @@ module _ (wild : ℕ → Bool) (i : ℕ) (own : wild i ≡ false) where
                 let is_for : IsFor w sent = record { serial = serial; found = found; to = z } in
                 let others : AreOthers x.1.outbox.sides = hand_law.received run sent w.target s.media (subst (λ b. MayTold b run sent s) (to_zero sent.to z) (subst (λ so. MayAt run so s) found m)) in
                 let b = behind_marks w x.1.node serial again (judged_note serial x.0) in
-                data_heard wild i own past w f.ready f.asked_orbs given.owned f.each f.slots f.up sent is_for run s.media serial f.prepared heard_so refl u b others
+                data_heard wild i own past w f.ready f.asked_orbs given.owned f.each f.slots f.up sent is_for run s.media serial f.prepared heard_so refl f.full u b others
                 (λ p label found e. given.managed sent is_for p label found (scene x.1.node x.1.outbox) (judged_note serial x.0) (judged_first serial x.0) u b others e)
 
             pub hears : MayReceive run serial s → S i past end

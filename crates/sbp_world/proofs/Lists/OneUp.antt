@@ -1,6 +1,6 @@
 -- In every run in which no initiator injected packets no two agents are out of RESET of one initiator: the lists of both are its present one, or its latest one while it is ahead of
 -- the target; and one write of ORB_POINTER was for that list.
-use Rattle.std.proofs.Common.{arith, ◌≡◌, ◌∙◌, refl, sym, ap, subst, ◌<◌, ◌≤◌, ◌+◌, ℕ, suc, nat_eq, Bool, true, false, List, ◌∷◌, ◌++◌, map, length, Some, Ok}
+use Rattle.std.proofs.Common.{inl, arith, ◌≡◌, ◌∙◌, refl, sym, ap, subst, ◌<◌, ◌≤◌, ◌+◌, ℕ, suc, nat_eq, Bool, true, false, List, ◌∷◌, ◌++◌, map, length, Some, Ok}
 use Rattle.std.proofs.lemmas.Bool.Decides.{nat_tests}
 use Rattle.async_packet.specs.Packet.{Packet}
 use Rattle.async_packet.specs.Reading.{reading}
@@ -30,6 +30,7 @@ use Rattle.sbp_world.specs.Lists.Opened.{AreAllOpenFor, IsOpenFor, IsUp, view}
 use Rattle.sbp_world.specs.Lists.Opens.{AreOpened, IsOpened}
 use Rattle.sbp_world.specs.Lists.OwnLogins.{IsTame}
 use Rattle.sbp_world.specs.Telling.{holder}
+use Rattle.sbp_world.proofs.Lists.TameWalks.{tame_part}
 use Rattle.sbp_world.proofs.Lists.Courses.{more_than_one}
 use Rattle.sbp_world.proofs.Lists.ListsProved.{closing}
 use Rattle.sbp_world.proofs.Lists.LiveGiven.{ShortLaw}
@@ -101,7 +102,7 @@ module _ (start : List Disk) (past : List Moment) (w : WorldState) (opened : Are
 -- for which list each agent is out of RESET
 module _ (short : ShortLaw) where
   open_for_law : Under (λ past w. IsTame past → AreAllOpenFor past w)
-  open_for_law = opened_law laws (record { unrefused = logouts_end short; minded = minded_law (live_laws short) (logins_live short) })
+  open_for_law = tame_part AreAllOpenFor (opened_law laws (record { unrefused = logouts_end short; minded = minded_law (live_laws short) (logins_live short) }))
 
   pub one_up_law : OpenListsLaw → OneUpLaw
   one_up_law lists_law = record {
@@ -109,7 +110,7 @@ module _ (short : ShortLaw) where
         let w = (after (beginning run) run.entries).world in
         are_apart run.start.disks (history_of line run) w (opens_law.after_lines line run r has small size) (holders_law line run r.few has small size r.short r.entries r.lines) (caught_law line run r.few has small size r.short r.entries r.lines)
         (λ i b. (pointers_law.after_lines line run r i (subst (λ n. i < n) (count_after run run.entries) b)).once) tame
-        (open_for_law.after_lines line run r has small size (closing.before lists_law line run r has small size tame) tame);
+        (open_for_law.after_lines line run r has small size (closing.before lists_law line run r has small size (inl tame)) tame);
     between = λ line run r has small size next most told m tame.
         let w = (after_all told (begun (after (beginning run) run.entries))).world in
         let d = more_than_one most in
@@ -117,5 +118,5 @@ module _ (short : ShortLaw) where
         (holders_between_law line run r.few has small size r.short r.entries r.lines next (more_deliveries most) d told m)
         (caught_between_law line run r.few has small size r.short r.entries r.lines next (more_deliveries most) d told m)
         (λ i b. (pointers_law.between line run r next most told m i (subst (λ n. i < n) (count_between told (after (beginning run) run.entries) ∙ count_after run run.entries) b)).once) tame
-        (open_for_law.between line run r has small size next most told m (closing.between lists_law line run r has small size next (more_deliveries most) d told m tame) tame);
+        (open_for_law.between line run r has small size next most told m (closing.between lists_law line run r has small size next (more_deliveries most) d told m (inl tame)) tame);
   }

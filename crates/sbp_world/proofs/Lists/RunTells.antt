@@ -370,3 +370,12 @@ module _ (node : NodeState) (size : length node.desks ≡ 8) (sound : IsSound no
   pub delivery_tells : delivering.MayTell run sent node media → P (received run sent.generation sent.bytes (whole_of node media)).1.outbox.sides
   unfolding received delivering.MayTell
   delivery_tells may = finds (judging_step node.layer sent.generation sent.bytes).0 refl media.faults (faults_after run sent node media) may
+
+  -- what a run tells that comes of it, it may tell
+  pub delivery_may : delivering.MayTell run sent node media → (packet : Packet) (label : LabelParts) (place : ℕ) → Found (of_response packet label (Some (purposes.Agent place))) → (login : Login) → served_login node place ≡ Some login → (which : Which) → which_in (desk_at node place) (header_in packet).source label ≡ Some which → (let s = reply_step (desk_at node place).agent place (plain_in node.units media.disks login.unit) run which (answer_in packet) in MayTell s.0.ran s.1 place (plain_in node.units media.disks login.unit))
+  unfolding delivering.MayTell
+  delivery_may may packet label place found login served which is_which =
+      let st = stage (record node { layer = layer }) media.disks in
+      (subst (λ y. TellsBy run place (answer_in packet) (Some login) y st media.faults (faults_after run sent node media)) is_which
+      (subst (λ l. TellsBy run place (answer_in packet) l (which_in (desk_at node place) (header_in packet).source label) st media.faults (faults_after run sent node media)) served
+      (subst (λ f. TellsIn run f all media.faults (faults_after run sent node media)) found may))).may

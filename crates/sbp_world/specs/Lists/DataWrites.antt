@@ -63,12 +63,13 @@ pub record IsAnswered (past : List Moment) (i n number : ℕ) (m : Machine) (got
   pub access : Access
   pub is : access_at (terms past) serial ≡ Some access
   pub writes : access.is_write ≡ true
+  pub some : 0 < length access.payload
   pub cmd : Cmd
   pub command : command_at past i n number ≡ Some cmd
   pub done_before : ℕ
   pub piece : chunk access.offset (length access.payload) ≡ cut_to (length m.answer - done_before) (chunk_from (laid_out (slot_at past i n number) cmd cmd.segments) done_before (2 ^ (cmd.max_payload + 2)))
   pub behind : m.written ≡ done_before + length access.payload
-  pub stands : 0 < length access.payload → window_at access.offset ≡ Some (windows.Buffer (slot_at past i n number))
+  pub stands : window_at access.offset ≡ Some (windows.Buffer (slot_at past i n number))
 
 -- Writes of an answer come in turn: the first one in the turn in which its command runs, and each later one as the write of the chunk before it is answered.
 pub data IsInTurn (past before : List Moment) (i n number : ℕ) (m : Machine) : Type 0 where
