@@ -12,6 +12,7 @@ pub mod Execution
 pub mod FedRuns
 pub mod FifoWrites
 pub mod Firsts
+pub mod GotOnce
 pub mod InPlace
 pub mod KeptOrbs
 pub mod LastReads

@@ -123,6 +123,7 @@ pub use of_lists::present_lists_are_the_latest;
 pub use of_lists::reads_are_own_or_elsewhere;
 pub use of_lists::reads_are_sent_behind_appends;
 pub use of_lists::registers_are_of_the_login;
+pub use of_lists::responses_are_got_once;
 pub use of_lists::slots_stay;
 pub use of_lists::the_orb_in_its_place_is_read;
 pub use of_lists::the_orb_that_was_read_is_decided;

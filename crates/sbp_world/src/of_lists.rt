@@ -4,6 +4,7 @@ ghost use Rattle.sbp_world.specs.Lists.Bases.{BasesLaw};
 ghost use Rattle.sbp_world.specs.Lists.Brings.{BringsLaw};
 ghost use Rattle.sbp_world.specs.Lists.CarriedRuns.{RunsReadLaw};
 ghost use Rattle.sbp_world.specs.Lists.FedRuns.{BesideLaw, RunsFedLaw};
+ghost use Rattle.sbp_world.specs.Lists.GotOnce.{GotOnceLaw};
 ghost use Rattle.sbp_world.specs.Lists.OwnReads.{OwnReadsLaw};
 ghost use Rattle.sbp_world.specs.Lists.Lists.{GrowingLaw};
 ghost use Rattle.sbp_world.specs.Lists.CutLists.{CutListsLaw};
@@ -157,6 +158,13 @@ pub fn orbs_that_run_were_fed()
 #[tactic(auto, using(crate::proofs::Lists::Clauses::reads_law))]
 pub fn agents_read_for_their_own_orbs()
     ensures { OwnReadsLaw }
+{}
+
+/// In every run in which no initiator injected packets, where lists were open as they should be before: a response that closed the
+/// transaction of a request that was sent is not got again.
+#[tactic(auto, using(crate::proofs::Lists::FedOnce::got_once_law))]
+pub fn responses_are_got_once()
+    ensures { GotOnceLaw }
 {}
 
 /// By every history, what the target got of an initiator since a response is what the agent of a place read since its turn came, and
