@@ -42,6 +42,7 @@ pub mod Executes
 pub mod Extends
 pub mod FedFolds
 pub mod FedHeld
+pub mod FedJoins
 pub mod FedLaid
 pub mod FedNotes
 pub mod FedOnce

@@ -98,6 +98,7 @@ pub use of_lists::agents_read_for_their_own_orbs;
 pub use of_lists::agents_read_what_lists_hold;
 pub use of_lists::appends_are_numbered;
 pub use of_lists::commands_end_as_the_disk_allows;
+pub use of_lists::commands_have_what_was_read_since;
 pub use of_lists::commands_run_at_live_logins;
 pub use of_lists::cut_lists_were_open;
 pub use of_lists::ended_lists_were_open;

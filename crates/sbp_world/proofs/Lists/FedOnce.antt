@@ -1,21 +1,20 @@
 -- A response that closed the transaction of a request is not got again: in runs in which no initiator injected packets each response that is got answers the request that its label waits for, and
 -- a label that is free waits later for requests alone that are sent later.
-use Rattle.std.proofs.Common.{arith, ◌≡◌, ◌∙◌, refl, sym, ap, subst, inl, inr, ◌⊎◌, ◌<◌, ◌≤◌, ◌==◌, ◌&&◌, not, ℕ, Bool, true, false, cond, List, [], ◌∷◌, ◌++◌, Option, Some, None}
+use Rattle.std.proofs.Common.{arith, ◌≡◌, ◌∙◌, refl, sym, ap, subst, inl, inr, ◌⊎◌, ◌≤◌, ◌==◌, ℕ, Bool, true, false, cond, List, [], ◌∷◌, ◌++◌, Option, Some, None}
 use Rattle.std.proofs.lemmas.Bool.Decides.{nat_tests}
 use Rattle.bus_transactions.specs.Judging.{AreJudged, JudgementLaw, facts_of, is_awaited, is_response, may_get, waits_for}
 use Rattle.bus_transactions.specs.Packets.{SerialsCount}
 use Rattle.bus_transactions.proofs.JudgementLaws.{judged_always}
 use Rattle.bus_transactions.proofs.Reaches.{law_of}
-use Rattle.label_table.specs.Judging.{Facts, Row, by_again, by_generation, by_grammar, by_label, by_request, by_response, row_of}
+use Rattle.label_table.specs.Judging.{row_of}
 use Rattle.rbc_disk.specs.Disk.{Disk}
 use Rattle.sbp_journal.specs.Run.{Moment, asked, said}
-use Rattle.sbp_journal.specs.Transactions.{Kind, Part, Sending, Transaction, between, is_same_kind, no_packet, part_of, request, response}
+use Rattle.sbp_journal.specs.Transactions.{Kind, Part, Sending, Transaction, between, no_packet, part_of, request, response}
 use Rattle.sbp_journal.specs.Wire.{Held, Terms, free, rests, terms, waits}
 use Rattle.sbp_journal.specs.declared.note.Note.{Note}
 use Rattle.sbp_journal.specs.declared.note.Note.TheVariants as notes
 use Rattle.sbp_laws.specs.Packets.{answered_as, answered_at, answered_in, closed_by}
 use Rattle.sbp_laws.specs.Turns.{EachMoment}
-use Rattle.sbp_world.specs.Hosts.Runs.{more_deliveries}
 use Rattle.sbp_world.specs.Making.{ready_logins}
 use Rattle.sbp_world.specs.Worlds.{WorldState}
 use Rattle.sbp_world.specs.Wire.Wires.{Stands}
@@ -23,7 +22,6 @@ use Rattle.sbp_world.proofs.Agents.Management.Still.{hist}
 use Rattle.sbp_world.proofs.Hosts.Remaining.{remains}
 use Rattle.sbp_world.proofs.Hosts.SentMoments.{sent_below, serials_from}
 use Rattle.sbp_world.specs.Lists.GotOnce.{AreGotOnce, GotOnceLaw, NoneAgain}
-use Rattle.sbp_world.specs.Lists.OrbReads.{AnswersAt}
 use Rattle.sbp_world.proofs.Lists.AnsweredReads.{IsFair, fair_before, fair_of, told_everywhere}
 use Rattle.sbp_world.proofs.Lists.Courses.{EveryPlace, Keeps, at_between, at_lines}
 use Rattle.sbp_world.proofs.Lists.FedHeld.{IsNewer, got_frees, waits_since}
@@ -69,7 +67,7 @@ each_at : (P : Moment → List Moment → Type 0) (later : List Moment) (m : Mom
 each_at P [] m earlier e = e.0
 each_at P (x ∷ later) m earlier e = each_at P later m earlier e.1
 
-judged_before : (m : Moment) (past : List Moment) → AreJudged (m ∷ past) → AreJudged past
+pub judged_before : (m : Moment) (past : List Moment) → AreJudged (m ∷ past) → AreJudged past
 judged_before (asked line event) past j = j
 judged_before (said note) past j = by note j
   where
@@ -214,7 +212,7 @@ judged_at w stands = subst AreJudged stands.is.past_is (law_of JudgementLaw judg
 all_judged : (units ready : ℕ) (start : List Disk) → Keeps units ready start (Nothing start) (λ past w. AreJudged past)
 all_judged units ready start past s later t lines more g h h_now q q_now p = judged_at t.world h_now.sound.stands
 
-judged_everywhere : EveryPlace (λ start past w. AreJudged past)
+pub judged_everywhere : EveryPlace (λ start past w. AreJudged past)
 judged_everywhere = record {
   after_lines = λ line run r has small size so_far.
       at_lines Nothing (λ past w. AreJudged past) nothing line run r.few has small size (all_judged run.units (ready_logins run.initiators run.ready) run.start.disks) tt r so_far;

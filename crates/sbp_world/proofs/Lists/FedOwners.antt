@@ -1,6 +1,6 @@
 -- At a place of a run in which no initiator injected packets, what an agent waits for, to read in a page table or a buffer of an initiator that has a list open, is the main transaction of the
 -- agent that has the list, in the slot of the first ORB that has not ended.
-use Rattle.std.proofs.Common.{arith, ◌≡◌, ◌∙◌, refl, sym, ap, subst, ◌<◌, ◌≤◌, ◌-◌, ℕ, suc, Bool, true, false, List, [], length, Option, Some, None}
+use Rattle.std.proofs.Common.{arith, ◌≡◌, ◌∙◌, refl, sym, ap, subst, ◌<◌, ◌-◌, ℕ, suc, Bool, true, List, [], Option, Some, None}
 use Rattle.bus_memory.specs.Memory.{new_memory}
 use Rattle.bus_memory.specs.declared.window.Window.{Window}
 use Rattle.bus_memory.specs.declared.window.Window.TheVariants as windows
@@ -21,18 +21,16 @@ use Rattle.orb_layout.specs.declared.pointer.OrbPointer.TheVariants.{At, Null}
 use Rattle.rbc_disk.specs.Disk.{Disk}
 use Rattle.sbp_journal.specs.Addresses.{Access}
 use Rattle.sbp_journal.specs.Run.{Moment}
-use Rattle.sbp_journal.specs.Wire.{terms}
 use Rattle.sbp_laws.specs.Agents.{fifo_in}
 use Rattle.sbp_laws.specs.Lists.{slot_at}
 use Rattle.sbp_laws.specs.Targets.{Target, login_at as term_login, over, target_at}
 use Rattle.sbp_laws.specs.Terms.{ends}
 use Rattle.sbp_world.specs.Telling.{holder}
 use Rattle.sbp_world.specs.Worlds.{WorldState}
-use Rattle.sbp_world.specs.Agents.AskedRuns.{IsAccessFor, read_access}
+use Rattle.sbp_world.specs.Agents.AskedRuns.{IsAccessFor}
 use Rattle.sbp_world.proofs.Agents.Management.Holding.{Holding}
 use Rattle.sbp_world.proofs.Agents.Management.Still.{hist}
 use Rattle.sbp_world.specs.Lists.Along.{AreAlong, GoesAlong}
-use Rattle.sbp_world.specs.Lists.Lists.{orbs}
 use Rattle.sbp_world.specs.Lists.Needs.{IsOpenAt, OpenLists, initiator_in, is_open_at, machine_at}
 use Rattle.sbp_world.specs.Lists.OwnLogins.{IsTame}
 use Rattle.sbp_world.specs.Lists.OwnReads.{AreOwnReads, IsOwnRead, ReadsData, data_slot}

@@ -129,7 +129,7 @@ module _ (start : List Disk) (past : List Moment) (place address : ℕ) (orb : C
   payload_is = ap (λ (x : Option Sending). bytes_in (answer_in (packet_in x))) (stays.sent b.response response_below) ∙ is_whole.is
 
   -- what it spells
-  orb_is : orb_read past b.response ≡ orb
+  pub orb_is : orb_read past b.response ≡ orb
   orb_is = ap command_orb payload_is ∙ b.spells
 
   access_is : access_at (terms past) b.request ≡ Some (read_access address 32)
