@@ -14,7 +14,6 @@ use Rattle.sbp_journal.specs.Wire.{Held, Terms, free, rests, terms, waits}
 use Rattle.sbp_journal.specs.declared.note.Note.{Note}
 use Rattle.sbp_journal.specs.declared.note.Note.TheVariants as notes
 use Rattle.sbp_laws.specs.Packets.{answered_as, answered_at, answered_in, closed_by}
-use Rattle.sbp_laws.specs.Turns.{EachMoment}
 use Rattle.sbp_world.specs.Making.{ready_logins}
 use Rattle.sbp_world.specs.Worlds.{WorldState}
 use Rattle.sbp_world.specs.Wire.Wires.{Stands}
@@ -24,6 +23,7 @@ use Rattle.sbp_world.proofs.Hosts.SentMoments.{sent_below, serials_from}
 use Rattle.sbp_world.specs.Lists.GotOnce.{AreGotOnce, GotOnceLaw, NoneAgain}
 use Rattle.sbp_world.proofs.Lists.AnsweredReads.{IsFair, fair_before, fair_of, told_everywhere}
 use Rattle.sbp_world.proofs.Lists.Courses.{EveryPlace, Keeps, at_between, at_lines}
+use Rattle.sbp_world.proofs.Lists.ManageTerms.{same_some}
 use Rattle.sbp_world.proofs.Lists.FedHeld.{IsNewer, got_frees, waits_since}
 
 -- ---- a response that is got is awaited
@@ -63,10 +63,6 @@ reply_by t r own (Some q) e f = by (part_of q.bytes) refl f
     by (request label kind) g c = absurd (let x : None ≡ Some own = c in cc)
     by no_packet g c = absurd (let x : None ≡ Some own = c in cc)
 
-each_at : (P : Moment → List Moment → Type 0) (later : List Moment) (m : Moment) (earlier : List Moment) → EachMoment P (later ++ m ∷ earlier) → P m earlier
-each_at P [] m earlier e = e.0
-each_at P (x ∷ later) m earlier e = each_at P later m earlier e.1
-
 pub judged_before : (m : Moment) (past : List Moment) → AreJudged (m ∷ past) → AreJudged past
 judged_before (asked line event) past j = j
 judged_before (said note) past j = by note j
@@ -79,9 +75,6 @@ judged_before (said note) past j = by note j
 fair_from : (later earlier : List Moment) → IsFair (later ++ earlier) → IsFair earlier
 fair_from [] earlier f = f
 fair_from (m ∷ later) earlier f = fair_from later earlier (fair_before m (later ++ earlier) f)
-
-same_some : (a b : ℕ) → Some a ≡ Some b → a ≡ b
-same_some a b e = cc
 
 module _ (earlier : List Moment) (r own : ℕ) (asking : Sending) (closed : answered_at (terms earlier) r ≡ Some own) (own_sent : (terms earlier).sent own ≡ Some asking) where
   abbrev E : List Moment
