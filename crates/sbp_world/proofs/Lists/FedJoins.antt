@@ -1,18 +1,20 @@
 -- In a run in which no initiator injected packets the buffer and the data of each command that runs are those by all that the target got of the initiator since the response that brought its ORB, where the
 -- others begin elsewhere than in the page table and the buffer of its slot.
-use Rattle.std.proofs.Common.{◌≡◌, ◌∙◌, refl, sym, subst, ℕ, Bool, false, append_assoc, List, [], ◌∷◌, ◌++◌, Option, Some, None}
+use Rattle.std.proofs.Common.{◌≡◌, ◌∙◌, refl, sym, ap, subst, ℕ, Bool, false, append_assoc, List, [], ◌∷◌, ◌++◌, Option, Some, None, cond}
 use Rattle.std.specs.Prelude.{IsSomeAnd}
 use Rattle.bus_transactions.specs.Judging.{AreJudged}
 use Rattle.command_agent.specs.Machine.{limit_of}
 use Rattle.orb_layout.specs.declared.command.CommandOrb.{CommandOrb}
-use Rattle.page_table.specs.Buffer.{bytes_of, chunks}
+use Rattle.page_table.specs.declared.segment.Segment.{Segment}
+use Rattle.page_table.specs.Buffer.{bytes_of, chunks, single}
+use Rattle.page_table.specs.Elements.{elements_of}
 use Rattle.rbc_disk.specs.Disk.{Disk}
 use Rattle.sbp_journal.specs.Run.{Moment, asked, said}
 use Rattle.sbp_journal.specs.Transactions.{Sending}
 use Rattle.sbp_journal.specs.Wire.{terms}
 use Rattle.sbp_journal.specs.declared.note.Note.{Note}
 use Rattle.sbp_journal.specs.declared.note.Note.TheVariants as notes
-use Rattle.sbp_laws.specs.CarriedBytes.{address_of, buffer_in, joined, reads_since}
+use Rattle.sbp_laws.specs.CarriedBytes.{Moved, address_of, buffer_in, joined, orb_read, read_at, reads_since}
 use Rattle.sbp_laws.specs.Lists.{slot_at}
 use Rattle.sbp_laws.specs.Packets.{sender_in}
 use Rattle.sbp_laws.specs.Terms.{plan_of, request_at}
@@ -50,6 +52,11 @@ sent_by : (found : Option Sending) → sender_in found ≡ Some 0 → (asking : 
 sent_by None e = absurd (let x : None ≡ Some 0 = e in cc)
 sent_by (Some asking) e = (asking, refl)
 
+-- of no pieces nothing is joined
+no_pieces : (all : List Moved) → joined [] all ≡ []
+no_pieces [] = refl
+no_pieces (one ∷ all) = no_pieces all
+
 -- ---- at a run
 module _ (start : List Disk) (past : List Moment) (f : IsFair past) (j : AreJudged past) (i n k : ℕ) (bytes : List ℕ) (fed : RunIsFed start past i n k bytes) where
   abbrev r : ℕ
@@ -75,10 +82,30 @@ module _ (start : List Disk) (past : List Moment) (f : IsFair past) (j : AreJudg
   abbrev Whole : CommandOrb → Type 0
   Whole orb = IsSomeAnd (request_at past i n k) (λ request. bytes_of (buffer_in orb (reads_since past i r)) ≡ (plan_of request.buffer).bytes) × (bytes ≡ joined (chunks (limit_of orb) (buffer_in orb (reads_since past i r))) (reads_since past i r))
 
+  -- an ORB without a page table
+  plain_buffer : (all : List Moved) → fed.orb.has_table ≡ false → buffer_in fed.orb all ≡ single fed.orb.descriptor fed.orb.data_size
+  plain_buffer all e = ap (λ b. cond b (elements_of (read_at fed.orb.descriptor all)) (single fed.orb.descriptor fed.orb.data_size)) e
+
+  plain_size : fed.orb.has_table ≡ false → IsSomeAnd (request_at past i n k) (λ request. bytes_of (buffer_in fed.orb (reads_since past i r)) ≡ (plan_of request.buffer).bytes)
+  plain_size e =
+      subst (λ (xs : List Segment). IsSomeAnd (request_at past i n k) (λ request. bytes_of xs ≡ (plan_of request.buffer).bytes)) (plain_buffer fed.reads e ∙ sym (plain_buffer (reads_since past i r) e)) fed.size
+
+  -- and without a buffer
+  nothing_joined : (all : List Moved) → fed.orb.has_table ≡ false → fed.orb.data_size ≡ 0 → joined (chunks (limit_of fed.orb) (buffer_in fed.orb all)) all ≡ []
+  nothing_joined all e z = ap (λ (xs : List Segment). joined (chunks (limit_of fed.orb) xs) all) (plain_buffer all e ∙ ap (λ size. single fed.orb.descriptor size) z) ∙ no_pieces all
+
+  no_data : fed.orb.has_table ≡ false → fed.orb.data_size ≡ 0 → bytes ≡ joined (chunks (limit_of fed.orb) (buffer_in fed.orb (reads_since past i r))) (reads_since past i r)
+  no_data e z = fed.payloads ∙ nothing_joined fed.reads e z ∙ sym (nothing_joined (reads_since past i r) e z)
+
+  abbrev read_is : orb_read past r ≡ fed.orb
+  read_is = orb_is start past fed.place (address_of past i n k) fed.orb fed.brought f.counts
+
   run_since : RunIsSince start past i n k bytes
   run_since = record {
     fed = fed;
-    whole = λ o p. let b = beside o p in subst Whole (sym (orb_is start past fed.place (address_of past i n k) fed.orb fed.brought f.counts)) (fed.size_beside (reads_since past i r) b, fed.payloads_beside (reads_since past i r) b);
+    whole = λ o p. let b = beside o p in subst Whole (sym read_is) (fed.size_beside (reads_since past i r) b, fed.payloads_beside (reads_since past i r) b);
+    plain = subst (λ (orb : CommandOrb). orb.has_table ≡ false → IsSomeAnd (request_at past i n k) (λ request. bytes_of (buffer_in orb (reads_since past i r)) ≡ (plan_of request.buffer).bytes)) (sym read_is) plain_size;
+    empty = subst (λ (orb : CommandOrb). orb.has_table ≡ false → orb.data_size ≡ 0 → bytes ≡ joined (chunks (limit_of orb) (buffer_in orb (reads_since past i r))) (reads_since past i r)) (sym read_is) no_data;
   }
 
 -- ---- at each moment

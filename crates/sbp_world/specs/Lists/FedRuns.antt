@@ -128,10 +128,13 @@ pub record RunsFedLaw : Type 0 where
   pub between : (line : ℕ) (run : Run) → IsRun run → 0 < run.units → run.units ≤ 4 → length run.start.disks ≡ run.units → (next : ℕ) (event : Event) → DeliversMore event → (told : List (Option Told)) → MayAll told (begun (after (beginning run) run.entries)) → OpenBetween line run next event told → (let w = (after_all told (begun (after (beginning run) run.entries))).world in let now = map said w.fresh ++ asked next event ∷ history_of line run in RunsAreFed (injectors now) run.start.disks now)
 
 -- ---- a run, by all that was got since the response
--- Where the others begin elsewhere, the buffer and the data are those by all that the target got of the initiator since.
+-- Where the others begin elsewhere, the buffer and the data are those by all that the target got of the initiator since. Whatever was got, the buffer of an ORB without a page table has the length of
+-- the append's, and a command without a buffer runs with no data.
 pub record RunIsSince (start : List Disk) (past : List Moment) (i n k : ℕ) (bytes : List ℕ) : Type 0 where
   pub fed : RunIsFed start past i n k bytes
   pub whole : (let behind = said (notes.Got fed.brought.response) ∷ fed.brought.earlier in let since = reads_since past i fed.brought.response in let orb = orb_read past fed.brought.response in AreOthers i (slot_at past i n k) fed.between behind → AreOwnOrOthers start i fed.place (slot_at past i n k) fed.later (fed.between ++ behind) → IsSomeAnd (request_at past i n k) (λ request. bytes_of (buffer_in orb since) ≡ (plan_of request.buffer).bytes) × (bytes ≡ joined (chunks (agent.limit_of orb) (buffer_in orb since)) since))
+  pub plain : (let since = reads_since past i fed.brought.response in let orb = orb_read past fed.brought.response in orb.has_table ≡ false → IsSomeAnd (request_at past i n k) (λ request. bytes_of (buffer_in orb since) ≡ (plan_of request.buffer).bytes))
+  pub empty : (let since = reads_since past i fed.brought.response in let orb = orb_read past fed.brought.response in orb.has_table ≡ false → orb.data_size ≡ 0 → bytes ≡ joined (chunks (agent.limit_of orb) (buffer_in orb since)) since)
 
 abbrev pub SinceAt : List Disk → Moment → List Moment → Type 0
 SinceAt start (said (notes.Ran i (Some n) (Some k) unit cdb bytes check)) past = RunIsSince start past i n k bytes
