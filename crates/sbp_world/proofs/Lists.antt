@@ -43,8 +43,11 @@ pub mod EndReads
 pub mod Executes
 pub mod Extends
 pub mod FedFolds
+pub mod FedHeld
+pub mod FedJoins
 pub mod FedLaid
 pub mod FedNotes
+pub mod FedOnce
 pub mod FedOwnerRuns
 pub mod FedOwners
 pub mod FedPieces

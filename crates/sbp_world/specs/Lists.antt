@@ -13,6 +13,7 @@ pub mod FewLogins
 pub mod FedRuns
 pub mod FifoWrites
 pub mod Firsts
+pub mod GotOnce
 pub mod InPlace
 pub mod KeptOrbs
 pub mod LastReads

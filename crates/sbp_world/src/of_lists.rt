@@ -4,7 +4,8 @@ ghost use Rattle.sbp_world.specs.Lists.Bases.{BasesLaw};
 ghost use Rattle.sbp_world.specs.Lists.Brings.{BringsLaw};
 ghost use Rattle.sbp_world.specs.Lists.CarriedEnds.{WereReadLaw};
 ghost use Rattle.sbp_world.specs.Lists.CarriedRuns.{RunsReadLaw};
-ghost use Rattle.sbp_world.specs.Lists.FedRuns.{BesideLaw, RunsFedLaw};
+ghost use Rattle.sbp_world.specs.Lists.FedRuns.{BesideLaw, RunsFedLaw, RunsSinceLaw};
+ghost use Rattle.sbp_world.specs.Lists.GotOnce.{GotOnceLaw};
 ghost use Rattle.sbp_world.specs.Lists.OwnReads.{OwnReadsLaw};
 ghost use Rattle.sbp_world.specs.Lists.Lists.{GrowingLaw};
 ghost use Rattle.sbp_world.specs.Lists.CutLists.{CutListsLaw};
@@ -166,8 +167,24 @@ pub fn agents_read_for_their_own_orbs()
     ensures { OwnReadsLaw }
 {}
 
+/// In every run in which no initiator injected packets, where lists were open as they should be before: the buffer and the data of each
+/// command that runs are those by all that the target got of the initiator since the response that brought the ORB, as the carried
+/// law has them, where what its agent did not read begins elsewhere than in the page table and the buffer of the ORB's slot.
+#[tactic(auto, using(crate::proofs::Lists::FedJoins::runs_since_law))]
+pub fn commands_have_what_was_read_since()
+    ensures { RunsSinceLaw }
+{}
+
+/// In every run in which no initiator injected packets, where lists were open as they should be before: a response that closed the
+/// transaction of a request that was sent is not got again.
+#[tactic(auto, using(crate::proofs::Lists::FedOnce::got_once_law))]
+pub fn responses_are_got_once()
+    ensures { GotOnceLaw }
+{}
+
 /// By every history, what the target got of an initiator since a response is what the agent of a place read since its turn came, and
-/// others that begin elsewhere than in a slot: where each packet that it got since brought the one or the other.
+/// others that begin elsewhere than in a slot: where each packet that it got since brought the one or the other, and the response did
+/// not come again.
 #[tactic(auto, using(crate::proofs::Lists::FedSince::beside_law))]
 pub fn reads_are_own_or_elsewhere()
     ensures { BesideLaw }

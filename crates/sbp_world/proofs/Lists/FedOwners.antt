@@ -37,11 +37,9 @@ use Rattle.sbp_world.specs.Lists.OwnReads.{AreOwnReads, IsOwnRead, ReadsData, da
 use Rattle.sbp_world.specs.Lists.SentReads.{slot_in}
 use Rattle.sbp_world.proofs.Lists.Bringing.{read_prepared}
 use Rattle.sbp_world.proofs.Lists.Brought.{list, main_number, number_of}
+use Rattle.sbp_world.proofs.Lists.ManageTerms.{same_some}
 use Rattle.sbp_world.proofs.Lists.ReadSlots.{is_in, stands, under_as}
 use Rattle.sbp_world.proofs.Lists.Sites.{IsPrepared, Site, Waiting, waiting as agent_waiting}
-
-same_number : (a b : ℕ) → Some a ≡ Some b → a ≡ b
-same_number a b e = cc
 
 same_access : (a b : Access) → Some a ≡ Some b → a ≡ b
 same_access a b e = cc
@@ -55,8 +53,8 @@ orb_none offset slot s b e f =
     cc
 
 one_slot : (window : Option Window) (slot s : ℕ) → data_slot window ≡ Some slot → slot_in window ≡ Some s → slot ≡ s
-one_slot (Some (windows.Table x)) slot s e f = same_number slot s (sym e ∙ f)
-one_slot (Some (windows.Buffer x)) slot s e f = same_number slot s (sym e ∙ f)
+one_slot (Some (windows.Table x)) slot s e f = same_some slot s (sym e ∙ f)
+one_slot (Some (windows.Buffer x)) slot s e f = same_some slot s (sym e ∙ f)
 one_slot (Some windows.Rom) slot s e f = absurd (let x : None ≡ Some slot = e in cc)
 one_slot (Some (windows.Orb x)) slot s e f = absurd (let x : None ≡ Some slot = e in cc)
 one_slot (Some (windows.Management x)) slot s e f = absurd (let x : None ≡ Some slot = e in cc)
@@ -133,7 +131,7 @@ module _ (units ready : ℕ) (has : 0 < units) (start : List Disk) {past : List 
     fifo = fifo_in (term_login T other)
 
     initiator_is : j ≡ i
-    initiator_is = let e = same_number (suc j) (suc i) (sym asked.to ∙ r.to) in omega (arith, e)
+    initiator_is = let e = same_some (suc j) (suc i) (sym asked.to ∙ r.to) in omega (arith, e)
 
     place_is : other ≡ place
     place_is = open_lists.one place other b c is_open asked.is_open (tame i) initiator_is
@@ -178,7 +176,7 @@ module _ (units ready : ℕ) (has : 0 < units) (start : List Disk) {past : List 
         by Ahead e a small = absurd (ahead_none ms j o.n m.phase goes.progress m.orb.next m.ahead asked.status fifo slot r.access goes.along.ahead a small r.stands)
 
     list_same : o.n ≡ n
-    list_same = same_number o.n n (sym o.list ∙ ap (λ x. (holder w x).list) place_is ∙ list_is)
+    list_same = same_some o.n n (sym o.list ∙ ap (λ x. (holder w x).list) place_is ∙ list_is)
 
     own_read : IsOwnRead ms place i n other which slot
     own_read = record {

@@ -1,6 +1,6 @@
 -- What the target got of an initiator since a response is what the agent of a place read, and others that begin elsewhere: where each packet that it got since brought the one or
 -- the other, and the response was not got again.
-use Rattle.std.proofs.Common.{arith, ◌≡◌, ◌∙◌, sym, ap, subst, inl, inr, ◌⊎◌, ◌==◌, ℕ, true, false, cond, append-nil, List, [], ◌∷◌, ◌++◌}
+use Rattle.std.proofs.Common.{arith, ◌≡◌, ◌∙◌, sym, ap, subst, inl, inr, ◌==◌, ℕ, true, false, cond, append-nil, List, [], ◌∷◌, ◌++◌}
 use Rattle.std.proofs.lemmas.Bool.Decides.{nat_tests}
 use Rattle.rbc_disk.specs.Disk.{Disk}
 use Rattle.sbp_journal.specs.Run.{Moment, asked, said}
@@ -9,7 +9,8 @@ use Rattle.sbp_journal.specs.declared.note.Note.{Note}
 use Rattle.sbp_journal.specs.declared.note.Note.TheVariants as notes
 use Rattle.sbp_laws.specs.CarriedBytes.{Moved, read_by, reads_since}
 use Rattle.sbp_laws.specs.Packets.{answered_at}
-use Rattle.sbp_world.specs.Lists.FedRuns.{AllElsewhere, AreBeside, AreOthers, AreOwnOrOthers, BesideLaw, IsOther, IsOwnOrOther, main_read, no_more, other_read, own_read, own_reads}
+use Rattle.sbp_world.specs.Lists.FedRuns.{AllElsewhere, AreBeside, AreOthers, AreOwnOrOthers, BesideLaw, IsOwnOrOther, main_read, no_more, other_read, own_read, own_reads}
+use Rattle.sbp_world.specs.Lists.GotOnce.{NoneAgain}
 
 -- ---- one behind the other
 both : (slot : ℕ) (all own more : List Moved) → AreBeside slot all own → AreBeside slot (all ++ more) (own ++ more)
@@ -38,36 +39,33 @@ module _ (start : List Disk) (i place slot response : ℕ) where
   got_first : (earlier : List Moment) → reads_since (said (notes.Got response) ∷ earlier) i response ≡ []
   got_first earlier = ap (λ b. cond b [] (reads_since earlier i response ++ read_by (terms earlier) i response (answered_at (terms earlier) response))) (let z : (response == response) ≡ true = grind (arith, nat_tests) in z)
 
-  other_got : (past : List Moment) (own : List Moved) (serial : ℕ) → IsOther past i slot response serial → AreBeside slot (reads_since past i response) own → AreBeside slot (reads_since (said (notes.Got serial) ∷ past) i response) own
-  other_got past own serial o b = subst (λ xs. AreBeside slot xs own) (got_more past serial o.again) (others slot (reads_since past i response) own _ o.elsewhere b)
+  other_got : (past : List Moment) (own : List Moved) (serial : ℕ) → (serial == response) ≡ false → AllElsewhere slot (read_by (terms past) i serial (answered_at (terms past) serial)) → AreBeside slot (reads_since past i response) own → AreBeside slot (reads_since (said (notes.Got serial) ∷ past) i response) own
+  other_got past own serial e o b = subst (λ xs. AreBeside slot xs own) (got_more past serial e) (others slot (reads_since past i response) own _ o b)
 
-  between_beside : (between earlier : List Moment) → AreOthers i slot response between (said (notes.Got response) ∷ earlier) → AreBeside slot (reads_since (between ++ said (notes.Got response) ∷ earlier) i response) []
-  between_beside [] earlier o = subst (λ xs. AreBeside slot xs []) (sym (got_first earlier)) no_more
-  between_beside (asked line event ∷ between) earlier o = between_beside between earlier o
-  between_beside (said note ∷ between) earlier o = by note o (λ p. between_beside between earlier p)
+  between_beside : (between earlier : List Moment) → NoneAgain response between → AreOthers i slot between (said (notes.Got response) ∷ earlier) → AreBeside slot (reads_since (between ++ said (notes.Got response) ∷ earlier) i response) []
+  between_beside [] earlier n o = subst (λ xs. AreBeside slot xs []) (sym (got_first earlier)) no_more
+  between_beside (asked line event ∷ between) earlier n o = between_beside between earlier n o
+  between_beside (said note ∷ between) earlier n o = by note n o (λ m p. between_beside between earlier m p)
     where
-      by : (note : Note) → AreOthers i slot response (said note ∷ between) (said (notes.Got response) ∷ earlier) → (AreOthers i slot response between (said (notes.Got response) ∷ earlier) → AreBeside slot (reads_since (between ++ said (notes.Got response) ∷ earlier) i response) []) → AreBeside slot (reads_since (said note ∷ (between ++ said (notes.Got response) ∷ earlier)) i response) []
-      by (notes.Got serial) o again = other_got (between ++ said (notes.Got response) ∷ earlier) [] serial o.0 (again o.1)
-      by note o again = again o
+      by : (note : Note) → NoneAgain response (said note ∷ between) → AreOthers i slot (said note ∷ between) (said (notes.Got response) ∷ earlier) → (NoneAgain response between → AreOthers i slot between (said (notes.Got response) ∷ earlier) → AreBeside slot (reads_since (between ++ said (notes.Got response) ∷ earlier) i response) []) → AreBeside slot (reads_since (said note ∷ (between ++ said (notes.Got response) ∷ earlier)) i response) []
+      by (notes.Got serial) n o again = other_got (between ++ said (notes.Got response) ∷ earlier) [] serial n.0 o.0 (again n.1 o.1)
+      by note n o again = again n o
 
-  own_got : (past : List Moment) (own : List Moved) (serial : ℕ) → IsOwnOrOther start past i place slot response serial → AreBeside slot (reads_since past i response) own → AreBeside slot (reads_since (said (notes.Got serial) ∷ past) i response) (own ++ main_read start past place serial)
-  own_got past own serial o b = by o.own
-    where
-      by : (read_by (terms past) i serial (answered_at (terms past) serial) ≡ main_read start past place serial) ⊎ ((main_read start past place serial ≡ []) × AllElsewhere slot (read_by (terms past) i serial (answered_at (terms past) serial))) → AreBeside slot (reads_since (said (notes.Got serial) ∷ past) i response) (own ++ main_read start past place serial)
-      by (inl e) =
-          subst (λ xs. AreBeside slot xs (own ++ main_read start past place serial)) (ap (λ xs. reads_since past i response ++ xs) (sym e) ∙ got_more past serial o.again)
-          (both slot (reads_since past i response) own (main_read start past place serial) b)
-      by (inr e) = subst (λ xs. AreBeside slot (reads_since (said (notes.Got serial) ∷ past) i response) xs) (sym (ap (λ xs. own ++ xs) e.0 ∙ append-nil own)) (other_got past own serial (record { again = o.again; elsewhere = e.1 }) b)
+  own_got : (past : List Moment) (own : List Moved) (serial : ℕ) → (serial == response) ≡ false → IsOwnOrOther start past i place slot serial → AreBeside slot (reads_since past i response) own → AreBeside slot (reads_since (said (notes.Got serial) ∷ past) i response) (own ++ main_read start past place serial)
+  own_got past own serial n (inl e) b =
+      subst (λ xs. AreBeside slot xs (own ++ main_read start past place serial)) (ap (λ xs. reads_since past i response ++ xs) (sym e) ∙ got_more past serial n)
+      (both slot (reads_since past i response) own (main_read start past place serial) b)
+  own_got past own serial n (inr e) b = subst (λ xs. AreBeside slot (reads_since (said (notes.Got serial) ∷ past) i response) xs) (sym (ap (λ xs. own ++ xs) e.0 ∙ append-nil own)) (other_got past own serial n e.1 b)
 
-  later_beside : (later before : List Moment) → AreBeside slot (reads_since before i response) [] → AreOwnOrOthers start i place slot response later before → AreBeside slot (reads_since (later ++ before) i response) (own_reads start place later before)
-  later_beside [] before b o = b
-  later_beside (asked line event ∷ later) before b o = later_beside later before b o
-  later_beside (said note ∷ later) before b o = by note o (λ p. later_beside later before b p)
+  later_beside : (later before : List Moment) → NoneAgain response later → AreBeside slot (reads_since before i response) [] → AreOwnOrOthers start i place slot later before → AreBeside slot (reads_since (later ++ before) i response) (own_reads start place later before)
+  later_beside [] before n b o = b
+  later_beside (asked line event ∷ later) before n b o = later_beside later before n b o
+  later_beside (said note ∷ later) before n b o = by note n o (λ m p. later_beside later before m b p)
     where
-      by : (note : Note) → AreOwnOrOthers start i place slot response (said note ∷ later) before → (AreOwnOrOthers start i place slot response later before → AreBeside slot (reads_since (later ++ before) i response) (own_reads start place later before)) → AreBeside slot (reads_since (said note ∷ (later ++ before)) i response) (own_reads start place (said note ∷ later) before)
-      by (notes.Got serial) o again = own_got (later ++ before) (own_reads start place later before) serial o.0 (again o.1)
-      by note o again = again o
+      by : (note : Note) → NoneAgain response (said note ∷ later) → AreOwnOrOthers start i place slot (said note ∷ later) before → (NoneAgain response later → AreOwnOrOthers start i place slot later before → AreBeside slot (reads_since (later ++ before) i response) (own_reads start place later before)) → AreBeside slot (reads_since (said note ∷ (later ++ before)) i response) (own_reads start place (said note ∷ later) before)
+      by (notes.Got serial) n o again = own_got (later ++ before) (own_reads start place later before) serial n.0 o.0 (again n.1 o.1)
+      by note n o again = again n o
 
 pub beside_law : BesideLaw
-beside_law start i place slot response later between earlier o p =
-    later_beside start i place slot response later (between ++ said (notes.Got response) ∷ earlier) (between_beside start i place slot response between earlier o) p
+beside_law start i place slot response later between earlier n m o p =
+    later_beside start i place slot response later (between ++ said (notes.Got response) ∷ earlier) n (between_beside start i place slot response between earlier m o) p

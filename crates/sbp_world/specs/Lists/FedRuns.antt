@@ -15,7 +15,7 @@ use Rattle.sbp_journal.specs.Run.{Moment, asked, said}
 use Rattle.sbp_journal.specs.Wire.{Terms, terms}
 use Rattle.sbp_journal.specs.declared.event.Event.{Event}
 use Rattle.sbp_journal.specs.declared.note.Note.TheVariants as notes
-use Rattle.sbp_laws.specs.CarriedBytes.{Moved, address_of, buffer_in, joined, moved_by, payload_at, read_by, reads_since}
+use Rattle.sbp_laws.specs.CarriedBytes.{Moved, address_of, buffer_in, joined, moved_by, orb_read, payload_at, read_by, reads_since}
 use Rattle.sbp_laws.specs.Lawful.{injectors}
 use Rattle.sbp_laws.specs.Lists.{slot_at}
 use Rattle.sbp_laws.specs.Packets.{access_at, answered_at, receiver_in}
@@ -27,9 +27,11 @@ use Rattle.sbp_world.specs.Runs.{Run, after, beginning}
 use Rattle.sbp_world.specs.Settling.{MayAll, after_all}
 use Rattle.sbp_world.specs.Worlds.{begun}
 use Rattle.sbp_world.specs.Agents.Management.Terms.{DeliversMore}
-use Rattle.sbp_world.specs.Hosts.Runs.{IsRun}
+use Rattle.sbp_world.specs.Hosts.Runs.{IsRun, more_deliveries}
+use Rattle.sbp_world.specs.Lists.GotOnce.{NoneAgain}
 use Rattle.sbp_world.specs.Lists.Needs.{OpenBefore, OpenBetween}
 use Rattle.sbp_world.specs.Lists.OrbReads.{IsBrought}
+use Rattle.sbp_world.specs.Lists.OwnLogins.{IsTame}
 
 -- ---- what the main transactions of the agent of a place brought
 abbrev pub is_main_of : Purpose → ℕ → Bool
@@ -73,31 +75,28 @@ abbrev pub AllElsewhere : (slot : ℕ) → List Moved → Type 0
 AllElsewhere slot [] = Unit {0}
 AllElsewhere slot (one ∷ more) = IsElsewhere slot one × AllElsewhere slot more
 
--- what the target gets of an initiator by a packet, which is not the response itself, begins elsewhere
-pub record IsOther (past : List Moment) (i slot response serial : ℕ) : Type 0 where
-  pub again : (serial == response) ≡ false
-  pub elsewhere : AllElsewhere slot (read_by (terms past) i serial (answered_at (terms past) serial))
+-- what the target gets of an initiator by packets begins elsewhere
+abbrev pub AreOthers : (i slot : ℕ) → (between before : List Moment) → Type 0
+AreOthers i slot [] before = Unit {0}
+AreOthers i slot (said (notes.Got serial) ∷ between) before =
+    AllElsewhere slot (read_by (terms (between ++ before)) i serial (answered_at (terms (between ++ before)) serial)) × AreOthers i slot between before
+AreOthers i slot (moment ∷ between) before = AreOthers i slot between before
 
 -- or the main transaction of the agent of a place brought it
-pub record IsOwnOrOther (start : List Disk) (past : List Moment) (i place slot response serial : ℕ) : Type 0 where
-  pub again : (serial == response) ≡ false
-  pub own : (read_by (terms past) i serial (answered_at (terms past) serial) ≡ main_read start past place serial) ⊎ ((main_read start past place serial ≡ []) × AllElsewhere slot (read_by (terms past) i serial (answered_at (terms past) serial)))
+abbrev pub IsOwnOrOther : List Disk → List Moment → (i place slot serial : ℕ) → Type 0
+IsOwnOrOther start past i place slot serial =
+    (read_by (terms past) i serial (answered_at (terms past) serial) ≡ main_read start past place serial) ⊎ ((main_read start past place serial ≡ []) × AllElsewhere slot (read_by (terms past) i serial (answered_at (terms past) serial)))
 
-abbrev pub AreOthers : (i slot response : ℕ) → (between before : List Moment) → Type 0
-AreOthers i slot response [] before = Unit {0}
-AreOthers i slot response (said (notes.Got serial) ∷ between) before = IsOther (between ++ before) i slot response serial × AreOthers i slot response between before
-AreOthers i slot response (moment ∷ between) before = AreOthers i slot response between before
+abbrev pub AreOwnOrOthers : List Disk → (i place slot : ℕ) → (later before : List Moment) → Type 0
+AreOwnOrOthers start i place slot [] before = Unit {0}
+AreOwnOrOthers start i place slot (said (notes.Got serial) ∷ later) before =
+    IsOwnOrOther start (later ++ before) i place slot serial × AreOwnOrOthers start i place slot later before
+AreOwnOrOthers start i place slot (moment ∷ later) before = AreOwnOrOthers start i place slot later before
 
-abbrev pub AreOwnOrOthers : List Disk → (i place slot response : ℕ) → (later before : List Moment) → Type 0
-AreOwnOrOthers start i place slot response [] before = Unit {0}
-AreOwnOrOthers start i place slot response (said (notes.Got serial) ∷ later) before =
-    IsOwnOrOther start (later ++ before) i place slot response serial × AreOwnOrOthers start i place slot response later before
-AreOwnOrOthers start i place slot response (moment ∷ later) before = AreOwnOrOthers start i place slot response later before
-
--- Then what the target got of the initiator since the response is what the agent read, and others.
+-- Then, where a response is not got again, what the target got of the initiator since is what the agent read, and others.
 abbrev pub BesideLaw : Type 0
 BesideLaw =
-    (start : List Disk) (i place slot response : ℕ) (later between earlier : List Moment) → (let behind = said (notes.Got response) ∷ earlier in AreOthers i slot response between behind → AreOwnOrOthers start i place slot response later (between ++ behind) → AreBeside slot (reads_since (later ++ (between ++ behind)) i response) (own_reads start place later (between ++ behind)))
+    (start : List Disk) (i place slot response : ℕ) (later between earlier : List Moment) → NoneAgain response later → NoneAgain response between → (let behind = said (notes.Got response) ∷ earlier in AreOthers i slot between behind → AreOwnOrOthers start i place slot later (between ++ behind) → AreBeside slot (reads_since (later ++ (between ++ behind)) i response) (own_reads start place later (between ++ behind)))
 
 -- ---- a run
 -- since the agent turned to the ORB, behind the response that brought it
@@ -127,3 +126,21 @@ RunsAreFed wild start past = EachMoment (FedAt wild start) past
 pub record RunsFedLaw : Type 0 where
   pub after_lines : (line : ℕ) (run : Run) → IsRun run → 0 < run.units → run.units ≤ 4 → length run.start.disks ≡ run.units → OpenBefore line run run.entries → RunsAreFed (injectors (history_of line run)) run.start.disks (history_of line run)
   pub between : (line : ℕ) (run : Run) → IsRun run → 0 < run.units → run.units ≤ 4 → length run.start.disks ≡ run.units → (next : ℕ) (event : Event) → DeliversMore event → (told : List (Option Told)) → MayAll told (begun (after (beginning run) run.entries)) → OpenBetween line run next event told → (let w = (after_all told (begun (after (beginning run) run.entries))).world in let now = map said w.fresh ++ asked next event ∷ history_of line run in RunsAreFed (injectors now) run.start.disks now)
+
+-- ---- a run, by all that was got since the response
+-- Where the others begin elsewhere, the buffer and the data are those by all that the target got of the initiator since. Whatever was got, the buffer of an ORB without a page table has the length of
+-- the append's, and a command without a buffer runs with no data.
+pub record RunIsSince (start : List Disk) (past : List Moment) (i n k : ℕ) (bytes : List ℕ) : Type 0 where
+  pub fed : RunIsFed start past i n k bytes
+  pub whole : (let behind = said (notes.Got fed.brought.response) ∷ fed.brought.earlier in let since = reads_since past i fed.brought.response in let orb = orb_read past fed.brought.response in AreOthers i (slot_at past i n k) fed.between behind → AreOwnOrOthers start i fed.place (slot_at past i n k) fed.later (fed.between ++ behind) → IsSomeAnd (request_at past i n k) (λ request. bytes_of (buffer_in orb since) ≡ (plan_of request.buffer).bytes) × (bytes ≡ joined (chunks (agent.limit_of orb) (buffer_in orb since)) since))
+  pub plain : (let since = reads_since past i fed.brought.response in let orb = orb_read past fed.brought.response in orb.has_table ≡ false → IsSomeAnd (request_at past i n k) (λ request. bytes_of (buffer_in orb since) ≡ (plan_of request.buffer).bytes))
+  pub empty : (let since = reads_since past i fed.brought.response in let orb = orb_read past fed.brought.response in orb.has_table ≡ false → orb.data_size ≡ 0 → bytes ≡ joined (chunks (agent.limit_of orb) (buffer_in orb since)) since)
+
+abbrev pub SinceAt : List Disk → Moment → List Moment → Type 0
+SinceAt start (said (notes.Ran i (Some n) (Some k) unit cdb bytes check)) past = RunIsSince start past i n k bytes
+SinceAt start moment past = Unit {0}
+
+-- After every line of every run, and behind each delivery of a line that may follow, where no initiator injected packets and lists were open as they should be before in this run.
+pub record RunsSinceLaw : Type 0 where
+  pub after_lines : (line : ℕ) (run : Run) → IsRun run → 0 < run.units → run.units ≤ 4 → length run.start.disks ≡ run.units → OpenBefore line run run.entries → IsTame (history_of line run) → EachMoment (SinceAt run.start.disks) (history_of line run)
+  pub between : (line : ℕ) (run : Run) → IsRun run → 0 < run.units → run.units ≤ 4 → length run.start.disks ≡ run.units → (next : ℕ) (most : Option ℕ) (told : List (Option Told)) → MayAll told (begun (after (beginning run) run.entries)) → OpenBetween line run next (more_deliveries most) told → (let w = (after_all told (begun (after (beginning run) run.entries))).world in let now = map said w.fresh ++ asked next (more_deliveries most) ∷ history_of line run in IsTame now → EachMoment (SinceAt run.start.disks) now)

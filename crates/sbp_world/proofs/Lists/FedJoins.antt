@@ -1,0 +1,132 @@
+-- In a run in which no initiator injected packets the buffer and the data of each command that runs are those by all that the target got of the initiator since the response that brought its ORB, where the
+-- others begin elsewhere than in the page table and the buffer of its slot.
+use Rattle.std.proofs.Common.{◌≡◌, ◌∙◌, refl, sym, ap, subst, ℕ, Bool, false, append_assoc, List, [], ◌∷◌, ◌++◌, Option, Some, None, cond}
+use Rattle.std.specs.Prelude.{IsSomeAnd}
+use Rattle.bus_transactions.specs.Judging.{AreJudged}
+use Rattle.command_agent.specs.Machine.{limit_of}
+use Rattle.orb_layout.specs.declared.command.CommandOrb.{CommandOrb}
+use Rattle.page_table.specs.declared.segment.Segment.{Segment}
+use Rattle.page_table.specs.Buffer.{bytes_of, chunks, single}
+use Rattle.page_table.specs.Elements.{elements_of}
+use Rattle.rbc_disk.specs.Disk.{Disk}
+use Rattle.sbp_journal.specs.Run.{Moment, asked, said}
+use Rattle.sbp_journal.specs.Transactions.{Sending}
+use Rattle.sbp_journal.specs.Wire.{terms}
+use Rattle.sbp_journal.specs.declared.note.Note.{Note}
+use Rattle.sbp_journal.specs.declared.note.Note.TheVariants as notes
+use Rattle.sbp_laws.specs.CarriedBytes.{Moved, address_of, buffer_in, joined, orb_read, read_at, reads_since}
+use Rattle.sbp_laws.specs.Lists.{slot_at}
+use Rattle.sbp_laws.specs.Packets.{sender_in}
+use Rattle.sbp_laws.specs.Terms.{plan_of, request_at}
+use Rattle.sbp_laws.specs.Turns.{EachMoment}
+use Rattle.sbp_world.specs.Hosts.Runs.{more_deliveries}
+use Rattle.sbp_world.specs.Lists.FedRuns.{AreBeside, AreOthers, AreOwnOrOthers, FedAt, RunIsFed, RunIsSince, RunsSinceLaw, SinceAt, own_reads}
+use Rattle.sbp_world.specs.Lists.GotOnce.{NoneAgain}
+use Rattle.sbp_world.proofs.Lists.AnsweredReads.{IsFair, fair_before, fair_of, told_everywhere}
+use Rattle.sbp_world.proofs.Lists.Courses.{more_than_one}
+use Rattle.sbp_world.proofs.Lists.Executes.{runs_fed_law}
+use Rattle.sbp_world.proofs.Lists.FedOnce.{got_once, judged_before, judged_everywhere}
+use Rattle.sbp_world.proofs.Lists.FedSince.{beside_law}
+use Rattle.sbp_world.proofs.Lists.WasReads.{orb_is}
+
+-- ---- moments in two parts
+none_front : (r : ℕ) (a b : List Moment) → NoneAgain r (a ++ b) → NoneAgain r a
+none_front r [] b n = tt
+none_front r (asked line event ∷ a) b n = none_front r a b n
+none_front r (said note ∷ a) b n = by note n (λ m. none_front r a b m)
+  where
+    by : (note : Note) → NoneAgain r (said note ∷ (a ++ b)) → (NoneAgain r (a ++ b) → NoneAgain r a) → NoneAgain r (said note ∷ a)
+    by (notes.Got serial) n again = (n.0, again n.1)
+    by note n again = again n
+
+none_behind : (r : ℕ) (a b : List Moment) → NoneAgain r (a ++ b) → NoneAgain r b
+none_behind r [] b n = n
+none_behind r (asked line event ∷ a) b n = none_behind r a b n
+none_behind r (said note ∷ a) b n = by note n (λ m. none_behind r a b m)
+  where
+    by : (note : Note) → NoneAgain r (said note ∷ (a ++ b)) → (NoneAgain r (a ++ b) → NoneAgain r b) → NoneAgain r b
+    by (notes.Got serial) n again = again n.1
+    by note n again = again n
+
+sent_by : (found : Option Sending) → sender_in found ≡ Some 0 → (asking : Sending) × (found ≡ Some asking)
+sent_by None e = absurd (let x : None ≡ Some 0 = e in cc)
+sent_by (Some asking) e = (asking, refl)
+
+-- of no pieces nothing is joined
+no_pieces : (all : List Moved) → joined [] all ≡ []
+no_pieces [] = refl
+no_pieces (one ∷ all) = no_pieces all
+
+-- ---- at a run
+module _ (start : List Disk) (past : List Moment) (f : IsFair past) (j : AreJudged past) (i n k : ℕ) (bytes : List ℕ) (fed : RunIsFed start past i n k bytes) where
+  abbrev r : ℕ
+  r = fed.brought.response
+
+  abbrev behind : List Moment
+  behind = said (notes.Got r) ∷ fed.brought.earlier
+
+  abbrev slot : ℕ
+  slot = slot_at past i n k
+
+  once : NoneAgain r (fed.later ++ fed.between)
+  once =
+      let own = sent_by ((terms fed.brought.earlier).sent fed.brought.request) fed.brought.asked.from in
+      got_once past f j (fed.later ++ fed.between) fed.brought.earlier r fed.brought.request own.0 (append_assoc fed.later fed.between behind ∙ fed.is) fed.brought.closed own.1
+
+  beside : AreOthers i slot fed.between behind → AreOwnOrOthers start i fed.place slot fed.later (fed.between ++ behind) → AreBeside slot (reads_since past i r) fed.reads
+  beside o p =
+      subst (λ xs. AreBeside slot (reads_since past i r) xs) (sym fed.reads_are)
+      (subst (λ ms. AreBeside slot (reads_since ms i r) (own_reads start fed.place fed.later (fed.between ++ behind))) fed.is
+      (beside_law start i fed.place slot r fed.later fed.between fed.brought.earlier (none_front r fed.later fed.between once) (none_behind r fed.later fed.between once) o p))
+
+  abbrev Whole : CommandOrb → Type 0
+  Whole orb = IsSomeAnd (request_at past i n k) (λ request. bytes_of (buffer_in orb (reads_since past i r)) ≡ (plan_of request.buffer).bytes) × (bytes ≡ joined (chunks (limit_of orb) (buffer_in orb (reads_since past i r))) (reads_since past i r))
+
+  -- an ORB without a page table
+  plain_buffer : (all : List Moved) → fed.orb.has_table ≡ false → buffer_in fed.orb all ≡ single fed.orb.descriptor fed.orb.data_size
+  plain_buffer all e = ap (λ b. cond b (elements_of (read_at fed.orb.descriptor all)) (single fed.orb.descriptor fed.orb.data_size)) e
+
+  plain_size : fed.orb.has_table ≡ false → IsSomeAnd (request_at past i n k) (λ request. bytes_of (buffer_in fed.orb (reads_since past i r)) ≡ (plan_of request.buffer).bytes)
+  plain_size e =
+      subst (λ (xs : List Segment). IsSomeAnd (request_at past i n k) (λ request. bytes_of xs ≡ (plan_of request.buffer).bytes)) (plain_buffer fed.reads e ∙ sym (plain_buffer (reads_since past i r) e)) fed.size
+
+  -- and without a buffer
+  nothing_joined : (all : List Moved) → fed.orb.has_table ≡ false → fed.orb.data_size ≡ 0 → joined (chunks (limit_of fed.orb) (buffer_in fed.orb all)) all ≡ []
+  nothing_joined all e z = ap (λ (xs : List Segment). joined (chunks (limit_of fed.orb) xs) all) (plain_buffer all e ∙ ap (λ size. single fed.orb.descriptor size) z) ∙ no_pieces all
+
+  no_data : fed.orb.has_table ≡ false → fed.orb.data_size ≡ 0 → bytes ≡ joined (chunks (limit_of fed.orb) (buffer_in fed.orb (reads_since past i r))) (reads_since past i r)
+  no_data e z = fed.payloads ∙ nothing_joined fed.reads e z ∙ sym (nothing_joined (reads_since past i r) e z)
+
+  abbrev read_is : orb_read past r ≡ fed.orb
+  read_is = orb_is start past fed.place (address_of past i n k) fed.orb fed.brought f.counts
+
+  run_since : RunIsSince start past i n k bytes
+  run_since = record {
+    fed = fed;
+    whole = λ o p. let b = beside o p in subst Whole (sym read_is) (fed.size_beside (reads_since past i r) b, fed.payloads_beside (reads_since past i r) b);
+    plain = subst (λ (orb : CommandOrb). orb.has_table ≡ false → IsSomeAnd (request_at past i n k) (λ request. bytes_of (buffer_in orb (reads_since past i r)) ≡ (plan_of request.buffer).bytes)) (sym read_is) plain_size;
+    empty = subst (λ (orb : CommandOrb). orb.has_table ≡ false → orb.data_size ≡ 0 → bytes ≡ joined (chunks (limit_of orb) (buffer_in orb (reads_since past i r))) (reads_since past i r)) (sym read_is) no_data;
+  }
+
+-- ---- at each moment
+module _ (wild : ℕ → Bool) (calm : (i : ℕ) → wild i ≡ false) (start : List Disk) where
+  moment_since : (m : Moment) (past : List Moment) → IsFair past → AreJudged past → FedAt wild start m past → SinceAt start m past
+  moment_since (said (notes.Ran i (Some n) (Some k) unit cdb bytes check)) past f j h = run_since start past f j i n k bytes (h (calm i))
+  moment_since m past f j h = tt
+
+  all_since : (past : List Moment) → IsFair past → AreJudged past → EachMoment (FedAt wild start) past → EachMoment (SinceAt start) past
+  all_since [] f j h = tt
+  all_since (m ∷ past) f j h =
+      let g = fair_before m past f in
+      let q = judged_before m past j in
+      (moment_since m past g q h.0, all_since past g q h.1)
+
+pub runs_since_law : RunsSinceLaw
+runs_since_law = record {
+  after_lines = λ line run r has small size so_far tame.
+      all_since _ (λ i. tame i) run.start.disks _ (fair_of _ (told_everywhere.after_lines line run r has small size so_far) tame) (judged_everywhere.after_lines line run r has small size so_far)
+      (runs_fed_law.after_lines line run r has small size so_far);
+  between = λ line run r has small size next most told m so_far tame.
+      all_since _ (λ i. tame i) run.start.disks _ (fair_of _ (told_everywhere.between line run r has small size next most told m so_far) tame) (judged_everywhere.between line run r has small size next most told m so_far)
+      (runs_fed_law.between line run r has small size next (more_deliveries most) (more_than_one most) told m so_far);
+}

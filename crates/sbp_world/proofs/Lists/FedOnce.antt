@@ -1,0 +1,222 @@
+-- A response that closed the transaction of a request is not got again: in runs in which no initiator injected packets each response that is got answers the request that its label waits for, and
+-- a label that is free waits later for requests alone that are sent later.
+use Rattle.std.proofs.Common.{arith, ◌≡◌, ◌∙◌, refl, sym, ap, subst, inl, inr, ◌⊎◌, ◌≤◌, ◌==◌, ℕ, Bool, true, false, cond, List, [], ◌∷◌, ◌++◌, Option, Some, None}
+use Rattle.std.proofs.lemmas.Bool.Decides.{nat_tests}
+use Rattle.bus_transactions.specs.Judging.{AreJudged, JudgementLaw, facts_of, is_awaited, is_response, may_get, waits_for}
+use Rattle.bus_transactions.specs.Packets.{SerialsCount}
+use Rattle.bus_transactions.proofs.JudgementLaws.{judged_always}
+use Rattle.bus_transactions.proofs.Reaches.{law_of}
+use Rattle.label_table.specs.Judging.{row_of}
+use Rattle.rbc_disk.specs.Disk.{Disk}
+use Rattle.sbp_journal.specs.Run.{Moment, asked, said}
+use Rattle.sbp_journal.specs.Transactions.{Kind, Part, Sending, Transaction, between, no_packet, part_of, request, response}
+use Rattle.sbp_journal.specs.Wire.{Held, Terms, free, rests, terms, waits}
+use Rattle.sbp_journal.specs.declared.note.Note.{Note}
+use Rattle.sbp_journal.specs.declared.note.Note.TheVariants as notes
+use Rattle.sbp_laws.specs.Packets.{answered_as, answered_at, answered_in, closed_by}
+use Rattle.sbp_world.specs.Making.{ready_logins}
+use Rattle.sbp_world.specs.Worlds.{WorldState}
+use Rattle.sbp_world.specs.Wire.Wires.{Stands}
+use Rattle.sbp_world.proofs.Agents.Management.Still.{hist}
+use Rattle.sbp_world.proofs.Hosts.Remaining.{remains}
+use Rattle.sbp_world.proofs.Hosts.SentMoments.{sent_below, serials_from}
+use Rattle.sbp_world.specs.Lists.GotOnce.{AreGotOnce, GotOnceLaw, NoneAgain}
+use Rattle.sbp_world.proofs.Lists.AnsweredReads.{IsFair, fair_before, fair_of, told_everywhere}
+use Rattle.sbp_world.proofs.Lists.Courses.{EveryPlace, Keeps, at_between, at_lines}
+use Rattle.sbp_world.proofs.Lists.ManageTerms.{same_some}
+use Rattle.sbp_world.proofs.Lists.FedHeld.{IsNewer, got_frees, waits_since}
+
+-- ---- a response that is got is awaited
+row_awaited : (current for_node awaited repeated : Bool) → may_get (row_of (record { is_current = current; is_for_node = for_node; is_response = true; is_awaited = awaited; is_repeated = repeated })) ≡ true → awaited ≡ true
+row_awaited false for_node awaited repeated e = absurd (let x : false ≡ true = e in cc)
+row_awaited true false awaited repeated e = absurd (let x : false ≡ true = e in cc)
+row_awaited true true true repeated e = refl
+row_awaited true true false repeated e = absurd (let x : false ≡ true = e in cc)
+
+-- the request that its label waits for
+record IsFor (held : Held) (kind : Kind) : Type 0 where
+  waited : Kind
+  serial : ℕ
+  is : held ≡ waits waited serial
+  closes : closed_by held kind ≡ Some serial
+
+for_by : (held : Held) (kind : Kind) → waits_for held kind ≡ true → IsFor held kind
+for_by free kind e = absurd (let x : false ≡ true = e in cc)
+for_by rests kind e = absurd (let x : false ≡ true = e in cc)
+for_by (waits own s) kind e = record { waited = own; serial = s; is = refl; closes = ap (λ b. cond b (Some s) None) e }
+
+-- a response, where it answers
+record IsReply (t : Terms) (r own : ℕ) : Type 0 where
+  packet : Sending
+  sent : t.sent r ≡ Some packet
+  label : ℕ
+  kind : Kind
+  part : part_of packet.bytes ≡ response label kind
+  closes : closed_by (t.held (between packet packet.to packet.from label)) kind ≡ Some own
+
+reply_by : (t : Terms) (r own : ℕ) (so : Option Sending) → t.sent r ≡ so → answered_in t so ≡ Some own → IsReply t r own
+reply_by t r own None e f = absurd (let x : None ≡ Some own = f in cc)
+reply_by t r own (Some q) e f = by (part_of q.bytes) refl f
+  where
+    by : (part : Part) → part_of q.bytes ≡ part → answered_as part t q ≡ Some own → IsReply t r own
+    by (response label kind) g c = record { packet = q; sent = e; label = label; kind = kind; part = g; closes = c }
+    by (request label kind) g c = absurd (let x : None ≡ Some own = c in cc)
+    by no_packet g c = absurd (let x : None ≡ Some own = c in cc)
+
+pub judged_before : (m : Moment) (past : List Moment) → AreJudged (m ∷ past) → AreJudged past
+judged_before (asked line event) past j = j
+judged_before (said note) past j = by note j
+  where
+    by : (note : Note) → AreJudged (said note ∷ past) → AreJudged past
+    by (notes.Got s) j = j.1
+    by (notes.Ignored s cause) j = j.1
+    by note j = j
+
+fair_from : (later earlier : List Moment) → IsFair (later ++ earlier) → IsFair earlier
+fair_from [] earlier f = f
+fair_from (m ∷ later) earlier f = fair_from later earlier (fair_before m (later ++ earlier) f)
+
+module _ (earlier : List Moment) (r own : ℕ) (asking : Sending) (closed : answered_at (terms earlier) r ≡ Some own) (own_sent : (terms earlier).sent own ≡ Some asking) where
+  abbrev E : List Moment
+  E = said (notes.Got r) ∷ earlier
+
+  abbrev reply : IsReply (terms earlier) r own
+  reply = reply_by (terms earlier) r own ((terms earlier).sent r) refl closed
+
+  abbrev q : Sending
+  q = reply.packet
+
+  abbrev u : Transaction
+  u = between q q.to q.from reply.label
+
+  freed : (terms E).held u ≡ free
+  freed = got_frees (terms earlier) r own q reply.label reply.kind reply.sent reply.part reply.closes
+
+  -- it is got again
+  module _ (later : List Moment) (f : IsFair (said (notes.Got r) ∷ (later ++ E))) (j : AreJudged (said (notes.Got r) ∷ (later ++ E))) where
+    abbrev H : List Moment
+    H = later ++ E
+
+    abbrev t : Terms
+    t = terms H
+
+    counts : SerialsCount H
+    counts = f.counts
+
+    counts_then : SerialsCount E
+    counts_then = serials_from later E counts
+
+    counts_earlier : SerialsCount earlier
+    counts_earlier = counts_then
+
+    r_below : r ≤ (terms earlier).count
+    r_below = sent_below earlier r q counts_earlier reply.sent
+
+    own_below : own ≤ (terms earlier).count
+    own_below = sent_below earlier own asking counts_earlier own_sent
+
+    sent_there : t.sent r ≡ Some q
+    sent_there =
+        let a = remains (said (notes.Got r) ∷ []) earlier counts_then in
+        let b = remains later E counts in
+        b.sent r (let x = a.count in omega (arith, x, r_below)) ∙ a.sent r r_below ∙ reply.sent
+
+    awaited : waits_for (t.held u) reply.kind ≡ true
+    awaited =
+        let may = j.0 q sent_there in
+        let facts = facts_of t q in
+        let is : is_response (part_of q.bytes) ≡ true = ap is_response reply.part in
+        let waits_so : is_awaited t (part_of q.bytes) q ≡ true =
+        row_awaited facts.is_current facts.is_for_node facts.is_awaited facts.is_repeated
+        (subst (λ b. may_get (row_of (record { is_current = facts.is_current; is_for_node = facts.is_for_node; is_response = b; is_awaited = facts.is_awaited; is_repeated = facts.is_repeated })) ≡ true) is may) in
+        sym (ap (λ (p : Part). is_awaited t p q) reply.part) ∙ waits_so
+
+    abbrev now : IsFor (t.held u) reply.kind
+    now = for_by (t.held u) reply.kind awaited
+
+    closes_now : answered_at t r ≡ Some now.serial
+    closes_now = ap (λ (so : Option Sending). answered_in t so) sent_there ∙ ap (λ (p : Part). answered_as p t q) reply.part ∙ now.closes
+
+    fair_there : IsFair H
+    fair_there = fair_before (said (notes.Got r)) H f
+
+    fair_then : IsFair E
+    fair_then = fair_from later E fair_there
+
+    fair_earlier : IsFair earlier
+    fair_earlier = fair_before (said (notes.Got r)) earlier fair_then
+
+    answered_then : (terms earlier).answers r ≡ Some own
+    answered_then = fair_then.answers.0 own closed asking own_sent (fair_earlier.fair asking.from) (fair_earlier.fair asking.to)
+
+    answers_same : t.answers r ≡ (terms earlier).answers r
+    answers_same =
+        let a = remains (said (notes.Got r) ∷ []) earlier counts_then in
+        let b = remains later E counts in
+        b.answers r (let x = a.count in omega (arith, x, r_below)) ∙ a.answers r r_below
+
+    newer : IsNewer E H now.serial → ⊥
+    newer n =
+        let answered : t.answers r ≡ Some now.serial = f.answers.0 now.serial closes_now n.packet n.sent (fair_there.fair n.packet.from) (fair_there.fair n.packet.to) in
+        let same : now.serial ≡ own = same_some now.serial own (sym answered ∙ answers_same ∙ answered_then) in
+        let a = (remains (said (notes.Got r) ∷ []) earlier counts_then).count in
+        let above = n.above in
+        omega (arith, same, a, above, own_below)
+
+    never : ⊥
+    never = by (waits_since later E counts u now.waited now.serial now.is)
+      where
+        by : ((terms E).held u ≡ waits now.waited now.serial) ⊎ IsNewer E H now.serial → ⊥
+        by (inl e) = let x : free ≡ waits now.waited now.serial = sym freed ∙ e in cc
+        by (inr n) = newer n
+
+  not_again : (later : List Moment) (serial : ℕ) → IsFair (said (notes.Got serial) ∷ (later ++ E)) → AreJudged (said (notes.Got serial) ∷ (later ++ E)) → (serial == r) ≡ false
+  not_again later serial f j = by (serial == r) refl
+    where
+      by : (b : Bool) → (serial == r) ≡ b → b ≡ false
+      by false e = refl
+      by true e =
+          let same : serial ≡ r = grind (arith, nat_tests, e) in
+          absurd (never later (subst (λ x. IsFair (said (notes.Got x) ∷ (later ++ E))) same f) (subst (λ x. AreJudged (said (notes.Got x) ∷ (later ++ E))) same j))
+
+  none_again : (later : List Moment) → IsFair (later ++ E) → AreJudged (later ++ E) → NoneAgain r later
+  none_again [] f j = tt
+  none_again (asked line event ∷ later) f j = none_again later (fair_before (asked line event) (later ++ E) f) (judged_before (asked line event) (later ++ E) j)
+  none_again (said note ∷ later) f j = by note f j (none_again later (fair_before (said note) (later ++ E) f) (judged_before (said note) (later ++ E) j))
+    where
+      by : (note : Note) → IsFair (said note ∷ (later ++ E)) → AreJudged (said note ∷ (later ++ E)) → NoneAgain r later → NoneAgain r (said note ∷ later)
+      by (notes.Got serial) f j rest = (not_again later serial f j, rest)
+      by note f j rest = rest
+
+pub got_once : (past : List Moment) → IsFair past → AreJudged past → AreGotOnce past
+got_once past f j later earlier r own asking is closed own_sent =
+    none_again earlier r own asking closed own_sent later (subst IsFair (sym is) f) (subst AreJudged (sym is) j)
+
+-- ---- at each place of a run
+abbrev Nothing : List Disk → List Moment → WorldState → Type 0
+Nothing start past w = Unit {0}
+
+nothing : EveryPlace Nothing
+nothing = record { after_lines = λ line run r has small size so_far. tt; between = λ line run r has small size next most told m so_far. tt }
+
+judged_at : {past : List Moment} (w : WorldState) → Stands past w → AreJudged (hist past w)
+judged_at w stands = subst AreJudged stands.is.past_is (law_of JudgementLaw judged_always stands.wire stands.reached)
+
+all_judged : (units ready : ℕ) (start : List Disk) → Keeps units ready start (Nothing start) (λ past w. AreJudged past)
+all_judged units ready start past s later t lines more g h h_now q q_now p = judged_at t.world h_now.sound.stands
+
+pub judged_everywhere : EveryPlace (λ start past w. AreJudged past)
+judged_everywhere = record {
+  after_lines = λ line run r has small size so_far.
+      at_lines Nothing (λ past w. AreJudged past) nothing line run r.few has small size (all_judged run.units (ready_logins run.initiators run.ready) run.start.disks) tt r so_far;
+  between = λ line run r has small size next most told m so_far.
+      at_between Nothing (λ past w. AreJudged past) nothing line run r.few has small size (all_judged run.units (ready_logins run.initiators run.ready) run.start.disks) tt r next most told m so_far;
+}
+
+pub got_once_law : GotOnceLaw
+got_once_law = record {
+  after_lines = λ line run r has small size so_far tame.
+      got_once _ (fair_of _ (told_everywhere.after_lines line run r has small size so_far) tame) (judged_everywhere.after_lines line run r has small size so_far);
+  between = λ line run r has small size next most told m so_far tame.
+      got_once _ (fair_of _ (told_everywhere.between line run r has small size next most told m so_far) tame) (judged_everywhere.between line run r has small size next most told m so_far);
+}
