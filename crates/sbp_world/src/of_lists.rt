@@ -35,6 +35,7 @@ ghost use Rattle.sbp_world.specs.Lists.Live.{LiveLaw};
 ghost use Rattle.sbp_world.specs.Lists.Managing.{ManagingLaw};
 ghost use Rattle.sbp_world.specs.Lists.OneUp.{OneUpLaw};
 ghost use Rattle.sbp_world.specs.Lists.Opened.{LogoutsLaw};
+ghost use Rattle.sbp_world.specs.Lists.SendsLast.{SendsLastLaw};
 ghost use Rattle.sbp_world.specs.Lists.TameLists.{ListsLaw};
 ghost use Rattle.sbp_world.specs.Lists.CarriedOrbs.{CarriedOrbsLaw};
 
@@ -405,4 +406,11 @@ pub fn orbs_were_read_behind_their_appends()
 #[tactic(auto, using(crate::proofs::Lists::Clauses::one_up))]
 pub fn initiators_have_one_agent_up()
     ensures { OneUpLaw }
+{}
+
+/// In each turn of every run, whatever anyone injected, the effects stand before the packets that are sent in it, as the action law
+/// has it: after every line, and behind each delivery of a line that delivers one packet after the other.
+#[tactic(auto, using(crate::proofs::Lists::TurnOrders::sends_last_law))]
+pub fn packets_are_sent_behind_effects()
+    ensures { SendsLastLaw }
 {}
