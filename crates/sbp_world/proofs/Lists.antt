@@ -442,4 +442,5 @@ pub mod RunNames
 pub mod CarriedEnds
 pub mod OneUp
 pub mod SendsLast
+pub mod TurnOrders
 pub mod PlaceOwners

@@ -26,6 +26,7 @@ pub mod OrbReads
 pub mod CarriedRuns
 pub mod CarriedEnds
 pub mod OneUp
+pub mod SendsLast
 pub mod EndReads
 pub mod OrbNames
 pub mod ManagedFor

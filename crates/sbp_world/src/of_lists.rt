@@ -43,6 +43,7 @@ ghost use Rattle.sbp_world.specs.Lists.Managing.{ManagingLaw};
 ghost use Rattle.sbp_world.specs.Lists.OneUp.{OneUpLaw};
 ghost use Rattle.sbp_world.specs.Lists.Opened.{LogoutsLaw};
 ghost use Rattle.sbp_world.specs.Lists.ListsBeside.{ListsBesideLaw};
+ghost use Rattle.sbp_world.specs.Lists.SendsLast.{SendsLastLaw};
 ghost use Rattle.sbp_world.specs.Lists.TameLists.{ListsLaw};
 ghost use Rattle.sbp_world.specs.Lists.CarriedOrbs.{CarriedOrbsLaw};
 
@@ -492,4 +493,11 @@ pub fn slots_are_held_for_data()
 #[tactic(auto, using(crate::proofs::Lists::DataWhole::whole_law))]
 pub fn answers_fill_their_buffers()
     ensures { AnswersWholeLaw }
+{}
+
+/// In each turn of every run, whatever anyone injected, the effects stand before the packets that are sent in it, as the action law
+/// has it: after every line, and behind each delivery of a line that delivers one packet after the other.
+#[tactic(auto, using(crate::proofs::Lists::TurnOrders::sends_last_law))]
+pub fn packets_are_sent_behind_effects()
+    ensures { SendsLastLaw }
 {}

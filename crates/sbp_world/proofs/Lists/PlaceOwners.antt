@@ -86,7 +86,7 @@ module _ (w : WorldState) (f : IsSeatedWell w) where
       ap (λ ps. (holder_at ps p).initiator) (all_sent_places 0 outbox.packets (told_all 0 outbox.sides u))
       ∙ held p b (subst (λ (n : NodeState). Listing n p) ((handed_alike 0 0 outbox u).target ∙ target) l)
 
-  open_holders : (u : WorldState) (s : TargetScene) → Open u (holder w) (Before w f.good f.seats) w.target.logins.places (sound w f.good f.seats) s → (p : ℕ) → p < 8 → Listing s.node p → (holder (told_all 0 s.outbox.sides u) p).initiator ≡ (holder w p).initiator
+  pub open_holders : (u : WorldState) (s : TargetScene) → Open u (holder w) (Before w f.good f.seats) w.target.logins.places (sound w f.good f.seats) s → (p : ℕ) → p < 8 → Listing s.node p → (holder (told_all 0 s.outbox.sides u) p).initiator ≡ (holder w p).initiator
   open_holders u s k p b l = ap (λ (h : Option Holder). (or_nobody h).initiator) (k.kept p b l)
 
   -- a packet that the target gets
@@ -124,12 +124,15 @@ module _ (w : WorldState) (f : IsSeatedWell w) where
         pick true e = ap (λ q. (holder w q).initiator) (let same : k.place ≡ p = grind (arith, nat_tests) in same)
         pick false e = refl
 
-    delivery_own : O (handed_out 0 0 x.1.outbox u)
-    delivery_own = handed_own u x.1.node x.1.outbox marks.target (by (delivery_open w f.good f.seats u marks.places sent run s.media))
+    pub delivery_holders : (p : ℕ) → p < 8 → Listing x.1.node p → (holder (told_all 0 x.1.outbox.sides u) p).initiator ≡ (holder w p).initiator
+    delivery_holders = by (delivery_open w f.good f.seats u marks.places sent run s.media)
       where
         by : Open u (holder w) (Before w f.good f.seats) w.target.logins.places (sound w f.good f.seats) (scene x.1.node x.1.outbox) ⊎ Points w f.good f.seats u marks.places sent run s.media x.0 (scene x.1.node x.1.outbox) → (p : ℕ) → p < 8 → Listing x.1.node p → (holder (told_all 0 x.1.outbox.sides u) p).initiator ≡ (holder w p).initiator
         by (inl k) = open_holders u (scene x.1.node x.1.outbox) k
         by (inr k) = point_holders k
+
+    delivery_own : O (handed_out 0 0 x.1.outbox u)
+    delivery_own = handed_own u x.1.node x.1.outbox marks.target delivery_holders
 
   -- a transaction of it that times out
   module _ (line serial : ℕ) (request : Request) (zero_node : request.node ≡ 0) where

@@ -314,7 +314,7 @@ module _ (s : Scene) (serial : ℕ) (again : Bool) (run : Option Told) where
   unfolding MayReceive
   delivery_hears m = comes_by (found_sent serial w.store.kept) refl m
 
-judged_starts : (serial : ℕ) (judged : Judged) → IsStart (judged_note serial judged)
+pub judged_starts : (serial : ℕ) (judged : Judged) → IsStart (judged_note serial judged)
 judged_starts serial judgements.Got = tt
 judged_starts serial (judgements.Ignored cause) = tt
 

@@ -1,19 +1,14 @@
 -- In a run in which lists were open as they should be before, an ORB that ran, of a list that was not cut and of which none has ended, is at an agent that has it still.
-use Rattle.std.proofs.Common.{arith, ◌≡◌, ◌∙◌, refl, sym, ap, subst, inl, inr, ◌⊎◌, ◌<◌, ℕ, nat_eq, Bool, true, false, cond, not, ◌||◌, List, ◌∷◌, ◌++◌, map, Option, Result, Ok, Err}
-use Rattle.std.proofs.lemmas.Bool.Decides.{nat_tests}
+use Rattle.std.proofs.Common.{◌≡◌, refl, sym, ap, subst, ◌<◌, ℕ, Bool, true, false, cond, not, ◌||◌, List, ◌∷◌, ◌++◌, map, Option, Result, Ok, Err}
 use Rattle.label_table.specs.declared.reply.Stale.{Stale}
-use Rattle.command_agent.specs.Steps.{point_step}
 use Rattle.label_table.specs.Layer.{Layer, expiring_step}
 use Rattle.packet_store.specs.declared.sent.Sent.{Sent}
 use Rattle.packet_store.specs.Kept.{is_flying}
 use Rattle.packet_store.specs.Stored.{deliver_step}
 use Rattle.rbc_disk.specs.Runs.{Told}
-use Rattle.sbp_bus.specs.declared.places.Holder.{Holder}
 use Rattle.sbp_bus.specs.declared.requests.Request.{Request}
 use Rattle.sbp_bus.specs.Generations.{id_of}
 use Rattle.sbp_bus.specs.Packets.{judged_note, no_packet}
-use Rattle.sbp_bus.specs.Places.{or_nobody}
-use Rattle.sbp_bus.specs.Telling.{list_in}
 use Rattle.sbp_journal.specs.declared.cause.Judged.{Judged}
 use Rattle.sbp_journal.specs.declared.cause.Judged.TheVariants as judgements
 use Rattle.sbp_journal.specs.declared.note.Note.TheVariants as notes
@@ -24,14 +19,13 @@ use Rattle.sbp_target.specs.declared.purpose.Purpose.{Purpose}
 use Rattle.sbp_target.specs.Nodes.{Scene as TargetScene, scene}
 use Rattle.sbp_target.specs.Receiving.{expired, expired_in, received}
 use Rattle.sbp_target.specs.Replies.{Whole}
-use Rattle.sbp_target.specs.Telling.{orb_of}
 use Rattle.sbp_world.specs.Delivering.{marked, whole_of}
 use Rattle.sbp_world.specs.Handing.{handed_out}
 use Rattle.sbp_world.specs.Nodes.{reset_line, see_line, target_sees, target_ticks, tick_line, told_seen, with_seen}
 use Rattle.sbp_world.specs.Nodes as nodes
 use Rattle.sbp_world.specs.Packets.{MayIf, delivered_if, expires, initiator_expires, inject_line, is_in_flight, lose_line, may_repeat, refused, target_expired, target_left, timed_out, timeout_line, timeout_of}
 use Rattle.sbp_world.specs.Packets as packets
-use Rattle.sbp_world.specs.Telling.{holder, ticket_at, told_all}
+use Rattle.sbp_world.specs.Telling.{holder, told_all}
 use Rattle.sbp_world.specs.Worlds.{Scene, WorldState, with_note, with_target}
 use Rattle.sbp_target.proofs.Histories.Calling.{Good}
 use Rattle.sbp_world.proofs.Agents.Management.Still.{hist}
@@ -40,10 +34,11 @@ use Rattle.sbp_world.proofs.Hosts.Hands.{hand_law}
 use Rattle.sbp_world.proofs.Lists.Adds.{Stays}
 use Rattle.sbp_world.proofs.Lists.BusyDeliveries.{delivery_called, lapse_called, sight_called, tick_called}
 use Rattle.sbp_world.proofs.Lists.Lines.{refuses}
-use Rattle.sbp_world.proofs.Lists.OpenCuts.{Here, Listing, Open}
-use Rattle.sbp_world.proofs.Lists.OpenDeliveries.{Points, delivery_open, lapse_open}
+use Rattle.sbp_world.proofs.Lists.OpenCuts.{Listing, Open}
+use Rattle.sbp_world.proofs.Lists.OpenDeliveries.{lapse_open}
 use Rattle.sbp_world.proofs.Lists.OpenManages as manages
-use Rattle.sbp_world.proofs.Lists.OpenPlaces.{Has}
+use Rattle.sbp_world.proofs.Lists.PlaceOwners as owners
+use Rattle.sbp_world.proofs.Lists.PlaceOwners.{IsSeatedWell, delivery_holders}
 use Rattle.sbp_world.proofs.Lists.OpenTurns.{AreSeated, Before, begins, sound}
 use Rattle.sbp_world.proofs.Lists.Passing.{PassLaw}
 use Rattle.sbp_world.proofs.Lists.Turns.{First, got_it, ignored_it, late_it, seen_it, tick_it}
@@ -77,8 +72,12 @@ module _ (wild : ℕ → Bool) (past : List Moment) where
     by_stays v s = stays_busy wild past w v f.passes s o
 
     -- who has a place whose agent is not in RESET behind a call
+    seated : IsSeatedWell w
+    seated = record { good = f.good; seats = f.seats }
+
     open_holders : (u : WorldState) (s : TargetScene) → Open u (holder w) (Before w f.good f.seats) w.target.logins.places (sound w f.good f.seats) s → (p : ℕ) → p < 8 → Listing s.node p → (holder (told_all 0 s.outbox.sides u) p).initiator ≡ (holder w p).initiator
-    open_holders u s k p b l = ap (λ (h : Option Holder). (or_nobody h).initiator) (k.kept p b l)
+    unfolding seated
+    open_holders u s k = owners.open_holders w seated u s k
 
     -- ---- a packet that the target gets
     module _ (serial : ℕ) (sent : Sent) (zero_to : sent.to ≡ 0) (run : Option Told) (s : Scene) (again : Bool) (others : AreOthers (received run sent.generation sent.bytes (whole_of w.target s.media)).1.outbox.sides) where
@@ -106,32 +105,10 @@ module _ (wild : ℕ → Bool) (past : List Moment) where
           by : Bool → Marks
           by b = let m = of (again || not (is_flying serial w.store.kept)) in record { places = m.0; fresh = ap (λ ns. judged_note serial x.0 ∷ ns) m.1.0; target = m.1.1 }
 
-      point_holders : Points w f.good f.seats u marks.places sent run s.media x.0 (scene x.1.node x.1.outbox) → (p : ℕ) → p < 8 → Listing x.1.node p → (holder (told_all 0 x.1.outbox.sides u) p).initiator ≡ (holder w p).initiator
-      point_holders k p b l = by (nat_eq p k.place) refl
-        where
-          new : Holder
-          new = record (holder w k.place) { list = list_in (ticket_at u k.place (orb_of (point_step (Here w.target k.place) k.pointer).1)) }
-
-          by : (c : Bool) → nat_eq p k.place ≡ c → (holder (told_all 0 x.1.outbox.sides u) p).initiator ≡ (holder w p).initiator
-          by true e =
-              let same : k.place ≡ p = grind (arith, nat_tests) in
-              let has = subst (λ z. Has (told_all 0 x.1.outbox.sides u).places p (cond z new (holder w p))) e (k.after.0.kept p b l) in
-              ap (λ (h : Option Holder). (or_nobody h).initiator) has ∙ ap (λ q. (holder w q).initiator) same
-          by false e =
-              let has = subst (λ z. Has (told_all 0 x.1.outbox.sides u).places p (cond z new (holder w p))) e (k.after.0.kept p b l) in
-              ap (λ (h : Option Holder). (or_nobody h).initiator) has
-
-      got_holders : (p : ℕ) → p < 8 → Listing x.1.node p → (holder (told_all 0 x.1.outbox.sides u) p).initiator ≡ (holder w p).initiator
-      got_holders p b l = by (delivery_open w f.good f.seats u marks.places sent run s.media)
-        where
-          by : Open u (holder w) (Before w f.good f.seats) w.target.logins.places (sound w f.good f.seats) (scene x.1.node x.1.outbox) ⊎ Points w f.good f.seats u marks.places sent run s.media x.0 (scene x.1.node x.1.outbox) → (holder (told_all 0 x.1.outbox.sides u) p).initiator ≡ (holder w p).initiator
-          by (inl k) = open_holders u (scene x.1.node x.1.outbox) k p b l
-          by (inr k) = point_holders k p b l
-
       pub delivery_busy : Then (handed_out 0 0 x.1.outbox u) → B (handed_out 0 0 x.1.outbox u)
       delivery_busy passes =
           call_busy wild past w o f.latest f.idle f.good u (judged_note serial x.0) (first_of serial x.0) (ap (λ ns. map said ns ++ past) marks.fresh) marks.places _ x.1.node x.1.outbox marks.target
-          (delivery_called w f.good ⊥ f.seats sent run s.media (λ p label place found b login served which e given. absurd given)) others got_holders passes
+          (delivery_called w f.good ⊥ f.seats sent run s.media (λ p label place found b login served which e given. absurd given)) others (delivery_holders w seated serial sent run s again) passes
 
     -- ---- a transaction of the target times out
     module _ (line serial : ℕ) (request : Request) (zero_node : request.node ≡ 0) where
