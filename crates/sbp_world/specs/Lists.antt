@@ -10,6 +10,7 @@ pub mod CutLists
 pub mod EndedLists
 pub mod Execution
 pub mod FewLogins
+pub mod FewRuns
 pub mod FifoWrites
 pub mod Firsts
 pub mod InPlace
