@@ -70,6 +70,15 @@ pub mod Follows
 pub mod Frees
 pub mod Generations
 pub mod Gots
+pub mod CountedLogins
+pub mod DecisionsDue
+pub mod PendingWrites
+pub mod GrantCalls
+pub mod EntryNotes
+pub mod GrantTurns
+pub mod GrantLines
+pub mod GrantRuns
+pub mod GrantSides
 pub mod GrantedRuns
 pub mod Heard
 pub mod Histories

@@ -11,6 +11,7 @@ pub mod EndedLists
 pub mod Execution
 pub mod FewLogins
 pub mod FedRuns
+pub mod FewRuns
 pub mod FifoWrites
 pub mod Firsts
 pub mod GotOnce

@@ -108,6 +108,7 @@ pub use of_lists::commands_run_at_live_logins;
 pub use of_lists::commands_run_where_they_are_due;
 pub use of_lists::cut_lists_were_open;
 pub use of_lists::ended_lists_were_open;
+pub use of_lists::few_logins_are_given;
 pub use of_lists::initiators_find_the_management_agent;
 pub use of_lists::initiators_have_one_agent_up;
 pub use of_lists::latest_lists_stand;

@@ -37,6 +37,7 @@ ghost use Rattle.sbp_world.specs.Lists.DataHolds.{DataHeldLaw};
 ghost use Rattle.sbp_world.specs.Lists.DataWhole.{AnswersWholeLaw};
 ghost use Rattle.sbp_world.specs.Lists.DataWrites.{DataSentLaw, DataWritesLaw};
 ghost use Rattle.sbp_world.specs.Lists.DueRuns.{DueRunsLaw};
+ghost use Rattle.sbp_world.specs.Lists.FewRuns.{FewLoginsLaw};
 ghost use Rattle.sbp_world.specs.Lists.FifoWrites.{FifoWritesLaw};
 ghost use Rattle.sbp_world.specs.Lists.Live.{LiveLaw};
 ghost use Rattle.sbp_world.specs.Lists.Managing.{ManagingLaw};
@@ -419,6 +420,14 @@ pub fn lists_are_lawful()
 #[tactic(auto, using(crate::proofs::Lists::Clauses::lists_beside_law))]
 pub fn lists_are_lawful_beside_others()
     ensures { ListsBesideLaw }
+{}
+
+/// In every run of a script's length, whatever anyone injected, few logins are given, so that no ID of a login is given twice. For the
+/// target has eight places, and each decision on a management ORB takes a write of MANAGEMENT_AGENT, which an initiator sends in a line
+/// of its own; so fewer logins are given than nine for each eight lines.
+#[tactic(auto, using(crate::proofs::Lists::GrantRuns::few_logins_law))]
+pub fn few_logins_are_given()
+    ensures { FewLoginsLaw }
 {}
 
 /// In every run in which no initiator injected packets a good status that is taken is of an ORB that ran, and its answer has as many

@@ -175,7 +175,7 @@ module _ {requests : List Request} (node : NodeState) (g : Good node) (agents : 
   demand_behind (demands.Agent place access) r = let s = r place access refl in access_behind node g agents is o layer from p bytes access place s.0 s.1
 
 -- ---- a reset is seen, a second passes
-held_entries : (left place : ℕ) (places : List (Option Login)) (o : OutboxState) → AreNoEntries o.sides → AreNoEntries (held_from left place places o).sides
+pub held_entries : (left place : ℕ) (places : List (Option Login)) (o : OutboxState) → AreNoEntries o.sides → AreNoEntries (held_from left place places o).sides
 unfolding held_from
 held_entries zero place places o h = h
 held_entries (suc left) place places o h = held_entries left (place + 1) places (tell_held (place_at places place) o) (one (place_at places place))
@@ -188,7 +188,7 @@ held_entries (suc left) place places o h = held_entries left (place + 1) places 
     one None = h
     one (Some login) = live (is_live login) login
 
-expired_entries : (left at : ℕ) (logins : List ℕ) (o : OutboxState) → AreNoEntries o.sides → AreNoEntries (expired_from left at logins o).sides
+pub expired_entries : (left at : ℕ) (logins : List ℕ) (o : OutboxState) → AreNoEntries o.sides → AreNoEntries (expired_from left at logins o).sides
 unfolding expired_from
 expired_entries zero at logins o h = h
 expired_entries (suc left) at logins o h =
