@@ -96,6 +96,7 @@ pub use of_hosts::worlds_keep_rows;
 pub use of_lists::agents_are_along_lists;
 pub use of_lists::agents_read_for_their_own_orbs;
 pub use of_lists::agents_read_what_lists_hold;
+pub use of_lists::answers_to_agents_are_their_own;
 pub use of_lists::appends_are_numbered;
 pub use of_lists::commands_end_as_the_disk_allows;
 pub use of_lists::commands_have_what_was_read_since;

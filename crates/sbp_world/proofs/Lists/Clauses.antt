@@ -4,11 +4,11 @@ use Rattle.sbp_world.specs.Lists.Closes.{OpenListsLaw}
 use Rattle.sbp_world.specs.Lists.DataWrites.{DataSentLaw}
 use Rattle.sbp_world.specs.Lists.Live.{LiveLaw}
 use Rattle.sbp_world.specs.Lists.Opened.{LogoutsLaw}
-use Rattle.sbp_world.specs.Lists.OwnReads.{OwnReadsLaw}
+use Rattle.sbp_world.specs.Lists.OwnReads.{OwnGotsLaw, OwnReadsLaw}
 use Rattle.sbp_world.specs.Lists.TameLists.{ListsLaw}
 use Rattle.sbp_world.proofs.Lists.AnswerLengths.{answer_lengths_law}
 use Rattle.sbp_world.proofs.Lists.DataLaws.{data_sent_law}
-use Rattle.sbp_world.proofs.Lists.FedOwnerRuns.{own_reads_law}
+use Rattle.sbp_world.proofs.Lists.FedOwnerRuns.{own_gots_law, own_reads_law}
 use Rattle.sbp_world.proofs.Lists.Lawful as proved
 use Rattle.sbp_world.proofs.Lists.ShortLines.{short_law}
 
@@ -32,3 +32,6 @@ data_law = data_sent_law short_law
 
 pub reads_law : OwnReadsLaw
 reads_law = own_reads_law open_lists_law
+
+pub gots_law : OwnGotsLaw
+gots_law = own_gots_law open_lists_law
