@@ -43,6 +43,7 @@ pub mod EndReads
 pub mod Executes
 pub mod Extends
 pub mod FedFolds
+pub mod FedGots
 pub mod FedHeld
 pub mod FedJoins
 pub mod FedLaid

@@ -101,6 +101,7 @@ pub use of_lists::answers_are_sent_in_chunks;
 pub use of_lists::answers_are_written_before_the_end;
 pub use of_lists::answers_fill_their_buffers;
 pub use of_lists::answers_have_their_length;
+pub use of_lists::answers_to_agents_are_their_own;
 pub use of_lists::appends_are_numbered;
 pub use of_lists::commands_end_as_the_disk_allows;
 pub use of_lists::commands_have_what_was_read_since;

@@ -6,7 +6,7 @@ ghost use Rattle.sbp_world.specs.Lists.CarriedEnds.{WereReadLaw};
 ghost use Rattle.sbp_world.specs.Lists.CarriedRuns.{RunsReadLaw};
 ghost use Rattle.sbp_world.specs.Lists.FedRuns.{BesideLaw, RunsFedLaw, RunsSinceLaw};
 ghost use Rattle.sbp_world.specs.Lists.GotOnce.{GotOnceLaw};
-ghost use Rattle.sbp_world.specs.Lists.OwnReads.{OwnReadsLaw};
+ghost use Rattle.sbp_world.specs.Lists.OwnReads.{OwnGotsLaw, OwnReadsLaw};
 ghost use Rattle.sbp_world.specs.Lists.Lists.{GrowingLaw};
 ghost use Rattle.sbp_world.specs.Lists.CutLists.{CutListsLaw};
 ghost use Rattle.sbp_world.specs.Lists.Closes.{ClosingLaw, OpenListsLaw};
@@ -167,6 +167,14 @@ pub fn orbs_that_run_were_fed()
 #[tactic(auto, using(crate::proofs::Lists::Clauses::own_law))]
 pub fn agents_read_for_their_own_orbs()
     ensures { OwnReadsLaw }
+{}
+
+/// In every run in which no initiator injected packets, where lists were open as they should be before: a packet that the target gets,
+/// which answers what an agent waits for, brings of an initiator that has a list open what the main transaction of the agent of
+/// this list brought, or what begins elsewhere than in page tables and buffers.
+#[tactic(auto, using(crate::proofs::Lists::Clauses::gots_law))]
+pub fn answers_to_agents_are_their_own()
+    ensures { OwnGotsLaw }
 {}
 
 /// In every run in which no initiator injected packets, where lists were open as they should be before: the buffer and the data of each

@@ -7,12 +7,12 @@ use Rattle.sbp_world.specs.Lists.Live.{LiveLaw}
 use Rattle.sbp_world.specs.Lists.OneUp.{OneUpLaw}
 use Rattle.sbp_world.specs.Lists.Opened.{LogoutsLaw}
 use Rattle.sbp_world.specs.Lists.ListsBeside.{ListsBesideLaw}
-use Rattle.sbp_world.specs.Lists.OwnReads.{OwnReadsLaw}
+use Rattle.sbp_world.specs.Lists.OwnReads.{OwnGotsLaw, OwnReadsLaw}
 use Rattle.sbp_world.specs.Lists.TameLists.{ListsLaw}
 use Rattle.sbp_world.proofs.Lists.AnswerLengths.{answer_lengths_law}
 use Rattle.sbp_world.proofs.Lists.CarriedEnds.{were_read_law}
 use Rattle.sbp_world.proofs.Lists.DataLaws.{data_sent_law, data_held_law}
-use Rattle.sbp_world.proofs.Lists.FedOwnerRuns.{own_reads_law}
+use Rattle.sbp_world.proofs.Lists.FedOwnerRuns.{own_gots_law, own_reads_law}
 use Rattle.sbp_world.proofs.Lists.Lawful as proved
 use Rattle.sbp_world.proofs.Lists.OneUp.{one_up_law}
 use Rattle.sbp_world.proofs.Lists.ShortLines.{short_law}
@@ -50,3 +50,6 @@ one_up = one_up_law short_law open_lists_law
 
 pub held_law : DataHeldLaw
 held_law = data_held_law short_law
+
+pub gots_law : OwnGotsLaw
+gots_law = own_gots_law open_lists_law

@@ -46,15 +46,15 @@ for_by rests kind e = absurd (let x : false ≡ true = e in cc)
 for_by (waits own s) kind e = record { waited = own; serial = s; is = refl; closes = ap (λ b. cond b (Some s) None) e }
 
 -- a response, where it answers
-record IsReply (t : Terms) (r own : ℕ) : Type 0 where
-  packet : Sending
-  sent : t.sent r ≡ Some packet
-  label : ℕ
-  kind : Kind
-  part : part_of packet.bytes ≡ response label kind
-  closes : closed_by (t.held (between packet packet.to packet.from label)) kind ≡ Some own
+pub record IsReply (t : Terms) (r own : ℕ) : Type 0 where
+  pub packet : Sending
+  pub sent : t.sent r ≡ Some packet
+  pub label : ℕ
+  pub kind : Kind
+  pub part : part_of packet.bytes ≡ response label kind
+  pub closes : closed_by (t.held (between packet packet.to packet.from label)) kind ≡ Some own
 
-reply_by : (t : Terms) (r own : ℕ) (so : Option Sending) → t.sent r ≡ so → answered_in t so ≡ Some own → IsReply t r own
+pub reply_by : (t : Terms) (r own : ℕ) (so : Option Sending) → t.sent r ≡ so → answered_in t so ≡ Some own → IsReply t r own
 reply_by t r own None e f = absurd (let x : None ≡ Some own = f in cc)
 reply_by t r own (Some q) e f = by (part_of q.bytes) refl f
   where

@@ -15,8 +15,9 @@ use Rattle.sbp_world.specs.Lists.Closes.{OpenListsLaw}
 use Rattle.sbp_world.specs.Lists.Needs.{IsCalm, OpenBefore, OpenLists}
 use Rattle.sbp_world.specs.Lists.Opens.{OpensLaw}
 use Rattle.sbp_world.specs.Lists.OwnLogins.{IsTame}
-use Rattle.sbp_world.specs.Lists.OwnReads.{AreOwnReads, OwnReadsLaw}
+use Rattle.sbp_world.specs.Lists.OwnReads.{AreOwnGots, AreOwnReads, OwnGotsLaw, OwnReadsLaw}
 use Rattle.sbp_world.proofs.Lists.Courses.{more_than_one}
+use Rattle.sbp_world.proofs.Lists.FedGots.{are_own_gots}
 use Rattle.sbp_world.proofs.Lists.FedOwners.{are_own_reads}
 use Rattle.sbp_world.proofs.Lists.OpenProved.{opens_law}
 use Rattle.sbp_world.proofs.Lists.RunLaws.{along_law}
@@ -50,6 +51,14 @@ module _ (line : ℕ) (run : Run) (r : IsRun run) (has : 0 < run.units) (small :
       (are_own_reads run.units logins has run.start.disks last.world k.holds (site_after line run r has small size k.past (length run.entries) k.holds back)
       (subst (λ ms. OpenLists ms last.world) back open_lists) (subst (λ ms. AreAlong ms last.world) back along) (subst IsTame back tame))
 
+  gots_after : OpenLists (history_of line run) last.world → AreAlong (history_of line run) last.world → IsTame (history_of line run) → AreOwnGots run.start.disks (history_of line run) last.world
+  gots_after open_lists along tame =
+      let k = kept in
+      let back = sym k.is in
+      subst (λ ms. AreOwnGots run.start.disks ms last.world) k.is
+      (are_own_gots run.units logins has run.start.disks last.world k.holds (site_after line run r has small size k.past (length run.entries) k.holds back)
+      (subst (λ ms. OpenLists ms last.world) back open_lists) (subst (λ ms. AreAlong ms last.world) back along) (subst IsTame back tame))
+
   module _ (next : ℕ) (most : Option ℕ) (told : List (Option Told)) (m : MayAll told (begun last)) where
     abbrev end : WorldState
     end = (after_all told (begun last)).world
@@ -68,11 +77,31 @@ module _ (line : ℕ) (run : Run) (r : IsRun run) (has : 0 < run.units) (small :
         (are_own_reads run.units logins has run.start.disks end holds (site_between line run r has small size next (more_deliveries most) d told m (asked next (more_deliveries most) ∷ hist k.past last.world) (length run.entries + 1) holds back)
         (subst (λ x. OpenLists x end) back open_lists) (subst (λ x. AreAlong x end) back along) (subst IsTame back tame))
 
+    gots_between : OpenLists ms end → AreAlong ms end → IsTame ms → AreOwnGots run.start.disks ms end
+    gots_between open_lists along tame =
+        let k = kept in
+        let d = more_than_one most in
+        let holds = holds_at wilds opened line run r.few has small size run.entries r.short r.entries r.lines k.past (length run.entries) k.holds k.is next (more_deliveries most) d told m in
+        let is : hist (asked next (more_deliveries most) ∷ hist k.past last.world) end ≡ ms = ap (λ x. map said end.fresh ++ asked next (more_deliveries most) ∷ x) k.is in
+        let back = sym is in
+        subst (λ x. AreOwnGots run.start.disks x end) is
+        (are_own_gots run.units logins has run.start.disks end holds (site_between line run r has small size next (more_deliveries most) d told m (asked next (more_deliveries most) ∷ hist k.past last.world) (length run.entries + 1) holds back)
+        (subst (λ x. OpenLists x end) back open_lists) (subst (λ x. AreAlong x end) back along) (subst IsTame back tame))
+
 pub own_reads_law : OpenListsLaw → OwnReadsLaw
 own_reads_law lists = record {
   after_lines = λ line run r has small size so_far tame.
       own_after line run r has small size (lists.after_lines line run r has small size (inl tame)) (along_law.after_lines line run r has small size so_far) tame;
   between = λ line run r has small size next most told m so_far tame.
       own_between line run r has small size next most told m (lists.between line run r has small size next (more_deliveries most) (more_than_one most) told m (inl tame))
+      (along_law.between line run r has small size next (more_deliveries most) (more_than_one most) told m so_far) tame;
+}
+
+pub own_gots_law : OpenListsLaw → OwnGotsLaw
+own_gots_law lists = record {
+  after_lines = λ line run r has small size so_far tame.
+      gots_after line run r has small size (lists.after_lines line run r has small size tame) (along_law.after_lines line run r has small size so_far) tame;
+  between = λ line run r has small size next most told m so_far tame.
+      gots_between line run r has small size next most told m (lists.between line run r has small size next (more_deliveries most) (more_than_one most) told m tame)
       (along_law.between line run r has small size next (more_deliveries most) (more_than_one most) told m so_far) tame;
 }

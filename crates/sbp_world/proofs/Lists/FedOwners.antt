@@ -94,7 +94,7 @@ module _ (past : List Moment) (i n : ℕ) where
   idle_none : (ahead : ReadAhead) (next : OrbPointer) (is_status : Bool) (fifo : ℕ) (access : Access) → ahead ≡ aheads.Idle → IsAccessFor (ahead_ask ahead next) is_status fifo access → ⊥
   idle_none ahead next is_status fifo access e a = subst (λ (x : ReadAhead). IsAccessFor (ahead_ask x next) is_status fifo access) e a
 
-  ahead_none : (phase : Phase) (p : Progress) (next : OrbPointer) (ahead : ReadAhead) (is_status : Bool) (fifo slot : ℕ) (access : Access) → KnowsAhead (list past i n) p phase next ahead → IsAccessFor (ahead_ask ahead next) is_status fifo access → Small (number_behind phase p.ended) → data_slot (window_at access.offset) ≡ Some slot → ⊥
+  pub ahead_none : (phase : Phase) (p : Progress) (next : OrbPointer) (ahead : ReadAhead) (is_status : Bool) (fifo slot : ℕ) (access : Access) → KnowsAhead (list past i n) p phase next ahead → IsAccessFor (ahead_ask ahead next) is_status fifo access → Small (number_behind phase p.ended) → data_slot (window_at access.offset) ≡ Some slot → ⊥
   ahead_none phases.ReadingTable p next ahead is_status fifo slot access k a small d = named_none (suc p.ended) next ahead is_status fifo slot access k a small d
   ahead_none (phases.ReadingData wanted) p next ahead is_status fifo slot access k a small d = named_none (suc p.ended) next ahead is_status fifo slot access k a small d
   ahead_none phases.Answering p next ahead is_status fifo slot access k a small d = named_none (suc p.ended) next ahead is_status fifo slot access k a small d
