@@ -19,7 +19,7 @@ use Rattle.sbp_laws.specs.CarriedBytes.{laid_out}
 use Rattle.sbp_laws.specs.Lists.{command_at, linked, orb, prepared_in, slot_at}
 use Rattle.sbp_laws.specs.Packets.{access_at, access_in_bytes, answer_in, answered_at, is_under_way, packet_at, receiver_in, sender_in}
 use Rattle.sbp_laws.specs.Targets.{agent_at, over, target_at}
-use Rattle.sbp_laws.specs.Terms.{ends, runs}
+use Rattle.sbp_laws.specs.Terms.{ends, runs, ended_status}
 use Rattle.sbp_laws.specs.Turns.{EachMoment}
 use Rattle.sbp_world.specs.Histories.{history_of}
 use Rattle.sbp_world.specs.Runs.{Run, after, beginning}
@@ -31,6 +31,8 @@ use Rattle.sbp_world.specs.Hosts.Runs.{IsRun}
 use Rattle.sbp_world.specs.Lists.Closes.{Under, WhereTame}
 use Rattle.sbp_world.specs.Lists.Needs.{IsCalm, OpenAfter, OpenBefore, OpenBehind, OpenBetween, initiator_in, machine_at}
 use Rattle.sbp_world.specs.Lists.SlotsStay.{HasSlot}
+use Rattle.orb_layout.specs.declared.status.StatusKind.{StatusKind}
+use Rattle.orb_layout.specs.declared.status.StatusKind.TheVariants as kinds
 
 -- ---- a packet as it is sent
 
@@ -87,9 +89,10 @@ pub record WasPiece (past : List Moment) (i generation slot : ℕ) (access : Acc
   pub piece : IsPieceOf before i list (ends before i list) machine access.offset size
   pub bytes : access.payload ≡ machine.outgoing
   pub turn : IsInTurn past before i list (ends before i list) machine
-  -- it goes to the slot of this ORB, which ran, and which the slot has where the write is in the initiator's generation
+  -- it goes to the slot of this ORB, which ran, has not ended but as failed, and which the slot has where the write is in the initiator's generation
   pub slot_is : slot_at before i list (ends before i list) ≡ slot
   pub ran : 0 < runs past i list (ends before i list)
+  pub still : (status : StatusKind) → ended_status past i list (ends before i list) ≡ Some status → status ≡ kinds.Failed
   pub seen : generation ≤ (terms before).generation (suc i)
   pub held : generation ≡ (terms before).generation (suc i) → HasSlot before i slot (orb list (ends before i list))
 
