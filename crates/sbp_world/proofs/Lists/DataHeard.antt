@@ -170,7 +170,7 @@ module _ (wild : ℕ → Bool) (i : ℕ) (own : wild i ≡ false) (past : List M
         (let v = told 0 (sides.Ran q (orb_of m) m.orb.cdb m.payload outcome) u in
         let on = hist_on past v (told_all 0 f.more v) (all_extends 0 f.more v) in
         let here : 0 < runs (hist past v) (holder u q).initiator n k =
-            ran_note_here (hist past u) (holder u q) (ticket_at u q (orb_of m)) m.orb.cdb m.payload outcome n k (ap list_in (ticket_same q (orb_of m)) ∙ e) (ap orb_in (ticket_same q (orb_of m)) ∙ g) in
+        ran_note_here (hist past u) (holder u q) (ticket_at u q (orb_of m)) m.orb.cdb m.payload outcome n k (ap list_in (ticket_same q (orb_of m)) ∙ e) (ap orb_in (ticket_same q (orb_of m)) ∙ g) in
         let there : 0 < runs (hist past v) (initiator_in w q) n k = subst (λ j. 0 < runs (hist past v) j n k) (ap (λ ps. (holder_at ps q).initiator) b.places) here in
         subst (λ now. 0 < runs now (initiator_in w q) n k) on.is (ran_on on.more (hist past v) (initiator_in w q) n k there))
 
@@ -294,9 +294,9 @@ module _ (wild : ℕ → Bool) (i : ℕ) (own : wild i ≡ false) (past : List M
         let login_there : login_at w.target place ≡ Some x.login = subst (λ y. login_at w.target y ≡ Some x.login) same_place (served_there w.target at x.login x.served) in
         let same_login : x.login ≡ login = some_login x.login login (sym login_there ∙ is) in
         let which_there : which_in (desk_at w.target place) (header_in p).source label ≡ Some x.which =
-            subst (λ y. which_in (desk_at w.target place) (header_in p).source y ≡ Some x.which) same_label
-            (subst (λ y. which_in (desk_at w.target place) (header_in y).source x.label ≡ Some x.which) same_packet
-            (subst (λ y. which_in (desk_at w.target y) (header_in x.packet).source x.label ≡ Some x.which) same_place x.is_which)) in
+        subst (λ y. which_in (desk_at w.target place) (header_in p).source y ≡ Some x.which) same_label
+        (subst (λ y. which_in (desk_at w.target place) (header_in y).source x.label ≡ Some x.which) same_packet
+        (subst (λ y. which_in (desk_at w.target y) (header_in x.packet).source x.label ≡ Some x.which) same_place x.is_which)) in
         let same_which : x.which ≡ which = some_which x.which which (sym which_there ∙ e) in
         let one = subst (λ y. (reply_step (machine_at w y) y (plain_in w.target.units media.disks x.login.unit) run x.which (answer_in x.packet)).0.ended ≡ Some status) same_place x.ended in
         let two = subst (λ (y : Login). (reply_step (machine_at w place) place (plain_in w.target.units media.disks y.unit) run x.which (answer_in x.packet)).0.ended ≡ Some status) same_login one in

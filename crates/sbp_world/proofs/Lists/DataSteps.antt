@@ -429,7 +429,7 @@ module _ (wild : ℕ → Bool) (past : List Moment) (w : WorldState) (r : Ready 
         let c = x.chunk in
         let long : 0 < length c.access.payload = subst (λ n. 0 < n) (sym (x.size c.access c.is)) (part_chunk M (full (ap answers answering))) in
         let written : step.1.written ≡ M.written + answer_chunk M =
-            there.done ∙ (ap (λ (y : Progress). y.carried) (same ∙ as_answered) ∙ ap (λ j. j + answer_chunk M) (sym was.told.done)) in
+        there.done ∙ (ap (λ (y : Progress). y.carried) (same ∙ as_answered) ∙ ap (λ j. j + answer_chunk M) (sym was.told.done)) in
         let answers : step.1.answer ≡ M.answer = there.told ∙ (ap (λ (y : Progress). y.answer) (same ∙ as_answered) ∙ sym was.told.told) in
         let list_same : c.list ≡ O.n = (let z : Some c.list ≡ Some O.n = sym c.list_is ∙ O.list in cc) in
         let built : IsAnswered ms i c.list c.number step.1 is_for.serial = record {
@@ -529,7 +529,7 @@ module _ (wild : ℕ → Bool) (past : List Moment) (w : WorldState) (r : Ready 
         let so = subst (λ x. IfSome x (λ kind. EndsSo kind step.1)) ended (replied_leaves M place (plain_in w.target.units disks login.unit) run which (answer_in p)).ends in
         let named = O.named (ends ms i O.n) (omega arith) (subst (λ j. j < linked ms i O.n) end_number end_so.turn.linked) in
         let is : orb_of step.1 ≡ start_of (windows.Orb (slot_at ms i O.n (ends ms i O.n))) =
-            present_is step.1 so.present ∙ (end_so.turn.place ∙ ap (λ j. start_of (windows.Orb (slot_at ms i O.n j))) end_number) in
+        present_is step.1 so.present ∙ (end_so.turn.place ∙ ap (λ j. start_of (windows.Orb (slot_at ms i O.n j))) end_number) in
         (ap (λ x. list_in (ticket_at w place x)) is ∙ named.list, ap (λ x. orb_in (ticket_at w place x)) is ∙ named.number)
 
     end_answered : IsFull M → M.phase ≡ phases.Answering → (x : IsHeard ms w is_for.serial place (answer_in p)) → write_failure (answer_in p) ≡ None → IsAnswered ms i O.n (ends ms i O.n) (record M { written = M.written + answer_chunk M }) is_for.serial
@@ -691,7 +691,7 @@ module _ (wild : ℕ → Bool) (past : List Moment) (w : WorldState) (r : Ready 
         by_failure None f_is =
             let had = (subst (λ ph. Knows (orbs ms i O.n) G.progress ph M) answering G.along.main).told in
             let written : step.1.written ≡ M.written + answer_chunk M =
-                told_then.done ∙ (ap (λ (x : Progress). x.carried) (same ∙ as_answered answering f_is g) ∙ ap (λ j. j + answer_chunk M) (sym had.done)) in
+            told_then.done ∙ (ap (λ (x : Progress). x.carried) (same ∙ as_answered answering f_is g) ∙ ap (λ j. j + answer_chunk M) (sym had.done)) in
             let unlike = more_goes M place (plain_in w.target.units disks login.unit) run (answer_in p) answering f_is (ap (λ (y : Which). answers (reply_step M place (plain_in w.target.units disks login.unit) run y (answer_in p)).1.phase) (sym g) ∙ e_then) in
             let within : answer_chunk M ≤ length M.answer - M.written = cut_within (length M.answer - M.written) (chunk_from M.segments M.written (limit_of M.orb)) in
             let before = (full (ap answers answering)).more in
