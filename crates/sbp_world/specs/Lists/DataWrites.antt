@@ -6,7 +6,7 @@ use Rattle.command_agent.specs.Machine.{Machine, cut_to}
 use Rattle.bus_memory.specs.declared.window.Window.TheVariants as windows
 use Rattle.bus_memory.specs.Windows.{window_at}
 use Rattle.orb_layout.specs.Replies.{Done}
-use Rattle.page_table.specs.Buffer.{chunk, chunk_from}
+use Rattle.page_table.specs.Buffer.{chunk, chunk_from, bytes_of}
 use Rattle.rbc_disk.specs.Disk.{Disk}
 use Rattle.rbc_disk.specs.Runs.{Told}
 use Rattle.sbp_journal.specs.Addresses.{Access}
@@ -54,7 +54,7 @@ pub record IsPieceOf (past : List Moment) (i n number : ℕ) (m : Machine) (offs
   pub piece : chunk offset size ≡ cut_to (length m.answer - m.written) (chunk_from (laid_out (slot_at past i n number) cmd cmd.segments) m.written (2 ^ (cmd.max_payload + 2)))
   pub bytes : m.outgoing ≡ take size (drop m.written m.answer)
 
--- A packet answers with rcode 0 the write of the chunk before it, for which the agent waits: where that ended, the next one begins.
+-- A packet answers with rcode 0 the write of the chunk before it, for which the agent waits: where that ended, the next one begins; and the answer has as many bytes as the buffer.
 pub record IsAnswered (past : List Moment) (i n number : ℕ) (m : Machine) (got : ℕ) : Type 0 where
   pub serial : ℕ
   pub closed : answered_at (terms past) got ≡ Some serial
@@ -71,6 +71,7 @@ pub record IsAnswered (past : List Moment) (i n number : ℕ) (m : Machine) (got
   pub done_before : ℕ
   pub piece : chunk access.offset (length access.payload) ≡ cut_to (length m.answer - done_before) (chunk_from (laid_out (slot_at past i n number) cmd cmd.segments) done_before (2 ^ (cmd.max_payload + 2)))
   pub behind : m.written ≡ done_before + length access.payload
+  pub whole : length m.answer ≡ bytes_of (laid_out (slot_at past i n number) cmd cmd.segments)
   pub stands : window_at access.offset ≡ Some (windows.Buffer (slot_at past i n number))
 
 -- Writes of an answer come in turn: the first one in the turn in which its command runs, and each later one as the write of the chunk before it is answered.
