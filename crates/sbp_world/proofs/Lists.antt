@@ -422,6 +422,7 @@ pub mod DataCalls
 pub mod DataRan
 pub mod DataSteps
 pub mod DataLines
+pub mod DataOpen
 pub mod DataTurns
 pub mod DataHeard
 pub mod DataWalk

@@ -28,7 +28,7 @@ use Rattle.sbp_journal.specs.declared.side.Side.{Side}
 use Rattle.sbp_journal.specs.declared.side.Side.TheVariants as sides
 use Rattle.sbp_journal.specs.Outgoings.{OutboxState}
 use Rattle.sbp_journal.specs.Run.{Moment, said}
-use Rattle.sbp_laws.specs.Terms.{ends, lists, runs}
+use Rattle.sbp_laws.specs.Terms.{ends, lists, runs, ended_status}
 use Rattle.sbp_laws.specs.Turns.{EachMoment}
 use Rattle.sbp_target.specs.declared.purpose.Purpose.{Purpose}
 use Rattle.sbp_target.specs.declared.purpose.Purpose.TheVariants as purposes
@@ -82,6 +82,10 @@ use Rattle.sbp_world.proofs.Lists.Extends.{all_told as all_extends}
 use Rattle.sbp_world.proofs.Lists.OpenWorlds.{hist_on}
 use Rattle.sbp_world.proofs.Lists.StatusMoments.{latest_of}
 use Rattle.sbp_world.proofs.Lists.Full.{IsFull}
+use Rattle.orb_layout.specs.declared.status.StatusKind.{StatusKind}
+use Rattle.sbp_world.proofs.Lists.DataOpen.{none_ended, told_open}
+use Rattle.sbp_world.proofs.Lists.EndTells.{AreMild, EndedBy, TellsEnd, delivery_ends, of_end, of_mild}
+use Rattle.sbp_world.proofs.Lists.RunTells.{served_there}
 
 no_ask : (offset size : ℕ) → asks.Nothing ≡ asks.Write offset size → ⊥
 no_ask offset size e = cc
@@ -126,7 +130,8 @@ module _ (wild : ℕ → Bool) (i : ℕ) (own : wild i ≡ false) (past : List M
     turn : IsTurnNow ms w q list (ends ms (initiator_in w q) list) one got
 
   -- what is known of the agent of a place that makes a step
-  record StepSo (note : Note) (q : ℕ) (one : AgentStep × Machine) : Type 0 where
+  record StepSo (note : Note) (Told : ℕ → ℕ → StatusKind → Type 0) (q : ℕ) (one : AgentStep × Machine) : Type 0 where
+    silent : one.0.ended ≡ None → (place at : ℕ) (status : StatusKind) → Told place at status → ⊥
     up : Up wild i own past w q
     piece : Ours wild past w r q → one.0.ended ≡ None → (at size : ℕ) → one.0.ask ≡ asks.Write at size → (slot : ℕ) → window_at (written_at at) ≡ Some (windows.Buffer slot) → IsStepPiece note q one (written_at at) size slot
 
@@ -165,7 +170,7 @@ module _ (wild : ℕ → Bool) (i : ℕ) (own : wild i ≡ false) (past : List M
         (let v = told 0 (sides.Ran q (orb_of m) m.orb.cdb m.payload outcome) u in
         let on = hist_on past v (told_all 0 f.more v) (all_extends 0 f.more v) in
         let here : 0 < runs (hist past v) (holder u q).initiator n k =
-            ran_note_here (hist past u) (holder u q) (ticket_at u q (orb_of m)) m.orb.cdb m.payload outcome n k (ap list_in (ticket_same q (orb_of m)) ∙ e) (ap orb_in (ticket_same q (orb_of m)) ∙ g) in
+        ran_note_here (hist past u) (holder u q) (ticket_at u q (orb_of m)) m.orb.cdb m.payload outcome n k (ap list_in (ticket_same q (orb_of m)) ∙ e) (ap orb_in (ticket_same q (orb_of m)) ∙ g) in
         let there : 0 < runs (hist past v) (initiator_in w q) n k = subst (λ j. 0 < runs (hist past v) j n k) (ap (λ ps. (holder_at ps q).initiator) b.places) here in
         subst (λ now. 0 < runs now (initiator_in w q) n k) on.is (ran_on on.more (hist past v) (initiator_in w q) n k there))
 
@@ -189,9 +194,9 @@ module _ (wild : ℕ → Bool) (i : ℕ) (own : wild i ≡ false) (past : List M
   due_fifo note start [] h = tt
   due_fifo note start (packet ∷ later) h = ((λ there slot x. by_fifo note start packet.to x.access (h.0 x.access x.is x.writes) slot x.goes), due_fifo note start later h.1)
 
-  by_step : (note : Note) (u : WorldState) (b : Behind note w u) (told_sides : List Side) (q : ℕ) (login : Login) → login_at w.target q ≡ Some login → (one : AgentStep × Machine) → StepSo note q one → RunsFirst q one told_sides → (to : ℕ) (access : Access) → node_of w.generations 0 to ≡ Some (suc i) → IsBy IsLoginFifo one.0 one.1 login.node to access.offset access.payload → (slot : ℕ) → window_at access.offset ≡ Some (windows.Buffer slot) → IsPieceNow ms (hist past (told_all 0 told_sides u)) i note gen slot access
-  by_step note u b told_sides q login is one s f to access there (to_fifo fifo own e) slot goes = absurd (fifo_dry fifo access.offset slot own e goes)
-  by_step note u b told_sides q login is one s f to access there (of_step at size none ask to_is offset_is payload_is) slot goes =
+  by_step : (note : Note) (is_first : IsFirst note) (u : WorldState) (b : Behind note w u) (told_sides : List Side) (others : AreOthers told_sides) (Told : ℕ → ℕ → StatusKind → Type 0) (q : ℕ) (login : Login) → login_at w.target q ≡ Some login → (one : AgentStep × Machine) → StepSo note Told q one → RunsFirst q one told_sides → (one.0.ended ≡ None → AreMild told_sides) → (to : ℕ) (access : Access) → node_of w.generations 0 to ≡ Some (suc i) → IsBy IsLoginFifo one.0 one.1 login.node to access.offset access.payload → (slot : ℕ) → window_at access.offset ≡ Some (windows.Buffer slot) → IsPieceNow ms (hist past (told_all 0 told_sides u)) i note gen slot access
+  by_step note is_first u b told_sides others Told q login is one s f mild to access there (to_fifo fifo own e) slot goes = absurd (fifo_dry fifo access.offset slot own e goes)
+  by_step note is_first u b told_sides others Told q login is one s f mild to access there (of_step at size none ask to_is offset_is payload_is) slot goes =
       let mine = s.up.mine login is (ap (λ a. node_of w.generations 0 a) (sym to_is) ∙ there) in
       let p = s.piece (ap wild mine ∙ own) none at size ask slot (ap window_at (sym offset_is) ∙ goes) in
       let j = initiator_in w q in
@@ -208,6 +213,10 @@ module _ (wild : ℕ → Bool) (i : ℕ) (own : wild i ≡ false) (past : List M
         turn = turn_by p.list (ends ms j p.list) p.got p.got_is p.turn;
         slot_is = p.slot_is;
         ran = ran_by note u b q p.list (ends ms j p.list) p.got one told_sides p.turn f;
+        still =
+            told_open past j p.list (ends ms j p.list) told_sides u others (mild none)
+            (λ status z. none_ended wild i own ms r.kept.passes p.list status
+            (subst (λ x. ended_status ms x p.list (ends ms x p.list) ≡ Some status) mine (first_ended j p.list (ends ms j p.list) status (subst (λ h. ended_status h j p.list (ends ms j p.list) ≡ Some status) (ap (λ ns. map said ns ++ past) b.fresh) z))));
         seen = subst (λ x. gen ≤ (terms ms).generation (suc x)) (sym mine) (s.up.caught mine);
         held = λ e.
             subst (λ x. HasSlot ms x slot (orb p.list (ends ms x p.list))) (sym mine)
@@ -217,13 +226,21 @@ module _ (wild : ℕ → Bool) (i : ℕ) (own : wild i ≡ false) (past : List M
             subst (λ y. HasSlot ms i y (orb p.list (ends ms i p.list))) there_slot (slots p.list (ends ms i p.list) (here.1 ∙ ap (λ y. Some y) same) (omega arith) below));
       })
     where
+      first_by : (first : Note) → IsFirst first → (j n k : ℕ) (status : StatusKind) → ended_status (said first ∷ ms) j n k ≡ Some status → ended_status ms j n k ≡ Some status
+      first_by _ (got_first serial) j n k status z = z
+      first_by _ (ignored_first serial cause) j n k status z = z
+      first_by _ (late_first serial) j n k status z = z
+
+      first_ended : (j n k : ℕ) (status : StatusKind) → ended_status (said note ∷ ms) j n k ≡ Some status → ended_status ms j n k ≡ Some status
+      first_ended = first_by note is_first
+
       turn_by : (n k got : ℕ) → note ≡ notes.Got got → IsTurnNow ms w q n k one got → IsTurnBy ms (initiator_in w q) n k one.1 note
       turn_by n k got is (now_first y) = by_first y.none y.start
       turn_by n k got is (now_follows ran x) = by_follows got is x
 
-  due_step : (note : Note) (u : WorldState) (b : Behind note w u) (told_sides : List Side) (q : ℕ) (login : Login) → login_at w.target q ≡ Some login → (one : AgentStep × Machine) → StepSo note q one → RunsFirst q one told_sides → (packets : List Outgoing) → AllSo IsLoginFifo one.0 one.1 login.node packets → Due note (hist past (told_all 0 told_sides u)) packets
-  due_step note u b told_sides q login is one s f [] h = tt
-  due_step note u b told_sides q login is one s f (packet ∷ later) h = ((λ there slot x. by_step note u b told_sides q login is one s f packet.to x.access there (h.0 x.access x.is x.writes) slot x.goes), due_step note u b told_sides q login is one s f later h.1)
+  due_step : (note : Note) (is_first : IsFirst note) (u : WorldState) (b : Behind note w u) (told_sides : List Side) (others : AreOthers told_sides) (Told : ℕ → ℕ → StatusKind → Type 0) (q : ℕ) (login : Login) → login_at w.target q ≡ Some login → (one : AgentStep × Machine) → StepSo note Told q one → RunsFirst q one told_sides → (one.0.ended ≡ None → AreMild told_sides) → (packets : List Outgoing) → AllSo IsLoginFifo one.0 one.1 login.node packets → Due note (hist past (told_all 0 told_sides u)) packets
+  due_step note is_first u b told_sides others Told q login is one s f mild [] h = tt
+  due_step note is_first u b told_sides others Told q login is one s f mild (packet ∷ later) h = ((λ there slot x. by_step note is_first u b told_sides others Told q login is one s f mild packet.to x.access there (h.0 x.access x.is x.writes) slot x.goes), due_step note is_first u b told_sides others Told q login is one s f mild later h.1)
 
   -- ---- it leaves
   module _ (note : Note) (f : IsFirst note) (u : WorldState) (b : Behind note w u) (outbox : OutboxState) (others : AreOthers outbox.sides) where
@@ -233,15 +250,24 @@ module _ (wild : ℕ → Bool) (i : ℕ) (own : wild i ≡ false) (past : List M
     pub hands : Due note (hist past (told_all 0 outbox.sides u)) outbox.packets → EachMoment (DataSo i) (hist past (handed_out 0 0 outbox u))
     hands due =
         (all_leave i past ms note (hist past (told_all 0 outbox.sides u)) w.generations outbox.packets (told_all 0 outbox.sides u) (all_same i past ms note 0 outbox.sides u ∙ b.generations) due
-        (record { sends = all_told i past ms note 0 outbox.sides u (others_told i past ms note outbox.sides others) started; on = record { new = []; is = refl } })).sends.so
+        (record { same = λ n k. refl; sends = all_told i past ms note 0 outbox.sides u (others_told i past ms note outbox.sides others) started; on = record { new = []; is = refl } })).sends.so
 
-  abbrev C : Note → (Answer → Type 0) → Layer Purpose → Scene → Type 0
-  C note Its layer s = WroteSo w r.good IsLoginFifo (λ q login is. owned q login is) (StepSo note) Its layer s
+  abbrev C : Note → (ℕ → ℕ → StatusKind → Type 0) → (Answer → Type 0) → Layer Purpose → Scene → Type 0
+  C note Told Its layer s = WroteSo w r.good IsLoginFifo (λ q login is. owned q login is) (StepSo note Told) Its layer s
 
-  called : (Its : Answer → Type 0) (layer : Layer Purpose) (s : Scene) (note : Note) (f : IsFirst note) (u : WorldState) (b : Behind note w u) (others : AreOthers s.outbox.sides) → ((answer : Answer) → Its answer → s ≡ manage answer (first w r.good layer) → EachMoment (DataSo i) (hist past (handed_out 0 0 s.outbox u))) → C note Its layer s → EachMoment (DataSo i) (hist past (handed_out 0 0 s.outbox u))
-  called Its layer s note f u b others managed (to_logins h) = hands note f u b s.outbox others (due_fifo note (hist past (told_all 0 s.outbox.sides u)) s.outbox.packets h)
-  called Its layer s note f u b others managed (steps_so q small login is one known f_run h) = hands note f u b s.outbox others (due_step note u b s.outbox.sides q login is one known f_run s.outbox.packets h)
-  called Its layer s note f u b others managed (manages answer its e) = managed answer its e
+  mild_told : (Told : ℕ → ℕ → StatusKind → Type 0) (told_sides : List Side) → ((place at : ℕ) (status : StatusKind) → Told place at status → ⊥) → TellsEnd Told told_sides → AreMild told_sides
+  mild_told Told told_sides f (of_mild m) = m
+  mild_told Told told_sides f (of_end place at status early later t light mild is) = absurd (f place at status t)
+
+  called : (Told : ℕ → ℕ → StatusKind → Type 0) (Its : Answer → Type 0) (layer : Layer Purpose) (s : Scene) (note : Note) (f : IsFirst note) (u : WorldState) (b : Behind note w u) (others : AreOthers s.outbox.sides) → ((answer : Answer) → Its answer → s ≡ manage answer (first w r.good layer) → EachMoment (DataSo i) (hist past (handed_out 0 0 s.outbox u))) → TellsEnd Told s.outbox.sides → C note Told Its layer s → EachMoment (DataSo i) (hist past (handed_out 0 0 s.outbox u))
+  called Told Its layer s note f u b others managed tells (to_logins h) = hands note f u b s.outbox others (due_fifo note (hist past (told_all 0 s.outbox.sides u)) s.outbox.packets h)
+  called Told Its layer s note f u b others managed tells (steps_so q small login is one known f_run h) = hands note f u b s.outbox others (due_step note f u b s.outbox.sides others Told q login is one known f_run (λ none. mild_told Told s.outbox.sides (known.silent none) tells) s.outbox.packets h)
+  called Told Its layer s note f u b others managed tells (manages answer its e) = managed answer its e
+
+  late_called : (layer : Layer Purpose) (s : Scene) (note : Note) (f : IsFirst note) (u : WorldState) (b : Behind note w u) (others : AreOthers s.outbox.sides) → ((answer : Answer) → answer ≡ Expired → s ≡ manage answer (first w r.good layer) → EachMoment (DataSo i) (hist past (handed_out 0 0 s.outbox u))) → WroteSo w r.good IsLoginFifo (λ q login is. owned q login is) (λ q one. ⊥) (λ answer. answer ≡ Expired) layer s → EachMoment (DataSo i) (hist past (handed_out 0 0 s.outbox u))
+  late_called layer s note f u b others managed (to_logins h) = hands note f u b s.outbox others (due_fifo note (hist past (told_all 0 s.outbox.sides u)) s.outbox.packets h)
+  late_called layer s note f u b others managed (steps_so q small login is one known f_run h) = absurd known
+  late_called layer s note f u b others managed (manages answer its e) = managed answer its e
 
   -- ---- a packet is delivered
   module _ (up : (q : ℕ) → q < 8 → has_list (machine_at w q).phase ≡ true → Up wild i own past w q) (sent : Sent) (is_for : IsFor w sent) (run : Option Told) (media : Held) (serial : ℕ) (prepared : ArePrepared ms w) (heard_so : AreHeard wild ms w) (same_serial : is_for.serial ≡ serial) (full : (q : ℕ) → q < 8 → IsFull (machine_at w q)) where
@@ -253,8 +279,34 @@ module _ (wild : ℕ → Bool) (i : ℕ) (own : wild i ≡ false) (past : List M
     abbrev first_note : Note
     first_note = judged_note serial (received run sent.generation sent.bytes (whole_of w.target media)).0
 
-    reply_so : (p : Packet) (label : LabelParts) (place : ℕ) → (judging_step w.target.layer sent.generation sent.bytes).0 ≡ of_response p label (Some (purposes.Agent place)) → (b : place < 8) (login : Login) → login_at w.target place ≡ Some login → (which : Which) → which_in (desk_at w.target place) (header_in p).source label ≡ Some which → StepSo first_note place (reply_step (machine_at w place) place (plain_in w.target.units media.disks login.unit) run which (answer_in p))
+    some_login : (one other : Login) → Some one ≡ Some other → one ≡ other
+    some_login one other z = cc
+
+    some_which : (one other : Which) → Some one ≡ Some other → one ≡ other
+    some_which one other z = cc
+
+    silent_by : (p : Packet) (label : LabelParts) (place : ℕ) → (judging_step w.target.layer sent.generation sent.bytes).0 ≡ of_response p label (Some (purposes.Agent place)) → (login : Login) → login_at w.target place ≡ Some login → (which : Which) → which_in (desk_at w.target place) (header_in p).source label ≡ Some which → (reply_step (machine_at w place) place (plain_in w.target.units media.disks login.unit) run which (answer_in p)).0.ended ≡ None → (at orb_at : ℕ) (status : StatusKind) → EndedBy w.target sent run media at orb_at status → ⊥
+    silent_by p label place f login is which e none at orb_at status x =
+        let both : of_response x.packet x.label (Some (purposes.Agent at)) ≡ of_response p label (Some (purposes.Agent place)) = sym x.found ∙ f in
+        let same_place : at ≡ place = cc in
+        let same_packet : x.packet ≡ p = cc in
+        let same_label : x.label ≡ label = cc in
+        let login_there : login_at w.target place ≡ Some x.login = subst (λ y. login_at w.target y ≡ Some x.login) same_place (served_there w.target at x.login x.served) in
+        let same_login : x.login ≡ login = some_login x.login login (sym login_there ∙ is) in
+        let which_there : which_in (desk_at w.target place) (header_in p).source label ≡ Some x.which =
+        subst (λ y. which_in (desk_at w.target place) (header_in p).source y ≡ Some x.which) same_label
+        (subst (λ y. which_in (desk_at w.target place) (header_in y).source x.label ≡ Some x.which) same_packet
+        (subst (λ y. which_in (desk_at w.target y) (header_in x.packet).source x.label ≡ Some x.which) same_place x.is_which)) in
+        let same_which : x.which ≡ which = some_which x.which which (sym which_there ∙ e) in
+        let one = subst (λ y. (reply_step (machine_at w y) y (plain_in w.target.units media.disks x.login.unit) run x.which (answer_in x.packet)).0.ended ≡ Some status) same_place x.ended in
+        let two = subst (λ (y : Login). (reply_step (machine_at w place) place (plain_in w.target.units media.disks y.unit) run x.which (answer_in x.packet)).0.ended ≡ Some status) same_login one in
+        let three = subst (λ y. (reply_step (machine_at w place) place (plain_in w.target.units media.disks login.unit) run y (answer_in x.packet)).0.ended ≡ Some status) same_which two in
+        let four = subst (λ y. (reply_step (machine_at w place) place (plain_in w.target.units media.disks login.unit) run which (answer_in y)).0.ended ≡ Some status) same_packet three in
+        let z : None ≡ Some status = sym none ∙ four in cc
+
+    reply_so : (p : Packet) (label : LabelParts) (place : ℕ) → (judging_step w.target.layer sent.generation sent.bytes).0 ≡ of_response p label (Some (purposes.Agent place)) → (b : place < 8) (login : Login) → login_at w.target place ≡ Some login → (which : Which) → which_in (desk_at w.target place) (header_in p).source label ≡ Some which → StepSo first_note (EndedBy w.target sent run media) place (reply_step (machine_at w place) place (plain_in w.target.units media.disks login.unit) run which (answer_in p))
     reply_so p label place f b login is which e = record {
+      silent = λ none at orb_at status x. silent_by p label place f login is which e none at orb_at status x;
       up = up place b (waits_has wild past w r place b (header_in p).source label which e);
       piece = λ ours none at size ask slot goes.
           let low = answer_low wild past w r asked sent is_for run media.disks p label place f b login which e ours none at size ask in
@@ -284,13 +336,14 @@ module _ (wild : ℕ → Bool) (i : ℕ) (own : wild i ≡ false) (past : List M
     pub data_heard : (u : WorldState) → (let x = received run sent.generation sent.bytes (whole_of w.target media) in Behind (judged_note serial x.0) w u → AreOthers x.1.outbox.sides → ((p : Packet) (label : LabelParts) → (judging_step w.target.layer sent.generation sent.bytes).0 ≡ of_response p label (Some purposes.Management) → scene x.1.node x.1.outbox ≡ manage (answer_in p) (first w r.good (judging_step w.target.layer sent.generation sent.bytes).1) → EachMoment (DataSo i) (hist past (handed_out 0 0 x.1.outbox u))) → EachMoment (DataSo i) (hist past (handed_out 0 0 x.1.outbox u)))
     data_heard u b others managed =
         let x = received run sent.generation sent.bytes (whole_of w.target media) in
-        called IsHeard (judging_step w.target.layer sent.generation sent.bytes).1 (scene x.1.node x.1.outbox) (judged_note serial x.0) (judged_first serial x.0) u b others
+        called (EndedBy w.target sent run media) IsHeard (judging_step w.target.layer sent.generation sent.bytes).1 (scene x.1.node x.1.outbox) (judged_note serial x.0) (judged_first serial x.0) u b others
         (λ answer its e. managed its.packet its.label its.found (subst (λ a. scene x.1.node x.1.outbox ≡ manage a (first w r.good (judging_step w.target.layer sent.generation sent.bytes).1)) its.is e))
-        (delivery_wrote w r.good IsLoginFifo (λ q login is. owned q login is) (StepSo first_note) IsHeard sent run media reply_so (λ p label f. record { packet = p; label = label; found = f; is = refl }))
+        (delivery_ends w.target r.good.mid.size r.good.table.sound sent run media)
+        (delivery_wrote w r.good IsLoginFifo (λ q login is. owned q login is) (StepSo first_note (EndedBy w.target sent run media)) IsHeard sent run media reply_so (λ p label f. record { packet = p; label = label; found = f; is = refl }))
 
   -- ---- a transaction of it times out
   pub data_late : (layer : Layer Purpose) (peer : ℕ) (label : LabelParts) (purpose : Option Purpose) (serial : ℕ) (u : WorldState) → (let y = timed_out purpose peer label (first w r.good layer) in Behind (notes.TimedOut serial) w u → AreOthers y.outbox.sides → (y ≡ manage Expired (first w r.good layer) → EachMoment (DataSo i) (hist past (handed_out 0 0 y.outbox u))) → EachMoment (DataSo i) (hist past (handed_out 0 0 y.outbox u)))
   data_late layer peer label purpose serial u b others managed =
-      called (λ answer. answer ≡ Expired) layer (timed_out purpose peer label (first w r.good layer)) (notes.TimedOut serial) (late_first serial) u b others
+      late_called layer (timed_out purpose peer label (first w r.good layer)) (notes.TimedOut serial) (late_first serial) u b others
       (λ answer its e. managed (subst (λ a. timed_out purpose peer label (first w r.good layer) ≡ manage a (first w r.good layer)) its e))
-      (lapse_wrote w r.good IsLoginFifo (λ q login is. owned q login is) (StepSo (notes.TimedOut serial)) (λ answer. answer ≡ Expired) layer peer label purpose (λ e. refl))
+      (lapse_wrote w r.good IsLoginFifo (λ q login is. owned q login is) (λ q one. ⊥) (λ answer. answer ≡ Expired) layer peer label purpose (λ e. refl))

@@ -412,6 +412,16 @@ module _ (wild : ℕ → Bool) (past : List Moment) (w : WorldState) (r : Ready 
       let had : runs ms i O.n G.progress.ended ≡ 0 = subst (λ o. HasRun o (runs ms i O.n G.progress.ended) (ran_status ms i O.n G.progress.ended)) none (G.ran unrun_law) in
       ap (λ j. runs ms i O.n j) (sym G.is) ∙ had
 
+  -- the buffer of its present ORB
+  buffer_there : (answering : M.phase ≡ phases.Answering) (x : IsHeard ms w is_for.serial place (answer_in p)) → x.chunk.list ≡ O.n → bytes_of M.segments ≡ bytes_of (laid_out (slot_at ms i x.chunk.list x.chunk.number) x.chunk.cmd x.chunk.cmd.segments)
+  buffer_there answering x same =
+      let c = x.chunk in
+      let had = (subst (λ ph. Knows (orbs ms i O.n) G.progress ph M) answering G.along.main).told in
+      let number : G.progress.ended ≡ c.number = G.is ∙ (ap (λ l. ends ms i l) (sym same) ∙ sym c.number_is) in
+      let at_number : IsBufferOf (command_at ms i O.n c.number) (slot_at ms i O.n c.number) M.segments = subst (λ j. IsBufferOf (command_at ms i O.n j) (slot_at ms i O.n j) M.segments) number had.buffer in
+      let at_list : IsBufferOf (command_at ms i c.list c.number) (slot_at ms i c.list c.number) M.segments = subst (λ l. IsBufferOf (command_at ms i l c.number) (slot_at ms i l c.number) M.segments) (sym same) at_number in
+      ap bytes_of (subst (λ o. IsBufferOf o (slot_at ms i c.list c.number) M.segments) c.command at_list)
+
   -- it goes on behind the chunk that was written
   module _ (answering : M.phase ≡ phases.Answering) (done : write_failure (answer_in p) ≡ None) (main : which ≡ Main) where
     abbrev was : Answers (orbs ms i O.n) G.progress M.present M.orb M.segments M.answer M.written M.outgoing
@@ -429,8 +439,8 @@ module _ (wild : ℕ → Bool) (past : List Moment) (w : WorldState) (r : Ready 
         let c = x.chunk in
         let long : 0 < length c.access.payload = subst (λ n. 0 < n) (sym (x.size c.access c.is)) (part_chunk M (full (ap answers answering))) in
         let written : step.1.written ≡ M.written + answer_chunk M =
-            there.done ∙ (ap (λ (y : Progress). y.carried) (same ∙ as_answered) ∙ ap (λ j. j + answer_chunk M) (sym was.told.done)) in
-        let answers : step.1.answer ≡ M.answer = there.told ∙ (ap (λ (y : Progress). y.answer) (same ∙ as_answered) ∙ sym was.told.told) in
+        there.done ∙ (ap (λ (y : Progress). y.carried) (same ∙ as_answered) ∙ ap (λ j. j + answer_chunk M) (sym was.told.done)) in
+        let answers_kept : step.1.answer ≡ M.answer = there.told ∙ (ap (λ (y : Progress). y.answer) (same ∙ as_answered) ∙ sym was.told.told) in
         let list_same : c.list ≡ O.n = (let z : Some c.list ≡ Some O.n = sym c.list_is ∙ O.list in cc) in
         let built : IsAnswered ms i c.list c.number step.1 is_for.serial = record {
           serial = x.request;
@@ -446,8 +456,9 @@ module _ (wild : ℕ → Bool) (past : List Moment) (w : WorldState) (r : Ready 
           cmd = c.cmd;
           command = c.command;
           done_before = M.written;
-          piece = subst (λ xs. chunk c.access.offset (length c.access.payload) ≡ cut_to (length xs - M.written) (chunk_from (laid_out (slot_at ms i c.list c.number) c.cmd c.cmd.segments) M.written (2 ^ (c.cmd.max_payload + 2)))) (sym answers) c.piece;
+          piece = subst (λ xs. chunk c.access.offset (length c.access.payload) ≡ cut_to (length xs - M.written) (chunk_from (laid_out (slot_at ms i c.list c.number) c.cmd c.cmd.segments) M.written (2 ^ (c.cmd.max_payload + 2)))) (sym answers_kept) c.piece;
           behind = written ∙ ap (λ j. M.written + j) (sym (x.size c.access c.is));
+          whole = ap length answers_kept ∙ ((full (ap answers answering)).fills ∙ buffer_there answering x list_same);
           stands = c.stands long;
         } in
         subst (λ l. IsAnswered ms i l (ends ms i l) step.1 is_for.serial) list_same (subst (λ k. IsAnswered ms i c.list k step.1 is_for.serial) c.number_is built)
@@ -529,7 +540,7 @@ module _ (wild : ℕ → Bool) (past : List Moment) (w : WorldState) (r : Ready 
         let so = subst (λ x. IfSome x (λ kind. EndsSo kind step.1)) ended (replied_leaves M place (plain_in w.target.units disks login.unit) run which (answer_in p)).ends in
         let named = O.named (ends ms i O.n) (omega arith) (subst (λ j. j < linked ms i O.n) end_number end_so.turn.linked) in
         let is : orb_of step.1 ≡ start_of (windows.Orb (slot_at ms i O.n (ends ms i O.n))) =
-            present_is step.1 so.present ∙ (end_so.turn.place ∙ ap (λ j. start_of (windows.Orb (slot_at ms i O.n j))) end_number) in
+        present_is step.1 so.present ∙ (end_so.turn.place ∙ ap (λ j. start_of (windows.Orb (slot_at ms i O.n j))) end_number) in
         (ap (λ x. list_in (ticket_at w place x)) is ∙ named.list, ap (λ x. orb_in (ticket_at w place x)) is ∙ named.number)
 
     end_answered : IsFull M → M.phase ≡ phases.Answering → (x : IsHeard ms w is_for.serial place (answer_in p)) → write_failure (answer_in p) ≡ None → IsAnswered ms i O.n (ends ms i O.n) (record M { written = M.written + answer_chunk M }) is_for.serial
@@ -553,6 +564,7 @@ module _ (wild : ℕ → Bool) (past : List Moment) (w : WorldState) (r : Ready 
           done_before = M.written;
           piece = c.piece;
           behind = ap (λ j. M.written + j) (sym (x.size c.access c.is));
+          whole = (full (ap answers answering)).fills ∙ buffer_there answering x list_same;
           stands = c.stands long;
         } in
         subst (λ l. IsAnswered ms i l (ends ms i l) (record M { written = M.written + answer_chunk M }) is_for.serial) list_same
@@ -691,7 +703,7 @@ module _ (wild : ℕ → Bool) (past : List Moment) (w : WorldState) (r : Ready 
         by_failure None f_is =
             let had = (subst (λ ph. Knows (orbs ms i O.n) G.progress ph M) answering G.along.main).told in
             let written : step.1.written ≡ M.written + answer_chunk M =
-                told_then.done ∙ (ap (λ (x : Progress). x.carried) (same ∙ as_answered answering f_is g) ∙ ap (λ j. j + answer_chunk M) (sym had.done)) in
+            told_then.done ∙ (ap (λ (x : Progress). x.carried) (same ∙ as_answered answering f_is g) ∙ ap (λ j. j + answer_chunk M) (sym had.done)) in
             let unlike = more_goes M place (plain_in w.target.units disks login.unit) run (answer_in p) answering f_is (ap (λ (y : Which). answers (reply_step M place (plain_in w.target.units disks login.unit) run y (answer_in p)).1.phase) (sym g) ∙ e_then) in
             let within : answer_chunk M ≤ length M.answer - M.written = cut_within (length M.answer - M.written) (chunk_from M.segments M.written (limit_of M.orb)) in
             let before = (full (ap answers answering)).more in

@@ -9,7 +9,7 @@ use Rattle.sbp_journal.specs.declared.outbox.Outgoing.{Outgoing}
 use Rattle.sbp_journal.specs.declared.side.Side.{Side}
 use Rattle.sbp_journal.specs.declared.side.Side.TheVariants as sides
 use Rattle.sbp_journal.specs.Run.{Moment, said}
-use Rattle.sbp_laws.specs.Terms.{ends, runs}
+use Rattle.sbp_laws.specs.Terms.{ends, runs, ended_status}
 use Rattle.sbp_laws.specs.Turns.{EachMoment}
 use Rattle.sbp_world.specs.Sending.{sent as sent_one, sent_all}
 use Rattle.sbp_world.specs.Telling.{told, told_all}
@@ -22,6 +22,8 @@ use Rattle.sbp_journal.specs.declared.note.Note.{Note}
 use Rattle.sbp_journal.specs.Wire.{terms}
 use Rattle.sbp_laws.specs.Lists.{orb, slot_at}
 use Rattle.sbp_world.specs.Lists.SlotsStay.{HasSlot}
+use Rattle.orb_layout.specs.declared.status.StatusKind.{StatusKind}
+use Rattle.orb_layout.specs.declared.status.StatusKind.TheVariants as kinds
 
 -- ---- a history grows
 assoc : (a b c : List Moment) → (a ++ b) ++ c ≡ a ++ (b ++ c)
@@ -46,6 +48,7 @@ pub record IsPieceNow (ms start : List Moment) (i : ℕ) (note : Note) (generati
   pub turn : IsTurnBy ms i list (ends ms i list) machine note
   pub slot_is : slot_at ms i list (ends ms i list) ≡ slot
   pub ran : 0 < runs start i list (ends ms i list)
+  pub still : (status : StatusKind) → ended_status start i list (ends ms i list) ≡ Some status → status ≡ kinds.Failed
   pub seen : generation ≤ (terms ms).generation (suc i)
   pub held : generation ≡ (terms ms).generation (suc i) → HasSlot ms i slot (orb list (ends ms i list))
 
@@ -143,9 +146,10 @@ module _ (i : ℕ) (past ms : List Moment) (note : Note) where
   pub record Leaves (start now : List Moment) : Type 0 where
     pub sends : Sends now
     pub on : Grown start now
+    pub same : (n k : ℕ) → ended_status now i n k ≡ ended_status start i n k
 
-  noted_on : (start : List Moment) (moment : Moment) (now : List Moment) → DataSo i moment now → Leaves start now → Leaves start (moment ∷ now)
-  noted_on start moment now d h = record { sends = noted moment now d h.sends; on = grown_note moment start now h.on }
+  noted_on : (start : List Moment) (s generation t : ℕ) (bytes : List ℕ) (now : List Moment) → DataSo i (said (notes.Sent s generation 0 t bytes)) now → Leaves start now → Leaves start (said (notes.Sent s generation 0 t bytes) ∷ now)
+  noted_on start s generation t bytes now d h = record { sends = noted (said (notes.Sent s generation 0 t bytes)) now d h.sends; on = grown_note (said (notes.Sent s generation 0 t bytes)) start now h.on; same = λ n k. h.same n k }
 
   pub all_leave : (start : List Moment) (g : GenerationsState) (packets : List Outgoing) (w : WorldState) → w.generations ≡ g → AllDue start g packets → Leaves start (hist past w) → Leaves start (hist past (sent_all 0 packets w))
   unfolding sent_all
@@ -154,7 +158,7 @@ module _ (i : ℕ) (past ms : List Moment) (note : Note) where
       all_leave start g later (sent_one 0 packet w) (sent_generations 0 0 0 0 0 0 (Unit {0}) (Unit {0}) (Unit {0}) None new_machine (λ a b c. tt) past packet w ∙ e) f.1
       (sent_on 0 0 0 0 0 0 (Unit {0}) (Unit {0}) (Unit {0}) None new_machine (λ a b c. tt) past (Leaves start) packet w h
       (λ s t there.
-      noted_on start (said (notes.Sent s (topology_at w.generations 0).generation 0 t packet.bytes)) (hist past w)
+      noted_on start s (topology_at w.generations 0).generation t packet.bytes (hist past w)
       (λ of to slot x.
       let p = f.0 (ap (λ (y : GenerationsState). node_of y 0 packet.to) (sym e) ∙ (there ∙ ap (λ n. Some n) to)) slot x in
       record {
@@ -169,6 +173,7 @@ module _ (i : ℕ) (past ms : List Moment) (note : Note) where
         turn = turn_of p.list (ends ms i p.list) p.machine h.sends.grown.new (hist past w) h.sends.grown.is p.turn;
         slot_is = p.slot_is;
         ran = subst (λ now. 0 < runs now i p.list (ends ms i p.list)) h.on.is (ran_on h.on.new start i p.list (ends ms i p.list) p.ran);
+        still = λ status z. p.still status (sym (h.same p.list (ends ms i p.list)) ∙ z);
         seen = subst (λ (y : GenerationsState). (topology_at y 0).generation ≤ (terms ms).generation (suc i)) (sym e) p.seen;
         held = λ same. p.held (ap (λ (y : GenerationsState). (topology_at y 0).generation) (sym e) ∙ same);
       })

@@ -6,7 +6,7 @@ use Rattle.command_agent.specs.Machine.{Machine, cut_to}
 use Rattle.bus_memory.specs.declared.window.Window.TheVariants as windows
 use Rattle.bus_memory.specs.Windows.{window_at}
 use Rattle.orb_layout.specs.Replies.{Done}
-use Rattle.page_table.specs.Buffer.{chunk, chunk_from}
+use Rattle.page_table.specs.Buffer.{chunk, chunk_from, bytes_of}
 use Rattle.rbc_disk.specs.Disk.{Disk}
 use Rattle.rbc_disk.specs.Runs.{Told}
 use Rattle.sbp_journal.specs.Addresses.{Access}
@@ -19,7 +19,7 @@ use Rattle.sbp_laws.specs.CarriedBytes.{laid_out}
 use Rattle.sbp_laws.specs.Lists.{command_at, linked, orb, prepared_in, slot_at}
 use Rattle.sbp_laws.specs.Packets.{access_at, access_in_bytes, answer_in, answered_at, is_under_way, packet_at, receiver_in, sender_in}
 use Rattle.sbp_laws.specs.Targets.{agent_at, over, target_at}
-use Rattle.sbp_laws.specs.Terms.{ends, runs}
+use Rattle.sbp_laws.specs.Terms.{ends, runs, ended_status}
 use Rattle.sbp_laws.specs.Turns.{EachMoment}
 use Rattle.sbp_world.specs.Histories.{history_of}
 use Rattle.sbp_world.specs.Runs.{Run, after, beginning}
@@ -31,6 +31,8 @@ use Rattle.sbp_world.specs.Hosts.Runs.{IsRun}
 use Rattle.sbp_world.specs.Lists.Closes.{Under, WhereTame}
 use Rattle.sbp_world.specs.Lists.Needs.{IsCalm, OpenAfter, OpenBefore, OpenBehind, OpenBetween, initiator_in, machine_at}
 use Rattle.sbp_world.specs.Lists.SlotsStay.{HasSlot}
+use Rattle.orb_layout.specs.declared.status.StatusKind.{StatusKind}
+use Rattle.orb_layout.specs.declared.status.StatusKind.TheVariants as kinds
 
 -- ---- a packet as it is sent
 
@@ -52,7 +54,7 @@ pub record IsPieceOf (past : List Moment) (i n number : ℕ) (m : Machine) (offs
   pub piece : chunk offset size ≡ cut_to (length m.answer - m.written) (chunk_from (laid_out (slot_at past i n number) cmd cmd.segments) m.written (2 ^ (cmd.max_payload + 2)))
   pub bytes : m.outgoing ≡ take size (drop m.written m.answer)
 
--- A packet answers with rcode 0 the write of the chunk before it, for which the agent waits: where that ended, the next one begins.
+-- A packet answers with rcode 0 the write of the chunk before it, for which the agent waits: where that ended, the next one begins; and the answer has as many bytes as the buffer.
 pub record IsAnswered (past : List Moment) (i n number : ℕ) (m : Machine) (got : ℕ) : Type 0 where
   pub serial : ℕ
   pub closed : answered_at (terms past) got ≡ Some serial
@@ -69,6 +71,7 @@ pub record IsAnswered (past : List Moment) (i n number : ℕ) (m : Machine) (got
   pub done_before : ℕ
   pub piece : chunk access.offset (length access.payload) ≡ cut_to (length m.answer - done_before) (chunk_from (laid_out (slot_at past i n number) cmd cmd.segments) done_before (2 ^ (cmd.max_payload + 2)))
   pub behind : m.written ≡ done_before + length access.payload
+  pub whole : length m.answer ≡ bytes_of (laid_out (slot_at past i n number) cmd cmd.segments)
   pub stands : window_at access.offset ≡ Some (windows.Buffer (slot_at past i n number))
 
 -- Writes of an answer come in turn: the first one in the turn in which its command runs, and each later one as the write of the chunk before it is answered.
@@ -87,9 +90,10 @@ pub record WasPiece (past : List Moment) (i generation slot : ℕ) (access : Acc
   pub piece : IsPieceOf before i list (ends before i list) machine access.offset size
   pub bytes : access.payload ≡ machine.outgoing
   pub turn : IsInTurn past before i list (ends before i list) machine
-  -- it goes to the slot of this ORB, which ran, and which the slot has where the write is in the initiator's generation
+  -- it goes to the slot of this ORB, which ran, has not ended but as failed, and which the slot has where the write is in the initiator's generation
   pub slot_is : slot_at before i list (ends before i list) ≡ slot
   pub ran : 0 < runs past i list (ends before i list)
+  pub still : (status : StatusKind) → ended_status past i list (ends before i list) ≡ Some status → status ≡ kinds.Failed
   pub seen : generation ≤ (terms before).generation (suc i)
   pub held : generation ≡ (terms before).generation (suc i) → HasSlot before i slot (orb list (ends before i list))
 
