@@ -100,8 +100,8 @@ own_reads_law lists = record {
 pub own_gots_law : OpenListsLaw → OwnGotsLaw
 own_gots_law lists = record {
   after_lines = λ line run r has small size so_far tame.
-      gots_after line run r has small size (lists.after_lines line run r has small size tame) (along_law.after_lines line run r has small size so_far) tame;
+      gots_after line run r has small size (lists.after_lines line run r has small size (inl tame)) (along_law.after_lines line run r has small size so_far) tame;
   between = λ line run r has small size next most told m so_far tame.
-      gots_between line run r has small size next most told m (lists.between line run r has small size next (more_deliveries most) (more_than_one most) told m tame)
+      gots_between line run r has small size next most told m (lists.between line run r has small size next (more_deliveries most) (more_than_one most) told m (inl tame))
       (along_law.between line run r has small size next (more_deliveries most) (more_than_one most) told m so_far) tame;
 }
