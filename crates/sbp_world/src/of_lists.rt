@@ -432,7 +432,7 @@ pub fn lists_are_lawful_beside_others()
 
 /// In every run of a script's length, whatever anyone injected, few logins are given, so that no ID of a login is given twice. For the
 /// target has eight places, and each decision on a management ORB takes a write of MANAGEMENT_AGENT, which an initiator sends in a line
-/// of its own; so fewer logins are given than nine for each eight lines.
+/// of its own; so there are nine lines for each eight logins, but for the first few.
 #[tactic(auto, using(crate::proofs::Lists::GrantRuns::few_logins_law))]
 pub fn few_logins_are_given()
     ensures { FewLoginsLaw }
