@@ -457,8 +457,9 @@ pub fn agents_write_the_next_chunk()
 /// In every run in which no initiator injected packets, where lists were open as they should be before, each write of the target
 /// into a data buffer of an initiator was of the next chunk of the answer of an ORB as it was sent: as the turn began, that ORB
 /// was the first one of its list that had not ended, its slot had it, and the write has the bytes of its agent's answer behind
-/// those that were written; it ran, and has not ended in this turn but as failed. These writes come in turn: the first one in the turn in which the command runs, and each later one
-/// as the target gets the answer, with rcode 0, to the write of the chunk before it, where that ended.
+/// those that were written; it ran, and has not ended in this turn but as failed; and no write of data was sent before it in the
+/// turn. These writes come in turn: the first one in the turn in which the command runs, and each later one as the target gets
+/// the answer, with rcode 0, to the write of the chunk before it, where that ended.
 #[tactic(auto, using(crate::proofs::Lists::Clauses::data_law))]
 pub fn answers_are_sent_in_chunks()
     ensures { DataSentLaw }
