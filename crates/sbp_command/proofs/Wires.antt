@@ -10,7 +10,7 @@ use Rattle.sbp_laws.specs.Lawful.{injectors}
 use Rattle.sbp_laws.specs.OnLists.{LawfulOnLists}
 use Rattle.sbp_laws.specs.OnTheBus.{LawfulOnTheBus}
 use Rattle.sbp_laws.proofs.InTime.{in_time_law}
-use Rattle.sbp_world.proofs.Lists.Clauses.{lists_beside_law}
+use Rattle.sbp_world.proofs.Lists.Clauses.{lists_law}
 use Rattle.sbp_world.proofs.Lists.GrantRuns.{few_logins_law}
 use Rattle.sbp_world.specs.Wire.History.{IsOfWire}
 use Rattle.sbp_world.specs.Wire.Journal.{journal_run}
@@ -68,7 +68,7 @@ run_on_lists line run start same units some most few count all lines =
     let is : IsRun run = record { few = few; short = omega arith; entries = all; lines = lines } in
     let size : length run.start.disks ≡ run.units = ap (λ (h : Held). length h.disks) same ∙ sym units in
     subst (λ s. LawfulOnLists (injectors (history_of line run)) s (history_of line run)) (ap (λ (h : Held). h.disks) same)
-    (lists_beside_law.lists line run is some most size (inr (few_logins_law.few line run is some most size (omega arith))))
+    (lists_law.lists line run is some most size (inr (few_logins_law.few line run is some most size (omega arith))))
 
 -- ---- a run of the machine
 

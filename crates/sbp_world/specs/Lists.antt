@@ -20,7 +20,7 @@ pub mod KeptOrbs
 pub mod LastReads
 pub mod Lasts
 pub mod Lists
-pub mod ListsBeside
+pub mod LawfulLists
 pub mod Live
 pub mod LoginAnswers
 pub mod OrbReads
@@ -55,7 +55,6 @@ pub mod SlotsStay
 pub mod StatusRuns
 pub mod Statuses
 pub mod Stored
-pub mod TameLists
 pub mod Tellings
 pub mod Underway
 pub mod AnswerLengths

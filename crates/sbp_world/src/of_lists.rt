@@ -43,9 +43,8 @@ ghost use Rattle.sbp_world.specs.Lists.Live.{LiveLaw};
 ghost use Rattle.sbp_world.specs.Lists.Managing.{ManagingLaw};
 ghost use Rattle.sbp_world.specs.Lists.OneUp.{OneUpLaw};
 ghost use Rattle.sbp_world.specs.Lists.Opened.{LogoutsLaw};
-ghost use Rattle.sbp_world.specs.Lists.ListsBeside.{ListsBesideLaw};
+ghost use Rattle.sbp_world.specs.Lists.LawfulLists.{ListsLaw};
 ghost use Rattle.sbp_world.specs.Lists.SendsLast.{SendsLastLaw};
-ghost use Rattle.sbp_world.specs.Lists.TameLists.{ListsLaw};
 ghost use Rattle.sbp_world.specs.Lists.CarriedOrbs.{CarriedOrbsLaw};
 
 /// The lists of an initiator, as the run terms have them, are laid out as an agent asks for it: an ORB without
@@ -417,17 +416,11 @@ pub fn lists_are_open_as_they_should_be()
     ensures { OpenListsLaw }
 {}
 
-/// In every run in which no initiator injected packets the order law, the execution law and the status law hold, after its lines.
+/// In every run in which no initiator injected packets, or few logins were given (`FewLogins`), fewer than there are login IDs, so that
+/// none was given twice, the order law, the execution law and the status law hold, of the initiators that injected none, after its lines.
 #[tactic(auto, using(crate::proofs::Lists::Clauses::lists_law))]
 pub fn lists_are_lawful()
     ensures { ListsLaw }
-{}
-
-/// And so they hold, of the initiators that injected no packets, in every run in which others did, if few logins were given
-/// (`FewLogins`): fewer than there are login IDs, so that none was given twice. After its lines.
-#[tactic(auto, using(crate::proofs::Lists::Clauses::lists_beside_law))]
-pub fn lists_are_lawful_beside_others()
-    ensures { ListsBesideLaw }
 {}
 
 /// In every run of a script's length, whatever anyone injected, few logins are given, so that no ID of a login is given twice. For the

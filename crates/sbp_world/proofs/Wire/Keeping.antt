@@ -3,7 +3,7 @@ use Rattle.std.specs.Prelude.{◌≡◌, ℕ, Bool, List, [], Result, Ok, Err, I
 use Rattle.std.proofs.Common.{◌∙◌, ap, subst, sym}
 use Rattle.rbc_disk.specs.Disk.{Disk}
 use Rattle.sbp_journal.specs.declared.event.Event.{Event}
-use Rattle.sbp_world.proofs.Lists.Clauses.{lists_beside_law}
+use Rattle.sbp_world.proofs.Lists.Clauses.{lists_law}
 use Rattle.sbp_world.proofs.Standing.{begins, goes_on, settles}
 use Rattle.sbp_world.proofs.Wire.Entries.{bus_law}
 use Rattle.sbp_world.proofs.Wire.Runs.{all_runs}
@@ -18,7 +18,7 @@ laws_of : (run : Run) → AreEntries (beginning run) run.entries → (first : �
 laws_of run are first is = record {
   of_wire = (all_runs.runs first run is.few is.count are is.lines).has_laws;
   on_the_bus = bus_law.lawful first run is.few is.media is.count are is.lines;
-  on_lists = λ some most. lists_beside_law.lists first run (record { few = is.few; short = is.count; entries = are; lines = is.lines }) some most (sym is.media);
+  on_lists = λ some most. lists_law.lists first run (record { few = is.few; short = is.count; entries = are; lines = is.lines }) some most (sym is.media);
 }
 
 lawfully : (run : Run) (s : Scene) → StandsFor run s → StandsLawfully run s
