@@ -58,8 +58,6 @@ pub mod Stored
 pub mod Tellings
 pub mod Underway
 pub mod AnswerLengths
-pub mod AnsweredReads
-pub mod AnsweredEnds
 pub mod DataWrites
 pub mod DueRuns
 pub mod DataEnds

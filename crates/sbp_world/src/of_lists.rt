@@ -29,8 +29,6 @@ ghost use Rattle.sbp_world.specs.Lists.PlaceReads.{PlaceReadsLaw};
 ghost use Rattle.sbp_world.specs.Lists.Contents.{ContentsLaw};
 ghost use Rattle.sbp_world.specs.Lists.ReadOrbs.{ReadOrbsLaw};
 ghost use Rattle.sbp_world.specs.Lists.AnswerLengths.{AnswerLengthsLaw};
-ghost use Rattle.sbp_world.specs.Lists.AnsweredEnds.{AnsweredEndsLaw};
-ghost use Rattle.sbp_world.specs.Lists.AnsweredReads.{AnsweredReadsLaw};
 ghost use Rattle.sbp_world.specs.Lists.EndReads.{EndsReadLaw};
 ghost use Rattle.sbp_world.specs.Lists.DataEnds.{AnswersEndLaw};
 ghost use Rattle.sbp_world.specs.Lists.DataHolds.{DataHeldLaw};
@@ -204,21 +202,6 @@ pub fn reads_are_own_or_elsewhere()
 #[tactic(auto, using(crate::proofs::Lists::Executes::ends_read_law))]
 pub fn orbs_that_end_were_read()
     ensures { EndsReadLaw }
-{}
-
-/// Where besides no initiator injected packets, by the terms of the run: before each run of an ORB the target got a response of 32
-/// bytes, which answers a read that the target sent, of the 32 bytes of the ORB's slot; what the response carries spells no dummy, and
-/// has the command and the direction of the append. After every line of every run, and behind each delivery of a line that may follow.
-#[tactic(auto, using(crate::proofs::Lists::AnsweredReads::answered_reads_law))]
-pub fn orbs_that_run_were_answered()
-    ensures { AnsweredReadsLaw }
-{}
-
-/// And so it is before each end but with the status failed: what the response carries spells an ORB whose format is 3 exactly where
-/// the status is dummy, and which has the command and the direction of the append where it is not.
-#[tactic(auto, using(crate::proofs::Lists::AnsweredEnds::answered_ends_law))]
-pub fn orbs_that_end_were_answered()
-    ensures { AnsweredEndsLaw }
 {}
 
 /// Where lists were open as they should be before in a run (`OpenBefore`, `OpenBetween`), the execution law holds of it: after
