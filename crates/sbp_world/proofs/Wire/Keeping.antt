@@ -6,6 +6,7 @@ use Rattle.sbp_journal.specs.declared.event.Event.{Event}
 use Rattle.sbp_laws.specs.Lawful.{injectors}
 use Rattle.sbp_world.proofs.Lists.Clauses.{lists_law}
 use Rattle.sbp_world.proofs.Lists.Executes.{due_runs_law}
+use Rattle.sbp_world.proofs.Lists.GrantRuns.{few_logins_law}
 use Rattle.sbp_world.proofs.Standing.{begins, goes_on, settles}
 use Rattle.sbp_world.proofs.Wire.Entries.{bus_law}
 use Rattle.sbp_world.proofs.Wire.Runs.{all_runs}
@@ -25,6 +26,7 @@ laws_of run are first is =
       of_wire = (all_runs.runs first run is.few is.count are is.lines).has_laws;
       on_the_bus = bus_law.lawful first run is.few is.media is.count are is.lines;
       due = λ some most. due_runs_law.after_lines first run bounds some most (sym is.media) (injectors (history_of first run));
+      few_logins = λ some most. few_logins_law.few first run bounds some most (sym is.media);
       on_lists = λ some most. lists_law.lists first run bounds some most (sym is.media);
     }
 
