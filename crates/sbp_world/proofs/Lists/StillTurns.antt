@@ -345,7 +345,7 @@ module _ (units ready : ℕ) (has : 0 < units) (start : List Disk) (past : List 
           subst (Reads (Still p)) (sym (machine_same p)) (record { main = main_now; ahead = ahead_now M.ahead refl r.ahead; idle = r.idle })
 
 -- ---- by what the turn is
-none_acts : (e : Option Event) → ((i : ℕ) → IsNoAct i e) → cmd_of e ≡ None
+pub none_acts : (e : Option Event) → ((i : ℕ) → IsNoAct i e) → cmd_of e ≡ None
 none_acts (Some (events.Act i action)) f = untrue (sym (f i) ∙ (let same : nat_eq i i ≡ true = grind (arith, nat_tests) in same))
 none_acts None f = refl
 none_acts (Some (events.Begin initiators is_ready)) f = refl
