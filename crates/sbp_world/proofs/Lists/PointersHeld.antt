@@ -60,10 +60,6 @@ self a = λ e. (refl, e)
 then_holds : (a b c : Agent) → Holds a b → Holds b c → Holds a c
 then_holds a b c f g = λ e. let y = g e in let x = f y.1 in (y.0 ∙ x.0, x.1)
 
--- a machine that is not so stays so
-Stays : (before now : Machine) → Type 0
-Stays before now = is_alive before.phase ≡ false → is_alive now.phase ≡ false
-
 as_holds : (a : Agent) (machine : Machine) → (is_alive a.machine.phase ≡ false → is_alive machine.phase ≡ false) → is_alive machine.phase ≡ true → is_alive a.machine.phase ≡ true
 as_holds a machine f e = by (is_alive a.machine.phase) refl
   where
@@ -113,7 +109,7 @@ unfolding steps.lost_step
 lost_stays m Main cause e = lost_by m.phase m cause e e
 lost_stays m Ahead cause e = if_stays (is_ahead m.ahead) (steps.ahead_lost m cause) (quiet, m) e e
 
-pub abort_stays : (m : Machine) (orb : ℕ) → is_alive (steps.abort_step m orb).phase ≡ is_alive m.phase
+abort_stays : (m : Machine) (orb : ℕ) → is_alive (steps.abort_step m orb).phase ≡ is_alive m.phase
 unfolding steps.abort_step
 abort_stays m orb = refl
 
@@ -132,7 +128,7 @@ closed_machine : (which : Which) (a : Agent) → (closed which a).machine ≡ a.
 closed_machine Main a = refl
 closed_machine Ahead a = refl
 
-pub loses : (a : Agent) → Holds a (main_lost a)
+loses : (a : Agent) → Holds a (main_lost a)
 loses a = by (is_nothing a.asks)
   where
     by : (b : Bool) → Holds a (cond b a (moved (steps.lost_step a.machine Main causes.Label) a))
@@ -158,7 +154,7 @@ sends is_write serial a = by (wants a.asks is_write) (wants a.asks_ahead is_writ
     by false false = self a
 
 -- one that is not alive
-pub rests : (a now : Agent) → is_alive now.machine.phase ≡ false → Holds a now
+rests : (a now : Agent) → is_alive now.machine.phase ≡ false → Holds a now
 rests a now f = λ e. untrue (sym f ∙ e)
 
 -- ---- the agents of all places
@@ -199,10 +195,10 @@ where_goes test place (a ∷ agents) (suc p) = where_goes test (place + 1) agent
 abbrev pub TargetHolds : Target → Target → Type 0
 TargetHolds t x = AllHold t.agents x.agents
 
-pub chain : (t x y : Target) → TargetHolds t x → TargetHolds x y → TargetHolds t y
+chain : (t x y : Target) → TargetHolds t x → TargetHolds x y → TargetHolds t y
 chain t x y f g = then_goes t.agents x.agents y.agents f g
 
-pub takes_on : (told : Option Told) (reply : Option Reply) (t : Target) → TargetHolds t (taken_on told reply t)
+takes_on : (told : Option Told) (reply : Option Reply) (t : Target) → TargetHolds t (taken_on told reply t)
 takes_on told None t = stay t.agents
 takes_on told (Some reply) t =
     let a = agent_at t reply.place in
@@ -223,7 +219,7 @@ goes_on_by note t = chain t (with_untold note t.reply t) (going_on note t) (unsa
 pub ends_turn : (t : Target) → TargetHolds t (over t)
 ends_turn t = then_goes t.agents (taken_on None t.reply t).agents (over t).agents (takes_on None t.reply t) (map_goes agent_over (taken_on None t.reply t).agents ends)
 
-pub affects : (effect : Effect) (t : Target) → TargetHolds t (effect_on effect t)
+affects : (effect : Effect) (t : Target) → TargetHolds t (effect_on effect t)
 affects (effects.Left place) t = set_goes t.agents place (cut_agent (agent_at t place)) (cuts (agent_at t place))
 affects (effects.Abort place orb) t =
     let a = agent_at t place in
@@ -330,4 +326,3 @@ note_goes (notes.Cleared unit) past wire t l = stay t.agents
 note_goes (notes.Key unit) past wire t l = keys (event_of past) unit t
 note_goes (notes.Unsolicited i) past wire t l = stay t.agents
 note_goes note past wire t l = goes_on_by note t
-

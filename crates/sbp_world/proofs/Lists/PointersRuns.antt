@@ -206,7 +206,7 @@ all_naming units ready has start past s later t lines more g h h_now q q_now nam
     turn_naming units ready has start past s later t g h h_now q q_now tame (naming (goes_tame past s later t g tame))
 
 first_naming : (start : List Disk) (run : Run) (ms : List Moment) → NamingSo start ms (beginning run).world
-first_naming start run ms tame place small alive = untrue (sym (first_closed run place) ∙ alive_list (machine_at (beginning run).world place).phase alive)
+first_naming start run _ _ place small alive = untrue (sym (first_closed run place) ∙ alive_list (machine_at (beginning run).world place).phase alive)
 
 pub naming_everywhere : OpenListsLaw → EveryPlace NamingSo
 naming_everywhere lists = record {

@@ -44,13 +44,6 @@ then_rests a b c f g = λ e.
 pub held_taken : (a b : Agent) → Holds a b → Taken a b
 held_taken a b h = λ e. inl (h e)
 
-pub held_then : (a b c : Agent) → Holds a b → Taken b c → Taken a c
-held_then a b c f g = λ e. by (g e)
-  where
-    by : ((c.pointer ≡ b.pointer) × (is_alive b.machine.phase ≡ true)) ⊎ ((c.machine.phase ≡ phases.Fetching) × (c.pointer ≡ Some c.machine.present)) → ((c.pointer ≡ a.pointer) × (is_alive a.machine.phase ≡ true)) ⊎ ((c.machine.phase ≡ phases.Fetching) × (c.pointer ≡ Some c.machine.present))
-    by (inl x) = let y = f x.1 in inl (x.0 ∙ y.0, y.1)
-    by (inr x) = inr x
-
 pub taken_then : (a b c : Agent) → Taken a b → Rests b c → Taken a c
 taken_then a b c f g = λ e. let r = g e in by r (f (ap is_alive (sym r.1.0) ∙ e))
   where
