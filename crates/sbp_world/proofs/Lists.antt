@@ -53,10 +53,12 @@ pub mod FedOwnerRuns
 pub mod FedOwners
 pub mod FedPieces
 pub mod FedPlaces
+pub mod FedGoing
 pub mod FedReads
 pub mod FedRuns
 pub mod FedSince
 pub mod FedSteps
+pub mod FedStill
 pub mod FedWindows
 pub mod FifoLines
 pub mod FifoManages
