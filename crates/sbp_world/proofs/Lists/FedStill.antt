@@ -1,22 +1,21 @@
 -- What an agent has of its ORB, by the response that brought it, and of the reads since it turned to it: what is known of that response goes on with it.
-use Rattle.std.proofs.Common.{◌≡◌, ◌∙◌, refl, sym, ap, subst, ◌<◌, ℕ, Bool, true, false, List, [], ◌∷◌, ◌++◌, append_assoc, Option, Some, None}
+use Rattle.std.proofs.Common.{◌≡◌, ◌∙◌, refl, sym, ap, subst, ℕ, true, false, List, [], ◌∷◌, ◌++◌}
 use Rattle.command_agent.specs.declared.phase.Phase.{Phase}
 use Rattle.command_agent.specs.declared.phase.Phase.TheVariants as phases
 use Rattle.command_agent.specs.declared.phase.ReadAhead.{ReadAhead}
 use Rattle.command_agent.specs.declared.phase.ReadAhead.TheVariants as aheads
 use Rattle.command_agent.specs.Machine.{Machine, aligned, awaits_run}
 use Rattle.orb_layout.specs.declared.command.CommandOrb.{CommandOrb}
-use Rattle.orb_layout.specs.declared.pointer.OrbPointer.{OrbPointer}
 use Rattle.orb_layout.specs.declared.pointer.OrbPointer.TheVariants.{At}
 use Rattle.page_table.specs.declared.segment.Segment.{Segment}
 use Rattle.rbc_disk.specs.Disk.{Disk}
 use Rattle.sbp_journal.specs.Run.{Moment, said}
 use Rattle.sbp_journal.specs.declared.note.Note.TheVariants as notes
 use Rattle.sbp_laws.specs.CarriedBytes.{Moved}
-use Rattle.sbp_world.specs.Agents.Alike.{Alike, has_list, moves_data}
+use Rattle.sbp_world.specs.Agents.Alike.{has_list, moves_data}
 use Rattle.sbp_world.specs.Lists.FedRuns.{main_read, own_reads}
 use Rattle.sbp_world.proofs.Lists.FedGoing.{IsNoGot, same_reads}
-use Rattle.sbp_world.proofs.Lists.FedSteps.{Feeding, Feeds, IsFed, Tabling, none_awaits}
+use Rattle.sbp_world.proofs.Lists.FedSteps.{Feeding, IsFed, Tabling, none_awaits}
 use Rattle.sbp_world.proofs.Lists.ManageTerms.{untrue}
 use Rattle.sbp_world.proofs.Lists.OrbSteps.{ReadAheadOf, has_read, holds_read}
 
