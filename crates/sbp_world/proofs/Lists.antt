@@ -59,6 +59,8 @@ pub mod FedRuns
 pub mod FedSince
 pub mod FedSteps
 pub mod FedStill
+pub mod FedStillPlaces
+pub mod FedStillReads
 pub mod FedStillRuns
 pub mod FedStillTurns
 pub mod FedWindows

@@ -10,6 +10,7 @@ pub mod CutLists
 pub mod EndedLists
 pub mod Execution
 pub mod FewLogins
+pub mod FedNames
 pub mod FedRuns
 pub mod FewRuns
 pub mod FifoWrites

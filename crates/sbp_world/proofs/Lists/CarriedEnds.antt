@@ -80,7 +80,7 @@ module _ (given : Type 0) (so : given) (wild : ℕ → Bool) (calm : (i : ℕ) �
       }
 
   ran_by : (i : ℕ) (list number : Option ℕ) (unit : ℕ) (cdb bytes : List ℕ) (check : _) → RunNamedAt given wild start (said (notes.Ran i list number unit cdb bytes check)) past → RunWasReadAt (said (notes.Ran i list number unit cdb bytes check)) past
-  ran_by i (Some n) (Some k) unit cdb bytes check e = run_read i n k (e so (calm i))
+  ran_by i (Some n) (Some k) unit cdb bytes check e = run_read i n k (e so (calm i)).named
   ran_by i (Some n) None unit cdb bytes check e = tt
   ran_by i None number unit cdb bytes check e = tt
 

@@ -7,6 +7,8 @@ use Rattle.command_agent.specs.declared.phase.ReadAhead.TheVariants as aheads
 use Rattle.command_agent.specs.Machine.{Machine, aligned, awaits_run}
 use Rattle.orb_layout.specs.declared.command.CommandOrb.{CommandOrb}
 use Rattle.orb_layout.specs.declared.pointer.OrbPointer.TheVariants.{At}
+use Rattle.orb_layout.specs.CommandOrbs.{command_orb}
+use Rattle.orb_layout.specs.Replies.{Answer}
 use Rattle.page_table.specs.declared.segment.Segment.{Segment}
 use Rattle.rbc_disk.specs.Disk.{Disk}
 use Rattle.sbp_journal.specs.Run.{Moment, said}
@@ -15,8 +17,9 @@ use Rattle.sbp_laws.specs.CarriedBytes.{Moved}
 use Rattle.sbp_world.specs.Agents.Alike.{has_list, moves_data}
 use Rattle.sbp_world.specs.Lists.FedRuns.{main_read, own_reads}
 use Rattle.sbp_world.proofs.Lists.FedGoing.{IsNoGot, same_reads}
-use Rattle.sbp_world.proofs.Lists.FedSteps.{Feeding, IsFed, Tabling, none_awaits}
+use Rattle.sbp_world.proofs.Lists.FedSteps.{Feeding, Hears, IsFed, Tabling, none_awaits}
 use Rattle.sbp_world.proofs.Lists.ManageTerms.{untrue}
+use Rattle.sbp_world.proofs.Lists.OrbReading.{ahead_more}
 use Rattle.sbp_world.proofs.Lists.OrbSteps.{ReadAheadOf, has_read, holds_read}
 
 -- ---- a response brought an ORB
@@ -124,3 +127,14 @@ module _ (R S : ℕ → CommandOrb → Type 0) (T U : ℕ → CommandOrb → Lis
       let no = unlisted m.phase closed in
       let idle = h.idle no.1 in
       record { main = none_awaits U m no.0; ahead = subst (ReadAheadOf S m.orb.next) (sym idle) tt; idle = λ e. idle }
+
+-- ---- what the answer to a main transaction brings
+module _ (R S : ℕ → CommandOrb → Type 0) (T U : ℕ → CommandOrb → List Moved → Type 0) (turn : (at : ℕ) (orb : CommandOrb) → R at orb → T at orb []) (turn_now : (at : ℕ) (orb : CommandOrb) → S at orb → U at orb []) (m : Machine) (answer : Answer) (read : (at : ℕ) (orb : CommandOrb) → R at orb → S at orb) (turned : (at : ℕ) (orb : CommandOrb) (reads : List Moved) → T at orb reads → U at orb reads) where
+  pub hears_so : Hears R T turn m answer → Hears S U turn_now m answer
+  hears_so h = record {
+    fetched = λ e. let f = h.fetched e in (f.0, λ bytes p. read m.present (command_orb bytes) (f.1 bytes p));
+    tabled = λ e. let f = h.tabled e in (f.0, (f.1.0, λ bytes p. turned m.present m.orb _ (f.1.1 bytes p)));
+    filled = λ wanted e bytes p. let d = h.filled wanted e bytes p in record { tables = d.tables; pieces = d.pieces; turned = turned m.present m.orb (d.tables ++ d.pieces) d.turned; table = d.table; bytes = d.bytes; turn = d.turn };
+    ahead = ahead_more R S read m.orb.next m.ahead h.ahead;
+    idle = h.idle;
+  }

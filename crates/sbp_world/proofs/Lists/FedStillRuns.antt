@@ -9,7 +9,8 @@ use Rattle.sbp_world.specs.Worlds.{WorldState}
 use Rattle.sbp_world.specs.Lists.Closes.{OpenListsLaw}
 use Rattle.sbp_world.specs.Lists.OwnLogins.{IsTame}
 use Rattle.sbp_world.proofs.Lists.Courses.{EveryPlace, Keeps, at_between, at_lines}
-use Rattle.sbp_world.proofs.Lists.FedStillTurns.{AreFedStill, turn_fed}
+use Rattle.sbp_world.proofs.Lists.FedStillReads.{AreFedStill}
+use Rattle.sbp_world.proofs.Lists.FedStillTurns.{turn_fed}
 use Rattle.sbp_world.proofs.Lists.LiveRuns.{goes_tame}
 use Rattle.sbp_world.proofs.Lists.ManageTerms.{untrue}
 use Rattle.sbp_world.proofs.Lists.StillRuns.{StillSo, first_closed, ground_everywhere, still_everywhere}

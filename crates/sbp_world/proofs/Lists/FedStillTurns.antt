@@ -1,7 +1,6 @@
 -- A turn of a world in which no initiator injected packets leaves each agent with the buffer and the data that its reads brought since it turned to its ORB, behind the response that brought
 -- the ORB, which is the one prepared last in its slot still.
-use Rattle.std.proofs.Common.{arith, ◌≡◌, ◌∙◌, refl, sym, ap, subst, ◌<◌, ◌≤◌, ℕ, suc, nat_lt, Bool, true, false, List, [], ◌∷◌, ◌++◌, length, Option, Some, None}
-use Rattle.std.proofs.lemmas.Bool.Decides.{nat_tests}
+use Rattle.std.proofs.Common.{◌≡◌, ◌∙◌, refl, sym, ap, subst, ◌<◌, ℕ, Bool, true, false, List, [], ◌∷◌, ◌++◌, length, Option, Some, None}
 use Rattle.agent_laws.specs.Along.Steps.{number_behind}
 use Rattle.command_agent.specs.declared.phase.ReadAhead.TheVariants as aheads
 use Rattle.command_agent.specs.Machine.{Machine, aligned}
@@ -10,7 +9,6 @@ use Rattle.orb_layout.specs.declared.pointer.OrbPointer.TheVariants.{At}
 use Rattle.rbc_disk.specs.Disk.{Disk}
 use Rattle.rbc_disk.specs.Runs.{Told}
 use Rattle.sbp_journal.specs.Run.{Moment, asked, said}
-use Rattle.sbp_journal.specs.Transactions.{Sending}
 use Rattle.sbp_journal.specs.Wire.{terms}
 use Rattle.sbp_journal.specs.declared.event.Action.{Action}
 use Rattle.sbp_journal.specs.declared.event.Event.{Event}
@@ -18,8 +16,7 @@ use Rattle.sbp_journal.specs.declared.event.Event.TheVariants as events
 use Rattle.sbp_journal.specs.declared.note.Note.TheVariants as notes
 use Rattle.sbp_laws.specs.CarriedBytes.{Moved}
 use Rattle.sbp_laws.specs.Lawful.{injectors}
-use Rattle.sbp_laws.specs.Lists.{cmd_of, orb as named_orb, prepared_in}
-use Rattle.sbp_laws.specs.Packets.{receiver_in}
+use Rattle.sbp_laws.specs.Lists.{cmd_of, prepared_in}
 use Rattle.sbp_laws.specs.Targets.{Target, agent_at, over, target_at}
 use Rattle.sbp_laws.specs.Terms.{ends}
 use Rattle.sbp_laws.specs.Turns.{EachMoment, event_of}
@@ -27,73 +24,37 @@ use Rattle.sbp_world.specs.Lines.{MayHappen, acted, happens}
 use Rattle.sbp_world.specs.Settling.{MayNext, delivered_next, settled_from}
 use Rattle.sbp_world.specs.Wire.Lines.{IsLine}
 use Rattle.sbp_world.specs.Worlds.{Scene, WorldState, begun, initiator_at, without_notes}
-use Rattle.sbp_world.specs.Agents.Alike.{has_list, moves_data}
-use Rattle.sbp_world.specs.Agents.AskedRuns.{serial_of}
 use Rattle.sbp_world.proofs.Agents.Management.Holding.{Holding}
 use Rattle.sbp_world.proofs.Agents.Management.Still.{hist}
 use Rattle.sbp_world.proofs.Hosts.Carries.{IsNoAct}
 use Rattle.sbp_world.proofs.Hosts.StepLaws.{step_law}
 use Rattle.sbp_world.specs.Lists.Needs.{initiator_in, is_open_at, machine_at}
-use Rattle.sbp_world.specs.Lists.OrbNames.{AreLed, IsJustBrought, IsStillBrought, LedAsGot}
-use Rattle.sbp_world.specs.Lists.OrbReads.{IsBrought}
+use Rattle.sbp_world.specs.Lists.OrbNames.{AreLed, LedAsGot}
 use Rattle.sbp_world.specs.Lists.OwnLogins.{IsTame}
 use Rattle.sbp_world.proofs.Lists.Adds.{Stays}
 use Rattle.sbp_world.proofs.Lists.Courses.{Goes, by_delivery, by_end, by_line, by_start}
-use Rattle.sbp_world.proofs.Lists.FedFolds as folds
-use Rattle.sbp_world.proofs.Lists.FedFolds.{over_still}
 use Rattle.sbp_world.proofs.Lists.FedGoing as going
 use Rattle.sbp_world.proofs.Lists.FedGoing.{IsNoGot}
 use Rattle.sbp_bus.specs.Packets.{end_note}
 use Rattle.sbp_world.specs.Hosts.Runs.{more_deliveries}
 use Rattle.sbp_world.proofs.Lists.Judging.{goes_next, grown as grown_by}
 use Rattle.sbp_world.proofs.Lists.LiveRuns.{goes_size, goes_tame}
-use Rattle.sbp_world.proofs.Lists.FedReads as reads
-use Rattle.sbp_world.proofs.Lists.FedReads.{IsTurned, feeding}
 use Rattle.sbp_world.proofs.Lists.FedSteps.{IsFed}
-use Rattle.sbp_world.proofs.Lists.FedStill.{ReadBy, TurnedBy, closed_feeds, fed_alike, fed_so, read_on, turned_by_got, turned_on, turns_by}
+use Rattle.sbp_world.proofs.Lists.FedStill.{ReadBy, TurnedBy, fed_alike, fed_so, read_on, turned_by_got, turned_on, turns_by}
 use Rattle.sbp_world.proofs.Lists.LedRuns.{got_just}
 use Rattle.sbp_world.proofs.Lists.Lines.{acts}
 use Rattle.sbp_world.proofs.Lists.ManageSends.{opened_terms}
-use Rattle.sbp_world.proofs.Lists.OrbNotes.{GotBrings}
 use Rattle.sbp_world.proofs.Lists.OrbSteps.{holds_read}
 use Rattle.sbp_world.proofs.Lists.OrbWaits.{over_twice}
 use Rattle.sbp_world.proofs.Lists.PlaceOwners.{Owns, turn_owns}
-use Rattle.sbp_world.proofs.Lists.Sites.{Site, waiting}
-use Rattle.sbp_world.proofs.Lists.StillReads.{AreStill, IsHad, ahead_name, main_name, named_over, o, still_had}
+use Rattle.sbp_world.proofs.Lists.Sites.{Site}
+use Rattle.sbp_world.proofs.Lists.StillReads.{AreStill, IsHad, ahead_name, main_name, named_over, o}
 use Rattle.sbp_world.proofs.Lists.StillTurns as still
 use Rattle.sbp_world.proofs.Lists.StillTurns.{Ground, none_acts, none_prepared, site_at}
 use Rattle.sbp_world.proofs.Lists.TurnReads.{Course, delivery_course, line_course}
 use Rattle.sbp_world.proofs.Lists.Turned.{IsOne}
 use Rattle.sbp_world.proofs.Lists.WasReads.{each_at}
-
--- ---- what is known of the response that brought an ORB
--- it is the one prepared last in its slot still
-pub record KnownStill (start : List Disk) (past : List Moment) (w : WorldState) (place at : ℕ) (orb : CommandOrb) (response : ℕ) (earlier : List Moment) : Type 0 where
-  pub had : IsStillBrought start past w place at orb
-  pub response_is : had.named.brought.response ≡ response
-  pub earlier_is : had.named.brought.earlier ≡ earlier
-
--- over a turn: it is the one prepared last in its slot before it
-pub record KnownHad (start : List Disk) (now before : List Moment) (w : WorldState) (place at : ℕ) (orb : CommandOrb) (response : ℕ) (earlier : List Moment) : Type 0 where
-  pub had : IsHad start now before w place at orb
-  pub response_is : had.named.brought.response ≡ response
-  pub earlier_is : had.named.brought.earlier ≡ earlier
-
--- of each agent that has a list open
-abbrev pub FedStill : List Disk → List Moment → WorldState → ℕ → Machine → Type 0
-FedStill start past w place m = IsFed (ReadBy start (KnownStill start past w) past place) (TurnedBy start (KnownStill start past w) past place) m
-
-abbrev pub AreFedStill : List Disk → List Moment → WorldState → Type 0
-AreFedStill start past w = (place : ℕ) → place < 8 → is_open_at w place ≡ true → FedStill start past w place (machine_at w place)
-
--- what is known of it otherwise
-module _ (start : List Disk) (past : List Moment) (place : ℕ) (J K : ℕ → ℕ → CommandOrb → ℕ → List Moment → Type 0) where
-  pub read_known : (at : ℕ) (orb : CommandOrb) → ((response : ℕ) (earlier : List Moment) → J place at orb response earlier → K place at orb response earlier) → ReadBy start J past place at orb → ReadBy start K past place at orb
-  read_known at orb f r = record { response = r.response; earlier = r.earlier; later = r.later; is = r.is; known = f r.response r.earlier r.known }
-
-  pub turned_known : (at : ℕ) (orb : CommandOrb) (reads : List Moved) → ((response : ℕ) (earlier : List Moment) → J place at orb response earlier → K place at orb response earlier) → TurnedBy start J past place at orb reads → TurnedBy start K past place at orb reads
-  turned_known at orb reads f t =
-      record { response = t.response; earlier = t.earlier; later = t.later; between = t.between; is = t.is; reads_are = t.reads_are; known = f t.response t.earlier t.known }
+use Rattle.sbp_world.proofs.Lists.FedStillReads.{AreFedStill, FedStill, KnownHad, KnownStill, fed_before, got_read, read_known, turned_known}
 
 -- ---- a turn
 module _ (units ready : ℕ) (has : 0 < units) (start : List Disk) (past : List Moment) (s : Scene) (later : List Moment) (t : Scene) {lines more : ℕ} (h : Holding units ready start past lines s.world) (h_now : Holding units ready start later more t.world) (q : Ground start (hist past s.world) s.world) (q_now : Ground start (hist later t.world) t.world) (tame : IsTame (hist past s.world)) (tame_now : IsTame (hist later t.world)) (owns : Owns s.world t.world) (count : length t.world.initiators ≡ length s.world.initiators) (have : AreStill start (hist past s.world) s.world) (fed : AreFedStill start (hist past s.world) s.world) (back : List Moment) (behind : back ++ hist past s.world ≡ hist later t.world) where
@@ -136,77 +97,6 @@ module _ (units ready : ℕ) (has : 0 < units) (start : List Disk) (past : List 
   abbrev Fed : List Moment → ℕ → Machine → Type 0
   Fed ms p m = IsFed (R ms p) (U ms p) m
 
-  -- ---- before it
-  had_before : (p : ℕ) (at : ℕ) (orb : CommandOrb) (response : ℕ) (earlier : List Moment) → KnownStill start before w p at orb response earlier → K p at orb response earlier
-  had_before p at orb response earlier x small = record { had = still_had start before now back behind w p at orb x.had; response_is = x.response_is; earlier_is = x.earlier_is }
-
-  all_before : folds.AreStill (λ p m. IsFed (IsBrought start before p) (IsTurned start before p) m) T
-  all_before = over_still (λ p m. IsFed (IsBrought start before p) (IsTurned start before p) m) (reads.kept start before) (target_at start before) (feeding start before q.asked_so)
-
-  by_list : (p : ℕ) (b : p < 8) (x : Bool) → has_list (machine_at w p).phase ≡ x → Fed before p (agent_at T p).machine
-  by_list p b true e =
-      let a = (agent_at T p).machine in
-      let m = machine_at w p in
-      let alike = (site.agents.are.each p b).machine in
-      let here = fed_so (ReadBy start (KnownStill start before w) before p) (R before p) (TurnedBy start (KnownStill start before w) before p) (U before p) m
-          (λ holds reads. turned_known start before p (KnownStill start before w) K m.present m.orb reads (had_before p m.present m.orb))
-          (λ orb kept offset next. read_known start before p (KnownStill start before w) K (aligned offset) orb (had_before p (aligned offset) orb)) (fed p b e) in
-      fed_alike (R before p) (U before p) m a (sym alike.phase) (sym (alike.present e)) (sym (alike.orb e)) (sym (alike.payload e)) (λ f. sym (alike.segments (ap moves_data (sym alike.phase) ∙ f))) (sym (alike.ahead e)) here
-  by_list p b false e =
-      closed_feeds (IsBrought start before p) (R before p) (IsTurned start before p) (U before p) (agent_at T p).machine (ap has_list (site.agents.are.each p b).machine.phase ∙ e) (all_before.agents p)
-
-  far_read : (p : ℕ) → 8 ≤ p → (at : ℕ) (orb : CommandOrb) → IsBrought start before p at orb → R before p at orb
-  far_read p far at orb b = record { response = b.response; earlier = b.earlier; later = b.later; is = b.is; known = λ small. absurd (omega (arith, far, small)) }
-
-  far_turned : (p : ℕ) → 8 ≤ p → (at : ℕ) (orb : CommandOrb) (reads : List Moved) → IsTurned start before p at orb reads → U before p at orb reads
-  far_turned p far at orb reads t =
-      record { response = t.brought.response; earlier = t.brought.earlier; later = t.later; between = t.between; is = t.is; reads_are = t.reads_are; known = λ small. absurd (omega (arith, far, small)) }
-
-  by_place : (p : ℕ) (x : Bool) → nat_lt p 8 ≡ x → Fed before p (agent_at T p).machine
-  by_place p true e = by_list p (grind (arith, nat_tests)) (has_list (machine_at w p).phase) refl
-  by_place p false e =
-      let far : 8 ≤ p = grind (arith, nat_tests) in
-      let m = (agent_at T p).machine in
-      fed_so (IsBrought start before p) (R before p) (IsTurned start before p) (U before p) m
-      (λ holds reads. far_turned p far m.present m.orb reads) (λ orb kept offset next. far_read p far (aligned offset) orb) (all_before.agents p)
-
-  fed_before : folds.AreStill (Fed before) T
-  fed_before = record { agents = λ p. by_place p (nat_lt p 8) refl; none = all_before.none }
-
-  -- ---- what a packet brings
-  module _ (ms : List Moment) (same : over (target_at start ms) ≡ T) (sent : (terms ms).sent ≡ (terms before).sent) (there : (i slot : ℕ) → prepared_in ms i slot ≡ prepared_in before i slot) (serial : ℕ) (front : List Moment) (is : front ++ said (notes.Got serial) ∷ ms ≡ now) where
-    same_node : (i j : ℕ) → Some (suc i) ≡ Some (suc j) → i ≡ j
-    same_node i j e = cc
-
-    just_known : (p : ℕ) → p < 8 → (at : ℕ) (orb : CommandOrb) (x : IsJustBrought start ms serial p at orb) → KnownHad start now before w p at orb x.named.brought.response x.named.brought.earlier
-    just_known p b at orb x =
-        let y = x.named in
-        let e = x.now in
-        let waits : serial_of y.brought.which (agent_at T p) ≡ Some y.brought.request =
-        subst (λ (z : Target). serial_of y.brought.which (agent_at z p) ≡ Some y.brought.request) same (subst (λ ps. serial_of y.brought.which (agent_at (over (target_at start ps)) p) ≡ Some y.brought.request) e y.brought.waited) in
-        let asked = waiting units ready has start w h site p b y.brought.which y.brought.request waits in
-        let to : receiver_in ((terms before).sent y.brought.request) ≡ Some (suc y.i) =
-        subst (λ (f : ℕ → Option Sending). receiver_in (f y.brought.request) ≡ Some (suc y.i)) sent (subst (λ ps. receiver_in ((terms ps).sent y.brought.request) ≡ Some (suc y.i)) e y.to) in
-        record {
-          had = record {
-            named = named_over start (said (notes.Got serial) ∷ ms) now front is p at orb y;
-            initiator = same_node y.i (initiator_in w p) (sym to ∙ asked.to);
-            there = sym (there y.i y.led.slot) ∙ subst (λ ps. prepared_in ps y.i y.led.slot ≡ Some (named_orb y.led.n y.led.k)) e y.led.there;
-          };
-          response_is = refl;
-          earlier_is = refl;
-        }
-
-    just_read : (p : ℕ) (at : ℕ) (orb : CommandOrb) → IsJustBrought start ms serial p at orb → R (said (notes.Got serial) ∷ ms) p at orb
-    just_read p at orb x =
-        let y = x.named.brought in
-        record { response = y.response; earlier = y.earlier; later = y.later; is = y.is; known = λ b. just_known p b at orb x }
-
-    got_read : GotBrings (IsJustBrought start ms serial) (terms ms) serial (over (target_at start ms)) → GotBrings (R (said (notes.Got serial) ∷ ms)) (terms ms) serial (over (target_at start ms))
-    got_read just own closed place which purpose =
-        let b = just own closed place which purpose in
-        record { main = λ x p bytes e. just_read place _ _ (b.main x p bytes e); ahead = λ x a offset n bytes e. just_read place _ _ (b.ahead x a offset n bytes e) }
-
   led_then : (serial : ℕ) (front ms : List Moment) → front ++ said (notes.Got serial) ∷ ms ≡ now → AreLed start ms
   led_then serial front ms is = each_at (LedAsGot start) front (said (notes.Got serial)) ms (subst (EachMoment (LedAsGot start)) (sym is) (q_now.led_so tame_now))
 
@@ -214,16 +104,16 @@ module _ (units ready : ℕ) (has : 0 < units) (start : List Disk) (past : List 
   Gets ms = going.Gets start R U (turns_by start K) (read_on start K) (turned_on start K) (turned_by_got start K) now ms
 
   gets : Gets before
-  gets serial front is a e = got_read before refl refl (λ i slot. refl) serial front is (got_just start before serial a (led_then serial front before is) e)
+  gets serial front is a e = got_read units ready has start w h site q.asked_so fed now back behind before refl refl (λ i slot. refl) serial front is (got_just start before serial a (led_then serial front before is) e)
 
   gets_line : (line : ℕ) (event : Event) → Gets (asked line event ∷ before)
   gets_line line event serial front is a e =
-      got_read (asked line event ∷ before) (over_twice (target_at start before)) (opened_terms event (terms before)).sent (λ i slot. refl) serial front is (got_just start (asked line event ∷ before) serial a (led_then serial front (asked line event ∷ before) is) e)
+      got_read units ready has start w h site q.asked_so fed now back behind (asked line event ∷ before) (over_twice (target_at start before)) (opened_terms event (terms before)).sent (λ i slot. refl) serial front is (got_just start (asked line event ∷ before) serial a (led_then serial front (asked line event ∷ before) is) e)
 
   -- ---- behind it
   fed_now : Course before now → (p : ℕ) (b : p < 8) → is_open_at v p ≡ true → Fed now p (machine_at v p)
   fed_now course p b e =
-      let all = going.fed_over start R U (turns_by start K) (read_on start K) (turned_on start K) (turned_by_got start K) now before course q_now.asked_so gets gets_line fed_before in
+      let all = going.fed_over start R U (turns_by start K) (read_on start K) (turned_on start K) (turned_by_got start K) now before course q_now.asked_so gets gets_line (fed_before units ready has start w h site q.asked_so fed now back behind) in
       let alike = (site_now.agents.are.each p b).machine in
       fed_alike (R now p) (U now p) (agent_at (over (target_at start now)) p).machine (machine_at v p) alike.phase (alike.present e) (alike.orb e) (alike.payload e) alike.segments (alike.ahead e) (all.agents p)
 
