@@ -302,6 +302,7 @@ pub mod Pointed
 pub mod Pointers
 pub mod Presents
 pub mod Quiet
+pub mod ReadFeeds
 pub mod ReadSlots
 pub mod Registers
 pub mod ReplyAway

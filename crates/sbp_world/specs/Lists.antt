@@ -45,6 +45,7 @@ pub mod PlaceReads
 pub mod Places
 pub mod Placings
 pub mod Presents
+pub mod ReadFeeds
 pub mod ReadOrbs
 pub mod Responding
 pub mod Roms
