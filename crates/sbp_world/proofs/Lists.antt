@@ -53,10 +53,16 @@ pub mod FedOwnerRuns
 pub mod FedOwners
 pub mod FedPieces
 pub mod FedPlaces
+pub mod FedGoing
 pub mod FedReads
 pub mod FedRuns
 pub mod FedSince
 pub mod FedSteps
+pub mod FedStill
+pub mod FedStillPlaces
+pub mod FedStillReads
+pub mod FedStillRuns
+pub mod FedStillTurns
 pub mod FedWindows
 pub mod FifoLines
 pub mod FifoManages
@@ -296,6 +302,7 @@ pub mod Pointed
 pub mod Pointers
 pub mod Presents
 pub mod Quiet
+pub mod ReadFeeds
 pub mod ReadSlots
 pub mod Registers
 pub mod ReplyAway

@@ -27,6 +27,7 @@ ghost use Rattle.sbp_world.specs.Lists.Firsts.{FirstLaw};
 ghost use Rattle.sbp_world.specs.Lists.Underway.{UnderwayLaw};
 ghost use Rattle.sbp_world.specs.Lists.PlaceReads.{PlaceReadsLaw};
 ghost use Rattle.sbp_world.specs.Lists.Contents.{ContentsLaw};
+ghost use Rattle.sbp_world.specs.Lists.ReadFeeds.{ReadAndFedLaw};
 ghost use Rattle.sbp_world.specs.Lists.ReadOrbs.{ReadOrbsLaw};
 ghost use Rattle.sbp_world.specs.Lists.AnswerLengths.{AnswerLengthsLaw};
 ghost use Rattle.sbp_world.specs.Lists.AnsweredEnds.{AnsweredEndsLaw};
@@ -183,6 +184,14 @@ pub fn answers_to_agents_are_their_own()
 #[tactic(auto, using(crate::proofs::Lists::FedJoins::runs_since_law))]
 pub fn commands_have_what_was_read_since()
     ensures { RunsSinceLaw }
+{}
+
+/// In every run in which no initiator injected packets the response that brought the ORB of each run, as the carried law has it, is the
+/// one behind which its agent turned to it: the buffer and the data of the command are those by all that the target got of the initiator
+/// since, where what its agent did not read begins elsewhere than in the ORB's slot.
+#[tactic(auto, using(crate::proofs::Lists::Clauses::feeds_law))]
+pub fn orbs_that_run_were_read_and_fed()
+    ensures { ReadAndFedLaw }
 {}
 
 /// In every run in which no initiator injected packets, where lists were open as they should be before: a response that closed the

@@ -26,7 +26,7 @@ use Rattle.sbp_world.proofs.Lists.Courses.{more_than_one}
 use Rattle.sbp_world.proofs.Lists.EndNames.{EndNamedAt}
 use Rattle.sbp_world.proofs.Lists.Executes.{Tamely, ends_named, runs_named}
 use Rattle.sbp_world.proofs.Lists.ListsProved.{closing}
-use Rattle.sbp_world.proofs.Lists.NamedReads.{named_read}
+use Rattle.sbp_world.proofs.Lists.NamedReads.{named_read, named_read_by}
 use Rattle.sbp_world.proofs.Lists.RunNames.{RunNamedAt}
 use Rattle.sbp_laws.specs.OrderLaw.{OrderLaw}
 use Rattle.sbp_world.proofs.Lists.RunLaws.{order_run_law}
@@ -72,7 +72,7 @@ all_read given so wild calm start (m ∷ past) f sent opens law e =
 
 -- ---- the ORBs that run
 module _ (given : Type 0) (so : given) (wild : ℕ → Bool) (calm : (i : ℕ) → wild i ≡ false) (start : List Disk) (past : List Moment) (f : IsFair past) (sent : EachMoment (SentAsGot start) past) (opens : OpenAsGot start past) (law : OrderLaw wild past) where
-  run_read : (i n k : ℕ) → RunIsNamed start past i n k → RunWasRead start past i n k
+  pub run_read : (i n k : ℕ) → RunIsNamed start past i n k → RunWasRead start past i n k
   run_read i n k e =
       let x = named_read start past e.place i n k e.orb e.named (record { initiator = e.initiator; list = e.list; number = e.number }) e.small f.counts (f.fair (suc i)) (f.fair 0) f.answers sent opens wild law in
       record {
@@ -81,8 +81,13 @@ module _ (given : Type 0) (so : given) (wild : ℕ → Bool) (calm : (i : ℕ) �
         as_appended = subst (λ (orb : CommandOrb). IsSomeAnd (request_at past i n k) (λ request. IsAsAppended orb request)) (sym x.spells) e.as_appended;
       }
 
+  pub run_read_by : (i n k : ℕ) (e : RunIsNamed start past i n k) → (run_read i n k e).read.response ≡ e.named.brought.response
+  unfolding run_read
+  run_read_by i n k e =
+      named_read_by start past e.place i n k e.orb e.named (record { initiator = e.initiator; list = e.list; number = e.number }) e.small f.counts (f.fair (suc i)) (f.fair 0) f.answers sent opens wild law
+
   ran_by : (i : ℕ) (list number : Option ℕ) (unit : ℕ) (cdb bytes : List ℕ) (check : _) → RunNamedAt given wild start (said (notes.Ran i list number unit cdb bytes check)) past → RunWasReadAt start (said (notes.Ran i list number unit cdb bytes check)) past
-  ran_by i (Some n) (Some k) unit cdb bytes check e = run_read i n k (e so (calm i))
+  ran_by i (Some n) (Some k) unit cdb bytes check e = run_read i n k (e so (calm i)).named
   ran_by i (Some n) None unit cdb bytes check e = tt
   ran_by i None number unit cdb bytes check e = tt
 

@@ -17,7 +17,7 @@ use Rattle.sbp_world.specs.Lists.Needs.{IsCalm}
 use Rattle.sbp_world.proofs.Lists.BegunLists.{latest_then, order_from}
 use Rattle.sbp_world.specs.Lists.OrbNames.{IsNamedBrought}
 use Rattle.sbp_world.specs.Lists.OrbReads.{AnswersAt, IsBrought, SentAsGot}
-use Rattle.sbp_world.proofs.Lists.WasReads.{SpellsOrb, each_at, it_answers, was_appended, was_read}
+use Rattle.sbp_world.proofs.Lists.WasReads.{SpellsOrb, each_at, it_answers, was_appended, was_read, was_read_by}
 use Rattle.sbp_world.specs.Agents.AskedRuns.{read_access}
 use Rattle.sbp_journal.specs.Addresses.{Access}
 use Rattle.sbp_world.proofs.Lists.AsGot.{AsGot}
@@ -76,5 +76,12 @@ module _ (start : List Disk) (past : List Moment) (place i n k : ℕ) (orb : Com
   pub named_read : SpellsOrb start past i n k orb
   named_read =
       was_read start past place (address_of past i n k) orb b counts i n k of_it refl
+      (it_answers start past place (address_of past i n k) orb b counts i of_it calm answers fair)
+      appended opened
+
+  pub named_read_by : named_read.read.response ≡ b.response
+  unfolding named_read
+  named_read_by =
+      was_read_by start past place (address_of past i n k) orb b counts i n k of_it refl
       (it_answers start past place (address_of past i n k) orb b counts i of_it calm answers fair)
       appended opened

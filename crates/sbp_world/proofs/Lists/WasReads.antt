@@ -217,3 +217,7 @@ module _ (start : List Disk) (past : List Moment) (place address : ℕ) (orb : C
       };
       spells = orb_is;
     }
+
+    pub was_read_by : was_read.read.response ≡ b.response
+    unfolding was_read
+    was_read_by = refl
