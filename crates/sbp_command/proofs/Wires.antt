@@ -1,17 +1,20 @@
 -- The history of a run of the machine keeps the laws of the wire, and those of the bus, where its events are those of lines.
-use Rattle.std.proofs.Common.{◌≡◌, ◌∙◌, refl, sym, ap, subst, ℕ, ◌+◌, ◌^◌, ◌<◌, ◌≤◌, List, [], ◌∷◌, length, arith}
+use Rattle.std.proofs.Common.{◌≡◌, ◌∙◌, inr, refl, sym, ap, subst, ℕ, ◌+◌, ◌^◌, ◌<◌, ◌≤◌, List, [], ◌∷◌, length, arith}
 use Rattle.std.proofs.lemmas.List.{length-append}
 use Rattle.sbp_journal.specs.declared.event.Event.{Event}
 use Rattle.sbp_world.specs.Histories.{history_of}
 use Rattle.sbp_world.specs.Runs.{AreEntries, Entry, Run, StandsFor, after, beginning}
 use Rattle.sbp_world.specs.Worlds.{WorldState}
 use Rattle.rbc_disk.specs.Held.{Held}
+use Rattle.sbp_laws.specs.CarriedLaw.{RunsWhereDue}
 use Rattle.sbp_laws.specs.Lawful.{injectors}
 use Rattle.sbp_laws.specs.OnLists.{LawfulOnLists}
 use Rattle.sbp_laws.specs.OnTheBus.{LawfulOnTheBus}
+use Rattle.sbp_laws.specs.Turns.{EachTurn}
 use Rattle.sbp_laws.proofs.InTime.{in_time_law}
-use Rattle.sbp_world.proofs.Lists.Clauses.{lists_beside_law}
-use Rattle.sbp_world.specs.Lists.FewLogins.{IsTameOrFew}
+use Rattle.sbp_world.proofs.Lists.Clauses.{lists_law}
+use Rattle.sbp_world.proofs.Lists.Executes.{due_runs_law}
+use Rattle.sbp_world.proofs.Lists.GrantRuns.{few_logins_law}
 use Rattle.sbp_world.specs.Wire.History.{IsOfWire}
 use Rattle.sbp_world.specs.Wire.Journal.{journal_run}
 use Rattle.sbp_world.specs.Wire.Lines.{AreLines}
@@ -63,11 +66,20 @@ run_takes line run few count all lines =
     }
 
 pub run_on_lists : (line : ℕ) (run : Run) (start : Held) → run.start ≡ start → run.units ≡ length start.disks → 0 < run.units → run.units ≤ 4 → run.initiators ≤ 4 → length run.entries ≤ 65535 → AreEntries (beginning run) run.entries → AreLines run run.entries
-    → IsTameOrFew (history_of line run) → LawfulOnLists (injectors (history_of line run)) start.disks (history_of line run)
-run_on_lists line run start same units some most few count all lines tame =
+    → LawfulOnLists (injectors (history_of line run)) start.disks (history_of line run)
+run_on_lists line run start same units some most few count all lines =
     let is : IsRun run = record { few = few; short = omega arith; entries = all; lines = lines } in
+    let size : length run.start.disks ≡ run.units = ap (λ (h : Held). length h.disks) same ∙ sym units in
     subst (λ s. LawfulOnLists (injectors (history_of line run)) s (history_of line run)) (ap (λ (h : Held). h.disks) same)
-    (lists_beside_law.lists line run is some most (ap (λ (h : Held). length h.disks) same ∙ sym units) tame)
+    (lists_law.lists line run is some most size (inr (few_logins_law.few line run is some most size (omega arith))))
+
+pub run_is_due : (line : ℕ) (run : Run) (start : Held) → run.start ≡ start → run.units ≡ length start.disks → 0 < run.units → run.units ≤ 4 → run.initiators ≤ 4 → length run.entries ≤ 65535 → AreEntries (beginning run) run.entries → AreLines run run.entries
+    → EachTurn (RunsWhereDue (injectors (history_of line run)) start.disks) (history_of line run)
+run_is_due line run start same units some most few count all lines =
+    let is : IsRun run = record { few = few; short = omega arith; entries = all; lines = lines } in
+    let size : length run.start.disks ≡ run.units = ap (λ (h : Held). length h.disks) same ∙ sym units in
+    subst (λ s. EachTurn (RunsWhereDue (injectors (history_of line run)) s) (history_of line run)) (ap (λ (h : Held). h.disks) same)
+    (due_runs_law.after_lines line run is some most size (injectors (history_of line run)))
 
 -- ---- a run of the machine
 
@@ -91,6 +103,7 @@ has_run line run start media world happened same units some most few count event
       of_wire = run_of_wire line run few count stands.lines lines;
       on_the_bus = run_on_bus line run start same units few count stands.lines lines;
       statuses = run_takes line run few count stands.lines lines;
+      due = run_is_due line run start same units some most few count stands.lines lines;
       on_lists = lawful;
-      in_time = λ tame. in_time_law (injectors (history_of line run)) start.disks (history_of line run) (lawful tame);
+      in_time = in_time_law (injectors (history_of line run)) start.disks (history_of line run) lawful;
     }

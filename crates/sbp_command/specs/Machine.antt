@@ -6,11 +6,12 @@ use Rattle.sbp_journal.specs.declared.note.Note.{Note}
 use Rattle.media_laws.specs.Media.{LeavesMedia, media_after}
 use Rattle.sbp_world.specs.Histories.{history_of}
 use Rattle.sbp_world.specs.Runs.{AreEntries, Run, after, beginning}
+use Rattle.sbp_laws.specs.CarriedLaw.{RunsWhereDue}
 use Rattle.sbp_laws.specs.Lawful.{injectors}
 use Rattle.sbp_laws.specs.InTime.{ReadsInTime}
 use Rattle.sbp_laws.specs.OnLists.{LawfulOnLists}
 use Rattle.sbp_laws.specs.OnTheBus.{LawfulOnTheBus}
-use Rattle.sbp_world.specs.Lists.FewLogins.{IsTameOrFew}
+use Rattle.sbp_laws.specs.Turns.{EachTurn}
 use Rattle.sbp_world.specs.Wire.History.{IsOfWire}
 use Rattle.sbp_world.specs.Wire.Journal.{journal_run}
 use Rattle.sbp_world.specs.Hosts.Statuses.Finished.{TakesStatuses}
@@ -18,8 +19,8 @@ use Rattle.script_runner.specs.Events.{events_of, journal}
 
 -- A run of the machine, over exactly these events and from what the media held at first: its notes, and what it leaves of the media. That is
 -- what the notes alone say of them: each medium holds what the disk fold gives, and each failing run raised its count. And its history
--- keeps the laws of the wire, and its journal the part of the laws that is of the bus; the statuses that it takes are those that are due; and
--- where no initiator injected packets, or few logins were given, it keeps the laws of lists, which read so in the order of time.
+-- keeps the laws of the wire, and its journal the part of the laws that is of the bus; the statuses that it takes are those that are due, and so
+-- are the commands that run; and it keeps the laws of lists, of the initiators that injected no packets, which read so in the order of time.
 pub record HasRun (start : Held) (happened : List (ℕ × Event)) (notes : List Note) (now : Held) : Type 0 where
   pub line : ℕ
   pub run : Run
@@ -34,8 +35,9 @@ pub record HasRun (start : Held) (happened : List (ℕ × Event)) (notes : List 
   pub of_wire : IsOfWire (history_of line run)
   pub on_the_bus : LawfulOnTheBus (injectors (history_of line run)) (journal_run line run)
   pub statuses : TakesStatuses (history_of line run)
-  pub on_lists : IsTameOrFew (history_of line run) → LawfulOnLists (injectors (history_of line run)) start.disks (history_of line run)
-  pub in_time : IsTameOrFew (history_of line run) → ReadsInTime (injectors (history_of line run)) (history_of line run)
+  pub due : EachTurn (RunsWhereDue (injectors (history_of line run)) start.disks) (history_of line run)
+  pub on_lists : LawfulOnLists (injectors (history_of line run)) start.disks (history_of line run)
+  pub in_time : ReadsInTime (injectors (history_of line run)) (history_of line run)
 
 -- No run begins: there is no event and no note, and the media are as they were.
 pub record HasNone (start : Held) (happened : List (ℕ × Event)) (notes : List Note) (now : Held) : Type 0 where

@@ -418,8 +418,7 @@ pub mod AnswerChecks
 pub mod SentGots
 pub mod WasReads
 pub mod AnswerGots
-pub mod AnsweredReads
-pub mod AnsweredEnds
+pub mod Fair
 pub mod DataPieces
 pub mod DataRuns
 pub mod DataFollows

@@ -21,7 +21,7 @@ pub mod KeptOrbs
 pub mod LastReads
 pub mod Lasts
 pub mod Lists
-pub mod ListsBeside
+pub mod LawfulLists
 pub mod Live
 pub mod LoginAnswers
 pub mod OrbReads
@@ -57,12 +57,9 @@ pub mod SlotsStay
 pub mod StatusRuns
 pub mod Statuses
 pub mod Stored
-pub mod TameLists
 pub mod Tellings
 pub mod Underway
 pub mod AnswerLengths
-pub mod AnsweredReads
-pub mod AnsweredEnds
 pub mod DataWrites
 pub mod DueRuns
 pub mod DataEnds

@@ -30,8 +30,6 @@ ghost use Rattle.sbp_world.specs.Lists.Contents.{ContentsLaw};
 ghost use Rattle.sbp_world.specs.Lists.ReadFeeds.{ReadAndFedLaw};
 ghost use Rattle.sbp_world.specs.Lists.ReadOrbs.{ReadOrbsLaw};
 ghost use Rattle.sbp_world.specs.Lists.AnswerLengths.{AnswerLengthsLaw};
-ghost use Rattle.sbp_world.specs.Lists.AnsweredEnds.{AnsweredEndsLaw};
-ghost use Rattle.sbp_world.specs.Lists.AnsweredReads.{AnsweredReadsLaw};
 ghost use Rattle.sbp_world.specs.Lists.EndReads.{EndsReadLaw};
 ghost use Rattle.sbp_world.specs.Lists.DataEnds.{AnswersEndLaw};
 ghost use Rattle.sbp_world.specs.Lists.DataHolds.{DataHeldLaw};
@@ -44,9 +42,8 @@ ghost use Rattle.sbp_world.specs.Lists.Live.{LiveLaw};
 ghost use Rattle.sbp_world.specs.Lists.Managing.{ManagingLaw};
 ghost use Rattle.sbp_world.specs.Lists.OneUp.{OneUpLaw};
 ghost use Rattle.sbp_world.specs.Lists.Opened.{LogoutsLaw};
-ghost use Rattle.sbp_world.specs.Lists.ListsBeside.{ListsBesideLaw};
+ghost use Rattle.sbp_world.specs.Lists.LawfulLists.{ListsLaw};
 ghost use Rattle.sbp_world.specs.Lists.SendsLast.{SendsLastLaw};
-ghost use Rattle.sbp_world.specs.Lists.TameLists.{ListsLaw};
 ghost use Rattle.sbp_world.specs.Lists.CarriedOrbs.{CarriedOrbsLaw};
 
 /// The lists of an initiator, as the run terms have them, are laid out as an agent asks for it: an ORB without
@@ -214,21 +211,6 @@ pub fn reads_are_own_or_elsewhere()
 #[tactic(auto, using(crate::proofs::Lists::Executes::ends_read_law))]
 pub fn orbs_that_end_were_read()
     ensures { EndsReadLaw }
-{}
-
-/// Where besides no initiator injected packets, by the terms of the run: before each run of an ORB the target got a response of 32
-/// bytes, which answers a read that the target sent, of the 32 bytes of the ORB's slot; what the response carries spells no dummy, and
-/// has the command and the direction of the append. After every line of every run, and behind each delivery of a line that may follow.
-#[tactic(auto, using(crate::proofs::Lists::AnsweredReads::answered_reads_law))]
-pub fn orbs_that_run_were_answered()
-    ensures { AnsweredReadsLaw }
-{}
-
-/// And so it is before each end but with the status failed: what the response carries spells an ORB whose format is 3 exactly where
-/// the status is dummy, and which has the command and the direction of the append where it is not.
-#[tactic(auto, using(crate::proofs::Lists::AnsweredEnds::answered_ends_law))]
-pub fn orbs_that_end_were_answered()
-    ensures { AnsweredEndsLaw }
 {}
 
 /// Where lists were open as they should be before in a run (`OpenBefore`, `OpenBetween`), the execution law holds of it: after
@@ -426,22 +408,16 @@ pub fn lists_are_open_as_they_should_be()
     ensures { OpenListsLaw }
 {}
 
-/// In every run in which no initiator injected packets the order law, the execution law and the status law hold, after its lines.
+/// In every run in which no initiator injected packets, or few logins were given (`FewLogins`), fewer than there are login IDs, so that
+/// none was given twice, the order law, the execution law and the status law hold, of the initiators that injected none, after its lines.
 #[tactic(auto, using(crate::proofs::Lists::Clauses::lists_law))]
 pub fn lists_are_lawful()
     ensures { ListsLaw }
 {}
 
-/// And so they hold, of the initiators that injected no packets, in every run in which others did, if few logins were given
-/// (`FewLogins`): fewer than there are login IDs, so that none was given twice. After its lines.
-#[tactic(auto, using(crate::proofs::Lists::Clauses::lists_beside_law))]
-pub fn lists_are_lawful_beside_others()
-    ensures { ListsBesideLaw }
-{}
-
 /// In every run of a script's length, whatever anyone injected, few logins are given, so that no ID of a login is given twice. For the
 /// target has eight places, and each decision on a management ORB takes a write of MANAGEMENT_AGENT, which an initiator sends in a line
-/// of its own; so fewer logins are given than nine for each eight lines.
+/// of its own; so there are nine lines for each eight logins, but for the first few.
 #[tactic(auto, using(crate::proofs::Lists::GrantRuns::few_logins_law))]
 pub fn few_logins_are_given()
     ensures { FewLoginsLaw }
@@ -466,8 +442,9 @@ pub fn agents_write_the_next_chunk()
 /// In every run in which no initiator injected packets, where lists were open as they should be before, each write of the target
 /// into a data buffer of an initiator was of the next chunk of the answer of an ORB as it was sent: as the turn began, that ORB
 /// was the first one of its list that had not ended, its slot had it, and the write has the bytes of its agent's answer behind
-/// those that were written; it ran, and has not ended in this turn but as failed. These writes come in turn: the first one in the turn in which the command runs, and each later one
-/// as the target gets the answer, with rcode 0, to the write of the chunk before it, where that ended.
+/// those that were written; it ran, and has not ended in this turn but as failed; and no write of data was sent before it in the
+/// turn. These writes come in turn: the first one in the turn in which the command runs, and each later one as the target gets
+/// the answer, with rcode 0, to the write of the chunk before it, where that ended.
 #[tactic(auto, using(crate::proofs::Lists::Clauses::data_law))]
 pub fn answers_are_sent_in_chunks()
     ensures { DataSentLaw }

@@ -1,5 +1,5 @@
 -- The answer of a good status has as many bytes as the answer to its command: it is the bytes of the buffer, which the command of its line fills; and the ORB ran.
-use Rattle.std.proofs.Common.{◌≡◌, ◌∙◌, refl, sym, ap, subst, ◌<◌, IfSome, IsSomeAnd, ℕ, suc, nat_eq, Bool, true, false, cond, List, [], ◌∷◌, ◌++◌, map, length, append_assoc, Option, Some, None}
+use Rattle.std.proofs.Common.{inl, ◌≡◌, ◌∙◌, refl, sym, ap, subst, ◌<◌, IfSome, IsSomeAnd, ℕ, suc, nat_eq, Bool, true, false, cond, List, [], ◌∷◌, ◌++◌, map, length, append_assoc, Option, Some, None}
 use Rattle.std.specs.Prelude.{take}
 use Rattle.std.proofs.lemmas.Bool.Decides.{nat_tests}
 use Rattle.std.proofs.lemmas.List.{length-map}
@@ -44,7 +44,7 @@ use Rattle.sbp_world.proofs.Hosts.OrbTables.{whole_bytes}
 use Rattle.sbp_world.specs.Hosts.Orbs.{request_of}
 use Rattle.sbp_world.specs.Lists.AnswerLengths.{AnswerLengthsLaw, HasLength, LengthOf}
 use Rattle.sbp_laws.specs.OnLists.{LawfulOnLists}
-use Rattle.sbp_world.specs.Lists.TameLists.{ListsLaw}
+use Rattle.sbp_world.specs.Lists.LawfulLists.{ListsLaw}
 use Rattle.sbp_world.proofs.Lists.AnswerChecks.{check_length, ended_none, told_none}
 use Rattle.sbp_world.proofs.Lists.LinedAppends.{AllLined, LinedAt, lined_appends}
 use Rattle.sbp_world.proofs.Lists.PlacedOps.{each_from}
@@ -403,5 +403,5 @@ module _ (line : ℕ) (run : Run) (r : IsRun run) (lawful : LawfulOnLists (injec
 
 pub answer_lengths_law : ListsLaw → AnswerLengthsLaw
 answer_lengths_law law = record {
-  lengths = λ line run r has small size tame i b. all_lengths line run r (law.lists line run r has small size tame) tame i b;
+  lengths = λ line run r has small size tame i b. all_lengths line run r (law.lists line run r has small size (inl tame)) tame i b;
 }

@@ -6,10 +6,9 @@ use Rattle.sbp_world.specs.Lists.DataWrites.{DataSentLaw}
 use Rattle.sbp_world.specs.Lists.Live.{LiveLaw}
 use Rattle.sbp_world.specs.Lists.OneUp.{OneUpLaw}
 use Rattle.sbp_world.specs.Lists.Opened.{LogoutsLaw}
-use Rattle.sbp_world.specs.Lists.ListsBeside.{ListsBesideLaw}
+use Rattle.sbp_world.specs.Lists.LawfulLists.{ListsLaw}
 use Rattle.sbp_world.specs.Lists.OwnReads.{OwnGotsLaw, OwnReadsLaw}
 use Rattle.sbp_world.specs.Lists.ReadFeeds.{ReadAndFedLaw}
-use Rattle.sbp_world.specs.Lists.TameLists.{ListsLaw}
 use Rattle.sbp_world.proofs.Lists.AnswerLengths.{answer_lengths_law}
 use Rattle.sbp_world.proofs.Lists.CarriedEnds.{were_read_law}
 use Rattle.sbp_world.proofs.Lists.DataLaws.{data_sent_law, data_held_law}
@@ -28,9 +27,6 @@ logouts_law = proved.logouts_law short_law
 
 pub open_lists_law : OpenListsLaw
 open_lists_law = proved.open_lists_law short_law
-
-pub lists_beside_law : ListsBesideLaw
-lists_beside_law = proved.lists_beside_law short_law
 
 pub lists_law : ListsLaw
 lists_law = proved.lists_law short_law

@@ -50,11 +50,6 @@ set_counts [] k x l = absurd (omega (arith, l))
 set_counts (y ∷ places) zero x l = omega arith
 set_counts (y ∷ places) (suc k) x l = let rest = set_counts places k x (omega (arith, l)) in omega (arith, rest)
 
-set_past : (places : List (Option Login)) (k : ℕ) (x : Option Login) → length places ≤ k → live_in (slice_set places k x) ≡ live_in places
-set_past [] k x l = refl
-set_past (y ∷ places) zero x l = absurd (omega (arith, l))
-set_past (y ∷ places) (suc k) x l = let rest = set_past places k x (omega (arith, l)) in omega (arith, rest)
-
 set_most : (places : List (Option Login)) (k : ℕ) (x : Option Login) → live_in places ≤ live_in (slice_set places k x) + 1
 set_most [] k x = omega arith
 set_most (y ∷ places) zero x = let one = one_at_most y in omega (arith, one)

@@ -4,8 +4,8 @@ use Rattle.std.proofs.Common.{arith, ◌≡◌, ◌∙◌, refl, sym, ap, subst,
 use Rattle.std.proofs.Math.ListN.{length-set}
 use Rattle.command_agent.specs.declared.step.AgentStep.{AgentStep}
 use Rattle.command_agent.specs.declared.step.Which.{Which}
-use Rattle.command_agent.specs.Machine.{Machine}
-use Rattle.command_agent.specs.Steps.{lost_step, reply_step}
+use Rattle.command_agent.specs.Machine.{Machine, new_machine}
+use Rattle.command_agent.specs.Steps.{lost_step, quiet, reply_step}
 use Rattle.label_table.specs.declared.judgement.Asked.{Asked}
 use Rattle.label_table.specs.Bodies.{block_write}
 use Rattle.label_table.specs.Layer.{Layer, asking_step}
@@ -54,7 +54,7 @@ module _ (Fifo : ℕ → Type 0) (step : AgentStep) (m : Machine) (node : ℕ) w
   heard : (s : Scene) (place : ℕ) (x : Bool) → Written s → Written (scene s.node (with_side s.outbox (cond x (sides.Unsolicited place) (sides.Unsent place))))
   heard s place x d = record { fifos = d.fifos; so = d.so }
 
-  other_so : (layer : Layer Purpose) (other : Login) (asked : Asked) → Fifo other.fifo → IsOfBody layer other.node (block_write other.fifo block) (Some asked) → IsSo Fifo step m node (record { to = other.node; label = Some asked.label; bytes = asked.bytes })
+  other_so : (layer : Layer Purpose) (other : Login) (asked : Asked) → Fifo other.fifo → IsOfBody layer other.node (block_write other.fifo block) (Some asked) → IsSo Fifo quiet new_machine 0 (record { to = other.node; label = Some asked.label; bytes = asked.bytes })
   other_so layer other asked f of access e w =
       let x = wrote asked.label.number layer.node other.node other.fifo block (let n = unsolicited_small in omega (arith, n)) access (subst (λ bytes. access_in_bytes bytes ≡ Some access) of e) in
       to_fifo other.fifo f x.offset_is
@@ -120,7 +120,7 @@ module _ (w : WorldState) (g : Good w.target) (layer : Layer Purpose) (Fifo : �
     behind : (step : AgentStep) (m : Machine) (s : Scene) → length s.node.desks ≡ 8 → (desk_at s.node q).agent ≡ m → s.node.logins ≡ w.target.logins → s.outbox.packets ≡ [] → ((offset size : ℕ) → step.ahead ≡ asks.Write offset size → ⊥) → Written Fifo step m login.node (follow q login step s)
     behind step m s desks agent logins none tame = record {
       fifos = subst (AreFifos Fifo) (sym (follow_logins q login step s ∙ logins)) fifos;
-      so = follows_so q b login Fifo own step m s desks agent tame (subst (AllSo Fifo step m login.node) (sym none) tt);
+      so = follows_so q b login Fifo own step m s desks agent tame none;
     }
 
     -- ---- a reply

@@ -50,7 +50,7 @@ use Rattle.sbp_world.specs.Worlds.{WorldState}
 use Rattle.sbp_target.proofs.Histories.Calling.{Good}
 use Rattle.sbp_target.proofs.Histories.Settled.{reaches}
 use Rattle.sbp_world.proofs.Lists.DataActs.{AreFifos, late_so, reply_so}
-use Rattle.sbp_world.proofs.Lists.DataFollows.{AllSo, IsBy, follows_so, of_step, read_so, to_fifo}
+use Rattle.sbp_world.proofs.Lists.DataFollows.{AllFifo, AllSo, IsBy, follows_quiet, more_fifo, of_step, read_so, to_fifo}
 use Rattle.sbp_world.proofs.Lists.StatusActs.{first, there}
 use Rattle.sbp_world.proofs.Lists.StatusCalls.{cut_reads, placed, points_at, reads_answered, rung_reads, start_reads}
 use Rattle.sbp_world.proofs.Lists.StatusLosses.{lost_asks, quiet_ahead}
@@ -66,14 +66,10 @@ no_ask offset size e = cc
 none_login : (login : Login) → None ≡ Some login → ⊥
 none_login login e = cc
 
--- packets write to FIFOs alone
-abbrev pub AllFifo : (ℕ → Type 0) → List Outgoing → Type 0
-AllFifo Fifo packets = AllSo Fifo quiet new_machine 0 packets
-
 module _ (Fifo : ℕ → Type 0) where
-  reads_all : (step : AgentStep) (m : Machine) (node : ℕ) (packets : List Outgoing) → AllRead packets → AllSo Fifo step m node packets
-  reads_all step m node [] h = tt
-  reads_all step m node (packet ∷ later) h = (read_so Fifo step m node packet h.0, reads_all step m node later h.1)
+  reads_all : (packets : List Outgoing) → AllRead packets → AllFifo Fifo packets
+  reads_all [] h = tt
+  reads_all (packet ∷ later) h = (read_so Fifo quiet new_machine 0 packet h.0, reads_all later h.1)
 
   -- a step that asks for no write
   tame_by : (step : AgentStep) (m : Machine) (node to offset : ℕ) (payload : List ℕ) → ((at size : ℕ) → step.ended ≡ None → step.ask ≡ asks.Write at size → ⊥) → IsBy Fifo step m node to offset payload → IsBy Fifo quiet new_machine 0 to offset payload
@@ -82,7 +78,7 @@ module _ (Fifo : ℕ → Type 0) where
 
   tame_all : (step : AgentStep) (m : Machine) (node : ℕ) → ((at size : ℕ) → step.ended ≡ None → step.ask ≡ asks.Write at size → ⊥) → (packets : List Outgoing) → AllSo Fifo step m node packets → AllFifo Fifo packets
   tame_all step m node f [] h = tt
-  tame_all step m node f (packet ∷ later) h = ((λ access e w. tame_by step m node packet.to access.offset access.payload f (h.0 access e w)), tame_all step m node f later h.1)
+  tame_all step m node f (packet ∷ later) h = ((λ access e w. tame_by step m node packet.to access.offset access.payload f (h.0 access e w)), h.1)
 
 -- ---- what a call is
 -- a run is told of first
@@ -106,7 +102,7 @@ module _ (w : WorldState) (g : Good w.target) (Fifo : ℕ → Type 0) (fifos : A
     manages : (answer : Answer) → Its answer → s ≡ manage answer (first w g layer) → WroteSo layer s
 
   reads_only : (layer : Layer Purpose) (s : Scene) → AllRead s.outbox.packets → WroteSo layer s
-  reads_only layer s a = to_logins (reads_all Fifo quiet new_machine 0 s.outbox.packets a)
+  reads_only layer s a = to_logins (reads_all Fifo s.outbox.packets a)
 
   -- ---- a request
   module _ (layer : Layer Purpose) (request : Packet) (bytes : List ℕ) where
@@ -120,9 +116,7 @@ module _ (w : WorldState) (g : Good w.target) (Fifo : ℕ → Type 0) (fifos : A
       asked_only : (ask : Ask) → ((offset size : ℕ) → ask ≡ asks.Write offset size → ⊥) → (login : Option Login) → login ≡ login_at w.target q → (s : Scene) → length s.node.desks ≡ 8 → AllRead s.outbox.packets → WroteSo layer (asked_in q ask login s)
       asked_only ask f None e s desks a = reads_only layer s a
       asked_only ask f (Some login) e s desks a =
-          let m = (desk_at s.node q).agent in
-          to_logins (tame_all Fifo (steps.asks ask) m login.node (λ at size none asks. f at size asks) _
-          (follows_so q b login Fifo (fifos q login (sym e)) (steps.asks ask) m s desks refl (λ offset size z. no_ask offset size z) (reads_all Fifo (steps.asks ask) m login.node s.outbox.packets a)))
+          to_logins (follows_quiet q b login Fifo (fifos q login (sym e)) (steps.asks ask) (AllFifo Fifo) (more_fifo Fifo) s (λ offset size z. no_ask offset size z) f (reads_all Fifo s.outbox.packets a))
 
       logins_same : (rcode : ℕ) (given : List ℕ) (s : Scene) → login_at (answered request bytes rcode given s).node q ≡ login_at s.node q
       unfolding answer_step

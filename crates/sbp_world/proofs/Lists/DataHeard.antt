@@ -44,13 +44,13 @@ use Rattle.sbp_world.specs.Worlds.{WorldState}
 use Rattle.sbp_world.specs.Agents.Alike.{has_list}
 use Rattle.sbp_world.proofs.Agents.Management.Still.{hist}
 use Rattle.sbp_world.specs.Hosts.Handing.{AreOthers}
-use Rattle.sbp_world.specs.Lists.DataWrites.{DataSo, IsPieceOf}
+use Rattle.sbp_world.specs.Lists.DataWrites.{DataSo, IsPieceOf, IsDry}
 use Rattle.sbp_world.specs.Lists.Needs.{IsFor, machine_at, initiator_in}
 use Rattle.sbp_world.specs.Lists.OwnLogins.{AreOwn, IsLoginFifo}
-use Rattle.sbp_world.proofs.Lists.DataCalls.{AllFifo, WroteSo, delivery_wrote, lapse_wrote, manages, steps_so, to_logins, IsFirstRun, RunsFirst}
-use Rattle.sbp_world.proofs.Lists.DataFollows.{AllSo, IsBy, of_step, to_fifo}
+use Rattle.sbp_world.proofs.Lists.DataCalls.{WroteSo, delivery_wrote, lapse_wrote, manages, steps_so, to_logins, IsFirstRun, RunsFirst}
+use Rattle.sbp_world.proofs.Lists.DataFollows.{AllFifo, AllSo, IsBy, of_step, to_fifo}
 use Rattle.sbp_world.proofs.Lists.DataSteps.{reply_piece, ArePrepared, IsTurnNow, now_first, now_follows, reply_turn, reply_slot}
-use Rattle.sbp_world.proofs.Lists.DataTurns.{AllDue, AreTold, IsPieceNow, Sends, all_leave, all_same, all_told, IsTurnBy, by_first, by_follows, ran_on}
+use Rattle.sbp_world.proofs.Lists.DataTurns.{AllDry, AllDue, AreTold, IsPieceNow, Sends, all_leave, all_same, all_told, IsTurnBy, by_first, by_follows, ran_on}
 use Rattle.sbp_world.proofs.Lists.Deliveries.{waits_has}
 use Rattle.sbp_world.proofs.Lists.OwnFifos.{fifo_low, fifo_no_window}
 use Rattle.sbp_world.proofs.Lists.RunOutcomes.{AreAsked}
@@ -111,6 +111,11 @@ first_so : (i : ℕ) (note : Note) (ms : List Moment) → IsFirst note → DataS
 first_so i _ ms (got_first serial) = tt
 first_so i _ ms (ignored_first serial cause) = tt
 first_so i _ ms (late_first serial) = tt
+
+first_dry : (i : ℕ) (note : Note) → IsFirst note → IsDry i (said note)
+first_dry i _ (got_first serial) = tt
+first_dry i _ (ignored_first serial cause) = tt
+first_dry i _ (late_first serial) = tt
 
 -- the ORBs of the present list that have not ended have their slots
 abbrev pub HaveSlots : List Moment → ℕ → Type 0
@@ -186,13 +191,17 @@ module _ (wild : ℕ → Bool) (i : ℕ) (own : wild i ≡ false) (past : List M
   Due note start packets = AllDue i past ms note start w.generations packets
 
   -- ---- what a call writes
-  by_fifo : (note : Note) (start : List Moment) (to : ℕ) (access : Access) → IsBy IsLoginFifo quiet new_machine 0 to access.offset access.payload → (slot : ℕ) → window_at access.offset ≡ Some (windows.Buffer slot) → IsPieceNow ms start i note gen slot access
-  by_fifo note start to access (to_fifo fifo own e) slot goes = absurd (fifo_dry fifo access.offset slot own e goes)
-  by_fifo note start to access (of_step at size none ask to_is offset_is payload_is) slot goes = absurd (no_ask at size ask)
+  by_fifo : (to : ℕ) (access : Access) → IsBy IsLoginFifo quiet new_machine 0 to access.offset access.payload → (slot : ℕ) → window_at access.offset ≡ Some (windows.Buffer slot) → ⊥
+  by_fifo to access (to_fifo fifo own e) slot goes = absurd (fifo_dry fifo access.offset slot own e goes)
+  by_fifo to access (of_step at size none ask to_is offset_is payload_is) slot goes = absurd (no_ask at size ask)
+
+  dry_fifo : (note : Note) (packets : List Outgoing) → AllFifo IsLoginFifo packets → AllDry i past ms note w.generations packets
+  dry_fifo note [] h = tt
+  dry_fifo note (packet ∷ later) h = ((λ there slot x. by_fifo packet.to x.access (h.0 x.access x.is x.writes) slot x.goes), dry_fifo note later h.1)
 
   due_fifo : (note : Note) (start : List Moment) (packets : List Outgoing) → AllFifo IsLoginFifo packets → Due note start packets
   due_fifo note start [] h = tt
-  due_fifo note start (packet ∷ later) h = ((λ there slot x. by_fifo note start packet.to x.access (h.0 x.access x.is x.writes) slot x.goes), due_fifo note start later h.1)
+  due_fifo note start (packet ∷ later) h = ((λ there slot x. absurd (by_fifo packet.to x.access (h.0 x.access x.is x.writes) slot x.goes)), dry_fifo note later h.1)
 
   by_step : (note : Note) (is_first : IsFirst note) (u : WorldState) (b : Behind note w u) (told_sides : List Side) (others : AreOthers told_sides) (Told : ℕ → ℕ → StatusKind → Type 0) (q : ℕ) (login : Login) → login_at w.target q ≡ Some login → (one : AgentStep × Machine) → StepSo note Told q one → RunsFirst q one told_sides → (one.0.ended ≡ None → AreMild told_sides) → (to : ℕ) (access : Access) → node_of w.generations 0 to ≡ Some (suc i) → IsBy IsLoginFifo one.0 one.1 login.node to access.offset access.payload → (slot : ℕ) → window_at access.offset ≡ Some (windows.Buffer slot) → IsPieceNow ms (hist past (told_all 0 told_sides u)) i note gen slot access
   by_step note is_first u b told_sides others Told q login is one s f mild to access there (to_fifo fifo own e) slot goes = absurd (fifo_dry fifo access.offset slot own e goes)
@@ -240,17 +249,17 @@ module _ (wild : ℕ → Bool) (i : ℕ) (own : wild i ≡ false) (past : List M
 
   due_step : (note : Note) (is_first : IsFirst note) (u : WorldState) (b : Behind note w u) (told_sides : List Side) (others : AreOthers told_sides) (Told : ℕ → ℕ → StatusKind → Type 0) (q : ℕ) (login : Login) → login_at w.target q ≡ Some login → (one : AgentStep × Machine) → StepSo note Told q one → RunsFirst q one told_sides → (one.0.ended ≡ None → AreMild told_sides) → (packets : List Outgoing) → AllSo IsLoginFifo one.0 one.1 login.node packets → Due note (hist past (told_all 0 told_sides u)) packets
   due_step note is_first u b told_sides others Told q login is one s f mild [] h = tt
-  due_step note is_first u b told_sides others Told q login is one s f mild (packet ∷ later) h = ((λ there slot x. by_step note is_first u b told_sides others Told q login is one s f mild packet.to x.access there (h.0 x.access x.is x.writes) slot x.goes), due_step note is_first u b told_sides others Told q login is one s f mild later h.1)
+  due_step note is_first u b told_sides others Told q login is one s f mild (packet ∷ later) h = ((λ there slot x. by_step note is_first u b told_sides others Told q login is one s f mild packet.to x.access there (h.0 x.access x.is x.writes) slot x.goes), dry_fifo note later h.1)
 
   -- ---- it leaves
   module _ (note : Note) (f : IsFirst note) (u : WorldState) (b : Behind note w u) (outbox : OutboxState) (others : AreOthers outbox.sides) where
     started : Sends i past ms note (hist past u)
-    started = subst (Sends i past ms note) (ap (λ ns. map said ns ++ past) (sym b.fresh)) (record { grown = record { new = []; is = refl }; so = (first_so i note ms f, each) })
+    started = subst (Sends i past ms note) (ap (λ ns. map said ns ++ past) (sym b.fresh)) (record { grown = record { new = []; is = refl }; dry = tt; so = (first_so i note ms f, each) })
 
     pub hands : Due note (hist past (told_all 0 outbox.sides u)) outbox.packets → EachMoment (DataSo i) (hist past (handed_out 0 0 outbox u))
     hands due =
-        (all_leave i past ms note (hist past (told_all 0 outbox.sides u)) w.generations outbox.packets (told_all 0 outbox.sides u) (all_same i past ms note 0 outbox.sides u ∙ b.generations) due
-        (record { same = λ n k. refl; sends = all_told i past ms note 0 outbox.sides u (others_told i past ms note outbox.sides others) started; on = record { new = []; is = refl } })).sends.so
+        (all_leave i past ms note (hist past (told_all 0 outbox.sides u)) w.generations outbox.packets (told_all 0 outbox.sides u) (all_same i past ms note 0 outbox.sides u ∙ b.generations) due (first_dry i note f)
+        (record { same = λ n k. refl; sends = all_told i past ms note 0 outbox.sides u (others_told i past ms note outbox.sides others) started; on = record { new = []; is = refl } }))
 
   abbrev C : Note → (ℕ → ℕ → StatusKind → Type 0) → (Answer → Type 0) → Layer Purpose → Scene → Type 0
   C note Told Its layer s = WroteSo w r.good IsLoginFifo (λ q login is. owned q login is) (StepSo note Told) Its layer s

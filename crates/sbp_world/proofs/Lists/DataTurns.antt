@@ -15,7 +15,7 @@ use Rattle.sbp_world.specs.Sending.{sent as sent_one, sent_all}
 use Rattle.sbp_world.specs.Telling.{told, told_all}
 use Rattle.sbp_world.specs.Worlds.{WorldState}
 use Rattle.sbp_world.proofs.Agents.Management.Still.{hist}
-use Rattle.sbp_world.specs.Lists.DataWrites.{DataSo, IsDataWrite, IsPieceOf, IsAnswered, IsInTurn, is_first, follows}
+use Rattle.sbp_world.specs.Lists.DataWrites.{DataSo, IsDataWrite, IsPieceOf, IsAnswered, IsInTurn, is_first, follows, IsDry, AreDry}
 use Rattle.sbp_world.proofs.Lists.Judging.{Grown}
 use Rattle.sbp_world.proofs.Lists.StatusSends.{sent_generations, sent_on}
 use Rattle.sbp_journal.specs.declared.note.Note.{Note}
@@ -70,6 +70,7 @@ ran_on (m ∷ later) before i n k r = ran_more m (later ++ before) i n k (ran_on
 module _ (i : ℕ) (past ms : List Moment) (note : Note) where
   pub record Sends (now : List Moment) : Type 0 where
     pub grown : Grown (said note ∷ ms) now
+    pub dry : AreDry i grown.new
     pub so : EachMoment (DataSo i) now
 
   -- sides that are no notes of its own
@@ -81,26 +82,27 @@ module _ (i : ℕ) (past ms : List Moment) (note : Note) where
   AreTold [] = Unit {0}
   AreTold (side ∷ later) = IsTold side × AreTold later
 
-  pub noted : (moment : Moment) (now : List Moment) → DataSo i moment now → Sends now → Sends (moment ∷ now)
-  noted moment now d h = record { grown = grown_note moment (said note ∷ ms) now h.grown; so = (d, h.so) }
+  pub noted : (moment : Moment) (now : List Moment) → DataSo i moment now → IsDry i moment → Sends now → Sends (moment ∷ now)
+  unfolding grown_note
+  noted moment now d dry h = record { grown = grown_note moment (said note ∷ ms) now h.grown; dry = (dry, h.dry); so = (d, h.so) }
 
   told_one : (weight : ℕ) (side : Side) (w : WorldState) → IsTold side → Sends (hist past w) → Sends (hist past (told weight side w))
   unfolding told
   told_one weight (sides.Own note) w f h = absurd f
   told_one weight (sides.Opened place orb) w f h = h
-  told_one weight (sides.Ran place orb cdb payload outcome) w f h = noted _ (hist past w) tt h
-  told_one weight (sides.Ended place orb status) w f h = noted _ (hist past w) tt h
-  told_one weight (sides.Dead place cause) w f h = noted _ (hist past w) tt h
-  told_one weight (sides.Cut place cause) w f h = noted _ (hist past w) tt h
-  told_one weight (sides.Managed node function subject status login) w f h = noted _ (hist past w) tt h
-  told_one weight (sides.ManageFailed node cause) w f h = noted _ (hist past w) tt h
-  told_one weight (sides.Held login) w f h = noted _ (hist past w) tt h
-  told_one weight (sides.Expired login) w f h = noted _ (hist past w) tt h
-  told_one weight (sides.Back login) w f h = noted _ (hist past w) tt h
-  told_one weight (sides.Left login) w f h = noted _ (hist past w) tt h
-  told_one weight (sides.Cleared unit) w f h = noted _ (hist past w) tt h
-  told_one weight (sides.Unsolicited place) w f h = noted _ (hist past w) tt h
-  told_one weight (sides.Unsent place) w f h = noted _ (hist past w) tt h
+  told_one weight (sides.Ran place orb cdb payload outcome) w f h = noted _ (hist past w) tt tt h
+  told_one weight (sides.Ended place orb status) w f h = noted _ (hist past w) tt tt h
+  told_one weight (sides.Dead place cause) w f h = noted _ (hist past w) tt tt h
+  told_one weight (sides.Cut place cause) w f h = noted _ (hist past w) tt tt h
+  told_one weight (sides.Managed node function subject status login) w f h = noted _ (hist past w) tt tt h
+  told_one weight (sides.ManageFailed node cause) w f h = noted _ (hist past w) tt tt h
+  told_one weight (sides.Held login) w f h = noted _ (hist past w) tt tt h
+  told_one weight (sides.Expired login) w f h = noted _ (hist past w) tt tt h
+  told_one weight (sides.Back login) w f h = noted _ (hist past w) tt tt h
+  told_one weight (sides.Left login) w f h = noted _ (hist past w) tt tt h
+  told_one weight (sides.Cleared unit) w f h = noted _ (hist past w) tt tt h
+  told_one weight (sides.Unsolicited place) w f h = noted _ (hist past w) tt tt h
+  told_one weight (sides.Unsent place) w f h = noted _ (hist past w) tt tt h
 
   told_same : (weight : ℕ) (side : Side) (w : WorldState) → (told weight side w).generations ≡ w.generations
   unfolding told
@@ -138,9 +140,32 @@ module _ (i : ℕ) (past ms : List Moment) (note : Note) where
   turn_of n k m later now is (by_first none start) = is_first none start
   turn_of n k m later now is (by_follows got e x) = follows got later (subst (λ y. later ++ said y ∷ ms ≡ now) e is) x
 
+  -- the first packet may be one; none of the others is
+  abbrev pub IsDryPacket : GenerationsState → Outgoing → Type 0
+  IsDryPacket g packet = node_of g 0 packet.to ≡ Some (suc i) → (slot : ℕ) → IsDataWrite packet.bytes slot → ⊥
+
+  abbrev pub AllDry : GenerationsState → List Outgoing → Type 0
+  AllDry g [] = Unit {0}
+  AllDry g (packet ∷ later) = IsDryPacket g packet × AllDry g later
+
   abbrev pub AllDue : List Moment → GenerationsState → List Outgoing → Type 0
   AllDue start g [] = Unit {0}
-  AllDue start g (packet ∷ later) = IsDue start g packet × AllDue start g later
+  AllDue start g (packet ∷ later) = IsDue start g packet × AllDry g later
+
+  are_dry_on : (a b : List Moment) → AreDry i a → AreDry i b → AreDry i (a ++ b)
+  are_dry_on [] b f h = h
+  are_dry_on (moment ∷ a) b f h = (f.0, are_dry_on a b f.1 h)
+
+  abbrev Each : List Moment → Type 0
+  Each now = EachMoment (DataSo i) now
+
+  all_dry : (g : GenerationsState) (packets : List Outgoing) (w : WorldState) → w.generations ≡ g → AllDry g packets → Each (hist past w) → Each (hist past (sent_all 0 packets w))
+  unfolding sent_all
+  all_dry g [] w e f h = h
+  all_dry g (packet ∷ later) w e f h =
+      all_dry g later (sent_one 0 packet w) (sent_generations 0 0 0 0 0 0 (Unit {0}) (Unit {0}) (Unit {0}) None new_machine (λ a b c. tt) past packet w ∙ e) f.1
+      (sent_on 0 0 0 0 0 0 (Unit {0}) (Unit {0}) (Unit {0}) None new_machine (λ a b c. tt) past Each packet w h
+      (λ s t there. ((λ of to slot x. absurd (f.0 (ap (λ (y : GenerationsState). node_of y 0 packet.to) (sym e) ∙ (there ∙ ap (λ n. Some n) to)) slot x)), h)))
 
   -- behind what was told
   pub record Leaves (start now : List Moment) : Type 0 where
@@ -148,33 +173,31 @@ module _ (i : ℕ) (past ms : List Moment) (note : Note) where
     pub on : Grown start now
     pub same : (n k : ℕ) → ended_status now i n k ≡ ended_status start i n k
 
-  noted_on : (start : List Moment) (s generation t : ℕ) (bytes : List ℕ) (now : List Moment) → DataSo i (said (notes.Sent s generation 0 t bytes)) now → Leaves start now → Leaves start (said (notes.Sent s generation 0 t bytes) ∷ now)
-  noted_on start s generation t bytes now d h = record { sends = noted (said (notes.Sent s generation 0 t bytes)) now d h.sends; on = grown_note (said (notes.Sent s generation 0 t bytes)) start now h.on; same = λ n k. h.same n k }
-
-  pub all_leave : (start : List Moment) (g : GenerationsState) (packets : List Outgoing) (w : WorldState) → w.generations ≡ g → AllDue start g packets → Leaves start (hist past w) → Leaves start (hist past (sent_all 0 packets w))
+  pub all_leave : (start : List Moment) (g : GenerationsState) (packets : List Outgoing) (w : WorldState) → w.generations ≡ g → AllDue start g packets → IsDry i (said note) → Leaves start (hist past w) → Each (hist past (sent_all 0 packets w))
   unfolding sent_all
-  all_leave start g [] w e f h = h
-  all_leave start g (packet ∷ later) w e f h =
-      all_leave start g later (sent_one 0 packet w) (sent_generations 0 0 0 0 0 0 (Unit {0}) (Unit {0}) (Unit {0}) None new_machine (λ a b c. tt) past packet w ∙ e) f.1
-      (sent_on 0 0 0 0 0 0 (Unit {0}) (Unit {0}) (Unit {0}) None new_machine (λ a b c. tt) past (Leaves start) packet w h
-      (λ s t there.
-      noted_on start s (topology_at w.generations 0).generation t packet.bytes (hist past w)
-      (λ of to slot x.
-      let p = f.0 (ap (λ (y : GenerationsState). node_of y 0 packet.to) (sym e) ∙ (there ∙ ap (λ n. Some n) to)) slot x in
-      record {
-        later = h.sends.grown.new ++ said note ∷ [];
-        before = ms;
-        is = assoc h.sends.grown.new (said note ∷ []) ms ∙ h.sends.grown.is;
-        list = p.list;
-        machine = p.machine;
-        size = p.size;
-        piece = p.piece;
-        bytes = p.bytes;
-        turn = turn_of p.list (ends ms i p.list) p.machine h.sends.grown.new (hist past w) h.sends.grown.is p.turn;
-        slot_is = p.slot_is;
-        ran = subst (λ now. 0 < runs now i p.list (ends ms i p.list)) h.on.is (ran_on h.on.new start i p.list (ends ms i p.list) p.ran);
-        still = λ status z. p.still status (sym (h.same p.list (ends ms i p.list)) ∙ z);
-        seen = subst (λ (y : GenerationsState). (topology_at y 0).generation ≤ (terms ms).generation (suc i)) (sym e) p.seen;
-        held = λ same. p.held (ap (λ (y : GenerationsState). (topology_at y 0).generation) (sym e) ∙ same);
-      })
-      h))
+  all_leave start g [] w e f dry h = h.sends.so
+  all_leave start g (packet ∷ later) w e f dry h =
+      all_dry g later (sent_one 0 packet w) (sent_generations 0 0 0 0 0 0 (Unit {0}) (Unit {0}) (Unit {0}) None new_machine (λ a b c. tt) past packet w ∙ e) f.1
+      (sent_on 0 0 0 0 0 0 (Unit {0}) (Unit {0}) (Unit {0}) None new_machine (λ a b c. tt) past Each packet w h.sends.so
+      (λ s t there. (
+        (λ of to slot x.
+            let p = f.0 (ap (λ (y : GenerationsState). node_of y 0 packet.to) (sym e) ∙ (there ∙ ap (λ n. Some n) to)) slot x in
+            record {
+              later = h.sends.grown.new ++ said note ∷ [];
+              before = ms;
+              is = assoc h.sends.grown.new (said note ∷ []) ms ∙ h.sends.grown.is;
+              list = p.list;
+              machine = p.machine;
+              size = p.size;
+              piece = p.piece;
+              bytes = p.bytes;
+              turn = turn_of p.list (ends ms i p.list) p.machine h.sends.grown.new (hist past w) h.sends.grown.is p.turn;
+              alone = are_dry_on h.sends.grown.new (said note ∷ []) h.sends.dry (dry, tt);
+              slot_is = p.slot_is;
+              ran = subst (λ now. 0 < runs now i p.list (ends ms i p.list)) h.on.is (ran_on h.on.new start i p.list (ends ms i p.list) p.ran);
+              still = λ status z. p.still status (sym (h.same p.list (ends ms i p.list)) ∙ z);
+              seen = subst (λ (y : GenerationsState). (topology_at y 0).generation ≤ (terms ms).generation (suc i)) (sym e) p.seen;
+              held = λ same. p.held (ap (λ (y : GenerationsState). (topology_at y 0).generation) (sym e) ∙ same);
+            }),
+        h.sends.so,
+      )))

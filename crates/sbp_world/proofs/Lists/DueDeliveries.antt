@@ -101,7 +101,7 @@ module _ (units ready : ℕ) (has : 0 < units) (start : List Disk) {past : List 
           let x = serve units ready has start s h site units_are serial judged rest n.sent n.found zero_to p f.read f.kind label layer (Some (purposes.Agent place)) e place refl in
           let none = n.none zero_to in
           let own = sym (ap (λ (l : Option Login). ran_for w.target run s.media.disks place p l (which_in (desk_at w.target place) (header_in p).source label)) x.served_is ∙ ap (λ k. ran_for w.target run s.media.disks place p (Some x.login) k) x.which_is)
-              ∙ sym (ap (λ (y : Finding Purpose × Layer Purpose). ran_as w.target run s.media.disks y.0) e) ∙ none.ran in
+          ∙ sym (ap (λ (y : Finding Purpose × Layer Purpose). ran_as w.target run s.media.disks y.0) e) ∙ none.ran in
           none_due units ready has start s h site units_are serial judged rest n.sent n.found zero_to p f.read f.kind label layer (Some (purposes.Agent place)) e place refl x.login x.login_is _ x.which_is run none.untold own plainly
 
       by_finding : (f : Finding Purpose) (layer : Layer Purpose) → judging_step w.target.layer n.sent.generation n.sent.bytes ≡ (f, layer) → IsFound f w.target.layer layer n.sent.bytes → Due
@@ -195,7 +195,6 @@ module _ (units ready : ℕ) (has : 0 < units) (start : List Disk) {past : List 
     initiator_is =
         ap (λ (x : Table). initiator_with wire (node_in (place_at x.places place))) (ap (λ (o : Office). o.table) (over_keeps (target_at start ms)))
         ∙ (hold.live live).terms_are ∙ sym holder_is
-
 
     unit_is : unit_of T place ≡ (holder w place).unit
     unit_is =

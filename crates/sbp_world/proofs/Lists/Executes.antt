@@ -482,8 +482,7 @@ module _ (wild : ℕ → Bool) (line : ℕ) (run : Run) (few : run.initiators �
           let so_far = law_at told m.1 rest back l in
           let site_now = site_at wild (opened wild) line run few has small size entries short all fit b.past (length entries) b.holds b.is next event d told m.1 in
           let holds_now = holds_at wild (opened wild) line run few has small size entries short all fit b.past (length entries) b.holds b.is next event d told m.1 in
-          let holds_next = holds_at wild (opened wild) line run few has small size entries short all fit b.past (length entries) b.holds b.is next event d (one ∷ told) m in
-          (
+          let holds_next = holds_at wild (opened wild) line run few has small size entries short all fit b.past (length entries) b.holds b.is next event d (one ∷ told) m in (
             next_law wild start now (after_all told (begun here)) set names one m.0 kept.passes so_far.0,
             (
               next_ends wild start now (after_all told (begun here)) set names one m.0 so_far.1.0,

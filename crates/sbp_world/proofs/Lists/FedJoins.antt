@@ -22,7 +22,7 @@ use Rattle.sbp_laws.specs.Turns.{EachMoment}
 use Rattle.sbp_world.specs.Hosts.Runs.{more_deliveries}
 use Rattle.sbp_world.specs.Lists.FedRuns.{AreBeside, AreOthers, AreOwnOrOthers, FedAt, RunIsFed, RunIsSince, RunsSinceLaw, SinceAt, own_reads}
 use Rattle.sbp_world.specs.Lists.GotOnce.{NoneAgain}
-use Rattle.sbp_world.proofs.Lists.AnsweredReads.{IsFair, fair_before, fair_of, told_everywhere}
+use Rattle.sbp_world.proofs.Lists.Fair.{IsFair, fair_before, fair_of, told_everywhere}
 use Rattle.sbp_world.proofs.Lists.Courses.{more_than_one}
 use Rattle.sbp_world.proofs.Lists.Executes.{runs_fed_law}
 use Rattle.sbp_world.proofs.Lists.FedOnce.{got_once, judged_before, judged_everywhere}

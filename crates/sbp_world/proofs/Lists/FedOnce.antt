@@ -21,7 +21,7 @@ use Rattle.sbp_world.proofs.Agents.Management.Still.{hist}
 use Rattle.sbp_world.proofs.Hosts.Remaining.{remains}
 use Rattle.sbp_world.proofs.Hosts.SentMoments.{sent_below, serials_from}
 use Rattle.sbp_world.specs.Lists.GotOnce.{AreGotOnce, GotOnceLaw, NoneAgain}
-use Rattle.sbp_world.proofs.Lists.AnsweredReads.{IsFair, fair_before, fair_of, told_everywhere}
+use Rattle.sbp_world.proofs.Lists.Fair.{IsFair, fair_before, fair_of, told_everywhere}
 use Rattle.sbp_world.proofs.Lists.Courses.{EveryPlace, Keeps, at_between, at_lines}
 use Rattle.sbp_world.proofs.Lists.ManageTerms.{same_some}
 use Rattle.sbp_world.proofs.Lists.FedHeld.{IsNewer, got_frees, waits_since}

@@ -56,7 +56,7 @@ use Rattle.sbp_world.proofs.Lists.GrantSides.{grants, lapse_grants, second_grant
 use Rattle.sbp_world.proofs.Lists.GrantTurns.{IsAside, Moves, aside_none, aside_one, more_moves}
 use Rattle.sbp_world.proofs.Lists.LiveCalls.{StandsStill, key_still, lapse_still, second_still, sight_clears, sight_still}
 use Rattle.sbp_world.proofs.Lists.LiveTurns as turns
-use Rattle.sbp_world.proofs.Lists.PendingWrites.{IsOneAtMost, handed_most, lost_most, none_out, one_out, out_most, pending, posted_most, quiet_outs}
+use Rattle.sbp_world.proofs.Lists.PendingWrites.{IsOneAtMost, handed_most, lost_most, none_out, one_out, out_one, pending, posted_most, quiet_outs}
 
 -- ---- an action sends one packet at most
 one_asked : (r : Option Asked × Layer Purpose) (action : Action) (s : InitiatorState) → IsOneAtMost (asked_as r action empty_outbox s).1.0.packets
@@ -108,7 +108,7 @@ module _ (past : List Moment) (w : WorldState) where
   inject_to line from bytes None = more_moves past w (refused line no_node w) (aside_none past w (refused line no_node w) (refuses line no_node))
   inject_to line from bytes (Some to) =
       let m = posted_most from to true bytes w in
-      let one = out_most from bytes in
+      let one = out_one from bytes in
       aside_one past w (posted from to true bytes w) (record { target = refl; same = posted_granted past from to true bytes w; most = omega (arith, m, one) })
 
   pub inject_moves : (line i : ℕ) (bytes : List ℕ) → Moves 8 past w (inject_line line i bytes w)

@@ -1,6 +1,6 @@
--- In every run the logins that the target granted are fewer than nine for each eight lines: eight are live at most, others went with a logout or with a reset, and each decision takes
--- a write of MANAGEMENT_AGENT, which an initiator sent in a line of its own.
-use Rattle.std.proofs.Common.{arith, ◌≡◌, ◌∙◌, refl, sym, ap, subst, ℕ, zero, suc, ◌+◌, ◌*◌, ◌^◌, ◌<◌, ◌≤◌, Bool, true, false, List, [], ◌∷◌, ◌++◌, map, length, replicate, Option, Some, None}
+-- In every run there are nine lines for each eight logins that the target granted, but for the first few: eight are live at most, others went with a logout or with a reset, and each
+-- decision takes a write of MANAGEMENT_AGENT, which an initiator sent in a line of its own.
+use Rattle.std.proofs.Common.{arith, ◌≡◌, ◌∙◌, refl, sym, ap, subst, ℕ, suc, ◌+◌, ◌*◌, ◌^◌, ◌<◌, ◌≤◌, Bool, true, false, List, [], ◌∷◌, ◌++◌, map, length, Option, Some, None}
 use Rattle.packet_store.specs.declared.sent.Kept.{Kept}
 use Rattle.packet_store.specs.declared.sent.Sent.{Sent}
 use Rattle.packet_store.specs.Kept.{found, found_sent, is_flying}
@@ -57,12 +57,12 @@ module _ (units ready : ℕ) (has : 0 < units) (start : List Disk) where
     abbrev w : WorldState
     w = s.world
 
-    once_more : (line serial : ℕ) (again : Bool) (run : Option Told) → (sent : Sent) → found_sent serial w.store.kept ≡ Some sent → is_out sent.from sent.bytes ≡ true → (u : WorldState) → u.store ≡ w.store → 8 * pending (marked serial again u).store.kept + 8 ≤ 8 * pending w.store.kept + 8
-    once_more line serial again run sent found out u e = let m = marked_most serial again u in let st = ap (λ (x : Stored). pending x.kept) e in omega (arith, m, st)
+    once_more : (serial : ℕ) (again : Bool) (sent : Sent) → found_sent serial w.store.kept ≡ Some sent → is_out sent.from sent.bytes ≡ true → (u : WorldState) → u.store ≡ w.store → 8 * pending (marked serial again u).store.kept + 8 ≤ 8 * pending w.store.kept + 8
+    once_more serial again sent found out u e = let m = marked_most serial again u in let st = ap (λ (x : Stored). pending x.kept) e in omega (arith, m, st)
 
     if_moves : (b : Bool) (line serial : ℕ) (again : Bool) (told : List (Option Told)) → MayIf b serial told s → Moves 8 past w (delivered_if b line serial again told s).world
     if_moves true line serial again [] m = absurd m
-    if_moves true line serial again (one ∷ []) m = delivery_moves units ready has start s h seats serial again one 8 (once_more line serial again one) m
+    if_moves true line serial again (one ∷ []) m = delivery_moves units ready has start s h seats serial again one 8 (once_more serial again) m
     if_moves true line serial again (one ∷ two ∷ told) m = absurd m
     if_moves false line serial again told m = lines.refused_moves units ready has start w h line no_packet
 
@@ -139,10 +139,6 @@ said_lines (note ∷ ns) past = said_lines ns past
 
 record AreFew (ms : List Moment) (w : WorldState) : Type 0 where
   few : 9 * entries ms + (8 * undecided w.target.manager.operation + 8 * pending w.store.kept) ≤ 8 * lines_of ms + (live_in w.target.logins.places + 32)
-
-live_none : (k : ℕ) → live_in (replicate k None) ≡ 0
-live_none zero = refl
-live_none (suc k) = let rest = live_none k in omega (arith, rest)
 
 first_few : (line : ℕ) (run : Run) → run.initiators ≤ 4 → run.units ≤ 4 → length run.start.disks ≡ run.units → AreFew (moments_behind line run []) (beginning run).world
 unfolding new_world

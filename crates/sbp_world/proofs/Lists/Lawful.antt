@@ -1,5 +1,5 @@
 -- In every run in which no initiator injected packets, or few logins were given, the order law, the execution law and the status law hold.
-use Rattle.std.proofs.Common.{◌≡◌, inl, sym, subst, ◌<◌, ◌≤◌, ℕ, List, length}
+use Rattle.std.proofs.Common.{◌≡◌, sym, subst, ◌<◌, ◌≤◌, ℕ, List, length}
 use Rattle.sbp_journal.specs.Run.{Moment}
 use Rattle.sbp_laws.specs.Lawful.{injectors}
 use Rattle.sbp_laws.specs.OnLists.{LawfulOnLists}
@@ -15,8 +15,7 @@ use Rattle.sbp_world.specs.Lists.Needs.{OpenBefore}
 use Rattle.sbp_world.specs.Lists.Opened.{LogoutsLaw}
 use Rattle.sbp_world.specs.Lists.FewLogins.{IsTameOrFew}
 use Rattle.sbp_world.specs.Lists.StatusRuns.{AtLogin}
-use Rattle.sbp_world.specs.Lists.ListsBeside.{ListsBesideLaw}
-use Rattle.sbp_world.specs.Lists.TameLists.{ListsLaw}
+use Rattle.sbp_world.specs.Lists.LawfulLists.{ListsLaw}
 use Rattle.sbp_world.proofs.Lists.Executes.{execution_run_law}
 use Rattle.sbp_world.proofs.Lists.ListsProved.{open_before, open_lists, sent_so, statuses}
 use Rattle.sbp_world.proofs.Lists.LiveGiven.{ShortLaw}
@@ -62,9 +61,5 @@ module _ (short : ShortLaw) where
   pub open_lists_law : OpenListsLaw
   open_lists_law = open_lists (here_beside short) (placed_beside short)
 
-  pub lists_beside_law : ListsBesideLaw
-  lists_beside_law = record { lists = λ line run r has small size beside. lawful (here_beside short) (placed_beside short) line run r has small size beside }
-
-  -- so where no initiator injected packets
   pub lists_law : ListsLaw
-  lists_law = record { lists = λ line run r has small size tame. lists_beside_law.lists line run r has small size (inl tame) }
+  lists_law = record { lists = λ line run r has small size beside. lawful (here_beside short) (placed_beside short) line run r has small size beside }

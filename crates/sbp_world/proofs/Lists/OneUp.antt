@@ -1,6 +1,6 @@
 -- In every run in which no initiator injected packets no two agents are out of RESET of one initiator: the lists of both are its present one, or its latest one while it is ahead of
 -- the target; and one write of ORB_POINTER was for that list.
-use Rattle.std.proofs.Common.{inl, arith, ◌≡◌, ◌∙◌, refl, sym, ap, subst, ◌<◌, ◌≤◌, ◌+◌, ℕ, suc, nat_eq, Bool, true, false, List, ◌∷◌, ◌++◌, map, length, Some, Ok}
+use Rattle.std.proofs.Common.{arith, ◌≡◌, ◌∙◌, refl, sym, ap, subst, ◌<◌, ◌≤◌, ◌+◌, ℕ, suc, nat_eq, Bool, true, false, List, ◌∷◌, ◌++◌, map, length, Some, Ok}
 use Rattle.std.proofs.lemmas.Bool.Decides.{nat_tests}
 use Rattle.async_packet.specs.Packet.{Packet}
 use Rattle.async_packet.specs.Reading.{reading}
@@ -12,6 +12,8 @@ use Rattle.sbp_journal.specs.Transactions.{Sending}
 use Rattle.sbp_journal.specs.Wire.{terms}
 use Rattle.target_base.specs.declared.address.Access.TheVariants as accesses
 use Rattle.target_base.specs.Addresses.{demand_of}
+use Rattle.sbp_world.specs.Lists.Closes.{WhereTameOrFew}
+use Rattle.sbp_world.specs.Lists.Needs.{IsCalm}
 use Rattle.sbp_world.specs.Histories.{history_of}
 use Rattle.sbp_world.specs.Runs.{after, beginning}
 use Rattle.sbp_world.specs.Settling.{after_all}
@@ -28,9 +30,7 @@ use Rattle.sbp_world.specs.Lists.Closes.{OpenListsLaw, Under}
 use Rattle.sbp_world.specs.Lists.OneUp.{AreApart, OneUpLaw}
 use Rattle.sbp_world.specs.Lists.Opened.{AreAllOpenFor, IsOpenFor, IsUp, view}
 use Rattle.sbp_world.specs.Lists.Opens.{AreOpened, IsOpened}
-use Rattle.sbp_world.specs.Lists.OwnLogins.{IsTame}
 use Rattle.sbp_world.specs.Telling.{holder}
-use Rattle.sbp_world.proofs.Lists.TameWalks.{tame_part}
 use Rattle.sbp_world.proofs.Lists.Courses.{more_than_one}
 use Rattle.sbp_world.proofs.Lists.ListsProved.{closing}
 use Rattle.sbp_world.proofs.Lists.LiveGiven.{ShortLaw}
@@ -45,8 +45,8 @@ use Rattle.sbp_world.proofs.Lists.OpenTurns.{up_state}
 some_same : {A : Type 0} (x y : A) → Some x ≡ Some y → x ≡ y
 some_same x y e = cc
 
-module _ (start : List Disk) (past : List Moment) (w : WorldState) (opened : AreOpened past w) (held : AreHeldAt start past w) (caught : HaveCaught start past w) (once : (i : ℕ) → i < length w.initiators → (n serial other : ℕ) → pointed_list past serial i ≡ Some n → pointed_list past other i ≡ Some n → serial ≡ other) (tame : IsTame past) (open_for : AreAllOpenFor past w) where
-  module _ (i place other : ℕ) (b : place < 8) (c : other < 8) (up : IsUp w i place) (up_other : IsUp w i other) where
+module _ (start : List Disk) (past : List Moment) (w : WorldState) (opened : AreOpened past w) (held : AreHeldAt start past w) (caught : HaveCaught start past w) (once : (i : ℕ) → i < length w.initiators → (n serial other : ℕ) → pointed_list past serial i ≡ Some n → pointed_list past other i ≡ Some n → serial ≡ other) (open_for : AreAllOpenFor past w) where
+  module _ (i place other : ℕ) (calm : IsCalm past i) (b : place < 8) (c : other < 8) (up : IsUp w i place) (up_other : IsUp w i other) where
     is_opened : IsOpened past w place
     is_opened = opened place b (up_state _ up.up)
 
@@ -54,10 +54,10 @@ module _ (start : List Disk) (past : List Moment) (w : WorldState) (opened : Are
     inside = subst (λ j. j < length w.initiators) up.own is_opened.inside
 
     abbrev one : IsOpenFor (view past i) i place (holder w place).list
-    one = (open_for i inside (tame i)).each place b up
+    one = (open_for i inside calm).each place b up
 
     abbrev two : IsOpenFor (view past i) i other (holder w other).list
-    two = (open_for i inside (tame i)).each other c up_other
+    two = (open_for i inside calm).each other c up_other
 
     -- the initiator is in the target's generation, or ahead of it
     not_behind : (terms past).generation 0 ≤ (terms past).generation (suc i)
@@ -97,26 +97,26 @@ module _ (start : List Disk) (past : List Moment) (w : WorldState) (opened : Are
         (ap (λ (k : Packet). demand_of two.at.rom k) (sym read_same) ∙ two.at.asks) one.at.asks
 
   pub are_apart : AreApart past w
-  are_apart i place other b c up up_other = apart i place other b c up up_other
+  are_apart i place other calm b c up up_other = apart i place other calm b c up up_other
 
 -- for which list each agent is out of RESET
 module _ (short : ShortLaw) where
-  open_for_law : Under (λ past w. IsTame past → AreAllOpenFor past w)
-  open_for_law = tame_part AreAllOpenFor (opened_law laws (record { unrefused = logouts_end short; minded = minded_law (live_laws short) (logins_live short) }))
+  open_for_law : Under (WhereTameOrFew AreAllOpenFor)
+  open_for_law = opened_law laws (record { unrefused = logouts_end short; minded = minded_law (live_laws short) (logins_live short) })
 
   pub one_up_law : OpenListsLaw → OneUpLaw
   one_up_law lists_law = record {
     after_lines = λ line run r has small size tame.
         let w = (after (beginning run) run.entries).world in
         are_apart run.start.disks (history_of line run) w (opens_law.after_lines line run r has small size) (holders_law line run r.few has small size r.short r.entries r.lines) (caught_law line run r.few has small size r.short r.entries r.lines)
-        (λ i b. (pointers_law.after_lines line run r i (subst (λ n. i < n) (count_after run run.entries) b)).once) tame
-        (open_for_law.after_lines line run r has small size (closing.before lists_law line run r has small size (inl tame)) tame);
+        (λ i b. (pointers_law.after_lines line run r i (subst (λ n. i < n) (count_after run run.entries) b)).once)
+        (open_for_law.after_lines line run r has small size (closing.before lists_law line run r has small size tame) tame);
     between = λ line run r has small size next most told m tame.
         let w = (after_all told (begun (after (beginning run) run.entries))).world in
         let d = more_than_one most in
         are_apart run.start.disks (map said w.fresh ++ asked next (more_deliveries most) ∷ history_of line run) w (opens_law.between line run r has small size next (more_deliveries most) d told m)
         (holders_between_law line run r.few has small size r.short r.entries r.lines next (more_deliveries most) d told m)
         (caught_between_law line run r.few has small size r.short r.entries r.lines next (more_deliveries most) d told m)
-        (λ i b. (pointers_law.between line run r next most told m i (subst (λ n. i < n) (count_between told (after (beginning run) run.entries) ∙ count_after run run.entries) b)).once) tame
-        (open_for_law.between line run r has small size next most told m (closing.between lists_law line run r has small size next (more_deliveries most) d told m (inl tame)) tame);
+        (λ i b. (pointers_law.between line run r next most told m i (subst (λ n. i < n) (count_between told (after (beginning run) run.entries) ∙ count_after run run.entries) b)).once)
+        (open_for_law.between line run r has small size next most told m (closing.between lists_law line run r has small size next (more_deliveries most) d told m tame) tame);
   }

@@ -1,5 +1,5 @@
 -- As the target gets a packet, in a run in which no initiator injected packets, the list was open of which each agent reads, as the read was sent.
-use Rattle.std.proofs.Common.{◌≡◌, ◌∙◌, sym, ap, subst, ◌<◌, ℕ, suc, List, [], ◌∷◌, Option, Some}
+use Rattle.std.proofs.Common.{inl, ◌≡◌, ◌∙◌, sym, ap, subst, ◌<◌, ℕ, suc, List, [], ◌∷◌, Option, Some}
 use Rattle.rbc_disk.specs.Disk.{Disk}
 use Rattle.sbp_journal.specs.Run.{Moment, asked}
 use Rattle.sbp_journal.specs.Transactions.{Sending}
@@ -40,12 +40,12 @@ known_everywhere lists up = record {
   after_lines = λ line run r has small size so_far. record {
     ground = (ground_everywhere lists).after_lines line run r has small size so_far;
     naming = (naming_everywhere lists).after_lines line run r has small size so_far;
-    apart = up.after_lines line run r has small size;
+    apart = λ tame. up.after_lines line run r has small size (inl tame);
   };
   between = λ line run r has small size next most told m so_far. record {
     ground = (ground_everywhere lists).between line run r has small size next most told m so_far;
     naming = (naming_everywhere lists).between line run r has small size next most told m so_far;
-    apart = up.between line run r has small size next most told m;
+    apart = λ tame. up.between line run r has small size next most told m (inl tame);
   };
 }
 

@@ -217,7 +217,7 @@ module _ (units ready : ℕ) (has : 0 < units) (start : List Disk) (past : List 
           let c : j < 8 = grind (arith, nat_tests) in
           let there = up_at j c u in
           let of_it : initiator_in v j ≡ i = sym (owner j c there) ∙ (ap (term_initiator t (terms then)) (sym same) ∙ e) in
-          apart i place j b c (record { up = up_at place b up_here; own = sym i_is }) (record { up = there; own = of_it })
+          apart i place j (tame i) b c (record { up = up_at place b up_here; own = sym i_is }) (record { up = there; own = of_it })
       by false f =
           let far : 8 ≤ j = grind (arith, nat_tests) in
           beyond_down T.agents j (j ≡ place) (let z = site.agents.are.size in omega (arith, z, far)) (leaves.up j u)

@@ -37,7 +37,7 @@ abbrev pub pending : List Kept → ℕ
 pending [] = 0
 pending (k ∷ kept) = pending_at k + pending kept
 
-out_one : (from : ℕ) (bytes : List ℕ) → out_of from bytes ≤ 1
+pub out_one : (from : ℕ) (bytes : List ℕ) → out_of from bytes ≤ 1
 out_one from bytes = by (is_out from bytes)
   where
     by : (b : Bool) → cond b 1 0 ≤ 1
@@ -184,9 +184,6 @@ pub one_out : (from : ℕ) (packets : List Outgoing) → IsOneAtMost packets →
 one_out from [] h = omega arith
 one_out from (packet ∷ []) h = let one = out_one from packet.bytes in omega (arith, one)
 one_out from (packet ∷ other ∷ later) h = absurd h
-
-pub out_most : (from : ℕ) (bytes : List ℕ) → out_of from bytes ≤ 1
-out_most from bytes = out_one from bytes
 
 -- ---- a packet is marked as delivered
 pub marked_most : (serial : ℕ) (again : Bool) (w : WorldState) → pending (marked serial again w).store.kept ≤ pending w.store.kept

@@ -90,17 +90,6 @@ two_spans a b c x y = record {
   before_it = λ r h. y.before_it r (let p = x.count in omega (arith, p, h)) ∙ x.before_it r h;
 }
 
--- a response that the target got, whole, which answers its read of 32 bytes at an address, and spells an ORB
-pub record IsAnswered (past : List Moment) (address : ℕ) (orb : CommandOrb) : Type 0 where
-  pub response : ℕ
-  pub request : ℕ
-  pub got : was_got past response ≡ true
-  pub whole : length (payload_at (terms past) response) ≡ 32
-  pub answers : (terms past).answers response ≡ Some request
-  pub of_target : sender_in ((terms past).sent request) ≡ Some 0
-  pub asks : IsSomeAnd (access_at (terms past) request) (λ access. IsRead access address 32)
-  pub orb_is : orb_read past response ≡ orb
-
 -- an ORB was read behind its append, and its response spells it
 pub record SpellsOrb (start : List Disk) (past : List Moment) (i n k : ℕ) (orb : CommandOrb) : Type 0 where
   pub read : WasRead start past i n k
@@ -157,21 +146,6 @@ module _ (start : List Disk) (past : List Moment) (place address : ℕ) (orb : C
   injects_then node e =
       injects_before (said (notes.Got b.response)) b.earlier node
       (injects_earlier b.later then node (subst (λ ms. (terms ms).injects node ≡ false) (sym b.is) e))
-
-  -- where no node injected packets
-  pub was_answered : EachMoment AnswersAt past → ((node : ℕ) → (terms past).injects node ≡ false) → IsAnswered past address orb
-  was_answered answers fair = record {
-    response = b.response;
-    request = b.request;
-    got = subst (λ ms. was_got ms b.response ≡ true) b.is (got_later b.later then b.response (got_now b.earlier b.response));
-    whole = ap length payload_is ∙ is_whole.whole;
-    answers = stays.answers b.response response_below
-        ∙ each_at AnswersAt b.later (said (notes.Got b.response)) b.earlier (subst (EachMoment AnswersAt) (sym b.is) answers) b.request b.closed read.0 read.1
-        (injects_then read.0.from (fair read.0.from)) (injects_then read.0.to (fair read.0.to));
-    of_target = ap sender_in (stays.sent b.request request_below) ∙ b.asked.from;
-    asks = subst (λ x. IsSomeAnd x (λ access. IsRead access address 32)) (sym access_is) (record { read = refl; block = refl; from = refl; size = refl });
-    orb_is = orb_is;
-  }
 
   module _ (i : ℕ) (of_it : initiator_at (over (target_at start b.earlier)) (terms b.earlier) place ≡ i) (calm : IsCalm past i) where
     to_initiator : receiver_in ((terms b.earlier).sent b.request) ≡ Some (suc i)

@@ -3,10 +3,14 @@ use Rattle.std.specs.Prelude.{◌≡◌, ℕ, Bool, List, [], Result, Ok, Err, I
 use Rattle.std.proofs.Common.{◌∙◌, ap, subst, sym}
 use Rattle.rbc_disk.specs.Disk.{Disk}
 use Rattle.sbp_journal.specs.declared.event.Event.{Event}
-use Rattle.sbp_world.proofs.Lists.Clauses.{lists_beside_law}
+use Rattle.sbp_laws.specs.Lawful.{injectors}
+use Rattle.sbp_world.proofs.Lists.Clauses.{lists_law}
+use Rattle.sbp_world.proofs.Lists.Executes.{due_runs_law}
 use Rattle.sbp_world.proofs.Standing.{begins, goes_on, settles}
 use Rattle.sbp_world.proofs.Wire.Entries.{bus_law}
 use Rattle.sbp_world.proofs.Wire.Runs.{all_runs}
+use Rattle.sbp_world.specs.Histories.{history_of}
+use Rattle.sbp_world.specs.Hosts.Runs.{IsRun}
 use Rattle.sbp_world.specs.Lines.{Happens}
 use Rattle.sbp_world.specs.Making.{new_world}
 use Rattle.sbp_world.specs.Runs.{AreEntries, Run, StandsFor, beginning}
@@ -15,11 +19,14 @@ use Rattle.sbp_world.specs.Wire.Keeping.{BeginsLawfully, HasLaws, IsLikeAScripts
 use Rattle.sbp_world.specs.Worlds.{Scene, WorldState, scene, without_notes}
 
 laws_of : (run : Run) → AreEntries (beginning run) run.entries → (first : ℕ) → IsLikeAScripts run → HasLaws first run
-laws_of run are first is = record {
-  of_wire = (all_runs.runs first run is.few is.count are is.lines).has_laws;
-  on_the_bus = bus_law.lawful first run is.few is.media is.count are is.lines;
-  on_lists = λ some most. lists_beside_law.lists first run (record { few = is.few; short = is.count; entries = are; lines = is.lines }) some most (sym is.media);
-}
+laws_of run are first is =
+    let bounds : IsRun run = record { few = is.few; short = is.count; entries = are; lines = is.lines } in
+    record {
+      of_wire = (all_runs.runs first run is.few is.count are is.lines).has_laws;
+      on_the_bus = bus_law.lawful first run is.few is.media is.count are is.lines;
+      due = λ some most. due_runs_law.after_lines first run bounds some most (sym is.media) (injectors (history_of first run));
+      on_lists = λ some most. lists_law.lists first run bounds some most (sym is.media);
+    }
 
 lawfully : (run : Run) (s : Scene) → StandsFor run s → StandsLawfully run s
 lawfully run s stands = record { stands = stands; has_laws = laws_of run stands.lines }

@@ -1,6 +1,6 @@
 -- The data that the target writes for its initiators, while an agent writes the answer of its present ORB (NCITS 325-1998, command block ORB, data buffers and page tables):
 -- the write that the agent waits for is of the next chunk of the ORB's buffer, behind those bytes of the answer that were written, in the slot that the ORB has.
-use Rattle.std.specs.Prelude.{◌≡◌, ◌<◌, ◌≤◌, ◌+◌, ◌-◌, ◌^◌, ℕ, suc, true, List, ◌∷◌, ◌++◌, drop, length, map, take, Option, Some}
+use Rattle.std.specs.Prelude.{◌≡◌, ◌<◌, ◌≤◌, ◌+◌, ◌-◌, ◌^◌, ℕ, suc, true, List, [], ◌∷◌, ◌++◌, drop, length, map, take, Option, Some}
 use Rattle.command_agent.specs.declared.phase.Phase.TheVariants as phases
 use Rattle.command_agent.specs.Machine.{Machine, cut_to}
 use Rattle.bus_memory.specs.declared.window.Window.TheVariants as windows
@@ -79,6 +79,15 @@ pub data IsInTurn (past before : List Moment) (i n number : ℕ) (m : Machine) :
   is_first : runs before i n number ≡ 0 → m.written ≡ 0 → IsInTurn past before i n number m
   follows : (got : ℕ) (later : List Moment) → later ++ said (notes.Got got) ∷ before ≡ past → IsAnswered before i n number m got → IsInTurn past before i n number m
 
+-- The target sends no write of data to an initiator in these moments.
+abbrev pub IsDry : ℕ → Moment → Type 0
+IsDry i (said (notes.Sent serial generation from to bytes)) = from ≡ 0 → to ≡ suc i → (slot : ℕ) → IsDataWrite bytes slot → ⊥
+IsDry i moment = Unit {0}
+
+abbrev pub AreDry : ℕ → List Moment → Type 0
+AreDry i [] = Unit {0}
+AreDry i (moment ∷ before) = IsDry i moment × AreDry i before
+
 -- As the turn began in which it was sent, it was that of the first ORB of a list that had not ended.
 pub record WasPiece (past : List Moment) (i generation slot : ℕ) (access : Access) : Type 0 where
   pub later : List Moment
@@ -90,6 +99,8 @@ pub record WasPiece (past : List Moment) (i generation slot : ℕ) (access : Acc
   pub piece : IsPieceOf before i list (ends before i list) machine access.offset size
   pub bytes : access.payload ≡ machine.outgoing
   pub turn : IsInTurn past before i list (ends before i list) machine
+  -- none was sent before it in its turn
+  pub alone : AreDry i later
   -- it goes to the slot of this ORB, which ran, has not ended but as failed, and which the slot has where the write is in the initiator's generation
   pub slot_is : slot_at before i list (ends before i list) ≡ slot
   pub ran : 0 < runs past i list (ends before i list)

@@ -1,6 +1,6 @@
 -- How many logins the target gives in a run (NCITS 325-1998, login), whatever anyone injected. It has eight places for logins; a place comes free by a decision on a logout,
--- or behind a reset; and for each decision an initiator wrote MANAGEMENT_AGENT in a line of its own, or such a write was repeated. So fewer logins are given than nine for
--- each eight lines: in a run of a script, which has 65,536 lines at most, fewer than there are IDs.
+-- or behind a reset; and for each decision an initiator wrote MANAGEMENT_AGENT in a line of its own, or such a write was repeated. So there are nine lines for each
+-- eight logins, but for the first few: in a run of a script, which has 65,536 lines at most, fewer logins are given than there are IDs.
 use Rattle.std.specs.Prelude.{◌≡◌, ◌<◌, ◌≤◌, ℕ, ◌+◌, ◌*◌, length}
 use Rattle.sbp_world.specs.Histories.{history_of}
 use Rattle.sbp_world.specs.Runs.{Run}

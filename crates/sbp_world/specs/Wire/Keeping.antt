@@ -4,9 +4,11 @@ use Rattle.rbc_disk.specs.Held.{Held}
 use Rattle.rbc_disk.specs.Runs.{Told}
 use Rattle.sbp_journal.specs.declared.event.Event.{Event}
 use Rattle.sbp_journal.specs.declared.event.Event.TheVariants as events
+use Rattle.sbp_laws.specs.CarriedLaw.{RunsWhereDue}
 use Rattle.sbp_laws.specs.Lawful.{injectors}
 use Rattle.sbp_laws.specs.OnLists.{LawfulOnLists}
 use Rattle.sbp_laws.specs.OnTheBus.{LawfulOnTheBus}
+use Rattle.sbp_laws.specs.Turns.{EachTurn}
 use Rattle.sbp_world.specs.Histories.{history_of}
 use Rattle.sbp_world.specs.Lists.FewLogins.{IsTameOrFew}
 use Rattle.sbp_world.specs.Runs.{Run, StandsFor, entry, with_entry}
@@ -23,11 +25,13 @@ pub record IsLikeAScripts (run : Run) : Type 0 where
   pub count : length run.entries + 2 < 2 ^ 32
   pub lines : AreLines run run.entries
 
--- The laws of a run whose first line has this number: its history has those of the wire, its journal those of the lines of the bus; and where it
--- has one to four units, and no initiator injected packets or few logins were given, its history has those of lists.
+-- The laws of a run whose first line has this number: its history has those of the wire, its journal those of the lines of the bus; where it
+-- has one to four units, commands run in each turn exactly where they are due; and where then no initiator injected packets or few logins were
+-- given, its history has the laws of lists.
 pub record HasLaws (first : ℕ) (run : Run) : Type 0 where
   pub of_wire : IsOfWire (history_of first run)
   pub on_the_bus : LawfulOnTheBus (injectors (history_of first run)) (journal_run first run)
+  pub due : 0 < run.units → run.units ≤ 4 → EachTurn (RunsWhereDue (injectors (history_of first run)) run.start.disks) (history_of first run)
   pub on_lists : 0 < run.units → run.units ≤ 4 → IsTameOrFew (history_of first run) → LawfulOnLists (injectors (history_of first run)) run.start.disks (history_of first run)
 
 -- A world and its media stand for a run, which has the laws where it is such as a script's.

@@ -8,5 +8,5 @@ use Rattle.sbp_world.specs.Runs.{Run}
 use Rattle.sbp_world.specs.Hosts.Runs.{IsRun}
 use Rattle.sbp_world.specs.Lists.FewLogins.{IsTameOrFew}
 
-pub record ListsBesideLaw : Type 0 where
+pub record ListsLaw : Type 0 where
   pub lists : (line : ℕ) (run : Run) → IsRun run → 0 < run.units → run.units ≤ 4 → length run.start.disks ≡ run.units → IsTameOrFew (history_of line run) → LawfulOnLists (injectors (history_of line run)) run.start.disks (history_of line run)

@@ -1,0 +1,67 @@
+-- Serials count and responses answer what waits for them in every run; and where no initiator injected packets, no node did.
+use Rattle.std.proofs.Common.{◌≡◌, refl, subst, ℕ, zero, suc, false, List, ◌∷◌}
+use Rattle.sbp_world.proofs.Agents.Management.Holding.{past_terms}
+use Rattle.bus_transactions.specs.Packets.{SerialsCount}
+use Rattle.rbc_disk.specs.Disk.{Disk}
+use Rattle.sbp_journal.specs.Run.{Moment, asked, said}
+use Rattle.sbp_journal.specs.Wire.{Terms, terms}
+use Rattle.sbp_journal.specs.declared.note.Note.TheVariants as notes
+use Rattle.sbp_laws.specs.Turns.{EachMoment}
+use Rattle.sbp_world.specs.Making.{ready_logins}
+use Rattle.sbp_world.specs.Worlds.{WorldState}
+use Rattle.sbp_world.specs.Lists.OrbReads.{AnswersAt}
+use Rattle.sbp_world.specs.Lists.OwnLogins.{IsTame}
+use Rattle.sbp_world.proofs.Lists.AnswerGots.{answers_at}
+use Rattle.sbp_world.proofs.Lists.Calm.{injects_before}
+use Rattle.sbp_world.proofs.Lists.Courses.{EveryPlace, Keeps, at_between, at_lines}
+use Rattle.sbp_world.proofs.Lists.Judging.{counts_at}
+
+-- ---- of a history: its serials count, responses answer what waits for them, and no node injected packets
+pub record IsFair (past : List Moment) : Type 0 where
+  pub counts : SerialsCount past
+  pub answers : EachMoment AnswersAt past
+  pub fair : (node : ℕ) → (terms past).injects node ≡ false
+
+counts_before : (m : Moment) (past : List Moment) → SerialsCount (m ∷ past) → SerialsCount past
+counts_before (asked line event) past c = c
+counts_before (said (notes.Sent s generation from to bytes)) past c = c.1
+counts_before (said note) past c = c
+
+pub fair_before : (m : Moment) (past : List Moment) → IsFair (m ∷ past) → IsFair past
+fair_before m past f = record { counts = counts_before m past f.counts; answers = f.answers.1; fair = λ node. injects_before m past node (f.fair node) }
+
+-- ---- at each place of a run
+pub record Told (past : List Moment) : Type 0 where
+  counts : SerialsCount past
+  answers : EachMoment AnswersAt past
+  fair : (terms past).injects 0 ≡ false
+
+abbrev Nothing : List Disk → List Moment → WorldState → Type 0
+Nothing start past w = Unit {0}
+
+nothing : EveryPlace Nothing
+nothing = record { after_lines = λ line run r has small size so_far. tt; between = λ line run r has small size next most told m so_far. tt }
+
+all_told : (units ready : ℕ) (start : List Disk) → Keeps units ready start (Nothing start) (λ past w. Told past)
+all_told units ready start past s later t lines more g h h_now q q_now p =
+    let stands = h_now.sound.stands in
+    record {
+      counts = counts_at t.world stands;
+      answers = answers_at t.world stands;
+      fair = subst (λ (t : Terms). t.injects 0 ≡ false) (past_terms t.world stands) stands.is.fair;
+    }
+
+pub told_everywhere : EveryPlace (λ start past w. Told past)
+told_everywhere = record {
+  after_lines = λ line run r has small size so_far.
+      at_lines Nothing (λ past w. Told past) nothing line run r.few has small size (all_told run.units (ready_logins run.initiators run.ready) run.start.disks) (record { counts = tt; answers = (tt, (tt, tt)); fair = refl }) r so_far;
+  between = λ line run r has small size next most told m so_far.
+      at_between Nothing (λ past w. Told past) nothing line run r.few has small size (all_told run.units (ready_logins run.initiators run.ready) run.start.disks) (record { counts = tt; answers = (tt, (tt, tt)); fair = refl }) r next most told m so_far;
+}
+
+fair_nodes : (past : List Moment) → Told past → IsTame past → (node : ℕ) → (terms past).injects node ≡ false
+fair_nodes past t tame zero = t.fair
+fair_nodes past t tame (suc i) = tame i
+
+pub fair_of : (past : List Moment) → Told past → IsTame past → IsFair past
+fair_of past t tame = record { counts = t.counts; answers = t.answers; fair = fair_nodes past t tame }
