@@ -10,6 +10,7 @@ pub mod CutLists
 pub mod EndedLists
 pub mod Execution
 pub mod FewLogins
+pub mod FedNames
 pub mod FedRuns
 pub mod FewRuns
 pub mod FifoWrites
@@ -44,6 +45,7 @@ pub mod PlaceReads
 pub mod Places
 pub mod Placings
 pub mod Presents
+pub mod ReadFeeds
 pub mod ReadOrbs
 pub mod Responding
 pub mod Roms

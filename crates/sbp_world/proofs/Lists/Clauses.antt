@@ -8,12 +8,14 @@ use Rattle.sbp_world.specs.Lists.OneUp.{OneUpLaw}
 use Rattle.sbp_world.specs.Lists.Opened.{LogoutsLaw}
 use Rattle.sbp_world.specs.Lists.LawfulLists.{ListsLaw}
 use Rattle.sbp_world.specs.Lists.OwnReads.{OwnGotsLaw, OwnReadsLaw}
+use Rattle.sbp_world.specs.Lists.ReadFeeds.{ReadAndFedLaw}
 use Rattle.sbp_world.proofs.Lists.AnswerLengths.{answer_lengths_law}
 use Rattle.sbp_world.proofs.Lists.CarriedEnds.{were_read_law}
 use Rattle.sbp_world.proofs.Lists.DataLaws.{data_sent_law, data_held_law}
 use Rattle.sbp_world.proofs.Lists.FedOwnerRuns.{own_gots_law, own_reads_law}
 use Rattle.sbp_world.proofs.Lists.Lawful as proved
 use Rattle.sbp_world.proofs.Lists.OneUp.{one_up_law}
+use Rattle.sbp_world.proofs.Lists.ReadFeeds.{read_and_fed_law}
 use Rattle.sbp_world.proofs.Lists.ShortLines.{short_law}
 use Rattle.sbp_world.specs.Lists.DataHolds.{DataHeldLaw}
 
@@ -35,14 +37,17 @@ lengths_law = answer_lengths_law lists_law
 pub data_law : DataSentLaw
 data_law = data_sent_law short_law
 
-pub reads_law : WereReadLaw
-reads_law = were_read_law open_lists_law
-
 pub own_law : OwnReadsLaw
 own_law = own_reads_law open_lists_law
 
 pub one_up : OneUpLaw
 one_up = one_up_law short_law open_lists_law
+
+pub reads_law : WereReadLaw
+reads_law = were_read_law open_lists_law one_up
+
+pub feeds_law : ReadAndFedLaw
+feeds_law = read_and_fed_law open_lists_law one_up
 
 pub held_law : DataHeldLaw
 held_law = data_held_law short_law

@@ -67,6 +67,9 @@ use Rattle.sbp_world.proofs.Lists.EndNames.{EndNamedAt, ended_named, plain_named
 use Rattle.sbp_world.proofs.Lists.RunNames.{RunNamedAt, named_so, plain_named as run_plain}
 use Rattle.sbp_world.proofs.Lists.NamedPlaces.{HasNames, has_names, line_names}
 use Rattle.sbp_world.proofs.Lists.LedRuns.{led_everywhere}
+use Rattle.sbp_world.proofs.Lists.FedStillPlaces.{line_fed}
+use Rattle.sbp_world.proofs.Lists.FedStillReads.{AreFedStill}
+use Rattle.sbp_world.proofs.Lists.FedStillRuns.{fed_everywhere}
 use Rattle.sbp_world.proofs.Lists.StillRuns.{still_everywhere}
 use Rattle.sbp_world.proofs.Lists.StillReads.{AreStill}
 use Rattle.sbp_world.specs.Lists.OrbNames.{AreLed}
@@ -314,14 +317,28 @@ module _ (wild : ℕ → Bool) (line : ℕ) (run : Run) (few : run.initiators �
     line_heard_here next event r as_opened waits i own = line_heard run.units logins has start here.world b.holds site_here next event r as_opened waits (asked_so_far i own)
 
     -- and by which names
-    names_here : Tamely wild → HasNames start b.past here.world
-    names_here tamely =
+    known_here : Tamely wild → AreLed start (hist b.past here.world) × (AreStill start (hist b.past here.world) here.world × AreFedStill start (hist b.past here.world) here.world)
+    known_here tamely =
         let place = as_front line run entries entries (so_far 0 (tamely.1 0)) in
         let tame : IsTame (hist b.past here.world) = λ i. past_calm i (tamely.1 i) in
-        let tame_front = subst IsTame (sym same_history) tame in
-        has_names run.units logins has start here.world b.holds (site wild (opened wild) line run few has small size entries short all fit b.past (length entries) b.holds b.is)
-        (subst (AreLed start) same_history ((led_everywhere tamely.0).after_lines line front front_run has small size place tame_front))
-        (subst (λ ms. AreStill start ms here.world) same_history ((still_everywhere tamely.0).after_lines line front front_run has small size place tame_front))
+        let tame_front = subst IsTame (sym same_history) tame in (
+          subst (AreLed start) same_history ((led_everywhere tamely.0).after_lines line front front_run has small size place tame_front),
+          (
+            subst (λ ms. AreStill start ms here.world) same_history ((still_everywhere tamely.0).after_lines line front front_run has small size place tame_front),
+            subst (λ ms. AreFedStill start ms here.world) same_history ((fed_everywhere tamely.0).after_lines line front front_run has small size place tame_front),
+          ),
+        )
+
+    names_here : Tamely wild → HasNames start b.past here.world
+    names_here tamely =
+        let x = known_here tamely in
+        has_names run.units logins has start here.world b.holds (site wild (opened wild) line run few has small size entries short all fit b.past (length entries) b.holds b.is) x.0 x.1.0 (asked_so_far 0 (tamely.1 0)) x.1.1
+
+    names_line : (next : ℕ) (event : Event) (r : Bool) → ((t : Terms) → opened_by event t ≡ record t { repeats = r }) → AreAskedAt start (asked next event ∷ hist b.past here.world) → Tamely wild → HasNames start (asked next event ∷ hist b.past here.world) (without_notes here.world)
+    names_line next event r as_opened waits tamely =
+        let x = known_here tamely in
+        line_names start next event r as_opened b.past here.world (names_here tamely)
+        (line_fed run.units logins has start here.world b.holds site_here (asked_so_far 0 (tamely.1 0)) x.0 x.1.1 next event r as_opened waits)
 
     -- as a line begins
     module _ (next : ℕ) (event : Event) (e : is_reset event ≡ false) where
@@ -417,7 +434,7 @@ module _ (wild : ℕ → Bool) (line : ℕ) (run : Run) (few : run.initiators �
         heard_there i own =
             has_heard run.units logins has start (at told) holds_there (site_at wild (opened wild) line run few has small size entries short all fit b.past (length entries) b.holds b.is next event d told m) (asked_there i own)
 
-        names_by : Tamely wild → (o : Option ℕ) → OpenWhile (asked next (more_deliveries o) ∷ moments_behind line run entries) told (begun here) → IsTame (map said (at told).fresh ++ asked next (more_deliveries o) ∷ hist b.past here.world) → (let ms = map said (at told).fresh ++ asked next (more_deliveries o) ∷ hist b.past here.world in AreLed start ms × AreStill start ms (at told))
+        names_by : Tamely wild → (o : Option ℕ) → OpenWhile (asked next (more_deliveries o) ∷ moments_behind line run entries) told (begun here) → IsTame (map said (at told).fresh ++ asked next (more_deliveries o) ∷ hist b.past here.world) → (let ms = map said (at told).fresh ++ asked next (more_deliveries o) ∷ hist b.past here.world in AreLed start ms × (AreStill start ms (at told) × AreFedStill start ms (at told)))
         names_by tamely o goes tame =
             let same = sym (moments_same line run entries entries) in
             let back = sym same_history in
@@ -428,14 +445,17 @@ module _ (wild : ℕ → Bool) (line : ℕ) (run : Run) (few : run.initiators �
             } in
             let tame_front = subst (λ ms. IsTame (map said (at told).fresh ++ asked next (more_deliveries o) ∷ ms)) back tame in (
               subst (λ ms. AreLed start (map said (at told).fresh ++ asked next (more_deliveries o) ∷ ms)) same_history ((led_everywhere tamely.0).between line front front_run has small size next o told m place tame_front),
-              subst (λ ms. AreStill start (map said (at told).fresh ++ asked next (more_deliveries o) ∷ ms) (at told)) same_history ((still_everywhere tamely.0).between line front front_run has small size next o told m place tame_front),
+              (
+                subst (λ ms. AreStill start (map said (at told).fresh ++ asked next (more_deliveries o) ∷ ms) (at told)) same_history ((still_everywhere tamely.0).between line front front_run has small size next o told m place tame_front),
+                subst (λ ms. AreFedStill start (map said (at told).fresh ++ asked next (more_deliveries o) ∷ ms) (at told)) same_history ((fed_everywhere tamely.0).between line front front_run has small size next o told m place tame_front),
+              ),
             )
 
         names_there : Tamely wild → HasNames start now (at told)
         names_there tamely =
-            let x = more_by (λ y. OpenWhile (asked next y ∷ moments_behind line run entries) told (begun here) → IsTame (map said (at told).fresh ++ asked next y ∷ hist b.past here.world) → (let ms = map said (at told).fresh ++ asked next y ∷ hist b.past here.world in AreLed start ms × AreStill start ms (at told)))
+            let x = more_by (λ y. OpenWhile (asked next y ∷ moments_behind line run entries) told (begun here) → IsTame (map said (at told).fresh ++ asked next y ∷ hist b.past here.world) → (let ms = map said (at told).fresh ++ asked next y ∷ hist b.past here.world in AreLed start ms × (AreStill start ms (at told) × AreFedStill start ms (at told))))
             (λ o. names_by tamely o) event d (before 0 (tamely.1 0)) (λ i. c i (tamely.1 i)) in
-            has_names run.units logins has start (at told) holds_there (site_at wild (opened wild) line run few has small size entries short all fit b.past (length entries) b.holds b.is next event d told m) x.0 x.1
+            has_names run.units logins has start (at told) holds_there (site_at wild (opened wild) line run few has small size entries short all fit b.past (length entries) b.holds b.is next event d told m) x.0 x.1.0 (asked_there 0 (tamely.1 0)) x.1.1
 
         set_there : IsSet wild start now (after_all told (begun here))
         set_there = record {
@@ -501,7 +521,7 @@ module _ (wild : ℕ → Bool) (line : ℕ) (run : Run) (few : run.initiators �
         let e = events.Deliver serial in
         let past = asked next e ∷ hist b.past here.world in
         let set = set_open next e refl (λ i own. line_reads start next e false (λ t. refl) b.past here.world (reads_here i own)) (λ i own. line_heard_here next e false (λ t. refl) (delivering_asks start (hist b.past here.world) site_here.asked next serial) i own) in
-        let names : Tamely wild → HasNames start past (without_notes here.world) = λ tamely. line_names start next e false (λ t. refl) b.past here.world (names_here tamely) in
+        let names : Tamely wild → HasNames start past (without_notes here.world) = names_line next e false (λ t. refl) (delivering_asks start (hist b.past here.world) site_here.asked next serial) in
         let comes = one_comes (begun here) set.ready.good next serial false (is_in_flight serial (begun here).world) told m in (
           one_law wild start past (NoneRun (begun here) set.ready.good next serial false told) (OneRan (begun here) set.ready.good next serial false told) [] _ (one_told wild start past (begun here) set names next serial false told) comes p ((tt, (tt, (tt, (tt, tt)))), l.0),
           (
@@ -514,7 +534,7 @@ module _ (wild : ℕ → Bool) (line : ℕ) (run : Run) (few : run.initiators �
         let e = events.Repeat serial in
         let past = asked next e ∷ hist b.past here.world in
         let set = set_open next e refl (λ i own. line_reads start next e true (λ t. refl) b.past here.world (reads_here i own)) (λ i own. line_heard_here next e true (λ t. refl) (repeating_asks start (hist b.past here.world) site_here.asked next serial) i own) in
-        let names : Tamely wild → HasNames start past (without_notes here.world) = λ tamely. line_names start next e true (λ t. refl) b.past here.world (names_here tamely) in
+        let names : Tamely wild → HasNames start past (without_notes here.world) = names_line next e true (λ t. refl) (repeating_asks start (hist b.past here.world) site_here.asked next serial) in
         let comes = one_comes (begun here) set.ready.good next serial true (may_repeat serial (begun here).world) told m in (
           one_law wild start past (NoneRun (begun here) set.ready.good next serial true told) (OneRan (begun here) set.ready.good next serial true told) [] _ (one_told wild start past (begun here) set names next serial true told) comes p ((tt, (tt, (tt, (tt, tt)))), l.0),
           (

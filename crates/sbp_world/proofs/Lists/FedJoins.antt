@@ -100,13 +100,17 @@ module _ (start : List Disk) (past : List Moment) (f : IsFair past) (j : AreJudg
   abbrev read_is : orb_read past r ≡ fed.orb
   read_is = orb_is start past fed.place (address_of past i n k) fed.orb fed.brought f.counts
 
-  run_since : RunIsSince start past i n k bytes
+  pub run_since : RunIsSince start past i n k bytes
   run_since = record {
     fed = fed;
     whole = λ o p. let b = beside o p in subst Whole (sym read_is) (fed.size_beside (reads_since past i r) b, fed.payloads_beside (reads_since past i r) b);
     plain = subst (λ (orb : CommandOrb). orb.has_table ≡ false → IsSomeAnd (request_at past i n k) (λ request. bytes_of (buffer_in orb (reads_since past i r)) ≡ (plan_of request.buffer).bytes)) (sym read_is) plain_size;
     empty = subst (λ (orb : CommandOrb). orb.has_table ≡ false → orb.data_size ≡ 0 → bytes ≡ joined (chunks (limit_of orb) (buffer_in orb (reads_since past i r))) (reads_since past i r)) (sym read_is) no_data;
   }
+
+  pub since_fed : run_since.fed ≡ fed
+  unfolding run_since
+  since_fed = refl
 
 -- ---- at each moment
 module _ (wild : ℕ → Bool) (calm : (i : ℕ) → wild i ≡ false) (start : List Disk) where

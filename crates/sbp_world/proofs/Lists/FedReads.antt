@@ -1,42 +1,28 @@
 -- At each moment of a history, before which the agents of the terms of the target waited for what they asked for as packets were got, each agent has the buffer and the data that its
 -- reads brought since its turn came to its ORB, behind the response that brought the ORB.
-use Rattle.std.proofs.Common.{arith, ◌≡◌, ◌∙◌, refl, sym, ap, subst, ◌<◌, ◌==◌, ℕ, ◌+◌, ◌*◌, Bool, true, false, cond, length, append-nil, append_assoc, List, [], ◌∷◌, ◌++◌, Option, Some, None, Ok}
-use Rattle.std.proofs.lemmas.Bool.Decides.{nat_tests}
-use Rattle.agent_laws.specs.Along.Requests.{main_ask}
-use Rattle.sbp_world.specs.Agents.AskedRuns.{AreAskedAt, IsAccessFor, read_access, serial_of}
-use Rattle.sbp_world.proofs.Agents.Management.Firsts.{wire_is}
-use Rattle.command_agent.specs.declared.phase.Phase.TheVariants as phases
-use Rattle.command_agent.specs.declared.step.Which.{Which}
-use Rattle.command_agent.specs.declared.step.Which.TheVariants.{Ahead, Main}
-use Rattle.command_agent.specs.Machine.{Machine, chunk_of, limit_of}
-use Rattle.orb_layout.specs.declared.ask.Ask.{Ask}
-use Rattle.orb_layout.specs.declared.ask.Ask.TheVariants as requests
+use Rattle.std.proofs.Common.{◌≡◌, ◌∙◌, refl, sym, ap, subst, ℕ, true, List, [], ◌∷◌, ◌++◌, Some}
+use Rattle.sbp_world.specs.Agents.AskedRuns.{AreAskedAt}
+use Rattle.command_agent.specs.declared.step.Which.TheVariants.{Main}
+use Rattle.command_agent.specs.Machine.{Machine}
 use Rattle.orb_layout.specs.declared.command.CommandOrb.{CommandOrb}
-use Rattle.orb_layout.specs.Replies.{Answer, payload_of}
-use Rattle.page_table.specs.declared.segment.Segment.{Segment}
 use Rattle.rbc_disk.specs.Disk.{Disk}
-use Rattle.sbp_journal.specs.Addresses.{Access}
 use Rattle.sbp_journal.specs.Run.{Moment, asked, said}
-use Rattle.sbp_journal.specs.Wire.{Terms, terms}
+use Rattle.sbp_journal.specs.Wire.{terms}
 use Rattle.sbp_journal.specs.declared.note.Note.{Note}
 use Rattle.sbp_journal.specs.declared.note.Note.TheVariants as notes
-use Rattle.sbp_laws.specs.CarriedBytes.{Moved, bytes_in, moved_by, payload_at}
-use Rattle.command_agent.specs.Tasks.{writes_status}
-use Rattle.sbp_laws.specs.Agents.{fifo_in}
-use Rattle.sbp_laws.specs.Packets.{access_at, answer_in, answered_at, id_for, packet_at, receiver_in, sender_in}
-use Rattle.sbp_laws.specs.Targets.{Agent, Purpose, Reply, Target, agent_at, for_agent, for_manager, for_nobody, is_serial, got_by, known_at, login_at, manager_step, over, purpose_of, replied_to, target_at, target_by}
+use Rattle.sbp_laws.specs.CarriedBytes.{Moved}
+use Rattle.sbp_laws.specs.Packets.{answer_in, answered_at, packet_at, receiver_in}
+use Rattle.sbp_laws.specs.Targets.{Agent, agent_at, for_agent, is_serial, over, purpose_of, target_at}
 use Rattle.sbp_laws.specs.Turns.{EachMoment}
-use Rattle.std.specs.Prelude.{unwrap_or}
-use Rattle.sbp_world.specs.Lists.FedRuns.{is_main_of, main_moved, main_read, own_reads}
+use Rattle.sbp_world.specs.Lists.FedRuns.{main_read, own_reads}
 use Rattle.sbp_world.specs.Lists.OrbReads.{AskedAsGot, IsBrought}
-use Rattle.sbp_world.proofs.Lists.Brought.{paid}
-use Rattle.sbp_world.proofs.Lists.FedFolds.{AreSo, AreStill, IsKept, Pends, over_still, so}
-use Rattle.sbp_world.proofs.Lists.FedNotes.{managed_kept, note_kept, request_kept}
-use Rattle.sbp_world.proofs.Lists.FedPieces.{IsPiece, all_bytes, all_more, turn_more}
-use Rattle.sbp_world.proofs.Lists.FedSteps.{Feeding, Hears, IsFed, Tabling, abort_feeds, ahead_steps, bell_feeds, late_feeds, lost_feeds, main_steps, new_feeds, point_feeds, reset_feeds, unheard_feeds}
+use Rattle.sbp_world.proofs.Lists.FedFolds.{AreSo, AreStill, IsKept}
+use Rattle.sbp_world.proofs.Lists.FedGoing as going
+use Rattle.sbp_world.proofs.Lists.FedGoing.{IsNoGot, same_reads}
+use Rattle.sbp_world.proofs.Lists.FedSteps.{Hears, IsFed, new_feeds}
 use Rattle.sbp_world.proofs.Lists.ManageTerms.{none_is}
 use Rattle.sbp_world.proofs.Lists.OrbFolds.{new_there}
-use Rattle.sbp_world.proofs.Lists.OrbReading.{ahead_more, brings, brought_more}
+use Rattle.sbp_world.proofs.Lists.OrbReading.{brought_more, got_brings}
 
 -- ---- the agent of a place turned to an ORB that a response brought, and its reads brought these since
 pub record IsTurned (start : List Disk) (past : List Moment) (place at : ℕ) (orb : CommandOrb) (reads : List Moved) : Type 0 where
@@ -54,31 +40,7 @@ module _ (start : List Disk) where
   pub turns_to : (past : List Moment) (q at : ℕ) (orb : CommandOrb) → IsBrought start past q at orb → IsTurned start past q at orb []
   turns_to past q at orb b = record { brought = b; later = []; between = b.later; is = b.is; reads_are = refl }
 
-  pub kept : (past : List Moment) → IsKept (Fed past)
-  kept past = record {
-    new = λ q. new_feeds (IsBrought start past q) (IsTurned start past q) (turns_to past q);
-    cut = λ q m. reset_feeds (IsBrought start past q) (IsTurned start past q) (turns_to past q) m;
-    aborted = λ q m orb h. abort_feeds (IsBrought start past q) (IsTurned start past q) (turns_to past q) m orb h;
-    pointed = λ q m pointer h. point_feeds (IsBrought start past q) (IsTurned start past q) (turns_to past q) m pointer h;
-    rung = λ q m h. bell_feeds (IsBrought start past q) (IsTurned start past q) (turns_to past q) m h;
-    lost = λ q m which h. (lost_feeds (IsBrought start past q) (IsTurned start past q) (turns_to past q) m which _ h).fed;
-    late = λ q m plain told which h. (late_feeds (IsBrought start past q) (IsTurned start past q) (turns_to past q) m q plain told which h).fed;
-    unheard = λ q plain told which answer. (unheard_feeds (IsBrought start past q) (IsTurned start past q) (turns_to past q) q plain told which answer).fed;
-  }
-
   -- ---- the history goes on
-  abbrev IsNoGot : Moment → Type 0
-  IsNoGot (said (notes.Got serial)) = ⊥
-  IsNoGot moment = Unit {0}
-
-  same_reads : (m : Moment) → IsNoGot m → (q : ℕ) (later before : List Moment) → own_reads start q (m ∷ later) before ≡ own_reads start q later before
-  same_reads (asked line event) n q later before = refl
-  same_reads (said note) n q later before = by note n
-    where
-      by : (note : Note) → IsNoGot (said note) → own_reads start q (said note ∷ later) before ≡ own_reads start q later before
-      by (notes.Got serial) n = absurd n
-      by note n = refl
-
   turned_more : (m : Moment) → IsNoGot m → (past : List Moment) (q at : ℕ) (orb : CommandOrb) (reads : List Moved) → IsTurned start past q at orb reads → IsTurned start (m ∷ past) q at orb reads
   unfolding brought_more
   turned_more m n past q at orb reads t = record {
@@ -86,7 +48,7 @@ module _ (start : List Disk) where
     later = m ∷ t.later;
     between = t.between;
     is = ap (λ ms. m ∷ ms) t.is;
-    reads_are = t.reads_are ∙ sym (same_reads m n q t.later _);
+    reads_are = t.reads_are ∙ sym (same_reads start m n q t.later _);
   }
 
   turned_got : (serial : ℕ) (past : List Moment) (q at : ℕ) (orb : CommandOrb) (reads more : List Moved) → main_read start past q serial ≡ more → IsTurned start past q at orb reads → IsTurned start (said (notes.Got serial) ∷ past) q at orb (reads ++ more)
@@ -101,169 +63,24 @@ module _ (start : List Disk) where
         reads_are = ap (λ xs. xs ++ more) t.reads_are ∙ ap (λ xs. own_reads start q t.later (t.between ++ said (notes.Got t.brought.response) ∷ t.brought.earlier) ++ xs) (sym e ∙ ap (λ ms. main_read start ms q serial) (sym t.is));
       }
 
-  turned_same : (serial : ℕ) (past : List Moment) (q : ℕ) → main_read start past q serial ≡ [] → (at : ℕ) (orb : CommandOrb) (reads : List Moved) → IsTurned start past q at orb reads → IsTurned start (said (notes.Got serial) ∷ past) q at orb reads
-  turned_same serial past q e at orb reads t = subst (IsTurned start (said (notes.Got serial) ∷ past) q at orb) (append-nil reads) (turned_got serial past q at orb reads [] e t)
+  more : (m : Moment) (past : List Moment) (q at : ℕ) (orb : CommandOrb) → IsBrought start past q at orb → IsBrought start (m ∷ past) q at orb
+  more m past q at orb b = brought_more start m past q at orb b
 
-  -- what is known of an agent is so later
-  module _ (past now : List Moment) (q : ℕ) (b : (at : ℕ) (orb : CommandOrb) → IsBrought start past q at orb → IsBrought start now q at orb) (t : (at : ℕ) (orb : CommandOrb) (reads : List Moved) → IsTurned start past q at orb reads → IsTurned start now q at orb reads) where
-    feeding_later : (at : ℕ) (orb : CommandOrb) (segments : List Segment) (payload : List ℕ) (wanted : ℕ) → Feeding (IsTurned start past q) at orb segments payload wanted → Feeding (IsTurned start now q) at orb segments payload wanted
-    feeding_later at orb segments payload wanted d = record { tables = d.tables; pieces = d.pieces; turned = t at orb (d.tables ++ d.pieces) d.turned; table = d.table; bytes = d.bytes; turn = d.turn }
+  pub kept : (past : List Moment) → IsKept (Fed past)
+  kept past = going.kept start (IsBrought start) (IsTurned start) turns_to more turned_more turned_got past
 
-    tabling_later : (at : ℕ) (orb : CommandOrb) (payload : List ℕ) → Tabling (IsTurned start past q) at orb payload → Tabling (IsTurned start now q) at orb payload
-    tabling_later at orb payload d = record { turned = t at orb [] d.turned; empty = d.empty; reads = d.reads }
-
-    fed_later : (m : Machine) → Fed past q m → Fed now q m
-    fed_later m h = record {
-      main = record {
-        fetching = h.main.fetching;
-        tabling = λ e. tabling_later m.present m.orb m.payload (h.main.tabling e);
-        filling = λ wanted e. feeding_later m.present m.orb m.segments m.payload wanted (h.main.filling wanted e);
-      };
-      ahead = ahead_more (IsBrought start past q) (IsBrought start now q) b m.orb.next m.ahead h.ahead;
-      idle = h.idle;
-    }
-
-  fed_more : (m : Moment) → IsNoGot m → (past : List Moment) (q : ℕ) (machine : Machine) → Fed past q machine → Fed (m ∷ past) q machine
-  fed_more m n past q machine h = fed_later past (m ∷ past) q (λ at orb x. brought_more start m past q at orb x) (turned_more m n past q) machine h
-
-  fed_same : (serial : ℕ) (past : List Moment) (q : ℕ) → main_read start past q serial ≡ [] → (machine : Machine) → Fed past q machine → Fed (said (notes.Got serial) ∷ past) q machine
-  fed_same serial past q e machine h = fed_later past (said (notes.Got serial) ∷ past) q (λ at orb x. brought_more start (said (notes.Got serial)) past q at orb x) (turned_same serial past q e) machine h
-
-  -- ---- a packet is got
-  module _ (past : List Moment) (serial : ℕ) (waits : AreAskedAt start past) where
-    abbrev wire : Terms
-    wire = terms past
-
-    abbrev T : Target
-    T = over (target_at start past)
-
+  -- ---- a packet is got, the answer to a main request
+  module _ (past : List Moment) (serial : ℕ) (waits : AreAskedAt start past) (by_target : is_serial (receiver_in ((terms past).sent serial)) 0 ≡ true) (own : ℕ) (closed : answered_at (terms past) serial ≡ Some own) (place : ℕ) (h : AreStill (Fed past) (over (target_at start past))) (purpose : purpose_of (over (target_at start past)) own ≡ for_agent place Main) where
     abbrev now : List Moment
     now = said (notes.Got serial) ∷ past
 
-    abbrev answer : Answer
-    answer = answer_in (packet_at wire serial)
-
-    all_same : ((q : ℕ) → main_read start past q serial ≡ []) → AreStill (Fed past) T → AreStill (Fed now) T
-    all_same e h = record { agents = λ q. fed_same serial past q (e q) (agent_at T q).machine (h.agents q); none = h.none }
-
-    module _ (by_target : is_serial (receiver_in (wire.sent serial)) 0 ≡ true) (own : ℕ) (closed : answered_at wire serial ≡ Some own) where
-      read_is : (p : Purpose) → purpose_of T own ≡ p → (q : ℕ) → main_read start past q serial ≡ cond (is_main_of p q) (moved_by (access_at wire own) (payload_at wire serial)) []
-      read_is p e q =
-          ap (λ b. cond b (main_moved wire T q serial (answered_at wire serial)) []) by_target
-          ∙ ap (λ o. main_moved wire T q serial o) closed
-          ∙ ap (λ (x : Purpose). cond (is_main_of x q) (moved_by (access_at wire own) (payload_at wire serial)) []) e
-
-      module _ (place : ℕ) (h : AreStill (Fed past) T) where
-        abbrev m : Machine
-        m = (agent_at T place).machine
-
-        -- the answer to its main request
-        module _ (purpose : purpose_of T own ≡ for_agent place Main) where
-          abbrev handed : (place < 8) × (serial_of Main (agent_at T place) ≡ Some own)
-          handed = waits.handed own place Main purpose
-
-          moved_is : (offset size : ℕ) → main_ask m.phase m ≡ requests.Read offset size → (bytes : List ℕ) → payload_of answer size ≡ Ok bytes → main_read start past place serial ≡ record { offset = offset; bytes = bytes } ∷ []
-          moved_is offset size f bytes whole =
-              let x = (waits.all place handed.0).main own handed.1 in
-              let is : x.access ≡ read_access offset size = subst (λ (y : Ask). IsAccessFor y (writes_status m.phase) (fifo_in (login_at T place)) x.access) f x.asks in
-              let p = paid answer size bytes whole in
-              read_is (for_agent place Main) purpose place
-              ∙ ap (λ b. cond b (moved_by (access_at wire own) (payload_at wire serial)) []) (let z : (place == place) ≡ true = grind (arith, nat_tests) in z)
-              ∙ ap (λ (a : Option Access). moved_by a (payload_at wire serial)) (x.is ∙ ap (λ (a : Access). Some a) is)
-              ∙ ap (λ (y : Answer). record { offset = offset; bytes = bytes_in y } ∷ []) p.is
-
-          tabled : (e : m.phase ≡ phases.ReadingTable) (bytes : List ℕ) → payload_of answer (8 * m.orb.data_size) ≡ Ok bytes → IsTurned start now place m.present m.orb (record { offset = m.orb.descriptor; bytes = bytes } ∷ [])
-          tabled e bytes f =
-              turned_got serial past place m.present m.orb [] (record { offset = m.orb.descriptor; bytes = bytes } ∷ []) (moved_is m.orb.descriptor (8 * m.orb.data_size) (ap (λ phase. main_ask phase m) e) bytes f)
-              ((h.agents place).main.tabling e).turned
-
-          filled : (wanted : ℕ) (e : m.phase ≡ phases.ReadingData wanted) (bytes : List ℕ) → payload_of answer (chunk_of m (length m.payload) wanted).length ≡ Ok bytes → Feeding (IsTurned start now place) m.present m.orb m.segments (m.payload ++ bytes) wanted
-          filled wanted e bytes f =
-              let d = (h.agents place).main.filling wanted e in
-              let taken = chunk_of m (length m.payload) wanted in
-              let one : Moved = record { offset = taken.offset; bytes = bytes } in
-              let got = turned_got serial past place m.present m.orb (d.tables ++ d.pieces) (one ∷ []) (moved_is taken.offset taken.length (ap (λ phase. main_ask phase m) e) bytes f) d.turned in
-              let piece : IsPiece m.segments (limit_of m.orb) wanted (length m.payload) one = record { offset = refl; size = (paid answer taken.length bytes f).size_is } in
-              let at : length m.payload ≡ 0 + length (all_bytes d.pieces) = (let z = ap (λ (xs : List ℕ). length xs) d.bytes in omega (arith, z)) in
-              record {
-                tables = d.tables;
-                pieces = d.pieces ++ one ∷ [];
-                turned = subst (IsTurned start now place m.present m.orb) (append_assoc d.tables d.pieces (one ∷ [])) got;
-                table = d.table;
-                bytes = ap (λ xs. xs ++ bytes) d.bytes ∙ sym (all_more d.pieces one);
-                turn = turn_more m.segments (limit_of m.orb) wanted 0 d.pieces one d.turn (subst (λ n. IsPiece m.segments (limit_of m.orb) wanted n one) at piece);
-              }
-
-          pub hears : Hears (IsBrought start now place) (IsTurned start now place) (turns_to now place) m answer
-          hears =
-              let x = h.agents place in
-              record {
-                fetched = λ e. (x.main.fetching e, λ bytes f. (brings start past serial waits by_target own closed place Main handed.0 handed.1).main refl e bytes f);
-                tabled = λ e. let t = x.main.tabling e in (t.empty, (t.reads, tabled e));
-                filled = filled;
-                ahead = ahead_more (IsBrought start past place) (IsBrought start now place) (λ at orb b. brought_more start (said (notes.Got serial)) past place at orb b) m.orb.next m.ahead x.ahead;
-                idle = x.idle;
-              }
-
-          main_pends : Pends (Fed now) m (record { place = place; which = Main; answer = answer })
-          main_pends plain told = (main_steps (IsBrought start now place) (IsTurned start now place) (turns_to now place) m place plain told answer hears).fed
-
-        -- the answer to its read ahead
-        module _ (purpose : purpose_of T own ≡ for_agent place Ahead) where
-          ahead_pends : Pends (Fed now) m (record { place = place; which = Ahead; answer = answer })
-          ahead_pends plain told =
-              let handed = waits.handed own place Ahead purpose in
-              let x = fed_same serial past place (read_is (for_agent place Ahead) purpose place) m (h.agents place) in
-              (ahead_steps (IsBrought start now place) (IsTurned start now place) (turns_to now place) m place plain told answer x
-              (λ e offset f bytes g. (brings start past serial waits by_target own closed place Ahead handed.0 handed.1).ahead refl e offset f bytes g)).fed
-
-        pends : (which : Which) → purpose_of T own ≡ for_agent place which → Pends (Fed now) m (record { place = place; which = which; answer = answer })
-        pends Main purpose = main_pends purpose
-        pends Ahead purpose = ahead_pends purpose
-
-        none_read : (which : Which) (q : ℕ) → purpose_of T own ≡ for_agent place which → (place == q) ≡ false → main_read start past q serial ≡ []
-        none_read Main q purpose e = read_is (for_agent place Main) purpose q ∙ ap (λ b. cond b (moved_by (access_at wire own) (payload_at wire serial)) []) e
-        none_read Ahead q purpose e = read_is (for_agent place Ahead) purpose q
-
-      abbrev Then : Target → Type 0
-      Then t = AreSo (Fed now) t
-
-      to_purpose : (p : Purpose) → purpose_of T own ≡ p → AreStill (Fed past) T → Then (replied_to p answer T)
-      to_purpose (for_agent place which) e h = record {
-        agents = λ q f. fed_same serial past q (none_read place h which q e f) (agent_at T q).machine (h.agents q);
-        pending = λ reply f.
-            let mine : Reply = record { place = place; which = which; answer = answer } in
-            let same : mine ≡ reply = (let both : Some mine ≡ Some reply = f in cc) in
-            subst (λ (r : Reply). Pends (Fed now) (agent_at T r.place).machine r) same (pends place h which e);
-      }
-      to_purpose for_manager e h = so (Fed now) _ (managed_kept (Fed now) (kept now) (manager_step T answer) answer T (all_same (λ q. read_is for_manager e q) h))
-      to_purpose for_nobody e h = so (Fed now) T (all_same (λ q. read_is for_nobody e q) h)
-
-    got_own : (by_target : is_serial (receiver_in (wire.sent serial)) 0 ≡ true) (own : Option ℕ) → answered_at wire serial ≡ own → AreStill (Fed past) T → AreSo (Fed now) (got_by own wire serial T)
-    got_own by_target (Some own) e h = to_purpose by_target own e (purpose_of T own) refl h
-    got_own by_target None e h =
-        let none : (q : ℕ) → main_read start past q serial ≡ [] = λ q. ap (λ b. cond b (main_moved wire T q serial (answered_at wire serial)) []) by_target ∙ ap (λ o. main_moved wire T q serial o) e in
-        so (Fed now) _ (request_kept (Fed now) (kept now) (access_at wire serial) (id_for wire 0 (unwrap_or (sender_in (wire.sent serial)) 0)) T (all_same none h))
-
-    got_by_receiver : (b : Bool) → is_serial (receiver_in (wire.sent serial)) 0 ≡ b → AreStill (Fed past) T → AreSo (Fed now) (cond b (got_by (answered_at wire serial) wire serial T) T)
-    got_by_receiver true e h = got_own e (answered_at wire serial) refl h
-    got_by_receiver false e h = so (Fed now) T (all_same (λ q. ap (λ b. cond b (main_moved wire T q serial (answered_at wire serial)) []) e) h)
-
-    got_so : AreSo (Fed past) (target_at start past) → AreSo (Fed now) (target_by (notes.Got serial) past wire (target_at start past))
-    got_so h = got_by_receiver (is_serial (receiver_in (wire.sent serial)) 0) refl (over_still (Fed past) (kept past) (target_at start past) h)
+    pub hears : Hears (IsBrought start now place) (IsTurned start now place) (turns_to now place) (agent_at (over (target_at start past)) place).machine (answer_in (packet_at (terms past) serial))
+    hears = going.hears start (IsBrought start) (IsTurned start) turns_to more turned_more turned_got past serial waits (got_brings start past serial waits) by_target own closed place h purpose
 
   -- ---- at each moment
-  all_more_so : (m : Moment) → IsNoGot m → (past : List Moment) (t : Target) → AreSo (Fed past) t → AreSo (Fed (m ∷ past)) t
-  all_more_so m n past t h = record {
-    agents = λ q e. fed_more m n past q (agent_at t q).machine (h.agents q e);
-    pending = λ reply e plain told. fed_more m n past reply.place _ (h.pending reply e plain told);
-  }
-
-  on_note : (note : Note) (past : List Moment) → AskedAsGot start (said note) past → AreSo (Fed past) (target_at start past) → AreSo (Fed (said note ∷ past)) (target_by note past (known_at start past).wire (target_at start past))
-  on_note (notes.Got serial) past waits h =
-      subst (λ (w : Terms). AreSo (Fed (said (notes.Got serial) ∷ past)) (target_by (notes.Got serial) past w (target_at start past))) (sym (wire_is start past)) (got_so past serial waits h)
-  on_note note past waits h =
-      note_kept (Fed (said note ∷ past)) (kept (said note ∷ past)) note past (known_at start past).wire (target_at start past) (all_more_so (said note) tt past (target_at start past) h) tt
+  if_brings : (note : Note) (past : List Moment) → AskedAsGot start (said note) past → going.IfBrings start (IsBrought start) (IsTurned start) turns_to more turned_more turned_got note past
+  if_brings (notes.Got serial) past waits = got_brings start past serial waits
+  if_brings note past waits = tt
 
   pub feeding : (past : List Moment) → EachMoment (AskedAsGot start) past → AreSo (Fed past) (target_at start past)
   feeding [] h = record {
@@ -271,6 +88,6 @@ module _ (start : List Disk) where
     pending = λ reply e. none_is reply e;
   }
   feeding (asked line event ∷ past) h =
-      so (Fed (asked line event ∷ past)) (over (target_at start past))
-      (over_still (Fed (asked line event ∷ past)) (kept (asked line event ∷ past)) (target_at start past) (all_more_so (asked line event) tt past (target_at start past) (feeding past h.1)))
-  feeding (said note ∷ past) h = on_note note past h.0 (feeding past h.1)
+      going.on_asked start (IsBrought start) (IsTurned start) turns_to more turned_more turned_got line event past
+      (going.over_now start (IsBrought start) (IsTurned start) turns_to more turned_more turned_got past (feeding past h.1))
+  feeding (said note ∷ past) h = going.on_note start (IsBrought start) (IsTurned start) turns_to more turned_more turned_got note past h.0 (if_brings note past h.0) (feeding past h.1)

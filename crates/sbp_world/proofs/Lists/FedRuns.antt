@@ -171,65 +171,64 @@ runs_main m place plain told Main answer outcome e = refl
 runs_main m place plain told Ahead answer outcome e = absurd (let x : None ≡ Some outcome = sym (ahead_runs_none m place plain told answer) ∙ e in cc)
 
 module _ (wild : ℕ → Bool) (start : List Disk) (past : List Moment) (s : Scene) (set : IsSet wild start past s) (run : Option Told) (ran : Note) (serial : ℕ) (r : IsRunBy s run serial ran) where
-  abbrev w : WorldState
+  abbrev pub w : WorldState
   w = s.world
 
-  abbrev ms : List Moment
+  abbrev pub ms : List Moment
   ms = hist past w
 
-  abbrev now : List Moment
+  abbrev pub now : List Moment
   now = said (notes.Got serial) ∷ ms
 
-  abbrev place : ℕ
+  abbrev pub place : ℕ
   place = r.place
 
-  abbrev i : ℕ
+  abbrev pub i : ℕ
   i = (holder w place).initiator
 
-  abbrev M : Machine
+  abbrev pub M : Machine
   M = (desk_at w.target place).agent
 
-  abbrev plain : PlainDisk
+  abbrev pub plain : PlainDisk
   plain = plain_in w.target.units s.media.disks r.by.login.unit
 
-  abbrev step : AgentStep × Machine
+  abbrev pub step : AgentStep × Machine
   step = reply_step M place plain run r.by.which (answer_in r.by.packet)
 
-  which_is : r.by.which ≡ Main
+  pub which_is : r.by.which ≡ Main
   which_is = runs_main M place plain run r.by.which (answer_in r.by.packet) r.outcome r.by.ran
 
-  module _ (own : wild i ≡ false) where
-    hears_there : Hears (IsBrought start now place) (IsTurned start now place) (turns_to start now place) M (answer_in r.by.packet)
-    hears_there =
-        (set.heard i own).hears serial r.sent r.found r.to r.by.packet r.by.label place r.by.found (r.by.is_which ∙ ap (λ (x : Which). Some x) which_is) (small wild start past s set run ran serial r) (set.ready.calm i own)
-        (is_open wild start past s set run ran serial r)
-
-    stepped : FedStep (IsBrought start now place) (IsTurned start now place) step
+  -- where the answer is heard so, and what is known of the reads says which response brought the ORB
+  module _ (own : wild i ≡ false) (Read : ℕ → CommandOrb → Type 0) (Turned : ℕ → CommandOrb → List Moved → Type 0) (turn : (at : ℕ) (orb : CommandOrb) → Read at orb → Turned at orb []) (of_turned : (at : ℕ) (orb : CommandOrb) (reads : List Moved) → Turned at orb reads → IsTurned start now place at orb reads) (hears_there : Hears Read Turned turn M (answer_in r.by.packet)) where
+    pub stepped : FedStep Read Turned step
     stepped =
-        subst (λ (x : Which). FedStep (IsBrought start now place) (IsTurned start now place) (reply_step M place plain run x (answer_in r.by.packet))) (sym which_is)
-        (main_steps (IsBrought start now place) (IsTurned start now place) (turns_to start now place) M place plain run (answer_in r.by.packet) hears_there)
+        subst (λ (x : Which). FedStep Read Turned (reply_step M place plain run x (answer_in r.by.packet))) (sym which_is)
+        (main_steps Read Turned turn M place plain run (answer_in r.by.packet) hears_there)
 
-    has_run : HasRun (IsTurned start now place) step.1
+    pub has_run : HasRun Turned step.1
     has_run = stepped.ran (ap is_some r.by.ran)
 
     module _ (n number : ℕ) (next : RunsNext now i n number r.cdb r.payload) where
-      abbrev d : Feeding (IsTurned start now place) step.1.present step.1.orb step.1.segments step.1.payload has_run.wanted
+      abbrev pub d : Feeding Turned step.1.present step.1.orb step.1.segments step.1.payload has_run.wanted
       d = has_run.fed
 
-      abbrev reads : List Moved
+      abbrev pub reads : List Moved
       reads = d.tables ++ d.pieces
 
-      abbrev t : IsTurned start now place (address_of now i n number) step.1.orb reads
-      t = subst (λ x. IsTurned start now place x step.1.orb reads) (present_is wild start past s set run ran serial r own n number next) d.turned
+      abbrev pub turned : Turned (address_of now i n number) step.1.orb reads
+      turned = subst (λ x. Turned x step.1.orb reads) (present_is wild start past s set run ran serial r own n number next) d.turned
 
-      sized : IsSomeAnd (request_at now i n number) (λ request. bytes_of (buffer_in step.1.orb reads) ≡ (plan_of request.buffer).bytes)
+      abbrev pub t : IsTurned start now place (address_of now i n number) step.1.orb reads
+      t = of_turned (address_of now i n number) step.1.orb reads turned
+
+      pub sized : IsSomeAnd (request_at now i n number) (λ request. bytes_of (buffer_in step.1.orb reads) ≡ (plan_of request.buffer).bytes)
       sized =
           let a = asked_so wild start past s set run ran serial r own in
           let x = runs wild start past s set run ran serial r own in
           subst (λ q. IsSomeAnd q (λ request. bytes_of (buffer_in step.1.orb reads) ≡ (plan_of request.buffer).bytes)) (sym (request_is wild start past s set run ran serial r own n number next))
           (size_is _ _ _ a step.1.orb x.good.own step.1.segments x.buffer d.tables d.pieces d.table)
 
-      paid_so : r.payload ≡ joined (chunks (limit_of step.1.orb) (buffer_in step.1.orb reads)) reads
+      pub paid_so : r.payload ≡ joined (chunks (limit_of step.1.orb) (buffer_in step.1.orb reads)) reads
       paid_so =
           let a = asked_so wild start past s set run ran serial r own in
           let x = runs wild start past s set run ran serial r own in
@@ -240,21 +239,21 @@ module _ (wild : ℕ → Bool) (start : List Disk) (past : List Moment) (s : Sce
           sym (ap (λ x. slot_at ms i x (heard_by r.by.which M (answer_in r.by.packet) (goes wild start past s set run ran serial r own).progress).ended) (list_is wild start past s set run ran serial r own n number next)
           ∙ ap (λ x. slot_at ms i n x) (orb_is wild start past s set run ran serial r own n number next))
 
-      sized_beside : (all : List Moved) → AreBeside (slot_at now i n number) all reads → IsSomeAnd (request_at now i n number) (λ request. bytes_of (buffer_in step.1.orb all) ≡ (plan_of request.buffer).bytes)
+      pub sized_beside : (all : List Moved) → AreBeside (slot_at now i n number) all reads → IsSomeAnd (request_at now i n number) (λ request. bytes_of (buffer_in step.1.orb all) ≡ (plan_of request.buffer).bytes)
       sized_beside all beside =
           let a = asked_so wild start past s set run ran serial r own in
           let x = runs wild start past s set run ran serial r own in
           subst (λ q. IsSomeAnd q (λ request. bytes_of (buffer_in step.1.orb all) ≡ (plan_of request.buffer).bytes)) (sym (request_is wild start past s set run ran serial r own n number next))
           (size_beside _ _ _ a step.1.orb x.good.own step.1.segments x.buffer d.tables d.pieces all (subst (λ slot. AreBeside slot all reads) slot_is beside) d.table)
 
-      paid_beside : (all : List Moved) → AreBeside (slot_at now i n number) all reads → r.payload ≡ joined (chunks (limit_of step.1.orb) (buffer_in step.1.orb all)) all
+      pub paid_beside : (all : List Moved) → AreBeside (slot_at now i n number) all reads → r.payload ≡ joined (chunks (limit_of step.1.orb) (buffer_in step.1.orb all)) all
       paid_beside all beside =
           let a = asked_so wild start past s set run ran serial r own in
           let x = runs wild start past s set run ran serial r own in
           r.by.payload_is
           ∙ (d.bytes ∙ joined_beside _ _ _ a step.1.orb x.good.own step.1.segments x.buffer d.tables d.pieces all (subst (λ slot. AreBeside slot all reads) slot_is beside) has_run.wanted d.table d.turn)
 
-      run_fed : RunIsFed start now i n number r.payload
+      abbrev pub run_fed : RunIsFed start now i n number r.payload
       run_fed = record {
         place = place;
         orb = step.1.orb;
@@ -270,13 +269,20 @@ module _ (wild : ℕ → Bool) (start : List Disk) (past : List Moment) (s : Sce
         payloads_beside = paid_beside;
       }
 
+  -- it is heard so
+  module _ (own : wild i ≡ false) where
+    hears_there : Hears (IsBrought start now place) (IsTurned start now place) (turns_to start now place) M (answer_in r.by.packet)
+    hears_there =
+        (set.heard i own).hears serial r.sent r.found r.to r.by.packet r.by.label place r.by.found (r.by.is_which ∙ ap (λ (x : Which). Some x) which_is) (small wild start past s set run ran serial r) (set.ready.calm i own)
+        (is_open wild start past s set run ran serial r)
+
   abbrev note_of : Option ℕ → Option ℕ → Note
   note_of list number = notes.Ran i list number (holder w place).unit r.cdb r.payload (check_of r.outcome)
 
   by_names : (list number : Option ℕ) → PassAt wild (said (note_of list number)) now → FedAt wild start (said (note_of list number)) now
   by_names None number p = tt
   by_names (Some n) None p = tt
-  by_names (Some n) (Some number) p = λ own. run_fed own n number (p own)
+  by_names (Some n) (Some number) p = λ own. run_fed own (IsBrought start now place) (IsTurned start now place) (turns_to start now place) (λ at orb reads t. t) (hears_there own) n number (p own)
 
   pub fed_so : PassAt wild (said ran) now → FedAt wild start (said ran) now
   fed_so = subst (λ note. PassAt wild (said note) now → FedAt wild start (said note) now) (sym r.is) (by_names r.list r.number)

@@ -81,7 +81,7 @@ module _ (Turned : ℕ → CommandOrb → List Moved → Type 0) where
     pub wanted : ℕ
     pub fed : Feeding m.present m.orb m.segments m.payload wanted
 
-  none_awaits : (m : Machine) → awaits_run m.phase ≡ false → Feeds m
+  pub none_awaits : (m : Machine) → awaits_run m.phase ≡ false → Feeds m
   none_awaits m f = record {
     fetching = λ e. no (sym f ∙ ap awaits_run e);
     tabling = λ e. no (sym f ∙ ap awaits_run e);

@@ -117,7 +117,7 @@ led_everywhere lists = record {
 }
 
 -- ---- as a packet is got
-led_asked : (start : List Disk) (line : ℕ) (event : Event) (past : List Moment) → AreLed start past → AreLed start (asked line event ∷ past)
+pub led_asked : (start : List Disk) (line : ℕ) (event : Event) (past : List Moment) → AreLed start past → AreLed start (asked line event ∷ past)
 led_asked start line event past a =
     let e : (terms (asked line event ∷ past)).sent ≡ (terms past).sent = (opened_terms event (terms past)).sent in
     let to_is = λ (serial i : ℕ) (to : receiver_in ((terms (asked line event ∷ past)).sent serial) ≡ Some (suc i)). ap (λ (f : ℕ → Option Sending). receiver_in (f serial)) (sym e) ∙ to in

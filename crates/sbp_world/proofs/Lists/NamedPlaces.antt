@@ -29,6 +29,10 @@ use Rattle.sbp_world.proofs.Hosts.StepLaws.{step_law}
 use Rattle.sbp_world.specs.Lists.Needs.{IsCalm, initiator_in, is_open_at, machine_at}
 use Rattle.sbp_world.specs.Lists.OrbNames.{AreLed, IsJustBrought, IsLedTo, IsStillBrought}
 use Rattle.sbp_world.proofs.Lists.Calm.{asked_calm}
+use Rattle.sbp_world.specs.Lists.OrbReads.{AskedAsGot}
+use Rattle.sbp_laws.specs.Turns.{EachMoment}
+use Rattle.sbp_world.proofs.Lists.FedStillPlaces.{HasFed, has_fed}
+use Rattle.sbp_world.proofs.Lists.FedStillReads.{AreFedStill}
 use Rattle.sbp_world.proofs.Lists.Heard.{tells}
 use Rattle.sbp_world.proofs.Lists.LedRuns.{just}
 use Rattle.sbp_world.proofs.Lists.ManageSends.{opened_terms}
@@ -44,8 +48,9 @@ pub record HasNames (start : List Disk) (past : List Moment) (w : WorldState) : 
   pub agents : (place : ℕ) → place < 8 → is_open_at w place ≡ true → Reads (λ address orb. IsStillBrought start (hist past w) w place address orb) (machine_at w place)
   pub brings : (serial : ℕ) (sent : Sent) → found_sent serial w.store.kept ≡ Some sent → sent.to ≡ 0 → (packet : Packet) (label : LabelParts) (place : ℕ) (which : Which) → (judging_step w.target.layer sent.generation sent.bytes).0 ≡ of_response packet label (Some (purposes.Agent place)) → which_in (desk_at w.target place) (header_in packet).source label ≡ Some which → place < 8 → IsCalm (hist past w) (initiator_in w place) → Brings (λ p address orb. IsHad start (said (notes.Got serial) ∷ hist past w) (hist past w) w p address orb) (machine_at w place) (record { place = place; which = which; answer = answer_in packet })
   pub rows : (i : ℕ) → i < length w.initiators → AreRows (hist past w) i (initiator_at w i).lists.slots
+  pub fed : HasFed start (hist past w) w
 
-module _ (units ready : ℕ) (has : 0 < units) (start : List Disk) {past : List Moment} {lines : ℕ} (w : WorldState) (h : Holding units ready start past lines w) (s : Site start past w) (led : AreLed start (hist past w)) (still : AreStill start (hist past w) w) where
+module _ (units ready : ℕ) (has : 0 < units) (start : List Disk) {past : List Moment} {lines : ℕ} (w : WorldState) (h : Holding units ready start past lines w) (s : Site start past w) (led : AreLed start (hist past w)) (still : AreStill start (hist past w) w) (each : EachMoment (AskedAsGot start) (hist past w)) (fed : AreFedStill start (hist past w) w) where
   abbrev ms : List Moment
   ms = hist past w
 
@@ -82,6 +87,7 @@ module _ (units ready : ℕ) (has : 0 < units) (start : List Disk) {past : List 
         (tells units ready has start w h s.agents.requests s.agents.are s.agents.known s.asked serial sent found zero_to packet label place e from)
         (record { main = λ q p bytes f. just_had serial place b _ _ (brought.main q p bytes f); ahead = λ q f offset n bytes g. just_had serial place b _ _ (brought.ahead q f offset n bytes g) });
     rows = s.rows;
+    fed = has_fed units ready has start w h s each led fed;
   }
 
 -- ---- as a line begins
@@ -127,8 +133,8 @@ module _ (start : List Disk) (line : ℕ) (event : Event) (r : Bool) (as_opened 
   still_line past w place address orb x =
       record { named = named_over start past (asked line event ∷ past) (asked line event ∷ []) refl place address orb x.named; initiator = x.initiator; there = x.there }
 
-  pub line_names : (past : List Moment) (w : WorldState) → HasNames start past w → HasNames start (asked line event ∷ hist past w) (without_notes w)
-  line_names past w h = record {
+  pub line_names : (past : List Moment) (w : WorldState) → HasNames start past w → HasFed start (asked line event ∷ hist past w) (without_notes w) → HasNames start (asked line event ∷ hist past w) (without_notes w)
+  line_names past w h fed = record {
     agents = λ place b open_there.
         reads_more (λ address orb. IsStillBrought start (hist past w) w place address orb) (λ address orb. IsStillBrought start (asked line event ∷ hist past w) (without_notes w) place address orb) (still_line (hist past w) w place) (machine_at w place) (h.agents place b open_there);
     brings = λ serial sent found zero_to packet label place which e is_which b calm.
@@ -138,4 +144,5 @@ module _ (start : List Disk) (line : ℕ) (event : Event) (r : Bool) (as_opened 
           ahead = λ q a offset n bytes f. had_line (hist past w) w serial place _ _ (x.ahead q a offset n bytes f);
         };
     rows = λ i b. step_law.asked line event (hist past w) i (initiator_at w i).lists.slots (h.rows i b);
+    fed = record { hears = fed.hears };
   }

@@ -1,5 +1,5 @@
 -- A run that the target tells of is of the ORB by whose name its response brought it, where agents have the ORBs prepared last in their slots.
-use Rattle.std.proofs.Common.{arith, ◌≡◌, ◌∙◌, refl, sym, ap, subst, ℕ, ◌<◌, Bool, true, false, is_some, List, [], ◌∷◌, Option, Some, None}
+use Rattle.std.proofs.Common.{arith, ◌≡◌, ◌∙◌, refl, sym, ap, subst, ℕ, ◌<◌, Bool, true, false, List, ◌∷◌, ◌++◌, Option, Some, None}
 use Rattle.command_agent.specs.declared.step.AgentStep.{AgentStep}
 use Rattle.command_agent.specs.Machine.{Machine}
 use Rattle.orb_layout.specs.declared.command.CommandOrb.{CommandOrb}
@@ -12,28 +12,33 @@ use Rattle.sbp_journal.specs.declared.note.Note.TheVariants as notes
 use Rattle.sbp_laws.specs.CarriedBytes.{address_of}
 use Rattle.sbp_laws.specs.Lists.{orb as named_orb, prepared_in, slot_at}
 use Rattle.sbp_target.specs.Receiving.{answer_in}
-use Rattle.sbp_target.specs.Replies.{plain_in}
 use Rattle.sbp_world.specs.Telling.{holder}
 use Rattle.sbp_world.specs.Worlds.{Scene, WorldState}
 use Rattle.sbp_world.proofs.Agents.Management.Still.{hist}
 use Rattle.agent_laws.specs.Along.Steps.{heard_by}
 use Rattle.sbp_world.specs.Lists.Needs.{IsNamed, IsOpenAt, is_open_at}
-use Rattle.sbp_world.specs.Lists.OrbNames.{IsNamedBrought, IsStillBrought, RunIsNamed}
+use Rattle.sbp_world.specs.Lists.OrbNames.{RunIsNamed}
+use Rattle.command_agent.specs.declared.step.Which.{Which}
+use Rattle.sbp_laws.specs.CarriedBytes.{Moved}
+use Rattle.sbp_world.specs.Lists.FedNames.{RunIsNamedFed}
+use Rattle.sbp_world.specs.Lists.FedRuns.{RunIsFed, own_reads}
+use Rattle.sbp_world.proofs.Lists.FedReads.{IsTurned}
+use Rattle.sbp_world.proofs.Lists.FedRuns.{run_fed, turned, which_is}
+use Rattle.sbp_world.proofs.Lists.FedSteps.{Hears}
+use Rattle.sbp_world.proofs.Lists.FedStill.{ReadBy, TurnedBy, turns_by}
+use Rattle.sbp_world.proofs.Lists.FedStillReads.{KnownHad}
 use Rattle.sbp_world.proofs.Lists.EndNames.{same_list, same_orb}
 use Rattle.sbp_world.proofs.Lists.NamedPlaces.{HasNames}
-use Rattle.sbp_world.proofs.Lists.OrbFolds.{Brings}
-use Rattle.sbp_world.proofs.Lists.OrbReading.{reads_more}
-use Rattle.sbp_world.proofs.Lists.OrbSteps.{Reads, Stepped, reply_steps}
 use Rattle.sbp_world.proofs.Lists.Passing.{PassAt, RunsNext}
 use Rattle.sbp_world.proofs.Lists.Runless.{IsPlain, IsRunBy}
 use Rattle.sbp_world.proofs.Lists.RunOutcomes.{IsSet, goes, is_open, list_is, number_is, opened, orb_is, runs}
-use Rattle.sbp_world.proofs.Lists.RunReads.{M as run_machine, appended, below, i as run_initiator, not_dummy, present_is, step as run_step}
+use Rattle.sbp_world.proofs.Lists.RunReads.{M as run_machine, appended, below, i as run_initiator, not_dummy, step as run_step}
 use Rattle.sbp_world.proofs.Lists.Sites.{IsPrepared, prepared}
-use Rattle.sbp_world.proofs.Lists.StillReads.{IsHad, same_slot, still_had}
+use Rattle.sbp_world.proofs.Lists.StillReads.{IsHad, same_slot}
 
 -- ---- the law at a run, where it is given so
 abbrev pub RunNamedAt : Type 0 → (ℕ → Bool) → List Disk → Moment → List Moment → Type 0
-RunNamedAt given wild start (said (notes.Ran i (Some n) (Some k) unit cdb bytes check)) past = given → wild i ≡ false → RunIsNamed start past i n k
+RunNamedAt given wild start (said (notes.Ran i (Some n) (Some k) unit cdb bytes check)) past = given → wild i ≡ false → RunIsNamedFed start past i n k bytes
 RunNamedAt given wild start moment past = Unit {0}
 
 pub plain_named : (given : Type 0) (wild : ℕ → Bool) (start : List Disk) (note : Note) → IsPlain note → (past : List Moment) → RunNamedAt given wild start (said note) past
@@ -66,26 +71,31 @@ module _ (given : Type 0) (wild : ℕ → Bool) (start : List Disk) (past : List
   small = below wild start past s set run ran serial r
 
   module _ (so : given) (own : wild i ≡ false) where
-    abbrev R : ℕ → CommandOrb → Type 0
-    R address orb = IsHad start now ms w p address orb
-
     known : HasNames start past w
     known = names so
 
     open_there : is_open_at w p ≡ true
     open_there = is_open wild start past s set run ran serial r
 
-    brings : Brings (λ q address orb. IsHad start now ms w q address orb) m (record { place = p; which = r.by.which; answer = answer_in r.by.packet })
-    brings = known.brings serial r.sent r.found r.to r.by.packet r.by.label p r.by.which r.by.found r.by.is_which small (set.ready.calm i own)
+    abbrev J : ℕ → ℕ → CommandOrb → ℕ → List Moment → Type 0
+    J = KnownHad start now ms w
 
-    had : Reads R m
-    had = reads_more (λ address orb. IsStillBrought start ms w p address orb) R (λ address orb x. still_had start ms now (said (notes.Got serial) ∷ []) refl w p address orb x) m (known.agents p small open_there)
+    hears : Hears (ReadBy start J now p) (TurnedBy start J now p) (turns_by start J now p) m (answer_in r.by.packet)
+    hears =
+        known.fed.hears serial r.sent r.found r.to r.by.packet r.by.label p r.by.found (r.by.is_which ∙ ap (λ (x : Which). Some x) (which_is wild start past s set run ran serial r)) small (set.ready.calm i own) open_there
 
-    steps : Stepped R stepped
-    steps = reply_steps R m p (plain_in w.target.units s.media.disks r.by.login.unit) run r.by.which (answer_in r.by.packet) had brings.main brings.ahead
-
-    x : IsHad start now ms w p stepped.1.present stepped.1.orb
-    x = steps.ran (ap is_some r.by.ran)
+    abbrev of_turned : (at : ℕ) (orb : CommandOrb) (reads : List Moved) → TurnedBy start J now p at orb reads → IsTurned start now p at orb reads
+    of_turned at orb reads t =
+        let b = t.known.had.named.brought in
+        record {
+          brought = b;
+          later = t.later;
+          between = t.between;
+          is = ap (λ x. t.later ++ (t.between ++ said (notes.Got x) ∷ b.earlier)) t.known.response_is ∙ (ap (λ xs. t.later ++ (t.between ++ said (notes.Got t.response) ∷ xs)) t.known.earlier_is ∙ t.is);
+          reads_are =
+              t.reads_are
+              ∙ sym (ap (λ x. own_reads start p t.later (t.between ++ said (notes.Got x) ∷ b.earlier)) t.known.response_is ∙ ap (λ xs. own_reads start p t.later (t.between ++ said (notes.Got t.response) ∷ xs)) t.known.earlier_is);
+        }
 
     abbrev o : IsOpenAt ms w p
     o = opened wild start past s set run ran serial r own
@@ -105,45 +115,35 @@ module _ (given : Type 0) (wild : ℕ → Bool) (start : List Disk) (past : List
           subst (λ y. IsPrepared ms i (slot_at ms i n y) n y) (orb_is wild start past s set run ran serial r own n k next)
           (subst (λ y. IsPrepared ms i (slot_at ms i y ended) y ended) (list_is wild start past s set run ran serial r own n k next) is_prepared)
 
-      place_is : stepped.1.present ≡ address_of now i n k
-      place_is = present_is wild start past s set run ran serial r own n k next
+      abbrev orb : CommandOrb
+      orb = stepped.1.orb
+
+      abbrev fed : RunIsFed start now i n k r.payload
+      fed = run_fed wild start past s set run ran serial r own (ReadBy start J now p) (TurnedBy start J now p) (turns_by start J now p) of_turned hears n k next
+
+      abbrev x : IsHad start now ms w p (address_of now i n k) orb
+      x = (turned wild start past s set run ran serial r own (ReadBy start J now p) (TurnedBy start J now p) (turns_by start J now p) of_turned hears n k next).known.had
 
       name_is : Some (named_orb x.named.led.n x.named.led.k) ≡ Some (named_orb n k)
       name_is =
           sym (ap (λ j. prepared_in ms j x.named.led.slot) (sym x.initiator) ∙ x.there)
-          ∙ subst (λ slot. prepared_in ms i slot ≡ Some (named_orb n k)) (same_slot (slot_at ms i n k) x.named.led.slot (sym place_is ∙ x.named.led.stands)) here.there
+          ∙ subst (λ slot. prepared_in ms i slot ≡ Some (named_orb n k)) (same_slot (slot_at ms i n k) x.named.led.slot x.named.led.stands) here.there
 
-      abbrev orb : CommandOrb
-      orb = stepped.1.orb
-
-      record IsOfName (address : ℕ) : Type 0 where
-        brought : IsNamedBrought start now p address orb
-        initiator : brought.i ≡ i
-        list_so : brought.led.n ≡ n
-        number_so : brought.led.k ≡ k
-
-      of_name : IsOfName stepped.1.present
-      of_name = record {
-        brought = x.named;
+      abbrev run_named : RunIsNamed start now i n k
+      run_named = record {
+        place = p;
+        small = small;
+        orb = orb;
+        named = x.named;
         initiator = x.initiator;
-        list_so = same_list x.named.led.n x.named.led.k n k name_is;
-        number_so = same_orb x.named.led.n x.named.led.k n k name_is;
+        list = same_list x.named.led.n x.named.led.k n k name_is;
+        number = same_orb x.named.led.n x.named.led.k n k name_is;
+        not_dummy = not_dummy wild start past s set run ran serial r own;
+        as_appended = appended wild start past s set run ran serial r own n k next;
       }
 
-      run_named : RunIsNamed start now i n k
-      run_named =
-          let y = subst IsOfName place_is of_name in
-          record {
-            place = p;
-            small = small;
-            orb = orb;
-            named = y.brought;
-            initiator = y.initiator;
-            list = y.list_so;
-            number = y.number_so;
-            not_dummy = not_dummy wild start past s set run ran serial r own;
-            as_appended = appended wild start past s set run ran serial r own n k next;
-          }
+      run_fed_so : RunIsNamedFed start now i n k r.payload
+      run_fed_so = record { named = run_named; fed = fed; place = refl; response = refl; earlier = refl }
 
   abbrev note_of : Option ℕ → Option ℕ → Note
   note_of list number = notes.Ran i list number (holder w p).unit r.cdb r.payload (check_of r.outcome)
@@ -151,7 +151,7 @@ module _ (given : Type 0) (wild : ℕ → Bool) (start : List Disk) (past : List
   by_names : (list number : Option ℕ) → PassAt wild (said (note_of list number)) now → RunNamedAt given wild start (said (note_of list number)) now
   by_names None number q = tt
   by_names (Some n) None q = tt
-  by_names (Some n) (Some k) q = λ so own. run_named so own n k (q own)
+  by_names (Some n) (Some k) q = λ so own. run_fed_so so own n k (q own)
 
   pub named_so : PassAt wild (said ran) now → RunNamedAt given wild start (said ran) now
   named_so = subst (λ note. PassAt wild (said note) now → RunNamedAt given wild start (said note) now) (sym r.is) (by_names r.list r.number)

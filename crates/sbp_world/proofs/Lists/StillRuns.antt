@@ -121,7 +121,7 @@ desks_new zero p = refl
 desks_new (suc n) zero = refl
 desks_new (suc n) (suc p) = desks_new n p
 
-first_closed : (run : Run) (place : ℕ) → is_open_at (beginning run).world place ≡ false
+pub first_closed : (run : Run) (place : ℕ) → is_open_at (beginning run).world place ≡ false
 unfolding new_world
 first_closed run place = ap (λ (d : Desk). has_list d.agent.phase) (desks_new 8 place)
 

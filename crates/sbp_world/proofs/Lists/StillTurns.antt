@@ -166,22 +166,22 @@ module _ (units ready : ℕ) (has : 0 < units) (start : List Disk) (past : List 
   abbrev T : Target
   T = over (target_at start before)
 
-  site : Site start past w
+  abbrev pub site : Site start past w
   site = site_at start past w q
 
-  site_now : Site start later v
+  abbrev pub site_now : Site start later v
   site_now = site_at start later v q_now
 
-  lists : OpenLists before w
+  abbrev pub lists : OpenLists before w
   lists = q.lists tame
 
-  lists_now : OpenLists now v
+  abbrev pub lists_now : OpenLists now v
   lists_now = q_now.lists tame_now
 
-  owner : (p : ℕ) → p < 8 → is_open_at v p ≡ true → initiator_in v p ≡ initiator_in w p
+  pub owner : (p : ℕ) → p < 8 → is_open_at v p ≡ true → initiator_in v p ≡ initiator_in w p
   owner p b e = owns p b (listing_up (machine_at v p).phase e)
 
-  inside : (p : ℕ) → p < 8 → is_open_at v p ≡ true → initiator_in w p < length w.initiators
+  pub inside : (p : ℕ) → p < 8 → is_open_at v p ≡ true → initiator_in w p < length w.initiators
   inside p b e = subst (λ n. initiator_in w p < n) count (subst (λ i. i < length v.initiators) (owner p b e) (lists_now.listed p b e (tame_now (initiator_in v p))).inside)
 
   abbrev Still : ℕ → ℕ → CommandOrb → Type 0
@@ -255,10 +255,10 @@ module _ (units ready : ℕ) (has : 0 < units) (start : List Disk) (past : List 
 
   -- ---- where the target stands
   module _ (back : List Moment) (behind : back ++ before ≡ now) (target : v.target ≡ w.target) where
-    machine_same : (p : ℕ) → machine_at v p ≡ machine_at w p
+    pub machine_same : (p : ℕ) → machine_at v p ≡ machine_at w p
     machine_same p = ap (λ (n : NodeState). (desk_at n p).agent) target
 
-    open_before : (p : ℕ) → is_open_at v p ≡ true → is_open_at w p ≡ true
+    pub open_before : (p : ℕ) → is_open_at v p ≡ true → is_open_at w p ≡ true
     open_before p e = ap (λ (m : Machine). has_list m.phase) (sym (machine_same p)) ∙ e
 
     -- and nothing is prepared
@@ -275,7 +275,7 @@ module _ (units ready : ℕ) (has : 0 < units) (start : List Disk) (past : List 
       abbrev M : Machine
       M = machine_at w p
 
-      f : is_open_at w p ≡ true
+      abbrev pub f : is_open_at w p ≡ true
       f = open_before p e
 
       abbrev i : ℕ
@@ -299,11 +299,11 @@ module _ (units ready : ℕ) (has : 0 < units) (start : List Disk) (past : List 
           (sym (o units ready has start v h_now site_now lists_now q_now.along tame_now p b e).list
           ∙ (ap (λ (k : Holder). k.list) holder_same ∙ (o units ready has start w h site lists q.along tame p b f).list))
 
-      number_same : ends now (initiator_in v p) n_now ≡ ends before i n
+      pub number_same : ends now (initiator_in v p) n_now ≡ ends before i n
       number_same = ap (λ j. ends now j n_now) (owner p b e) ∙ (ap (ends now i) list_same ∙ ends_are i n)
 
       -- the same name stands there
-      name_same : (x y slot : ℕ) → x ≡ y → prepared_in now (initiator_in v p) slot ≡ Some (named_orb n_now x) → prepared_in before i slot ≡ Some (named_orb n y) → prepared_in now i slot ≡ prepared_in before i slot
+      pub name_same : (x y slot : ℕ) → x ≡ y → prepared_in now (initiator_in v p) slot ≡ Some (named_orb n_now x) → prepared_in before i slot ≡ Some (named_orb n y) → prepared_in now i slot ≡ prepared_in before i slot
       name_same x y slot same g k =
           ap (λ j. prepared_in now j slot) (sym (owner p b e)) ∙ (g ∙ (ap (λ m. Some (named_orb m x)) list_same ∙ (ap (λ m. Some (named_orb n m)) same ∙ sym k)))
 
@@ -345,7 +345,7 @@ module _ (units ready : ℕ) (has : 0 < units) (start : List Disk) (past : List 
           subst (Reads (Still p)) (sym (machine_same p)) (record { main = main_now; ahead = ahead_now M.ahead refl r.ahead; idle = r.idle })
 
 -- ---- by what the turn is
-none_acts : (e : Option Event) → ((i : ℕ) → IsNoAct i e) → cmd_of e ≡ None
+pub none_acts : (e : Option Event) → ((i : ℕ) → IsNoAct i e) → cmd_of e ≡ None
 none_acts (Some (events.Act i action)) f = untrue (sym (f i) ∙ (let same : nat_eq i i ≡ true = grind (arith, nat_tests) in same))
 none_acts None f = refl
 none_acts (Some (events.Begin initiators is_ready)) f = refl

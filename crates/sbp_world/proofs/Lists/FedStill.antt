@@ -1,0 +1,140 @@
+-- What an agent has of its ORB, by the response that brought it, and of the reads since it turned to it: what is known of that response goes on with it.
+use Rattle.std.proofs.Common.{◌≡◌, ◌∙◌, refl, sym, ap, subst, ℕ, true, false, List, [], ◌∷◌, ◌++◌}
+use Rattle.command_agent.specs.declared.phase.Phase.{Phase}
+use Rattle.command_agent.specs.declared.phase.Phase.TheVariants as phases
+use Rattle.command_agent.specs.declared.phase.ReadAhead.{ReadAhead}
+use Rattle.command_agent.specs.declared.phase.ReadAhead.TheVariants as aheads
+use Rattle.command_agent.specs.Machine.{Machine, aligned, awaits_run}
+use Rattle.orb_layout.specs.declared.command.CommandOrb.{CommandOrb}
+use Rattle.orb_layout.specs.declared.pointer.OrbPointer.TheVariants.{At}
+use Rattle.orb_layout.specs.CommandOrbs.{command_orb}
+use Rattle.orb_layout.specs.Replies.{Answer}
+use Rattle.page_table.specs.declared.segment.Segment.{Segment}
+use Rattle.rbc_disk.specs.Disk.{Disk}
+use Rattle.sbp_journal.specs.Run.{Moment, said}
+use Rattle.sbp_journal.specs.declared.note.Note.TheVariants as notes
+use Rattle.sbp_laws.specs.CarriedBytes.{Moved}
+use Rattle.sbp_world.specs.Agents.Alike.{has_list, moves_data}
+use Rattle.sbp_world.specs.Lists.FedRuns.{main_read, own_reads}
+use Rattle.sbp_world.proofs.Lists.FedGoing.{IsNoGot, same_reads}
+use Rattle.sbp_world.proofs.Lists.FedSteps.{Feeding, Hears, IsFed, Tabling, none_awaits}
+use Rattle.sbp_world.proofs.Lists.ManageTerms.{untrue}
+use Rattle.sbp_world.proofs.Lists.OrbReading.{ahead_more}
+use Rattle.sbp_world.proofs.Lists.OrbSteps.{ReadAheadOf, has_read, holds_read}
+
+-- ---- a response brought an ORB
+-- `Known` of it, as it was got
+module _ (start : List Disk) (Known : ℕ → ℕ → CommandOrb → ℕ → List Moment → Type 0) where
+  pub record ReadBy (past : List Moment) (place at : ℕ) (orb : CommandOrb) : Type 0 where
+    pub response : ℕ
+    pub earlier : List Moment
+    pub later : List Moment
+    pub is : later ++ said (notes.Got response) ∷ earlier ≡ past
+    pub known : Known place at orb response earlier
+
+  -- and its agent turned to it, and its reads brought these since
+  pub record TurnedBy (past : List Moment) (place at : ℕ) (orb : CommandOrb) (reads : List Moved) : Type 0 where
+    pub response : ℕ
+    pub earlier : List Moment
+    pub later : List Moment
+    pub between : List Moment
+    pub is : later ++ (between ++ said (notes.Got response) ∷ earlier) ≡ past
+    pub reads_are : reads ≡ own_reads start place later (between ++ said (notes.Got response) ∷ earlier)
+    pub known : Known place at orb response earlier
+
+  pub turns_by : (past : List Moment) (place at : ℕ) (orb : CommandOrb) → ReadBy past place at orb → TurnedBy past place at orb []
+  turns_by past place at orb r = record { response = r.response; earlier = r.earlier; later = []; between = r.later; is = r.is; reads_are = refl; known = r.known }
+
+  pub read_on : (m : Moment) (past : List Moment) (place at : ℕ) (orb : CommandOrb) → ReadBy past place at orb → ReadBy (m ∷ past) place at orb
+  read_on m past place at orb r = record { response = r.response; earlier = r.earlier; later = m ∷ r.later; is = ap (λ ms. m ∷ ms) r.is; known = r.known }
+
+  pub turned_on : (m : Moment) → IsNoGot m → (past : List Moment) (place at : ℕ) (orb : CommandOrb) (reads : List Moved) → TurnedBy past place at orb reads → TurnedBy (m ∷ past) place at orb reads
+  turned_on m n past place at orb reads t = record {
+    response = t.response;
+    earlier = t.earlier;
+    later = m ∷ t.later;
+    between = t.between;
+    is = ap (λ ms. m ∷ ms) t.is;
+    reads_are = t.reads_are ∙ sym (same_reads start m n place t.later _);
+    known = t.known;
+  }
+
+  pub turned_by_got : (serial : ℕ) (past : List Moment) (place at : ℕ) (orb : CommandOrb) (reads more : List Moved) → main_read start past place serial ≡ more → TurnedBy past place at orb reads → TurnedBy (said (notes.Got serial) ∷ past) place at orb (reads ++ more)
+  turned_by_got serial past place at orb reads more e t =
+      let m = said (notes.Got serial) in
+      record {
+        response = t.response;
+        earlier = t.earlier;
+        later = m ∷ t.later;
+        between = t.between;
+        is = ap (λ ms. m ∷ ms) t.is;
+        reads_are = ap (λ xs. xs ++ more) t.reads_are ∙ ap (λ xs. own_reads start place t.later (t.between ++ said (notes.Got t.response) ∷ t.earlier) ++ xs) (sym e ∙ ap (λ ms. main_read start ms place serial) (sym t.is));
+        known = t.known;
+      }
+
+-- ---- what is known of it, otherwise
+module _ (R S : ℕ → CommandOrb → Type 0) (T U : ℕ → CommandOrb → List Moved → Type 0) (m : Machine) (main : holds_read m.phase ≡ true → (reads : List Moved) → T m.present m.orb reads → U m.present m.orb reads) (ahead : (orb : CommandOrb) → m.ahead ≡ aheads.Kept orb → (offset : ℕ) → m.orb.next ≡ At offset → R (aligned offset) orb → S (aligned offset) orb) where
+  ahead_so : (a : ReadAhead) → m.ahead ≡ a → ReadAheadOf R m.orb.next a → ReadAheadOf S m.orb.next a
+  ahead_so aheads.Idle e r = tt
+  ahead_so (aheads.UnderWay rung) e r = record { offset = r.offset; is = r.is }
+  ahead_so (aheads.Kept orb) e r = record { offset = r.offset; is = r.is; read = ahead orb e r.offset r.is r.read }
+
+  pub fed_so : IsFed R T m → IsFed S U m
+  fed_so h = record {
+    main = record {
+      fetching = h.main.fetching;
+      tabling = λ e. let d = h.main.tabling e in record { turned = main (ap holds_read e) [] d.turned; empty = d.empty; reads = d.reads };
+      filling = λ wanted e. let d = h.main.filling wanted e in record { tables = d.tables; pieces = d.pieces; turned = main (ap holds_read e) (d.tables ++ d.pieces) d.turned; table = d.table; bytes = d.bytes; turn = d.turn };
+    };
+    ahead = ahead_so m.ahead refl h.ahead;
+    idle = h.idle;
+  }
+
+-- ---- agents that are alike
+module _ (R : ℕ → CommandOrb → Type 0) (T : ℕ → CommandOrb → List Moved → Type 0) (a m : Machine) (phase : a.phase ≡ m.phase) (present : a.present ≡ m.present) (orb : a.orb ≡ m.orb) (payload : a.payload ≡ m.payload) (segments : moves_data m.phase ≡ true → a.segments ≡ m.segments) (ahead : a.ahead ≡ m.ahead) where
+  like : (P : ℕ → CommandOrb → List ℕ → Type 0) → P a.present a.orb a.payload → P m.present m.orb m.payload
+  like P h = subst (λ x. P m.present m.orb x) payload (subst (λ (x : CommandOrb). P m.present x a.payload) orb (subst (λ x. P x a.orb a.payload) present h))
+
+  pub fed_alike : IsFed R T a → IsFed R T m
+  fed_alike h = record {
+    main = record {
+      fetching = λ e. sym payload ∙ h.main.fetching (phase ∙ e);
+      tabling = λ e. like (λ at orb payload. Tabling T at orb payload) (h.main.tabling (phase ∙ e));
+      filling = λ wanted e.
+          subst (λ (xs : List Segment). Feeding T m.present m.orb xs m.payload wanted) (segments (ap moves_data e))
+          (like (λ at orb payload. Feeding T at orb a.segments payload wanted) (h.main.filling wanted (phase ∙ e)));
+    };
+    ahead = subst (λ (x : ReadAhead). ReadAheadOf R m.orb.next x) ahead (subst (λ (o : CommandOrb). ReadAheadOf R o.next a.ahead) orb h.ahead);
+    idle = λ e. sym ahead ∙ h.idle (ap has_read phase ∙ e);
+  }
+
+-- without a list it waits for no data, and has none
+unlisted : (phase : Phase) → has_list phase ≡ false → (awaits_run phase ≡ false) × (has_read phase ≡ false)
+unlisted phases.Reset e = (refl, refl)
+unlisted phases.Dead e = (refl, refl)
+unlisted phases.Fetching e = untrue (sym e)
+unlisted phases.ReadingTable e = untrue (sym e)
+unlisted (phases.ReadingData wanted) e = untrue (sym e)
+unlisted phases.Answering e = untrue (sym e)
+unlisted phases.WritingStatus e = untrue (sym e)
+unlisted phases.WritingLastStatus e = untrue (sym e)
+unlisted phases.ReadingNext e = untrue (sym e)
+unlisted phases.Suspended e = untrue (sym e)
+
+module _ (R S : ℕ → CommandOrb → Type 0) (T U : ℕ → CommandOrb → List Moved → Type 0) (m : Machine) where
+  pub closed_feeds : has_list m.phase ≡ false → IsFed R T m → IsFed S U m
+  closed_feeds closed h =
+      let no = unlisted m.phase closed in
+      let idle = h.idle no.1 in
+      record { main = none_awaits U m no.0; ahead = subst (ReadAheadOf S m.orb.next) (sym idle) tt; idle = λ e. idle }
+
+-- ---- what the answer to a main transaction brings
+module _ (R S : ℕ → CommandOrb → Type 0) (T U : ℕ → CommandOrb → List Moved → Type 0) (turn : (at : ℕ) (orb : CommandOrb) → R at orb → T at orb []) (turn_now : (at : ℕ) (orb : CommandOrb) → S at orb → U at orb []) (m : Machine) (answer : Answer) (read : (at : ℕ) (orb : CommandOrb) → R at orb → S at orb) (turned : (at : ℕ) (orb : CommandOrb) (reads : List Moved) → T at orb reads → U at orb reads) where
+  pub hears_so : Hears R T turn m answer → Hears S U turn_now m answer
+  hears_so h = record {
+    fetched = λ e. let f = h.fetched e in (f.0, λ bytes p. read m.present (command_orb bytes) (f.1 bytes p));
+    tabled = λ e. let f = h.tabled e in (f.0, (f.1.0, λ bytes p. turned m.present m.orb _ (f.1.1 bytes p)));
+    filled = λ wanted e bytes p. let d = h.filled wanted e bytes p in record { tables = d.tables; pieces = d.pieces; turned = turned m.present m.orb (d.tables ++ d.pieces) d.turned; table = d.table; bytes = d.bytes; turn = d.turn };
+    ahead = ahead_more R S read m.orb.next m.ahead h.ahead;
+    idle = h.idle;
+  }

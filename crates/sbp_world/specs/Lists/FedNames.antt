@@ -1,0 +1,14 @@
+-- With which response a run was fed (NCITS 325-1998, command block agents and command block ORB): the one that brought the ORB by its name is the one behind which its agent turned to it and read its
+-- buffer and its data.
+use Rattle.std.specs.Prelude.{◌≡◌, ℕ, List}
+use Rattle.rbc_disk.specs.Disk.{Disk}
+use Rattle.sbp_journal.specs.Run.{Moment}
+use Rattle.sbp_world.specs.Lists.FedRuns.{RunIsFed}
+use Rattle.sbp_world.specs.Lists.OrbNames.{RunIsNamed}
+
+pub record RunIsNamedFed (start : List Disk) (past : List Moment) (i n k : ℕ) (bytes : List ℕ) : Type 0 where
+  pub named : RunIsNamed start past i n k
+  pub fed : RunIsFed start past i n k bytes
+  pub place : fed.place ≡ named.place
+  pub response : fed.brought.response ≡ named.named.brought.response
+  pub earlier : fed.brought.earlier ≡ named.named.brought.earlier
