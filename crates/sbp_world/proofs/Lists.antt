@@ -285,6 +285,7 @@ pub mod OrbsSecond
 pub mod OrbsShort
 pub mod OwnCounts
 pub mod OwnFifos
+pub mod OwnGots
 pub mod OwnLogins
 pub mod OwnNodes
 pub mod OwnOps

@@ -40,6 +40,7 @@ pub mod Opens
 pub mod Orders
 pub mod OwnLogins
 pub mod Owners
+pub mod OwnGots
 pub mod OwnReads
 pub mod PlaceReads
 pub mod Places

@@ -6,6 +6,7 @@ ghost use Rattle.sbp_world.specs.Lists.CarriedEnds.{WereReadLaw};
 ghost use Rattle.sbp_world.specs.Lists.CarriedRuns.{RunsReadLaw};
 ghost use Rattle.sbp_world.specs.Lists.FedRuns.{BesideLaw, RunsFedLaw, RunsSinceLaw};
 ghost use Rattle.sbp_world.specs.Lists.GotOnce.{GotOnceLaw};
+ghost use Rattle.sbp_world.specs.Lists.OwnGots.{OwnAsGotLaw};
 ghost use Rattle.sbp_world.specs.Lists.OwnReads.{OwnGotsLaw, OwnReadsLaw};
 ghost use Rattle.sbp_world.specs.Lists.Lists.{GrowingLaw};
 ghost use Rattle.sbp_world.specs.Lists.CutLists.{CutListsLaw};
@@ -184,6 +185,14 @@ pub fn answers_to_agents_are_their_own()
 #[tactic(auto, using(crate::proofs::Lists::FedJoins::runs_since_law))]
 pub fn commands_have_what_was_read_since()
     ensures { RunsSinceLaw }
+{}
+
+/// In every run in which no initiator injected packets, as each packet is got which answers a request of an agent: while the agent of a
+/// place waits for an answer of an initiator, it brings of this initiator what the main transaction of that place asked for, or what
+/// begins elsewhere than in a slot.
+#[tactic(auto, using(crate::proofs::Lists::Clauses::got_law))]
+pub fn answers_are_their_own_as_they_are_got()
+    ensures { OwnAsGotLaw }
 {}
 
 /// In every run in which no initiator injected packets the response that brought the ORB of each run, as the carried law has it but

@@ -7,6 +7,7 @@ use Rattle.sbp_world.specs.Lists.Live.{LiveLaw}
 use Rattle.sbp_world.specs.Lists.OneUp.{OneUpLaw}
 use Rattle.sbp_world.specs.Lists.Opened.{LogoutsLaw}
 use Rattle.sbp_world.specs.Lists.ListsBeside.{ListsBesideLaw}
+use Rattle.sbp_world.specs.Lists.OwnGots.{OwnAsGotLaw}
 use Rattle.sbp_world.specs.Lists.OwnReads.{OwnGotsLaw, OwnReadsLaw}
 use Rattle.sbp_world.specs.Lists.ReadFeeds.{ReadAndFedLaw}
 use Rattle.sbp_world.specs.Lists.TameLists.{ListsLaw}
@@ -16,6 +17,7 @@ use Rattle.sbp_world.proofs.Lists.DataLaws.{data_sent_law, data_held_law}
 use Rattle.sbp_world.proofs.Lists.FedOwnerRuns.{own_gots_law, own_reads_law}
 use Rattle.sbp_world.proofs.Lists.Lawful as proved
 use Rattle.sbp_world.proofs.Lists.OneUp.{one_up_law}
+use Rattle.sbp_world.proofs.Lists.OwnGots.{own_as_got_law}
 use Rattle.sbp_world.proofs.Lists.ReadFeeds.{read_and_fed_law}
 use Rattle.sbp_world.proofs.Lists.ShortLines.{short_law}
 use Rattle.sbp_world.specs.Lists.DataHolds.{DataHeldLaw}
@@ -58,3 +60,6 @@ held_law = data_held_law short_law
 
 pub gots_law : OwnGotsLaw
 gots_law = own_gots_law open_lists_law
+
+pub got_law : OwnAsGotLaw
+got_law = own_as_got_law open_lists_law
