@@ -292,6 +292,7 @@ pub mod OwnOps
 pub mod OwnPlaces
 pub mod OwnReplies
 pub mod OwnTables
+pub mod OwnWaits
 pub mod Passes
 pub mod Passing
 pub mod PlaceBrings

@@ -8,6 +8,7 @@ ghost use Rattle.sbp_world.specs.Lists.FedRuns.{BesideLaw, RunsFedLaw, RunsSince
 ghost use Rattle.sbp_world.specs.Lists.GotOnce.{GotOnceLaw};
 ghost use Rattle.sbp_world.specs.Lists.OwnGots.{OwnAsGotLaw};
 ghost use Rattle.sbp_world.specs.Lists.OwnReads.{OwnGotsLaw, OwnReadsLaw};
+ghost use Rattle.sbp_world.specs.Lists.OwnWaits.{ReadsAsGotLaw};
 ghost use Rattle.sbp_world.specs.Lists.Lists.{GrowingLaw};
 ghost use Rattle.sbp_world.specs.Lists.CutLists.{CutListsLaw};
 ghost use Rattle.sbp_world.specs.Lists.Closes.{ClosingLaw, OpenListsLaw};
@@ -185,6 +186,14 @@ pub fn answers_to_agents_are_their_own()
 #[tactic(auto, using(crate::proofs::Lists::FedJoins::runs_since_law))]
 pub fn commands_have_what_was_read_since()
     ensures { RunsSinceLaw }
+{}
+
+/// In every run in which no initiator injected packets, as each packet is got: while the agent of a place waits for an answer of an
+/// initiator, what any agent waits for, to read in a page table or a buffer of this initiator, is the main transaction of that place,
+/// and stands in the slot of the first ORB of the latest list that has not ended.
+#[tactic(auto, using(crate::proofs::Lists::Clauses::waits_law))]
+pub fn agents_read_their_own_as_packets_are_got()
+    ensures { ReadsAsGotLaw }
 {}
 
 /// In every run in which no initiator injected packets, as each packet is got which answers a request of an agent: while the agent of a

@@ -9,6 +9,7 @@ use Rattle.sbp_world.specs.Lists.Opened.{LogoutsLaw}
 use Rattle.sbp_world.specs.Lists.ListsBeside.{ListsBesideLaw}
 use Rattle.sbp_world.specs.Lists.OwnGots.{OwnAsGotLaw}
 use Rattle.sbp_world.specs.Lists.OwnReads.{OwnGotsLaw, OwnReadsLaw}
+use Rattle.sbp_world.specs.Lists.OwnWaits.{ReadsAsGotLaw}
 use Rattle.sbp_world.specs.Lists.ReadFeeds.{ReadAndFedLaw}
 use Rattle.sbp_world.specs.Lists.TameLists.{ListsLaw}
 use Rattle.sbp_world.proofs.Lists.AnswerLengths.{answer_lengths_law}
@@ -18,6 +19,7 @@ use Rattle.sbp_world.proofs.Lists.FedOwnerRuns.{own_gots_law, own_reads_law}
 use Rattle.sbp_world.proofs.Lists.Lawful as proved
 use Rattle.sbp_world.proofs.Lists.OneUp.{one_up_law}
 use Rattle.sbp_world.proofs.Lists.OwnGots.{own_as_got_law}
+use Rattle.sbp_world.proofs.Lists.OwnWaits.{reads_as_got_law}
 use Rattle.sbp_world.proofs.Lists.ReadFeeds.{read_and_fed_law}
 use Rattle.sbp_world.proofs.Lists.ShortLines.{short_law}
 use Rattle.sbp_world.specs.Lists.DataHolds.{DataHeldLaw}
@@ -63,3 +65,6 @@ gots_law = own_gots_law open_lists_law
 
 pub got_law : OwnAsGotLaw
 got_law = own_as_got_law open_lists_law
+
+pub waits_law : ReadsAsGotLaw
+waits_law = reads_as_got_law open_lists_law
