@@ -291,6 +291,7 @@ pub mod OwnNodes
 pub mod OwnOps
 pub mod OwnPlaces
 pub mod OwnReplies
+pub mod OwnSince
 pub mod OwnTables
 pub mod OwnWaits
 pub mod Passes

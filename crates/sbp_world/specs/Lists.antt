@@ -42,6 +42,7 @@ pub mod OwnLogins
 pub mod Owners
 pub mod OwnGots
 pub mod OwnReads
+pub mod OwnSince
 pub mod OwnWaits
 pub mod PlaceReads
 pub mod Places

@@ -103,6 +103,7 @@ pub use of_lists::answers_are_their_own_as_they_are_got;
 pub use of_lists::answers_are_written_before_the_end;
 pub use of_lists::answers_fill_their_buffers;
 pub use of_lists::answers_have_their_length;
+pub use of_lists::answers_since_are_own_or_elsewhere;
 pub use of_lists::answers_to_agents_are_their_own;
 pub use of_lists::appends_are_numbered;
 pub use of_lists::commands_end_as_the_disk_allows;

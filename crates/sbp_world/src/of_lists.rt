@@ -8,6 +8,7 @@ ghost use Rattle.sbp_world.specs.Lists.FedRuns.{BesideLaw, RunsFedLaw, RunsSince
 ghost use Rattle.sbp_world.specs.Lists.GotOnce.{GotOnceLaw};
 ghost use Rattle.sbp_world.specs.Lists.OwnGots.{OwnAsGotLaw};
 ghost use Rattle.sbp_world.specs.Lists.OwnReads.{OwnGotsLaw, OwnReadsLaw};
+ghost use Rattle.sbp_world.specs.Lists.OwnSince.{OwnSinceLaw};
 ghost use Rattle.sbp_world.specs.Lists.OwnWaits.{ReadsAsGotLaw};
 ghost use Rattle.sbp_world.specs.Lists.Lists.{GrowingLaw};
 ghost use Rattle.sbp_world.specs.Lists.CutLists.{CutListsLaw};
@@ -186,6 +187,14 @@ pub fn answers_to_agents_are_their_own()
 #[tactic(auto, using(crate::proofs::Lists::FedJoins::runs_since_law))]
 pub fn commands_have_what_was_read_since()
     ensures { RunsSinceLaw }
+{}
+
+/// By every history, where answers to agents are their own as they are got: while the agent of a place waited for an answer of an
+/// initiator as each packet was got, and what answers no agent begins elsewhere than in a slot, each packet brought of this initiator
+/// what the main transaction of that place asked for, or what begins elsewhere.
+#[tactic(auto, using(crate::proofs::Lists::OwnSince::own_since_law))]
+pub fn answers_since_are_own_or_elsewhere()
+    ensures { OwnSinceLaw }
 {}
 
 /// In every run in which no initiator injected packets, as each packet is got: while the agent of a place waits for an answer of an
