@@ -42,7 +42,6 @@ use Rattle.sbp_world.proofs.Lists.FedStill.{ReadBy, TurnedBy, hears_so, read_on,
 use Rattle.sbp_world.proofs.Lists.FedStillReads.{AreFedStill, Fed as FedHad, K, KnownHad, fed_before, got_read, read_known, turned_known}
 use Rattle.sbp_world.proofs.Lists.FedFolds as folds
 use Rattle.sbp_world.proofs.Lists.LedRuns.{got_just, led_asked}
-
 use Rattle.sbp_world.proofs.Lists.OrbPlaces.{by_target, calm_from, closes, request}
 use Rattle.sbp_world.proofs.Lists.Sites.{Site}
 
@@ -74,7 +73,7 @@ module _ (units ready : ℕ) (has : 0 < units) (start : List Disk) {past : List 
         subst (λ (x : Target). Alike (agent_at x place).untold (agent_at x place).machine (machine_at w place)) (sym same_target) (s.agents.are.each place b).machine in
         let by_target = ap (λ (f : ℕ → Option Sending). is_serial (receiver_in (f serial)) 0) same_sent ∙ by_target units ready has start w h s serial sent found zero_to packet label place Main e is_which b quiet in
         let told = ap (λ (f : ℕ → Option Sending). laws.answer_in (laws.packet_in (f serial))) same_sent
-            ∙ tells units ready has start w h s.agents.requests s.agents.are s.agents.known s.asked serial sent found zero_to packet label place e from in
+        ∙ tells units ready has start w h s.agents.requests s.agents.are s.agents.known s.asked serial sent found zero_to packet label place e from in
         alike_hears (ReadBy start N now place) (TurnedBy start N now place) (turns_by start N now place) a.untold a.machine (machine_at w place) alike open_there (laws.answer_in (laws.packet_at (terms here) serial)) (answer_in packet) told
         (hears_so (ReadBy start J now place) (ReadBy start N now place) (TurnedBy start J now place) (TurnedBy start N now place) (turns_by start J now place) (turns_by start N now place) a.machine (laws.answer_in (laws.packet_at (terms here) serial))
         (λ at orb. read_known start now place J N at orb (λ response earlier k. known now place at orb response earlier (k b)))
@@ -95,12 +94,12 @@ module _ (units ready : ℕ) (has : 0 < units) (start : List Disk) {past : List 
       let here = asked line event ∷ ms in
       let same = as_opened (terms ms) in
       let f = heard here (asked line event ∷ []) refl (without_notes w)
-          (λ now place at orb response earlier k. record { had = record { named = k.had.named; initiator = k.had.initiator; there = k.had.there }; response_is = k.response_is; earlier_is = k.earlier_is })
-          waits (led_asked start line event ms led)
-          (λ now back behind.
-          let J = K units ready has start w h s each fed now back behind in
-          going.over_now start (ReadBy start J) (TurnedBy start J) (turns_by start J) (read_on start J) (turned_on start J) (turned_by_got start J) here
-          (going.on_asked start (ReadBy start J) (TurnedBy start J) (turns_by start J) (read_on start J) (turned_on start J) (turned_by_got start J) line event ms (fed_before units ready has start w h s each fed now back behind)))
-          (over_twice (target_at start ms)) (ap (λ (y : Terms). y.sent) same)
-          (λ serial. ap (λ (y : Terms). laws.answered_at y serial) same ∙ answered_same (terms ms) r ((terms ms).sent serial)) (λ i slot. refl) (λ i c. asked_calm line event ms i c) in
+      (λ now place at orb response earlier k. record { had = record { named = k.had.named; initiator = k.had.initiator; there = k.had.there }; response_is = k.response_is; earlier_is = k.earlier_is })
+      waits (led_asked start line event ms led)
+      (λ now back behind.
+      let J = K units ready has start w h s each fed now back behind in
+      going.over_now start (ReadBy start J) (TurnedBy start J) (turns_by start J) (read_on start J) (turned_on start J) (turned_by_got start J) here
+      (going.on_asked start (ReadBy start J) (TurnedBy start J) (turns_by start J) (read_on start J) (turned_on start J) (turned_by_got start J) line event ms (fed_before units ready has start w h s each fed now back behind)))
+      (over_twice (target_at start ms)) (ap (λ (y : Terms). y.sent) same)
+      (λ serial. ap (λ (y : Terms). laws.answered_at y serial) same ∙ answered_same (terms ms) r ((terms ms).sent serial)) (λ i slot. refl) (λ i c. asked_calm line event ms i c) in
       record { hears = f }

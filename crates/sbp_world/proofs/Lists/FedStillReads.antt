@@ -93,8 +93,8 @@ module _ (units ready : ℕ) (has : 0 < units) (start : List Disk) {past : List 
       let m = machine_at w p in
       let alike = (site.agents.are.each p b).machine in
       let here = fed_so (ReadBy start (KnownStill start before w) before p) (R before p) (TurnedBy start (KnownStill start before w) before p) (U before p) m
-          (λ holds reads. turned_known start before p (KnownStill start before w) K m.present m.orb reads (had_before p m.present m.orb))
-          (λ orb kept offset next. read_known start before p (KnownStill start before w) K (aligned offset) orb (had_before p (aligned offset) orb)) (fed p b e) in
+      (λ holds reads. turned_known start before p (KnownStill start before w) K m.present m.orb reads (had_before p m.present m.orb))
+      (λ orb kept offset next. read_known start before p (KnownStill start before w) K (aligned offset) orb (had_before p (aligned offset) orb)) (fed p b e) in
       fed_alike (R before p) (U before p) m a (sym alike.phase) (sym (alike.present e)) (sym (alike.orb e)) (sym (alike.payload e)) (λ f. sym (alike.segments (ap moves_data (sym alike.phase) ∙ f))) (sym (alike.ahead e)) here
   by_list p b false e =
       closed_feeds (IsBrought start before p) (R before p) (IsTurned start before p) (U before p) (agent_at T p).machine (ap has_list (site.agents.are.each p b).machine.phase ∙ e) (all_before.agents p)

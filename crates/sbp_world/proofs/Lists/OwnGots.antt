@@ -109,8 +109,8 @@ module _ (start : List Disk) (line : ℕ) (event : Event) (past : List Moment) w
   own_asked own serial place b side mine i waits to r other slot which closed purpose =
       let twice = over_twice (target_at start past) in
       let x = own serial place b side mine i
-          (subst (λ (T : Target). serial_of side (agent_at T place) ≡ Some mine) twice waits) (ap (λ (f : ℕ → Option Sending). receiver_in (f mine)) (sym sent_same) ∙ to) r other slot which
-          (sym (answered_same serial) ∙ closed) (subst (λ (T : Target). purpose_of T r ≡ for_agent other which) twice purpose) in
+      (subst (λ (T : Target). serial_of side (agent_at T place) ≡ Some mine) twice waits) (ap (λ (f : ℕ → Option Sending). receiver_in (f mine)) (sym sent_same) ∙ to) r other slot which
+      (sym (answered_same serial) ∙ closed) (subst (λ (T : Target). purpose_of T r ≡ for_agent other which) twice purpose) in
       subst (λ (m : List Moved). (read_by u i serial (answered_at u serial) ≡ m) ⊎ ((m ≡ []) × AllElsewhere slot (read_by u i serial (answered_at u serial)))) (sym (main_same place serial))
       (subst (λ (r : List Moved). (r ≡ main_read start past place serial) ⊎ ((main_read start past place serial ≡ []) × AllElsewhere slot r)) (sym (read_same i serial)) x)
 
