@@ -465,3 +465,16 @@ pub mod OneUp
 pub mod SendsLast
 pub mod TurnOrders
 pub mod PlaceOwners
+pub mod PointersHeld
+pub mod PointersTaken
+pub mod PointersGot
+pub mod TurnShapes
+pub mod PointersTurn
+pub mod RepliesStayUp
+pub mod SendsLeave
+pub mod PointersName
+pub mod PointersRuns
+pub mod TurnSends
+pub mod OpenSends
+pub mod AsGot
+pub mod OpenGots

@@ -135,7 +135,7 @@ pub use of_lists::orbs_stand_in_their_slots;
 pub use of_lists::orbs_that_ran_are_at_agents;
 pub use of_lists::orbs_that_run_were_fed;
 pub use of_lists::orbs_that_run_were_read_and_fed;
-pub use of_lists::orbs_were_read_behind_their_appends;
+pub use of_lists::orbs_were_read_while_their_lists_were_open;
 pub use of_lists::packets_are_sent_behind_effects;
 pub use of_lists::places_are_read_as_they_stood;
 pub use of_lists::pointers_name_first_orbs;

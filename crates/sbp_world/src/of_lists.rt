@@ -213,8 +213,8 @@ pub fn answers_are_their_own_as_they_are_got()
     ensures { OwnAsGotLaw }
 {}
 
-/// In every run in which no initiator injected packets the response that brought the ORB of each run, as the carried law has it but
-/// that its list was open, is the one behind which its agent turned to it: the buffer and the data of the command are those by all that
+/// In every run in which no initiator injected packets the response that brought the ORB of each run, as the carried law has
+/// it, is the one behind which its agent turned to it: the buffer and the data of the command are those by all that
 /// the target got of the initiator since, where what its agent did not read begins elsewhere than in the ORB's slot.
 #[tactic(auto, using(crate::proofs::Lists::Clauses::feeds_law))]
 pub fn orbs_that_run_were_read_and_fed()
@@ -517,12 +517,12 @@ pub fn answers_are_written_before_the_end()
 {}
 
 /// In every run in which no initiator injected packets the ORB of each run, and of each end but with the status failed, was read as
-/// the carried law says, all but that its list was open as the read was sent: the target got a response of 32 bytes, which answers
-/// its read of the ORB's slot in its initiator, sent behind the ORB's append and before another list began. What runs is no dummy,
-/// an ORB has format 3 exactly where it ends so, and else the command and the direction of its append. After every line, and behind
-/// each delivery of a line that delivers one packet after the other.
+/// the carried law says: the target got a response of 32 bytes, which answers its read of the ORB's slot in its initiator, sent behind
+/// the ORB's append and while its list was open. What runs is no dummy, an ORB has format 3 exactly where it ends so, and else the
+/// command and the direction of its append. So of ends it is all of the carried law. After every line, and behind each delivery of a
+/// line that delivers one packet after the other.
 #[tactic(auto, using(crate::proofs::Lists::Clauses::reads_law))]
-pub fn orbs_were_read_behind_their_appends()
+pub fn orbs_were_read_while_their_lists_were_open()
     ensures { WereReadLaw }
 {}
 

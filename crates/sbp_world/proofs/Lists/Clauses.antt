@@ -45,17 +45,14 @@ lengths_law = answer_lengths_law lists_law
 pub data_law : DataSentLaw
 data_law = data_sent_law short_law
 
-pub reads_law : WereReadLaw
-reads_law = were_read_law open_lists_law
-
-pub feeds_law : ReadAndFedLaw
-feeds_law = read_and_fed_law open_lists_law
-
 pub own_law : OwnReadsLaw
 own_law = own_reads_law open_lists_law
 
 pub one_up : OneUpLaw
 one_up = one_up_law short_law open_lists_law
+
+pub reads_law : WereReadLaw
+reads_law = were_read_law open_lists_law one_up
 
 pub held_law : DataHeldLaw
 held_law = data_held_law short_law
@@ -68,3 +65,6 @@ got_law = own_as_got_law open_lists_law
 
 pub waits_law : ReadsAsGotLaw
 waits_law = reads_as_got_law open_lists_law
+
+pub feeds_law : ReadAndFedLaw
+feeds_law = read_and_fed_law open_lists_law one_up

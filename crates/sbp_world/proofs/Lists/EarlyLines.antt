@@ -102,10 +102,10 @@ module _ (t : Target) where
       ap (λ (r : Option Reply). taken_on (told_in r notes.Stopped t) r (with_untold notes.Stopped r t)) e
       ∙ (ap (λ (x : Target). taken_on None (Some reply) x) (stays_same reply) ∙ sym (ap (λ (r : Option Reply). taken_on None r t) e))
 
-  settled_same : (over (going_on notes.Settled t)).agents ≡ (over t).agents
+  pub settled_same : (over (going_on notes.Settled t)).agents ≡ (over t).agents
   settled_same = ap (λ (x : Target). (over x).agents) (settled_by t.reply refl) ∙ settled_over t
 
-  stopped_same : (over (going_on notes.Stopped t)).agents ≡ (over t).agents
+  pub stopped_same : (over (going_on notes.Stopped t)).agents ≡ (over t).agents
   stopped_same = ap (λ (x : Target). (over x).agents) (stopped_by t.reply refl) ∙ settled_over t
 
 pub end_early : (wild : ℕ → Bool) (start : List Disk) (b : Bool) (ms : List Moment) → Early wild start ms → Early wild start (said (end_note b) ∷ ms)

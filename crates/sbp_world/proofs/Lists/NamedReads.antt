@@ -6,7 +6,7 @@ use Rattle.rbc_disk.specs.Disk.{Disk}
 use Rattle.sbp_journal.specs.Run.{Moment, said}
 use Rattle.sbp_journal.specs.Wire.{terms}
 use Rattle.sbp_laws.specs.Agents.{initiator_at}
-use Rattle.sbp_laws.specs.CarriedBytes.{address_of, before_sent}
+use Rattle.sbp_laws.specs.CarriedBytes.{address_of, before_sent, open_list}
 use Rattle.sbp_laws.specs.Lists.{orb as named_orb, prepared_in}
 use Rattle.sbp_laws.specs.Targets.{over, target_at}
 use Rattle.sbp_laws.specs.Turns.{EachMoment}
@@ -17,7 +17,12 @@ use Rattle.sbp_world.specs.Lists.Needs.{IsCalm}
 use Rattle.sbp_world.proofs.Lists.BegunLists.{latest_then, order_from}
 use Rattle.sbp_world.specs.Lists.OrbNames.{IsNamedBrought}
 use Rattle.sbp_world.specs.Lists.OrbReads.{AnswersAt, IsBrought, SentAsGot}
-use Rattle.sbp_world.proofs.Lists.WasReads.{SpellsOrb, it_answers, was_appended, was_read, was_read_by}
+use Rattle.sbp_world.proofs.Lists.WasReads.{SpellsOrb, each_at, it_answers, was_appended, was_read, was_read_by}
+use Rattle.sbp_world.specs.Agents.AskedRuns.{read_access}
+use Rattle.sbp_journal.specs.Addresses.{Access}
+use Rattle.sbp_world.proofs.Lists.AsGot.{AsGot}
+use Rattle.sbp_world.proofs.Lists.OpenGots.{OpenAsGot}
+use Rattle.sbp_world.proofs.Lists.OpenSends.{AreOpenReads}
 
 same_number : (a b : ℕ) → Some a ≡ Some b → a ≡ b
 same_number a b e = cc
@@ -28,7 +33,7 @@ pub record IsOfName (start : List Disk) (past : List Moment) (place address : �
   pub list : x.led.n ≡ n
   pub number : x.led.k ≡ k
 
-module _ (start : List Disk) (past : List Moment) (place i n k : ℕ) (orb : CommandOrb) (x : IsNamedBrought start past place (address_of past i n k) orb) (name : IsOfName start past place (address_of past i n k) orb i n k x) (few : place < 8) (counts : SerialsCount past) (calm : IsCalm past i) (fair : (terms past).injects 0 ≡ false) (answers : EachMoment AnswersAt past) (sent : EachMoment (SentAsGot start) past) (wild : ℕ → Bool) (law : OrderLaw wild past) where
+module _ (start : List Disk) (past : List Moment) (place i n k : ℕ) (orb : CommandOrb) (x : IsNamedBrought start past place (address_of past i n k) orb) (name : IsOfName start past place (address_of past i n k) orb i n k x) (few : place < 8) (counts : SerialsCount past) (calm : IsCalm past i) (fair : (terms past).injects 0 ≡ false) (answers : EachMoment AnswersAt past) (sent : EachMoment (SentAsGot start) past) (opens : OpenAsGot start past) (wild : ℕ → Bool) (law : OrderLaw wild past) where
   abbrev b : IsBrought start past place (address_of past i n k) orb
   b = x.brought
 
@@ -53,15 +58,30 @@ module _ (start : List Disk) (past : List Moment) (place i n k : ℕ) (orb : Com
       let law_then : OrderLaw wild (said (notes.Got b.response) ∷ b.earlier) = order_from wild i n b.later (said (notes.Got b.response) ∷ b.earlier) (subst (OrderLaw wild) (sym b.is) law) in
       latest_then wild i n b.earlier b.request k law_then.1 (omega (arith, e, f)) appended
 
-  pub named_read : SpellsOrb past i n k orb
+  -- the list was open then, and it is this one
+  opened : open_list start (before_sent b.earlier b.request) i ≡ Some n
+  opened =
+      let then : AreOpenReads start b.earlier = each_at (AsGot (AreOpenReads start)) b.later (said (notes.Got b.response)) b.earlier (subst (EachMoment (AsGot (AreOpenReads start))) (sym b.is) opens) in
+      let y = then place few b.which b.request i (record {
+        waits = b.waited;
+        to = x.to ∙ ap (λ j. Some (suc j)) name.initiator;
+        access = read_access (address_of past i n k) 32;
+        is = b.asked.is ∙ ap (λ (a : Access). Some a) b.asked.asks;
+        reads = refl;
+      }) in
+      let e = y.latest in
+      let f = latest in
+      y.opened ∙ ap (λ j. Some j) (let z : y.n ≡ n = omega (arith, e, f) in z)
+
+  pub named_read : SpellsOrb start past i n k orb
   named_read =
       was_read start past place (address_of past i n k) orb b counts i n k of_it refl
       (it_answers start past place (address_of past i n k) orb b counts i of_it calm answers fair)
-      appended latest
+      appended opened
 
   pub named_read_by : named_read.read.response ≡ b.response
   unfolding named_read
   named_read_by =
       was_read_by start past place (address_of past i n k) orb b counts i n k of_it refl
       (it_answers start past place (address_of past i n k) orb b counts i of_it calm answers fair)
-      appended latest
+      appended opened

@@ -57,7 +57,7 @@ agents_twice : (agents : List Agent) → map agent_over (map agent_over agents) 
 agents_twice [] = refl
 agents_twice (a ∷ agents) = ap (λ x. x ∷ map agent_over (map agent_over agents)) (agent_twice a) ∙ ap (λ xs. agent_over a ∷ xs) (agents_twice agents)
 
-taken_none : (reply : Option Reply) (t : Target) → t.reply ≡ reply → (taken_on None reply t).reply ≡ None
+pub taken_none : (reply : Option Reply) (t : Target) → t.reply ≡ reply → (taken_on None reply t).reply ≡ None
 taken_none None t e = e
 taken_none (Some reply) t e = refl
 

@@ -16,6 +16,7 @@ use Rattle.sbp_world.specs.Hosts.Runs.{more_deliveries}
 use Rattle.sbp_world.specs.Lists.Closes.{OpenListsLaw}
 use Rattle.sbp_world.specs.Lists.FedNames.{RunIsNamedFed}
 use Rattle.sbp_world.specs.Lists.FedRuns.{RunIsFed}
+use Rattle.sbp_world.specs.Lists.OneUp.{OneUpLaw}
 use Rattle.sbp_world.specs.Lists.OrbReads.{SentAsGot}
 use Rattle.sbp_world.specs.Lists.ReadFeeds.{ReadAndFedAt, ReadAndFedLaw, RunWasReadAndFed}
 use Rattle.sbp_world.proofs.Lists.AnsweredReads.{IsFair, fair_before, fair_of, told_everywhere}
@@ -25,19 +26,20 @@ use Rattle.sbp_world.proofs.Lists.Executes.{Tamely, runs_named}
 use Rattle.sbp_world.proofs.Lists.FedJoins.{run_since, since_fed}
 use Rattle.sbp_world.proofs.Lists.FedOnce.{judged_before, judged_everywhere}
 use Rattle.sbp_world.proofs.Lists.ListsProved.{closing}
+use Rattle.sbp_world.proofs.Lists.OpenGots.{OpenAsGot, open_as_got}
 use Rattle.sbp_world.proofs.Lists.RunLaws.{order_run_law}
 use Rattle.sbp_world.proofs.Lists.RunNames.{RunNamedAt}
 use Rattle.sbp_world.proofs.Lists.SentGots.{sent_as_got}
 
 module _ (given : Type 0) (so : given) (wild : ℕ → Bool) (calm : (i : ℕ) → wild i ≡ false) (start : List Disk) where
-  module _ (past : List Moment) (f : IsFair past) (j : AreJudged past) (sent : EachMoment (SentAsGot start) past) (law : OrderLaw wild past) where
+  module _ (past : List Moment) (f : IsFair past) (j : AreJudged past) (sent : EachMoment (SentAsGot start) past) (opens : OpenAsGot start past) (law : OrderLaw wild past) where
     both : (i n k : ℕ) (bytes : List ℕ) → RunIsNamedFed start past i n k bytes → RunWasReadAndFed start past i n k bytes
     both i n k bytes e = record {
-      read = run_read given so wild calm start past f sent law i n k e.named;
+      read = run_read given so wild calm start past f sent opens law i n k e.named;
       since = run_since start past f j i n k bytes e.fed;
       response =
           ap (λ (x : RunIsFed start past i n k bytes). x.brought.response) (since_fed start past f j i n k bytes e.fed)
-          ∙ (e.response ∙ sym (run_read_by given so wild calm start past f sent law i n k e.named));
+          ∙ (e.response ∙ sym (run_read_by given so wild calm start past f sent opens law i n k e.named));
     }
 
     by_names : (i : ℕ) (list number : Option ℕ) (unit : ℕ) (cdb bytes : List ℕ) (check : _) → RunNamedAt given wild start (said (notes.Ran i list number unit cdb bytes check)) past → ReadAndFedAt start (said (notes.Ran i list number unit cdb bytes check)) past
@@ -53,23 +55,23 @@ module _ (given : Type 0) (so : given) (wild : ℕ → Bool) (calm : (i : ℕ) �
     by_moment (asked line event) e = tt
     by_moment (said note) e = by_note note e
 
-  all_both : (past : List Moment) → IsFair past → AreJudged past → EachMoment (SentAsGot start) past → OrderLaw wild past → EachMoment (RunNamedAt given wild start) past → EachMoment (ReadAndFedAt start) past
-  all_both [] f j sent law e = tt
-  all_both (m ∷ past) f j sent law e =
+  all_both : (past : List Moment) → IsFair past → AreJudged past → EachMoment (SentAsGot start) past → OpenAsGot start past → OrderLaw wild past → EachMoment (RunNamedAt given wild start) past → EachMoment (ReadAndFedAt start) past
+  all_both [] f j sent opens law e = tt
+  all_both (m ∷ past) f j sent opens law e =
       let g = fair_before m past f in
       let q = judged_before m past j in
-      (by_moment past g q sent.1 law.1 m e.0, all_both past g q sent.1 law.1 e.1)
+      (by_moment past g q sent.1 opens.1 law.1 m e.0, all_both past g q sent.1 opens.1 law.1 e.1)
 
-pub read_and_fed_law : OpenListsLaw → ReadAndFedLaw
-read_and_fed_law lists = record {
+pub read_and_fed_law : OpenListsLaw → OneUpLaw → ReadAndFedLaw
+read_and_fed_law lists up = record {
   after_lines = λ line run r has small size tame.
       let so_far = closing.before lists line run r has small size (inl tame) in
       let past = history_of line run in
       all_both (Tamely (injectors past)) (lists, λ i. tame i) (injectors past) (λ i. tame i) run.start.disks past (fair_of past (told_everywhere.after_lines line run r has small size so_far) tame)
-      (judged_everywhere.after_lines line run r has small size so_far) ((sent_as_got lists).after_lines line run r has small size so_far tame) (order_run_law.after_lines line run r has small size so_far) (runs_named.after_lines line run r has small size so_far);
+      (judged_everywhere.after_lines line run r has small size so_far) ((sent_as_got lists).after_lines line run r has small size so_far tame) ((open_as_got lists up).after_lines line run r has small size so_far tame) (order_run_law.after_lines line run r has small size so_far) (runs_named.after_lines line run r has small size so_far);
   between = λ line run r has small size next most told m tame.
       let now = map said (after_all told (begun (after (beginning run) run.entries))).world.fresh ++ asked next (more_deliveries most) ∷ history_of line run in
       let so_far = closing.between lists line run r has small size next (more_deliveries most) (more_than_one most) told m (inl tame) in
       all_both (Tamely (injectors now)) (lists, λ i. tame i) (injectors now) (λ i. tame i) run.start.disks now (fair_of now (told_everywhere.between line run r has small size next most told m so_far) tame)
-      (judged_everywhere.between line run r has small size next most told m so_far) ((sent_as_got lists).between line run r has small size next most told m so_far tame) (order_run_law.between line run r has small size next (more_deliveries most) (more_than_one most) told m so_far) (runs_named.between line run r has small size next most told m so_far);
+      (judged_everywhere.between line run r has small size next most told m so_far) ((sent_as_got lists).between line run r has small size next most told m so_far tame) ((open_as_got lists up).between line run r has small size next most told m so_far tame) (order_run_law.between line run r has small size next (more_deliveries most) (more_than_one most) told m so_far) (runs_named.between line run r has small size next most told m so_far);
 }

@@ -10,7 +10,8 @@ use Rattle.command_agent.specs.declared.phase.Phase.{Phase}
 use Rattle.command_agent.specs.declared.phase.Phase.TheVariants as phases
 use Rattle.command_agent.specs.declared.step.Which.{Which}
 use Rattle.command_agent.specs.declared.step.Which.TheVariants.{Ahead, Main}
-use Rattle.command_agent.specs.Machine.{Machine, is_ahead, is_sent}
+use Rattle.command_agent.specs.Machine.{Machine, is_ahead, is_sent, state_in}
+use Rattle.command_agent.specs.Steps.{is_reset}
 use Rattle.command_agent.specs.Tasks.{writes_status}
 use Rattle.login_table.specs.Table.{Table, place_at}
 use Rattle.orb_list.specs.Lists.{last_at, last_in}
@@ -151,9 +152,9 @@ module _ (units ready : ℕ) (has : 0 < units) (start_disks : List Disk) {past :
       pub is : access_at t serial ≡ Some access
       pub asks : IsAccessFor (under_as which m) status (fifo_in (term_login T place)) access
 
-    record Who : Type 0 where
-      same : term_initiator T t place ≡ initiator_in w place
-      inside : initiator_in w place < length w.initiators
+    pub record Who : Type 0 where
+      pub same : term_initiator T t place ≡ initiator_in w place
+      pub inside : initiator_in w place < length w.initiators
 
     who : IsServed w.target place → Who
     who served =
@@ -164,6 +165,9 @@ module _ (units ready : ℕ) (has : 0 < units) (start_disks : List Disk) {past :
         let terms_are : term_initiator T t place ≡ hold.holder.initiator = ap (λ (x : Table). initiator_with t (node_in (place_at x.places place))) over_table ∙ live.terms_are in
         let here : initiator_in w place ≡ hold.holder.initiator = ap (λ o. (or_nobody o).initiator) hold.there in
         record { same = terms_are ∙ sym here; inside = subst (λ i. i < length w.initiators) (sym here) live.of.small }
+
+    pub who_up : is_reset (state_in m.phase) ≡ false → Who
+    who_up e = who (G.mid.served place b (not_eight place b) e)
 
     to_it : (q : Who) (serial : ℕ) → receiver_in (t.sent serial) ≡ Some (term_initiator T t place + 1) → receiver_in (t.sent serial) ≡ Some (suc (initiator_in w place))
     to_it q serial e = e ∙ ap (λ i. Some (i + 1)) q.same ∙ ap Some (let z : initiator_in w place + 1 ≡ suc (initiator_in w place) = omega arith in z)

@@ -61,7 +61,7 @@ IsOne (events.Step count) = ⊥
 IsOne events.Settle = ⊥
 IsOne event = Unit {0}
 
-starts_judged : (serial : ℕ) (judged : Judged) → Starts (said (judged_note serial judged))
+pub starts_judged : (serial : ℕ) (judged : Judged) → Starts (said (judged_note serial judged))
 starts_judged serial judgements.Got = got_starts serial
 starts_judged serial (judgements.Ignored cause) = ignored_starts serial cause
 

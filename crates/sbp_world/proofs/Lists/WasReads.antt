@@ -19,11 +19,10 @@ use Rattle.sbp_journal.specs.Wire.{terms}
 use Rattle.sbp_journal.specs.declared.note.Note.{Note}
 use Rattle.sbp_journal.specs.declared.note.Note.TheVariants as notes
 use Rattle.sbp_laws.specs.Agents.{initiator_at}
-use Rattle.sbp_laws.specs.CarriedBytes.{IsRead, address_of, before_sent, bytes_in, orb_read, payload_at, was_got}
-use Rattle.sbp_world.specs.Lists.CarriedEnds.{WasReadBehind}
+use Rattle.sbp_laws.specs.CarriedBytes.{IsRead, WasRead, address_of, before_sent, bytes_in, open_list, orb_read, payload_at, was_got}
 use Rattle.sbp_laws.specs.Packets.{access_at, access_in, answer_in, packet_at, packet_in, receiver_in, sender_in}
 use Rattle.sbp_laws.specs.Targets.{is_serial, over, target_at}
-use Rattle.sbp_laws.specs.Terms.{appends, lists}
+use Rattle.sbp_laws.specs.Terms.{appends}
 use Rattle.bus_memory.specs.declared.window.Window.TheVariants as windows
 use Rattle.bus_memory.specs.Windows.{start as start_of}
 use Rattle.sbp_laws.specs.Lists.{orb as named_orb, prepared_in}
@@ -78,7 +77,7 @@ receiver_sent : (found : Option Sending) (node : ℕ) → is_serial (receiver_in
 receiver_sent None node e = untrue e
 receiver_sent (Some packet) node e = (packet, refl)
 
-sender_sent : (found : Option Sending) (node : ℕ) → sender_in found ≡ Some node → (packet : Sending) × (found ≡ Some packet)
+pub sender_sent : (found : Option Sending) (node : ℕ) → sender_in found ≡ Some node → (packet : Sending) × (found ≡ Some packet)
 sender_sent None node e = absurd (let differ : None ≡ Some node = e in cc)
 sender_sent (Some packet) node e = (packet, refl)
 
@@ -103,8 +102,8 @@ pub record IsAnswered (past : List Moment) (address : ℕ) (orb : CommandOrb) : 
   pub orb_is : orb_read past response ≡ orb
 
 -- an ORB was read behind its append, and its response spells it
-pub record SpellsOrb (past : List Moment) (i n k : ℕ) (orb : CommandOrb) : Type 0 where
-  pub read : WasReadBehind past i n k
+pub record SpellsOrb (start : List Disk) (past : List Moment) (i n k : ℕ) (orb : CommandOrb) : Type 0 where
+  pub read : WasRead start past i n k
   pub spells : orb_read past read.response ≡ orb
 
 pub each_at : (P : Moment → List Moment → Type 0) (later : List Moment) (m : Moment) (earlier : List Moment) → EachMoment P (later ++ m ∷ earlier) → P m earlier
@@ -201,8 +200,8 @@ module _ (start : List Disk) (past : List Moment) (place address : ℕ) (orb : C
           there = there;
         })
 
-  module _ (i n k : ℕ) (of_it : initiator_at (over (target_at start b.earlier)) (terms b.earlier) place ≡ i) (stands : address ≡ address_of past i n k) (answers : (terms b.earlier).answers b.response ≡ Some b.request) (appended : k < appends (before_sent b.earlier b.request) i n) (latest : suc n ≡ lists (before_sent b.earlier b.request) i) where
-    pub was_read : SpellsOrb past i n k orb
+  module _ (i n k : ℕ) (of_it : initiator_at (over (target_at start b.earlier)) (terms b.earlier) place ≡ i) (stands : address ≡ address_of past i n k) (answers : (terms b.earlier).answers b.response ≡ Some b.request) (appended : k < appends (before_sent b.earlier b.request) i n) (opened : open_list start (before_sent b.earlier b.request) i ≡ Some n) where
+    pub was_read : SpellsOrb start past i n k orb
     was_read = record {
       read = record {
         response = b.response;
@@ -214,7 +213,7 @@ module _ (start : List Disk) (past : List Moment) (place address : ℕ) (orb : C
         of_initiator = ap receiver_in (stays.sent b.request request_below) ∙ (b.asked.to ∙ ap (λ j. Some (j + 1)) of_it ∙ (let e : i + 1 ≡ suc i = omega arith in ap (λ j. Some j) e));
         asks = subst (λ x. IsSomeAnd x (λ access. IsRead access (address_of past i n k) 32)) (sym access_is) (record { read = refl; block = refl; from = stands; size = refl });
         appended = subst (λ ms. k < appends ms i n) (sym (stays.before_it b.request request_below)) appended;
-        latest = subst (λ ms. suc n ≡ lists ms i) (sym (stays.before_it b.request request_below)) latest;
+        opened = subst (λ ms. open_list start ms i ≡ Some n) (sym (stays.before_it b.request request_below)) opened;
       };
       spells = orb_is;
     }

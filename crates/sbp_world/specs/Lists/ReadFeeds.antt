@@ -16,7 +16,7 @@ use Rattle.sbp_world.specs.Lists.FedRuns.{RunIsSince}
 use Rattle.sbp_world.specs.Lists.OwnLogins.{IsTame}
 
 pub record RunWasReadAndFed (start : List Disk) (past : List Moment) (i n k : ℕ) (bytes : List ℕ) : Type 0 where
-  pub read : RunWasRead past i n k
+  pub read : RunWasRead start past i n k
   pub since : RunIsSince start past i n k bytes
   pub response : since.fed.brought.response ≡ read.read.response
 

@@ -1,0 +1,275 @@
+-- As the target sent a read that an agent waits for, the latest list of its initiator was open: this agent alone of the initiator's was out of RESET, and the pointer that it took names the list. A turn keeps this.
+use Rattle.std.proofs.Common.{inl, inr, ◌⊎◌, arith, ◌≡◌, ◌∙◌, refl, sym, ap, subst, ◌<◌, ◌≤◌, ◌+◌, not, ℕ, suc, nat_lt, Bool, true, false, List, [], ◌∷◌, ◌++◌, map, Option, Some, None}
+use Rattle.std.proofs.lemmas.Bool.Decides.{nat_tests}
+use Rattle.agent_laws.specs.Along.Along.{KnowsAhead, Progress}
+use Rattle.agent_laws.specs.Along.Lists.{OrbList}
+use Rattle.agent_laws.specs.Along.Requests.{ahead_ask, main_ask}
+use Rattle.command_agent.specs.declared.phase.Phase.{Phase}
+use Rattle.command_agent.specs.declared.phase.Phase.TheVariants as phases
+use Rattle.command_agent.specs.declared.step.Which.{Which}
+use Rattle.command_agent.specs.declared.step.Which.TheVariants.{Ahead, Main}
+use Rattle.command_agent.specs.Machine.{Machine, state_in}
+use Rattle.command_agent.specs.Steps.{is_reset}
+use Rattle.rbc_disk.specs.Disk.{Disk}
+use Rattle.sbp_journal.specs.Addresses.{Access}
+use Rattle.sbp_journal.specs.Run.{Moment, said}
+use Rattle.sbp_journal.specs.Transactions.{Sending}
+use Rattle.sbp_journal.specs.Wire.{terms}
+use Rattle.sbp_journal.specs.declared.note.Note.{Note}
+use Rattle.sbp_journal.specs.declared.note.Note.TheVariants as notes
+use Rattle.sbp_laws.specs.Agents.{fifo_in, initiator_at as term_initiator, pointed_in}
+use Rattle.sbp_laws.specs.CarriedBytes.{before_sent, open_list}
+use Rattle.bus_memory.specs.Windows.{slot_of}
+use Rattle.sbp_laws.specs.Lists.{list_in, named_in}
+use Rattle.sbp_laws.specs.Packets.{access_at, access_in, packet_in, receiver_in, sender_in}
+use Rattle.sbp_laws.specs.Targets.{Target, agent_at, known_at, login_at as term_login, over, target_at}
+use Rattle.sbp_laws.specs.Terms.{lists}
+use Rattle.bus_transactions.specs.Packets.{SerialsCount}
+use Rattle.sbp_world.specs.Agents.Alike.{has_list}
+use Rattle.sbp_world.specs.Agents.AskedRuns.{IsAccessFor, serial_of}
+use Rattle.sbp_world.specs.Agents.Crews.{agent_in}
+use Rattle.sbp_world.specs.Worlds.{Scene, WorldState}
+use Rattle.sbp_world.proofs.Agents.Management.Holding.{Holding}
+use Rattle.sbp_world.proofs.Agents.Management.Still.{hist}
+use Rattle.sbp_world.proofs.Hosts.Remaining.{remains}
+use Rattle.sbp_world.proofs.Hosts.SentMoments.{sent_below}
+use Rattle.sbp_world.specs.Lists.Lists.{orbs}
+use Rattle.sbp_world.specs.Lists.Needs.{IsOpenAt, initiator_in, machine_at}
+use Rattle.sbp_world.specs.Lists.OneUp.{AreApart}
+use Rattle.sbp_world.specs.Lists.OwnLogins.{IsTame}
+use Rattle.sbp_world.proofs.Lists.Awaited.{Awaits, waits_as}
+use Rattle.sbp_world.proofs.Lists.Courses.{Goes}
+use Rattle.sbp_world.proofs.Lists.Judging.{goes_next, grown as grown_by}
+use Rattle.sbp_world.proofs.Lists.ManageTerms.{none_is, untrue}
+use Rattle.sbp_world.proofs.Lists.OpenCuts.{is_up}
+use Rattle.sbp_world.proofs.Lists.OpenTurns.{listing_up, up_state}
+use Rattle.sbp_world.proofs.Lists.PointersHeld.{AllHold, ends_turn, is_alive, note_goes, stay, then_goes}
+use Rattle.sbp_world.proofs.Lists.PointersRuns.{AreNaming, NamesList, alive_list}
+use Rattle.sbp_world.proofs.Lists.ReadSlots.{under_as}
+use Rattle.sbp_world.proofs.Lists.SendsLast.{AllSends}
+use Rattle.sbp_world.proofs.Lists.SendsLeave.{Leaves, SameIds, beyond_down, one_open, over_leaves, same_initiator, sends_ids, sends_leave, sends_lists, sends_named, then_left}
+use Rattle.sbp_world.proofs.Lists.Sites.{Site, Waiting, waiting, who_up}
+use Rattle.sbp_world.proofs.Lists.StillTurns.{Ground, site_at}
+use Rattle.sbp_world.proofs.Lists.TurnSends.{SentLast, since_turn}
+use Rattle.sbp_world.proofs.Lists.TurnShapes.{goes_shape}
+use Rattle.sbp_world.proofs.Lists.WasReads.{sender_sent}
+
+-- the latest list of an initiator is open
+pub record IsOpenThen (start : List Disk) (past : List Moment) (i : ℕ) : Type 0 where
+  pub n : ℕ
+  pub opened : open_list start past i ≡ Some n
+  pub latest : suc n ≡ lists past i
+
+-- the agent of a place waits for a read
+pub record ReadsOf (start : List Disk) (past : List Moment) (place : ℕ) (which : Which) (serial i : ℕ) : Type 0 where
+  pub waits : serial_of which (agent_at (over (target_at start past)) place) ≡ Some serial
+  pub to : receiver_in ((terms past).sent serial) ≡ Some (suc i)
+  pub access : Access
+  pub is : access_at (terms past) serial ≡ Some access
+  pub reads : access.is_write ≡ false
+
+abbrev pub AreOpenReads : List Disk → List Moment → Type 0
+AreOpenReads start past = (place : ℕ) → place < 8 → (which : Which) (serial i : ℕ) → ReadsOf start past place which serial i → IsOpenThen start (before_sent past serial) i
+
+-- ---- one that waits for a read is not about to be dead
+module _ (is_status : Bool) (fifo : ℕ) (access : Access) (reads : access.is_write ≡ false) where
+  main_alive : (phase : Phase) (m : Machine) → has_list phase ≡ true → IsAccessFor (main_ask phase m) is_status fifo access → is_alive phase ≡ true
+  main_alive phases.Reset m e a = untrue e
+  main_alive phases.Dead m e a = untrue e
+  main_alive phases.WritingLastStatus m e a = untrue (sym reads ∙ ap (λ (x : Access). x.is_write) a.0)
+  main_alive phases.Fetching m e a = refl
+  main_alive phases.ReadingTable m e a = refl
+  main_alive (phases.ReadingData wanted) m e a = refl
+  main_alive phases.Answering m e a = refl
+  main_alive phases.WritingStatus m e a = refl
+  main_alive phases.ReadingNext m e a = refl
+  main_alive phases.Suspended m e a = refl
+
+  ahead_alive : (phase : Phase) (m : Machine) (l : OrbList) (p : Progress) → has_list phase ≡ true → KnowsAhead l p phase m.orb.next m.ahead → IsAccessFor (ahead_ask m.ahead m.orb.next) is_status fifo access → is_alive phase ≡ true
+  ahead_alive phases.Reset m l p e k a = untrue e
+  ahead_alive phases.Dead m l p e k a = untrue e
+  ahead_alive phases.WritingLastStatus m l p e k a = absurd (subst (λ x. IsAccessFor (ahead_ask x m.orb.next) is_status fifo access) k a)
+  ahead_alive phases.Fetching m l p e k a = refl
+  ahead_alive phases.ReadingTable m l p e k a = refl
+  ahead_alive (phases.ReadingData wanted) m l p e k a = refl
+  ahead_alive phases.Answering m l p e k a = refl
+  ahead_alive phases.WritingStatus m l p e k a = refl
+  ahead_alive phases.ReadingNext m l p e k a = refl
+  ahead_alive phases.Suspended m l p e k a = refl
+
+received : (so : Option Sending) (i : ℕ) → receiver_in so ≡ Some i → (packet : Sending) × (so ≡ Some packet)
+received None i e = none_is i e
+received (Some packet) i e = (packet, refl)
+
+same_number : (i j : ℕ) → Some (suc i) ≡ Some (suc j) → i ≡ j
+same_number i j e = cc
+
+-- ---- packets leave the pointers
+module _ (start : List Disk) where
+  sends_hold : (ns : List Note) (past : List Moment) → AllSends ns → AllHold (target_at start past).agents (target_at start (map said ns ++ past)).agents
+  sends_hold [] past q = stay (target_at start past).agents
+  sends_hold (notes.Sent serial generation from to bytes ∷ ns) past q =
+      let ms = map said ns ++ past in
+      let note = notes.Sent serial generation from to bytes in
+      then_goes (target_at start past).agents (target_at start ms).agents (target_at start (said note ∷ ms)).agents (sends_hold ns past q.1) (note_goes note ms (known_at start ms).wire (target_at start ms) tt)
+  sends_hold (note ∷ ns) past q = absurd q.0
+
+  pub over_hold : (ns : List Note) (past : List Moment) → AllSends ns → AllHold (target_at start past).agents (over (target_at start (map said ns ++ past))).agents
+  over_hold ns past q =
+      let t = target_at start (map said ns ++ past) in then_goes (target_at start past).agents t.agents (over t).agents (sends_hold ns past q) (ends_turn t)
+
+  pub over_left : (ns : List Note) (past : List Moment) → AllSends ns → Leaves (target_at start past) (over (target_at start (map said ns ++ past)))
+  over_left ns past q =
+      let t = target_at start (map said ns ++ past) in then_left (target_at start past) t (over t) (sends_leave start ns past q) (over_leaves t)
+
+-- ---- behind a turn
+module _ (units ready : ℕ) (has : 0 < units) (start : List Disk) (past : List Moment) (v : WorldState) {lines : ℕ} (h : Holding units ready start past lines v) (q : Ground start (hist past v) v) (tame : IsTame (hist past v)) (naming : AreNaming start (hist past v) v) (apart : AreApart (hist past v) v) (place : ℕ) (b : place < 8) (which : Which) (serial i : ℕ) (r : ReadsOf start (hist past v) place which serial i) (last : SentLast (hist past v) serial) where
+  abbrev now : List Moment
+  now = hist past v
+
+  abbrev T : Target
+  T = over (target_at start now)
+
+  -- before the packet
+  abbrev then : List Moment
+  then = before_sent now serial
+
+  abbrev t : Target
+  t = target_at start then
+
+  site : Site start past v
+  site = site_at start past v q
+
+  asked : Waiting units ready has start v h site place b which serial
+  asked = waiting units ready has start v h site place b which serial r.waits
+
+  i_is : i ≡ initiator_in v place
+  i_is = same_number i (initiator_in v place) (sym r.to ∙ asked.to)
+
+  abbrev o : IsOpenAt now v place
+  o = (q.lists tame).listed place b asked.is_open (tame (initiator_in v place))
+
+  same_access : (a c : Access) → Some a ≡ Some c → a ≡ c
+  same_access a c e = cc
+
+  reads : asked.access.is_write ≡ false
+  reads = ap (λ (x : Access). x.is_write) (same_access asked.access r.access (sym asked.is ∙ r.is)) ∙ r.reads
+
+  abbrev fifo : ℕ
+  fifo = fifo_in (term_login T place)
+
+  alive : is_alive (machine_at v place).phase ≡ true
+  alive = by which asked.asks
+    where
+      by : (one : Which) → IsAccessFor (under_as one (machine_at v place)) asked.status fifo asked.access → is_alive (machine_at v place).phase ≡ true
+      by Main a = main_alive asked.status fifo asked.access reads (machine_at v place).phase (machine_at v place) asked.is_open a
+      by Ahead a =
+          let goes = q.along.all place b asked.is_open (tame (initiator_in v place)) o.n o.list in
+          ahead_alive asked.status fifo asked.access reads (machine_at v place).phase (machine_at v place) (orbs now (initiator_in v place) o.n) goes.progress asked.is_open goes.along.ahead a
+
+  leaves : Leaves t T
+  leaves = subst (λ ms. Leaves t (over (target_at start ms))) last.is (over_left start last.behind then last.are_sends)
+
+  hold : AllHold t.agents T.agents
+  hold = subst (λ ms. AllHold t.agents (over (target_at start ms)).agents) last.is (over_hold start last.behind then last.are_sends)
+
+  phase_same : (p : ℕ) → p < 8 → (agent_at T p).machine.phase ≡ (machine_at v p).phase
+  phase_same p c = (site.agents.are.each p c).machine.phase
+
+  held : ((agent_at T place).pointer ≡ (agent_at t place).pointer) × (is_alive (agent_at t place).machine.phase ≡ true)
+  held = hold place (ap is_alive (phase_same place b) ∙ alive)
+
+  abbrev name : NamesList now (initiator_in v place) o.n (agent_at T place).pointer
+  name = naming place b alive o.n o.list
+
+  list_is : list_in (pointed_in then i (agent_at t place).pointer) ≡ Some o.n
+  list_is =
+      let so = slot_of name.address in
+      let here : named_in now i so ≡ named_in then i so = subst (λ ms. named_in ms i so ≡ named_in then i so) last.is (sends_named last.behind then i so last.are_sends) in
+      ap (λ p. list_in (pointed_in then i p)) (sym held.0 ∙ name.is)
+      ∙ (ap list_in (sym here) ∙ subst (λ j. list_in (named_in now j so) ≡ Some o.n) (sym i_is) name.list)
+
+  initiator_same : (p : ℕ) → term_initiator T (terms now) p ≡ term_initiator t (terms then) p
+  initiator_same p =
+      let ids = subst (λ ms. SameIds (terms then) (terms ms)) last.is (sends_ids last.behind then last.are_sends) in same_initiator (terms then) (terms now) t T ids leaves.table p
+
+  -- the place is the initiator's, and no other one of it has an agent out of RESET
+  up_at : (p : ℕ) → p < 8 → is_up (agent_in t.agents p).machine ≡ true → is_up (machine_at v p) ≡ true
+  up_at p c u = ap (λ (phase : Phase). not (is_reset (state_in phase))) (sym (phase_same p c)) ∙ leaves.up p u
+
+  owner : (p : ℕ) (c : p < 8) → is_up (machine_at v p) ≡ true → term_initiator t (terms then) p ≡ initiator_in v p
+  owner p c u = sym (initiator_same p) ∙ (who_up units ready has start v h site p c (up_state (is_reset (state_in (machine_at v p).phase)) u)).same
+
+  up_here : is_up (agent_in t.agents place).machine ≡ true
+  up_here = listing_up (agent_in t.agents place).machine.phase (alive_list (agent_in t.agents place).machine.phase held.1)
+
+  own : term_initiator t (terms then) place ≡ i
+  own = owner place b (up_at place b up_here) ∙ sym i_is
+
+  alone : (j k : ℕ) → 0 + j ≡ k → is_up (agent_in t.agents j).machine ≡ true → term_initiator t (terms then) k ≡ i → j ≡ place
+  alone j k at u e = by (nat_lt j 8) refl
+    where
+      same : k ≡ j
+      same = omega (arith, at)
+
+      by : (x : Bool) → nat_lt j 8 ≡ x → j ≡ place
+      by true f =
+          let c : j < 8 = grind (arith, nat_tests) in
+          let there = up_at j c u in
+          let of_it : initiator_in v j ≡ i = sym (owner j c there) ∙ (ap (term_initiator t (terms then)) (sym same) ∙ e) in
+          apart i place j b c (record { up = up_at place b up_here; own = sym i_is }) (record { up = there; own = of_it })
+      by false f =
+          let far : 8 ≤ j = grind (arith, nat_tests) in
+          beyond_down T.agents j (j ≡ place) (let z = site.agents.are.size in omega (arith, z, far)) (leaves.up j u)
+
+  pub opened_last : IsOpenThen start then i
+  opened_last = record {
+    n = o.n;
+    opened = one_open then (terms then) t i o.n 0 t.agents place place (let z : 0 + place ≡ place = omega arith in z) up_here own list_is alone;
+    latest =
+        subst (λ j. suc o.n ≡ lists now j) (sym i_is) o.still.latest
+        ∙ subst (λ ms. lists ms i ≡ lists then i) last.is (sends_lists last.behind then i last.are_sends);
+  }
+
+-- ---- a turn
+module _ (units ready : ℕ) (has : 0 < units) (start : List Disk) (past : List Moment) (s : Scene) (later : List Moment) (t : Scene) (g : Goes past s later t) {lines more : ℕ} (h : Holding units ready start past lines s.world) (h_now : Holding units ready start later more t.world) (q : Ground start (hist past s.world) s.world) (q_now : Ground start (hist later t.world) t.world) (tame_now : IsTame (hist later t.world)) (naming : AreNaming start (hist later t.world) t.world) (apart : AreApart (hist later t.world) t.world) (so_far : AreOpenReads start (hist past s.world)) where
+  abbrev before : List Moment
+  before = hist past s.world
+
+  abbrev now_then : List Moment
+  now_then = hist later t.world
+
+  site_before : Site start past s.world
+  site_before = site_at start past s.world q
+
+  site_now : Site start later t.world
+  site_now = site_at start later t.world q_now
+
+  module _ (place : ℕ) (b : place < 8) (which : Which) (serial i : ℕ) (r : ReadsOf start now_then place which serial i) where
+    asked_from : (one : Which) → serial_of one (agent_at (over (target_at start before)) place) ≡ Some serial → sender_in ((terms before).sent serial) ≡ Some 0
+    asked_from Main e = ((site_before.asked.all place b).main serial e).from
+    asked_from Ahead e = ((site_before.asked.all place b).ahead serial e).from
+
+    old : (one : Which) → serial_of one (agent_at (over (target_at start before)) place) ≡ Some serial → IsOpenThen start (before_sent now_then serial) i
+    old one e =
+        let x = sender_sent ((terms before).sent serial) 0 (asked_from one e) in
+        let below = sent_below before serial x.0 site_before.serials x.1 in
+        let grown = grown_by before now_then (goes_next past s later t g) in
+        let remain = remains grown.new before (subst SerialsCount (sym grown.is) site_now.serials) in
+        let sent : (terms now_then).sent serial ≡ (terms before).sent serial = ap (λ ms. (terms ms).sent serial) (sym grown.is) ∙ remain.sent serial below in
+        let front : before_sent now_then serial ≡ before_sent before serial = ap (λ ms. before_sent ms serial) (sym grown.is) ∙ remain.before_it serial below in
+        subst (λ ms. IsOpenThen start ms i) (sym front)
+        (so_far place b one serial i (record { waits = e; to = ap receiver_in (sym sent) ∙ r.to; access = r.access; is = ap (λ so. access_in (packet_in so)) (sym sent) ∙ r.is; reads = r.reads }))
+
+    since : Awaits (agent_at (over (target_at start before)) place) serial ⊎ SentLast now_then serial → IsOpenThen start (before_sent now_then serial) i
+    since (inl (inl e)) = old Main e
+    since (inl (inr e)) = old Ahead e
+    since (inr last) = opened_last units ready has start later t.world h_now q_now tame_now naming apart place b which serial i r last
+
+    reads_open : IsOpenThen start (before_sent now_then serial) i
+    reads_open =
+        let x = received ((terms now_then).sent serial) (suc i) r.to in
+        since (since_turn start before now_then site_now.serials place serial x.0 x.1 (goes_shape past s later t g) (waits_as which (agent_at (over (target_at start now_then)) place) serial r.waits))
+
+  pub turn_open : AreOpenReads start now_then
+  turn_open place b which serial i r = reads_open place b which serial i r

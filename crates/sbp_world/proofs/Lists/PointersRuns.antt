@@ -1,0 +1,217 @@
+-- At each place of a run in which no initiator injected packets the pointer that an agent with a list took last names this list, while the agent is not about to be dead: the address is that of its first ORB as it
+-- takes it, and then the list is its initiator's latest one.
+use Rattle.std.proofs.Common.{inl, inr, ◌⊎◌, arith, ◌≡◌, ◌∙◌, refl, sym, ap, subst, ◌<◌, ◌≤◌, ℕ, suc, true, List, ◌++◌, length, Option, Some}
+use Rattle.agent_laws.specs.Along.Along.{Begins as Reading, Knows}
+use Rattle.bus_memory.specs.Windows.{slot_of}
+use Rattle.bus_memory.proofs.Found.{slot_of_law}
+use Rattle.command_agent.specs.declared.phase.Phase.{Phase}
+use Rattle.command_agent.specs.declared.phase.Phase.TheVariants as phases
+use Rattle.command_agent.specs.Machine.{Machine}
+use Rattle.rbc_disk.specs.Disk.{Disk}
+use Rattle.sbp_bus.specs.Places.{holder_at}
+use Rattle.sbp_journal.specs.Run.{Moment}
+use Rattle.sbp_laws.specs.Lawful.{injectors}
+use Rattle.sbp_laws.specs.Lists.{list_in, named_in, slot_at}
+use Rattle.sbp_laws.specs.OrderLaw.{OrderLaw}
+use Rattle.sbp_laws.specs.Targets.{Agent, agent_at, over, target_at}
+use Rattle.sbp_laws.specs.Terms.{ends, lists}
+use Rattle.sbp_world.specs.Agents.Alike.{Alike, has_list}
+use Rattle.sbp_world.specs.Making.{ready_logins}
+use Rattle.sbp_world.specs.Runs.{Run, beginning}
+use Rattle.sbp_world.specs.Telling.{holder}
+use Rattle.sbp_world.specs.Worlds.{Scene, WorldState}
+use Rattle.sbp_world.proofs.Agents.Management.Holding.{Holding}
+use Rattle.sbp_world.proofs.Agents.Management.Still.{hist}
+use Rattle.sbp_world.specs.Lists.Along.{GoesAlong}
+use Rattle.sbp_world.specs.Lists.Closes.{OpenListsLaw}
+use Rattle.sbp_world.specs.Lists.Lists.{orbs}
+use Rattle.sbp_world.specs.Lists.Needs.{IsOpenAt, initiator_in, is_open_at, machine_at}
+use Rattle.sbp_world.specs.Lists.OwnLogins.{IsTame}
+use Rattle.sbp_world.proofs.Lists.Courses.{EveryPlace, Goes, Keeps, at_between, at_lines}
+use Rattle.sbp_world.proofs.Lists.Judging.{goes_next, grown as grown_by}
+use Rattle.sbp_world.proofs.Lists.LiveRuns.{goes_size, goes_tame}
+use Rattle.sbp_world.proofs.Lists.ManageTerms.{untrue}
+use Rattle.sbp_world.proofs.Lists.OpenTurns.{listing_up}
+use Rattle.sbp_world.proofs.Lists.PlaceOwners.{turn_owns}
+use Rattle.sbp_world.proofs.Lists.PointersHeld.{is_alive}
+use Rattle.sbp_world.proofs.Lists.PointersName.{Begins, goes_begins, name_goes, none_begins, places_stand}
+use Rattle.sbp_world.proofs.Lists.PointersTurn.{turn_taken}
+use Rattle.sbp_world.proofs.Lists.Sites.{IsPrepared, named_prepared}
+use Rattle.sbp_world.proofs.Lists.StillRuns.{first_closed, ground_everywhere}
+use Rattle.sbp_world.proofs.Lists.StillTurns.{Ground, site_at}
+use Rattle.sbp_world.proofs.Lists.TurnShapes.{goes_shape}
+
+-- a pointer that was taken names a list
+pub record NamesList (past : List Moment) (i n : ℕ) (pointer : Option ℕ) : Type 0 where
+  pub address : ℕ
+  pub is : pointer ≡ Some address
+  pub list : list_in (named_in past i (slot_of address)) ≡ Some n
+
+-- at a place
+abbrev pub AreNaming : List Disk → List Moment → WorldState → Type 0
+AreNaming start past w = (place : ℕ) → place < 8 → is_alive (machine_at w place).phase ≡ true → (n : ℕ) → (holder w place).list ≡ Some n → NamesList past (initiator_in w place) n (agent_at (over (target_at start past)) place).pointer
+
+pub alive_list : (phase : Phase) → is_alive phase ≡ true → has_list phase ≡ true
+alive_list phases.Reset e = untrue e
+alive_list phases.Dead e = untrue e
+alive_list phases.WritingLastStatus e = untrue e
+alive_list phases.Fetching e = refl
+alive_list phases.ReadingTable e = refl
+alive_list (phases.ReadingData wanted) e = refl
+alive_list phases.Answering e = refl
+alive_list phases.WritingStatus e = refl
+alive_list phases.ReadingNext e = refl
+alive_list phases.Suspended e = refl
+
+same_list : (a b : ℕ) → Some a ≡ Some b → a ≡ b
+same_list a b e = cc
+
+module _ (units ready : ℕ) (has : 0 < units) (start : List Disk) where
+  -- ---- a place at which an agent reads its present ORB
+  module _ (past : List Moment) (w : WorldState) {lines : ℕ} (h : Holding units ready start past lines w) (q : Ground start (hist past w) w) (tame : IsTame (hist past w)) (p : ℕ) (b : p < 8) (open_there : is_open_at w p ≡ true) where
+    abbrev ms : List Moment
+    ms = hist past w
+
+    abbrev pub i : ℕ
+    i = initiator_in w p
+
+    abbrev m : Machine
+    m = machine_at w p
+
+    abbrev pub o : IsOpenAt ms w p
+    o = (q.lists tame).listed p b open_there (tame i)
+
+    abbrev goes : GoesAlong ms i o.n m
+    goes = q.along.all p b open_there (tame i) o.n o.list
+
+    pub alike : Alike (agent_at (over (target_at start ms)) p).untold (agent_at (over (target_at start ms)) p).machine m
+    alike = ((site_at start past w q).agents.are.each p b).machine
+
+    pub fetched : m.phase ≡ phases.Fetching → list_in (named_in ms i (slot_of m.present)) ≡ Some o.n
+    fetched e =
+        let l = orbs ms i o.n in
+        let reads : Reading l goes.progress m.present m.orb.next m.payload = subst (λ (phase : Phase). Knows l goes.progress phase m) e goes.along.main in
+        let k = goes.progress.ended in
+        let from : ends ms i o.n ≤ k = (let z = goes.is in omega (arith, z)) in
+        let x : IsPrepared ms i (slot_at ms i o.n k) o.n k = named_prepared units ready has start w h (site_at start past w q) p o.n k o.inside (o.named k from reads.turn.linked) in
+        ap (λ a. list_in (named_in ms i (slot_of a))) reads.turn.place
+        ∙ (ap (λ so. list_in (named_in ms i so)) (slot_of_law.found (slot_at ms i o.n k) x.small) ∙ ap list_in x.there)
+
+  -- ---- a turn
+  module _ (past : List Moment) (s : Scene) (later : List Moment) (t : Scene) (g : Goes past s later t) {lines more : ℕ} (h : Holding units ready start past lines s.world) (h_now : Holding units ready start later more t.world) (q : Ground start (hist past s.world) s.world) (q_now : Ground start (hist later t.world) t.world) (tame_now : IsTame (hist later t.world)) (naming : AreNaming start (hist past s.world) s.world) where
+    abbrev w : WorldState
+    w = s.world
+
+    abbrev v : WorldState
+    v = t.world
+
+    abbrev before : List Moment
+    before = hist past w
+
+    abbrev now : List Moment
+    now = hist later v
+
+    tame : IsTame before
+    tame = goes_tame past s later t g tame_now
+
+    module _ (p : ℕ) (b : p < 8) (alive : is_alive (machine_at v p).phase ≡ true) where
+      abbrev j : ℕ
+      j = initiator_in v p
+
+      open_now : is_open_at v p ≡ true
+      open_now = alive_list (machine_at v p).phase alive
+
+      abbrev one : IsOpenAt now v p
+      one = (q_now.lists tame_now).listed p b open_now (tame_now j)
+
+      abbrev a : Agent
+      a = agent_at (over (target_at start now)) p
+
+      owner : j ≡ initiator_in w p
+      owner = turn_owns units ready has start s h (site_at start past w q).held later t g p b (listing_up (machine_at v p).phase open_now)
+
+      -- it had the pointer before
+      module _ (pointer : a.pointer ≡ (agent_at (over (target_at start before)) p).pointer) (was : is_alive (agent_at (over (target_at start before)) p).machine.phase ≡ true) where
+        alive_before : is_alive (machine_at w p).phase ≡ true
+        alive_before = ap is_alive (sym ((site_at start past w q).agents.are.each p b).machine.phase) ∙ was
+
+        open_before : is_open_at w p ≡ true
+        open_before = alive_list (machine_at w p).phase alive_before
+
+        abbrev two : IsOpenAt before w p
+        two = (q.lists tame).listed p b open_before (tame (initiator_in w p))
+
+        latest : suc two.n ≡ lists before j
+        latest = subst (λ i. suc two.n ≡ lists before i) (sym owner) two.still.latest
+
+        lists_same : Begins past s later t → lists now j ≡ lists before j
+        lists_same (none_begins f) = f j (subst (λ i. i < length w.initiators) (sym owner) two.inside)
+        lists_same (places_stand e) =
+            let same : Some one.n ≡ Some two.n = sym one.list ∙ (ap (λ ps. (holder_at ps p).list) e ∙ two.list) in
+            let n_same = same_list one.n two.n same in
+            let x = one.still.latest in
+            let y = latest in
+            omega (arith, n_same, x, y)
+
+        begun : lists now j ≡ lists before j
+        begun = lists_same (goes_begins start past s later t g q q_now (goes_size past s later t g))
+
+        n_same : two.n ≡ one.n
+        n_same = let x = one.still.latest in let y = latest in let e = begun in omega (arith, x, y, e)
+
+        abbrev name : NamesList before (initiator_in w p) two.n (agent_at (over (target_at start before)) p).pointer
+        name = naming p b alive_before two.n two.list
+
+        kept : NamesList now j one.n a.pointer
+        kept =
+            let grown = grown_by before now (goes_next past s later t g) in
+            let law : OrderLaw (injectors now) (grown.new ++ before) = subst (OrderLaw (injectors now)) (sym grown.is) q_now.law in
+            let named : list_in (named_in before j (slot_of name.address)) ≡ Some two.n = subst (λ i. list_in (named_in before i (slot_of name.address)) ≡ Some two.n) (sym owner) name.list in
+            let e : lists (grown.new ++ before) j ≡ lists before j = ap (λ xs. lists xs j) grown.is ∙ begun in
+            record {
+              address = name.address;
+              is = pointer ∙ name.is;
+              list =
+                  subst (λ n. list_in (named_in now j (slot_of name.address)) ≡ Some n) n_same
+                  (subst (λ xs. list_in (named_in xs j (slot_of name.address)) ≡ Some two.n) grown.is (name_goes (injectors now) j two.n (slot_of name.address) grown.new before law e latest named));
+            }
+
+      -- or it took it in the turn
+      took : a.machine.phase ≡ phases.Fetching → a.pointer ≡ Some a.machine.present → NamesList now j one.n a.pointer
+      took phase pointer =
+          let x = alike later v h_now q_now tame_now p b open_now in
+          record {
+            address = (machine_at v p).present;
+            is = pointer ∙ ap (λ n. Some n) (x.present open_now);
+            list = fetched later v h_now q_now tame_now p b open_now (sym x.phase ∙ phase);
+          }
+
+      names : NamesList now j one.n a.pointer
+      names =
+          by (turn_taken start before now (goes_shape past s later t g) p (ap is_alive (alike later v h_now q_now tame_now p b open_now).phase ∙ alive))
+        where
+          by : ((a.pointer ≡ (agent_at (over (target_at start before)) p).pointer) × (is_alive (agent_at (over (target_at start before)) p).machine.phase ≡ true)) ⊎ ((a.machine.phase ≡ phases.Fetching) × (a.pointer ≡ Some a.machine.present)) → NamesList now j one.n a.pointer
+          by (inl x) = kept x.0 x.1
+          by (inr x) = took x.0 x.1
+
+    pub turn_naming : AreNaming start now v
+    turn_naming p b alive n list = subst (λ x. NamesList now (initiator_in v p) x (a p b alive).pointer) (same_list (one p b alive).n n (sym (one p b alive).list ∙ list)) (names p b alive)
+
+-- ---- at each place of a run
+abbrev pub NamingSo : List Disk → List Moment → WorldState → Type 0
+NamingSo start past w = IsTame past → AreNaming start past w
+
+all_naming : (units ready : ℕ) → 0 < units → (start : List Disk) → Keeps units ready start (Ground start) (NamingSo start)
+all_naming units ready has start past s later t lines more g h h_now q q_now naming tame =
+    turn_naming units ready has start past s later t g h h_now q q_now tame (naming (goes_tame past s later t g tame))
+
+first_naming : (start : List Disk) (run : Run) (ms : List Moment) → NamingSo start ms (beginning run).world
+first_naming start run _ _ place small alive = untrue (sym (first_closed run place) ∙ alive_list (machine_at (beginning run).world place).phase alive)
+
+pub naming_everywhere : OpenListsLaw → EveryPlace NamingSo
+naming_everywhere lists = record {
+  after_lines = λ line run r has small size so_far.
+      at_lines Ground (NamingSo run.start.disks) (ground_everywhere lists) line run r.few has small size (all_naming run.units (ready_logins run.initiators run.ready) has run.start.disks) (first_naming run.start.disks run _) r so_far;
+  between = λ line run r has small size next most told m so_far.
+      at_between Ground (NamingSo run.start.disks) (ground_everywhere lists) line run r.few has small size (all_naming run.units (ready_logins run.initiators run.ready) has run.start.disks) (first_naming run.start.disks run _) r next most told m so_far;
+}
