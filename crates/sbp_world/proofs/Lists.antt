@@ -285,12 +285,15 @@ pub mod OrbsSecond
 pub mod OrbsShort
 pub mod OwnCounts
 pub mod OwnFifos
+pub mod OwnGots
 pub mod OwnLogins
 pub mod OwnNodes
 pub mod OwnOps
 pub mod OwnPlaces
 pub mod OwnReplies
+pub mod OwnSince
 pub mod OwnTables
+pub mod OwnWaits
 pub mod Passes
 pub mod Passing
 pub mod PlaceBrings

@@ -40,7 +40,10 @@ pub mod Opens
 pub mod Orders
 pub mod OwnLogins
 pub mod Owners
+pub mod OwnGots
 pub mod OwnReads
+pub mod OwnSince
+pub mod OwnWaits
 pub mod PlaceReads
 pub mod Places
 pub mod Placings

@@ -6,7 +6,10 @@ ghost use Rattle.sbp_world.specs.Lists.CarriedEnds.{WereReadLaw};
 ghost use Rattle.sbp_world.specs.Lists.CarriedRuns.{RunsReadLaw};
 ghost use Rattle.sbp_world.specs.Lists.FedRuns.{BesideLaw, RunsFedLaw, RunsSinceLaw};
 ghost use Rattle.sbp_world.specs.Lists.GotOnce.{GotOnceLaw};
+ghost use Rattle.sbp_world.specs.Lists.OwnGots.{OwnAsGotLaw};
 ghost use Rattle.sbp_world.specs.Lists.OwnReads.{OwnGotsLaw, OwnReadsLaw};
+ghost use Rattle.sbp_world.specs.Lists.OwnSince.{OwnSinceLaw};
+ghost use Rattle.sbp_world.specs.Lists.OwnWaits.{ReadsAsGotLaw};
 ghost use Rattle.sbp_world.specs.Lists.Lists.{GrowingLaw};
 ghost use Rattle.sbp_world.specs.Lists.CutLists.{CutListsLaw};
 ghost use Rattle.sbp_world.specs.Lists.Closes.{ClosingLaw, OpenListsLaw};
@@ -183,9 +186,33 @@ pub fn commands_have_what_was_read_since()
     ensures { RunsSinceLaw }
 {}
 
-/// In every run in which no initiator injected packets the response that brought the ORB of each run, as the carried law has it, is the
-/// one behind which its agent turned to it: the buffer and the data of the command are those by all that the target got of the initiator
-/// since, where what its agent did not read begins elsewhere than in the ORB's slot.
+/// By every history, where answers to agents are their own as they are got: while the agent of a place waited for an answer of an
+/// initiator as each packet was got, and what answers no agent begins elsewhere than in a slot, each packet brought of this initiator
+/// what the main transaction of that place asked for, or what begins elsewhere.
+#[tactic(auto, using(crate::proofs::Lists::OwnSince::own_since_law))]
+pub fn answers_since_are_own_or_elsewhere()
+    ensures { OwnSinceLaw }
+{}
+
+/// In every run in which no initiator injected packets, as each packet is got: while the agent of a place waits for an answer of an
+/// initiator, what any agent waits for, to read in a page table or a buffer of this initiator, is the main transaction of that place,
+/// and stands in the slot of the first ORB of the latest list that has not ended.
+#[tactic(auto, using(crate::proofs::Lists::Clauses::waits_law))]
+pub fn agents_read_their_own_as_packets_are_got()
+    ensures { ReadsAsGotLaw }
+{}
+
+/// In every run in which no initiator injected packets, as each packet is got which answers a request of an agent: while the agent of a
+/// place waits for an answer of an initiator, it brings of this initiator what the main transaction of that place asked for, or what
+/// begins elsewhere than in a slot.
+#[tactic(auto, using(crate::proofs::Lists::Clauses::got_law))]
+pub fn answers_are_their_own_as_they_are_got()
+    ensures { OwnAsGotLaw }
+{}
+
+/// In every run in which no initiator injected packets the response that brought the ORB of each run, as the carried law has
+/// it, is the one behind which its agent turned to it: the buffer and the data of the command are those by all that
+/// the target got of the initiator since, where what its agent did not read begins elsewhere than in the ORB's slot.
 #[tactic(auto, using(crate::proofs::Lists::Clauses::feeds_law))]
 pub fn orbs_that_run_were_read_and_fed()
     ensures { ReadAndFedLaw }

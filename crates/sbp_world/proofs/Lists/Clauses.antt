@@ -7,7 +7,9 @@ use Rattle.sbp_world.specs.Lists.Live.{LiveLaw}
 use Rattle.sbp_world.specs.Lists.OneUp.{OneUpLaw}
 use Rattle.sbp_world.specs.Lists.Opened.{LogoutsLaw}
 use Rattle.sbp_world.specs.Lists.LawfulLists.{ListsLaw}
+use Rattle.sbp_world.specs.Lists.OwnGots.{OwnAsGotLaw}
 use Rattle.sbp_world.specs.Lists.OwnReads.{OwnGotsLaw, OwnReadsLaw}
+use Rattle.sbp_world.specs.Lists.OwnWaits.{ReadsAsGotLaw}
 use Rattle.sbp_world.specs.Lists.ReadFeeds.{ReadAndFedLaw}
 use Rattle.sbp_world.proofs.Lists.AnswerLengths.{answer_lengths_law}
 use Rattle.sbp_world.proofs.Lists.CarriedEnds.{were_read_law}
@@ -15,6 +17,8 @@ use Rattle.sbp_world.proofs.Lists.DataLaws.{data_sent_law, data_held_law}
 use Rattle.sbp_world.proofs.Lists.FedOwnerRuns.{own_gots_law, own_reads_law}
 use Rattle.sbp_world.proofs.Lists.Lawful as proved
 use Rattle.sbp_world.proofs.Lists.OneUp.{one_up_law}
+use Rattle.sbp_world.proofs.Lists.OwnGots.{own_as_got_law}
+use Rattle.sbp_world.proofs.Lists.OwnWaits.{reads_as_got_law}
 use Rattle.sbp_world.proofs.Lists.ReadFeeds.{read_and_fed_law}
 use Rattle.sbp_world.proofs.Lists.ShortLines.{short_law}
 use Rattle.sbp_world.specs.Lists.DataHolds.{DataHeldLaw}
@@ -46,11 +50,17 @@ one_up = one_up_law short_law open_lists_law
 pub reads_law : WereReadLaw
 reads_law = were_read_law open_lists_law one_up
 
-pub feeds_law : ReadAndFedLaw
-feeds_law = read_and_fed_law open_lists_law one_up
-
 pub held_law : DataHeldLaw
 held_law = data_held_law short_law
 
 pub gots_law : OwnGotsLaw
 gots_law = own_gots_law open_lists_law
+
+pub got_law : OwnAsGotLaw
+got_law = own_as_got_law open_lists_law
+
+pub waits_law : ReadsAsGotLaw
+waits_law = reads_as_got_law open_lists_law
+
+pub feeds_law : ReadAndFedLaw
+feeds_law = read_and_fed_law open_lists_law one_up

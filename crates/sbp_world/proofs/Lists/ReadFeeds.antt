@@ -16,6 +16,7 @@ use Rattle.sbp_world.specs.Hosts.Runs.{more_deliveries}
 use Rattle.sbp_world.specs.Lists.Closes.{OpenListsLaw}
 use Rattle.sbp_world.specs.Lists.FedNames.{RunIsNamedFed}
 use Rattle.sbp_world.specs.Lists.FedRuns.{RunIsFed}
+use Rattle.sbp_world.specs.Lists.OneUp.{OneUpLaw}
 use Rattle.sbp_world.specs.Lists.OrbReads.{SentAsGot}
 use Rattle.sbp_world.specs.Lists.ReadFeeds.{ReadAndFedAt, ReadAndFedLaw, RunWasReadAndFed}
 use Rattle.sbp_world.proofs.Lists.Fair.{IsFair, fair_before, fair_of, told_everywhere}
@@ -25,6 +26,7 @@ use Rattle.sbp_world.proofs.Lists.Executes.{Tamely, runs_named}
 use Rattle.sbp_world.proofs.Lists.FedJoins.{run_since, since_fed}
 use Rattle.sbp_world.proofs.Lists.FedOnce.{judged_before, judged_everywhere}
 use Rattle.sbp_world.proofs.Lists.ListsProved.{closing}
+use Rattle.sbp_world.proofs.Lists.OpenGots.{OpenAsGot, open_as_got}
 use Rattle.sbp_world.proofs.Lists.RunLaws.{order_run_law}
 use Rattle.sbp_world.proofs.Lists.RunNames.{RunNamedAt}
 use Rattle.sbp_world.specs.Lists.OneUp.{OneUpLaw}

@@ -1,0 +1,64 @@
+-- By every history, where answers to agents are their own as they are got and agents waited for them, what was got is of an agent's main transaction or begins elsewhere.
+use Rattle.std.proofs.Common.{inl, inr, ◌≡◌, ◌∙◌, refl, sym, ap, subst, ◌<◌, ℕ, Bool, true, false, cond, List, [], ◌∷◌, ◌++◌, Option, Some, None}
+use Rattle.rbc_disk.specs.Disk.{Disk}
+use Rattle.sbp_journal.specs.Run.{Moment, asked, said}
+use Rattle.sbp_journal.specs.Wire.{Terms, terms}
+use Rattle.sbp_journal.specs.declared.note.Note.{Note}
+use Rattle.sbp_journal.specs.declared.note.Note.TheVariants as notes
+use Rattle.sbp_laws.specs.CarriedBytes.{Moved, moved_by, payload_at, read_by}
+use Rattle.sbp_laws.specs.Packets.{access_at, answered_at, receiver_in}
+use Rattle.sbp_laws.specs.Targets.{Purpose, Target, for_agent, for_manager, for_nobody, is_serial, over, purpose_of, target_at}
+use Rattle.sbp_laws.specs.Turns.{EachMoment}
+use Rattle.sbp_world.specs.Lists.FedRuns.{AllElsewhere, AreOwnOrOthers, IsOwnOrOther, is_main_of, main_moved}
+use Rattle.sbp_world.specs.Lists.OwnGots.{AreOwnAsGot, OwnAsGot}
+use Rattle.sbp_world.specs.Lists.OwnSince.{AreAwaited, IsAwaited, IsElsewhereBut, OwnSinceLaw, by_purpose}
+
+module _ (start : List Disk) (i place slot : ℕ) (small : place < 8) where
+  module _ (past : List Moment) (serial : ℕ) (own : AreOwnAsGot start past serial) (a : IsAwaited start past i place) where
+    abbrev t : Terms
+    t = terms past
+
+    abbrev T : Target
+    T = over (target_at start past)
+
+    abbrev by_target : Bool
+    by_target = is_serial (receiver_in (t.sent serial)) 0
+
+    none_moved : (b : Bool) → cond b [] [] ≡ (let none : List Moved = [] in none)
+    none_moved true = refl
+    none_moved false = refl
+
+    abbrev Own : Type 0
+    Own = IsOwnOrOther start past i place slot serial
+
+    -- of no agent
+    others : (r : ℕ) → answered_at t serial ≡ Some r → is_main_of (purpose_of T r) place ≡ false → AllElsewhere slot (read_by t i serial (Some r)) → Own
+    others r e none elsewhere =
+        inr (
+          ap (λ o. cond by_target (main_moved t T place serial o) []) e ∙ (ap (λ b. cond by_target (cond b (moved_by (access_at t r) (payload_at t serial)) []) []) none ∙ none_moved by_target),
+          subst (λ o. AllElsewhere slot (read_by t i serial o)) (sym e) elsewhere,
+        )
+
+    by : (r : ℕ) → answered_at t serial ≡ Some r → (p : Purpose) → purpose_of T r ≡ p → by_purpose p (AllElsewhere slot (read_by t i serial (Some r))) → Own
+    by r e (for_agent other which) f b = own place small a.side a.mine i a.waits a.to r other slot which e f
+    by r e for_manager f b = others r e (ap (λ p. is_main_of p place) f) b
+    by r e for_nobody f b = others r e (ap (λ p. is_main_of p place) f) b
+
+    by_answer : (o : Option ℕ) → answered_at t serial ≡ o → IsElsewhereBut start past i slot serial o → Own
+    by_answer None e b = inl (ap (read_by t i serial) e ∙ sym (ap (λ o. cond by_target (main_moved t T place serial o) []) e ∙ none_moved by_target))
+    by_answer (Some r) e b = by r e (purpose_of T r) refl b
+
+    got_own : IsElsewhereBut start past i slot serial (answered_at t serial) → Own
+    got_own b = by_answer (answered_at t serial) refl b
+
+  since : (later before : List Moment) → EachMoment (OwnAsGot start) (later ++ before) → AreAwaited start i place slot later before → AreOwnOrOthers start i place slot later before
+  since [] before g a = tt
+  since (asked line event ∷ later) before g a = since later before g.1 a
+  since (said note ∷ later) before g a = by_note note g.0 a (λ x. since later before g.1 x)
+    where
+      by_note : (note : Note) → OwnAsGot start (said note) (later ++ before) → AreAwaited start i place slot (said note ∷ later) before → (AreAwaited start i place slot later before → AreOwnOrOthers start i place slot later before) → AreOwnOrOthers start i place slot (said note ∷ later) before
+      by_note (notes.Got serial) g a more = (got_own (later ++ before) serial g a.0.0 a.0.1, more a.1)
+      by_note note g a more = more a
+
+pub own_since_law : OwnSinceLaw
+own_since_law start i place slot small later before g a = since start i place slot small later before g a

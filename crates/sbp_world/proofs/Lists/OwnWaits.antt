@@ -1,0 +1,118 @@
+-- As each packet is got in a run in which no initiator injected packets, the agents wait for page tables and data of the ORBs at the heads of their own lists alone.
+use Rattle.std.proofs.Common.{inl, ◌≡◌, ◌∙◌, sym, ap, subst, ◌<◌, ℕ, suc, List, [], ◌∷◌, ◌++◌, map, Option, Some}
+use Rattle.rbc_disk.specs.Disk.{Disk}
+use Rattle.sbp_journal.specs.Run.{Moment, asked, said}
+use Rattle.sbp_journal.specs.Transactions.{Sending}
+use Rattle.sbp_journal.specs.Wire.{terms}
+use Rattle.sbp_journal.specs.declared.event.Event.{Event}
+use Rattle.sbp_journal.specs.declared.note.Note.{Note}
+use Rattle.sbp_journal.specs.declared.note.Note.TheVariants as notes
+use Rattle.sbp_laws.specs.Packets.{access_in, packet_in, receiver_in}
+use Rattle.sbp_laws.specs.Targets.{Target, agent_at, target_at}
+use Rattle.sbp_laws.specs.Turns.{EachMoment}
+use Rattle.sbp_world.specs.Making.{ready_logins}
+use Rattle.sbp_world.specs.Worlds.{WorldState}
+use Rattle.sbp_world.specs.Agents.AskedRuns.{serial_of}
+use Rattle.sbp_world.proofs.Agents.Management.Holding.{Holding}
+use Rattle.sbp_world.proofs.Agents.Management.Still.{hist}
+use Rattle.sbp_world.specs.Hosts.Runs.{more_deliveries}
+use Rattle.sbp_world.specs.Lists.Closes.{OpenListsLaw}
+use Rattle.sbp_world.specs.Lists.Needs.{initiator_in}
+use Rattle.sbp_world.specs.Lists.OwnLogins.{IsTame}
+use Rattle.sbp_world.specs.Lists.OwnWaits.{AreReadsOwn, ReadsAsGot, ReadsAsGotLaw, ReadsItsOwn}
+use Rattle.sbp_world.proofs.Lists.Courses.{EveryPlace, Keeps, at_between, at_lines, more_than_one}
+use Rattle.sbp_world.proofs.Lists.FedOwners.{are_own_reads}
+use Rattle.sbp_world.proofs.Lists.Gots.{Next, next, next_line, same_still}
+use Rattle.sbp_world.proofs.Lists.Judging.{goes_next}
+use Rattle.sbp_world.proofs.Lists.ListsProved.{closing}
+use Rattle.sbp_world.proofs.Lists.LiveRuns.{goes_tame}
+use Rattle.sbp_world.proofs.Lists.ManageSends.{opened_terms}
+use Rattle.sbp_world.proofs.Lists.OrbWaits.{over_twice}
+use Rattle.sbp_world.proofs.Lists.Quiet.{AllQuiet, IsQuiet}
+use Rattle.sbp_world.proofs.Lists.Sites.{waiting}
+use Rattle.sbp_world.proofs.Lists.StillRuns.{ground_everywhere}
+use Rattle.sbp_world.proofs.Lists.StillTurns.{Ground, site_at}
+
+-- ---- at a place
+module _ (units ready : ℕ) (has : 0 < units) (start : List Disk) {past : List Moment} {lines : ℕ} (w : WorldState) (h : Holding units ready start past lines w) (q : Ground start (hist past w) w) (tame : IsTame (hist past w)) where
+  same_initiator : (a b : ℕ) → Some (suc a) ≡ Some (suc b) → a ≡ b
+  same_initiator a b e = cc
+
+  reads_here : AreReadsOwn start (hist past w)
+  reads_here place b side mine i waits to =
+      let site = site_at start past w q in
+      let x = waiting units ready has start w h site place b side mine waits in
+      let o = (q.lists tame).listed place b x.is_open (tame (initiator_in w place)) in
+      subst (λ j. ReadsItsOwn start (hist past w) place j) (same_initiator (initiator_in w place) i (sym x.to ∙ to))
+      (record { n = o.n; latest = o.still.latest; each = are_own_reads units ready has start w h site (q.lists tame) q.along tame place b x.is_open o.n o.list })
+
+-- ---- as a line begins
+reads_asked : (start : List Disk) (line : ℕ) (event : Event) (past : List Moment) → AreReadsOwn start past → AreReadsOwn start (asked line event ∷ past)
+reads_asked start line event past a place b side mine i waits to =
+    let same : (terms (asked line event ∷ past)).sent ≡ (terms past).sent = (opened_terms event (terms past)).sent in
+    let twice = over_twice (target_at start past) in
+    let x = a place b side mine i (subst (λ (T : Target). serial_of side (agent_at T place) ≡ Some mine) twice waits) (ap (λ (f : ℕ → Option Sending). receiver_in (f mine)) (sym same) ∙ to) in
+    record {
+      n = x.n;
+      latest = x.latest;
+      each = λ other c which serial slot r.
+          let y = x.each other c which serial slot (record {
+            waits = subst (λ (T : Target). serial_of which (agent_at T other) ≡ Some serial) twice r.waits;
+            to = ap (λ (f : ℕ → Option Sending). receiver_in (f serial)) (sym same) ∙ r.to;
+            access = r.access;
+            is = ap (λ (f : ℕ → Option Sending). access_in (packet_in (f serial))) (sym same) ∙ r.is;
+            reads = r.reads;
+            some = r.some;
+            stands = r.stands;
+          }) in
+          record { place_is = y.place_is; main = y.main; slot_is = y.slot_is };
+    }
+
+-- ---- a turn
+module _ (start : List Disk) where
+  reads_note : (note : Note) (past : List Moment) → AreReadsOwn start past → ReadsAsGot start (said note) past
+  reads_note (notes.Got serial) past a = a
+  reads_note note past a = tt
+
+  reads_moment : (moment : Moment) (past : List Moment) → AreReadsOwn start past → ReadsAsGot start moment past
+  reads_moment (asked line event) past a = tt
+  reads_moment (said note) past a = reads_note note past a
+
+  reads_quiet : (note : Note) (past : List Moment) → IsQuiet note → ReadsAsGot start (said note) past
+  reads_quiet (notes.Got serial) past q = absurd q
+  reads_quiet note past q = tt
+
+  reads_front : (front : List Note) (past : List Moment) → AllQuiet front → EachMoment (ReadsAsGot start) past → EachMoment (ReadsAsGot start) (map said front ++ past)
+  reads_front [] past q g = g
+  reads_front (note ∷ front) past q g = (reads_quiet note (map said front ++ past) q.0, reads_front front past q.1 g)
+
+  reads_turn : (before now : List Moment) → Next before now → AreReadsOwn start before → EachMoment (ReadsAsGot start) before → EachMoment (ReadsAsGot start) now
+  reads_turn before now (same_still e) a g = subst (EachMoment (ReadsAsGot start)) (sym e) g
+  reads_turn before now (next front q moment is) a g = subst (EachMoment (ReadsAsGot start)) is (reads_front front (moment ∷ before) q (reads_moment moment before a, g))
+  reads_turn before now (next_line front q note line event is) a g =
+      subst (EachMoment (ReadsAsGot start)) is
+      (reads_front front (said note ∷ asked line event ∷ before) q (reads_note note (asked line event ∷ before) (reads_asked start line event before a), (tt, g)))
+
+-- ---- at each place of a run
+abbrev pub ReadsSo : List Disk → List Moment → WorldState → Type 0
+ReadsSo start past w = IsTame past → EachMoment (ReadsAsGot start) past
+
+all_reads : (units ready : ℕ) → 0 < units → (start : List Disk) → Keeps units ready start (Ground start) (ReadsSo start)
+all_reads units ready has start past s later t lines more g h h_now q q_now e tame =
+    let before = goes_tame past s later t g tame in
+    reads_turn start (hist past s.world) (hist later t.world) (goes_next past s later t g) (reads_here units ready has start s.world h q before) (e before)
+
+pub reads_as_got : OpenListsLaw → EveryPlace ReadsSo
+reads_as_got lists = record {
+  after_lines = λ line run r has small size so_far.
+      at_lines Ground (ReadsSo run.start.disks) (ground_everywhere lists) line run r.few has small size (all_reads run.units (ready_logins run.initiators run.ready) has run.start.disks) (λ tame. (tt, (tt, tt))) r so_far;
+  between = λ line run r has small size next most told m so_far.
+      at_between Ground (ReadsSo run.start.disks) (ground_everywhere lists) line run r.few has small size (all_reads run.units (ready_logins run.initiators run.ready) has run.start.disks) (λ tame. (tt, (tt, tt))) r next most told m so_far;
+}
+
+pub reads_as_got_law : OpenListsLaw → ReadsAsGotLaw
+reads_as_got_law lists = record {
+  after_lines = λ line run r has small size tame. (reads_as_got lists).after_lines line run r has small size (closing.before lists line run r has small size (inl tame)) tame;
+  between = λ line run r has small size next most told m tame.
+      (reads_as_got lists).between line run r has small size next most told m (closing.between lists line run r has small size next (more_deliveries most) (more_than_one most) told m (inl tame)) tame;
+}
