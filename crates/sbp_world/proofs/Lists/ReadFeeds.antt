@@ -1,10 +1,14 @@
 -- In every run in which no initiator injected packets the ORB of each run was read behind its append, by the response behind which its agent read its buffer and its data.
-use Rattle.std.proofs.Common.{inl, ◌≡◌, ◌∙◌, sym, ap, ℕ, Bool, false, List, [], ◌∷◌, ◌++◌, map, Some, None, Option}
+use Rattle.std.proofs.Common.{inl, ◌≡◌, ◌∙◌, sym, ap, subst, IsSomeAnd, ℕ, Bool, false, List, [], ◌∷◌, ◌++◌, map, Some, None, Option}
 use Rattle.bus_transactions.specs.Judging.{AreJudged}
 use Rattle.rbc_disk.specs.Disk.{Disk}
 use Rattle.sbp_journal.specs.Run.{Moment, asked, said}
 use Rattle.sbp_journal.specs.declared.note.Note.{Note}
 use Rattle.sbp_journal.specs.declared.note.Note.TheVariants as notes
+use Rattle.command_agent.specs.Machine.{limit_of}
+use Rattle.page_table.specs.Buffer.{bytes_of, chunks}
+use Rattle.sbp_laws.specs.CarriedBytes.{buffer_in, joined, orb_read, reads_since}
+use Rattle.sbp_laws.specs.Terms.{plan_of, request_at}
 use Rattle.sbp_laws.specs.Lawful.{injectors}
 use Rattle.sbp_laws.specs.OrderLaw.{OrderLaw}
 use Rattle.sbp_laws.specs.Turns.{EachMoment}
@@ -35,14 +39,26 @@ use Rattle.sbp_world.proofs.Lists.SentGots.{sent_as_got}
 
 module _ (given : Type 0) (so : given) (wild : ℕ → Bool) (calm : (i : ℕ) → wild i ≡ false) (start : List Disk) where
   module _ (past : List Moment) (f : IsFair past) (j : AreJudged past) (sent : EachMoment (SentAsGot start) past) (opens : OpenAsGot start past) (law : OrderLaw wild past) where
+    -- the buffer and the data by what was read since a response
+    abbrev Since : (i n k : ℕ) → List ℕ → ℕ → Type 0
+    Since i n k bytes r =
+        IsSomeAnd (request_at past i n k) (λ request. bytes_of (buffer_in (orb_read past r) (reads_since past i r)) ≡ (plan_of request.buffer).bytes) × (bytes ≡ joined (chunks (limit_of (orb_read past r)) (buffer_in (orb_read past r) (reads_since past i r))) (reads_since past i r))
+
     both : (i n k : ℕ) (bytes : List ℕ) → RunIsNamedFed start past i n k bytes → RunWasReadAndFed start past i n k bytes
-    both i n k bytes e = record {
-      read = run_read given so wild calm start past f sent opens law i n k e.named;
-      since = run_since start past f j i n k bytes e.fed;
-      response =
-          ap (λ (x : RunIsFed start past i n k bytes). x.brought.response) (since_fed start past f j i n k bytes e.fed)
-          ∙ (e.response ∙ sym (run_read_by given so wild calm start past f sent opens law i n k e.named));
-    }
+    both i n k bytes e =
+        let read = run_read given so wild calm start past f sent opens law i n k e.named in
+        let since = run_since start past f j i n k bytes e.fed in
+        let same : since.fed.brought.response ≡ read.read.response =
+        ap (λ (x : RunIsFed start past i n k bytes). x.brought.response) (since_fed start past f j i n k bytes e.fed)
+        ∙ (e.response ∙ sym (run_read_by given so wild calm start past f sent opens law i n k e.named)) in
+        record {
+          read = read;
+          since = since;
+          response = same;
+          carried = λ o p.
+              let x = subst (Since i n k bytes) same (since.whole o p) in
+              record { read = read.read; not_dummy = read.not_dummy; as_appended = read.as_appended; size = x.0; payloads = x.1 };
+        }
 
     by_names : (i : ℕ) (list number : Option ℕ) (unit : ℕ) (cdb bytes : List ℕ) (check : _) → RunNamedAt given wild start (said (notes.Ran i list number unit cdb bytes check)) past → ReadAndFedAt start (said (notes.Ran i list number unit cdb bytes check)) past
     by_names i (Some n) (Some k) unit cdb bytes check e = both i n k bytes (e so (calm i))

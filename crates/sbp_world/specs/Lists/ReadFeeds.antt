@@ -5,6 +5,8 @@ use Rattle.rbc_disk.specs.Disk.{Disk}
 use Rattle.rbc_disk.specs.Runs.{Told}
 use Rattle.sbp_journal.specs.Run.{Moment, asked, said}
 use Rattle.sbp_journal.specs.declared.note.Note.TheVariants as notes
+use Rattle.sbp_laws.specs.CarriedLaw.{RunIsCarried}
+use Rattle.sbp_laws.specs.Lists.{slot_at}
 use Rattle.sbp_laws.specs.Turns.{EachMoment}
 use Rattle.sbp_world.specs.Histories.{history_of}
 use Rattle.sbp_world.specs.Runs.{Run, after, beginning}
@@ -12,13 +14,15 @@ use Rattle.sbp_world.specs.Settling.{MayAll, after_all}
 use Rattle.sbp_world.specs.Worlds.{begun}
 use Rattle.sbp_world.specs.Hosts.Runs.{IsRun, more_deliveries}
 use Rattle.sbp_world.specs.Lists.CarriedEnds.{RunWasRead}
-use Rattle.sbp_world.specs.Lists.FedRuns.{RunIsSince}
+use Rattle.sbp_world.specs.Lists.FedRuns.{AreOthers, AreOwnOrOthers, RunIsSince}
 use Rattle.sbp_world.specs.Lists.OwnLogins.{IsTame}
 
 pub record RunWasReadAndFed (start : List Disk) (past : List Moment) (i n k : ℕ) (bytes : List ℕ) : Type 0 where
   pub read : RunWasRead start past i n k
   pub since : RunIsSince start past i n k bytes
   pub response : since.fed.brought.response ≡ read.read.response
+  -- so the carried law holds of it, where what the target got since of the initiator is its agent's or begins elsewhere than in the ORB's slot
+  pub carried : (let behind = said (notes.Got since.fed.brought.response) ∷ since.fed.brought.earlier in AreOthers i (slot_at past i n k) since.fed.between behind → AreOwnOrOthers start i since.fed.place (slot_at past i n k) since.fed.later (since.fed.between ++ behind) → RunIsCarried start past i n k bytes)
 
 abbrev pub ReadAndFedAt : List Disk → Moment → List Moment → Type 0
 ReadAndFedAt start (said (notes.Ran i (Some n) (Some k) unit cdb bytes check)) past = RunWasReadAndFed start past i n k bytes
