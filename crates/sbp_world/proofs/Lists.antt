@@ -420,11 +420,15 @@ pub mod DataActs
 pub mod DataHears
 pub mod DataCalls
 pub mod DataRan
+pub mod DataClosed
+pub mod DataServed
+pub mod DataSlots
 pub mod DataSteps
 pub mod DataLines
 pub mod DataOpen
 pub mod DataTurns
 pub mod DataHeard
+pub mod DataWaits
 pub mod DataWalk
 pub mod DueTurns
 pub mod DueRuns

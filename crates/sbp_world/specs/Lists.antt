@@ -65,4 +65,5 @@ pub mod DataWrites
 pub mod DueRuns
 pub mod DataEnds
 pub mod DataHolds
+pub mod DataServes
 pub mod DataWhole
