@@ -442,6 +442,7 @@ pub mod DataOffice
 pub mod DataPlaces
 pub mod DataDry
 pub mod DataClears
+pub mod DataServing
 pub mod DataLaws
 pub mod LedReads
 pub mod LedRuns

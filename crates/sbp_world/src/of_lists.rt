@@ -34,6 +34,7 @@ ghost use Rattle.sbp_world.specs.Lists.AnsweredReads.{AnsweredReadsLaw};
 ghost use Rattle.sbp_world.specs.Lists.EndReads.{EndsReadLaw};
 ghost use Rattle.sbp_world.specs.Lists.DataEnds.{AnswersEndLaw};
 ghost use Rattle.sbp_world.specs.Lists.DataHolds.{DataHeldLaw};
+ghost use Rattle.sbp_world.specs.Lists.DataServes.{DataServedLaw};
 ghost use Rattle.sbp_world.specs.Lists.DataWhole.{AnswersWholeLaw};
 ghost use Rattle.sbp_world.specs.Lists.DataWrites.{DataSentLaw, DataWritesLaw};
 ghost use Rattle.sbp_world.specs.Lists.DueRuns.{DueRunsLaw};
@@ -504,6 +505,14 @@ pub fn initiators_have_one_agent_up()
 #[tactic(auto, using(crate::proofs::Lists::Clauses::held_law))]
 pub fn slots_are_held_for_data()
     ensures { DataHeldLaw }
+{}
+
+/// In every run in which no initiator injected packets, where lists were open as they should be before, each write of the data of an
+/// ORB but the latest one was closed with rcode 0 and served once; behind an end of the ORB, but as failed, the latest one was, too; and
+/// until a write is judged its slot has the ORB. So it is of the writes in the generation that the initiator is in.
+#[tactic(auto, using(crate::proofs::Lists::Clauses::served_law))]
+pub fn data_are_served_in_turn()
+    ensures { DataServedLaw }
 {}
 
 /// In every run in which no initiator injected packets, where lists were open as they should be before, the answer that an agent writes

@@ -11,12 +11,14 @@ use Rattle.sbp_world.specs.Lists.OwnReads.{OwnGotsLaw, OwnReadsLaw}
 use Rattle.sbp_world.specs.Lists.TameLists.{ListsLaw}
 use Rattle.sbp_world.proofs.Lists.AnswerLengths.{answer_lengths_law}
 use Rattle.sbp_world.proofs.Lists.CarriedEnds.{were_read_law}
+use Rattle.sbp_world.proofs.Lists.DataLaws as data_laws
 use Rattle.sbp_world.proofs.Lists.DataLaws.{data_sent_law, data_held_law}
 use Rattle.sbp_world.proofs.Lists.FedOwnerRuns.{own_gots_law, own_reads_law}
 use Rattle.sbp_world.proofs.Lists.Lawful as proved
 use Rattle.sbp_world.proofs.Lists.OneUp.{one_up_law}
 use Rattle.sbp_world.proofs.Lists.ShortLines.{short_law}
 use Rattle.sbp_world.specs.Lists.DataHolds.{DataHeldLaw}
+use Rattle.sbp_world.specs.Lists.DataServes.{DataServedLaw}
 
 pub sessions_law : LiveLaw
 sessions_law = proved.sessions_law short_law
@@ -50,6 +52,9 @@ one_up = one_up_law short_law open_lists_law
 
 pub held_law : DataHeldLaw
 held_law = data_held_law short_law
+
+pub served_law : DataServedLaw
+served_law = data_laws.served_law short_law
 
 pub gots_law : OwnGotsLaw
 gots_law = own_gots_law open_lists_law

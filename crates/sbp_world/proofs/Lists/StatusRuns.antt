@@ -66,6 +66,11 @@ module _ (past : List Moment) (w : WorldState) (h : Stands past w) where
   pub once_of : (ms : List Moment) → map said w.fresh ++ past ≡ ms → Once ms
   once_of ms e = subst Once (h.is.past_is ∙ e) once_here
 
+  pub honest_of : (ms : List Moment) → map said w.fresh ++ past ≡ ms → (serial : ℕ) (packet : Sending) → (terms ms).sent serial ≡ Some packet → packet.from ≡ 0 → packet.injected ≡ false
+  honest_of ms e =
+      subst (λ p. (serial : ℕ) (packet : Sending) → (terms p).sent serial ≡ Some packet → packet.from ≡ 0 → packet.injected ≡ false) (h.is.past_is ∙ e)
+      (λ serial packet there of. honest serial packet there (ap (λ j. (terms h.wire.past).injects j) of ∙ h.is.fair))
+
   pub rises_of : (ms : List Moment) → map said w.fresh ++ past ≡ ms → Rises ms
   rises_of ms e = subst Rises (h.is.past_is ∙ e) (rises h.wire h.reached)
 
