@@ -421,7 +421,9 @@ pub mod DataHears
 pub mod DataCalls
 pub mod DataRan
 pub mod DataClosed
+pub mod DataSequences
 pub mod DataServed
+pub mod DataLaid
 pub mod DataSlots
 pub mod DataSteps
 pub mod DataLines

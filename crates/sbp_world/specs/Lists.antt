@@ -65,5 +65,6 @@ pub mod DataWrites
 pub mod DueRuns
 pub mod DataEnds
 pub mod DataHolds
+pub mod DataSequences
 pub mod DataServes
 pub mod DataWhole

@@ -34,6 +34,7 @@ ghost use Rattle.sbp_world.specs.Lists.AnsweredReads.{AnsweredReadsLaw};
 ghost use Rattle.sbp_world.specs.Lists.EndReads.{EndsReadLaw};
 ghost use Rattle.sbp_world.specs.Lists.DataEnds.{AnswersEndLaw};
 ghost use Rattle.sbp_world.specs.Lists.DataHolds.{DataHeldLaw};
+ghost use Rattle.sbp_world.specs.Lists.DataSequences.{DataSequenceLaw};
 ghost use Rattle.sbp_world.specs.Lists.DataServes.{DataServedLaw};
 ghost use Rattle.sbp_world.specs.Lists.DataWhole.{AnswersWholeLaw};
 ghost use Rattle.sbp_world.specs.Lists.DataWrites.{DataSentLaw, DataWritesLaw};
@@ -513,6 +514,15 @@ pub fn slots_are_held_for_data()
 #[tactic(auto, using(crate::proofs::Lists::Clauses::served_law))]
 pub fn data_are_served_in_turn()
     ensures { DataServedLaw }
+{}
+
+/// In every run in which no initiator injected packets, where lists were open as they should be before, the data of an answer are written
+/// in sequence: the first write of an ORB's data begins with the first byte of the answer, and each later one behind the bytes of the one
+/// before it, which was served, and wrote a whole chunk of the buffer. Behind an end, but as failed, the last one ended with the buffer.
+/// So it is of the writes in the generation that the initiator is in.
+#[tactic(auto, using(crate::proofs::Lists::Clauses::sequence_law))]
+pub fn data_are_written_in_sequence()
+    ensures { DataSequenceLaw }
 {}
 
 /// In every run in which no initiator injected packets, where lists were open as they should be before, the answer that an agent writes

@@ -1,30 +1,35 @@
 -- Each write of the data of an ORB but the latest one was closed and served, and behind an end, but as failed, each one; and until a write is judged its slot has the ORB: by induction on the history.
-use Rattle.std.proofs.Common.{arith, ◌≡◌, ◌∙◌, refl, sym, ap, subst, ◌<◌, ◌≤◌, ◌&&◌, not, ℕ, suc, nat_eq, nat_lt, Bool, true, false, cond, List, [], ◌∷◌, ◌++◌, Option, Some, None}
+use Rattle.std.proofs.Common.{arith, ◌≡◌, ◌∙◌, refl, sym, ap, subst, ◌<◌, ◌≤◌, ◌-◌, ◌+◌, ◌^◌, ◌&&◌, not, ℕ, suc, nat_eq, nat_lt, Bool, true, false, cond, List, [], ◌∷◌, ◌++◌, length, Option, Some, None}
 use Rattle.std.proofs.lemmas.Bool.Decides.{nat_tests}
 use Rattle.bus_transactions.specs.Packets.{SerialsCount}
-use Rattle.command_agent.specs.Machine.{Machine}
+use Rattle.command_agent.specs.Machine.{Machine, cut_to}
+use Rattle.page_table.specs.Buffer.{chunk, chunk_from}
+use Rattle.sbp_journal.specs.declared.event.Cmd.{Cmd}
+use Rattle.sbp_laws.specs.CarriedBytes.{laid_out}
 use Rattle.orb_layout.specs.declared.status.StatusKind.{StatusKind}
 use Rattle.orb_layout.specs.declared.status.StatusKind.TheVariants as kinds
 use Rattle.sbp_journal.specs.declared.note.Note.TheVariants as notes
+use Rattle.sbp_journal.specs.Addresses.{Access}
 use Rattle.sbp_journal.specs.Run.{Moment, said}
 use Rattle.sbp_journal.specs.Transactions.{Sending}
 use Rattle.sbp_journal.specs.Wire.{Terms, terms}
-use Rattle.sbp_laws.specs.Lists.{is_over, orb, prepared_in, slot_at}
+use Rattle.sbp_laws.specs.Lists.{command_at, is_over, orb, prepared_in, slot_at}
 use Rattle.sbp_laws.specs.OnceLaw.{ClosesOne, OnceAt, OnceLaw, WasServed, is_between, is_done, is_wild, is_write_in}
 use Rattle.sbp_laws.specs.Packets.{access_at, access_in, access_in_bytes, answer_in, is_under_way, packet_at, packet_in, receiver_in, sender_in}
-use Rattle.sbp_laws.specs.Terms.{ended_status, ends}
+use Rattle.sbp_laws.specs.Terms.{appends, ended_status, ends}
 use Rattle.sbp_laws.specs.Turns.{EachMoment}
 use Rattle.sbp_world.proofs.Hosts.Remaining.{remains}
 use Rattle.sbp_world.proofs.Hosts.SentMoments.{sent_below, serials_from}
 use Rattle.sbp_world.specs.Lists.DataEnds.{EndSo, IsWritten, WasWritten, is_behind, is_fresh}
 use Rattle.sbp_world.specs.Lists.DataServes.{AreServed, IsDataOf, WasClosed}
-use Rattle.sbp_world.specs.Lists.DataWrites.{DataSo, IsAnswered, IsDataWrite, IsInTurn, follows, is_first}
+use Rattle.sbp_world.specs.Lists.DataWrites.{DataSo, IsPieceOf, IsAnswered, IsDataWrite, IsInTurn, follows, is_first}
 use Rattle.sbp_world.specs.Lists.SlotsStay.{HasSlot}
 use Rattle.sbp_world.specs.Lists.Statuses.{TakenSo}
 use Rattle.sbp_world.proofs.Lists.DataHolds.{slot_stays_unless}
 use Rattle.sbp_world.proofs.Lists.DataOpen.{none_ended}
 use Rattle.sbp_world.proofs.Lists.DataServed.{HasEnded, IsOwned, closed_on, dry_before, gen_low, grows, inside, into_turn, mid, moved, over_ended, owner, ran_so, seen_low, shrink, turn, whole}
-use Rattle.sbp_world.proofs.Lists.DataSlots.{prepared_below, same_orb, slot_lasts}
+use Rattle.sbp_world.proofs.Lists.DataLaid.{IsWholeFrom, whole_from}
+use Rattle.sbp_world.proofs.Lists.DataSlots.{command_lasts, prepared_below, same_orb, slot_lasts}
 use Rattle.sbp_world.proofs.Lists.DataWaits.{never_again, under_way_now}
 use Rattle.sbp_world.proofs.Lists.OpenNews.{all_grow}
 use Rattle.sbp_world.proofs.Lists.Passing.{PassLaw}
@@ -58,11 +63,11 @@ all_false false true c e f g = absurd (no (sym f))
 all_false true b c e f g = absurd (no (sym e))
 
 -- a packet from the target to an initiator
-record IsSent (t : Terms) (i serial : ℕ) : Type 0 where
-  packet : Sending
-  sent : t.sent serial ≡ Some packet
-  from : packet.from ≡ 0
-  to : packet.to ≡ suc i
+pub record IsSent (t : Terms) (i serial : ℕ) : Type 0 where
+  pub packet : Sending
+  pub sent : t.sent serial ≡ Some packet
+  pub from : packet.from ≡ 0
+  pub to : packet.to ≡ suc i
 
 same_node : (a b : ℕ) → Some a ≡ Some b → a ≡ b
 same_node a b e = cc
@@ -126,13 +131,13 @@ module _ (wild : ℕ → Bool) (i : ℕ) (own : wild i ≡ false) where
 
   -- ---- the write that is answered in a turn
   module _ (B : List Moment) (f : IsSound B) (g : AreServed B i) (n k : ℕ) (m : Machine) (got : ℕ) (a : IsAnswered B i n k m got) where
-    sent : IsSent (terms B) i a.serial
+    pub sent : IsSent (terms B) i a.serial
     sent = sent_by (terms B) i a.serial ((terms B).sent a.serial) refl a.from a.to
 
-    abbrev q : Sending
+    abbrev pub q : Sending
     q = sent.packet
 
-    abbrev s : ℕ
+    abbrev pub s : ℕ
     s = slot_at B i n k
 
     access_is : access_in_bytes q.bytes ≡ Some a.access
@@ -180,18 +185,66 @@ module _ (wild : ℕ → Bool) (i : ℕ) (own : wild i ≡ false) where
       same = same_orb owned.list owned.number n k (sym has.there ∙ there)
 
       -- so it is of this ORB
-      its : IsDataOf B i n k a.serial q s
-      its = subst (λ x. IsDataOf B i x k a.serial q s) same.0 (subst (λ y. IsDataOf B i owned.list y a.serial q s) same.1 owned.of)
+      pub its : IsDataOf B i n k a.serial q s
+      its = record {
+        sent = owned.of.sent;
+        writes = owned.of.writes;
+        later = owned.of.later;
+        before = owned.of.before;
+        is = owned.of.is;
+        was = owned.of.was;
+        list_is = owned.of.list_is ∙ same.0;
+        number_is = owned.of.number_is ∙ same.1;
+      }
 
-      module _ (later : List Moment) (once : OnceLaw wild (later ++ said (notes.Got got) ∷ B)) (serial slot : ℕ) (packet : Sending) (d : IsDataOf B i n k serial packet slot) where
-        now_closed : serial ≡ a.serial → WasClosed (later ++ said (notes.Got got) ∷ B) serial
-        now_closed e = record { later = later; before = B; got = got; is = refl; closed = a.closed ∙ ap (λ x. Some x) (sym e); served = subst (λ x. WasServed (terms B) x) (sym e) (served (each_from (OnceAt wild) later (said (notes.Got got) ∷ B) once)) }
+      abbrev pub A : List Moment
+      A = turn i B n k a.serial s q its
 
-        was_closed : WasClosed B serial → WasClosed (later ++ said (notes.Got got) ∷ B) serial
-        was_closed w = closed_on later (said (notes.Got got) ∷ B) serial (closed_on (said (notes.Got got) ∷ []) B serial w)
+      abbrev pub mc : Machine
+      mc = its.was.machine
 
+      same_access : (x y : Access) → Some x ≡ Some y → x ≡ y
+      same_access x y e = cc
+
+      same_cmd : (x y : Cmd) → Some x ≡ Some y → x ≡ y
+      same_cmd x y e = cc
+
+      pub access_same : a.access ≡ its.writes.access
+      access_same = same_access a.access its.writes.access (sym access_is ∙ its.writes.is)
+
+      pieced : IsPieceOf A i n k mc its.writes.access.offset its.was.size
+      pieced = moved i B n k a.serial s q its (λ x y. IsPieceOf A i x y mc its.writes.access.offset its.was.size) its.was.piece
+
+      passes_there : PassLaw wild (mid i B n k a.serial s q its ++ A)
+      passes_there = subst (PassLaw wild) (sym (whole i B n k a.serial s q its)) f.passes
+
+      appended : k < appends A i n
+      appended = prepared_below i n k wild A (each_from _ (mid i B n k a.serial s q its) A passes_there) (slot_at A i n k) pieced.has
+
+      slot_there : slot_at A i n k ≡ s
+      slot_there = sym (slot_lasts i n k wild (mid i B n k a.serial s q its) A passes_there appended) ∙ ap (λ h. slot_at h i n k) (whole i B n k a.serial s q its)
+
+      cmd_same : pieced.cmd ≡ a.cmd
+      cmd_same = same_cmd pieced.cmd a.cmd (sym pieced.command ∙ (sym (command_lasts i n k wild (mid i B n k a.serial s q its) A passes_there appended) ∙ (ap (λ h. command_at h i n k) (whole i B n k a.serial s q its) ∙ a.command)))
+
+      abbrev pub limit : ℕ
+      limit = 2 ^ (a.cmd.max_payload + 2)
+
+      piece_here : chunk its.writes.access.offset its.was.size ≡ cut_to (length mc.answer - mc.written) (chunk_from (laid_out s a.cmd a.cmd.segments) mc.written limit)
+      piece_here =
+          subst (λ (x : Cmd). chunk its.writes.access.offset its.was.size ≡ cut_to (length mc.answer - mc.written) (chunk_from (laid_out s x x.segments) mc.written (2 ^ (x.max_payload + 2)))) cmd_same
+          (subst (λ y. chunk its.writes.access.offset its.was.size ≡ cut_to (length mc.answer - mc.written) (chunk_from (laid_out y pieced.cmd pieced.cmd.segments) mc.written (2 ^ (pieced.cmd.max_payload + 2)))) slot_there pieced.piece)
+
+      -- and it wrote a whole chunk, behind as many bytes as were written by then
+      pub its_whole : IsWholeFrom s a.cmd limit mc.written a.done_before (length mc.answer - mc.written) (length m.answer) its.writes.access.offset its.was.size (length its.writes.access.payload)
+      its_whole =
+          whole_from s a.cmd limit mc.written a.done_before (length mc.answer - mc.written) (length m.answer) its.writes.access.offset its.was.size (length its.writes.access.payload) piece_here
+          (subst (λ (x : Access). chunk x.offset (length x.payload) ≡ cut_to (length m.answer - a.done_before) (chunk_from (laid_out s a.cmd a.cmd.segments) a.done_before limit)) access_same a.piece)
+          (subst (λ (x : Access). 0 < length x.payload) access_same a.some) a.whole
+
+      module _ (serial slot : ℕ) (packet : Sending) (d : IsDataOf B i n k serial packet slot) where
         -- none was sent behind it
-        none_behind : a.serial < serial → ⊥
+        pub none_behind : a.serial < serial → ⊥
         none_behind less =
             let early = into_turn i B n k serial slot packet d f.serials n k a.serial s q its less in
             let T = turn i B n k serial slot packet d in
@@ -204,6 +257,13 @@ module _ (wild : ℕ → Bool) (i : ℕ) (own : wild i ≡ false) where
             let level : packet.generation ≡ (terms B).generation 0 = omega (arith, low, of, high, x) in
             not_closed (g.earlier n k a.serial serial s slot q packet its d less (level ∙ current))
 
+      module _ (later : List Moment) (once : OnceLaw wild (later ++ said (notes.Got got) ∷ B)) (serial slot : ℕ) (packet : Sending) (d : IsDataOf B i n k serial packet slot) where
+        now_closed : serial ≡ a.serial → WasClosed (later ++ said (notes.Got got) ∷ B) serial
+        now_closed e = record { later = later; before = B; got = got; is = refl; closed = a.closed ∙ ap (λ x. Some x) (sym e); served = subst (λ x. WasServed (terms B) x) (sym e) (served (each_from (OnceAt wild) later (said (notes.Got got) ∷ B) once)) }
+
+        was_closed : WasClosed B serial → WasClosed (later ++ said (notes.Got got) ∷ B) serial
+        was_closed w = closed_on later (said (notes.Got got) ∷ B) serial (closed_on (said (notes.Got got) ∷ []) B serial w)
+
         pub closed_by_now : WasClosed (later ++ said (notes.Got got) ∷ B) serial
         closed_by_now = by (nat_lt serial a.serial) (nat_eq serial a.serial) refl refl
           where
@@ -212,13 +272,13 @@ module _ (wild : ℕ → Bool) (i : ℕ) (own : wild i ≡ false) where
                 let less : serial < a.serial = grind (arith, nat_tests) in
                 was_closed (g.earlier n k serial a.serial slot s packet q d its less gen_now)
             by false true e h = now_closed (let z : serial ≡ a.serial = grind (arith, nat_tests) in z)
-            by false false e h = absurd (none_behind (let z : a.serial < serial = grind (arith, nat_tests) in z))
+            by false false e h = absurd (none_behind serial slot packet d (let z : a.serial < serial = grind (arith, nat_tests) in z))
 
   -- ---- the moment of an end
-  record WasEnded (past : List Moment) (n k : ℕ) (status : StatusKind) : Type 0 where
-    later : List Moment
-    before : List Moment
-    is : later ++ said (notes.Ended i (Some n) (Some k) status) ∷ before ≡ past
+  pub record WasEnded (past : List Moment) (n k : ℕ) (status : StatusKind) : Type 0 where
+    pub later : List Moment
+    pub before : List Moment
+    pub is : later ++ said (notes.Ended i (Some n) (Some k) status) ∷ before ≡ past
 
   same_status : (a b : StatusKind) → Some a ≡ Some b → a ≡ b
   same_status a b e = cc
@@ -258,13 +318,13 @@ module _ (wild : ℕ → Bool) (i : ℕ) (own : wild i ≡ false) where
       ∙ ap (λ b. cond b (Some status) (ended_status past i n k)) (itself k)
 
   -- ---- at a history, behind those before it
-  abbrev Before : List Moment → Type 0
+  abbrev pub Before : List Moment → Type 0
   Before ms = (front B : List Moment) (z : Moment) (back : List Moment) → front ++ z ∷ (back ++ B) ≡ ms → AreServed B i
 
   module _ (ms : List Moment) (f : IsSound ms) (below : Before ms) where
     -- one before another
     module _ (n k serial next slot other : ℕ) (packet following : Sending) (d : IsDataOf ms i n k serial packet slot) (e : IsDataOf ms i n k next following other) (less : serial < next) (current : following.generation ≡ (terms ms).generation (suc i)) where
-      abbrev B : List Moment
+      abbrev pub B : List Moment
       B = turn i ms n k next other following e
 
       abbrev sends : Moment
@@ -308,14 +368,14 @@ module _ (wild : ℕ → Bool) (i : ℕ) (own : wild i ≡ false) where
       earlier_closed = extends (by_turn e.was.machine (moved i ms n k next other following e (λ x y. IsInTurn e.before B i x y e.was.machine) e.was.turn))
 
     -- each of an ORB that ended
-    module _ (n k serial slot : ℕ) (packet : Sending) (status : StatusKind) (d : IsDataOf ms i n k serial packet slot) (e : ended_status ms i n k ≡ Some status) (proper : status ≡ kinds.Failed → ⊥) (current : packet.generation ≡ (terms ms).generation (suc i)) where
-      moment : WasEnded ms n k status
+    module _ (n k : ℕ) (status : StatusKind) (e : ended_status ms i n k ≡ Some status) (proper : status ≡ kinds.Failed → ⊥) where
+      pub moment : WasEnded ms n k status
       moment = ended_moment ms n k status e
 
-      abbrev ended_note : Moment
+      abbrev pub ended_note : Moment
       ended_note = said (notes.Ended i (Some n) (Some k) status)
 
-      abbrev past : List Moment
+      abbrev pub past : List Moment
       past = moment.before
 
       abbrev X : List Moment
@@ -324,60 +384,32 @@ module _ (wild : ℕ → Bool) (i : ℕ) (own : wild i ≡ false) where
       sound_end : IsSound X
       sound_end = sound_from moment.later X (subst IsSound (sym moment.is) f)
 
-      sound_past : IsSound past
+      pub sound_past : IsSound past
       sound_past = sound_from (ended_note ∷ []) past sound_end
 
-      abbrev leaving_note : Moment
-      leaving_note = said (notes.Sent serial packet.generation packet.from packet.to packet.bytes)
-
-      -- it was sent before the end
-      not_behind : (terms past).count < serial → ⊥
-      not_behind high =
-          let x = inside serial packet.generation packet.from packet.to packet.bytes d.before moment.later X d.later (d.is ∙ sym moment.is) (subst SerialsCount (sym moment.is) f.serials) high in
-          let front = d.later ++ leaving_note ∷ [] in
-          let at_it : front ++ d.before ≡ ms = sym (split d.later (leaving_note ∷ []) d.before) ∙ d.is in
-          let there : IsSound d.before = sound_from front d.before (subst IsSound (sym at_it) f) in
-          let passes : PassLaw wild (x.0 ++ X) = subst (PassLaw wild) (sym x.1) there.passes in
-          let low : k < ends X i n = ended_below past i n k status (sound_end.passes.0 own).turn.number in
-          let ended_there : ended_status d.before i n k ≡ Some status = ap (λ h. ended_status h i n k) (sym x.1) ∙ (ended_stays wild i own x.0 X n k passes low ∙ ends_there past n k status) in
-          proper (moved i ms n k serial slot packet d (λ a b. (st : StatusKind) → ended_status d.before i a b ≡ Some st → st ≡ kinds.Failed) d.was.still status ended_there)
-
-      within : serial ≤ (terms past).count
-      within = by_test (nat_lt (terms past).count serial) refl
-        where
-          by_test : (b : Bool) → nat_lt (terms past).count serial ≡ b → serial ≤ (terms past).count
-          by_test true g = absurd (not_behind (let z : (terms past).count < serial = grind (arith, nat_tests) in z))
-          by_test false g = grind (arith, nat_tests)
-
-      at_past : (moment.later ++ ended_note ∷ []) ++ past ≡ ms
+      pub at_past : (moment.later ++ ended_note ∷ []) ++ past ≡ ms
       at_past = sym (split moment.later (ended_note ∷ []) past) ∙ moment.is
-
-      inner : IsDataOf past i n k serial packet slot
-      inner = shrink i (moment.later ++ ended_note ∷ []) past n k serial slot packet (subst SerialsCount (sym at_past) f.serials) within (subst (λ h. IsDataOf h i n k serial packet slot) (sym at_past) d)
 
       so : EndSo i ended_note past
       so = sound_end.ends_so.0
 
-      w : WasWritten past i n k
+      pub w : WasWritten past i n k
       w = so refl proper
 
-      abbrev C : List Moment
+      abbrev pub C : List Moment
       C = w.before
-
-      then_inner : IsDataOf (w.later ++ C) i n k serial packet slot
-      then_inner = subst (λ h. IsDataOf h i n k serial packet slot) (sym w.is) inner
 
       then_sound : IsSound (w.later ++ C)
       then_sound = subst IsSound (sym w.is) sound_past
 
-      sound_turn : IsSound C
+      pub at_turn : ((moment.later ++ ended_note ∷ []) ++ w.later) ++ C ≡ ms
+      at_turn = sym (split (moment.later ++ ended_note ∷ []) w.later C) ∙ (ap (λ h. (moment.later ++ ended_note ∷ []) ++ h) w.is ∙ at_past)
+
+      pub sound_turn : IsSound C
       sound_turn = sound_from w.later C then_sound
 
-      served_turn : AreServed C i
+      pub served_turn : AreServed C i
       served_turn = below moment.later C ended_note w.later (ap (λ h. moment.later ++ ended_note ∷ h) w.is ∙ moment.is)
-
-      first_data : IsDataOf C i n k serial packet slot
-      first_data = shrink i w.later C n k serial slot packet then_sound.serials (dry_before i w.later C w.alone then_sound.serials serial slot packet then_inner.sent then_inner.writes) then_inner
 
       sees_more : (terms C).generation (suc i) ≤ (terms ms).generation (suc i)
       sees_more =
@@ -387,42 +419,85 @@ module _ (wild : ℕ → Bool) (i : ℕ) (own : wild i ≡ false) where
           let g : (terms ((moment.later ++ ended_note ∷ []) ++ past)).generation (suc i) ≡ (terms ms).generation (suc i) = ap (λ h. (terms h).generation (suc i)) at_past in
           omega (arith, a, b, c, g)
 
-      abbrev D : List Moment
-      D = turn i C n k serial slot packet first_data
+      module _ (serial slot : ℕ) (packet : Sending) (d : IsDataOf ms i n k serial packet slot) where
+        abbrev leaving_note : Moment
+        leaving_note = said (notes.Sent serial packet.generation packet.from packet.to packet.bytes)
 
-      abbrev N : List Moment
-      N = mid i C n k serial slot packet first_data
+        -- it was sent before the end
+        not_behind : (terms past).count < serial → ⊥
+        not_behind high =
+            let x = inside serial packet.generation packet.from packet.to packet.bytes d.before moment.later X d.later (d.is ∙ sym moment.is) (subst SerialsCount (sym moment.is) f.serials) high in
+            let front = d.later ++ leaving_note ∷ [] in
+            let at_it : front ++ d.before ≡ ms = sym (split d.later (leaving_note ∷ []) d.before) ∙ d.is in
+            let there : IsSound d.before = sound_from front d.before (subst IsSound (sym at_it) f) in
+            let passes : PassLaw wild (x.0 ++ X) = subst (PassLaw wild) (sym x.1) there.passes in
+            let low : k < ends X i n = ended_below past i n k status (sound_end.passes.0 own).turn.number in
+            let ended_there : ended_status d.before i n k ≡ Some status = ap (λ h. ended_status h i n k) (sym x.1) ∙ (ended_stays wild i own x.0 X n k passes low ∙ ends_there past n k status) in
+            proper (moved i ms n k serial slot packet d (λ a b. (st : StatusKind) → ended_status d.before i a b ≡ Some st → st ≡ kinds.Failed) d.was.still status ended_there)
 
-      slot_same : slot_at C i n k ≡ slot
-      slot_same =
-          let all : N ++ D ≡ C = whole i C n k serial slot packet first_data in
-          let there : PassLaw wild (N ++ D) = subst (PassLaw wild) (sym all) sound_turn.passes in
-          let prepared : prepared_in D i (slot_at D i n k) ≡ Some (orb n k) = moved i C n k serial slot packet first_data (λ x y. prepared_in D i (slot_at D i x y) ≡ Some (orb x y)) first_data.was.piece.has in
-          let low = prepared_below i n k wild D (each_from _ N D there) (slot_at D i n k) prepared in
-          ap (λ h. slot_at h i n k) (sym all) ∙ (slot_lasts i n k wild N D there low ∙ moved i C n k serial slot packet first_data (λ x y. slot_at D i x y ≡ slot) first_data.was.slot_is)
+        within : serial ≤ (terms past).count
+        within = by_test (nat_lt (terms past).count serial) refl
+          where
+            by_test : (b : Bool) → nat_lt (terms past).count serial ≡ b → serial ≤ (terms past).count
+            by_test true g = absurd (not_behind (let z : (terms past).count < serial = grind (arith, nat_tests) in z))
+            by_test false g = grind (arith, nat_tests)
 
-      by_written : IsWritten past C i n k → WasClosed past serial
-      by_written (is_fresh none) = let some = ran_so i C n k serial slot packet first_data in absurd (omega (arith, none, some))
-      by_written (is_behind got later is m whole a) =
-          let x = answered_low C sound_turn served_turn n k m got a in
-          let y = gen_low i C n k serial slot packet first_data sound_turn.rises in
-          let z = sees_more in
-          let level : (terms C).generation 0 ≡ (terms C).generation (suc i) = omega (arith, x, y, z, current) in
-          let here : packet.generation ≡ (terms C).generation (suc i) = omega (arith, x, y, z, current) in
-          let number : k ≡ ends C i n = w.number_is in
-          let h = holds C sound_turn n k serial slot packet first_data here (λ st g fails. fails (none_ended wild i own C sound_turn.passes n st (subst (λ b. ended_status C i n b ≡ Some st) number g))) in
-          subst (λ h. WasClosed h serial) is
-          (closed_by_now C sound_turn served_turn n k m got a level (ap (λ b. prepared_in C i b) slot_same ∙ h.there) later (subst (OnceLaw wild) (sym is) sound_past.once) serial slot packet first_data)
+        inner : IsDataOf past i n k serial packet slot
+        inner = shrink i (moment.later ++ ended_note ∷ []) past n k serial slot packet (subst SerialsCount (sym at_past) f.serials) within (subst (λ h. IsDataOf h i n k serial packet slot) (sym at_past) d)
 
-      ended_closed : WasClosed ms serial
-      ended_closed = subst (λ h. WasClosed h serial) at_past (closed_on (moment.later ++ ended_note ∷ []) past serial (by_written w.written))
+        then_inner : IsDataOf (w.later ++ C) i n k serial packet slot
+        then_inner = subst (λ h. IsDataOf h i n k serial packet slot) (sym w.is) inner
+
+        pub first_data : IsDataOf C i n k serial packet slot
+        first_data = shrink i w.later C n k serial slot packet then_sound.serials (dry_before i w.later C w.alone then_sound.serials serial slot packet then_inner.sent then_inner.writes) then_inner
+
+        abbrev D : List Moment
+        D = turn i C n k serial slot packet first_data
+
+        abbrev N : List Moment
+        N = mid i C n k serial slot packet first_data
+
+        pub slot_same : slot_at C i n k ≡ slot
+        slot_same =
+            let all : N ++ D ≡ C = whole i C n k serial slot packet first_data in
+            let there : PassLaw wild (N ++ D) = subst (PassLaw wild) (sym all) sound_turn.passes in
+            let prepared : prepared_in D i (slot_at D i n k) ≡ Some (orb n k) = moved i C n k serial slot packet first_data (λ x y. prepared_in D i (slot_at D i x y) ≡ Some (orb x y)) first_data.was.piece.has in
+            let low = prepared_below i n k wild D (each_from _ N D there) (slot_at D i n k) prepared in
+            ap (λ h. slot_at h i n k) (sym all) ∙ (slot_lasts i n k wild N D there low ∙ moved i C n k serial slot packet first_data (λ x y. slot_at D i x y ≡ slot) first_data.was.slot_is)
+
+        module _ (current : packet.generation ≡ (terms ms).generation (suc i)) where
+          pub end_level : (m : Machine) (got : ℕ) → IsAnswered C i n k m got → (terms C).generation 0 ≡ (terms C).generation (suc i)
+          end_level m got a =
+              let x = answered_low C sound_turn served_turn n k m got a in
+              let y = gen_low i C n k serial slot packet first_data sound_turn.rises in
+              let z = sees_more in
+              omega (arith, x, y, z, current)
+
+          pub end_there : (m : Machine) (got : ℕ) → IsAnswered C i n k m got → prepared_in C i (slot_at C i n k) ≡ Some (orb n k)
+          end_there m got a =
+              let x = answered_low C sound_turn served_turn n k m got a in
+              let y = gen_low i C n k serial slot packet first_data sound_turn.rises in
+              let z = sees_more in
+              let here : packet.generation ≡ (terms C).generation (suc i) = omega (arith, x, y, z, current) in
+              let number : k ≡ ends C i n = w.number_is in
+              let h = holds C sound_turn n k serial slot packet first_data here (λ st g fails. fails (none_ended wild i own C sound_turn.passes n st (subst (λ b. ended_status C i n b ≡ Some st) number g))) in
+              ap (λ b. prepared_in C i b) slot_same ∙ h.there
+
+          by_written : IsWritten past C i n k → WasClosed past serial
+          by_written (is_fresh none) = let some = ran_so i C n k serial slot packet first_data in absurd (omega (arith, none, some))
+          by_written (is_behind got later is m filled a) =
+              subst (λ h. WasClosed h serial) is
+              (closed_by_now C sound_turn served_turn n k m got a (end_level m got a) (end_there m got a) later (subst (OnceLaw wild) (sym is) sound_past.once) serial slot packet first_data)
+
+          ended_closed : WasClosed ms serial
+          ended_closed = subst (λ h. WasClosed h serial) at_past (closed_on (moment.later ++ ended_note ∷ []) past serial (by_written w.written))
 
     -- one that was not judged
     still_held : (n k serial slot : ℕ) (packet : Sending) (d : IsDataOf ms i n k serial packet slot) → packet.generation ≡ (terms ms).generation (suc i) → (terms ms).news serial ≡ 0 → HasSlot ms i slot (orb n k)
     still_held n k serial slot packet d current fresh =
         holds ms f n k serial slot packet d current
         (λ status e proper.
-        let w = ended_closed n k serial slot packet status d e proper current in
+        let w = ended_closed n k status e proper serial slot packet d current in
         let front = w.later ++ said (notes.Got w.got) ∷ [] in
         let at_it : front ++ w.before ≡ ms = sym (split w.later (said (notes.Got w.got) ∷ []) w.before) ∙ w.is in
         let more = all_grow serial front w.before in
@@ -433,12 +508,12 @@ module _ (wild : ℕ → Bool) (i : ℕ) (own : wild i ≡ false) where
     pub served_at : AreServed ms i
     served_at = record {
       earlier = λ n k serial next slot other packet following d e less current. earlier_closed n k serial next slot other packet following d e less current;
-      ended = λ n k serial slot packet status d e proper current. ended_closed n k serial slot packet status d e proper current;
+      ended = λ n k serial slot packet status d e proper current. ended_closed n k status e proper serial slot packet d current;
       held = still_held;
     }
 
   -- ---- by induction
-  before_all : (ms : List Moment) → IsSound ms → Before ms
+  pub before_all : (ms : List Moment) → IsSound ms → Before ms
   before_all [] f [] B z back e = absurd (let y : z ∷ (back ++ B) ≡ [] = e in cc)
   before_all [] f (x ∷ front) B z back e = absurd (let y : x ∷ (front ++ z ∷ (back ++ B)) ≡ [] = e in cc)
   before_all (m ∷ past) f [] B z [] e = subst (λ h. AreServed h i) (sym (tail_is z m B past e)) (served_at past (sound_from (m ∷ []) past f) (before_all past (sound_from (m ∷ []) past f)))

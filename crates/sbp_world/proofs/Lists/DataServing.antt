@@ -1,4 +1,4 @@
--- The writes of answers were served in turn in every run in which no initiator injected packets, where lists were open as they should be before.
+-- The writes of answers were served in turn, and are in sequence, in every run in which no initiator injected packets, where lists were open as they should be before.
 use Rattle.std.proofs.Common.{inl, ◌≡◌, ap, subst, ◌<◌, ◌≤◌, ℕ, List, ◌∷◌, ◌++◌, map, length, Option, Some, None}
 use Rattle.rbc_disk.specs.Runs.{Told}
 use Rattle.sbp_journal.specs.declared.event.Event.{Event}
@@ -16,12 +16,14 @@ use Rattle.sbp_world.proofs.Agents.Management.Still.{hist}
 use Rattle.sbp_world.specs.Hosts.Runs.{IsRun, more_deliveries}
 use Rattle.sbp_world.specs.Lists.Closes.{Under, WhereTame, WhereTameOrFew}
 use Rattle.sbp_world.specs.Lists.DataEnds.{AllEndSo}
+use Rattle.sbp_world.specs.Lists.DataSequences.{DataSequenceLaw}
 use Rattle.sbp_world.specs.Lists.DataServes.{DataServedLaw}
 use Rattle.sbp_world.specs.Lists.DataWrites.{AllDataSo}
 use Rattle.sbp_world.specs.Lists.Needs.{IsCalm, OpenBefore, OpenBetween}
 use Rattle.sbp_world.specs.Lists.OwnLogins.{IsTame}
 use Rattle.sbp_world.specs.Lists.Statuses.{AllStatuses}
 use Rattle.sbp_world.proofs.Lists.DataClosed.{IsSound, are_served}
+use Rattle.sbp_world.proofs.Lists.DataSequences.{in_sequence}
 use Rattle.sbp_world.proofs.Lists.Histories.{after_lines, between}
 use Rattle.sbp_world.proofs.Lists.OpenProved.{After, facts_at, were_after}
 use Rattle.sbp_world.proofs.Lists.StatusRuns.{honest_of, rises_of}
@@ -87,5 +89,14 @@ data_served_law data_so ends_so statuses = record {
       are_served (injectors (history_of line run)) i calm (history_of line run) (sound_after data_so ends_so statuses line run r has small size so_far tame i b calm);
   between = λ line run r has small size next most told m so_far tame i b calm.
       are_served (injectors (map said (after_all told (begun (after (beginning run) run.entries))).world.fresh ++ asked next (more_deliveries most) ∷ history_of line run)) i calm _
+      (sound_between data_so ends_so statuses line run r has small size next most told m so_far tame i b calm);
+}
+
+pub data_sequence_law : Under (WhereTame AllDataSo) → Under (WhereTame AllEndSo) → Under (WhereTameOrFew AllStatuses) → DataSequenceLaw
+data_sequence_law data_so ends_so statuses = record {
+  after_lines = λ line run r has small size so_far tame i b calm.
+      in_sequence (injectors (history_of line run)) i calm (history_of line run) (sound_after data_so ends_so statuses line run r has small size so_far tame i b calm);
+  between = λ line run r has small size next most told m so_far tame i b calm.
+      in_sequence (injectors (map said (after_all told (begun (after (beginning run) run.entries))).world.fresh ++ asked next (more_deliveries most) ∷ history_of line run)) i calm _
       (sound_between data_so ends_so statuses line run r has small size next most told m so_far tame i b calm);
 }

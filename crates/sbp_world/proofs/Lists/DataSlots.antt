@@ -1,11 +1,12 @@
--- The slot of an ORB stays the one in which it was prepared at its append: no later append of its list has its number.
+-- The slot of an ORB stays the one in which it was prepared at its append, and its command stays that of its append: no later append of its list has its number.
 use Rattle.std.proofs.Common.{arith, ◌≡◌, ◌∙◌, refl, sym, ap, subst, ◌<◌, ◌≤◌, ℕ, suc, nat_eq, Bool, true, false, cond, List, [], ◌∷◌, ◌++◌, Some, None}
 use Rattle.std.proofs.lemmas.Bool.Decides.{nat_tests}
 use Rattle.sbp_journal.specs.Run.{Moment, said}
 use Rattle.sbp_journal.specs.declared.note.Note.TheVariants as notes
 use Rattle.sbp_journal.specs.declared.note.NoteBuffer.{NoteBuffer}
-use Rattle.sbp_laws.specs.Lists.{Orb, lowest_vacant, orb, prepared_in, slot_at, slots}
+use Rattle.sbp_laws.specs.Lists.{Orb, cmd_of, command_at, lowest_vacant, orb, prepared_in, slot_at, slots}
 use Rattle.sbp_laws.specs.Terms.{appends}
+use Rattle.sbp_laws.specs.Turns.{event_of}
 use Rattle.sbp_world.proofs.Lists.Passing.{PassLaw}
 
 pub same_orb : (a b c d : ℕ) → Some (orb a b) ≡ Some (orb c d) → (a ≡ c) × (b ≡ d)
@@ -30,10 +31,10 @@ module _ (i n k : ℕ) where
       let a = appends_grow later before in let b = more_appends (later ++ before) j m l cdb buffer in omega (arith, a, b)
   appends_grow (_ ∷ later) before = appends_grow later before
 
-  other_append : (past : List Moment) (j m l value : ℕ) → l ≡ appends past j m → k < appends past i n → cond (nat_eq i j) (cond (nat_eq n m) (cond (nat_eq k l) value (slot_at past i n k)) (slot_at past i n k)) (slot_at past i n k) ≡ slot_at past i n k
-  other_append past j m l value at b = by (nat_eq i j) (nat_eq n m) (nat_eq k l) refl refl refl
+  other_append : {A : Type 0} (old value : A) (past : List Moment) (j m l : ℕ) → l ≡ appends past j m → k < appends past i n → cond (nat_eq i j) (cond (nat_eq n m) (cond (nat_eq k l) value old) old) old ≡ old
+  other_append {A} old value past j m l at b = by (nat_eq i j) (nat_eq n m) (nat_eq k l) refl refl refl
     where
-      by : (x y z : Bool) → nat_eq i j ≡ x → nat_eq n m ≡ y → nat_eq k l ≡ z → cond x (cond y (cond z value (slot_at past i n k)) (slot_at past i n k)) (slot_at past i n k) ≡ slot_at past i n k
+      by : (x y z : Bool) → nat_eq i j ≡ x → nat_eq n m ≡ y → nat_eq k l ≡ z → cond x (cond y (cond z value old) old) old ≡ old
       by true true true e f g =
           let same_i : i ≡ j = grind (arith, nat_tests) in
           let same_n : n ≡ m = grind (arith, nat_tests) in
@@ -49,8 +50,16 @@ module _ (i n k : ℕ) where
     slot_lasts [] before law b = refl
     slot_lasts (said (notes.Append j m l cdb buffer) ∷ later) before law b =
         let more = appends_grow later before in
-        other_append (later ++ before) j m l (lowest_vacant (slots (later ++ before) j)) law.0.next.number (omega (arith, b, more)) ∙ slot_lasts later before law.1 b
+        other_append (slot_at (later ++ before) i n k) (lowest_vacant (slots (later ++ before) j)) (later ++ before) j m l law.0.next.number (omega (arith, b, more)) ∙ slot_lasts later before law.1 b
     slot_lasts (_ ∷ later) before law b = slot_lasts later before law.1 b
+
+    -- and so does its command
+    pub command_lasts : (later before : List Moment) → PassLaw wild (later ++ before) → k < appends before i n → command_at (later ++ before) i n k ≡ command_at before i n k
+    command_lasts [] before law b = refl
+    command_lasts (said (notes.Append j m l cdb buffer) ∷ later) before law b =
+        let more = appends_grow later before in
+        other_append (command_at (later ++ before) i n k) (cmd_of (event_of (later ++ before))) (later ++ before) j m l law.0.next.number (omega (arith, b, more)) ∙ command_lasts later before law.1 b
+    command_lasts (_ ∷ later) before law b = command_lasts later before law.1 b
 
     pub prepared_below : (past : List Moment) → PassLaw wild past → (slot : ℕ) → prepared_in past i slot ≡ Some (orb n k) → k < appends past i n
     prepared_below [] law slot e = absurd (let z : None ≡ Some (orb n k) = e in cc)
