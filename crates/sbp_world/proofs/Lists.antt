@@ -422,6 +422,7 @@ pub mod DataCalls
 pub mod DataRan
 pub mod DataClosed
 pub mod DataSequences
+pub mod DataGots
 pub mod DataServed
 pub mod DataLaid
 pub mod DataSlots

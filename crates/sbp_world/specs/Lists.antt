@@ -64,6 +64,7 @@ pub mod AnsweredEnds
 pub mod DataWrites
 pub mod DueRuns
 pub mod DataEnds
+pub mod DataGots
 pub mod DataHolds
 pub mod DataSequences
 pub mod DataServes

@@ -33,6 +33,7 @@ ghost use Rattle.sbp_world.specs.Lists.AnsweredEnds.{AnsweredEndsLaw};
 ghost use Rattle.sbp_world.specs.Lists.AnsweredReads.{AnsweredReadsLaw};
 ghost use Rattle.sbp_world.specs.Lists.EndReads.{EndsReadLaw};
 ghost use Rattle.sbp_world.specs.Lists.DataEnds.{AnswersEndLaw};
+ghost use Rattle.sbp_world.specs.Lists.DataGots.{DataGotsLaw};
 ghost use Rattle.sbp_world.specs.Lists.DataHolds.{DataHeldLaw};
 ghost use Rattle.sbp_world.specs.Lists.DataSequences.{DataSequenceLaw};
 ghost use Rattle.sbp_world.specs.Lists.DataServes.{DataServedLaw};
@@ -523,6 +524,14 @@ pub fn data_are_served_in_turn()
 #[tactic(auto, using(crate::proofs::Lists::Clauses::sequence_law))]
 pub fn data_are_written_in_sequence()
     ensures { DataSequenceLaw }
+{}
+
+/// In every run in which no initiator injected packets, where lists were open as they should be before, a write into the data buffer of
+/// a slot that an initiator gets is of the data of the ORB that the slot has, in its sequence; it is the latest write of these data, and
+/// each one before it was served.
+#[tactic(auto, using(crate::proofs::Lists::Clauses::data_gots))]
+pub fn initiators_get_data_in_sequence()
+    ensures { DataGotsLaw }
 {}
 
 /// In every run in which no initiator injected packets, where lists were open as they should be before, the answer that an agent writes

@@ -18,6 +18,7 @@ use Rattle.sbp_world.proofs.Lists.Lawful as proved
 use Rattle.sbp_world.proofs.Lists.OneUp.{one_up_law}
 use Rattle.sbp_world.proofs.Lists.ShortLines.{short_law}
 use Rattle.sbp_world.specs.Lists.DataHolds.{DataHeldLaw}
+use Rattle.sbp_world.specs.Lists.DataGots.{DataGotsLaw}
 use Rattle.sbp_world.specs.Lists.DataSequences.{DataSequenceLaw}
 use Rattle.sbp_world.specs.Lists.DataServes.{DataServedLaw}
 
@@ -59,6 +60,9 @@ served_law = data_laws.served_law short_law
 
 pub sequence_law : DataSequenceLaw
 sequence_law = data_laws.sequence_law short_law
+
+pub data_gots : DataGotsLaw
+data_gots = data_laws.gots_law short_law
 
 pub gots_law : OwnGotsLaw
 gots_law = own_gots_law open_lists_law

@@ -4,10 +4,11 @@ use Rattle.sbp_journal.specs.Run.{Moment}
 use Rattle.sbp_laws.specs.Turns.{EachMoment}
 use Rattle.sbp_world.specs.Worlds.{WorldState}
 use Rattle.sbp_world.specs.Lists.Closes.{AreUntaken, Under, WhereTame, WhereTameOrFew}
+use Rattle.sbp_world.specs.Lists.DataGots.{DataGotsLaw}
 use Rattle.sbp_world.specs.Lists.DataSequences.{DataSequenceLaw}
 use Rattle.sbp_world.specs.Lists.DataServes.{DataServedLaw}
 use Rattle.sbp_world.specs.Lists.Statuses.{AllStatuses}
-use Rattle.sbp_world.proofs.Lists.DataServing.{data_sequence_law, data_served_law}
+use Rattle.sbp_world.proofs.Lists.DataServing.{data_gots_law, data_sequence_law, data_served_law}
 use Rattle.sbp_world.specs.Lists.OwnLogins.{IsTame}
 use Rattle.sbp_world.specs.Lists.Placings.{BasedAt}
 use Rattle.sbp_world.specs.Lists.Shorts.{AreShort}
@@ -66,3 +67,6 @@ module _ (short : ShortLaw) where
 
   pub sequence_law : DataSequenceLaw
   sequence_law = data_sequence_law (data_sent_law short) answers_end_law (statuses_by short)
+
+  pub gots_law : DataGotsLaw
+  gots_law = data_gots_law (data_sent_law short) answers_end_law (statuses_by short)

@@ -1,5 +1,5 @@
 -- The writes of answers were served in turn, and are in sequence, in every run in which no initiator injected packets, where lists were open as they should be before.
-use Rattle.std.proofs.Common.{inl, ◌≡◌, ap, subst, ◌<◌, ◌≤◌, ℕ, List, ◌∷◌, ◌++◌, map, length, Option, Some, None}
+use Rattle.std.proofs.Common.{inl, ◌≡◌, ◌∙◌, ap, subst, ◌<◌, ◌≤◌, ℕ, List, ◌∷◌, ◌++◌, map, length, Option, Some, None}
 use Rattle.rbc_disk.specs.Runs.{Told}
 use Rattle.sbp_journal.specs.declared.event.Event.{Event}
 use Rattle.sbp_journal.specs.Run.{Moment, asked, said}
@@ -14,8 +14,12 @@ use Rattle.sbp_world.proofs.Wire.Starts.{laws_of}
 use Rattle.sbp_world.specs.Agents.Management.Terms.{DeliversMore}
 use Rattle.sbp_world.proofs.Agents.Management.Still.{hist}
 use Rattle.sbp_world.specs.Hosts.Runs.{IsRun, more_deliveries}
+use Rattle.sbp_world.proofs.Hosts.Quadlets.{source_law}
+use Rattle.sbp_world.proofs.Hosts.Runs.{count_after, count_between}
+use Rattle.sbp_world.proofs.Hosts.Statuses.Runs.{taking_law}
 use Rattle.sbp_world.specs.Lists.Closes.{Under, WhereTame, WhereTameOrFew}
 use Rattle.sbp_world.specs.Lists.DataEnds.{AllEndSo}
+use Rattle.sbp_world.specs.Lists.DataGots.{DataGotsLaw}
 use Rattle.sbp_world.specs.Lists.DataSequences.{DataSequenceLaw}
 use Rattle.sbp_world.specs.Lists.DataServes.{DataServedLaw}
 use Rattle.sbp_world.specs.Lists.DataWrites.{AllDataSo}
@@ -23,10 +27,12 @@ use Rattle.sbp_world.specs.Lists.Needs.{IsCalm, OpenBefore, OpenBetween}
 use Rattle.sbp_world.specs.Lists.OwnLogins.{IsTame}
 use Rattle.sbp_world.specs.Lists.Statuses.{AllStatuses}
 use Rattle.sbp_world.proofs.Lists.DataClosed.{IsSound, are_served}
+use Rattle.sbp_world.proofs.Lists.DataGots.{gots_so}
 use Rattle.sbp_world.proofs.Lists.DataSequences.{in_sequence}
 use Rattle.sbp_world.proofs.Lists.Histories.{after_lines, between}
 use Rattle.sbp_world.proofs.Lists.OpenProved.{After, facts_at, were_after}
-use Rattle.sbp_world.proofs.Lists.StatusRuns.{honest_of, rises_of}
+use Rattle.sbp_world.proofs.Lists.StatusRuns.{delivering, honest_of, rises_of}
+use Rattle.sbp_world.proofs.Lists.StatusKnown.{IsKnown}
 
 delivers : (most : Option ℕ) → DeliversMore (more_deliveries most)
 delivers (Some count) = tt
@@ -56,6 +62,20 @@ module _ (data_so : Under (WhereTame AllDataSo)) (ends_so : Under (WhereTame All
         honest = honest_of k.past last.world k.holds.sound.stands past k.is;
       }
 
+  pub known_after : OpenBefore line run run.entries → (i : ℕ) → i < length last.world.initiators → IsKnown (injectors past) past i
+  known_after so_far i b =
+      let k = stood in
+      let wire = subst IsOfWire k.is (laws_of k.past last.world k.holds.sound.stands) in
+      let inside : i < run.initiators = subst (λ n. i < n) (count_after run run.entries) b in
+      record {
+        passes = (after_lines (injectors past) line run r has small size (λ j own. so_far) (λ j own. own)).law;
+        takings = (taking_law.takings line run r i inside).taken;
+        sources = source_law.sources line run r i inside;
+        rises = rises_of k.past last.world k.holds.sound.stands past k.is;
+        judged = wire.judged;
+        serials = wire.serials;
+      }
+
   module _ (next : ℕ) (most : Option ℕ) (told : List (Option Told)) (m : MayAll told (begun last)) where
     abbrev event : Event
     event = more_deliveries most
@@ -83,6 +103,23 @@ module _ (data_so : Under (WhereTame AllDataSo)) (ends_so : Under (WhereTame All
           honest = honest_of before end x.holds.sound.stands now is;
         }
 
+    pub known_between : OpenBetween line run next event told → (i : ℕ) → i < length end.initiators → IsKnown (injectors now) now i
+    known_between so_far i b =
+        let k = stood in
+        let x = facts_at line run r.few has small size run.entries r.short r.entries r.lines k.past (length run.entries) k.holds k.is next event (delivers most) told m in
+        let is : map said end.fresh ++ asked next event ∷ hist k.past last.world ≡ now = ap (λ ms. map said end.fresh ++ asked next event ∷ ms) k.is in
+        let before = asked next event ∷ hist k.past last.world in
+        let wire = subst IsOfWire is (laws_of before end x.holds.sound.stands) in
+        let inside : i < run.initiators = subst (λ n. i < n) (count_between told last ∙ count_after run run.entries) b in
+        record {
+          passes = (between (injectors now) line run r has small size next event (delivers most) told m (λ j own. so_far) (λ j own. own)).law;
+          takings = (taking_law.between line run r next most told m i inside).taken;
+          sources = source_law.between line run r next event told (delivering event told (delivers most)) m i inside;
+          rises = rises_of before end x.holds.sound.stands now is;
+          judged = wire.judged;
+          serials = wire.serials;
+        }
+
 pub data_served_law : Under (WhereTame AllDataSo) → Under (WhereTame AllEndSo) → Under (WhereTameOrFew AllStatuses) → DataServedLaw
 data_served_law data_so ends_so statuses = record {
   after_lines = λ line run r has small size so_far tame i b calm.
@@ -99,4 +136,13 @@ data_sequence_law data_so ends_so statuses = record {
   between = λ line run r has small size next most told m so_far tame i b calm.
       in_sequence (injectors (map said (after_all told (begun (after (beginning run) run.entries))).world.fresh ++ asked next (more_deliveries most) ∷ history_of line run)) i calm _
       (sound_between data_so ends_so statuses line run r has small size next most told m so_far tame i b calm);
+}
+
+pub data_gots_law : Under (WhereTame AllDataSo) → Under (WhereTame AllEndSo) → Under (WhereTameOrFew AllStatuses) → DataGotsLaw
+data_gots_law data_so ends_so statuses = record {
+  after_lines = λ line run r has small size so_far tame i b calm.
+      gots_so (injectors (history_of line run)) i calm (history_of line run) (known_after data_so ends_so statuses line run r has small size so_far i b) (sound_after data_so ends_so statuses line run r has small size so_far tame i b calm);
+  between = λ line run r has small size next most told m so_far tame i b calm.
+      gots_so (injectors (map said (after_all told (begun (after (beginning run) run.entries))).world.fresh ++ asked next (more_deliveries most) ∷ history_of line run)) i calm _
+      (known_between data_so ends_so statuses line run r has small size next most told m so_far i b) (sound_between data_so ends_so statuses line run r has small size next most told m so_far tame i b calm);
 }

@@ -95,7 +95,7 @@ statuses_at ms i calm passes wire once rise takings sources sent = statuses_in m
 untaken_at : (ms : List Moment) (i : ℕ) → IsCalm ms i → PassLaw (injectors ms) ms → IsOfWire ms → Once ms → Rises ms → EachMoment (TakenOf i) ms → AllOfTarget ms i → EachMoment (SentSo i) ms → (n k : ℕ) → ends ms i n ≤ k → taken_at ms i n k ≡ None
 untaken_at ms i calm passes wire once rise takings sources sent n k l = untaken_in ms (injectors ms) i calm passes wire once rise takings sources sent n k l
 
-delivering : (event : Event) (told : List (Option Told)) → DeliversMore event → IsDelivering event told
+pub delivering : (event : Event) (told : List (Option Told)) → DeliversMore event → IsDelivering event told
 delivering (events.Step count) told d = tt
 delivering events.Settle told d = tt
 delivering _ told d = absurd d
