@@ -423,6 +423,7 @@ pub mod DataRan
 pub mod DataClosed
 pub mod DataSequences
 pub mod DataGots
+pub mod DataShut
 pub mod DataServed
 pub mod DataLaid
 pub mod DataSlots

@@ -108,7 +108,7 @@ module _ (wild : ℕ → Bool) (i : ℕ) (own : wild i ≡ false) where
         whole = whole_in;
         done_is = (let x = its_whole wild i own B f g n k m got a current there in a.behind ∙ (ap (λ y. y + length a.access.payload) x.same ∙ ap (λ (y : Access). c.was.machine.written + length y.payload) same_access));
       }
-      
+
   -- ---- of a history
   module _ (ms : List Moment) (f : IsSound wild i own ms) where
     module _ (n k serial slot : ℕ) (packet : Sending) (d : IsDataOf ms i n k serial packet slot) (current : packet.generation ≡ (terms ms).generation (suc i)) where
