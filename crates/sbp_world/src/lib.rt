@@ -143,6 +143,7 @@ pub use of_lists::sessions_have_their_logins;
 pub use of_lists::slots_are_held_for_data;
 pub use of_lists::data_are_served_in_turn;
 pub use of_lists::data_are_written_in_sequence;
+pub use of_lists::data_that_were_served_were_got;
 pub use of_lists::initiators_get_data_in_sequence;
 pub use of_lists::responses_are_got_once;
 pub use of_lists::slots_stay;

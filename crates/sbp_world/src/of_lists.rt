@@ -33,7 +33,7 @@ ghost use Rattle.sbp_world.specs.Lists.AnsweredEnds.{AnsweredEndsLaw};
 ghost use Rattle.sbp_world.specs.Lists.AnsweredReads.{AnsweredReadsLaw};
 ghost use Rattle.sbp_world.specs.Lists.EndReads.{EndsReadLaw};
 ghost use Rattle.sbp_world.specs.Lists.DataEnds.{AnswersEndLaw};
-ghost use Rattle.sbp_world.specs.Lists.DataGots.{DataGotsLaw};
+ghost use Rattle.sbp_world.specs.Lists.DataGots.{DataGotsLaw, ServedGotLaw};
 ghost use Rattle.sbp_world.specs.Lists.DataHolds.{DataHeldLaw};
 ghost use Rattle.sbp_world.specs.Lists.DataSequences.{DataSequenceLaw};
 ghost use Rattle.sbp_world.specs.Lists.DataServes.{DataServedLaw};
@@ -532,6 +532,13 @@ pub fn data_are_written_in_sequence()
 #[tactic(auto, using(crate::proofs::Lists::Clauses::data_gots))]
 pub fn initiators_get_data_in_sequence()
     ensures { DataGotsLaw }
+{}
+
+/// In every run in which no initiator injected packets, where lists were open as they should be before, a write of the target into a data
+/// buffer that was served was got: what an initiator ignores for its slot is written to a FIFO.
+#[tactic(auto, using(crate::proofs::Lists::Clauses::served_got))]
+pub fn data_that_were_served_were_got()
+    ensures { ServedGotLaw }
 {}
 
 /// In every run in which no initiator injected packets, where lists were open as they should be before, the answer that an agent writes

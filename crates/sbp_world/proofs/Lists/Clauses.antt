@@ -18,7 +18,7 @@ use Rattle.sbp_world.proofs.Lists.Lawful as proved
 use Rattle.sbp_world.proofs.Lists.OneUp.{one_up_law}
 use Rattle.sbp_world.proofs.Lists.ShortLines.{short_law}
 use Rattle.sbp_world.specs.Lists.DataHolds.{DataHeldLaw}
-use Rattle.sbp_world.specs.Lists.DataGots.{DataGotsLaw}
+use Rattle.sbp_world.specs.Lists.DataGots.{DataGotsLaw, ServedGotLaw}
 use Rattle.sbp_world.specs.Lists.DataSequences.{DataSequenceLaw}
 use Rattle.sbp_world.specs.Lists.DataServes.{DataServedLaw}
 
@@ -63,6 +63,9 @@ sequence_law = data_laws.sequence_law short_law
 
 pub data_gots : DataGotsLaw
 data_gots = data_laws.gots_law short_law
+
+pub served_got : ServedGotLaw
+served_got = data_laws.got_law short_law
 
 pub gots_law : OwnGotsLaw
 gots_law = own_gots_law open_lists_law

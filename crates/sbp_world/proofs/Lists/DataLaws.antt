@@ -4,11 +4,11 @@ use Rattle.sbp_journal.specs.Run.{Moment}
 use Rattle.sbp_laws.specs.Turns.{EachMoment}
 use Rattle.sbp_world.specs.Worlds.{WorldState}
 use Rattle.sbp_world.specs.Lists.Closes.{AreUntaken, Under, WhereTame, WhereTameOrFew}
-use Rattle.sbp_world.specs.Lists.DataGots.{DataGotsLaw}
+use Rattle.sbp_world.specs.Lists.DataGots.{DataGotsLaw, ServedGotLaw}
 use Rattle.sbp_world.specs.Lists.DataSequences.{DataSequenceLaw}
 use Rattle.sbp_world.specs.Lists.DataServes.{DataServedLaw}
 use Rattle.sbp_world.specs.Lists.Statuses.{AllStatuses}
-use Rattle.sbp_world.proofs.Lists.DataServing.{data_gots_law, data_sequence_law, data_served_law}
+use Rattle.sbp_world.proofs.Lists.DataServing.{data_gots_law, data_sequence_law, data_served_law, served_got_law}
 use Rattle.sbp_world.specs.Lists.OwnLogins.{IsTame}
 use Rattle.sbp_world.specs.Lists.Placings.{BasedAt}
 use Rattle.sbp_world.specs.Lists.Shorts.{AreShort}
@@ -70,3 +70,6 @@ module _ (short : ShortLaw) where
 
   pub gots_law : DataGotsLaw
   gots_law = data_gots_law (data_sent_law short) answers_end_law (statuses_by short)
+
+  pub got_law : ServedGotLaw
+  got_law = served_got_law (data_sent_law short) answers_end_law (statuses_by short)

@@ -1,5 +1,5 @@
 -- The writes of answers were served in turn, and are in sequence, in every run in which no initiator injected packets, where lists were open as they should be before.
-use Rattle.std.proofs.Common.{inl, ◌≡◌, ◌∙◌, ap, subst, ◌<◌, ◌≤◌, ℕ, List, ◌∷◌, ◌++◌, map, length, Option, Some, None}
+use Rattle.std.proofs.Common.{inl, ◌≡◌, ◌∙◌, sym, ap, subst, ◌<◌, ◌≤◌, ℕ, List, ◌∷◌, ◌++◌, map, length, Option, Some, None}
 use Rattle.rbc_disk.specs.Runs.{Told}
 use Rattle.sbp_journal.specs.declared.event.Event.{Event}
 use Rattle.sbp_journal.specs.Run.{Moment, asked, said}
@@ -19,16 +19,21 @@ use Rattle.sbp_world.proofs.Hosts.Runs.{count_after, count_between}
 use Rattle.sbp_world.proofs.Hosts.Statuses.Runs.{taking_law}
 use Rattle.sbp_world.specs.Lists.Closes.{Under, WhereTame, WhereTameOrFew}
 use Rattle.sbp_world.specs.Lists.DataEnds.{AllEndSo}
-use Rattle.sbp_world.specs.Lists.DataGots.{DataGotsLaw}
+use Rattle.sbp_world.specs.Lists.DataGots.{DataGotsLaw, ServedGotLaw, WasGot}
 use Rattle.sbp_world.specs.Lists.DataSequences.{DataSequenceLaw}
 use Rattle.sbp_world.specs.Lists.DataServes.{DataServedLaw}
-use Rattle.sbp_world.specs.Lists.DataWrites.{AllDataSo}
+use Rattle.sbp_world.specs.Lists.DataWrites.{AllDataSo, IsDataWrite}
 use Rattle.sbp_world.specs.Lists.Needs.{IsCalm, OpenBefore, OpenBetween}
 use Rattle.sbp_world.specs.Lists.OwnLogins.{IsTame}
-use Rattle.sbp_world.specs.Lists.Statuses.{AllStatuses}
+use Rattle.sbp_world.specs.Lists.Statuses.{AllStatuses, IsToHost}
 use Rattle.sbp_world.proofs.Lists.DataClosed.{IsSound, are_served}
 use Rattle.sbp_world.proofs.Lists.DataGots.{gots_so}
 use Rattle.sbp_world.proofs.Lists.DataSequences.{in_sequence}
+use Rattle.sbp_world.proofs.Lists.DataShut.{was_got}
+use Rattle.sbp_world.proofs.Lists.SlotShut.{AllApart, apart_between, apart_of}
+use Rattle.bus_transactions.specs.Packets.{SerialsCount}
+use Rattle.sbp_journal.specs.Transactions.{Sending}
+use Rattle.sbp_journal.specs.Wire.{terms}
 use Rattle.sbp_world.proofs.Lists.Histories.{after_lines, between}
 use Rattle.sbp_world.proofs.Lists.OpenProved.{After, facts_at, were_after}
 use Rattle.sbp_world.proofs.Lists.StatusRuns.{delivering, honest_of, rises_of}
@@ -145,4 +150,22 @@ data_gots_law data_so ends_so statuses = record {
   between = λ line run r has small size next most told m so_far tame i b calm.
       gots_so (injectors (map said (after_all told (begun (after (beginning run) run.entries))).world.fresh ++ asked next (more_deliveries most) ∷ history_of line run)) i calm _
       (known_between data_so ends_so statuses line run r has small size next most told m so_far i b) (sound_between data_so ends_so statuses line run r has small size next most told m so_far tame i b calm);
+}
+
+-- ---- what was served was got
+same_packet : (one other : Sending) → Some one ≡ Some other → one ≡ other
+same_packet one other e = cc
+
+got_by : (past : List Moment) (i : ℕ) → SerialsCount past → AllApart past i → (serial slot : ℕ) (packet : Sending) → IsToHost past i serial packet → IsDataWrite packet.bytes slot → 0 < (terms past).served serial → WasGot past serial
+got_by past i c apart serial slot packet t x l = was_got i serial slot packet t.to_host x past c (λ q e. same_packet q packet (sym e ∙ t.is)) apart l
+
+pub served_got_law : Under (WhereTame AllDataSo) → Under (WhereTame AllEndSo) → Under (WhereTameOrFew AllStatuses) → ServedGotLaw
+served_got_law data_so ends_so statuses = record {
+  after_lines = λ line run r has small size so_far tame i b calm serial slot packet t x l.
+      got_by (history_of line run) i (known_after data_so ends_so statuses line run r has small size so_far i b).serials
+      (apart_of line run r i (subst (λ n. i < n) (count_after run run.entries) b)) serial slot packet t x l;
+  between = λ line run r has small size next most told m so_far tame i b calm serial slot packet t x l.
+      let last = after (beginning run) run.entries in
+      got_by _ i (known_between data_so ends_so statuses line run r has small size next most told m so_far i b).serials
+      (apart_between line run r next (more_deliveries most) told (delivering (more_deliveries most) told (delivers most)) m i (subst (λ n. i < n) (count_between told last ∙ count_after run run.entries) b)) serial slot packet t x l;
 }

@@ -1,5 +1,5 @@
 -- A write into a data buffer that was served was got: what an initiator ignores for its slot is written to a FIFO.
-use Rattle.std.proofs.Common.{arith, ◌≡◌, ◌∙◌, refl, sym, ap, subst, ◌<◌, ◌≤◌, ℕ, suc, nat_eq, nat_le, Bool, true, false, cond, List, [], ◌∷◌, ◌++◌, Option, Some, None}
+use Rattle.std.proofs.Common.{arith, ◌≡◌, ◌∙◌, refl, sym, ap, subst, ◌<◌, ◌≤◌, ℕ, suc, nat_eq, nat_le, Bool, true, false, cond, List, [], ◌∷◌, Option, Some, None}
 use Rattle.std.proofs.lemmas.Bool.Decides.{nat_tests}
 use Rattle.bus_memory.specs.declared.window.Window.{Window}
 use Rattle.bus_memory.specs.declared.window.Window.TheVariants as windows
@@ -17,6 +17,7 @@ use Rattle.sbp_journal.specs.Transactions.{Sending}
 use Rattle.sbp_journal.specs.Wire.{Terms, ignores_that, opened, terms}
 use Rattle.sbp_world.proofs.Hosts.Remaining.{remains}
 use Rattle.sbp_world.proofs.Hosts.SentMoments.{sent_below, serials_from}
+use Rattle.sbp_world.specs.Lists.DataGots.{WasGot}
 use Rattle.sbp_world.specs.Lists.DataWrites.{IsDataWrite}
 use Rattle.sbp_world.proofs.Lists.OpenedAside as aside
 use Rattle.sbp_world.proofs.Lists.ServedTerms.{ignored_served, quiet_served}
@@ -46,11 +47,6 @@ low_buffer offset high slot e =
     (grind (arith, nat_tests)) (grind (arith, nat_tests)) (grind (arith, nat_tests)) (grind (arith, nat_tests)) (grind (arith, nat_tests)) e
 
 -- ---- where it was got
-pub record WasGot (past : List Moment) (serial : ℕ) : Type 0 where
-  pub later : List Moment
-  pub before : List Moment
-  pub is : later ++ said (notes.Got serial) ∷ before ≡ past
-
 further : (m : Moment) (past : List Moment) (serial : ℕ) → WasGot past serial → WasGot (m ∷ past) serial
 further m past serial g = record { later = m ∷ g.later; before = g.before; is = ap (λ h. m ∷ h) g.is }
 

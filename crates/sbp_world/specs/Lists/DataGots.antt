@@ -1,6 +1,6 @@
 -- What an initiator gets of answers (NCITS 325-1998, data buffers): a write into the data buffer of a slot is of the data of the ORB that the slot has, in its sequence; it is the latest write of these data, and each one
--- before it was served.
-use Rattle.std.specs.Prelude.{◌≡◌, ◌<◌, ◌≤◌, ℕ, suc, List, length, Some}
+-- before it was served. And one that was served was got.
+use Rattle.std.specs.Prelude.{◌≡◌, ◌<◌, ◌≤◌, ℕ, suc, List, ◌∷◌, ◌++◌, length, Some}
 use Rattle.sbp_journal.specs.declared.note.Note.TheVariants as notes
 use Rattle.sbp_journal.specs.Run.{Moment, said}
 use Rattle.sbp_journal.specs.Transactions.{Sending}
@@ -14,6 +14,7 @@ use Rattle.sbp_world.specs.Lists.DataServes.{IsDataOf, WasClosed}
 use Rattle.sbp_world.specs.Lists.DataWrites.{IsDataWrite}
 use Rattle.sbp_world.specs.Lists.Needs.{IsCalm}
 use Rattle.sbp_world.specs.Lists.SlotsStay.{HasSlot}
+use Rattle.sbp_world.specs.Lists.Statuses.{IsToHost}
 
 pub record IsLatestData (past : List Moment) (i serial slot : ℕ) (packet : Sending) : Type 0 where
   pub list : ℕ
@@ -33,3 +34,15 @@ AllGotSo past w = (i : ℕ) → i < length w.initiators → IsCalm past i → Ea
 
 abbrev pub DataGotsLaw : Type 0
 DataGotsLaw = Under (WhereTame AllGotSo)
+
+-- ---- what was served was got
+pub record WasGot (past : List Moment) (serial : ℕ) : Type 0 where
+  pub later : List Moment
+  pub before : List Moment
+  pub is : later ++ said (notes.Got serial) ∷ before ≡ past
+
+abbrev pub AllServedGot : List Moment → WorldState → Type 0
+AllServedGot past w = (i : ℕ) → i < length w.initiators → IsCalm past i → (serial slot : ℕ) (packet : Sending) → IsToHost past i serial packet → IsDataWrite packet.bytes slot → 0 < (terms past).served serial → WasGot past serial
+
+abbrev pub ServedGotLaw : Type 0
+ServedGotLaw = Under (WhereTame AllServedGot)
