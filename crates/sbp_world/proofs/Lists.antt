@@ -429,11 +429,19 @@ pub mod DataActs
 pub mod DataHears
 pub mod DataCalls
 pub mod DataRan
+pub mod DataClosed
+pub mod DataSequences
+pub mod DataGots
+pub mod DataShut
+pub mod DataServed
+pub mod DataLaid
+pub mod DataSlots
 pub mod DataSteps
 pub mod DataLines
 pub mod DataOpen
 pub mod DataTurns
 pub mod DataHeard
+pub mod DataWaits
 pub mod DataWalk
 pub mod DueTurns
 pub mod DueRuns
@@ -447,6 +455,7 @@ pub mod DataOffice
 pub mod DataPlaces
 pub mod DataDry
 pub mod DataClears
+pub mod DataServing
 pub mod DataLaws
 pub mod LedReads
 pub mod LedRuns

@@ -66,5 +66,8 @@ pub mod AnswerLengths
 pub mod DataWrites
 pub mod DueRuns
 pub mod DataEnds
+pub mod DataGots
 pub mod DataHolds
+pub mod DataSequences
+pub mod DataServes
 pub mod DataWhole

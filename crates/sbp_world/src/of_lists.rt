@@ -35,7 +35,10 @@ ghost use Rattle.sbp_world.specs.Lists.ReadOrbs.{ReadOrbsLaw};
 ghost use Rattle.sbp_world.specs.Lists.AnswerLengths.{AnswerLengthsLaw};
 ghost use Rattle.sbp_world.specs.Lists.EndReads.{EndsReadLaw};
 ghost use Rattle.sbp_world.specs.Lists.DataEnds.{AnswersEndLaw};
+ghost use Rattle.sbp_world.specs.Lists.DataGots.{DataGotsLaw, ServedGotLaw};
 ghost use Rattle.sbp_world.specs.Lists.DataHolds.{DataHeldLaw};
+ghost use Rattle.sbp_world.specs.Lists.DataSequences.{DataSequenceLaw};
+ghost use Rattle.sbp_world.specs.Lists.DataServes.{DataServedLaw};
 ghost use Rattle.sbp_world.specs.Lists.DataWhole.{AnswersWholeLaw};
 ghost use Rattle.sbp_world.specs.Lists.DataWrites.{DataSentLaw, DataWritesLaw};
 ghost use Rattle.sbp_world.specs.Lists.DueRuns.{DueRunsLaw};
@@ -516,6 +519,38 @@ pub fn initiators_have_one_agent_up()
 #[tactic(auto, using(crate::proofs::Lists::Clauses::held_law))]
 pub fn slots_are_held_for_data()
     ensures { DataHeldLaw }
+{}
+
+/// In every run in which no initiator injected packets, where lists were open as they should be before, each write of the data of an
+/// ORB but the latest one was closed with rcode 0 and served once; behind an end of the ORB, but as failed, the latest one was, too; and
+/// until a write is judged its slot has the ORB. So it is of the writes in the generation that the initiator is in.
+#[tactic(auto, using(crate::proofs::Lists::Clauses::served_law))]
+pub fn data_are_served_in_turn()
+    ensures { DataServedLaw }
+{}
+
+/// In every run in which no initiator injected packets, where lists were open as they should be before, the data of an answer are written
+/// in sequence: the first write of an ORB's data begins with the first byte of the answer, and each later one behind the bytes of the one
+/// before it, which was served, and wrote a whole chunk of the buffer. Behind an end, but as failed, the last one ended with the buffer.
+/// So it is of the writes in the generation that the initiator is in.
+#[tactic(auto, using(crate::proofs::Lists::Clauses::sequence_law))]
+pub fn data_are_written_in_sequence()
+    ensures { DataSequenceLaw }
+{}
+
+/// In every run in which no initiator injected packets, where lists were open as they should be before, a write into the data buffer of
+/// a slot that an initiator gets is of the data of the ORB that the slot has, in its sequence; it is the latest write of these data, and
+/// each one before it was served.
+#[tactic(auto, using(crate::proofs::Lists::Clauses::data_gots))]
+pub fn initiators_get_data_in_sequence()
+    ensures { DataGotsLaw }
+{}
+
+/// In every run in which no initiator injected packets, where lists were open as they should be before, a write of the target into a data
+/// buffer that was served was got: what an initiator ignores for its slot is written to a FIFO.
+#[tactic(auto, using(crate::proofs::Lists::Clauses::served_got))]
+pub fn data_that_were_served_were_got()
+    ensures { ServedGotLaw }
 {}
 
 /// In every run in which no initiator injected packets, where lists were open as they should be before, the answer that an agent writes

@@ -72,12 +72,12 @@ waits_as t u packet serial kind sent begun now held =
     ∙ (let e : (serial == serial) ≡ true = grind arith in e)
 
 -- and what it is then
-record Awaits (t : Terms) (packet : Sending) (serial : ℕ) : Type 0 where
-  u : Transaction
-  begun : begun_by packet ≡ Some u
-  now : t.generation u.requester ≡ u.generation
-  kind : Kind
-  held : t.held u ≡ waits kind serial
+pub record Awaits (t : Terms) (packet : Sending) (serial : ℕ) : Type 0 where
+  pub u : Transaction
+  pub begun : begun_by packet ≡ Some u
+  pub now : t.generation u.requester ≡ u.generation
+  pub kind : Kind
+  pub held : t.held u ≡ waits kind serial
 
 held_is : {G : Type 0} (held : Held) (serial : ℕ) → is_waiting_for held serial ≡ true → ((kind : Kind) → held ≡ waits kind serial → G) → G
 held_is free serial e g = untrue e
@@ -95,7 +95,7 @@ awaits_by t packet serial (Some u) e f =
     let now : t.generation u.requester ≡ u.generation = (let y = x.0 in grind arith) in
     held_is (t.held u) serial x.1 (λ kind held. record { u = u; begun = e; now = now; kind = kind; held = held })
 
-awaits_of : (t : Terms) (packet : Sending) (serial : ℕ) → t.sent serial ≡ Some packet → is_under_way t serial ≡ true → Awaits t packet serial
+pub awaits_of : (t : Terms) (packet : Sending) (serial : ℕ) → t.sent serial ≡ Some packet → is_under_way t serial ≡ true → Awaits t packet serial
 awaits_of t packet serial sent e = awaits_by t packet serial (begun_by packet) refl (sym (ap (λ so. waits_for t (begun_in so) serial) sent) ∙ e)
 
 -- ---- the session that is stuck

@@ -13,6 +13,7 @@ use Rattle.sbp_world.specs.Lists.OwnWaits.{ReadsAsGotLaw}
 use Rattle.sbp_world.specs.Lists.ReadFeeds.{ReadAndFedLaw}
 use Rattle.sbp_world.proofs.Lists.AnswerLengths.{answer_lengths_law}
 use Rattle.sbp_world.proofs.Lists.CarriedEnds.{were_read_law}
+use Rattle.sbp_world.proofs.Lists.DataLaws as data_laws
 use Rattle.sbp_world.proofs.Lists.DataLaws.{data_sent_law, data_held_law}
 use Rattle.sbp_world.proofs.Lists.FedOwnerRuns.{own_gots_law, own_reads_law}
 use Rattle.sbp_world.proofs.Lists.Lawful as proved
@@ -22,6 +23,9 @@ use Rattle.sbp_world.proofs.Lists.OwnWaits.{reads_as_got_law}
 use Rattle.sbp_world.proofs.Lists.ReadFeeds.{read_and_fed_law}
 use Rattle.sbp_world.proofs.Lists.ShortLines.{short_law}
 use Rattle.sbp_world.specs.Lists.DataHolds.{DataHeldLaw}
+use Rattle.sbp_world.specs.Lists.DataGots.{DataGotsLaw, ServedGotLaw}
+use Rattle.sbp_world.specs.Lists.DataSequences.{DataSequenceLaw}
+use Rattle.sbp_world.specs.Lists.DataServes.{DataServedLaw}
 
 pub sessions_law : LiveLaw
 sessions_law = proved.sessions_law short_law
@@ -52,6 +56,18 @@ reads_law = were_read_law open_lists_law one_up
 
 pub held_law : DataHeldLaw
 held_law = data_held_law short_law
+
+pub served_law : DataServedLaw
+served_law = data_laws.served_law short_law
+
+pub sequence_law : DataSequenceLaw
+sequence_law = data_laws.sequence_law short_law
+
+pub data_gots : DataGotsLaw
+data_gots = data_laws.gots_law short_law
+
+pub served_got : ServedGotLaw
+served_got = data_laws.got_law short_law
 
 pub gots_law : OwnGotsLaw
 gots_law = own_gots_law open_lists_law

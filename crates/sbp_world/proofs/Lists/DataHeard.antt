@@ -138,6 +138,7 @@ module _ (wild : ℕ → Bool) (i : ℕ) (own : wild i ≡ false) (past : List M
   record StepSo (note : Note) (Told : ℕ → ℕ → StatusKind → Type 0) (q : ℕ) (one : AgentStep × Machine) : Type 0 where
     silent : one.0.ended ≡ None → (place at : ℕ) (status : StatusKind) → Told place at status → ⊥
     up : Up wild i own past w q
+    same : (topology_at w.generations 0).generation ≡ (terms (hist past w)).generation 0
     piece : Ours wild past w r q → one.0.ended ≡ None → (at size : ℕ) → one.0.ask ≡ asks.Write at size → (slot : ℕ) → window_at (written_at at) ≡ Some (windows.Buffer slot) → IsStepPiece note q one (written_at at) size slot
 
   abbrev gen : ℕ
@@ -227,6 +228,7 @@ module _ (wild : ℕ → Bool) (i : ℕ) (own : wild i ≡ false) (past : List M
             (λ status z. none_ended wild i own ms r.kept.passes p.list status
             (subst (λ x. ended_status ms x p.list (ends ms x p.list) ≡ Some status) mine (first_ended j p.list (ends ms j p.list) status (subst (λ h. ended_status h j p.list (ends ms j p.list) ≡ Some status) (ap (λ ns. map said ns ++ past) b.fresh) z))));
         seen = subst (λ x. gen ≤ (terms ms).generation (suc x)) (sym mine) (s.up.caught mine);
+        own = s.same;
         held = λ e.
             subst (λ x. HasSlot ms x slot (orb p.list (ends ms x p.list))) (sym mine)
             (let e_i : gen ≡ (terms ms).generation (suc i) = e ∙ ap (λ x. (terms ms).generation (suc x)) mine in
@@ -279,7 +281,7 @@ module _ (wild : ℕ → Bool) (i : ℕ) (own : wild i ≡ false) (past : List M
   late_called layer s note f u b others managed (manages answer its e) = managed answer its e
 
   -- ---- a packet is delivered
-  module _ (up : (q : ℕ) → q < 8 → has_list (machine_at w q).phase ≡ true → Up wild i own past w q) (sent : Sent) (is_for : IsFor w sent) (run : Option Told) (media : Held) (serial : ℕ) (prepared : ArePrepared ms w) (heard_so : AreHeard wild ms w) (same_serial : is_for.serial ≡ serial) (full : (q : ℕ) → q < 8 → IsFull (machine_at w q)) where
+  module _ (up : (q : ℕ) → q < 8 → has_list (machine_at w q).phase ≡ true → Up wild i own past w q) (sent : Sent) (is_for : IsFor w sent) (run : Option Told) (media : Held) (serial : ℕ) (prepared : ArePrepared ms w) (heard_so : AreHeard wild ms w) (same_serial : is_for.serial ≡ serial) (full : (q : ℕ) → q < 8 → IsFull (machine_at w q)) (same_gen : gen ≡ (terms ms).generation 0) where
     got_heard : (p : Packet) (label : LabelParts) (place : ℕ) → (judging_step w.target.layer sent.generation sent.bytes).0 ≡ of_response p label (Some (purposes.Agent place)) → (received run sent.generation sent.bytes (whole_of w.target media)).0 ≡ judgements.Got
     unfolding received
     got_heard p label place f =
@@ -317,6 +319,7 @@ module _ (wild : ℕ → Bool) (i : ℕ) (own : wild i ≡ false) (past : List M
     reply_so p label place f b login is which e = record {
       silent = λ none at orb_at status x. silent_by p label place f login is which e none at orb_at status x;
       up = up place b (waits_has wild past w r place b (header_in p).source label which e);
+      same = same_gen;
       piece = λ ours none at size ask slot goes.
           let low = answer_low wild past w r asked sent is_for run media.disks p label place f b login which e ours none at size ask in
           let same : written_at at ≡ at = same_address at (omega (arith, low)) in

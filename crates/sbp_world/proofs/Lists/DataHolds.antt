@@ -7,7 +7,7 @@ use Rattle.sbp_journal.specs.declared.note.Note.TheVariants as notes
 use Rattle.sbp_journal.specs.Run.{Moment, said}
 use Rattle.sbp_journal.specs.Transactions.{Sending}
 use Rattle.sbp_journal.specs.Wire.{terms}
-use Rattle.sbp_laws.specs.Lists.{Orb, orb, taken_at}
+use Rattle.sbp_laws.specs.Lists.{Orb, is_over, orb, taken_at}
 use Rattle.sbp_laws.specs.Terms.{ends, runs}
 use Rattle.sbp_laws.specs.Turns.{EachMoment}
 use Rattle.sbp_world.specs.Histories.{moments_behind}
@@ -70,13 +70,17 @@ module _ (i slot : ℕ) (one : Orb) (mid before : List Moment) (rises : Rises (m
       let later = subst (λ ms. HasTaken ms i one.list one.number) whole (taken_stays front (back ++ before) i one.list one.number taken) in
       let z : None ≡ Some later.taken = sym none ∙ later.is in cc
 
-  pub slot_stays : taken_at (mid ++ before) i one.list one.number ≡ None → HasSlot before i slot one → HasSlot (mid ++ before) i slot one
-  slot_stays none h = by (slots_stay_law.stays mid before i slot one h)
+  -- and longer, if it is not over by then
+  pub slot_stays_unless : ((front back : List Moment) → front ++ back ≡ mid → is_over (back ++ before) i one ≡ true → ⊥) → HasSlot before i slot one → HasSlot (mid ++ before) i slot one
+  slot_stays_unless none h = by (slots_stay_law.stays mid before i slot one h)
     where
       by : HasSlot (mid ++ before) i slot one ⊎ IsGone mid before i one → HasSlot (mid ++ before) i slot one
       by (inl g) = g
-      by (inr (was_over front back is o)) = absurd (none_over none front back is (over_taken (back ++ before) i one o))
+      by (inr (was_over front back is o)) = absurd (none front back is o)
       by (inr (saw front back generation is d)) = absurd (none_saw front back generation is d)
+
+  pub slot_stays : taken_at (mid ++ before) i one.list one.number ≡ None → HasSlot before i slot one → HasSlot (mid ++ before) i slot one
+  slot_stays none h = slot_stays_unless (λ front back is o. none_over none front back is (over_taken (back ++ before) i one o)) h
 
 -- ---- in a history in which data are sent as they are to be
 module _ (ms : List Moment) (i : ℕ) (rises : Rises ms) (serials : SerialsCount ms) (each : EachMoment (DataSo i) ms) where

@@ -3,7 +3,12 @@ use Rattle.std.proofs.Common.{ℕ, ◌<◌, List, length}
 use Rattle.sbp_journal.specs.Run.{Moment}
 use Rattle.sbp_laws.specs.Turns.{EachMoment}
 use Rattle.sbp_world.specs.Worlds.{WorldState}
-use Rattle.sbp_world.specs.Lists.Closes.{AreUntaken, Under, WhereTame}
+use Rattle.sbp_world.specs.Lists.Closes.{AreUntaken, Under, WhereTame, WhereTameOrFew}
+use Rattle.sbp_world.specs.Lists.DataGots.{DataGotsLaw, ServedGotLaw}
+use Rattle.sbp_world.specs.Lists.DataSequences.{DataSequenceLaw}
+use Rattle.sbp_world.specs.Lists.DataServes.{DataServedLaw}
+use Rattle.sbp_world.specs.Lists.Statuses.{AllStatuses}
+use Rattle.sbp_world.proofs.Lists.DataServing.{data_gots_law, data_sequence_law, data_served_law, served_got_law}
 use Rattle.sbp_world.specs.Lists.OwnLogins.{IsTame}
 use Rattle.sbp_world.specs.Lists.Placings.{BasedAt}
 use Rattle.sbp_world.specs.Lists.Shorts.{AreShort}
@@ -49,5 +54,22 @@ module _ (short : ShortLaw) where
   pub data_held_law : Under (WhereTame AllDataHeld)
   data_held_law = held_law data_sent_law
 
+  statuses_by : Under (WhereTameOrFew AllStatuses)
+  statuses_by = places.statuses opened_known.laws.pointers opened_known.laws.begun (here_beside short) (placed_beside short)
+
 pub answers_end_law : Under (WhereTame AllEndSo)
 answers_end_law = ends_law (ground_law opened_known.laws.pointers opened_known.laws.begun)
+
+-- what each history of such a run is
+module _ (short : ShortLaw) where
+  pub served_law : DataServedLaw
+  served_law = data_served_law (data_sent_law short) answers_end_law (statuses_by short)
+
+  pub sequence_law : DataSequenceLaw
+  sequence_law = data_sequence_law (data_sent_law short) answers_end_law (statuses_by short)
+
+  pub gots_law : DataGotsLaw
+  gots_law = data_gots_law (data_sent_law short) answers_end_law (statuses_by short)
+
+  pub got_law : ServedGotLaw
+  got_law = served_got_law (data_sent_law short) answers_end_law (statuses_by short)

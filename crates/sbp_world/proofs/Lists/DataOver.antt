@@ -28,11 +28,11 @@ use Rattle.sbp_world.specs.Agents.Management.Terms.{DeliversMore}
 use Rattle.sbp_world.specs.Hosts.Runs.{more_deliveries}
 use Rattle.sbp_world.specs.Lists.Closes.{Always, Under, WhereTame}
 use Rattle.sbp_world.specs.Lists.DataEnds.{AllEndSo, EndSo, WasWritten, is_behind, is_fresh, IsWritten}
-use Rattle.sbp_world.specs.Lists.DataWrites.{IsAnswered}
+use Rattle.sbp_world.specs.Lists.DataWrites.{AreDry, IsAnswered, IsDry}
 use Rattle.sbp_world.specs.Lists.Needs.{IsFor, machine_at}
 use Rattle.sbp_world.proofs.Lists.DataHears.{AreHeard, heard_asked, heard_there}
 use Rattle.sbp_world.proofs.Lists.DataSteps.{IsEndNow, end_named, ends_behind, ends_fresh, reply_ends}
-use Rattle.sbp_world.proofs.Lists.Endless.{AllLight, AllPlain, Delivers, IsEndBy, IsPlain, OneEnd, Plainly, delivery_comes, light_plain, no_end, one_comes, one_end}
+use Rattle.sbp_world.proofs.Lists.Endless.{AllLight, AllPlain, Delivers, IsEndBy, IsLightNote, IsPlain, OneEnd, Plainly, delivery_comes, light_death, light_plain, light_run, no_end, one_comes, one_end}
 use Rattle.sbp_world.proofs.Lists.Endless as endless
 use Rattle.sbp_world.proofs.Lists.Executes.{asked_of}
 use Rattle.sbp_world.proofs.Lists.RunOutcomes.{AreAsked}
@@ -148,8 +148,16 @@ module _ (wild : ℕ → Bool) (i : ℕ) (own : wild i ≡ false) (past : List M
     as_written j k number (ends_fresh none) = is_fresh (subst (λ y. runs ms j n y ≡ 0) (sym number) none)
     as_written j k number (ends_behind m whole a) = is_behind serial (map said early) refl m whole (subst (λ y. IsAnswered ms j n y m serial) (sym number) a)
 
+    light_dry : (j : ℕ) (early : List Note) → AllLight early → AreDry j (map said early ++ said (notes.Got serial) ∷ [])
+    light_dry j [] l = (tt, tt)
+    light_dry j (note ∷ early) l = (by note l.0, light_dry j early l.1)
+      where
+        by : (note : Note) → IsLightNote note → IsDry j (said note)
+        by _ (light_run a n k unit cdb bytes check) = tt
+        by _ (light_death a n cause) = tt
+
     was_written : (j k : ℕ) → k ≡ ends ms j n → IsEndNow ms j n (ends ms j n) serial → WasWritten now j n k
-    was_written j k number x = record { later = map said early ++ said (notes.Got serial) ∷ []; before = ms; is = joined early (said (notes.Got serial)) ms; number_is = number; written = as_written j k number x }
+    was_written j k number x = record { later = map said early ++ said (notes.Got serial) ∷ []; before = ms; is = joined early (said (notes.Got serial)) ms; number_is = number; alone = light_dry j early r.light; written = as_written j k number x }
 
     written_at : (j k : ℕ) → j ≡ i → k ≡ ends ms j n → IsEndNow ms j n (ends ms j n) serial → WasWritten now i n k
     written_at j k e number x = subst (λ y. WasWritten now y n k) e (was_written j k number x)

@@ -1,12 +1,13 @@
 -- At each place of a run in which no initiator injected packets, and before which lists were open as they should be, the target sent the data of answers as they are to be
 -- sent; where this is known of the management.
-use Rattle.std.proofs.Common.{◌≡◌, subst, ◌<◌, ℕ, Bool, false, List, [], length, Option, Some, None, arith}
+use Rattle.std.proofs.Common.{◌≡◌, sym, subst, ◌<◌, ℕ, Bool, false, List, [], length, Option, Some, None, arith}
 use Rattle.rbc_disk.specs.Disk.{Disk}
 use Rattle.sbp_journal.specs.Run.{Moment}
 use Rattle.sbp_laws.specs.Turns.{EachMoment}
 use Rattle.sbp_world.specs.Histories.{moments_behind}
 use Rattle.sbp_world.specs.Runs.{Run, beginning}
 use Rattle.sbp_world.specs.Worlds.{Scene, WorldState, without_notes, initiator_at}
+use Rattle.sbp_world.proofs.Agents.Management.Holding.{target_generation}
 use Rattle.sbp_world.proofs.Agents.Management.Still.{hist}
 use Rattle.sbp_world.specs.Agents.Management.Terms.{DeliversMore}
 use Rattle.sbp_world.specs.Hosts.Runs.{more_deliveries}
@@ -72,6 +73,7 @@ module _ (Placed : ℕ → WorldState → Type 0) (placed_on : (i : ℕ) (w : Wo
           asked_orbs = asked_of wild start units ready has w h site step.stands.lists step.stands.reached.calm k.orbs;
           placed = o.1.1.1.1 i inside calm;
           full = λ q b. full_of ms w o.1.1.1.0 q b;
+          same_gen = sym (target_generation w h.sound.stands);
           prepared = λ place n j there named.
               let x = named_prepared units ready has start w h site place n j there named in
               record { there = x.there; small = x.small; filled = λ cmd e. site.filled (initiator_in w place) there (slot_at ms (initiator_in w place) n j) n j cmd x.small x.there e };

@@ -50,6 +50,7 @@ pub record IsPieceNow (ms start : List Moment) (i : ℕ) (note : Note) (generati
   pub ran : 0 < runs start i list (ends ms i list)
   pub still : (status : StatusKind) → ended_status start i list (ends ms i list) ≡ Some status → status ≡ kinds.Failed
   pub seen : generation ≤ (terms ms).generation (suc i)
+  pub own : generation ≡ (terms ms).generation 0
   pub held : generation ≡ (terms ms).generation (suc i) → HasSlot ms i slot (orb list (ends ms i list))
 
 -- what ran has run
@@ -197,6 +198,7 @@ module _ (i : ℕ) (past ms : List Moment) (note : Note) where
               ran = subst (λ now. 0 < runs now i p.list (ends ms i p.list)) h.on.is (ran_on h.on.new start i p.list (ends ms i p.list) p.ran);
               still = λ status z. p.still status (sym (h.same p.list (ends ms i p.list)) ∙ z);
               seen = subst (λ (y : GenerationsState). (topology_at y 0).generation ≤ (terms ms).generation (suc i)) (sym e) p.seen;
+              own = ap (λ (y : GenerationsState). (topology_at y 0).generation) e ∙ p.own;
               held = λ same. p.held (ap (λ (y : GenerationsState). (topology_at y 0).generation) (sym e) ∙ same);
             }),
         h.sends.so,

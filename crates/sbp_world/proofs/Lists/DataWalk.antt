@@ -8,6 +8,7 @@ use Rattle.packet_store.specs.declared.sent.Sent.{Sent}
 use Rattle.packet_store.specs.Kept.{found_sent}
 use Rattle.rbc_disk.specs.Runs.{Told}
 use Rattle.sbp_bus.specs.declared.requests.Request.{Request}
+use Rattle.sbp_bus.specs.Generations.{topology_at}
 use Rattle.sbp_bus.specs.Packets.{end_note, judged_note, no_packet}
 use Rattle.sbp_bus.specs.Requests.{find}
 use Rattle.sbp_journal.specs.declared.event.Event.{Event}
@@ -16,6 +17,7 @@ use Rattle.sbp_journal.specs.declared.note.Note.{Note}
 use Rattle.sbp_journal.specs.declared.note.Note.TheVariants as notes
 use Rattle.sbp_journal.specs.Outgoings.{empty_outbox}
 use Rattle.sbp_journal.specs.Run.{Moment, asked}
+use Rattle.sbp_journal.specs.Wire.{terms}
 use Rattle.sbp_laws.specs.Turns.{EachMoment}
 use Rattle.async_packet.specs.Labels.{LabelParts}
 use Rattle.sbp_target.specs.declared.purpose.Purpose.{Purpose}
@@ -72,6 +74,7 @@ module _ (wild : ℕ → Bool) (i : ℕ) (own : wild i ≡ false) where
       pub prepared : ArePrepared (hist past w) w
       pub slots : HaveSlots (hist past w) i
       pub full : (q : ℕ) → q < 8 → IsFull (machine_at w q)
+      pub same_gen : (topology_at w.generations 0).generation ≡ (terms (hist past w)).generation 0
       pub up : (q : ℕ) → q < 8 → has_list (machine_at w q).phase ≡ true → Up wild i own past w q
 
     up_asked : (line : ℕ) (event : Event) (past : List Moment) (w : WorldState) (q : ℕ) → Up wild i own past w q → Up wild i own (asked line event ∷ hist past w) (without_notes w) q
@@ -92,6 +95,7 @@ module _ (wild : ℕ → Bool) (i : ℕ) (own : wild i ≡ false) where
         placed = placed_on w f.placed;
         prepared = λ place n k inside named. let x = f.prepared place n k inside (record { list = named.list; number = named.number }) in record { there = x.there; small = x.small; filled = x.filled };
         full = λ q b. f.full q b;
+        same_gen = f.same_gen ∙ sym (moment_generation 0 (asked line event) (hist past w) refl);
         slots = λ n k e from below. let x = f.slots n k e from below in record { there = x.there; held = x.held };
         up = λ q b l. up_asked line event past w q (f.up q b l);
       }
@@ -117,7 +121,7 @@ module _ (wild : ℕ → Bool) (i : ℕ) (own : wild i ≡ false) where
                 let is_for : IsFor w sent = record { serial = serial; found = found; to = z } in
                 let others : AreOthers x.1.outbox.sides = hand_law.received run sent w.target s.media (subst (λ b. MayTold b run sent s) (to_zero sent.to z) (subst (λ so. MayAt run so s) found m)) in
                 let b = behind_marks w x.1.node serial again (judged_note serial x.0) in
-                data_heard wild i own past w f.ready f.asked_orbs given.owned f.each f.slots f.up sent is_for run s.media serial f.prepared heard_so refl f.full u b others
+                data_heard wild i own past w f.ready f.asked_orbs given.owned f.each f.slots f.up sent is_for run s.media serial f.prepared heard_so refl f.full f.same_gen u b others
                 (λ p label found e. given.managed sent is_for p label found (scene x.1.node x.1.outbox) (judged_note serial x.0) (judged_first serial x.0) u b others e)
 
             pub hears : MayReceive run serial s → S i past end

@@ -43,15 +43,15 @@ use Rattle.sbp_world.proofs.Lists.ReadSlots.{is_in}
 use Rattle.sbp_world.proofs.Lists.Sites.{IsPrepared, Site, Waiting, waiting as agent_waiting}
 
 -- what a label waits for
-record IsHeld (held : Held) (own : ℕ) : Type 0 where
-  kind : Kind
-  is : held ≡ waits kind own
+pub record IsHeld (held : Held) (own : ℕ) : Type 0 where
+  pub kind : Kind
+  pub is : held ≡ waits kind own
 
 held_if : (b : Bool) (kind : Kind) (s own : ℕ) → cond b (Some s) None ≡ Some own → IsHeld (waits kind s) own
 held_if true kind s own e = record { kind = kind; is = ap (waits kind) (same_some s own e) }
 held_if false kind s own e = absurd (let x : None ≡ Some own = e in cc)
 
-held_by : (held : Held) (kind : Kind) (own : ℕ) → closed_by held kind ≡ Some own → IsHeld held own
+pub held_by : (held : Held) (kind : Kind) (own : ℕ) → closed_by held kind ≡ Some own → IsHeld held own
 held_by (waits k s) kind own e = held_if _ k s own e
 held_by free kind own e = absurd (let x : None ≡ Some own = e in cc)
 held_by rests kind own e = absurd (let x : None ≡ Some own = e in cc)

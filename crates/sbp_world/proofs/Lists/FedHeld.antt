@@ -47,7 +47,7 @@ module _ (v : Transaction) (k : Kind) (s : ℕ) where
   gives_held None rcode t = refl
   gives_held (Some u) rcode t = refl
 
-  pays_held : (owed : Option Owed) (sent : ℕ → Option Sending) (serial : ℕ) (q : Sending) (t : Terms) → (pays owed sent serial q t).held ≡ t.held
+  pub pays_held : (owed : Option Owed) (sent : ℕ → Option Sending) (serial : ℕ) (q : Sending) (t : Terms) → (pays owed sent serial q t).held ≡ t.held
   pays_held None sent serial q t = refl
   pays_held (Some owed) sent serial q t = gives_held (asked_in (sent owed.serial)) (rcode_of q.bytes) t
 

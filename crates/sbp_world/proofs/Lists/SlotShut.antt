@@ -1,11 +1,9 @@
--- In every run an initiator ignores for its slot no packet to an address in a response buffer: what it ignores so is written to an open FIFO.
+-- In every run what an initiator ignores for its slot is written to an open FIFO, which stands behind all its response buffers and data buffers.
 use Rattle.std.proofs.Common.{arith, ◌≡◌, refl, sym, ◌∙◌, ap, ℕ, suc, ◌<◌, ◌≤◌, ◌==◌, ◌&&◌, ◌||◌, not, Bool, true, false, cond, List, [], ◌∷◌, ◌++◌, Option, Some, None, Result, Ok, Err}
 use Rattle.std.proofs.lemmas.Bool.Decides.{nat_tests}
 use Rattle.async_packet.specs.Packet.{Packet, header_in}
 use Rattle.async_packet.specs.Reading.{reading}
 use Rattle.async_packet.specs.declared.fault.PacketFault.{PacketFault}
-use Rattle.bus_memory.specs.declared.window.Window.TheVariants as windows
-use Rattle.bus_memory.specs.Windows.{window_at}
 use Rattle.initiator_base.specs.declared.fifos.Fifo.TheVariants as fifos
 use Rattle.initiator_base.specs.Fifos.{fifo_at, is_login_fifo, is_open_login}
 use Rattle.initiator_base.specs.Places.{place_fifo}
@@ -54,10 +52,9 @@ use Rattle.sbp_world.proofs.Hosts.Carries.{Carries, Does, Tells, by_more}
 use Rattle.sbp_world.proofs.Hosts.MemoryRcodes.{and_true}
 use Rattle.sbp_world.proofs.Hosts.OrbRuns.{Orbs, Rowed, first_orbs, orbs_carried, rows_known}
 use Rattle.sbp_world.proofs.Hosts.Shown.{IsElsewhere, IsHeard}
-use Rattle.sbp_world.proofs.Lists.OrbFifos.{high_window}
 use Rattle.sbp_world.proofs.Hosts.SlotIgnored.{last_row, not_there, some_bytes}
 
--- ---- an open FIFO stands behind the response buffers
+-- ---- an open FIFO stands behind the buffers
 open_by : (a b c : Bool) (offset : ℕ) → (a ≡ true → 0x12002000 ≤ offset) → (b ≡ true → 0x12002000 ≤ offset) → is_open (cond a (Some fifos.Place) (cond b (Some fifos.Login) (cond c (Some fifos.Closed) None))) ≡ true → 0x12002000 ≤ offset
 open_by true b c offset f g e = f refl
 open_by false true c offset f g e = g refl
@@ -71,7 +68,7 @@ open_high logins is_out offset e =
     (λ a. grind (arith, nat_tests)) (λ b. grind (arith, nat_tests)) e
 
 abbrev IsApart : Access → Type 0
-IsApart access = (place : ℕ) → window_at access.offset ≡ Some (windows.Response place) → ⊥
+IsApart access = 0x12002000 ≤ access.offset
 
 status_opens : (lock write block wide : Bool) → (not lock && write) && block && wide ≡ true → wide ≡ true
 status_opens false true true true e = refl
@@ -81,11 +78,11 @@ status_opens false true false wide e = absurd (let no : false ≡ true = e in cc
 status_opens false true true false e = absurd (let no : false ≡ true = e in cc)
 
 access_apart : (access : Access) (source : ℕ) (s : InitiatorState) → note_of (judging_by (Some access) source s) ≡ judgements.Ignored causes.Slot → IsApart access
-access_apart access source s e place w =
+access_apart access source s e =
     let f = facts_at (fifo_for access s) access source s in
     let last : (f.is_status && not f.is_awaited) ≡ true = last_row (f.to_initiator && not f.reads_rom && not f.of_target) (f.of_other_login || f.to_closed_fifo) (f.is_status && f.is_unsolicited) (f.is_status && not f.is_read) (f.is_status && not f.is_awaited) e in
     let opens = status_opens access.is_lock access.is_write access.is_block (is_open (fifo_for access s)) (and_true f.is_status (not f.is_awaited) last) in
-    high_window access.offset (open_high s.counts.logins (is_out_seat s.seat) access.offset opens) place w
+    open_high s.counts.logins (is_out_seat s.seat) access.offset opens
 
 abbrev IfRequest : Result Packet PacketFault → Type 0
 IfRequest read = (p : Packet) → read ≡ Ok p → (access : Access) → access_of p ≡ Some access → IsApart access
@@ -108,7 +105,7 @@ slot_apart generation bytes s e =
 
 -- ---- a history
 
--- the packet of a serial goes to no response buffer of the initiator
+-- the packet of a serial goes behind the buffers of the initiator
 abbrev pub IsApartTo : List Moment → (i serial : ℕ) → Type 0
 IsApartTo past i serial = (packet : Sending) → (terms past).sent serial ≡ Some packet → packet.to ≡ suc i → IfRequest (reading packet.bytes)
 

@@ -58,7 +58,7 @@ ends_grow (said (notes.Ended j None l status) ∷ later) before i n = ends_grow 
 ends_grow (_ ∷ later) before i n = ends_grow later before i n
 
 -- the ORB that ends now is below the ends behind it
-ended_below : (past : List Moment) (j m l : ℕ) (status : StatusKind) → l ≡ ends past j m → l < ends (said (notes.Ended j (Some m) (Some l) status) ∷ past) j m
+pub ended_below : (past : List Moment) (j m l : ℕ) (status : StatusKind) → l ≡ ends past j m → l < ends (said (notes.Ended j (Some m) (Some l) status) ∷ past) j m
 ended_below past j m l status e =
     let at : ends (said (notes.Ended j (Some m) (Some l) status) ∷ past) j m ≡ suc (ends past j m) =
     ap (λ b. cond b (cond (nat_eq m m) (suc (ends past j m)) (ends past j m)) (ends past j m)) (itself j) ∙ ap (λ b. cond b (suc (ends past j m)) (ends past j m)) (itself m) in

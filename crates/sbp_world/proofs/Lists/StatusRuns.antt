@@ -66,6 +66,11 @@ module _ (past : List Moment) (w : WorldState) (h : Stands past w) where
   pub once_of : (ms : List Moment) → map said w.fresh ++ past ≡ ms → Once ms
   once_of ms e = subst Once (h.is.past_is ∙ e) once_here
 
+  pub honest_of : (ms : List Moment) → map said w.fresh ++ past ≡ ms → (serial : ℕ) (packet : Sending) → (terms ms).sent serial ≡ Some packet → packet.from ≡ 0 → packet.injected ≡ false
+  honest_of ms e =
+      subst (λ p. (serial : ℕ) (packet : Sending) → (terms p).sent serial ≡ Some packet → packet.from ≡ 0 → packet.injected ≡ false) (h.is.past_is ∙ e)
+      (λ serial packet there of. honest serial packet there (ap (λ j. (terms h.wire.past).injects j) of ∙ h.is.fair))
+
   pub rises_of : (ms : List Moment) → map said w.fresh ++ past ≡ ms → Rises ms
   rises_of ms e = subst Rises (h.is.past_is ∙ e) (rises h.wire h.reached)
 
@@ -90,7 +95,7 @@ statuses_at ms i calm passes wire once rise takings sources sent = statuses_in m
 untaken_at : (ms : List Moment) (i : ℕ) → IsCalm ms i → PassLaw (injectors ms) ms → IsOfWire ms → Once ms → Rises ms → EachMoment (TakenOf i) ms → AllOfTarget ms i → EachMoment (SentSo i) ms → (n k : ℕ) → ends ms i n ≤ k → taken_at ms i n k ≡ None
 untaken_at ms i calm passes wire once rise takings sources sent n k l = untaken_in ms (injectors ms) i calm passes wire once rise takings sources sent n k l
 
-delivering : (event : Event) (told : List (Option Told)) → DeliversMore event → IsDelivering event told
+pub delivering : (event : Event) (told : List (Option Told)) → DeliversMore event → IsDelivering event told
 delivering (events.Step count) told d = tt
 delivering events.Settle told d = tt
 delivering _ told d = absurd d

@@ -25,6 +25,7 @@ use Rattle.sbp_world.proofs.Lists.ManageTerms.{none_is, untrue}
 use Rattle.sbp_world.proofs.Lists.OpenedAside as aside
 use Rattle.sbp_world.proofs.Lists.Quiet.{IsQuiet}
 use Rattle.sbp_world.proofs.Lists.ServedTerms.{ignored_served, quiet_served}
+use Rattle.sbp_world.proofs.Lists.OrbFifos.{high_window}
 use Rattle.sbp_world.proofs.Lists.SlotShut.{IsApartTo}
 
 -- ---- a buffer
@@ -132,7 +133,7 @@ module _ (place : ℕ) (small : place < 2) (out : List ℕ) (few : length out �
     -- ---- by another note it stays
     apart_slot : IsApartTo B i r → ⊥
     apart_slot x =
-        x read.packet read.is (ap_to (read.packet) read.is to) read.p read.read wrote read.asks place (window_there place small)
+        high_window wrote.offset (x read.packet read.is (ap_to (read.packet) read.is to) read.p read.read wrote read.asks) place (window_there place small)
       where
         ap_to : (packet : Sending) → (terms B).sent r ≡ Some packet → receiver_in ((terms B).sent r) ≡ Some (suc i) → packet.to ≡ suc i
         ap_to packet e f = let both : Some packet.to ≡ Some (suc i) = sym (ap receiver_in e) ∙ f in cc

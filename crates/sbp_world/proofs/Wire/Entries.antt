@@ -302,7 +302,7 @@ covers : (past : List Moment) → (terms past).injects 0 ≡ false → (n : ℕ)
 covers past fair zero e = cc
 covers past fair (suc i) e = e
 
-once_behind : {past : List Moment} (w : WorldState) (h : Stands past w) (now : List Moment) → map said w.fresh ++ past ≡ now → OnceLaw (injectors now) now
+pub once_behind : {past : List Moment} (w : WorldState) (h : Stands past w) (now : List Moment) → map said w.fresh ++ past ≡ now → OnceLaw (injectors now) now
 once_behind w h now e =
     let is = h.is.past_is ∙ e in
     subst (λ p. OnceLaw (injectors p) p) is (once_here (injectors h.wire.past) h.wire h.reached (covers h.wire.past h.is.fair))

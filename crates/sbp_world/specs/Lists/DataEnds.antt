@@ -9,7 +9,7 @@ use Rattle.sbp_laws.specs.Terms.{ends, runs}
 use Rattle.sbp_laws.specs.Turns.{EachMoment}
 use Rattle.sbp_world.specs.Worlds.{WorldState}
 use Rattle.sbp_world.specs.Lists.Closes.{Under, WhereTame}
-use Rattle.sbp_world.specs.Lists.DataWrites.{IsAnswered}
+use Rattle.sbp_world.specs.Lists.DataWrites.{AreDry, IsAnswered}
 use Rattle.sbp_world.specs.Lists.Needs.{IsCalm}
 
 -- the turn began behind `before`
@@ -22,6 +22,8 @@ pub record WasWritten (past : List Moment) (i n k : ℕ) : Type 0 where
   pub before : List Moment
   pub is : later ++ before ≡ past
   pub number_is : k ≡ ends before i n
+  -- no write of data was sent before it in its turn
+  pub alone : AreDry i later
   pub written : IsWritten past before i n k
 
 -- each end

@@ -101,11 +101,12 @@ pub record WasPiece (past : List Moment) (i generation slot : ℕ) (access : Acc
   pub turn : IsInTurn past before i list (ends before i list) machine
   -- none was sent before it in its turn
   pub alone : AreDry i later
-  -- it goes to the slot of this ORB, which ran, has not ended but as failed, and which the slot has where the write is in the initiator's generation
+  -- it goes to the slot of this ORB, which ran, has not ended but as failed, and which the slot has where the write is in the initiator's generation; it is in the target's
   pub slot_is : slot_at before i list (ends before i list) ≡ slot
   pub ran : 0 < runs past i list (ends before i list)
   pub still : (status : StatusKind) → ended_status past i list (ends before i list) ≡ Some status → status ≡ kinds.Failed
   pub seen : generation ≤ (terms before).generation (suc i)
+  pub own : generation ≡ (terms before).generation 0
   pub held : generation ≡ (terms before).generation (suc i) → HasSlot before i slot (orb list (ends before i list))
 
 abbrev pub DataSo : ℕ → Moment → List Moment → Type 0
