@@ -67,7 +67,7 @@ use Rattle.sbp_world.specs.Lists.DataWhole.{AnswersWholeLaw}
 use Rattle.sbp_world.proofs.Lists.AnswerLengths.{AreFilled, FillsEvent, commands_fill, filled_behind, filled_said}
 use Rattle.sbp_world.proofs.Lists.DataSteps.{ArePrepared, reply_whole}
 use Rattle.sbp_world.proofs.Lists.Executes.{asked_of}
-use Rattle.sbp_world.proofs.Lists.Full.{IsFull}
+use Rattle.sbp_world.proofs.Lists.Full.{IsFull, full_closed}
 use Rattle.sbp_world.proofs.Lists.RunOutcomes.{AreAsked}
 use Rattle.sbp_world.proofs.Lists.RunTells.{delivery_may}
 use Rattle.sbp_world.proofs.Lists.Sites.{named_prepared}
@@ -107,7 +107,7 @@ facts_asked wild line event past w f = record {
 module _ (wild : ℕ → Bool) (past : List Moment) where
   -- ---- a call of the target
   module _ (w : WorldState) (f : Facts wild past w) (o : F w) where
-    call_full : (layer : Layer Purpose) (s : TargetScene) → Called w f.ready.good (Unit {0}) layer s → (q : ℕ) → q < 8 → IsFull (desk_at s.node q).agent
+    call_full : (layer : Layer Purpose) (s : TargetScene) → Called w f.ready.good (Unit {0}) (λ p m. IsFull m) full_closed layer s → (q : ℕ) → q < 8 → IsFull (desk_at s.node q).agent
     call_full layer s (rests c) q b = c.full q (o q b)
     call_full layer s (acting p c has a) q b = by (nat_eq q p) refl
       where
@@ -120,7 +120,7 @@ module _ (wild : ℕ → Bool) (past : List Moment) where
         by true e = let same : p ≡ q = grind (arith, nat_tests) in subst (λ j. IsFull (desk_at s.node j).agent) same (a.full tt (o p c))
         by false e = subst (λ m. IsFull m) (sym (a.same q (λ same. no (sym e ∙ (let z : nat_eq q p ≡ true = grind (arith, nat_tests) in z))))) (o q b)
 
-    called : (u : WorldState) (layer : Layer Purpose) (s : TargetScene) → u.target ≡ s.node → Called w f.ready.good (Unit {0}) layer s → F (handed_out 0 0 s.outbox u)
+    called : (u : WorldState) (layer : Layer Purpose) (s : TargetScene) → u.target ≡ s.node → Called w f.ready.good (Unit {0}) (λ p m. IsFull m) full_closed layer s → F (handed_out 0 0 s.outbox u)
     called u layer s is c q b = subst (λ (t : NodeState). IsFull (desk_at t q).agent) (sym ((handed_alike 0 0 s.outbox u).target ∙ is)) (call_full layer s c q b)
 
     -- ---- a packet that the target gets
@@ -128,7 +128,7 @@ module _ (wild : ℕ → Bool) (past : List Moment) where
     delivery_full serial sent found zero_to run media may again =
         let x = received run sent.generation sent.bytes (whole_of w.target media) in
         called (with_note (judged_note serial x.0) (marked serial again (with_target x.1.node w))) (judging_step w.target.layer sent.generation sent.bytes).1 (scene x.1.node x.1.outbox) (by (again || not (is_flying serial w.store.kept)))
-        (delivery_called w f.ready.good (Unit {0}) f.seats sent run media
+        (delivery_called w f.ready.good (Unit {0}) (λ p m. IsFull m) full_closed f.seats sent run media
         (λ p label place judged b login served which e given full e_then.
         reply_whole wild past w f.ready f.asked_orbs sent (record { serial = serial; found = found; to = zero_to }) run media.disks p label place judged b login which e (f.all_own (holder w place).initiator)
         (delivery_may w.target f.ready.good.mid.size f.ready.good.table.sound sent run media may p label place judged login served which e) f.prepared f.fills full e_then))
@@ -198,7 +198,7 @@ module _ (wild : ℕ → Bool) (past : List Moment) where
     lapse_by request z (Ok purpose, layer) =
         let t = (expired_in (Ok purpose, layer) request.peer request.label (scene w.target empty_outbox)).1 in
         let u = with_note (notes.TimedOut serial) (with_target t.node w) in
-        subst (λ n. F (handed_out n 0 t.outbox u)) (sym z) (called w f o u layer t refl (lapse_called w f.ready.good (Unit {0}) f.seats layer request.peer request.label purpose))
+        subst (λ n. F (handed_out n 0 t.outbox u)) (sym z) (called w f o u layer t refl (lapse_called w f.ready.good (Unit {0}) (λ p m. IsFull m) full_closed f.seats layer request.peer request.label purpose))
     lapse_by request z (Err stale, layer) = same_target w (refused line no_packet w) (refuses wild past line no_packet w).target o
 
     lapse_full : (request : Request) → request.node ≡ 0 → F (timed_out line serial request.node (packets.at_target (target_left (expired request.peer request.label (scene w.target empty_outbox)) w.target) w))
@@ -235,14 +235,14 @@ module _ (wild : ℕ → Bool) (past : List Moment) where
   sights w f o zero =
       let g = w.generations.latest in
       let t = alone (sees g.generation (id_of g 0)) w.target in
-      called w f o (with_target t.node (with_seen 0 (told_seen 0 w))) w.target.layer t refl (sight_called w f.ready.good (Unit {0}) g.generation (id_of g 0))
+      called w f o (with_target t.node (with_seen 0 (told_seen 0 w))) w.target.layer t refl (sight_called w f.ready.good (Unit {0}) (λ p m. IsFull m) full_closed g.generation (id_of g 0))
   sights w f o (suc i) = same_target w (see_line (suc i) w) (own_sight wild past w i).target o
 
   tick_full : (w : WorldState) → Facts wild past w → F w → F (tick_line w)
   unfolding tick_line target_ticks
   tick_full w f o =
       let t = alone ticks w.target in
-      called w f o (with_target t.node (with_note notes.Tick w)) w.target.layer t refl (tick_called w f.ready.good (Unit {0}))
+      called w f o (with_target t.node (with_note notes.Tick w)) w.target.layer t refl (tick_called w f.ready.good (Unit {0}) (λ p m. IsFull m) full_closed)
 
   key_full : (w : WorldState) → F w → (line unit : ℕ) (key : List ℕ) → F (keyed line unit key w)
   unfolding keyed
