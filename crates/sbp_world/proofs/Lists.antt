@@ -433,6 +433,7 @@ pub mod DueWalk
 pub mod DataProved
 pub mod DataOver
 pub mod DataHolds
+pub mod MachineTurns
 pub mod DataWhole
 pub mod DataOffice
 pub mod DataPlaces
