@@ -40,11 +40,11 @@ F w = (q : ℕ) → q < 8 → IsFull (machine_at w q)
 
 -- ---- over a run in which no initiator injected packets
 -- the commands of lines fill their buffers
-record Ground (ms : List Moment) (w : WorldState) : Type 0 where
-  orbs : (i : ℕ) → i < length w.initiators → HoldsOrbs ms i (initiator_at w i)
-  fills : AreFilled ms
+pub record Ground (ms : List Moment) (w : WorldState) : Type 0 where
+  pub orbs : (i : ℕ) → i < length w.initiators → HoldsOrbs ms i (initiator_at w i)
+  pub fills : AreFilled ms
 
-all_filled : Always Ground
+pub all_filled : Always Ground
 all_filled = record {
   after_lines = λ line run r has small size. record { orbs = all_hold.after_lines line run r has small size; fills = filled_behind line run run.entries r.lines };
   between = λ line run r has small size next most told m.
@@ -74,7 +74,7 @@ full_walk wild units ready has start past s later t step p all_own =
     (record {
       ready = step.stands.known_all;
       seats = λ q login e. let k = at.site.held.held q login e in record { holder_is = k.holder; there = k.there; id_is = k.login_is };
-      replies = λ serial sent found zero_to run may p label place judged b login served which e full e_then.
+      replies = λ serial sent run h found zero_to may p label place judged b login served which e full e_then.
           reply_whole wild past w step.stands.known_all asked_orbs sent (record { serial = serial; found = found; to = zero_to }) run s.media.disks p label place judged b login which e (all_own (holder w place).initiator)
           (delivery_may w.target step.stands.known_all.good.mid.size step.stands.known_all.good.table.sound sent run s.media may p label place judged login served which e) prepared (λ j n k cmd g. commands_fill ms step.known.fills j n k cmd g) full e_then;
     })

@@ -67,6 +67,21 @@ use Rattle.sbp_target.specs.Receiving.{answer_in}
 no : false ≡ true → ⊥
 no e = cc
 
+-- ---- the packet that is delivered in a turn, and what is told by it
+abbrev pub line_heard : Event → List (Option Told) → ℕ → Option Told → Type 0
+line_heard (events.Deliver serial) told = λ at run. (at ≡ serial) × (told ≡ run ∷ [])
+line_heard (events.Repeat serial) told = λ at run. (at ≡ serial) × (told ≡ run ∷ [])
+line_heard _ told = λ at run. ⊥
+
+abbrev pub next_told : Scene → Option Told → ℕ → Option Told → Type 0
+next_told s one = λ at run. (lowest s.world ≡ Some at) × (one ≡ run)
+
+abbrev pub heard_in : (past : List Moment) (s : Scene) (later : List Moment) (t : Scene) → Turn past s later t → ℕ → Option Told → Type 0
+heard_in _ _ _ _ (by_line past s line event told o q m) = line_heard event told
+heard_in _ _ _ _ (by_start past s line event d) = λ at run. ⊥
+heard_in _ _ _ _ (by_delivery past s one m) = next_told s one
+heard_in _ _ _ _ (by_end past s done) = λ at run. ⊥
+
 module _ (G : ℕ → Machine → Type 0) (closed : IsClosed G) where
   abbrev pub F : WorldState → Type 0
   F w = (q : ℕ) → q < 8 → G q (machine_at w q)
@@ -75,26 +90,26 @@ module _ (G : ℕ → Machine → Type 0) (closed : IsClosed G) where
   same_target w v e o q b = subst (λ (t : NodeState). G q (desk_at t q).agent) (sym e) (o q b)
 
   -- what a packet brings to an agent keeps it
-  abbrev pub Replies : WorldState → Held → Type 0
-  Replies w media =
-      (serial : ℕ) (sent : Sent) → found_sent serial w.store.kept ≡ Some sent → sent.to ≡ 0 → (run : Option Told) → MayTell run sent w.target media → (p : Packet) (label : LabelParts) (place : ℕ) → (judging_step w.target.layer sent.generation sent.bytes).0 ≡ of_response p label (Some (purposes.Agent place)) → place < 8 → (login : Login) → served_login w.target place ≡ Some login → (which : Which) → which_in (desk_at w.target place) (header_in p).source label ≡ Some which → G place (machine_at w place) → G place (reply_step (machine_at w place) place (plain_in w.target.units media.disks login.unit) run which (answer_in p)).1
+  abbrev pub Replies : (ℕ → Option Told → Type 0) → WorldState → Held → Type 0
+  Replies heard w media =
+      (serial : ℕ) (sent : Sent) (run : Option Told) → heard serial run → found_sent serial w.store.kept ≡ Some sent → sent.to ≡ 0 → MayTell run sent w.target media → (p : Packet) (label : LabelParts) (place : ℕ) → (judging_step w.target.layer sent.generation sent.bytes).0 ≡ of_response p label (Some (purposes.Agent place)) → place < 8 → (login : Login) → served_login w.target place ≡ Some login → (which : Which) → which_in (desk_at w.target place) (header_in p).source label ≡ Some which → G place (machine_at w place) → G place (reply_step (machine_at w place) place (plain_in w.target.units media.disks login.unit) run which (answer_in p)).1
 
   -- what is known as a turn begins
-  pub record Facts (wild : ℕ → Bool) (past : List Moment) (w : WorldState) (media : Held) : Type 0 where
+  pub record Facts (wild : ℕ → Bool) (heard : ℕ → Option Told → Type 0) (past : List Moment) (w : WorldState) (media : Held) : Type 0 where
     pub ready : Ready wild past w
     pub seats : AreSeated w
-    pub replies : Replies w media
+    pub replies : Replies heard w media
 
-  facts_asked : (wild : ℕ → Bool) (line : ℕ) (event : Event) (past : List Moment) (w : WorldState) (media : Held) → Facts wild past w media → Facts wild (asked line event ∷ hist past w) (without_notes w) media
-  facts_asked wild line event past w media f = record {
+  facts_asked : (wild : ℕ → Bool) (heard : ℕ → Option Told → Type 0) (line : ℕ) (event : Event) (past : List Moment) (w : WorldState) (media : Held) → Facts wild heard past w media → Facts wild heard (asked line event ∷ hist past w) (without_notes w) media
+  facts_asked wild heard line event past w media f = record {
     ready = ready_now wild line event past w f.ready;
     seats = λ p login e. let k = f.seats p login e in record { holder_is = k.holder_is; there = k.there; id_is = k.id_is };
-    replies = λ serial sent found zero_to run may p label place judged b login served which e. f.replies serial sent found zero_to run may p label place judged b login served which e;
+    replies = λ serial sent run h found zero_to may p label place judged b login served which e. f.replies serial sent run h found zero_to may p label place judged b login served which e;
   }
 
-  module _ (wild : ℕ → Bool) (past : List Moment) where
+  module _ (wild : ℕ → Bool) (heard : ℕ → Option Told → Type 0) (past : List Moment) where
     -- ---- a call of the target
-    module _ (w : WorldState) (media : Held) (f : Facts wild past w media) (o : F w) where
+    module _ (w : WorldState) (media : Held) (f : Facts wild heard past w media) (o : F w) where
       call_full : (layer : Layer Purpose) (s : TargetScene) → Called w f.ready.good (Unit {0}) G closed layer s → (q : ℕ) → q < 8 → G q (desk_at s.node q).agent
       call_full layer s (rests c) q b = c.full q (o q b)
       call_full layer s (acting p c has a) q b = by (nat_eq q p) refl
@@ -112,19 +127,19 @@ module _ (G : ℕ → Machine → Type 0) (closed : IsClosed G) where
       called u layer s is c q b = subst (λ (t : NodeState). G q (desk_at t q).agent) (sym ((handed_alike 0 0 s.outbox u).target ∙ is)) (call_full layer s c q b)
 
       -- ---- a packet that the target gets
-      delivery_full : (serial : ℕ) (sent : Sent) → found_sent serial w.store.kept ≡ Some sent → sent.to ≡ 0 → (run : Option Told) → MayTell run sent w.target media → (again : Bool) → (let x = received run sent.generation sent.bytes (whole_of w.target media) in F (handed_out 0 0 x.1.outbox (with_note (judged_note serial x.0) (marked serial again (with_target x.1.node w)))))
-      delivery_full serial sent found zero_to run may again =
+      delivery_full : (serial : ℕ) (sent : Sent) (run : Option Told) → heard serial run → found_sent serial w.store.kept ≡ Some sent → sent.to ≡ 0 → MayTell run sent w.target media → (again : Bool) → (let x = received run sent.generation sent.bytes (whole_of w.target media) in F (handed_out 0 0 x.1.outbox (with_note (judged_note serial x.0) (marked serial again (with_target x.1.node w)))))
+      delivery_full serial sent run h found zero_to may again =
           let x = received run sent.generation sent.bytes (whole_of w.target media) in
           called (with_note (judged_note serial x.0) (marked serial again (with_target x.1.node w))) (judging_step w.target.layer sent.generation sent.bytes).1 (scene x.1.node x.1.outbox) (by (again || not (is_flying serial w.store.kept)))
           (delivery_called w f.ready.good (Unit {0}) G closed f.seats sent run media
-          (λ p label place judged b login served which e given full. f.replies serial sent found zero_to run may p label place judged b login served which e full))
+          (λ p label place judged b login served which e given full. f.replies serial sent run h found zero_to may p label place judged b login served which e full))
         where
           by : (b : Bool) → (let x = received run sent.generation sent.bytes (whole_of w.target media) in (cond b (with_target x.1.node w) (record (with_target x.1.node w) { store = deliver_step w.store serial })).target ≡ x.1.node)
           by true = refl
           by false = refl
 
     -- ---- a packet is delivered
-    module _ (s : Scene) (f : Facts wild past s.world s.media) (o : F s.world) (serial : ℕ) (again : Bool) (run : Option Told) where
+    module _ (s : Scene) (f : Facts wild heard past s.world s.media) (o : F s.world) (serial : ℕ) (again : Bool) (run : Option Told) (h : heard serial run) where
       abbrev w : WorldState
       w = s.world
 
@@ -140,7 +155,7 @@ module _ (G : ℕ → Machine → Type 0) (closed : IsClosed G) where
             ap (λ (y : Option Arrival × (OutboxState × Scene)). (delivered_by serial again y).world)
             (received_is run serial s sent found ∙ ap (λ b. cond b (at_target sent.to (target_received run sent w.target s.media) s) (initiator_received sent s)) (to_zero sent.to zero_to))
             ∙ ap (λ n. handed_out n 0 x.1.0 (with_note (judged_note serial x.0) (marked serial again (with_target x.1.1.0 w)))) zero_to in
-            subst F (sym last_is) (delivery_full w s.media f o serial sent found zero_to run may again)
+            subst F (sym last_is) (delivery_full w s.media f o serial sent run h found zero_to may again)
 
         heard_own : (i : ℕ) → sent.to ≡ suc i → i < length w.initiators → F end
         unfolding delivered initiators_received arrived
@@ -170,16 +185,16 @@ module _ (G : ℕ → Machine → Type 0) (closed : IsClosed G) where
       heard_by None e m = subst F (sym (ap (λ x. (delivered_by serial again (received_by run x s)).world) e)) o
       heard_by (Some sent) e m = heard_at sent e sent.to refl (λ z. subst (λ b. MayTold b run sent s) (to_zero sent.to z) m)
 
-      heard : MayReceive run serial s → F end
+      heard_now : MayReceive run serial s → F end
       unfolding MayReceive
-      heard m = heard_by (found_sent serial w.store.kept) refl m
+      heard_now m = heard_by (found_sent serial w.store.kept) refl m
 
-    next_heard : (s : Scene) → Facts wild past s.world s.media → F s.world → (one : Option Told) (so : Option ℕ) → settling.MayAt so one s → F (delivered_at so one s).world
-    next_heard s f o one None m = absurd m
-    next_heard s f o one (Some serial) m = heard s f o serial false one m
+    next_heard : (s : Scene) → Facts wild heard past s.world s.media → F s.world → (one : Option Told) (so : Option ℕ) → ((serial : ℕ) → so ≡ Some serial → heard serial one) → settling.MayAt so one s → F (delivered_at so one s).world
+    next_heard s f o one None hs m = absurd m
+    next_heard s f o one (Some serial) hs m = heard_now s f o serial false one (hs serial refl) m
 
     -- ---- a transaction times out
-    module _ (w : WorldState) (media : Held) (f : Facts wild past w media) (o : F w) (line serial : ℕ) where
+    module _ (w : WorldState) (media : Held) (f : Facts wild heard past w media) (o : F w) (line serial : ℕ) where
       lapse_by : (request : Request) → request.node ≡ 0 → (y : Result (Option Purpose) Stale × Layer Purpose) → F (timed_out line serial request.node (packets.at_target (target_left (expired_in y request.peer request.label (scene w.target empty_outbox)) w.target) w))
       lapse_by request z (Ok purpose, layer) =
           let t = (expired_in (Ok purpose, layer) request.peer request.label (scene w.target empty_outbox)).1 in
@@ -210,13 +225,13 @@ module _ (G : ℕ → Machine → Type 0) (closed : IsClosed G) where
       late = late_by (find w.requests serial)
 
     -- ---- a line that delivers one packet at most
-    one_heard : (s : Scene) → Facts wild past s.world s.media → F s.world → (line serial : ℕ) (again b : Bool) (told : List (Option Told)) → MayIf b serial told s → F (delivered_if b line serial again told s).world
-    one_heard s f o line serial again true [] m = absurd m
-    one_heard s f o line serial again true (one ∷ []) m = heard s f o serial again one m
-    one_heard s f o line serial again true (one ∷ other ∷ more) m = absurd m
-    one_heard s f o line serial again false told m = same_target s.world (refused line no_packet s.world) (refuses wild past line no_packet s.world).target o
+    one_heard : (s : Scene) → Facts wild heard past s.world s.media → F s.world → (line serial : ℕ) (again b : Bool) (told : List (Option Told)) → ((run : Option Told) → told ≡ run ∷ [] → heard serial run) → MayIf b serial told s → F (delivered_if b line serial again told s).world
+    one_heard s f o line serial again true [] hs m = absurd m
+    one_heard s f o line serial again true (one ∷ []) hs m = heard_now s f o serial again one (hs one refl) m
+    one_heard s f o line serial again true (one ∷ other ∷ more) hs m = absurd m
+    one_heard s f o line serial again false told hs m = same_target s.world (refused line no_packet s.world) (refuses wild past line no_packet s.world).target o
 
-    sights : (w : WorldState) (media : Held) → Facts wild past w media → F w → (node : ℕ) → F (see_line node w)
+    sights : (w : WorldState) (media : Held) → Facts wild heard past w media → F w → (node : ℕ) → F (see_line node w)
     unfolding see_line nodes.sees target_sees
     sights w media f o zero =
         let g = w.generations.latest in
@@ -224,7 +239,7 @@ module _ (G : ℕ → Machine → Type 0) (closed : IsClosed G) where
         called w media f o (with_target t.node (with_seen 0 (told_seen 0 w))) w.target.layer t refl (sight_called w f.ready.good (Unit {0}) G closed g.generation (id_of g 0))
     sights w media f o (suc i) = same_target w (see_line (suc i) w) (own_sight wild past w i).target o
 
-    tick_full : (w : WorldState) (media : Held) → Facts wild past w media → F w → F (tick_line w)
+    tick_full : (w : WorldState) (media : Held) → Facts wild heard past w media → F w → F (tick_line w)
     unfolding tick_line target_ticks
     tick_full w media f o =
         let t = alone ticks w.target in
@@ -248,29 +263,29 @@ module _ (G : ℕ → Machine → Type 0) (closed : IsClosed G) where
 
   -- ---- a line
   module _ (wild : ℕ → Bool) (past : List Moment) (line : ℕ) (s : Scene) where
-    line_full : (event : Event) (told : List (Option Told)) → IsOne event → IsLine event (length s.world.initiators) → MayHappen event told s → Facts wild (asked line event ∷ hist past s.world) (without_notes s.world) s.media → F (without_notes s.world) → F (happens line event told s).world
+    line_full : (event : Event) (told : List (Option Told)) → IsOne event → IsLine event (length s.world.initiators) → MayHappen event told s → Facts wild (line_heard event told) (asked line event ∷ hist past s.world) (without_notes s.world) s.media → F (without_notes s.world) → F (happens line event told s).world
     unfolding happens MayHappen
     line_full (events.Begin initiators is_ready) told o q m f b = absurd q
-    line_full (events.Act i action) told o q m f b = act_full wild (asked line (events.Act i action) ∷ hist past s.world) (without_notes s.world) b line i action
+    line_full (events.Act i action) told o q m f b = act_full wild (line_heard (events.Act i action) told) (asked line (events.Act i action) ∷ hist past s.world) (without_notes s.world) b line i action
     line_full (events.Reset physical) told o q m f b = same_target (without_notes s.world) (reset_line physical (without_notes s.world)) (resets wild (asked line (events.Reset physical) ∷ hist past s.world) (without_notes s.world) physical).target b
-    line_full (events.See node) told o q m f b = sights wild (asked line (events.See node) ∷ hist past s.world) (without_notes s.world) s.media f b node
-    line_full (events.Deliver serial) told o q m f b = one_heard wild (asked line (events.Deliver serial) ∷ hist past s.world) (begun s) f b line serial false (is_in_flight serial (begun s).world) told m
-    line_full (events.Repeat serial) told o q m f b = one_heard wild (asked line (events.Repeat serial) ∷ hist past s.world) (begun s) f b line serial true (may_repeat serial (begun s).world) told m
+    line_full (events.See node) told o q m f b = sights wild (line_heard (events.See node) told) (asked line (events.See node) ∷ hist past s.world) (without_notes s.world) s.media f b node
+    line_full (events.Deliver serial) told o q m f b = one_heard wild (line_heard (events.Deliver serial) told) (asked line (events.Deliver serial) ∷ hist past s.world) (begun s) f b line serial false (is_in_flight serial (begun s).world) told (λ run e. (refl, e)) m
+    line_full (events.Repeat serial) told o q m f b = one_heard wild (line_heard (events.Repeat serial) told) (asked line (events.Repeat serial) ∷ hist past s.world) (begun s) f b line serial true (may_repeat serial (begun s).world) told (λ run e. (refl, e)) m
     line_full (events.Lose serial) told o q m f b = same_target (without_notes s.world) (lose_line line serial (without_notes s.world)) (loses wild (asked line (events.Lose serial) ∷ hist past s.world) (without_notes s.world) line serial).target b
-    line_full (events.Timeout serial) told o q m f b = late wild (asked line (events.Timeout serial) ∷ hist past s.world) (without_notes s.world) s.media f b line serial
+    line_full (events.Timeout serial) told o q m f b = late wild (line_heard (events.Timeout serial) told) (asked line (events.Timeout serial) ∷ hist past s.world) (without_notes s.world) s.media f b line serial
     line_full (events.Step count) told o q m f b = absurd o
     line_full events.Settle told o q m f b = absurd o
-    line_full events.Tick told o q m f b = tick_full wild (asked line events.Tick ∷ hist past s.world) (without_notes s.world) s.media f b
+    line_full events.Tick told o q m f b = tick_full wild (line_heard events.Tick told) (asked line events.Tick ∷ hist past s.world) (without_notes s.world) s.media f b
     line_full (events.Inject i bytes) told o q m f b = same_target (without_notes s.world) (inject_line line i bytes (without_notes s.world)) (injects wild (asked line (events.Inject i bytes) ∷ hist past s.world) (without_notes s.world) line i bytes).target b
-    line_full (events.Key unit key) told o q m f b = key_full wild (asked line (events.Key unit key) ∷ hist past s.world) (without_notes s.world) b line unit key
+    line_full (events.Key unit key) told o q m f b = key_full wild (line_heard (events.Key unit key) told) (asked line (events.Key unit key) ∷ hist past s.world) (without_notes s.world) b line unit key
 
   -- ---- each turn
-  delivery_turn : (wild : ℕ → Bool) (past : List Moment) (s : Scene) (one : Option Told) → MayNext one s → Facts wild past s.world s.media → F s.world → F (delivered_next one s).world
+  delivery_turn : (wild : ℕ → Bool) (past : List Moment) (s : Scene) (one : Option Told) → MayNext one s → Facts wild (next_told s one) past s.world s.media → F s.world → F (delivered_next one s).world
   unfolding delivered_next MayNext
-  delivery_turn wild past s one m f b = next_heard wild past s f b one (lowest s.world) m
+  delivery_turn wild past s one m f b = next_heard wild (next_told s one) past s f b one (lowest s.world) (λ serial e. (e, refl)) m
 
-  pub turn_full : (wild : ℕ → Bool) (past : List Moment) (s : Scene) (later : List Moment) (t : Scene) → Turn past s later t → Facts wild past s.world s.media → F s.world → F t.world
-  turn_full wild _ _ _ _ (by_line past s line event told o q m) f b = line_full wild past line s event told o q m (facts_asked wild line event past s.world s.media f) b
+  pub turn_full : (wild : ℕ → Bool) (past : List Moment) (s : Scene) (later : List Moment) (t : Scene) (turn : Turn past s later t) → Facts wild (heard_in past s later t turn) past s.world s.media → F s.world → F t.world
+  turn_full wild _ _ _ _ (by_line past s line event told o q m) f b = line_full wild past line s event told o q m (facts_asked wild (line_heard event told) line event past s.world s.media f) b
   turn_full wild _ _ _ _ (by_start past s line event d) f b = b
   turn_full wild _ _ _ _ (by_delivery past s one m) f b = delivery_turn wild past s one m f b
   turn_full wild _ _ _ _ (by_end past s done) f b = same_target s.world (with_note (end_note done) s.world) (stays_end wild past done s.world).target b

@@ -220,8 +220,15 @@ module _ (s : Scene) (good : Good s.world.target) (serial : ℕ) (again : Bool) 
   abbrev after_it : WorldState
   after_it = (delivered serial again run s).world
 
+  -- of this packet
+  abbrev pub None_here : ℕ → Judged → Type 0
+  None_here at judged = (at ≡ serial) × IsRunlessBy s run at judged
+
+  abbrev pub Ran_here : ℕ → Note → Type 0
+  Ran_here at ran = (at ≡ serial) × IsRunBy s run at ran
+
   abbrev C : Type 0
-  C = Delivers (IsRunlessBy s run) (IsRunBy s run) w.fresh after_it.fresh
+  C = Delivers None_here Ran_here w.fresh after_it.fresh
 
   module _ (one : Sent) (found : found_sent serial w.store.kept ≡ Some one) where
     abbrev Ran : (place orb : ℕ) → (cdb payload : List ℕ) → Outcome → Type 0
@@ -269,10 +276,10 @@ module _ (s : Scene) (good : Good s.world.target) (serial : ℕ) (again : Bool) 
             by true = refl
             by false = refl
 
-        run_told : (judged : Judged) → judged ≡ judgements.Got → Delivers (IsRunlessBy s run) (IsRunBy s run) w.fresh (handed judged).fresh
+        run_told : (judged : Judged) → judged ≡ judgements.Got → Delivers None_here Ran_here w.fresh (handed judged).fresh
         run_told judgements.Got e =
             one_run serial note
-            (record {
+            (refl, record {
               sent = one;
               found = found;
               to = zero_to;
@@ -291,8 +298,8 @@ module _ (s : Scene) (good : Good s.world.target) (serial : ℕ) (again : Bool) 
             (subst (λ ns. Plainly (note ∷ notes.Got serial ∷ ns) (handed judgements.Got).fresh) (marked_fresh serial again (with_target node w)) behind_run)
         run_told (judgements.Ignored cause) e = absurd (let no : judgements.Ignored cause ≡ judgements.Got = e in cc)
 
-      handed_delivers : (judged : Judged) → judged ≡ (received run one.generation one.bytes (whole_of w.target s.media)).0 → ((place orb : ℕ) (cdb payload : List ℕ) (outcome : Outcome) → Ran place orb cdb payload outcome → judged ≡ judgements.Got) → TellsRun None_ran Ran outbox.sides → Delivers (IsRunlessBy s run) (IsRunBy s run) w.fresh (handed judged).fresh
-      handed_delivers judged is_so got (of_none n h) = no_run serial judged (record { sent = one; found = found; none = λ zero_is. n; judged_is = λ zero_is. is_so }) (none_told judged h)
+      handed_delivers : (judged : Judged) → judged ≡ (received run one.generation one.bytes (whole_of w.target s.media)).0 → ((place orb : ℕ) (cdb payload : List ℕ) (outcome : Outcome) → Ran place orb cdb payload outcome → judged ≡ judgements.Got) → TellsRun None_ran Ran outbox.sides → Delivers None_here Ran_here w.fresh (handed judged).fresh
+      handed_delivers judged is_so got (of_none n h) = no_run serial judged (refl, record { sent = one; found = found; none = λ zero_is. n; judged_is = λ zero_is. is_so }) (none_told judged h)
       handed_delivers judged is_so got (of_run place orb cdb payload outcome more ran h is) = run_told place orb cdb payload outcome more ran h is judged (got place orb cdb payload outcome ran)
 
     target_comes : one.to ≡ 0 → MayTell run one w.target s.media → C
@@ -303,7 +310,7 @@ module _ (s : Scene) (good : Good s.world.target) (serial : ℕ) (again : Bool) 
         ap (λ (y : Option Arrival × (OutboxState × Scene)). (delivered_by serial again y).world)
         (received_is run serial s one found ∙ ap (λ b. cond b (at_target one.to (target_received run one w.target s.media) s) (initiator_received one s)) (to_zero one.to zero_to))
         ∙ ap (λ n. handed_out n 0 x.1.outbox (with_note (judged_note serial x.0) (marked serial again (with_target x.1.node w)))) zero_to in
-        subst (λ (v : WorldState). Delivers (IsRunlessBy s run) (IsRunBy s run) w.fresh v.fresh) (sym last_is)
+        subst (λ (v : WorldState). Delivers None_here Ran_here w.fresh v.fresh) (sym last_is)
         (handed_delivers zero_to x.1.outbox x.1.node x.0 refl (λ place orb cdb payload outcome r. is_got w.target one run s.media place orb cdb payload outcome r) (delivery_tells w.target good.mid.size good.table.sound one run s.media may))
 
     own_comes : (i : ℕ) → one.to ≡ suc i → i < length w.initiators → C
@@ -316,7 +323,7 @@ module _ (s : Scene) (good : Good s.world.target) (serial : ℕ) (again : Bool) 
         let u = with_note note (marked serial again v) in
         let last_is : after_it ≡ handed_out one.to 0 x.1.0 u =
         ap (λ (y : Option Arrival × (OutboxState × Scene)). (delivered_by serial again y).world) (to_own run serial i s one found to_is ∙ own_inside one i s inside) in
-        no_run serial x.0 (record { sent = one; found = found; none = λ zero_is. absurd (omega (arith, zero_is, to_is)); judged_is = λ zero_is. absurd (omega (arith, zero_is, to_is)) })
+        no_run serial x.0 (refl, record { sent = one; found = found; none = λ zero_is. absurd (omega (arith, zero_is, to_is)); judged_is = λ zero_is. absurd (omega (arith, zero_is, to_is)) })
         (subst (λ (y : WorldState). Plainly (note ∷ w.fresh) y.fresh) (sym last_is)
         (subst (λ ns. Plainly (note ∷ ns) (handed_out one.to 0 x.1.0 u).fresh) (marked_fresh serial again v) (handed_plain one.to 0 x.1.0 u (own_plain x.1.0.sides (own.receives one.generation one.bytes empty_outbox old tt)))))
 
@@ -341,9 +348,17 @@ module _ (s : Scene) (good : Good s.world.target) (serial : ℕ) (again : Bool) 
       none_judged same
   comes_by (Some one) e m = comes_at one e one.to refl (λ z. subst (λ b. MayTold b run one s) (to_zero one.to z) m)
 
-  pub delivery_comes : MayReceive run serial s → C
+  pub delivery_at : MayReceive run serial s → C
   unfolding MayReceive
-  delivery_comes m = comes_by (found_sent serial w.store.kept) refl m
+  delivery_at m = comes_by (found_sent serial w.store.kept) refl m
+
+  any : (old new : List Note) → Delivers None_here Ran_here old new → Delivers (IsRunlessBy s run) (IsRunBy s run) old new
+  any old new (none_judged e) = none_judged e
+  any old new (no_run at judged none q) = no_run at judged none.1 q
+  any old new (one_run at ran r q) = one_run at ran r.1 q
+
+  pub delivery_comes : MayReceive run serial s → Delivers (IsRunlessBy s run) (IsRunBy s run) w.fresh after_it.fresh
+  delivery_comes m = any w.fresh after_it.fresh (delivery_at m)
 
 -- ---- the other lines
 module _ (w : WorldState) where
