@@ -434,6 +434,9 @@ pub mod DataProved
 pub mod DataOver
 pub mod DataHolds
 pub mod MachineTurns
+pub mod AnswersKept
+pub mod AnswerRuns
+pub mod AnswerComes
 pub mod DataWhole
 pub mod DataOffice
 pub mod DataPlaces

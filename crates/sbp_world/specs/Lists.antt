@@ -66,3 +66,4 @@ pub mod DueRuns
 pub mod DataEnds
 pub mod DataHolds
 pub mod DataWhole
+pub mod AnswersTold

@@ -87,7 +87,7 @@ plain_none ns = record { more = []; is = refl; plain = tt }
 pub plain_then : (one two three : List Note) → Plainly one two → Plainly two three → Plainly one three
 plain_then one two three a b = record { more = b.more ++ a.more; is = joined b.more a.more one ∙ ap (λ ns. b.more ++ ns) a.is ∙ b.is; plain = both b.more a.more b.plain a.plain }
 
-plain_one : (note : Note) (ns : List Note) → IsPlain note → Plainly ns (note ∷ ns)
+pub plain_one : (note : Note) (ns : List Note) → IsPlain note → Plainly ns (note ∷ ns)
 plain_one note ns q = record { more = note ∷ []; is = refl; plain = (q, tt) }
 
 -- ---- packets
@@ -237,6 +237,11 @@ module _ (s : Scene) (good : Good s.world.target) (serial : ℕ) (again : Bool) 
     abbrev None_ran : Type 0
     None_ran = NoneRan w.target one run s.media
 
+    -- what this packet makes the target tell
+    pub data ToldHere (new : List Note) : Type 0 where
+      told_none : None_ran → ToldHere new
+      told_run : (ran : Note) (r : IsRunBy s run serial ran) → r.sent ≡ one → Plainly (ran ∷ notes.Got serial ∷ w.fresh) new → ToldHere new
+
     -- what is told behind the note of the packet
     module _ (zero_to : one.to ≡ 0) (outbox : OutboxState) (node : NodeState) where
       abbrev noted : Judged → WorldState
@@ -276,31 +281,55 @@ module _ (s : Scene) (good : Good s.world.target) (serial : ℕ) (again : Bool) 
             by true = refl
             by false = refl
 
+        is_run : IsRunBy s run serial note
+        is_run = record {
+          sent = one;
+          found = found;
+          to = zero_to;
+          place = place;
+          orb = orb;
+          cdb = cdb;
+          payload = payload;
+          outcome = outcome;
+          by = ran;
+          list = list_in (ticket_at u place orb);
+          number = orb_in (ticket_at u place orb);
+          list_is = ap list_in ticket_is;
+          number_is = ap orb_in ticket_is;
+          is = ap (λ (x : Holder). ran_note x (ticket_at u place orb) cdb payload outcome) holder_is;
+        }
+
+        is_behind : Plainly (note ∷ notes.Got serial ∷ w.fresh) (handed judgements.Got).fresh
+        is_behind = subst (λ ns. Plainly (note ∷ notes.Got serial ∷ ns) (handed judgements.Got).fresh) (marked_fresh serial again (with_target node w)) behind_run
+
         run_told : (judged : Judged) → judged ≡ judgements.Got → Delivers None_here Ran_here w.fresh (handed judged).fresh
-        run_told judgements.Got e =
-            one_run serial note
-            (refl, record {
-              sent = one;
-              found = found;
-              to = zero_to;
-              place = place;
-              orb = orb;
-              cdb = cdb;
-              payload = payload;
-              outcome = outcome;
-              by = ran;
-              list = list_in (ticket_at u place orb);
-              number = orb_in (ticket_at u place orb);
-              list_is = ap list_in ticket_is;
-              number_is = ap orb_in ticket_is;
-              is = ap (λ (x : Holder). ran_note x (ticket_at u place orb) cdb payload outcome) holder_is;
-            })
-            (subst (λ ns. Plainly (note ∷ notes.Got serial ∷ ns) (handed judgements.Got).fresh) (marked_fresh serial again (with_target node w)) behind_run)
+        run_told judgements.Got e = one_run serial note (refl, is_run) is_behind
         run_told (judgements.Ignored cause) e = absurd (let no : judgements.Ignored cause ≡ judgements.Got = e in cc)
+
+        run_here : (judged : Judged) → judged ≡ judgements.Got → ToldHere (handed judged).fresh
+        unfolding is_run
+        run_here judgements.Got e = told_run note is_run refl is_behind
+        run_here (judgements.Ignored cause) e = absurd (let no : judgements.Ignored cause ≡ judgements.Got = e in cc)
 
       handed_delivers : (judged : Judged) → judged ≡ (received run one.generation one.bytes (whole_of w.target s.media)).0 → ((place orb : ℕ) (cdb payload : List ℕ) (outcome : Outcome) → Ran place orb cdb payload outcome → judged ≡ judgements.Got) → TellsRun None_ran Ran outbox.sides → Delivers None_here Ran_here w.fresh (handed judged).fresh
       handed_delivers judged is_so got (of_none n h) = no_run serial judged (refl, record { sent = one; found = found; none = λ zero_is. n; judged_is = λ zero_is. is_so }) (none_told judged h)
       handed_delivers judged is_so got (of_run place orb cdb payload outcome more ran h is) = run_told place orb cdb payload outcome more ran h is judged (got place orb cdb payload outcome ran)
+
+    here_by : (zero_to : one.to ≡ 0) (outbox : OutboxState) (node : NodeState) (judged : Judged) → judged ≡ (received run one.generation one.bytes (whole_of w.target s.media)).0 → TellsRun None_ran Ran outbox.sides → ToldHere (handed zero_to outbox node judged).fresh
+    here_by zero_to outbox node judged is_so (of_none n h) = told_none n
+    here_by zero_to outbox node judged is_so (of_run place orb cdb payload outcome more ran h is) =
+        run_here zero_to outbox node place orb cdb payload outcome more ran h is judged (is_so ∙ is_got w.target one run s.media place orb cdb payload outcome ran)
+
+    pub target_told : one.to ≡ 0 → MayTell run one w.target s.media → ToldHere after_it.fresh
+    unfolding delivered target_received arrived
+    target_told zero_to may =
+        let x = received run one.generation one.bytes (whole_of w.target s.media) in
+        let last_is : after_it ≡ handed_out 0 0 x.1.outbox (with_note (judged_note serial x.0) (marked serial again (with_target x.1.node w))) =
+        ap (λ (y : Option Arrival × (OutboxState × Scene)). (delivered_by serial again y).world)
+        (received_is run serial s one found ∙ ap (λ b. cond b (at_target one.to (target_received run one w.target s.media) s) (initiator_received one s)) (to_zero one.to zero_to))
+        ∙ ap (λ n. handed_out n 0 x.1.outbox (with_note (judged_note serial x.0) (marked serial again (with_target x.1.node w)))) zero_to in
+        subst (λ (v : WorldState). ToldHere v.fresh) (sym last_is)
+        (here_by zero_to x.1.outbox x.1.node x.0 refl (delivery_tells w.target good.mid.size good.table.sound one run s.media may))
 
     target_comes : one.to ≡ 0 → MayTell run one w.target s.media → C
     unfolding delivered target_received arrived

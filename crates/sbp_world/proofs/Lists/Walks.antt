@@ -7,9 +7,6 @@ use Rattle.sbp_world.proofs.Agents.Seats.{Seats}
 use Rattle.sbp_world.proofs.Agents.Seating.{opened as seats_opened}
 use Rattle.sbp_world.proofs.Agents.Units.{AreThe, units_after}
 use Rattle.sbp_world.proofs.Agents.UnitsLines.{Units, all_units, opened as units_opened}
-use Rattle.sbp_laws.specs.DiskFold.{unit_at}
-use Rattle.sbp_laws.specs.Targets.{target_at}
-use Rattle.sbp_target.specs.Replies.{plain_in}
 use Rattle.std.proofs.Common.{arith, ◌≡◌, ◌∙◌, refl, sym, subst, ℕ, ◌+◌, ◌^◌, ◌<◌, ◌≤◌, Bool, false, List, [], ◌∷◌, ◌++◌, map, length, Option}
 use Rattle.rbc_disk.specs.Disk.{Disk}
 use Rattle.rbc_disk.specs.Runs.{Told}
@@ -77,7 +74,7 @@ pub record Step (wild : ℕ → Bool) (units ready : ℕ) (start : List Disk) (Q
   pub so_far : (i : ℕ) → wild i ≡ false → U (hist past s.world) s.world
   pub so_far_then : (i : ℕ) → wild i ≡ false → U (hist later t.world) t.world
   pub count : length t.world.initiators ≡ length s.world.initiators
-  pub units_are : (unit : ℕ) → unit_at (target_at start (hist past s.world)).units unit ≡ plain_in s.world.target.units s.media.disks unit
+  pub units_are : Units start past s.world s.media.disks
 
 -- each turn keeps a statement
 abbrev pub Walks : (ℕ → Bool) → (units ready : ℕ) → List Disk → (Q U P : List Moment → WorldState → Type 0) → Type 0
@@ -218,7 +215,7 @@ module _ (wild : ℕ → Bool) (Q : List Moment → WorldState → Type 0) (V : 
               so_far = so_far_here lists b;
               so_far_then = so_far_at [] m before;
               count = refl;
-              units_are = units_here.each;
+              units_are = units_here;
             }) p
         walk_at (one ∷ told) m before c p =
             let e = calm_at wild (opened wild) line run few has small size entries short all fit b.past (length entries) b.holds b.is next event d one told c in
@@ -234,7 +231,7 @@ module _ (wild : ℕ → Bool) (Q : List Moment → WorldState → Type 0) (V : 
               so_far = so_far_at told m.1 rest;
               so_far_then = so_far_at (one ∷ told) m before;
               count = count_between (one ∷ told) here ∙ sym (count_between told here);
-              units_are = (units_there told m.1).each;
+              units_are = units_there told m.1;
             }) (walk_at told m.1 rest e p)
 
       -- a line that follows
@@ -256,7 +253,7 @@ module _ (wild : ℕ → Bool) (Q : List Moment → WorldState → Type 0) (V : 
               so_far = so_far_here lists b;
               so_far_then = u;
               count = count;
-              units_are = units_here.each;
+              units_are = units_here;
             }) p
 
         walk_line : (next : ℕ) (event : Event) (told : List (Option Told)) → Goes next event told
@@ -278,7 +275,7 @@ module _ (wild : ℕ → Bool) (Q : List Moment → WorldState → Type 0) (V : 
               so_far = so_far_at next events.Settle tt told m.may rest;
               so_far_then = u;
               count = refl;
-              units_are = (units_there next events.Settle tt told m.may).each;
+              units_are = units_there next events.Settle tt told m.may;
             }) (walk_at next events.Settle tt told m.may rest c p)
         walk_line next (events.Begin initiators is_ready) told q m before r k u count p = one_line next (events.Begin initiators is_ready) told tt q m before r k u count p
         walk_line next (events.Act initiator action) told q m before r k u count p = one_line next (events.Act initiator action) told tt q m before r k u count p
