@@ -75,7 +75,7 @@ split : (a b : List Note) (past : List Moment) → map said (a ++ b) ++ past ≡
 split [] b past = refl
 split (n ∷ a) b past = ap (λ ms. said n ∷ ms) (split a b past)
 
-same_found : (x y : Sent) → Some x ≡ Some y → x ≡ y
+pub same_found : (x y : Sent) → Some x ≡ Some y → x ≡ y
 same_found x y e = cc
 
 judged_unrun : (serial : ℕ) (judged : Judged) → AreUnrun (said (judged_note serial judged) ∷ [])

@@ -1,4 +1,21 @@
 -- Runs in a history that goes on: notes of no run add none; and an ORB of the latest list that ran before, and is the first one that has not ended now, was so before.
+use Rattle.std.proofs.Common.{◌==◌}
+use Rattle.std.proofs.Common.{◌+◌}
+use Rattle.std.proofs.Common.{◌⊎◌, inl, inr, length, Option, Some, None}
+use Rattle.command_agent.specs.declared.phase.Phase.{Phase}
+use Rattle.command_agent.specs.declared.phase.Phase.TheVariants as phases
+use Rattle.command_agent.specs.declared.step.Which.{Which}
+use Rattle.command_agent.specs.declared.step.Which.TheVariants.{Ahead, Main}
+use Rattle.command_agent.specs.Machine.{Machine, is_ahead}
+use Rattle.command_agent.specs.Steps.{advanced, ahead_step, answer_chunk, answer_step, chunk_written, end_step, quiet, reply_step, sent, served, told_or}
+use Rattle.orb_layout.specs.declared.ask.FailCause.{FailCause}
+use Rattle.orb_layout.specs.declared.status.StatusKind.TheVariants as kinds
+use Rattle.orb_layout.specs.Replies.{Answer, payload_of, write_failure}
+use Rattle.rbc_disk.specs.Runs.{Told}
+use Rattle.rbc_disk.specs.Units.{PlainDisk}
+use Rattle.rbc_command.specs.declared.sense.Sense.{Sense}
+use Rattle.sbp_world.specs.Agents.Alike.{answers}
+use Rattle.sbp_world.proofs.Agents.UnitsRun.{ahead_none, none_if}
 use Rattle.std.proofs.Common.{arith, ◌≡◌, ◌∙◌, refl, sym, ap, subst, ◌<◌, ◌≤◌, ℕ, suc, nat_eq, nat_lt, Bool, true, false, cond, List, [], ◌∷◌, ◌++◌, map, Some}
 use Rattle.std.proofs.lemmas.Bool.Decides.{nat_tests}
 use Rattle.sbp_journal.specs.Run.{Moment, said}
@@ -9,6 +26,9 @@ use Rattle.sbp_world.proofs.Lists.Passing.{PassLaw}
 use Rattle.sbp_world.proofs.Lists.Running.{later_unrun}
 use Rattle.sbp_world.proofs.Lists.Runless.{AllPlain}
 use Rattle.sbp_world.proofs.Lists.UnrunTerms.{ends_grow, lists_grow, passes_from}
+
+not : false ≡ true → ⊥
+not e = cc
 
 abbrev pub IsUnrun : Moment → Type 0
 IsUnrun (said (notes.Ran i n k unit cdb bytes check)) = ⊥
@@ -85,3 +105,42 @@ was_first wild later ms now is passes i n own latest ran = record {
         let less : ends ms i n < ends now i n = grind (arith, nat_tests) in
         let none = later_unrun wild ms passed i n (ends now i n) own less in absurd (omega (arith, none, ran))
     by false e = let c = grown_ends in let not_less : ends now i n ≤ ends ms i n = grind (arith, nat_tests) in omega (arith, c, not_less)
+
+-- ---- what ran behind a run
+pub runs_key : (base : List Moment) (j m l unit : ℕ) (cdb bytes : List ℕ) (check : Option Sense) (i n k : ℕ) → 0 < runs (said (notes.Ran j (Some m) (Some l) unit cdb bytes check) ∷ base) i n k → ((n ≡ m) × (k ≡ l)) ⊎ (0 < runs base i n k)
+runs_key base j m l unit cdb bytes check i n k = by (nat_eq i j) (nat_eq n m) refl (nat_eq k l) refl
+  where
+    by : (x y : Bool) → nat_eq n m ≡ y → (z : Bool) → nat_eq k l ≡ z → 0 < cond x (cond y (cond z (suc (runs base j m l)) (runs base i n k)) (runs base i n k)) (runs base i n k) → ((n ≡ m) × (k ≡ l)) ⊎ (0 < runs base i n k)
+    by true true f true g r = inl (let a : n ≡ m = grind (arith, nat_tests) in a, let c : k ≡ l = grind (arith, nat_tests) in c)
+    by true true f false g r = inr r
+    by true false f z g r = inr r
+    by false y f z g r = inr r
+
+-- an agent that writes an answer runs no command
+answering_main : (place : ℕ) (plain : PlainDisk) (told : Told) (phase : Phase) (m : Machine) (answer : Answer) → answers phase ≡ true → (served place plain told (advanced phase m answer).0 (advanced phase m answer).1).0.ran ≡ None
+answering_main place plain told phases.Answering m answer e = written (write_failure answer)
+  where
+    next : Machine
+    next = record m { written = m.written + answer_chunk m }
+
+    last : (b : Bool) → (let x = sent (cond b (end_step next kinds.Good None) (answer_step next)) in (served place plain told x.0 x.1).0.ran ≡ None)
+    last true = refl
+    last false = refl
+
+    written : (x : Option FailCause) → (served place plain told (chunk_written m x).0 (chunk_written m x).1).0.ran ≡ None
+    written (Some cause) = refl
+    written None = last (next.written == length m.answer)
+answering_main place plain told phases.Reset m answer e = absurd (not e)
+answering_main place plain told phases.Dead m answer e = absurd (not e)
+answering_main place plain told phases.Fetching m answer e = absurd (not e)
+answering_main place plain told phases.ReadingTable m answer e = absurd (not e)
+answering_main place plain told (phases.ReadingData wanted) m answer e = absurd (not e)
+answering_main place plain told phases.WritingStatus m answer e = absurd (not e)
+answering_main place plain told phases.ReadingNext m answer e = absurd (not e)
+answering_main place plain told phases.WritingLastStatus m answer e = absurd (not e)
+answering_main place plain told phases.Suspended m answer e = absurd (not e)
+
+pub answering_none : (m : Machine) (place : ℕ) (plain : PlainDisk) (told : Option Told) (which : Which) (answer : Answer) → answers m.phase ≡ true → (reply_step m place plain told which answer).0.ran ≡ None
+unfolding reply_step
+answering_none m place plain told Main answer e = answering_main place plain (told_or told) m.phase m answer e
+answering_none m place plain told Ahead answer e = none_if (is_ahead m.ahead) (ahead_step m answer) (quiet, m) (ahead_none m (payload_of answer 32)) refl

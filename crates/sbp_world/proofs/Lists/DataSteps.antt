@@ -181,7 +181,7 @@ ran_some (said (notes.Ran j (Some m) (Some l) unit cdb bytes check) ∷ ms) i n 
     pick false b c f g = f g
 ran_some (_ ∷ ms) i n k x e = ran_some ms i n k x e
 
-has_run : (ms : List Moment) (i n k : ℕ) (o : Option Outcome) → is_good o ≡ true → HasRun o (runs ms i n k) (ran_status ms i n k) → 0 < runs ms i n k
+pub has_run : (ms : List Moment) (i n k : ℕ) (o : Option Outcome) → is_good o ≡ true → HasRun o (runs ms i n k) (ran_status ms i n k) → 0 < runs ms i n k
 has_run ms i n k None g h = absurd (let z : false ≡ true = g in cc)
 has_run ms i n k (Some outcome) g h = ran_some ms i n k _ h
 
