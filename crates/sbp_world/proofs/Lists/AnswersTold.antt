@@ -1,47 +1,45 @@
 -- While an agent writes an answer, it is the one that the plain disk had for the command of its present ORB as it ran: so a reply by which a command runs leaves it, and it stays until the ORB ends.
-use Rattle.sbp_world.specs.Delivering.{MayTell}
-use Rattle.sbp_target.specs.Nodes.{desk_at}
-use Rattle.label_table.specs.Layer.{judging_step}
 use Rattle.sbp_journal.specs.declared.note.Note.TheVariants as notes
 use Rattle.sbp_target.specs.declared.purpose.Purpose.TheVariants as purposes
+use Rattle.sbp_world.specs.Delivering.{MayTell}
+use Rattle.sbp_target.specs.Nodes.{desk_at}
+use Rattle.label_table.specs.Layer.{judging_step, of_response}
 use Rattle.rbc_disk.specs.Runs.{Told, answer_of, check_in}
 use Rattle.sbp_world.proofs.Lists.Turns.{Ready}
 use Rattle.packet_store.specs.declared.sent.Sent.{Sent}
-use Rattle.std.proofs.Common.{arith, ◌≡◌, refl, sym, ap, subst, ◌<◌, ℕ, zero, suc, Bool, true, false, List, [], length, Option, Some, None, ◌++◌, IfSome, ◌⊎◌, inl, inr, ◌∙◌, ◌+◌, ◌≤◌, ◌∷◌, cond}
+use Rattle.std.proofs.Common.{arith, ◌≡◌, refl, sym, ap, subst, ◌<◌, ℕ, zero, suc, Bool, true, false, List, [], length, Option, Some, None, ◌++◌, IfSome, ◌⊎◌, inl, inr, ◌∙◌, ◌≤◌, ◌∷◌, map}
 use Rattle.std.specs.Prelude.{slice_index_or, replicate}
 use Rattle.rbc_disk.specs.Disk.{Disk}
-use Rattle.sbp_journal.specs.Run.{Moment, said}
-use Rattle.sbp_world.specs.Histories.{moments_behind}
+use Rattle.sbp_journal.specs.Run.{Moment, said, asked}
+use Rattle.sbp_world.specs.Histories.{moments_behind, history_of}
 use Rattle.sbp_world.specs.Runs.{Run, beginning, after}
-use Rattle.sbp_world.specs.Settling.{after_all}
-use Rattle.sbp_world.specs.Worlds.{WorldState, begun, initiator_at, Scene}
+use Rattle.sbp_world.specs.Settling.{after_all, MayAll}
+use Rattle.sbp_world.specs.Worlds.{WorldState, begun, Scene}
 use Rattle.sbp_world.proofs.Agents.Management.Still.{hist}
 use Rattle.sbp_world.specs.Lists.Needs.{initiator_in, machine_at, IsOpenAt, IsCalm, OpenBefore, OpenBetween}
-use Rattle.sbp_world.proofs.Lists.Walks.{Walks, Step}
+use Rattle.sbp_world.proofs.Lists.Walks.{Walks, Step, walk_after, walk_at}
 use Rattle.sbp_world.specs.Telling.{holder}
 use Rattle.sbp_laws.specs.Lists.{slot_at}
 use Rattle.sbp_target.specs.declared.desk.Desk.{Desk}
 use Rattle.sbp_target.specs.Desks.{new_desk, which_in}
-use Rattle.sbp_world.specs.Making.{new_world}
+use Rattle.sbp_world.specs.Making.{new_world, ready_logins}
 use Rattle.sbp_world.specs.Agents.Alike.{answers, has_list}
 use Rattle.sbp_world.specs.Agents.Management.Terms.{DeliversMore}
-use Rattle.sbp_world.specs.Hosts.Orbs.{HoldsOrbs}
-use Rattle.sbp_world.specs.Hosts.Runs.{more_deliveries}
-use Rattle.sbp_world.specs.Lists.Closes.{Always, Under, WhereTame}
-use Rattle.sbp_world.proofs.Lists.AnswerLengths.{AreFilled, FillsEvent, commands_fill, filled_behind, filled_said}
-use Rattle.sbp_world.proofs.Lists.DataSteps.{ArePrepared, reply_whole, answer_kept, answers_is, has_run, ran_well}
+use Rattle.sbp_world.specs.Hosts.Runs.{more_deliveries, IsRun}
+use Rattle.sbp_world.specs.Lists.Closes.{WhereTame}
+use Rattle.sbp_world.proofs.Lists.AnswerLengths.{commands_fill}
+use Rattle.sbp_world.proofs.Lists.DataSteps.{ArePrepared, answer_kept, answers_is, has_run, ran_well}
 use Rattle.sbp_world.proofs.Lists.Executes.{asked_of}
-use Rattle.sbp_world.proofs.Lists.Full.{IsFull, full_closed}
+use Rattle.sbp_world.proofs.Lists.Full.{IsFull}
 use Rattle.sbp_world.proofs.Lists.RunOutcomes.{AreAsked, listed}
 use Rattle.sbp_world.proofs.Lists.RunTells.{delivery_may, NoneRan, RanBy, ran_as, ran_for, served_there}
 use Rattle.sbp_world.proofs.Lists.Sites.{named_prepared}
-use Rattle.sbp_world.proofs.Lists.StatusAnswers.{all_hold}
-use Rattle.sbp_world.proofs.Lists.MachineTurns.{turn_full, Facts, heard_in}
+use Rattle.sbp_world.proofs.Lists.MachineTurns.{turn_full, heard_in}
 use Rattle.sbp_world.proofs.Lists.DataWhole.{Ground, all_filled, whole_law}
 use Rattle.sbp_world.specs.Lists.AnswersTold.{AnswersToldLaw, AreAnswers, IsAnswerOf}
 use Rattle.sbp_world.specs.Lists.DataWhole.{AreWhole}
 use Rattle.sbp_world.proofs.Lists.AnswersKept.{Writes, writes_closed}
-use Rattle.sbp_world.proofs.Lists.AnswerRuns.{AreUnrun, WasFirst, answering_none, both_unrun, joined, runs_key, unrun_runs, was_first}
+use Rattle.sbp_world.proofs.Lists.AnswerRuns.{WasFirst, answering_none, joined, runs_key, unrun_runs, was_first}
 use Rattle.sbp_world.proofs.Lists.AnswerComes.{Comes, ComesOne, RanHere, note_of, one, quiet, turn_comes, turn_ran, same_found}
 use Rattle.sbp_world.proofs.Lists.PlaceOwners.{walk_owns}
 use Rattle.sbp_world.proofs.Lists.OpenTurns.{listing_up}
@@ -53,8 +51,7 @@ use Rattle.sbp_world.specs.Lists.OwnLogins.{IsTame}
 use Rattle.sbp_world.specs.Lists.Lists.{orbs}
 use Rattle.agent_laws.specs.Along.Along.{Knows}
 use Rattle.sbp_laws.specs.Terms.{ends, lists, runs}
-use Rattle.sbp_laws.specs.Targets.{disk_of, plain_of}
-use Rattle.sbp_journal.specs.Wire.{terms}
+use Rattle.sbp_laws.specs.Targets.{disk_of}
 use Rattle.rbc_disk.specs.declared.command.Outcome.{Outcome}
 use Rattle.rbc_disk.specs.Units.{PlainDisk}
 use Rattle.command_agent.specs.declared.step.Which.{Which}
@@ -63,7 +60,6 @@ use Rattle.command_agent.specs.Machine.{Machine}
 use Rattle.command_agent.specs.Steps.{reply_step}
 use Rattle.async_packet.specs.Labels.{LabelParts}
 use Rattle.async_packet.specs.Packet.{Packet, header_in}
-use Rattle.label_table.specs.Layer.{of_response}
 use Rattle.login_table.specs.declared.login.Login.{Login}
 use Rattle.login_table.proofs.Searching.{within}
 use Rattle.sbp_target.specs.Replies.{plain_in, served_login}
@@ -71,6 +67,13 @@ use Rattle.sbp_target.specs.Receiving.{answer_in}
 use Rattle.sbp_bus.specs.Places.{or_nobody}
 use Rattle.packet_store.specs.Kept.{found_sent}
 use Rattle.sbp_bus.specs.Words.{check_of}
+use Rattle.sbp_laws.specs.Lawful.{injectors}
+use Rattle.sbp_world.proofs.Lists.Calm.{asked_calm, calm_before}
+use Rattle.sbp_world.proofs.Lists.OpenProved.{opens_law}
+use Rattle.sbp_world.proofs.Lists.Runs.{EarlyAfter, early_after}
+use Rattle.sbp_world.proofs.Lists.Courses.{EveryPlace}
+use Rattle.sbp_world.specs.Lists.Opens.{OpensLaw}
+use Rattle.sbp_journal.specs.declared.event.Event.{Event}
 
 abbrev AllTold : List Disk → (ℕ → Bool) → List Moment → WorldState → Type 0
 AllTold start wild ms w =
@@ -428,3 +431,83 @@ module _ (wild : ℕ → Bool) (units ready : ℕ) (has : 0 < units) (start : Li
 
 told_walk : (wild : ℕ → Bool) (units ready : ℕ) → 0 < units → (start : List Disk) → Walks wild units ready start Ground (WhereTame AreWhole) (AllTold start wild)
 told_walk wild units ready has start past s later t step p = λ all_own q b e n list latest. told_now wild units ready has start past s later t step all_own p q b e n list latest
+
+-- ---- over a run in which no initiator injected packets
+module _ (line : ℕ) (run : Run) (r : IsRun run) (has : 0 < run.units) (small : run.units ≤ 4) (size : length run.start.disks ≡ run.units) where
+  abbrev first_disks : List Disk
+  first_disks = run.start.disks
+
+  abbrev last : Scene
+  last = after (beginning run) run.entries
+
+  abbrev All : (ℕ → Bool) → List Moment → WorldState → Type 0
+  All wild ms w = AllTold first_disks wild ms w
+
+  no_answers : (m : Machine) → m ≡ new_desk.agent → answers m.phase ≡ true → ⊥
+  no_answers m same e = no (ap (λ (y : Machine). answers y.phase) (sym same) ∙ e)
+
+  first : (wild : ℕ → Bool) → All wild (moments_behind line run []) (beginning run).world
+  unfolding new_world
+  first wild all_own q b e n list latest = absurd (no_answers _ (ap (λ (d : Desk). d.agent) (new_desks 8 q)) e)
+    where
+      new_desks : (count p : ℕ) → slice_index_or (replicate count new_desk) p new_desk ≡ new_desk
+      new_desks zero p = refl
+      new_desks (suc count) zero = refl
+      new_desks (suc count) (suc p) = new_desks count p
+
+  abbrev own_walks : (wild : ℕ → Bool) → Walks wild run.units (ready_logins run.initiators run.ready) first_disks Ground (WhereTame AreWhole) (All wild)
+  own_walks wild = told_walk wild run.units (ready_logins run.initiators run.ready) has first_disks
+
+  abbrev opened_by : (wild : ℕ → Bool) → (i : ℕ) → wild i ≡ false → OpensLaw
+  opened_by wild i own = opens_law
+
+  abbrev Over : List Disk → List Moment → WorldState → Type 0
+  Over start = WhereTame AreWhole
+
+  over_law : EveryPlace Over
+  over_law = record {
+    after_lines = λ at_line one is_run some few fits so_far. whole_law.after_lines at_line one is_run some few fits so_far;
+    between = λ at_line one is_run some few fits next most told m so_far. whole_law.between at_line one is_run some few fits next most told m so_far;
+  }
+
+  lines_walked : (wild : ℕ → Bool) → OpenBefore line run run.entries → ((i : ℕ) → wild i ≡ false → IsCalm (history_of line run) i) → All wild (history_of line run) last.world
+  lines_walked wild so_far calm_there = walk_after wild Ground Over (All wild) all_filled over_law line run r.few has small size (own_walks wild) (first wild) run.entries r.short r.entries r.lines (λ i own. so_far) calm_there
+
+  told_after : OpenBefore line run run.entries → IsTame (history_of line run) → AreAnswers first_disks (history_of line run) last.world
+  told_after so_far tame place b answering n list opened = lines_walked (injectors (history_of line run)) so_far (λ j own. own) tame place b (ap answers answering) n list opened.latest
+
+  module _ (next : ℕ) (event : Event) (d : DeliversMore event) (told : List (Option Told)) (m : MayAll told (begun last)) (so_far : OpenBetween line run next event told) where
+    abbrev end : WorldState
+    end = (after_all told (begun last)).world
+
+    abbrev all_past : List Moment
+    all_past = map said end.fresh ++ asked next event ∷ history_of line run
+
+    abbrev wild_there : ℕ → Bool
+    wild_there = injectors all_past
+
+    first_calm : (i : ℕ) → wild_there i ≡ false → IsCalm (history_of line run) i
+    first_calm i own = asked_calm next event (history_of line run) i (calm_before (map said end.fresh) (asked next event ∷ history_of line run) i own)
+
+    x : EarlyAfter wild_there (opened_by wild_there) line run r.few has small size run.entries last.world
+    x = early_after wild_there (opened_by wild_there) line run r.few has small size run.entries r.short r.entries r.lines (λ i own. so_far.before) (λ i own. so_far.begins) first_calm
+
+    walked : All wild_there all_past end
+    walked =
+        let there = subst (λ h. All wild_there h last.world) (sym x.so_far.is) (lines_walked wild_there so_far.before first_calm) in
+        subst (λ h. All wild_there (map said end.fresh ++ asked next event ∷ h) end) x.so_far.is
+        (walk_at wild_there Ground Over (All wild_there) all_filled over_law line run r.few has small size (own_walks wild_there) (first wild_there) run.entries r.short r.entries r.lines (λ i own. so_far.before) x (λ i own. so_far.begins) first_calm next event d told m (λ i own. so_far.goes)
+        (λ i own. subst (λ h. IsCalm (map said end.fresh ++ asked next event ∷ h) i) (sym x.so_far.is) own) there)
+
+    told_between : IsTame all_past → AreAnswers first_disks all_past end
+    told_between tame place b answering n list opened = walked tame place b (ap answers answering) n list opened.latest
+
+delivers : (most : Option ℕ) → DeliversMore (more_deliveries most)
+delivers (Some count) = tt
+delivers None = tt
+
+pub told_law : AnswersToldLaw
+told_law = record {
+  after_lines = λ line run r has small size so_far tame. told_after line run r has small size so_far tame;
+  between = λ line run r has small size next most told m so_far tame. told_between line run r has small size next (more_deliveries most) (delivers most) told m so_far tame;
+}
