@@ -437,6 +437,7 @@ pub mod MachineTurns
 pub mod AnswersKept
 pub mod AnswerRuns
 pub mod AnswerComes
+pub mod AnswerDisks
 pub mod AnswersTold
 pub mod DataWhole
 pub mod DataOffice

@@ -1,4 +1,6 @@
 -- While an agent writes an answer, it is the one that the plain disk had for the command of its present ORB as it ran: so a reply by which a command runs leaves it, and it stays until the ORB ends.
+use Rattle.sbp_world.proofs.Lists.AnswerDisks.{answer_before}
+use Rattle.sbp_world.proofs.Lists.Executes.{execution_run_law}
 use Rattle.sbp_journal.specs.declared.note.Note.TheVariants as notes
 use Rattle.sbp_target.specs.declared.purpose.Purpose.TheVariants as purposes
 use Rattle.sbp_world.specs.Delivering.{MayTell}
@@ -474,7 +476,9 @@ module _ (line : ℕ) (run : Run) (r : IsRun run) (has : 0 < run.units) (small :
   lines_walked wild so_far calm_there = walk_after wild Ground Over (All wild) all_filled over_law line run r.few has small size (own_walks wild) (first wild) run.entries r.short r.entries r.lines (λ i own. so_far) calm_there
 
   told_after : OpenBefore line run run.entries → IsTame (history_of line run) → AreAnswers first_disks (history_of line run) last.world
-  told_after so_far tame place b answering n list opened = lines_walked (injectors (history_of line run)) so_far (λ j own. own) tame place b (ap answers answering) n list opened.latest
+  told_after so_far tame place b answering n list opened =
+      answer_before first_disks (injectors (history_of line run)) (history_of line run) (initiator_in last.world place) n (ends (history_of line run) (initiator_in last.world place) n) (machine_at last.world place).answer (tame (initiator_in last.world place)) (execution_run_law.after_lines line run r has small size so_far)
+      (lines_walked (injectors (history_of line run)) so_far (λ j own. own) tame place b (ap answers answering) n list opened.latest)
 
   module _ (next : ℕ) (event : Event) (d : DeliversMore event) (told : List (Option Told)) (m : MayAll told (begun last)) (so_far : OpenBetween line run next event told) where
     abbrev end : WorldState
@@ -500,7 +504,9 @@ module _ (line : ℕ) (run : Run) (r : IsRun run) (has : 0 < run.units) (small :
         (λ i own. subst (λ h. IsCalm (map said end.fresh ++ asked next event ∷ h) i) (sym x.so_far.is) own) there)
 
     told_between : IsTame all_past → AreAnswers first_disks all_past end
-    told_between tame place b answering n list opened = walked tame place b (ap answers answering) n list opened.latest
+    told_between tame place b answering n list opened =
+        answer_before first_disks wild_there all_past (initiator_in end place) n (ends all_past (initiator_in end place) n) (machine_at end place).answer (tame (initiator_in end place)) (execution_run_law.between line run r has small size next event d told m so_far)
+        (walked tame place b (ap answers answering) n list opened.latest)
 
 delivers : (most : Option ℕ) → DeliversMore (more_deliveries most)
 delivers (Some count) = tt
