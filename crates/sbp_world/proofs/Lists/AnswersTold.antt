@@ -351,9 +351,6 @@ module _ (wild : ℕ → Bool) (units ready : ℕ) (has : 0 < units) (start : Li
         good : check_in r.outcome ≡ None
         good = ap check_in (sym outcome_same) ∙ x.good
 
-        unit : ℕ
-        unit = (holder w r.place).unit
-
         unit_is : (holder w r.place).unit ≡ by.login.unit
         unit_is =
             let held = step.stands.reached.site.held.held r.place by.login (served_there w.target r.place by.login by.served) in
