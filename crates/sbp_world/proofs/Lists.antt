@@ -450,6 +450,12 @@ pub mod DueWalk
 pub mod DataProved
 pub mod DataOver
 pub mod DataHolds
+pub mod MachineTurns
+pub mod AnswersKept
+pub mod AnswerRuns
+pub mod AnswerComes
+pub mod AnswerDisks
+pub mod AnswersTold
 pub mod DataWhole
 pub mod DataOffice
 pub mod DataPlaces

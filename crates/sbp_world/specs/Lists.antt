@@ -71,3 +71,4 @@ pub mod DataHolds
 pub mod DataSequences
 pub mod DataServes
 pub mod DataWhole
+pub mod AnswersTold

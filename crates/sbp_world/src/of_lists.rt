@@ -33,6 +33,7 @@ ghost use Rattle.sbp_world.specs.Lists.Contents.{ContentsLaw};
 ghost use Rattle.sbp_world.specs.Lists.ReadFeeds.{ReadAndFedLaw};
 ghost use Rattle.sbp_world.specs.Lists.ReadOrbs.{ReadOrbsLaw};
 ghost use Rattle.sbp_world.specs.Lists.AnswerLengths.{AnswerLengthsLaw};
+ghost use Rattle.sbp_world.specs.Lists.AnswersTold.{AnswersToldLaw};
 ghost use Rattle.sbp_world.specs.Lists.EndReads.{EndsReadLaw};
 ghost use Rattle.sbp_world.specs.Lists.DataEnds.{AnswersEndLaw};
 ghost use Rattle.sbp_world.specs.Lists.DataGots.{DataGotsLaw, ServedGotLaw};
@@ -558,6 +559,13 @@ pub fn data_that_were_served_were_got()
 #[tactic(auto, using(crate::proofs::Lists::DataWhole::whole_law))]
 pub fn answers_fill_their_buffers()
     ensures { AnswersWholeLaw }
+{}
+
+/// In every run in which no initiator injected packets, where lists were open as they should be before, the answer that an agent writes
+/// is the one that the plain disk had for the command of its present ORB as this ran, where the medium told its bytes.
+#[tactic(auto, using(crate::proofs::Lists::AnswersTold::told_law))]
+pub fn answers_are_as_the_disk_told()
+    ensures { AnswersToldLaw }
 {}
 
 /// In each turn of every run, whatever anyone injected, the effects stand before the packets that are sent in it, as the action law

@@ -40,7 +40,7 @@ use Rattle.command_agent.specs.declared.phase.Phase.{Phase}
 use Rattle.command_agent.specs.declared.phase.Phase.TheVariants as phases
 use Rattle.sbp_world.proofs.Lists.Follows.{AreSame}
 use Rattle.sbp_world.proofs.Lists.Kept.{IsBeside}
-use Rattle.sbp_world.proofs.Lists.Full.{IsFull, abort_full, reset_full}
+use Rattle.sbp_world.proofs.Lists.Full.{IsClosed}
 
 desk_either : (desks : List Desk) (k p : ℕ) (d : Desk) → ((p ≡ k) × (slice_index_or (slice_set desks k d) p new_desk ≡ d)) ⊎ (slice_index_or (slice_set desks k d) p new_desk ≡ slice_index_or desks p new_desk)
 desk_either [] k p d = inr refl
@@ -125,7 +125,7 @@ cut_more p told side w = record {
 }
 
 -- ---- by what the agents were
-module _ (before : ℕ → Machine) where
+module _ (F : ℕ → Machine → Type 0) (closed : IsClosed F) (before : ℕ → Machine) where
   -- it is in its phase still, or was cut
   abbrev pub Stays : Scene → ℕ → Type 0
   Stays s p = ((desk_at s.node p).agent.phase ≡ (before p).phase) ⊎ WasCut p s.outbox.sides
@@ -134,7 +134,7 @@ module _ (before : ℕ → Machine) where
     pub desks : length s.node.desks ≡ 8
     pub beside : AreBeside s.outbox.sides
     pub stays : (p : ℕ) → Stays s p
-    pub full : (p : ℕ) → IsFull (before p) → IsFull (desk_at s.node p).agent
+    pub full : (p : ℕ) → F p (before p) → F p (desk_at s.node p).agent
 
   -- and nothing but cuts was told
   pub record First (s : Scene) : Type 0 where
@@ -150,7 +150,7 @@ module _ (before : ℕ → Machine) where
     desks = a.desks ∙ c.desks;
     beside = subst AreBeside (sym e) c.beside;
     stays = λ p. stay_as s t p (ap (λ (m : Machine). m.phase) (a.agents p)) e (c.stays p);
-    full = λ p h. subst (λ m. IsFull m) (sym (a.agents p)) (c.full p h);
+    full = λ p h. subst (λ m. F p m) (sym (a.agents p)) (c.full p h);
   }
 
   -- with the same desks
@@ -169,11 +169,11 @@ module _ (before : ℕ → Machine) where
       by p (inr w) = inr (cut_more p s.outbox.sides side w)
 
   -- another desk
-  full_more : (s : Scene) (k : ℕ) (d : Desk) → (IsFull (Here s.node k) → IsFull d.agent) → (p : ℕ) → ((p ≡ k) × (desk_at (with_desk s.node k d) p ≡ d)) ⊎ (desk_at (with_desk s.node k d) p ≡ desk_at s.node p) → IsFull (Here s.node p) → IsFull (desk_at (with_desk s.node k d) p).agent
-  full_more s k d l p (inl h) f = subst (λ (x : Desk). IsFull x.agent) (sym h.1) (l (subst (λ j. IsFull (Here s.node j)) h.0 f))
-  full_more s k d l p (inr h) f = subst (λ (x : Desk). IsFull x.agent) (sym h) f
+  full_more : (s : Scene) (k : ℕ) (d : Desk) → (F k (Here s.node k) → F k d.agent) → (p : ℕ) → ((p ≡ k) × (desk_at (with_desk s.node k d) p ≡ d)) ⊎ (desk_at (with_desk s.node k d) p ≡ desk_at s.node p) → F p (Here s.node p) → F p (desk_at (with_desk s.node k d) p).agent
+  full_more s k d l p (inl h) f = subst (λ (x : Desk). F p x.agent) (sym h.1) (subst (λ j. F j d.agent) (sym h.0) (l (subst (λ j. F j (Here s.node j)) h.0 f)))
+  full_more s k d l p (inr h) f = subst (λ (x : Desk). F p x.agent) (sym h) f
 
-  pub desk_more : (s : Scene) (k : ℕ) (d : Desk) → d.agent.phase ≡ (Here s.node k).phase → (IsFull (Here s.node k) → IsFull d.agent) → Cutting s → Cutting (scene (with_desk s.node k d) s.outbox)
+  pub desk_more : (s : Scene) (k : ℕ) (d : Desk) → d.agent.phase ≡ (Here s.node k).phase → (F k (Here s.node k) → F k d.agent) → Cutting s → Cutting (scene (with_desk s.node k d) s.outbox)
   desk_more s k d e l c = record {
     desks = length-set s.node.desks k d ∙ c.desks;
     beside = c.beside;
@@ -220,7 +220,7 @@ module _ (before : ℕ → Machine) where
     cut_there =
         let b = is_reset (state_in (Here s.node place).phase) in
         record {
-          cutting = record { desks = length-set s.node.desks place d ∙ c.cutting.desks; beside = cut_beside b; stays = λ p. one_cut b refl p (c.cutting.stays p) (desk_either s.node.desks place p d); full = λ p f. full_more s place d (λ x. reset_full (Here s.node place)) p (desk_either s.node.desks place p d) (c.cutting.full p f) };
+          cutting = record { desks = length-set s.node.desks place d ∙ c.cutting.desks; beside = cut_beside b; stays = λ p. one_cut b refl p (c.cutting.stays p) (desk_either s.node.desks place p d); full = λ p f. full_more s place d (λ x. closed.reset place (Here s.node place)) p (desk_either s.node.desks place p d) (c.cutting.full p f) };
           plain = cut_plain b;
         }
 
@@ -280,7 +280,7 @@ module _ (before : ℕ → Machine) where
       let t = cut_place place cuts.Logout s in
       side_more (scene (left_desk place t.node) t.outbox) (sides.Left login) tt
       (desk_more t place (record (desk_at t.node place) { is_enabled = false }) refl (λ f. f) (cuts_placed (place_in place) cuts.Logout s c).cutting)
-  effects_by (effects.Abort place orb) login s c = desk_more s place (record (desk_at s.node place) { agent = abort_step (desk_at s.node place).agent orb }) (abort_phase (Here s.node place) orb) (abort_full (Here s.node place) orb) c.cutting
+  effects_by (effects.Abort place orb) login s c = desk_more s place (record (desk_at s.node place) { agent = abort_step (desk_at s.node place).agent orb }) (abort_phase (Here s.node place) orb) (closed.abort place (Here s.node place) orb) c.cutting
   effects_by (effects.AbortSet place) login s c = (cuts_placed (place_in place) cuts.AbortSet s c).cutting
   effects_by (effects.UnitReset unit) login s c =
       let t = cut_all cuts.UnitReset (Some unit) s in

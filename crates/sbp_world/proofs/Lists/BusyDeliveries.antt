@@ -54,7 +54,7 @@ use Rattle.sbp_world.proofs.Lists.OpenTurns.{AreSeated, refused, waits_place}
 use Rattle.sbp_world.proofs.Lists.Busy.{is_busy}
 use Rattle.sbp_target.specs.Serving.{ring}
 use Rattle.sbp_target.specs.Receiving.{seen, ticked}
-use Rattle.sbp_world.proofs.Lists.Full.{IsFull, point_full}
+use Rattle.sbp_world.proofs.Lists.Full.{IsClosed}
 
 no : false ≡ true → ⊥
 no e = cc
@@ -64,17 +64,17 @@ ahead_lists phases.Reset x f e = absurd (no (sym (f refl) ∙ e))
 ahead_lists phases.Dead x f e = absurd (no (sym (f refl) ∙ e))
 ahead_lists _ x f e = refl
 
-module _ (w : WorldState) (g : Good w.target) (Given : Type 0) where
+module _ (w : WorldState) (g : Good w.target) (Given : Type 0) (F : ℕ → Machine → Type 0) (closed : IsClosed F) where
   -- what a call does
   pub data Called (layer : Layer Purpose) (s : Scene) : Type 0 where
-    rests : Cutting (M w g Given layer) s → Called layer s
-    acts : (q : ℕ) (b : q < 8) → has_list (M w g Given layer q).phase ≡ true → Acts q b (is_busy (M w g Given layer q).phase ≡ true) Given (M w g Given layer) s → Called layer s
-    points : (q : ℕ) (b : q < 8) → Acts q b (Unit {0}) Given (M w g Given layer) s → Called layer s
+    rests : Cutting F closed (M w g Given F closed layer) s → Called layer s
+    acts : (q : ℕ) (b : q < 8) → has_list (M w g Given F closed layer q).phase ≡ true → Acts q b (is_busy (M w g Given F closed layer q).phase ≡ true) Given F closed (M w g Given F closed layer) s → Called layer s
+    points : (q : ℕ) (b : q < 8) → Acts q b (Unit {0}) Given F closed (M w g Given F closed layer) s → Called layer s
 
-  begins : (layer : Layer Purpose) → First (M w g Given layer) (first w g Given layer)
+  begins : (layer : Layer Purpose) → First F closed (M w g Given F closed layer) (first w g Given F closed layer)
   begins layer = record { cutting = record { desks = g.mid.size; beside = tt; stays = λ p. inl refl; full = λ p f. f }; plain = tt }
 
-  starting : (layer : Layer Purpose) → Cutting (M w g Given layer) (first w g Given layer)
+  starting : (layer : Layer Purpose) → Cutting F closed (M w g Given F closed layer) (first w g Given F closed layer)
   starting layer = (begins layer).cutting
 
   waits_has : (place : ℕ) → place < 8 → (peer : ℕ) (label : LabelParts) (which : Which) → which_in (desk_at w.target place) peer label ≡ Some which → has_list (desk_at w.target place).agent.phase ≡ true
@@ -86,15 +86,15 @@ module _ (w : WorldState) (g : Good w.target) (Given : Type 0) where
       ahead_lists d.agent.phase (is_ahead d.agent.ahead) (g.mid.fits place b (not_eight place b)).agent.bare
       (ahead_of (is_that d.main peer label) (is_sent d.agent.phase) (is_that d.ahead peer label) (is_ahead d.agent.ahead) e)
 
-  module _ (seats : AreSeated w) (sent : Sent) (run : Option Told) (media : Held) (replies : (p : Packet) (label : LabelParts) (place : ℕ) → (judging_step w.target.layer sent.generation sent.bytes).0 ≡ of_response p label (Some (purposes.Agent place)) → place < 8 → (login : Login) → served_login w.target place ≡ Some login → (which : Which) → which_in (desk_at w.target place) (header_in p).source label ≡ Some which → Given → IsFull (desk_at w.target place).agent → IsFull (reply_step (desk_at w.target place).agent place (plain_in w.target.units media.disks login.unit) run which (answer_in p)).1) where
+  module _ (seats : AreSeated w) (sent : Sent) (run : Option Told) (media : Held) (replies : (p : Packet) (label : LabelParts) (place : ℕ) → (judging_step w.target.layer sent.generation sent.bytes).0 ≡ of_response p label (Some (purposes.Agent place)) → place < 8 → (login : Login) → served_login w.target place ≡ Some login → (which : Which) → which_in (desk_at w.target place) (header_in p).source label ≡ Some which → Given → F place (desk_at w.target place).agent → F place (reply_step (desk_at w.target place).agent place (plain_in w.target.units media.disks login.unit) run which (answer_in p)).1) where
     abbrev layer : Layer Purpose
     layer = (judging_step w.target.layer sent.generation sent.bytes).1
 
     abbrev N : ℕ → Machine
-    N = M w g Given layer
+    N = M w g Given F closed layer
 
     abbrev here : Scene
-    here = first w g Given layer
+    here = first w g Given F closed layer
 
     abbrev all : Whole
     all = whole here media.disks
@@ -102,51 +102,51 @@ module _ (w : WorldState) (g : Good w.target) (Given : Type 0) where
     abbrev Now : Scene → Type 0
     Now s = Called layer s
 
-    answer : (p : Packet) (rcode : ℕ) (given : List ℕ) (s : Scene) → Cutting N s → Now (answered p sent.bytes rcode given s)
-    answer p rcode given s k = rests (answers N p sent.bytes rcode given s k)
+    answer : (p : Packet) (rcode : ℕ) (given : List ℕ) (s : Scene) → Cutting F closed N s → Now (answered p sent.bytes rcode given s)
+    answer p rcode given s k = rests (answers F closed N p sent.bytes rcode given s k)
 
     reply_by : (p : Packet) (label : LabelParts) (place : ℕ) → (judging_step w.target.layer sent.generation sent.bytes).0 ≡ of_response p label (Some (purposes.Agent place)) → (login : Option Login) → served_login w.target place ≡ login → (which : Option Which) → which_in (desk_at w.target place) (header_in p).source label ≡ which → (let x = replied_by run place (answer_in p) login which all in Now (scene x.node x.outbox))
     reply_by p label place f None l which e = rests (starting layer)
     reply_by p label place f (Some login) l None e = rests (starting layer)
     reply_by p label place f (Some login) l (Some which) e =
         let b = waits_place w g seats place (header_in p).source label which e in
-        acts place b (waits_has place b (header_in p).source label which e) (reply_acts w g Given layer place b login which run (answer_in p) media.disks (replies p label place f b login l which e))
+        acts place b (waits_has place b (header_in p).source label which e) (reply_acts w g Given F closed layer place b login which run (answer_in p) media.disks (replies p label place f b login l which e))
 
     concludes : (p : Packet) (label : LabelParts) (purpose : Option Purpose) → (judging_step w.target.layer sent.generation sent.bytes).0 ≡ of_response p label purpose → (let x = concluded run purpose (header_in p).source label (answer_in p) all in Now (scene x.node x.outbox))
     unfolding concluded replied_to
     concludes p label None f = rests (starting layer)
-    concludes p label (Some (purposes.Agent place)) f = reply_by p label place f (served_login (there w g Given layer) place) refl (which_in (desk_at w.target place) (header_in p).source label) refl
-    concludes p label (Some purposes.Management) f = rests (manages N (answer_in p) here (begins layer))
-    concludes p label (Some purposes.Unsolicited) f = rests (same_desks N here (settled (header_in p).source here.node) empty_outbox refl refl (starting layer))
+    concludes p label (Some (purposes.Agent place)) f = reply_by p label place f (served_login (there w g Given F closed layer) place) refl (which_in (desk_at w.target place) (header_in p).source label) refl
+    concludes p label (Some purposes.Management) f = rests (manages F closed N (answer_in p) here (begins layer))
+    concludes p label (Some purposes.Unsolicited) f = rests (same_desks F closed N here (settled (header_in p).source here.node) empty_outbox refl refl (starting layer))
 
     -- ---- a request
     point_by : (p : Packet) (place : ℕ) (pointer : OrbPointer) → place < 8 → (x : Result Ask PointRefusal) → (point_step (N place) pointer).0 ≡ x → Now (point place pointer p sent.bytes here)
     unfolding point
-    point_by p place pointer small (Ok ask) e = points place small (taken_acts w g Given layer place small p sent.bytes pointer ask e)
+    point_by p place pointer small (Ok ask) e = points place small (taken_acts w g Given F closed layer place small p sent.bytes pointer ask e)
     point_by p place pointer small (Err refusal) e =
         let now = (point_step (N place) pointer).1 in
         let d = record (desk_at here.node place) { agent = now } in
         let t = scene (with_desk here.node place d) empty_outbox in
         subst (λ (x : Result Ask PointRefusal). Now (pointed_by place p sent.bytes (pointed_desk (desk_at here.node place) (x, now)) here)) (sym e)
-        (answer p (rcode_of refusal) [] t (desk_more N here place d (ap (λ (m : Machine). m.phase) (refused (N place) pointer refusal e)) (point_full (N place) pointer) (starting layer)))
+        (answer p (rcode_of refusal) [] t (desk_more F closed N here place d (ap (λ (m : Machine). m.phase) (refused (N place) pointer refusal e)) (closed.point place (N place) pointer) (starting layer)))
 
     ring_by : (p : Packet) (place : ℕ) → place < 8 → (x : Bool) → has_list (N place).phase ≡ x → Now (ring place p sent.bytes here)
-    ring_by p place small true e = acts place small e (rung_acts w g Given layer place small p sent.bytes)
-    ring_by p place small false e = rests (silent_rests w g Given layer place small p sent.bytes e (starting layer))
+    ring_by p place small true e = acts place small e (rung_acts w g Given F closed layer place small p sent.bytes)
+    ring_by p place small false e = rests (silent_rests w g Given F closed layer place small p sent.bytes e (starting layer))
 
     access_by : (p : Packet) (place : ℕ) (access : Access) → is_barred w.target p ≡ false → demand_of (length w.target.rom) p ≡ demands.Agent place access → Now (accessed_by access place p sent.bytes here)
     access_by p place accesses.State n d = answer p complete _ here (starting layer)
-    access_by p place accesses.Reset n d = answer p complete [] (cut cuts.AgentReset place here) (cuts_one N cuts.AgentReset place here (begins layer)).cutting
+    access_by p place accesses.Reset n d = answer p complete [] (cut cuts.AgentReset place here) (cuts_one F closed N cuts.AgentReset place here (begins layer)).cutting
     access_by p place (accesses.Point pointer) n d = point_by p place pointer (reaches w.target g p place (accesses.Point pointer) n d).small (point_step (N place) pointer).0 refl
     access_by p place accesses.Pointer n d = answer p complete _ here (starting layer)
     access_by p place accesses.Ring n d = ring_by p place (reaches w.target g p place accesses.Ring n d).small (has_list (N place).phase) refl
     access_by p place accesses.Enable n d =
-        answer p complete [] (enabled place here) (desk_more N here place (record (desk_at here.node place) { is_enabled = true }) refl (λ f. f) (starting layer))
+        answer p complete [] (enabled place here) (desk_more F closed N here place (record (desk_at here.node place) { is_enabled = true }) refl (λ f. f) (starting layer))
 
     demand_by : (p : Packet) (demand : Demand) → is_barred w.target p ≡ false → demand_of (length w.target.rom) p ≡ demand → Now (served_as demand p sent.bytes here)
     demand_by p (demands.Refused rcode) n d = answer p rcode [] here (starting layer)
     demand_by p (demands.Rom at len) n d = answer p complete _ here (starting layer)
-    demand_by p (demands.Manage orb) n d = rests (starts N orb p sent.bytes here (starting layer))
+    demand_by p (demands.Manage orb) n d = rests (starts F closed N orb p sent.bytes here (starting layer))
     demand_by p (demands.Agent place access) n d = access_by p place access n d
 
     serve_by : (p : Packet) → is_barred w.target p ≡ false → Now (serve p sent.bytes here)
@@ -176,22 +176,22 @@ module _ (w : WorldState) (g : Good w.target) (Given : Type 0) where
 
   -- ---- a transaction that times out
   module _ (seats : AreSeated w) (layer : Layer Purpose) (peer : ℕ) (label : LabelParts) where
-    late_by : (place : ℕ) (login : Option Login) (which : Option Which) → which_in (desk_at w.target place) peer label ≡ which → Called layer (expired_by place login which (first w g Given layer))
+    late_by : (place : ℕ) (login : Option Login) (which : Option Which) → which_in (desk_at w.target place) peer label ≡ which → Called layer (expired_by place login which (first w g Given F closed layer))
     late_by place None which e = rests (starting layer)
     late_by place (Some login) None e = rests (starting layer)
     late_by place (Some login) (Some which) e =
-        let b = waits_place w g seats place peer label which e in acts place b (waits_has place b peer label which e) (late_acts w g Given layer place b login which)
+        let b = waits_place w g seats place peer label which e in acts place b (waits_has place b peer label which e) (late_acts w g Given F closed layer place b login which)
 
-    pub lapse_called : (purpose : Option Purpose) → Called layer (timed_out purpose peer label (first w g Given layer))
+    pub lapse_called : (purpose : Option Purpose) → Called layer (timed_out purpose peer label (first w g Given F closed layer))
     unfolding expire_agent
     lapse_called None = rests (starting layer)
     lapse_called (Some (purposes.Agent place)) = late_by place (login_at w.target place) (which_in (desk_at w.target place) peer label) refl
-    lapse_called (Some purposes.Management) = rests (manages (M w g Given layer) Expired (first w g Given layer) (begins layer))
+    lapse_called (Some purposes.Management) = rests (manages F closed (M w g Given F closed layer) Expired (first w g Given F closed layer) (begins layer))
     lapse_called (Some purposes.Unsolicited) = rests (starting layer)
 
   -- ---- a generation that it sees, and a second
-  pub sight_called : (generation id : ℕ) → Called w.target.layer (seen generation id (first w g Given w.target.layer)).1
-  sight_called generation id = rests (sees (M w g Given w.target.layer) generation id (first w g Given w.target.layer) (begins w.target.layer))
+  pub sight_called : (generation id : ℕ) → Called w.target.layer (seen generation id (first w g Given F closed w.target.layer)).1
+  sight_called generation id = rests (sees F closed (M w g Given F closed w.target.layer) generation id (first w g Given F closed w.target.layer) (begins w.target.layer))
 
-  pub tick_called : Called w.target.layer (ticked (first w g Given w.target.layer))
-  tick_called = rests (ticks (M w g Given w.target.layer) (first w g Given w.target.layer) (starting w.target.layer))
+  pub tick_called : Called w.target.layer (ticked (first w g Given F closed w.target.layer))
+  tick_called = rests (ticks F closed (M w g Given F closed w.target.layer) (first w g Given F closed w.target.layer) (starting w.target.layer))

@@ -31,7 +31,7 @@ use Rattle.sbp_target.specs.Units.{announce_at, announce_from, announce_in, anno
 use Rattle.sbp_world.proofs.Lists.Follows.{AreSame, are_self, are_then, set_here, set_there, with_same}
 use Rattle.sbp_world.proofs.Lists.Busy.{is_busy, lost_busy}
 use Rattle.command_agent.specs.Steps as steps
-use Rattle.sbp_world.proofs.Lists.Full.{IsFull, lost_full}
+use Rattle.sbp_world.proofs.Lists.Full.{IsClosed}
 
 -- ---- what is told of the step of an agent
 abbrev pub IsOf : ℕ → Side → Type 0
@@ -78,20 +78,20 @@ ends_now (one ∷ later) place orb status = end_by (has_end (later ++ sides.Ende
 
 -- of the agent of a place
 -- and what is known as it begins
-module _ (q : ℕ) (b : q < 8) (Known Given : Type 0) (machines : ℕ → Machine) where
+module _ (q : ℕ) (b : q < 8) (Known Given : Type 0) (F : ℕ → Machine → Type 0) (closed : IsClosed F) (machines : ℕ → Machine) where
   pub record Acts (s : Scene) : Type 0 where
     pub of : AreOf q s.outbox.sides
     pub desks : length s.node.desks ≡ 8
     pub same : (p : ℕ) → (p ≡ q → ⊥) → (desk_at s.node p).agent ≡ machines p
     pub busy : Known → (is_busy (desk_at s.node q).agent.phase ≡ true) ⊎ (has_end s.outbox.sides ≡ true)
-    pub full : Given → IsFull (machines q) → IsFull (desk_at s.node q).agent
+    pub full : Given → F q (machines q) → F q (desk_at s.node q).agent
 
   alike_busy : (s t : Scene) → AreSame s.node t.node → t.outbox.sides ≡ s.outbox.sides → (is_busy (desk_at s.node q).agent.phase ≡ true) ⊎ (has_end s.outbox.sides ≡ true) → (is_busy (desk_at t.node q).agent.phase ≡ true) ⊎ (has_end t.outbox.sides ≡ true)
   alike_busy s t a e (inl h) = inl (ap (λ (m : Machine). is_busy m.phase) (a.agents q) ∙ h)
   alike_busy s t a e (inr h) = inr (ap has_end e ∙ h)
 
   pub alike : (s t : Scene) → AreSame s.node t.node → t.outbox.sides ≡ s.outbox.sides → Acts s → Acts t
-  alike s t a e m = record { of = subst (AreOf q) (sym e) m.of; desks = a.desks ∙ m.desks; same = λ p f. a.agents p ∙ m.same p f; busy = λ known. alike_busy s t a e (m.busy known); full = λ g f. subst (λ x. IsFull x) (sym (a.agents q)) (m.full g f) }
+  alike s t a e m = record { of = subst (AreOf q) (sym e) m.of; desks = a.desks ∙ m.desks; same = λ p f. a.agents p ∙ m.same p f; busy = λ known. alike_busy s t a e (m.busy known); full = λ g f. subst (λ x. F q x) (sym (a.agents q)) (m.full g f) }
 
   -- ---- a step is told
   ran_of : (x : Option Outcome) (m : Machine) (o : OutboxState) → AreOf q o.sides → AreOf q (tell_ran q m x o).sides
@@ -159,13 +159,13 @@ module _ (q : ℕ) (b : q < 8) (Known Given : Type 0) (machines : ℕ → Machin
     pub desks : length s.node.desks ≡ 8
     pub same : (p : ℕ) → (p ≡ q → ⊥) → (desk_at s.node p).agent ≡ machines p
     pub busy : Known → ((is_busy (desk_at s.node q).agent.phase ≡ true) ⊎ (is_some step.ended ≡ true)) ⊎ (has_end s.outbox.sides ≡ true)
-    pub full : Given → IsFull (machines q) → IsFull (desk_at s.node q).agent
+    pub full : Given → F q (machines q) → F q (desk_at s.node q).agent
 
   pub noted_acts : (step : AgentStep) (s : Scene) → Steps step s → Acts (noted q step s)
   noted_acts step s m =
       let a = noted_same step s m.desks in
       let e : (noted q step s).outbox.sides ≡ (tell_step q (desk_at s.node q).agent step s.outbox).sides = ap (λ (o : OutboxState). o.sides) (noted_outbox step s) in
-      record { of = subst (AreOf q) (sym e) (step_of step (desk_at s.node q).agent s.outbox m.of); desks = a.desks ∙ m.desks; same = λ p f. a.agents p ∙ m.same p f; busy = λ known. by (m.busy known); full = λ g f. subst (λ x. IsFull x) (sym (a.agents q)) (m.full g f) }
+      record { of = subst (AreOf q) (sym e) (step_of step (desk_at s.node q).agent s.outbox m.of); desks = a.desks ∙ m.desks; same = λ p f. a.agents p ∙ m.same p f; busy = λ known. by (m.busy known); full = λ g f. subst (λ x. F q x) (sym (a.agents q)) (m.full g f) }
     where
       by : ((is_busy (desk_at s.node q).agent.phase ≡ true) ⊎ (is_some step.ended ≡ true)) ⊎ (has_end s.outbox.sides ≡ true) → (is_busy (desk_at (noted q step s).node q).agent.phase ≡ true) ⊎ (has_end (noted q step s).outbox.sides ≡ true)
       by (inl (inl h)) = inl (ap (λ (m : Machine). is_busy m.phase) ((noted_same step s m.desks).agents q) ∙ h)
@@ -194,7 +194,7 @@ module _ (q : ℕ) (b : q < 8) (Known Given : Type 0) (machines : ℕ → Machin
   lost_steps s which m =
       let l = lost_step (desk_at s.node q).agent which causes.Label in
       let d = record (desk_at s.node q) { agent = l.1 } in
-      record { of = m.of; desks = length-set s.node.desks q d ∙ m.desks; same = λ p f. ap (λ (x : Desk). x.agent) (set_there s.node q p d (let e = m.desks in omega (arith, e)) f) ∙ m.same p f; busy = λ known. by (m.busy known); full = λ g h. subst (λ x. IsFull x) (sym is_set) (lost_full (desk_at s.node q).agent which causes.Label (m.full g h)) }
+      record { of = m.of; desks = length-set s.node.desks q d ∙ m.desks; same = λ p f. ap (λ (x : Desk). x.agent) (set_there s.node q p d (let e = m.desks in omega (arith, e)) f) ∙ m.same p f; busy = λ known. by (m.busy known); full = λ g h. subst (λ x. F q x) (sym is_set) (closed.lost q (desk_at s.node q).agent which causes.Label (m.full g h)) }
     where
       l : AgentStep × Machine
       l = lost_step (desk_at s.node q).agent which causes.Label

@@ -44,7 +44,7 @@ use Rattle.sbp_world.proofs.Lists.Busy.{StaysBusy, is_busy, lost_busy, replied_b
 use Rattle.sbp_world.proofs.Lists.BusyCuts.{Cutting, answers, desk_more}
 use Rattle.sbp_world.proofs.Lists.BusyFollows.{Acts, Steps, alike, announce_from_acts, asks_acts, follow_acts}
 use Rattle.sbp_world.proofs.Lists.Follows.{AreSame, are_self, set_here, set_there}
-use Rattle.sbp_world.proofs.Lists.Full.{IsFull, bell_full, lost_full, point_full}
+use Rattle.sbp_world.proofs.Lists.Full.{IsClosed}
 
 no : false ≡ true → ⊥
 no e = cc
@@ -94,7 +94,7 @@ unfolding point_step
 takes m pointer ask e = takes_in _ m pointer ask e
 
 -- ---- a call of the target
-module _ (w : WorldState) (g : Good w.target) (Given : Type 0) (layer : Layer Purpose) where
+module _ (w : WorldState) (g : Good w.target) (Given : Type 0) (F : ℕ → Machine → Type 0) (closed : IsClosed F) (layer : Layer Purpose) where
   abbrev pub M : ℕ → Machine
   M p = (desk_at w.target p).agent
 
@@ -112,14 +112,14 @@ module _ (w : WorldState) (g : Good w.target) (Given : Type 0) (layer : Layer Pu
     Busy = is_busy (M q).phase ≡ true
 
     abbrev pub By : Type 0 → Scene → Type 0
-    By Known s = Acts q b Known Given M s
+    By Known s = Acts q b Known Given F closed M s
 
     changed_same : (x : Bool) (unit place : ℕ) (one : NodeState) → AreSame one (changed_by x unit place one)
     changed_same true unit place one = record { desks = refl; agents = λ p. refl }
     changed_same false unit place one = are_self one
 
     announced_acts : (x : Bool) (unit : ℕ) (s : Scene) → By Busy s → By Busy (announced_by x unit q s)
-    announced_acts true unit s m = announce_from_acts q b Busy Given M 8 0 unit q (omega arith) s m
+    announced_acts true unit s m = announce_from_acts q b Busy Given F closed M 8 0 unit q (omega arith) s m
     announced_acts false unit s m = m
 
     -- the desk is another
@@ -134,7 +134,7 @@ module _ (w : WorldState) (g : Good w.target) (Given : Type 0) (layer : Layer Pu
     busy_at step now e (inr h) = inr h
 
     -- ---- a reply
-    pub reply_acts : (login : Login) (which : Which) (run : Option Told) (answer : Answer) (disks : List Disk) → (Given → IsFull (M q) → IsFull (reply_step (M q) q (plain_in there.units disks login.unit) run which answer).1) → (let x = advance run q login which answer (whole first disks) in By Busy (scene x.node x.outbox))
+    pub reply_acts : (login : Login) (which : Which) (run : Option Told) (answer : Answer) (disks : List Disk) → (Given → F q (M q) → F q (reply_step (M q) q (plain_in there.units disks login.unit) run which answer).1) → (let x = advance run q login which answer (whole first disks) in By Busy (scene x.node x.outbox))
     unfolding advance replied follow_all
     reply_acts login which run answer disks reply_full =
         let plain = plain_in there.units disks login.unit in
@@ -146,14 +146,14 @@ module _ (w : WorldState) (g : Good w.target) (Given : Type 0) (layer : Layer Pu
         let c = changed_same loaded login.unit q st.node in
         let s = scene later empty_outbox in
         let now : (desk_at later q).agent ≡ step.1 = c.agents q ∙ is_set there d g.mid.size in
-        let m : Steps q b Busy Given M step.0 s = record {
+        let m : Steps q b Busy Given F closed M step.0 s = record {
           of = tt;
           desks = c.desks ∙ (length-set there.desks q d ∙ g.mid.size);
           same = λ p f. c.agents p ∙ other_set d p f;
           busy = λ known. inl (busy_at step (desk_at later q).agent now (replied_busy (M q) q plain run which answer known));
-          full = λ f h. subst (λ x. IsFull x) (sym now) (reply_full f h);
+          full = λ f h. subst (λ x. F q x) (sym now) (reply_full f h);
         } in
-        announced_acts loaded login.unit (follow q login step.0 s) (follow_acts q b Busy Given M login step.0 s m)
+        announced_acts loaded login.unit (follow q login step.0 s) (follow_acts q b Busy Given F closed M login step.0 s m)
 
     -- ---- a time-out
     pub late_acts : (login : Login) (which : Which) → By Busy (expired_by q (Some login) (Some which) first)
@@ -161,12 +161,12 @@ module _ (w : WorldState) (g : Good w.target) (Given : Type 0) (layer : Layer Pu
         let loss = lost_step (M q) which causes.Timeout in
         let d : Desk = record (taken which (desk_at w.target q)) { agent = loss.1 } in
         let s = scene (with_desk there q d) empty_outbox in
-        follow_acts q b Busy Given M login loss.0 s (record {
+        follow_acts q b Busy Given F closed M login loss.0 s (record {
           of = tt;
           desks = length-set there.desks q d ∙ g.mid.size;
           same = λ p f. other_set d p f;
           busy = λ known. inl (busy_at loss (desk_at (with_desk there q d) q).agent (is_set there d g.mid.size) (lost_busy (M q) which causes.Timeout known));
-          full = λ f h. subst (λ x. IsFull x) (sym (is_set there d g.mid.size)) (lost_full (M q) which causes.Timeout h);
+          full = λ f h. subst (λ x. F q x) (sym (is_set there d g.mid.size)) (closed.lost q (M q) which causes.Timeout h);
         })
 
     -- ---- what is asked of the registers
@@ -176,11 +176,11 @@ module _ (w : WorldState) (g : Good w.target) (Given : Type 0) (layer : Layer Pu
       answered_acts rcode given Known s m = by (answering_step s.node.layer request bytes rcode given)
         where
           by : (r : List ℕ × Layer Purpose) → By Known (scene (record s.node { layer = (answered_by r s.outbox (header_in request).source).0 }) (answered_by r s.outbox (header_in request).source).1)
-          by (out, rest) = alike q b Known Given M s (scene (record s.node { layer = rest }) (answered_by (out, rest) s.outbox (header_in request).source).1) (record { desks = refl; agents = λ p. refl }) refl m
+          by (out, rest) = alike q b Known Given F closed M s (scene (record s.node { layer = rest }) (answered_by (out, rest) s.outbox (header_in request).source).1) (record { desks = refl; agents = λ p. refl }) refl m
 
       asked_acts : (ask : Ask) (login : Option Login) (Known : Type 0) (s : Scene) → By Known s → By Known (asked_in q ask login s)
       asked_acts ask None Known s m = m
-      asked_acts ask (Some login) Known s m = asks_acts q b Known Given M login ask s m
+      asked_acts ask (Some login) Known s m = asks_acts q b Known Given F closed M login ask s m
 
       -- a doorbell
       pub rung_acts : By Busy (ring q request bytes first)
@@ -196,14 +196,14 @@ module _ (w : WorldState) (g : Good w.target) (Given : Type 0) (layer : Layer Pu
             desks = length-set there.desks q d ∙ g.mid.size;
             same = λ p f. other_set d p f;
             busy = λ known. inl (ap (λ (m : Machine). is_busy m.phase) (is_set there d g.mid.size) ∙ rings_in (M q).phase (M q) known);
-            full = λ f h. subst (λ x. IsFull x) (sym (is_set there d g.mid.size)) (bell_full (M q) h);
+            full = λ f h. subst (λ x. F q x) (sym (is_set there d g.mid.size)) (closed.bell q (M q) h);
           }))
 
-      pub silent_rests : has_list (M q).phase ≡ false → Cutting M first → Cutting M (ring q request bytes first)
+      pub silent_rests : has_list (M q).phase ≡ false → Cutting F closed M first → Cutting F closed M (ring q request bytes first)
       unfolding ring
       silent_rests e c =
           let m = M q in
-          subst (λ (x : Ask × Machine). Cutting M (rung_by q request bytes x first)) (sym (silent_by m.phase m e)) (by (login_at x.node q))
+          subst (λ (x : Ask × Machine). Cutting F closed M (rung_by q request bytes x first)) (sym (silent_by m.phase m e)) (by (login_at x.node q))
         where
           s : Scene
           s = scene (with_agent there q (M q)) empty_outbox
@@ -211,12 +211,12 @@ module _ (w : WorldState) (g : Good w.target) (Given : Type 0) (layer : Layer Pu
           x : Scene
           x = answered request bytes complete [] s
 
-          done : Cutting M x
-          done = answers M request bytes complete [] s (desk_more M first q (record (desk_at there q) { agent = M q }) refl (λ f. f) c)
+          done : Cutting F closed M x
+          done = answers F closed M request bytes complete [] s (desk_more F closed M first q (record (desk_at there q) { agent = M q }) refl (λ f. f) c)
 
-          by : (login : Option Login) → Cutting M (asked_in q Nothing login x)
+          by : (login : Option Login) → Cutting F closed M (asked_in q Nothing login x)
           by None = done
-          by (Some login) = subst (Cutting M) (sym (quiet_follow q login (steps.asks Nothing) x refl)) done
+          by (Some login) = subst (Cutting F closed M) (sym (quiet_follow q login (steps.asks Nothing) x refl)) done
 
       -- a pointer that is taken
       pub taken_acts : (pointer : OrbPointer) (ask : Ask) → (point_step (M q) pointer).0 ≡ Ok ask → By (Unit {0}) (point q pointer request bytes first)
@@ -233,5 +233,5 @@ module _ (w : WorldState) (g : Good w.target) (Given : Type 0) (layer : Layer Pu
             desks = length-set there.desks q d ∙ g.mid.size;
             same = λ p f. other_set d p f;
             busy = λ known. inl (ap (λ (n : Machine). is_busy n.phase) (is_set there d g.mid.size) ∙ takes (M q) pointer ask e);
-            full = λ f h. subst (λ x. IsFull x) (sym (is_set there d g.mid.size)) (point_full (M q) pointer h);
+            full = λ f h. subst (λ x. F q x) (sym (is_set there d g.mid.size)) (closed.point q (M q) pointer h);
           })))

@@ -181,7 +181,7 @@ ran_some (said (notes.Ran j (Some m) (Some l) unit cdb bytes check) ∷ ms) i n 
     pick false b c f g = f g
 ran_some (_ ∷ ms) i n k x e = ran_some ms i n k x e
 
-has_run : (ms : List Moment) (i n k : ℕ) (o : Option Outcome) → is_good o ≡ true → HasRun o (runs ms i n k) (ran_status ms i n k) → 0 < runs ms i n k
+pub has_run : (ms : List Moment) (i n k : ℕ) (o : Option Outcome) → is_good o ≡ true → HasRun o (runs ms i n k) (ran_status ms i n k) → 0 < runs ms i n k
 has_run ms i n k None g h = absurd (let z : false ≡ true = g in cc)
 has_run ms i n k (Some outcome) g h = ran_some ms i n k _ h
 
@@ -733,3 +733,17 @@ module _ (wild : ℕ → Bool) (past : List Moment) (w : WorldState) (r : Ready 
 
     pub reply_whole : IsPart step.1.written (length step.1.answer) (bytes_of step.1.segments)
     reply_whole = by_ran step.0.ran refl
+
+    -- where no command ran, it wrote this answer before; and what ran was good
+    pub answer_kept : step.0.ran ≡ None → (answers M.phase ≡ true) × (step.1.answer ≡ M.answer)
+    answer_kept ran =
+        let same : now_then ≡ before_now = none_then still ∙ ap (λ o. run_by o step.1.answer before_now) ran in
+        let good : is_good G.progress.outcome ≡ true = ap is_good (sym (ap (λ (y : Progress). y.outcome) same ∙ heard_outcome which M (answer_in p) G.progress)) ∙ told_then.ran in
+        let answering = good_answers (orbs ms i O.n) G.progress M.phase M G.along.main is_open good in
+        let had = (subst (λ ph. Knows (orbs ms i O.n) G.progress ph M) answering G.along.main).told in
+        (ap answers answering, told_then.told ∙ (ap (λ (y : Progress). y.answer) same ∙ (heard_answer which M (answer_in p) G.progress ∙ sym had.told)))
+
+    pub ran_well : (outcome : Outcome) → step.0.ran ≡ Some outcome → check_in outcome ≡ None
+    ran_well outcome ran =
+        let is : now_then ≡ run_by (Some outcome) step.1.answer before_now = none_then still ∙ ap (λ o. run_by o step.1.answer before_now) ran in
+        good_check outcome (ap is_good (sym (ap (λ (y : Progress). y.outcome) is)) ∙ told_then.ran)

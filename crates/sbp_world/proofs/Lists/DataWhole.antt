@@ -1,63 +1,20 @@
 -- While an agent writes an answer, it has as many bytes as the buffer of the ORB, and not all were written: the command of a line fills its buffer, and what a run tells has the length of the answer to it.
-use Rattle.sbp_journal.specs.declared.event.Event.TheVariants as events
-use Rattle.sbp_journal.specs.declared.note.Note.TheVariants as notes
-use Rattle.sbp_world.specs.Packets as packets
-use Rattle.sbp_world.specs.Settling as settling
-use Rattle.sbp_world.specs.Nodes as nodes
-use Rattle.std.proofs.Common.{arith, ◌≡◌, ◌∙◌, refl, sym, ap, subst, ◌<◌, ◌≤◌, ℕ, zero, suc, nat_eq, nat_lt, Bool, true, false, cond, List, [], ◌∷◌, length, Option, Some, None, not, ◌||◌, Result, Ok, Err, ◌+◌}
-use Rattle.std.specs.Prelude.{slice_index_or, slice_set, replicate}
-use Rattle.packet_store.specs.declared.sent.Sent.{Sent}
-use Rattle.packet_store.specs.Kept.{found_sent, is_flying}
+use Rattle.std.proofs.Common.{◌≡◌, refl, sym, ap, subst, ◌<◌, ℕ, zero, suc, Bool, true, false, List, [], length, Option, Some, None}
+use Rattle.std.specs.Prelude.{slice_index_or, replicate}
 use Rattle.rbc_disk.specs.Disk.{Disk}
-use Rattle.rbc_disk.specs.Runs.{Told}
-use Rattle.sbp_bus.specs.declared.requests.Request.{Request}
-use Rattle.sbp_bus.specs.Packets.{end_note, judged_note, no_packet}
-use Rattle.sbp_bus.specs.Requests.{find}
-use Rattle.sbp_initiator.specs.Initiators.{new_state}
-use Rattle.sbp_initiator.specs.Receiving.{receive_step}
-use Rattle.sbp_journal.specs.declared.event.Event.{Event}
-use Rattle.sbp_journal.specs.Outgoings.{OutboxState, empty_outbox}
-use Rattle.sbp_journal.specs.Run.{Moment, asked}
-use Rattle.sbp_target.specs.Receiving.{with_key, expired, expired_in, received}
-use Rattle.sbp_world.specs.declared.parts.delivering.Arrival.{Arrival}
-use Rattle.sbp_world.specs.Delivering.{MayAt, MayReceive, MayTold, arrived, at_target, delivered, delivered_by, initiator_received, initiators_received, marked, received_by, received_step, target_received, with_initiators, whole_of, MayTell}
-use Rattle.sbp_world.specs.Handing.{handed_out}
+use Rattle.sbp_journal.specs.Run.{Moment}
 use Rattle.sbp_world.specs.Histories.{moments_behind}
-use Rattle.sbp_world.specs.Lines.{MayHappen, acted, happens, keyed, no_unit, acted_by, weight_in}
-use Rattle.sbp_world.specs.Nodes.{reset_line, see_line, target_sees, target_ticks, tick_line, told_seen, with_seen}
-use Rattle.sbp_world.specs.Packets.{MayIf, delivered_if, expires, initiator_expires, inject_line, is_in_flight, lose_line, may_repeat, refused, target_expired, timed_out, timeout_line, timeout_of, target_left}
 use Rattle.sbp_world.specs.Runs.{Run, beginning, after}
-use Rattle.sbp_world.specs.Settling.{MayNext, delivered_at, delivered_next, lowest, after_all}
-use Rattle.sbp_world.specs.Wire.Lines.{IsLine, FillsBuffer}
-use Rattle.sbp_world.specs.Worlds.{Scene, WorldState, begun, initiator_at, with_note, with_target, without_notes, with_initiator}
-use Rattle.sbp_world.proofs.Wire.Comes.{own_inside, own_outside, received_is, to_own, to_zero}
+use Rattle.sbp_world.specs.Settling.{after_all}
+use Rattle.sbp_world.specs.Worlds.{WorldState, begun, initiator_at}
 use Rattle.sbp_world.proofs.Agents.Management.Still.{hist}
 use Rattle.sbp_world.specs.Lists.Needs.{initiator_in, machine_at}
-use Rattle.sbp_world.proofs.Lists.Adds.{Stays}
-use Rattle.sbp_world.proofs.Lists.Lines.{hears, injects, loses, own_lapses, own_sight, refuses, resets}
-use Rattle.sbp_world.proofs.Lists.Stays.{stays_end, ready_now}
-use Rattle.sbp_world.proofs.Lists.Turned.{IsOne}
-use Rattle.sbp_world.proofs.Lists.Walks.{Turn, Walks, by_delivery, by_end, by_line, by_start}
-use Rattle.std.proofs.lemmas.Bool.Decides.{nat_tests}
-use Rattle.label_table.specs.declared.reply.Stale.{Stale}
-use Rattle.label_table.specs.Layer.{Layer, expiring_step, judging_step}
-use Rattle.packet_store.specs.Stored.{deliver_step}
-use Rattle.sbp_bus.specs.Generations.{id_of}
-use Rattle.sbp_target.specs.Calls.{alone, sees, ticks}
-use Rattle.sbp_target.specs.declared.purpose.Purpose.{Purpose}
-use Rattle.sbp_target.specs.Nodes.{Scene as TargetScene, scene, NodeState, desk_at}
+use Rattle.sbp_world.proofs.Lists.Walks.{Walks}
 use Rattle.sbp_world.specs.Telling.{holder}
-use Rattle.sbp_world.proofs.Lists.BusyDeliveries.{delivery_called, lapse_called, sight_called, tick_called, Called, acts as acting, points, rests}
-use Rattle.sbp_world.proofs.Lists.OpenTurns.{AreSeated}
-use Rattle.sbp_world.proofs.Lists.Turns.{Ready}
-use Rattle.sbp_journal.specs.declared.event.Cmd.{Cmd}
-use Rattle.sbp_laws.specs.Lists.{command_at, slot_at}
+use Rattle.sbp_laws.specs.Lists.{slot_at}
 use Rattle.sbp_target.specs.declared.desk.Desk.{Desk}
 use Rattle.sbp_target.specs.Desks.{new_desk}
-use Rattle.sbp_initiator.specs.Effects.{Turn as OwnTurn}
-use Rattle.sbp_initiator.specs.Acting.{act_step}
 use Rattle.sbp_world.specs.Making.{new_world}
-use Rattle.sbp_world.proofs.Wire.Nodes.{handed_alike}
 use Rattle.sbp_world.specs.Agents.Alike.{answers}
 use Rattle.sbp_world.specs.Agents.Management.Terms.{DeliversMore}
 use Rattle.sbp_world.specs.Hosts.Orbs.{HoldsOrbs}
@@ -67,14 +24,13 @@ use Rattle.sbp_world.specs.Lists.DataWhole.{AnswersWholeLaw}
 use Rattle.sbp_world.proofs.Lists.AnswerLengths.{AreFilled, FillsEvent, commands_fill, filled_behind, filled_said}
 use Rattle.sbp_world.proofs.Lists.DataSteps.{ArePrepared, reply_whole}
 use Rattle.sbp_world.proofs.Lists.Executes.{asked_of}
-use Rattle.sbp_world.proofs.Lists.Full.{IsFull}
+use Rattle.sbp_world.proofs.Lists.Full.{IsFull, full_closed}
 use Rattle.sbp_world.proofs.Lists.RunOutcomes.{AreAsked}
 use Rattle.sbp_world.proofs.Lists.RunTells.{delivery_may}
 use Rattle.sbp_world.proofs.Lists.Sites.{named_prepared}
 use Rattle.sbp_world.proofs.Lists.StatusAnswers.{all_hold}
 use Rattle.sbp_world.proofs.Lists.TameWalks.{tame_after, tame_between}
-use Rattle.rbc_disk.specs.Held.{Held}
-use Rattle.sbp_journal.specs.declared.event.Action.{Action}
+use Rattle.sbp_world.proofs.Lists.MachineTurns.{turn_full}
 
 no : false ≡ true → ⊥
 no e = cc
@@ -82,220 +38,13 @@ no e = cc
 abbrev F : WorldState → Type 0
 F w = (q : ℕ) → q < 8 → IsFull (machine_at w q)
 
-same_target : (w v : WorldState) → v.target ≡ w.target → F w → F v
-same_target w v e o q b = subst (λ (t : NodeState). IsFull (desk_at t q).agent) (sym e) (o q b)
-
--- what is known as a turn begins
-record Facts (wild : ℕ → Bool) (past : List Moment) (w : WorldState) : Type 0 where
-  all_own : (j : ℕ) → wild j ≡ false
-  ready : Ready wild past w
-  seats : AreSeated w
-  asked_orbs : AreAsked wild (hist past w) w
-  prepared : ArePrepared (hist past w) w
-  fills : (j n k : ℕ) (cmd : Cmd) → command_at (hist past w) j n k ≡ Some cmd → FillsBuffer cmd
-
-facts_asked : (wild : ℕ → Bool) (line : ℕ) (event : Event) (past : List Moment) (w : WorldState) → Facts wild past w → Facts wild (asked line event ∷ hist past w) (without_notes w)
-facts_asked wild line event past w f = record {
-  all_own = f.all_own;
-  ready = ready_now wild line event past w f.ready;
-  seats = λ p login e. let k = f.seats p login e in record { holder_is = k.holder_is; there = k.there; id_is = k.id_is };
-  asked_orbs = λ place c is_open mine n list number from below. f.asked_orbs place c is_open mine n list number from below;
-  prepared = λ place n k inside named. let x = f.prepared place n k inside (record { list = named.list; number = named.number }) in record { there = x.there; small = x.small; filled = x.filled };
-  fills = λ j n k cmd e. f.fills j n k cmd e;
-}
-
-module _ (wild : ℕ → Bool) (past : List Moment) where
-  -- ---- a call of the target
-  module _ (w : WorldState) (f : Facts wild past w) (o : F w) where
-    call_full : (layer : Layer Purpose) (s : TargetScene) → Called w f.ready.good (Unit {0}) layer s → (q : ℕ) → q < 8 → IsFull (desk_at s.node q).agent
-    call_full layer s (rests c) q b = c.full q (o q b)
-    call_full layer s (acting p c has a) q b = by (nat_eq q p) refl
-      where
-        by : (x : Bool) → nat_eq q p ≡ x → IsFull (desk_at s.node q).agent
-        by true e = let same : p ≡ q = grind (arith, nat_tests) in subst (λ j. IsFull (desk_at s.node j).agent) same (a.full tt (o p c))
-        by false e = subst (λ m. IsFull m) (sym (a.same q (λ same. no (sym e ∙ (let z : nat_eq q p ≡ true = grind (arith, nat_tests) in z))))) (o q b)
-    call_full layer s (points p c a) q b = by (nat_eq q p) refl
-      where
-        by : (x : Bool) → nat_eq q p ≡ x → IsFull (desk_at s.node q).agent
-        by true e = let same : p ≡ q = grind (arith, nat_tests) in subst (λ j. IsFull (desk_at s.node j).agent) same (a.full tt (o p c))
-        by false e = subst (λ m. IsFull m) (sym (a.same q (λ same. no (sym e ∙ (let z : nat_eq q p ≡ true = grind (arith, nat_tests) in z))))) (o q b)
-
-    called : (u : WorldState) (layer : Layer Purpose) (s : TargetScene) → u.target ≡ s.node → Called w f.ready.good (Unit {0}) layer s → F (handed_out 0 0 s.outbox u)
-    called u layer s is c q b = subst (λ (t : NodeState). IsFull (desk_at t q).agent) (sym ((handed_alike 0 0 s.outbox u).target ∙ is)) (call_full layer s c q b)
-
-    -- ---- a packet that the target gets
-    delivery_full : (serial : ℕ) (sent : Sent) → found_sent serial w.store.kept ≡ Some sent → sent.to ≡ 0 → (run : Option Told) (media : Held) → MayTell run sent w.target media → (again : Bool) → (let x = received run sent.generation sent.bytes (whole_of w.target media) in F (handed_out 0 0 x.1.outbox (with_note (judged_note serial x.0) (marked serial again (with_target x.1.node w)))))
-    delivery_full serial sent found zero_to run media may again =
-        let x = received run sent.generation sent.bytes (whole_of w.target media) in
-        called (with_note (judged_note serial x.0) (marked serial again (with_target x.1.node w))) (judging_step w.target.layer sent.generation sent.bytes).1 (scene x.1.node x.1.outbox) (by (again || not (is_flying serial w.store.kept)))
-        (delivery_called w f.ready.good (Unit {0}) f.seats sent run media
-        (λ p label place judged b login served which e given full e_then.
-        reply_whole wild past w f.ready f.asked_orbs sent (record { serial = serial; found = found; to = zero_to }) run media.disks p label place judged b login which e (f.all_own (holder w place).initiator)
-        (delivery_may w.target f.ready.good.mid.size f.ready.good.table.sound sent run media may p label place judged login served which e) f.prepared f.fills full e_then))
-      where
-        by : (b : Bool) → (let x = received run sent.generation sent.bytes (whole_of w.target media) in (cond b (with_target x.1.node w) (record (with_target x.1.node w) { store = deliver_step w.store serial })).target ≡ x.1.node)
-        by true = refl
-        by false = refl
-
-  -- ---- a packet is delivered
-  module _ (s : Scene) (f : Facts wild past s.world) (o : F s.world) (serial : ℕ) (again : Bool) (run : Option Told) where
-    abbrev w : WorldState
-    w = s.world
-
-    abbrev end : WorldState
-    end = (delivered serial again run s).world
-
-    module _ (sent : Sent) (found : found_sent serial w.store.kept ≡ Some sent) where
-      heard_target : sent.to ≡ 0 → MayTell run sent w.target s.media → F end
-      unfolding delivered target_received arrived
-      heard_target zero_to may =
-          let x = target_received run sent w.target s.media in
-          let last_is : end ≡ handed_out 0 0 x.1.0 (with_note (judged_note serial x.0) (marked serial again (with_target x.1.1.0 w))) =
-          ap (λ (y : Option Arrival × (OutboxState × Scene)). (delivered_by serial again y).world)
-          (received_is run serial s sent found ∙ ap (λ b. cond b (at_target sent.to (target_received run sent w.target s.media) s) (initiator_received sent s)) (to_zero sent.to zero_to))
-          ∙ ap (λ n. handed_out n 0 x.1.0 (with_note (judged_note serial x.0) (marked serial again (with_target x.1.1.0 w)))) zero_to in
-          subst F (sym last_is) (delivery_full w f o serial sent found zero_to run s.media may again)
-
-      heard_own : (i : ℕ) → sent.to ≡ suc i → i < length w.initiators → F end
-      unfolding delivered initiators_received arrived
-      heard_own i to_is inside =
-          let x = receive_step sent.generation sent.bytes empty_outbox (slice_index_or w.initiators i (new_state 0 false)) in
-          let v = with_note (judged_note serial x.0) (marked serial again (with_initiators (slice_set w.initiators i x.1.1) w)) in
-          let last_is : end ≡ handed_out sent.to 0 x.1.0 v =
-          ap (λ (y : Option Arrival × (OutboxState × Scene)). (delivered_by serial again y).world) (to_own run serial i s sent found to_is ∙ own_inside sent i s inside) in
-          let is = last_is ∙ ap (λ n. handed_out n 0 x.1.0 v) to_is in
-          same_target w end (subst (Stays wild past w) (sym is) (hears wild past serial i again sent w)).target o
-
-      heard_none : (i : ℕ) → sent.to ≡ suc i → length w.initiators ≤ i → F end
-      unfolding delivered
-      heard_none i to_is outside =
-          subst F (sym (ap (λ (y : Option Arrival × (OutboxState × Scene)). (delivered_by serial again y).world) (to_own run serial i s sent found to_is ∙ own_outside sent i s outside))) o
-
-      heard_at : (to : ℕ) → sent.to ≡ to → (sent.to ≡ 0 → MayTell run sent w.target s.media) → F end
-      heard_at zero e may = heard_target e (may e)
-      heard_at (suc i) e may = by (nat_lt i (length w.initiators)) refl
-        where
-          by : (b : Bool) → nat_lt i (length w.initiators) ≡ b → F end
-          by true g = heard_own i e (grind arith)
-          by false g = heard_none i e (grind arith)
-
-    heard_by : (so : Option Sent) → found_sent serial w.store.kept ≡ so → MayAt run so s → F end
-    unfolding delivered received_step
-    heard_by None e m = subst F (sym (ap (λ x. (delivered_by serial again (received_by run x s)).world) e)) o
-    heard_by (Some sent) e m = heard_at sent e sent.to refl (λ z. subst (λ b. MayTold b run sent s) (to_zero sent.to z) m)
-
-    heard : MayReceive run serial s → F end
-    unfolding MayReceive
-    heard m = heard_by (found_sent serial w.store.kept) refl m
-
-  next_heard : (s : Scene) → Facts wild past s.world → F s.world → (one : Option Told) (so : Option ℕ) → settling.MayAt so one s → F (delivered_at so one s).world
-  next_heard s f o one None m = absurd m
-  next_heard s f o one (Some serial) m = heard s f o serial false one m
-
-  -- ---- a transaction times out
-  module _ (w : WorldState) (f : Facts wild past w) (o : F w) (line serial : ℕ) where
-    lapse_by : (request : Request) → request.node ≡ 0 → (y : Result (Option Purpose) Stale × Layer Purpose) → F (timed_out line serial request.node (packets.at_target (target_left (expired_in y request.peer request.label (scene w.target empty_outbox)) w.target) w))
-    lapse_by request z (Ok purpose, layer) =
-        let t = (expired_in (Ok purpose, layer) request.peer request.label (scene w.target empty_outbox)).1 in
-        let u = with_note (notes.TimedOut serial) (with_target t.node w) in
-        subst (λ n. F (handed_out n 0 t.outbox u)) (sym z) (called w f o u layer t refl (lapse_called w f.ready.good (Unit {0}) f.seats layer request.peer request.label purpose))
-    lapse_by request z (Err stale, layer) = same_target w (refused line no_packet w) (refuses wild past line no_packet w).target o
-
-    lapse_full : (request : Request) → request.node ≡ 0 → F (timed_out line serial request.node (packets.at_target (target_left (expired request.peer request.label (scene w.target empty_outbox)) w.target) w))
-    unfolding expired
-    lapse_full request z = lapse_by request z (expiring_step w.target.layer request.peer request.label)
-
-    lapses_at : (request : Request) (node : ℕ) → request.node ≡ node → F (timed_out line serial request.node (expires request w))
-    unfolding expires target_expired
-    lapses_at request zero e =
-        let is_zero : nat_eq request.node 0 ≡ true = grind arith in
-        subst (λ b. F (timed_out line serial request.node (cond b (packets.at_target (target_expired request w.target) w) (initiator_expires request w)))) (sym is_zero) (lapse_full request e)
-    lapses_at request (suc i) e =
-        let other : nat_eq request.node 0 ≡ false = grind arith in
-        subst (λ b. F (timed_out line serial request.node (cond b (packets.at_target (target_expired request w.target) w) (initiator_expires request w)))) (sym other)
-        (same_target w (timed_out line serial request.node (initiator_expires request w)) (own_lapses wild past line serial request w).target o)
-
-    late_by : (so : Option Request) → F (timeout_of so line serial w)
-    late_by None = same_target w (refused line no_packet w) (refuses wild past line no_packet w).target o
-    late_by (Some request) = lapses_at request request.node refl
-
-    late : F (timeout_line line serial w)
-    unfolding timeout_line
-    late = late_by (find w.requests serial)
-
-  -- ---- a line that delivers one packet at most
-  one_heard : (s : Scene) → Facts wild past s.world → F s.world → (line serial : ℕ) (again b : Bool) (told : List (Option Told)) → MayIf b serial told s → F (delivered_if b line serial again told s).world
-  one_heard s f o line serial again true [] m = absurd m
-  one_heard s f o line serial again true (one ∷ []) m = heard s f o serial again one m
-  one_heard s f o line serial again true (one ∷ other ∷ more) m = absurd m
-  one_heard s f o line serial again false told m = same_target s.world (refused line no_packet s.world) (refuses wild past line no_packet s.world).target o
-
-  sights : (w : WorldState) → Facts wild past w → F w → (node : ℕ) → F (see_line node w)
-  unfolding see_line nodes.sees target_sees
-  sights w f o zero =
-      let g = w.generations.latest in
-      let t = alone (sees g.generation (id_of g 0)) w.target in
-      called w f o (with_target t.node (with_seen 0 (told_seen 0 w))) w.target.layer t refl (sight_called w f.ready.good (Unit {0}) g.generation (id_of g 0))
-  sights w f o (suc i) = same_target w (see_line (suc i) w) (own_sight wild past w i).target o
-
-  tick_full : (w : WorldState) → Facts wild past w → F w → F (tick_line w)
-  unfolding tick_line target_ticks
-  tick_full w f o =
-      let t = alone ticks w.target in
-      called w f o (with_target t.node (with_note notes.Tick w)) w.target.layer t refl (tick_called w f.ready.good (Unit {0}))
-
-  key_full : (w : WorldState) → F w → (line unit : ℕ) (key : List ℕ) → F (keyed line unit key w)
-  unfolding keyed
-  key_full w o line unit key = by (nat_lt unit (length w.target.units))
-    where
-      by : (b : Bool) → F (cond b (with_note (notes.Key unit) (with_target (with_key unit key w.target) w)) (refused line no_unit w))
-      by true q b = o q b
-      by false q b = same_target w (refused line no_unit w) (refuses wild past line no_unit w).target o q b
-
-  act_full : (w : WorldState) → F w → (line i : ℕ) (action : Action) → F (acted line i action w)
-  unfolding acted
-  act_full w o line i action = by (act_step action empty_outbox (initiator_at w i))
-    where
-      by : (r : Option ℕ × OwnTurn) → F (acted_by r line i action w)
-      by (Some number, turn) = same_target w (refused line number w) (refuses wild past line number w).target o
-      by (None, (outbox, state)) = same_target w (handed_out (i + 1) (weight_in action) outbox (with_initiator i state w)) (handed_alike (i + 1) (weight_in action) outbox (with_initiator i state w)).target o
-
--- ---- a line
-module _ (wild : ℕ → Bool) (past : List Moment) (line : ℕ) (s : Scene) where
-  line_full : (event : Event) (told : List (Option Told)) → IsOne event → IsLine event (length s.world.initiators) → MayHappen event told s → Facts wild (asked line event ∷ hist past s.world) (without_notes s.world) → F (without_notes s.world) → F (happens line event told s).world
-  unfolding happens MayHappen
-  line_full (events.Begin initiators is_ready) told o q m f b = absurd q
-  line_full (events.Act i action) told o q m f b = act_full wild (asked line (events.Act i action) ∷ hist past s.world) (without_notes s.world) b line i action
-  line_full (events.Reset physical) told o q m f b = same_target (without_notes s.world) (reset_line physical (without_notes s.world)) (resets wild (asked line (events.Reset physical) ∷ hist past s.world) (without_notes s.world) physical).target b
-  line_full (events.See node) told o q m f b = sights wild (asked line (events.See node) ∷ hist past s.world) (without_notes s.world) f b node
-  line_full (events.Deliver serial) told o q m f b = one_heard wild (asked line (events.Deliver serial) ∷ hist past s.world) (begun s) f b line serial false (is_in_flight serial (begun s).world) told m
-  line_full (events.Repeat serial) told o q m f b = one_heard wild (asked line (events.Repeat serial) ∷ hist past s.world) (begun s) f b line serial true (may_repeat serial (begun s).world) told m
-  line_full (events.Lose serial) told o q m f b = same_target (without_notes s.world) (lose_line line serial (without_notes s.world)) (loses wild (asked line (events.Lose serial) ∷ hist past s.world) (without_notes s.world) line serial).target b
-  line_full (events.Timeout serial) told o q m f b = late wild (asked line (events.Timeout serial) ∷ hist past s.world) (without_notes s.world) f b line serial
-  line_full (events.Step count) told o q m f b = absurd o
-  line_full events.Settle told o q m f b = absurd o
-  line_full events.Tick told o q m f b = tick_full wild (asked line events.Tick ∷ hist past s.world) (without_notes s.world) f b
-  line_full (events.Inject i bytes) told o q m f b = same_target (without_notes s.world) (inject_line line i bytes (without_notes s.world)) (injects wild (asked line (events.Inject i bytes) ∷ hist past s.world) (without_notes s.world) line i bytes).target b
-  line_full (events.Key unit key) told o q m f b = key_full wild (asked line (events.Key unit key) ∷ hist past s.world) (without_notes s.world) b line unit key
-
--- ---- each turn
-delivery_turn : (wild : ℕ → Bool) (past : List Moment) (s : Scene) (one : Option Told) → MayNext one s → Facts wild past s.world → F s.world → F (delivered_next one s).world
-unfolding delivered_next MayNext
-delivery_turn wild past s one m f b = next_heard wild past s f b one (lowest s.world) m
-
-turn_full : (wild : ℕ → Bool) (past : List Moment) (s : Scene) (later : List Moment) (t : Scene) → Turn past s later t → Facts wild past s.world → F s.world → F t.world
-turn_full wild _ _ _ _ (by_line past s line event told o q m) f b = line_full wild past line s event told o q m (facts_asked wild line event past s.world f) b
-turn_full wild _ _ _ _ (by_start past s line event d) f b = b
-turn_full wild _ _ _ _ (by_delivery past s one m) f b = delivery_turn wild past s one m f b
-turn_full wild _ _ _ _ (by_end past s done) f b = same_target s.world (with_note (end_note done) s.world) (stays_end wild past done s.world).target b
-
 -- ---- over a run in which no initiator injected packets
 -- the commands of lines fill their buffers
-record Ground (ms : List Moment) (w : WorldState) : Type 0 where
-  orbs : (i : ℕ) → i < length w.initiators → HoldsOrbs ms i (initiator_at w i)
-  fills : AreFilled ms
+pub record Ground (ms : List Moment) (w : WorldState) : Type 0 where
+  pub orbs : (i : ℕ) → i < length w.initiators → HoldsOrbs ms i (initiator_at w i)
+  pub fills : AreFilled ms
 
-all_filled : Always Ground
+pub all_filled : Always Ground
 all_filled = record {
   after_lines = λ line run r has small size. record { orbs = all_hold.after_lines line run r has small size; fills = filled_behind line run run.entries r.lines };
   between = λ line run r has small size next most told m.
@@ -317,17 +66,19 @@ full_walk wild units ready has start past s later t step p all_own =
     let w = s.world in
     let ms = hist past w in
     let at = step.stands.reached in
-    let facts : Facts wild past w = record {
-      all_own = all_own;
+    let asked_orbs : AreAsked wild ms w = asked_of wild start units ready has w at.holds at.site step.stands.lists at.calm step.known.orbs in
+    let prepared : ArePrepared ms w = (λ place n j there named.
+    let x = named_prepared units ready has start w at.holds at.site place n j there named in
+    record { there = x.there; small = x.small; filled = λ cmd e. at.site.filled (initiator_in w place) there (slot_at ms (initiator_in w place) n j) n j cmd x.small x.there e }) in
+    turn_full (λ q m. IsFull m) full_closed wild past s later t step.turn
+    (record {
       ready = step.stands.known_all;
       seats = λ q login e. let k = at.site.held.held q login e in record { holder_is = k.holder; there = k.there; id_is = k.login_is };
-      asked_orbs = asked_of wild start units ready has w at.holds at.site step.stands.lists at.calm step.known.orbs;
-      prepared = λ place n j there named.
-          let x = named_prepared units ready has start w at.holds at.site place n j there named in
-          record { there = x.there; small = x.small; filled = λ cmd e. at.site.filled (initiator_in w place) there (slot_at ms (initiator_in w place) n j) n j cmd x.small x.there e };
-      fills = λ j n k cmd e. commands_fill ms step.known.fills j n k cmd e;
-    } in
-    turn_full wild past s later t step.turn facts (p all_own)
+      replies = λ serial sent run h found zero_to may p label place judged b login served which e full e_then.
+          reply_whole wild past w step.stands.known_all asked_orbs sent (record { serial = serial; found = found; to = zero_to }) run s.media.disks p label place judged b login which e (all_own (holder w place).initiator)
+          (delivery_may w.target step.stands.known_all.good.mid.size step.stands.known_all.good.table.sound sent run s.media may p label place judged login served which e) prepared (λ j n k cmd g. commands_fill ms step.known.fills j n k cmd g) full e_then;
+    })
+    (p all_own)
 
 first_full : (wild : ℕ → Bool) (line : ℕ) (run : Run) → AllFull wild (moments_behind line run []) (beginning run).world
 unfolding new_world

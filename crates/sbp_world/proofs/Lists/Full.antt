@@ -80,3 +80,14 @@ point_at states.Dead m pointer h = h
 pub point_full : (m : Machine) (pointer : OrbPointer) → IsFull m → IsFull (point_step m pointer).1
 unfolding point_step
 point_full m pointer h = point_at (state_in m.phase) m pointer h
+
+-- ---- what stays by each of these
+pub record IsClosed (F : ℕ → Machine → Type 0) : Type 0 where
+  pub reset : (q : ℕ) (m : Machine) → F q (reset_step m)
+  pub abort : (q : ℕ) (m : Machine) (orb : ℕ) → F q m → F q (abort_step m orb)
+  pub lost : (q : ℕ) (m : Machine) (which : Which) (cause : FailCause) → F q m → F q (lost_step m which cause).1
+  pub bell : (q : ℕ) (m : Machine) → F q m → F q (doorbell_step m).1
+  pub point : (q : ℕ) (m : Machine) (pointer : OrbPointer) → F q m → F q (point_step m pointer).1
+
+pub full_closed : IsClosed (λ q m. IsFull m)
+full_closed = record { reset = λ q m. reset_full m; abort = λ q m. abort_full m; lost = λ q m. lost_full m; bell = λ q m. bell_full m; point = λ q m. point_full m }

@@ -1,4 +1,5 @@
 -- Behind a turn of a world the place of an agent that is out of RESET is that of the initiator which had it before: in the turn of a login its agent is in RESET.
+use Rattle.sbp_world.proofs.Lists.Walks.{Turn, by_delivery as turn_delivery, by_end as turn_end, by_line as turn_line, by_start as turn_start}
 use Rattle.std.proofs.Common.{arith, ◌≡◌, ◌∙◌, ◌⊎◌, inl, inr, refl, sym, ap, subst, ◌<◌, ◌≤◌, not, ◌||◌, ℕ, zero, suc, nat_eq, nat_lt, Bool, true, false, cond, List, [], ◌∷◌, length, Option, Some, None, Result, Ok, Err}
 use Rattle.std.specs.Prelude.{slice_index_or, slice_set}
 use Rattle.std.proofs.lemmas.Bool.Decides.{nat_tests}
@@ -297,6 +298,12 @@ goes_owns _ _ _ _ (by_start past s line most) f = places_own s.world (begun s).w
 goes_owns _ _ _ _ (by_delivery past s one may no_act) f = delivery_owns past s f one may
 goes_owns _ _ _ _ (by_end past s done) f = places_own s.world (with_note (end_note done) s.world) refl
 
+turn_own : (past : List Moment) (s : Scene) (later : List Moment) (t : Scene) → Turn past s later t → IsSeatedWell s.world → Owns s.world t.world
+turn_own _ _ _ _ (turn_line past s line event told one fit may) f = line_owns (hist past s.world) line s (record { good = f.good; seats = λ p login e. let k = f.seats p login e in record { holder_is = k.holder_is; there = k.there; id_is = k.id_is } }) event told one fit may
+turn_own _ _ _ _ (turn_start past s line event d) f = places_own s.world (begun s).world refl
+turn_own _ _ _ _ (turn_delivery past s one may) f = delivery_owns past s f one may
+turn_own _ _ _ _ (turn_end past s done) f = places_own s.world (with_note (end_note done) s.world) refl
+
 module _ (units ready : ℕ) (has : 0 < units) (start : List Disk) {past : List Moment} {lines : ℕ} (s : Scene) (h : Holding units ready start past lines s.world) (held : AreHeldAt start (hist past s.world) s.world) where
   seated : IsSeatedWell s.world
   seated = record {
@@ -306,3 +313,6 @@ module _ (units ready : ℕ) (has : 0 < units) (start : List Disk) {past : List 
 
   pub turn_owns : (later : List Moment) (t : Scene) → Goes past s later t → Owns s.world t.world
   turn_owns later t g = goes_owns past s later t g seated
+
+  pub walk_owns : (later : List Moment) (t : Scene) → Turn past s later t → Owns s.world t.world
+  walk_owns later t turn = turn_own past s later t turn seated

@@ -87,7 +87,7 @@ plain_none ns = record { more = []; is = refl; plain = tt }
 pub plain_then : (one two three : List Note) → Plainly one two → Plainly two three → Plainly one three
 plain_then one two three a b = record { more = b.more ++ a.more; is = joined b.more a.more one ∙ ap (λ ns. b.more ++ ns) a.is ∙ b.is; plain = both b.more a.more b.plain a.plain }
 
-plain_one : (note : Note) (ns : List Note) → IsPlain note → Plainly ns (note ∷ ns)
+pub plain_one : (note : Note) (ns : List Note) → IsPlain note → Plainly ns (note ∷ ns)
 plain_one note ns q = record { more = note ∷ []; is = refl; plain = (q, tt) }
 
 -- ---- packets
@@ -220,8 +220,15 @@ module _ (s : Scene) (good : Good s.world.target) (serial : ℕ) (again : Bool) 
   abbrev after_it : WorldState
   after_it = (delivered serial again run s).world
 
+  -- of this packet
+  abbrev pub None_here : ℕ → Judged → Type 0
+  None_here at judged = (at ≡ serial) × IsRunlessBy s run at judged
+
+  abbrev pub Ran_here : ℕ → Note → Type 0
+  Ran_here at ran = (at ≡ serial) × IsRunBy s run at ran
+
   abbrev C : Type 0
-  C = Delivers (IsRunlessBy s run) (IsRunBy s run) w.fresh after_it.fresh
+  C = Delivers None_here Ran_here w.fresh after_it.fresh
 
   module _ (one : Sent) (found : found_sent serial w.store.kept ≡ Some one) where
     abbrev Ran : (place orb : ℕ) → (cdb payload : List ℕ) → Outcome → Type 0
@@ -229,6 +236,11 @@ module _ (s : Scene) (good : Good s.world.target) (serial : ℕ) (again : Bool) 
 
     abbrev None_ran : Type 0
     None_ran = NoneRan w.target one run s.media
+
+    -- what this packet makes the target tell
+    pub data ToldHere (new : List Note) : Type 0 where
+      told_none : None_ran → ToldHere new
+      told_run : (ran : Note) (r : IsRunBy s run serial ran) → r.sent ≡ one → Plainly (ran ∷ notes.Got serial ∷ w.fresh) new → ToldHere new
 
     -- what is told behind the note of the packet
     module _ (zero_to : one.to ≡ 0) (outbox : OutboxState) (node : NodeState) where
@@ -269,31 +281,55 @@ module _ (s : Scene) (good : Good s.world.target) (serial : ℕ) (again : Bool) 
             by true = refl
             by false = refl
 
-        run_told : (judged : Judged) → judged ≡ judgements.Got → Delivers (IsRunlessBy s run) (IsRunBy s run) w.fresh (handed judged).fresh
-        run_told judgements.Got e =
-            one_run serial note
-            (record {
-              sent = one;
-              found = found;
-              to = zero_to;
-              place = place;
-              orb = orb;
-              cdb = cdb;
-              payload = payload;
-              outcome = outcome;
-              by = ran;
-              list = list_in (ticket_at u place orb);
-              number = orb_in (ticket_at u place orb);
-              list_is = ap list_in ticket_is;
-              number_is = ap orb_in ticket_is;
-              is = ap (λ (x : Holder). ran_note x (ticket_at u place orb) cdb payload outcome) holder_is;
-            })
-            (subst (λ ns. Plainly (note ∷ notes.Got serial ∷ ns) (handed judgements.Got).fresh) (marked_fresh serial again (with_target node w)) behind_run)
+        is_run : IsRunBy s run serial note
+        is_run = record {
+          sent = one;
+          found = found;
+          to = zero_to;
+          place = place;
+          orb = orb;
+          cdb = cdb;
+          payload = payload;
+          outcome = outcome;
+          by = ran;
+          list = list_in (ticket_at u place orb);
+          number = orb_in (ticket_at u place orb);
+          list_is = ap list_in ticket_is;
+          number_is = ap orb_in ticket_is;
+          is = ap (λ (x : Holder). ran_note x (ticket_at u place orb) cdb payload outcome) holder_is;
+        }
+
+        is_behind : Plainly (note ∷ notes.Got serial ∷ w.fresh) (handed judgements.Got).fresh
+        is_behind = subst (λ ns. Plainly (note ∷ notes.Got serial ∷ ns) (handed judgements.Got).fresh) (marked_fresh serial again (with_target node w)) behind_run
+
+        run_told : (judged : Judged) → judged ≡ judgements.Got → Delivers None_here Ran_here w.fresh (handed judged).fresh
+        run_told judgements.Got e = one_run serial note (refl, is_run) is_behind
         run_told (judgements.Ignored cause) e = absurd (let no : judgements.Ignored cause ≡ judgements.Got = e in cc)
 
-      handed_delivers : (judged : Judged) → judged ≡ (received run one.generation one.bytes (whole_of w.target s.media)).0 → ((place orb : ℕ) (cdb payload : List ℕ) (outcome : Outcome) → Ran place orb cdb payload outcome → judged ≡ judgements.Got) → TellsRun None_ran Ran outbox.sides → Delivers (IsRunlessBy s run) (IsRunBy s run) w.fresh (handed judged).fresh
-      handed_delivers judged is_so got (of_none n h) = no_run serial judged (record { sent = one; found = found; none = λ zero_is. n; judged_is = λ zero_is. is_so }) (none_told judged h)
+        run_here : (judged : Judged) → judged ≡ judgements.Got → ToldHere (handed judged).fresh
+        unfolding is_run
+        run_here judgements.Got e = told_run note is_run refl is_behind
+        run_here (judgements.Ignored cause) e = absurd (let no : judgements.Ignored cause ≡ judgements.Got = e in cc)
+
+      handed_delivers : (judged : Judged) → judged ≡ (received run one.generation one.bytes (whole_of w.target s.media)).0 → ((place orb : ℕ) (cdb payload : List ℕ) (outcome : Outcome) → Ran place orb cdb payload outcome → judged ≡ judgements.Got) → TellsRun None_ran Ran outbox.sides → Delivers None_here Ran_here w.fresh (handed judged).fresh
+      handed_delivers judged is_so got (of_none n h) = no_run serial judged (refl, record { sent = one; found = found; none = λ zero_is. n; judged_is = λ zero_is. is_so }) (none_told judged h)
       handed_delivers judged is_so got (of_run place orb cdb payload outcome more ran h is) = run_told place orb cdb payload outcome more ran h is judged (got place orb cdb payload outcome ran)
+
+    here_by : (zero_to : one.to ≡ 0) (outbox : OutboxState) (node : NodeState) (judged : Judged) → judged ≡ (received run one.generation one.bytes (whole_of w.target s.media)).0 → TellsRun None_ran Ran outbox.sides → ToldHere (handed zero_to outbox node judged).fresh
+    here_by zero_to outbox node judged is_so (of_none n h) = told_none n
+    here_by zero_to outbox node judged is_so (of_run place orb cdb payload outcome more ran h is) =
+        run_here zero_to outbox node place orb cdb payload outcome more ran h is judged (is_so ∙ is_got w.target one run s.media place orb cdb payload outcome ran)
+
+    pub target_told : one.to ≡ 0 → MayTell run one w.target s.media → ToldHere after_it.fresh
+    unfolding delivered target_received arrived
+    target_told zero_to may =
+        let x = received run one.generation one.bytes (whole_of w.target s.media) in
+        let last_is : after_it ≡ handed_out 0 0 x.1.outbox (with_note (judged_note serial x.0) (marked serial again (with_target x.1.node w))) =
+        ap (λ (y : Option Arrival × (OutboxState × Scene)). (delivered_by serial again y).world)
+        (received_is run serial s one found ∙ ap (λ b. cond b (at_target one.to (target_received run one w.target s.media) s) (initiator_received one s)) (to_zero one.to zero_to))
+        ∙ ap (λ n. handed_out n 0 x.1.outbox (with_note (judged_note serial x.0) (marked serial again (with_target x.1.node w)))) zero_to in
+        subst (λ (v : WorldState). ToldHere v.fresh) (sym last_is)
+        (here_by zero_to x.1.outbox x.1.node x.0 refl (delivery_tells w.target good.mid.size good.table.sound one run s.media may))
 
     target_comes : one.to ≡ 0 → MayTell run one w.target s.media → C
     unfolding delivered target_received arrived
@@ -303,7 +339,7 @@ module _ (s : Scene) (good : Good s.world.target) (serial : ℕ) (again : Bool) 
         ap (λ (y : Option Arrival × (OutboxState × Scene)). (delivered_by serial again y).world)
         (received_is run serial s one found ∙ ap (λ b. cond b (at_target one.to (target_received run one w.target s.media) s) (initiator_received one s)) (to_zero one.to zero_to))
         ∙ ap (λ n. handed_out n 0 x.1.outbox (with_note (judged_note serial x.0) (marked serial again (with_target x.1.node w)))) zero_to in
-        subst (λ (v : WorldState). Delivers (IsRunlessBy s run) (IsRunBy s run) w.fresh v.fresh) (sym last_is)
+        subst (λ (v : WorldState). Delivers None_here Ran_here w.fresh v.fresh) (sym last_is)
         (handed_delivers zero_to x.1.outbox x.1.node x.0 refl (λ place orb cdb payload outcome r. is_got w.target one run s.media place orb cdb payload outcome r) (delivery_tells w.target good.mid.size good.table.sound one run s.media may))
 
     own_comes : (i : ℕ) → one.to ≡ suc i → i < length w.initiators → C
@@ -316,7 +352,7 @@ module _ (s : Scene) (good : Good s.world.target) (serial : ℕ) (again : Bool) 
         let u = with_note note (marked serial again v) in
         let last_is : after_it ≡ handed_out one.to 0 x.1.0 u =
         ap (λ (y : Option Arrival × (OutboxState × Scene)). (delivered_by serial again y).world) (to_own run serial i s one found to_is ∙ own_inside one i s inside) in
-        no_run serial x.0 (record { sent = one; found = found; none = λ zero_is. absurd (omega (arith, zero_is, to_is)); judged_is = λ zero_is. absurd (omega (arith, zero_is, to_is)) })
+        no_run serial x.0 (refl, record { sent = one; found = found; none = λ zero_is. absurd (omega (arith, zero_is, to_is)); judged_is = λ zero_is. absurd (omega (arith, zero_is, to_is)) })
         (subst (λ (y : WorldState). Plainly (note ∷ w.fresh) y.fresh) (sym last_is)
         (subst (λ ns. Plainly (note ∷ ns) (handed_out one.to 0 x.1.0 u).fresh) (marked_fresh serial again v) (handed_plain one.to 0 x.1.0 u (own_plain x.1.0.sides (own.receives one.generation one.bytes empty_outbox old tt)))))
 
@@ -341,9 +377,17 @@ module _ (s : Scene) (good : Good s.world.target) (serial : ℕ) (again : Bool) 
       none_judged same
   comes_by (Some one) e m = comes_at one e one.to refl (λ z. subst (λ b. MayTold b run one s) (to_zero one.to z) m)
 
-  pub delivery_comes : MayReceive run serial s → C
+  pub delivery_at : MayReceive run serial s → C
   unfolding MayReceive
-  delivery_comes m = comes_by (found_sent serial w.store.kept) refl m
+  delivery_at m = comes_by (found_sent serial w.store.kept) refl m
+
+  any : (old new : List Note) → Delivers None_here Ran_here old new → Delivers (IsRunlessBy s run) (IsRunBy s run) old new
+  any old new (none_judged e) = none_judged e
+  any old new (no_run at judged none q) = no_run at judged none.1 q
+  any old new (one_run at ran r q) = one_run at ran r.1 q
+
+  pub delivery_comes : MayReceive run serial s → Delivers (IsRunlessBy s run) (IsRunBy s run) w.fresh after_it.fresh
+  delivery_comes m = any w.fresh after_it.fresh (delivery_at m)
 
 -- ---- the other lines
 module _ (w : WorldState) where

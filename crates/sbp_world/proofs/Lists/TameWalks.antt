@@ -47,6 +47,7 @@ module _ (Still : List Moment → Type 0) (closed : (later past : List Moment) �
       so_far = λ i own. step.so_far i own (turn_still past s later t step.turn still);
       so_far_then = λ i own. step.so_far_then i own still;
       count = step.count;
+      units_are = step.units_are;
     }
 
     still_walks : Walks wild units ready start Q U P → Walks wild units ready start Q (Where Still U) (Where Still P)

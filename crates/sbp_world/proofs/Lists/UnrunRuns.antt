@@ -1,4 +1,5 @@
 -- In a run in which lists were open as they should be before, an ORB that ran, of a list that was not cut and of which none has ended, is at an agent that has it still.
+use Rattle.sbp_world.proofs.Lists.Full.{IsFull, full_closed}
 use Rattle.std.proofs.Common.{◌≡◌, refl, sym, ap, subst, ◌<◌, ℕ, Bool, true, false, cond, not, ◌||◌, List, ◌∷◌, ◌++◌, map, Option, Result, Ok, Err}
 use Rattle.label_table.specs.declared.reply.Stale.{Stale}
 use Rattle.label_table.specs.Layer.{Layer, expiring_step}
@@ -108,7 +109,7 @@ module _ (wild : ℕ → Bool) (past : List Moment) where
       pub delivery_busy : Then (handed_out 0 0 x.1.outbox u) → B (handed_out 0 0 x.1.outbox u)
       delivery_busy passes =
           call_busy wild past w o f.latest f.idle f.good u (judged_note serial x.0) (first_of serial x.0) (ap (λ ns. map said ns ++ past) marks.fresh) marks.places _ x.1.node x.1.outbox marks.target
-          (delivery_called w f.good ⊥ f.seats sent run s.media (λ p label place found b login served which e given. absurd given)) others (delivery_holders w seated serial sent run s again) passes
+          (delivery_called w f.good ⊥ (λ p m. IsFull m) full_closed f.seats sent run s.media (λ p label place found b login served which e given. absurd given)) others (delivery_holders w seated serial sent run s again) passes
 
     -- ---- a transaction of the target times out
     module _ (line serial : ℕ) (request : Request) (zero_node : request.node ≡ 0) where
@@ -120,7 +121,7 @@ module _ (wild : ℕ → Bool) (past : List Moment) where
           let t = (expired_in (Ok purpose, layer) request.peer request.label (scene w.target empty_outbox)).1 in
           let u = with_note (notes.TimedOut serial) (with_target t.node w) in
           subst (λ n. B (handed_out n 0 t.outbox u)) (sym zero_node)
-          (call_busy wild past w o f.latest f.idle f.good u (notes.TimedOut serial) (late_it serial) refl refl layer t.node t.outbox refl (lapse_called w f.good ⊥ f.seats layer request.peer request.label purpose) others
+          (call_busy wild past w o f.latest f.idle f.good u (notes.TimedOut serial) (late_it serial) refl refl layer t.node t.outbox refl (lapse_called w f.good ⊥ (λ p m. IsFull m) full_closed f.seats layer request.peer request.label purpose) others
           (open_holders u t (lapse_open w f.good f.seats u refl layer request.peer request.label purpose)) (subst (λ n. Then (handed_out n 0 t.outbox u)) zero_node passes))
       lapse_by (Err stale, layer) others passes = by_stays (refused line no_packet w) (refuses wild past line no_packet w)
 
@@ -135,7 +136,7 @@ module _ (wild : ℕ → Bool) (past : List Moment) where
         let g = w.generations.latest in
         let t = alone (sees g.generation (id_of g 0)) w.target in
         let u = with_target t.node (with_seen 0 (told_seen 0 w)) in
-        call_busy wild past w o f.latest f.idle f.good u (notes.Seen 0 g.generation) (seen_it 0 g.generation) refl refl w.target.layer t.node t.outbox refl (sight_called w f.good ⊥ g.generation (id_of g 0)) (hand_law.sees g.generation (id_of g 0) w.target)
+        call_busy wild past w o f.latest f.idle f.good u (notes.Seen 0 g.generation) (seen_it 0 g.generation) refl refl w.target.layer t.node t.outbox refl (sight_called w f.good ⊥ (λ p m. IsFull m) full_closed g.generation (id_of g 0)) (hand_law.sees g.generation (id_of g 0) w.target)
         (open_holders u t (manages.sees u (holder w) (Before w f.good f.seats) w.target.logins (sound w f.good f.seats) g.generation (id_of g 0) (scene w.target empty_outbox) (begins w f.good f.seats u refl w.target.layer))) passes
 
     pub tick_busy : Then (tick_line w) → B (tick_line w)
@@ -143,5 +144,5 @@ module _ (wild : ℕ → Bool) (past : List Moment) where
     tick_busy passes =
         let t = alone ticks w.target in
         let u = with_target t.node (with_note notes.Tick w) in
-        call_busy wild past w o f.latest f.idle f.good u notes.Tick tick_it refl refl w.target.layer t.node t.outbox refl (tick_called w f.good ⊥) (hand_law.ticks w.target)
+        call_busy wild past w o f.latest f.idle f.good u notes.Tick tick_it refl refl w.target.layer t.node t.outbox refl (tick_called w f.good ⊥ (λ p m. IsFull m) full_closed) (hand_law.ticks w.target)
         (open_holders u t (manages.ticks u (holder w) (Before w f.good f.seats) w.target.logins (sound w f.good f.seats) (scene w.target empty_outbox) refl (begins w f.good f.seats u refl w.target.layer))) passes

@@ -1,5 +1,6 @@
 -- An ORB that ran, of a list that was not cut and of which none has ended, is at an agent that has it still: kept by what others than the target do, and by each call
 -- of the target. In a call each agent stays in its phase, or is cut; or the agent of one place makes a step or takes a pointer, and has its ORB then, or an end is told.
+use Rattle.sbp_world.proofs.Lists.Full.{IsFull, full_closed}
 use Rattle.std.proofs.Common.{arith, ◌≡◌, ◌∙◌, refl, sym, ap, subst, inl, inr, ◌⊎◌, ◌<◌, ◌≤◌, ℕ, suc, nat_eq, Bool, true, false, List, [], ◌∷◌, ◌++◌, Some}
 use Rattle.std.proofs.lemmas.Bool.Decides.{nat_tests}
 use Rattle.command_agent.specs.Machine.{Machine}
@@ -90,7 +91,7 @@ stays_busy wild past w v passes s o i own n opened none = by (nat_eq (suc n) (li
         inl (s.adds.runs_are i n 0 ∙ unbegun wild i n own before passes (grind arith))
 
 -- ---- a call of the target
-module _ (wild : ℕ → Bool) (past : List Moment) (w : WorldState) (o : AreBusy wild (hist past w) w) (latest : AreLatest wild (hist past w) w) (idle : AreIdle wild (hist past w) w) (g : Good w.target) (u : WorldState) (note : Note) (first : First note) (u_is : hist past u ≡ said note ∷ hist past w) (places : u.places ≡ w.places) (layer : Layer Purpose) (node : NodeState) (outbox : OutboxState) (target_is : u.target ≡ node) (called : Called w g ⊥ layer (scene node outbox)) (others : AreOthers outbox.sides) (holders : (p : ℕ) → p < 8 → Listing node p → (holder (told_all 0 outbox.sides u) p).initiator ≡ initiator_in w p) (passes : PassLaw wild (hist past (handed_out 0 0 outbox u))) where
+module _ (wild : ℕ → Bool) (past : List Moment) (w : WorldState) (o : AreBusy wild (hist past w) w) (latest : AreLatest wild (hist past w) w) (idle : AreIdle wild (hist past w) w) (g : Good w.target) (u : WorldState) (note : Note) (first : First note) (u_is : hist past u ≡ said note ∷ hist past w) (places : u.places ≡ w.places) (layer : Layer Purpose) (node : NodeState) (outbox : OutboxState) (target_is : u.target ≡ node) (called : Called w g ⊥ (λ p m. IsFull m) full_closed layer (scene node outbox)) (others : AreOthers outbox.sides) (holders : (p : ℕ) → p < 8 → Listing node p → (holder (told_all 0 outbox.sides u) p).initiator ≡ initiator_in w p) (passes : PassLaw wild (hist past (handed_out 0 0 outbox u))) where
   abbrev before : List Moment
   before = hist past w
 
@@ -169,7 +170,7 @@ module _ (wild : ℕ → Bool) (past : List Moment) (w : WorldState) (o : AreBus
     first_runs = as_first.runs_are i n 0
 
     -- ---- each agent stays in its phase, or is cut
-    module _ (c : Cutting (machine_at w) (scene node outbox)) where
+    module _ (c : Cutting (λ p m. IsFull m) full_closed (machine_at w) (scene node outbox)) where
       cut_not : (b : IsBusyFor w i) → WasCut b.place outbox.sides → ⊥
       cut_not b cut =
           let l = latest b.place b.small (busy_list (machine_at w b.place).phase b.busy) (ap wild b.initiator_is ∙ own) n (latest_before ∙ ap (lists before) (sym b.initiator_is)) in
@@ -187,7 +188,7 @@ module _ (wild : ℕ → Bool) (past : List Moment) (w : WorldState) (o : AreBus
       rested (inr b) = by_place b (c.stays b.place)
 
     -- ---- the agent of one place makes a step
-    module _ (q : ℕ) (b : q < 8) (Known : Type 0) (a : Acts q b Known ⊥ (machine_at w) (scene node outbox)) where
+    module _ (q : ℕ) (b : q < 8) (Known : Type 0) (a : Acts q b Known ⊥ (λ p m. IsFull m) full_closed (machine_at w) (scene node outbox)) where
       abbrev held : ℕ
       held = initiator_in w q
 
@@ -219,7 +220,7 @@ module _ (wild : ℕ → Bool) (past : List Moment) (w : WorldState) (o : AreBus
           by true e = let same : held ≡ i = grind (arith, nat_tests) in own_step same (a.busy (known same))
           by false e = beside_it (λ f. no (sym e ∙ (let z : nat_eq held i ≡ true = grind (arith, nat_tests) in z))) so_far
 
-    by_call : Called w g ⊥ layer (scene node outbox) → Goal
+    by_call : Called w g ⊥ (λ p m. IsFull m) full_closed layer (scene node outbox) → Goal
     by_call (rests c) = rested c so_far
     by_call (acts q b h a) = stepped q b (is_busy (machine_at w q).phase ≡ true) a (λ same. busy_then same (is_busy (machine_at w q).phase) refl)
       where

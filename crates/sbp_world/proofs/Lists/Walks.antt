@@ -1,5 +1,12 @@
 -- A statement that each turn of a run keeps holds at every place of the run between two turns, where lists were open as they should be before this place. A turn
 -- is a line that delivers one packet at most, the beginning of one that delivers more, a delivery of it, and the end of one that settles.
+use Rattle.sbp_world.proofs.Agents.Management.Runs.{are_told, no_repeats, not_reset}
+use Rattle.sbp_world.proofs.Agents.Holders.{seats_after}
+use Rattle.sbp_world.proofs.Agents.Management.Lines.{opens}
+use Rattle.sbp_world.proofs.Agents.Seats.{Seats}
+use Rattle.sbp_world.proofs.Agents.Seating.{opened as seats_opened}
+use Rattle.sbp_world.proofs.Agents.Units.{AreThe, units_after}
+use Rattle.sbp_world.proofs.Agents.UnitsLines.{Units, all_units, opened as units_opened}
 use Rattle.std.proofs.Common.{arith, ◌≡◌, ◌∙◌, refl, sym, subst, ℕ, ◌+◌, ◌^◌, ◌<◌, ◌≤◌, Bool, false, List, [], ◌∷◌, ◌++◌, map, length, Option}
 use Rattle.rbc_disk.specs.Disk.{Disk}
 use Rattle.rbc_disk.specs.Runs.{Told}
@@ -67,6 +74,7 @@ pub record Step (wild : ℕ → Bool) (units ready : ℕ) (start : List Disk) (Q
   pub so_far : (i : ℕ) → wild i ≡ false → U (hist past s.world) s.world
   pub so_far_then : (i : ℕ) → wild i ≡ false → U (hist later t.world) t.world
   pub count : length t.world.initiators ≡ length s.world.initiators
+  pub units_are : Units start past s.world s.media.disks
 
 -- each turn keeps a statement
 abbrev pub Walks : (ℕ → Bool) → (units ready : ℕ) → List Disk → (Q U P : List Moment → WorldState → Type 0) → Type 0
@@ -129,6 +137,13 @@ module _ (wild : ℕ → Bool) (Q : List Moment → WorldState → Type 0) (V : 
         known_all = ready wild b.past here.world (facts wild (opened wild) line run few has small size entries short all fit b.past (length entries) b.holds b.is lists open_here past_calm x.early) b.kept;
       }
 
+      -- the units are those of the target by the history
+      seats_here : Seats here.world
+      seats_here = seats_after line run entries few has small size short all fit
+
+      units_here : Units run.start.disks b.past here.world here.media.disks
+      units_here = subst (λ ms. AreThe run.start.disks ms here.world here.media.disks) (sym b.is) (units_after line run entries few has small size short all fit)
+
       -- between deliveries of a line that follows
       module _ (next : ℕ) (event : Event) (d : DeliversMore event) where
         abbrev now : List Moment
@@ -139,6 +154,11 @@ module _ (wild : ℕ → Bool) (Q : List Moment → WorldState → Type 0) (V : 
 
         abbrev Before : List (Option Told) → Type 0
         Before told = Given (OpenWhile (asked next event ∷ moments_behind line run entries) told (begun here))
+
+        units_there : (told : List (Option Told)) → MayAll told (begun here) → Units run.start.disks now (at told) (after_all told (begun here)).media.disks
+        units_there told m =
+            all_units run.units logins has run.start.disks told (are_told told here m) (begun here) (opens run.units logins has run.start.disks next event here.world (not_reset event d) b.holds) (seats_opened run.units logins has run.start.disks here.world seats_here)
+            (units_opened run.units logins has run.start.disks b.past next event here.world here.media.disks units_here) (no_repeats event (hist b.past here.world) next d)
 
         reached_at : (told : List (Option Told)) → MayAll told (begun here) → Before told → AllCalm (hist now (at told)) → Reached wild run.units logins run.start.disks now (length entries + 1) (at told)
         reached_at told m before c = record {
@@ -195,6 +215,7 @@ module _ (wild : ℕ → Bool) (Q : List Moment → WorldState → Type 0) (V : 
               so_far = so_far_here lists b;
               so_far_then = so_far_at [] m before;
               count = refl;
+              units_are = units_here;
             }) p
         walk_at (one ∷ told) m before c p =
             let e = calm_at wild (opened wild) line run few has small size entries short all fit b.past (length entries) b.holds b.is next event d one told c in
@@ -210,6 +231,7 @@ module _ (wild : ℕ → Bool) (Q : List Moment → WorldState → Type 0) (V : 
               so_far = so_far_at told m.1 rest;
               so_far_then = so_far_at (one ∷ told) m before;
               count = count_between (one ∷ told) here ∙ sym (count_between told here);
+              units_are = units_there told m.1;
             }) (walk_at told m.1 rest e p)
 
       -- a line that follows
@@ -231,6 +253,7 @@ module _ (wild : ℕ → Bool) (Q : List Moment → WorldState → Type 0) (V : 
               so_far = so_far_here lists b;
               so_far_then = u;
               count = count;
+              units_are = units_here;
             }) p
 
         walk_line : (next : ℕ) (event : Event) (told : List (Option Told)) → Goes next event told
@@ -252,6 +275,7 @@ module _ (wild : ℕ → Bool) (Q : List Moment → WorldState → Type 0) (V : 
               so_far = so_far_at next events.Settle tt told m.may rest;
               so_far_then = u;
               count = refl;
+              units_are = units_there next events.Settle tt told m.may;
             }) (walk_at next events.Settle tt told m.may rest c p)
         walk_line next (events.Begin initiators is_ready) told q m before r k u count p = one_line next (events.Begin initiators is_ready) told tt q m before r k u count p
         walk_line next (events.Act initiator action) told q m before r k u count p = one_line next (events.Act initiator action) told tt q m before r k u count p
