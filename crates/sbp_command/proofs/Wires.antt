@@ -10,11 +10,14 @@ use Rattle.sbp_laws.specs.CarriedLaw.{RunsWhereDue}
 use Rattle.sbp_laws.specs.Lawful.{injectors}
 use Rattle.sbp_laws.specs.OnLists.{LawfulOnLists}
 use Rattle.sbp_laws.specs.OnTheBus.{LawfulOnTheBus}
-use Rattle.sbp_laws.specs.Turns.{EachTurn}
+use Rattle.sbp_laws.specs.Turns.{EachMoment, EachTurn}
 use Rattle.sbp_laws.proofs.InTime.{in_time_law}
-use Rattle.sbp_world.proofs.Lists.Clauses.{lists_law}
+use Rattle.sbp_world.proofs.Lists.Clauses.{lengths_law, lists_law, reads_law}
 use Rattle.sbp_world.proofs.Lists.Executes.{due_runs_law}
 use Rattle.sbp_world.proofs.Lists.GrantRuns.{few_logins_law}
+use Rattle.sbp_world.specs.Lists.AnswerLengths.{LengthOf}
+use Rattle.sbp_world.specs.Lists.CarriedEnds.{WereRead}
+use Rattle.sbp_world.specs.Lists.OwnLogins.{IsTame}
 use Rattle.sbp_world.specs.Wire.History.{IsOfWire}
 use Rattle.sbp_world.specs.Wire.Journal.{journal_run}
 use Rattle.sbp_world.specs.Wire.Lines.{AreLines}
@@ -81,6 +84,20 @@ run_is_due line run start same units some most few count all lines =
     subst (λ s. EachTurn (RunsWhereDue (injectors (history_of line run)) s) (history_of line run)) (ap (λ (h : Held). h.disks) same)
     (due_runs_law.after_lines line run is some most size (injectors (history_of line run)))
 
+pub run_reads : (line : ℕ) (run : Run) (start : Held) → run.start ≡ start → run.units ≡ length start.disks → 0 < run.units → run.units ≤ 4 → run.initiators ≤ 4 → length run.entries ≤ 65535 → AreEntries (beginning run) run.entries → AreLines run run.entries
+    → IsTame (history_of line run) → WereRead start.disks (history_of line run)
+run_reads line run start same units some most few count all lines tame =
+    let is : IsRun run = record { few = few; short = omega arith; entries = all; lines = lines } in
+    let size : length run.start.disks ≡ run.units = ap (λ (h : Held). length h.disks) same ∙ sym units in
+    subst (λ s. WereRead s (history_of line run)) (ap (λ (h : Held). h.disks) same) (reads_law.after_lines line run is some most size tame)
+
+pub run_lengths : (line : ℕ) (run : Run) (start : Held) → run.start ≡ start → run.units ≡ length start.disks → 0 < run.units → run.units ≤ 4 → run.initiators ≤ 4 → length run.entries ≤ 65535 → AreEntries (beginning run) run.entries → AreLines run run.entries
+    → IsTame (history_of line run) → (i : ℕ) → i < run.initiators → EachMoment (LengthOf start.disks i) (history_of line run)
+run_lengths line run start same units some most few count all lines tame i inside =
+    let is : IsRun run = record { few = few; short = omega arith; entries = all; lines = lines } in
+    let size : length run.start.disks ≡ run.units = ap (λ (h : Held). length h.disks) same ∙ sym units in
+    subst (λ s. EachMoment (LengthOf s i) (history_of line run)) (ap (λ (h : Held). h.disks) same) (lengths_law.lengths line run is some most size tame i inside)
+
 -- ---- a run of the machine
 
 -- it is one over its events, whose notes are its journal
@@ -105,5 +122,7 @@ has_run line run start media world happened same units some most few count event
       statuses = run_takes line run few count stands.lines lines;
       due = run_is_due line run start same units some most few count stands.lines lines;
       on_lists = lawful;
+      reads = run_reads line run start same units some most few count stands.lines lines;
+      lengths = run_lengths line run start same units some most few count stands.lines lines;
       in_time = in_time_law (injectors (history_of line run)) start.disks (history_of line run) lawful;
     }

@@ -1,5 +1,5 @@
 -- What a run of the machine over the events of a script is.
-use Rattle.std.specs.Prelude.{◌≡◌, ◌⊎◌, ℕ, List, [], length, reverse}
+use Rattle.std.specs.Prelude.{◌≡◌, ◌⊎◌, ◌<◌, ℕ, List, [], length, reverse}
 use Rattle.rbc_disk.specs.Held.{Held}
 use Rattle.sbp_journal.specs.declared.event.Event.{Event}
 use Rattle.sbp_journal.specs.declared.note.Note.{Note}
@@ -11,7 +11,10 @@ use Rattle.sbp_laws.specs.Lawful.{injectors}
 use Rattle.sbp_laws.specs.InTime.{ReadsInTime}
 use Rattle.sbp_laws.specs.OnLists.{LawfulOnLists}
 use Rattle.sbp_laws.specs.OnTheBus.{LawfulOnTheBus}
-use Rattle.sbp_laws.specs.Turns.{EachTurn}
+use Rattle.sbp_laws.specs.Turns.{EachMoment, EachTurn}
+use Rattle.sbp_world.specs.Lists.AnswerLengths.{LengthOf}
+use Rattle.sbp_world.specs.Lists.CarriedEnds.{WereRead}
+use Rattle.sbp_world.specs.Lists.OwnLogins.{IsTame}
 use Rattle.sbp_world.specs.Wire.History.{IsOfWire}
 use Rattle.sbp_world.specs.Wire.Journal.{journal_run}
 use Rattle.sbp_world.specs.Hosts.Statuses.Finished.{TakesStatuses}
@@ -20,7 +23,8 @@ use Rattle.script_runner.specs.Events.{events_of, journal}
 -- A run of the machine, over exactly these events and from what the media held at first: its notes, and what it leaves of the media. That is
 -- what the notes alone say of them: each medium holds what the disk fold gives, and each failing run raised its count. And its history
 -- keeps the laws of the wire, and its journal the part of the laws that is of the bus; the statuses that it takes are those that are due, and so
--- are the commands that run; and it keeps the laws of lists, of the initiators that injected no packets, which read so in the order of time.
+-- are the commands that run; and it keeps the laws of lists, of the initiators that injected no packets, which read so in the order of time. Where no
+-- initiator injected packets, what ran and what ended was read as the carried law says, and each answer that is taken has its length.
 pub record HasRun (start : Held) (happened : List (ℕ × Event)) (notes : List Note) (now : Held) : Type 0 where
   pub line : ℕ
   pub run : Run
@@ -37,6 +41,8 @@ pub record HasRun (start : Held) (happened : List (ℕ × Event)) (notes : List 
   pub statuses : TakesStatuses (history_of line run)
   pub due : EachTurn (RunsWhereDue (injectors (history_of line run)) start.disks) (history_of line run)
   pub on_lists : LawfulOnLists (injectors (history_of line run)) start.disks (history_of line run)
+  pub reads : IsTame (history_of line run) → WereRead start.disks (history_of line run)
+  pub lengths : IsTame (history_of line run) → (i : ℕ) → i < run.initiators → EachMoment (LengthOf start.disks i) (history_of line run)
   pub in_time : ReadsInTime (injectors (history_of line run)) (history_of line run)
 
 -- No run begins: there is no event and no note, and the media are as they were.

@@ -4,7 +4,7 @@ use Rattle.std.proofs.Common.{◌∙◌, ap, subst, sym}
 use Rattle.rbc_disk.specs.Disk.{Disk}
 use Rattle.sbp_journal.specs.declared.event.Event.{Event}
 use Rattle.sbp_laws.specs.Lawful.{injectors}
-use Rattle.sbp_world.proofs.Lists.Clauses.{lists_law}
+use Rattle.sbp_world.proofs.Lists.Clauses.{lengths_law, lists_law, reads_law}
 use Rattle.sbp_world.proofs.Lists.Executes.{due_runs_law}
 use Rattle.sbp_world.proofs.Lists.GrantRuns.{few_logins_law}
 use Rattle.sbp_world.proofs.Standing.{begins, goes_on, settles}
@@ -28,6 +28,8 @@ laws_of run are first is =
       due = λ some most. due_runs_law.after_lines first run bounds some most (sym is.media) (injectors (history_of first run));
       few_logins = λ some most. few_logins_law.few first run bounds some most (sym is.media);
       on_lists = λ some most. lists_law.lists first run bounds some most (sym is.media);
+      reads = λ some most. reads_law.after_lines first run bounds some most (sym is.media);
+      lengths = λ some most. lengths_law.lengths first run bounds some most (sym is.media);
     }
 
 lawfully : (run : Run) (s : Scene) → StandsFor run s → StandsLawfully run s
