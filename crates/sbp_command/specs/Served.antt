@@ -1,5 +1,5 @@
 -- What the top call promises, by its words.
-use Rattle.std.specs.Prelude.{◌≡◌, ℕ, List}
+use Rattle.std.specs.Prelude.{ℕ, List}
 use Rattle.line_session.specs.Outside.{Outside}
 use Rattle.drill_text.specs.Words.{IsDrill}
 use Rattle.sbp_command.specs.Drill.{DrillEnds}

@@ -1,5 +1,5 @@
 -- The words bring what they are to bring.
-use Rattle.sbp_command.proofs.Drilling.{serves_decode, serves_drill, serves_rom, serves_run, serves_usage}
+use Rattle.sbp_command.proofs.Drilling.{serves_decode, serves_drill, serves_rom, serves_run}
 use Rattle.sbp_command.proofs.top.sbp2.Goals as goal
 
 pub returns-then-is_alone : goal.returns-then-is_alone
