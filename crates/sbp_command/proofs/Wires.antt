@@ -1,5 +1,5 @@
 -- The history of a run of the machine keeps the laws of the wire, and those of the bus, where its events are those of lines.
-use Rattle.std.proofs.Common.{◌≡◌, ◌∙◌, inr, refl, sym, ap, subst, ℕ, ◌+◌, ◌^◌, ◌<◌, ◌≤◌, List, [], ◌∷◌, length, arith}
+use Rattle.std.proofs.Common.{◌≡◌, ◌∙◌, inr, refl, sym, ap, subst, ℕ, ◌+◌, ◌^◌, ◌<◌, ◌≤◌, false, List, [], ◌∷◌, length, arith}
 use Rattle.std.proofs.lemmas.List.{length-append}
 use Rattle.sbp_journal.specs.declared.event.Event.{Event}
 use Rattle.sbp_world.specs.Histories.{history_of}
@@ -92,11 +92,11 @@ run_reads line run start same units some most few count all lines tame =
     subst (λ s. WereRead s (history_of line run)) (ap (λ (h : Held). h.disks) same) (reads_law.after_lines line run is some most size tame)
 
 pub run_lengths : (line : ℕ) (run : Run) (start : Held) → run.start ≡ start → run.units ≡ length start.disks → 0 < run.units → run.units ≤ 4 → run.initiators ≤ 4 → length run.entries ≤ 65535 → AreEntries (beginning run) run.entries → AreLines run run.entries
-    → IsTame (history_of line run) → (i : ℕ) → i < run.initiators → EachMoment (LengthOf start.disks i) (history_of line run)
-run_lengths line run start same units some most few count all lines tame i inside =
+    → (i : ℕ) → i < run.initiators → injectors (history_of line run) i ≡ false → EachMoment (LengthOf start.disks i) (history_of line run)
+run_lengths line run start same units some most few count all lines i inside calm =
     let is : IsRun run = record { few = few; short = omega arith; entries = all; lines = lines } in
     let size : length run.start.disks ≡ run.units = ap (λ (h : Held). length h.disks) same ∙ sym units in
-    subst (λ s. EachMoment (LengthOf s i) (history_of line run)) (ap (λ (h : Held). h.disks) same) (lengths_law.lengths line run is some most size tame i inside)
+    subst (λ s. EachMoment (LengthOf s i) (history_of line run)) (ap (λ (h : Held). h.disks) same) (lengths_law.lengths line run is some most size (inr (few_logins_law.few line run is some most size (omega arith))) i inside calm)
 
 -- ---- a run of the machine
 

@@ -1,5 +1,5 @@
 -- What a run of the machine over the events of a script is.
-use Rattle.std.specs.Prelude.{◌≡◌, ◌⊎◌, ◌<◌, ℕ, List, [], length, reverse}
+use Rattle.std.specs.Prelude.{◌≡◌, ◌⊎◌, ◌<◌, ℕ, false, List, [], length, reverse}
 use Rattle.rbc_disk.specs.Held.{Held}
 use Rattle.sbp_journal.specs.declared.event.Event.{Event}
 use Rattle.sbp_journal.specs.declared.note.Note.{Note}
@@ -23,8 +23,8 @@ use Rattle.script_runner.specs.Events.{events_of, journal}
 -- A run of the machine, over exactly these events and from what the media held at first: its notes, and what it leaves of the media. That is
 -- what the notes alone say of them: each medium holds what the disk fold gives, and each failing run raised its count. And its history
 -- keeps the laws of the wire, and its journal the part of the laws that is of the bus; the statuses that it takes are those that are due, and so
--- are the commands that run; and it keeps the laws of lists, of the initiators that injected no packets, which read so in the order of time. Where no
--- initiator injected packets, what ran and what ended was read as the carried law says, and each answer that is taken has its length.
+-- are the commands that run; and it keeps the laws of lists, of the initiators that injected no packets, which read so in the order of time; each
+-- answer that they take has its length; and where nobody injected packets, what ran and what ended was read as the carried law says.
 pub record HasRun (start : Held) (happened : List (ℕ × Event)) (notes : List Note) (now : Held) : Type 0 where
   pub line : ℕ
   pub run : Run
@@ -42,7 +42,7 @@ pub record HasRun (start : Held) (happened : List (ℕ × Event)) (notes : List 
   pub due : EachTurn (RunsWhereDue (injectors (history_of line run)) start.disks) (history_of line run)
   pub on_lists : LawfulOnLists (injectors (history_of line run)) start.disks (history_of line run)
   pub reads : IsTame (history_of line run) → WereRead start.disks (history_of line run)
-  pub lengths : IsTame (history_of line run) → (i : ℕ) → i < run.initiators → EachMoment (LengthOf start.disks i) (history_of line run)
+  pub lengths : (i : ℕ) → i < run.initiators → injectors (history_of line run) i ≡ false → EachMoment (LengthOf start.disks i) (history_of line run)
   pub in_time : ReadsInTime (injectors (history_of line run)) (history_of line run)
 
 -- No run begins: there is no event and no note, and the media are as they were.

@@ -454,9 +454,10 @@ pub fn few_logins_are_given()
     ensures { FewLoginsLaw }
 {}
 
-/// In every run in which no initiator injected packets a good status that is taken is of an ORB that ran, and its answer has as many
-/// bytes as the answer to its command, on the medium as that was before the run. Where the data of the command do not go to its
-/// initiator it has none, and is the answer that the medium tells. So of the answer law what is left are the bytes of the others.
+/// In every run in which no initiator injected packets, or few logins were given, a good status that is taken of an initiator that
+/// injected none is of an ORB that ran, and its answer has as many bytes as the answer to its command, on the medium as that was before
+/// the run. Where the data of the command do not go to its initiator it has none, and is the answer that the medium tells. So of the
+/// answer law what is left are the bytes of the others.
 #[tactic(auto, using(crate::proofs::Lists::Clauses::lengths_law))]
 pub fn answers_have_their_length()
     ensures { AnswerLengthsLaw }

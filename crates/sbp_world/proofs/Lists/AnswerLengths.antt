@@ -1,5 +1,5 @@
 -- The answer of a good status has as many bytes as the answer to its command: it is the bytes of the buffer, which the command of its line fills; and the ORB ran.
-use Rattle.std.proofs.Common.{inl, ◌≡◌, ◌∙◌, refl, sym, ap, subst, ◌<◌, IfSome, IsSomeAnd, ℕ, suc, nat_eq, Bool, true, false, cond, List, [], ◌∷◌, ◌++◌, map, length, append_assoc, Option, Some, None}
+use Rattle.std.proofs.Common.{◌≡◌, ◌∙◌, refl, sym, ap, subst, ◌<◌, IfSome, IsSomeAnd, ℕ, suc, nat_eq, Bool, true, false, cond, List, [], ◌∷◌, ◌++◌, map, length, append_assoc, Option, Some, None}
 use Rattle.std.specs.Prelude.{take}
 use Rattle.std.proofs.lemmas.Bool.Decides.{nat_tests}
 use Rattle.std.proofs.lemmas.List.{length-map}
@@ -32,6 +32,7 @@ use Rattle.sbp_laws.specs.Lists.{cmd_of, command_at, slot_at}
 use Rattle.sbp_laws.specs.StatusLaw.{TakenAt}
 use Rattle.sbp_laws.specs.Terms.{Request, appends, ended_status, plan_of, ran_status, request_at, runs, status_of}
 use Rattle.sbp_laws.specs.Turns.{EachMoment, event_of}
+use Rattle.sbp_world.specs.Lists.Needs.{IsCalm}
 use Rattle.sbp_world.specs.Histories.{history_of, moments_behind}
 use Rattle.sbp_world.specs.Runs.{Entry, Run}
 use Rattle.sbp_world.specs.Wire.Lines.{AreLines, FillsAction, FillsBuffer, IsLine}
@@ -353,7 +354,7 @@ module _ (At : Moment → List Moment → Type 0) (whole : List Moment) (each : 
   each_there later (moment ∷ past) e = (each later moment past e, each_there (later ++ moment ∷ []) past (append_assoc later (moment ∷ []) past ∙ e))
 
 -- ---- the answer
-module _ (line : ℕ) (run : Run) (r : IsRun run) (lawful : LawfulOnLists (injectors (history_of line run)) run.start.disks (history_of line run)) (calm : (i : ℕ) → injectors (history_of line run) i ≡ false) (i : ℕ) (b : i < run.initiators) where
+module _ (line : ℕ) (run : Run) (r : IsRun run) (lawful : LawfulOnLists (injectors (history_of line run)) run.start.disks (history_of line run)) (i : ℕ) (calm : IsCalm (history_of line run) i) (b : i < run.initiators) where
   abbrev H : List Moment
   H = history_of line run
 
@@ -377,12 +378,12 @@ module _ (line : ℕ) (run : Run) (r : IsRun run) (lawful : LawfulOnLists (injec
       let a = taken_law.answers line run r i b later past n k answer e in
       let m = said (notes.Taken i n k kinds.Good answer) in
       let whole = λ (At : Moment → List Moment → Type 0) (h : EachMoment At H). each_from At later (m ∷ past) (subst (EachMoment At) (sym e) h) in
-      let status = (whole (TakenAt (injectors H)) lawful.status.taken).0 (calm i) in
+      let status = (whole (TakenAt (injectors H)) lawful.status.taken).0 calm in
       let lined = (whole (LinedAt i) (lined_appends line run r i b)).1 in
-      let good = ended_ran (injectors H) start i n k (calm i) past (whole (ExecutionAt (injectors H) start) lawful.execution).1 status.ended in
-      let ran = ran_before (injectors H) start i n k (calm i) past kinds.Good good in
+      let good = ended_ran (injectors H) start i n k calm past (whole (ExecutionAt (injectors H) start) lawful.execution).1 status.ended in
+      let ran = ran_before (injectors H) start i n k calm past kinds.Good good in
       let filled = commands_fill past (filled_from later (m ∷ past) (subst AreFilled (sym e) (filled_behind line run run.entries r.lines))) i n k a.cmd a.command in
-      let none = outward_length (injectors H) start i n k (calm i) past (whole (OrderAt (injectors H)) lawful.order).1 (whole (ExecutionAt (injectors H) start) lawful.execution).1 lined good ran.0 ran.1 a.cmd a.command in
+      let none = outward_length (injectors H) start i n k calm past (whole (OrderAt (injectors H)) lawful.order).1 (whole (ExecutionAt (injectors H) start) lawful.execution).1 lined good ran.0 ran.1 a.cmd a.command in
       record {
         cmd = a.cmd;
         command = a.command;
@@ -403,5 +404,5 @@ module _ (line : ℕ) (run : Run) (r : IsRun run) (lawful : LawfulOnLists (injec
 
 pub answer_lengths_law : ListsLaw → AnswerLengthsLaw
 answer_lengths_law law = record {
-  lengths = λ line run r has small size tame i b. all_lengths line run r (law.lists line run r has small size (inl tame)) tame i b;
+  lengths = λ line run r has small size tame i b calm. all_lengths line run r (law.lists line run r has small size tame) i calm b;
 }

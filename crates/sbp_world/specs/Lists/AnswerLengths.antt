@@ -1,4 +1,4 @@
--- How long the answer of a good status is, in every run in which no initiator injected packets (RBC; NCITS 325-1998, status block): the ORB ran, and the answer has as many
+-- How long the answer of a good status is that an initiator takes which injected no packets, in every run in which none did, or few logins were given (RBC; NCITS 325-1998, status block): the ORB ran, and the answer has as many
 -- bytes as the answer to its request, on the medium as that was before the ORB ran; where the data of the ORB do not go to its initiator, it has none, and
 -- so does the answer that the medium tells. It is the part of the answer law that is of the length.
 use Rattle.std.specs.Prelude.{◌≡◌, ◌≤◌, ◌<◌, ℕ, false, List, [], length, Some, IfSome}
@@ -16,7 +16,8 @@ use Rattle.sbp_world.specs.Histories.{history_of}
 use Rattle.sbp_world.specs.Runs.{Run}
 use Rattle.sbp_world.specs.Hosts.Orbs.{request_of}
 use Rattle.sbp_world.specs.Hosts.Runs.{IsRun}
-use Rattle.sbp_world.specs.Lists.OwnLogins.{IsTame}
+use Rattle.sbp_world.specs.Lists.FewLogins.{IsTameOrFew}
+use Rattle.sbp_world.specs.Lists.Needs.{IsCalm}
 
 pub record HasLength (start : List Disk) (past : List Moment) (i n k : ℕ) (answer : List ℕ) : Type 0 where
   pub cmd : Cmd
@@ -33,4 +34,4 @@ LengthOf start i (said (notes.Taken j n k kinds.Good answer)) past = j ≡ i →
 LengthOf start i moment past = Unit {0}
 
 pub record AnswerLengthsLaw : Type 0 where
-  pub lengths : (line : ℕ) (run : Run) → IsRun run → 0 < run.units → run.units ≤ 4 → length run.start.disks ≡ run.units → IsTame (history_of line run) → (i : ℕ) → i < run.initiators → EachMoment (LengthOf run.start.disks i) (history_of line run)
+  pub lengths : (line : ℕ) (run : Run) → IsRun run → 0 < run.units → run.units ≤ 4 → length run.start.disks ≡ run.units → IsTameOrFew (history_of line run) → (i : ℕ) → i < run.initiators → IsCalm (history_of line run) i → EachMoment (LengthOf run.start.disks i) (history_of line run)
