@@ -1,5 +1,5 @@
 -- The history of a run of the machine keeps the laws of the wire, and those of the bus, where its events are those of lines.
-use Rattle.std.proofs.Common.{◌≡◌, ◌∙◌, inr, refl, sym, ap, subst, ℕ, ◌+◌, ◌^◌, ◌<◌, ◌≤◌, false, List, [], ◌∷◌, length, arith}
+use Rattle.std.proofs.Common.{◌≡◌, ◌∙◌, inr, refl, sym, ap, subst, ℕ, ◌+◌, ◌^◌, ◌<◌, ◌≤◌, Bool, false, List, [], ◌∷◌, length, arith}
 use Rattle.std.proofs.lemmas.List.{length-append}
 use Rattle.sbp_journal.specs.declared.event.Event.{Event}
 use Rattle.sbp_world.specs.Histories.{history_of}
@@ -77,12 +77,11 @@ run_on_lists line run start same units some most few count all lines =
     (lists_law.lists line run is some most size (inr (few_logins_law.few line run is some most size (omega arith))))
 
 pub run_is_due : (line : ℕ) (run : Run) (start : Held) → run.start ≡ start → run.units ≡ length start.disks → 0 < run.units → run.units ≤ 4 → run.initiators ≤ 4 → length run.entries ≤ 65535 → AreEntries (beginning run) run.entries → AreLines run run.entries
-    → EachTurn (RunsWhereDue (injectors (history_of line run)) start.disks) (history_of line run)
-run_is_due line run start same units some most few count all lines =
+    → (wild : ℕ → Bool) → EachTurn (RunsWhereDue wild start.disks) (history_of line run)
+run_is_due line run start same units some most few count all lines wild =
     let is : IsRun run = record { few = few; short = omega arith; entries = all; lines = lines } in
     let size : length run.start.disks ≡ run.units = ap (λ (h : Held). length h.disks) same ∙ sym units in
-    subst (λ s. EachTurn (RunsWhereDue (injectors (history_of line run)) s) (history_of line run)) (ap (λ (h : Held). h.disks) same)
-    (due_runs_law.after_lines line run is some most size (injectors (history_of line run)))
+    subst (λ s. EachTurn (RunsWhereDue wild s) (history_of line run)) (ap (λ (h : Held). h.disks) same) (due_runs_law.after_lines line run is some most size wild)
 
 pub run_reads : (line : ℕ) (run : Run) (start : Held) → run.start ≡ start → run.units ≡ length start.disks → 0 < run.units → run.units ≤ 4 → run.initiators ≤ 4 → length run.entries ≤ 65535 → AreEntries (beginning run) run.entries → AreLines run run.entries
     → IsTame (history_of line run) → WereRead start.disks (history_of line run)

@@ -1,5 +1,5 @@
 -- What a run of the machine over the events of a script is.
-use Rattle.std.specs.Prelude.{◌≡◌, ◌⊎◌, ◌<◌, ℕ, false, List, [], length, reverse}
+use Rattle.std.specs.Prelude.{◌≡◌, ◌⊎◌, ◌<◌, ℕ, Bool, false, List, [], length, reverse}
 use Rattle.rbc_disk.specs.Held.{Held}
 use Rattle.sbp_journal.specs.declared.event.Event.{Event}
 use Rattle.sbp_journal.specs.declared.note.Note.{Note}
@@ -39,7 +39,7 @@ pub record HasRun (start : Held) (happened : List (ℕ × Event)) (notes : List 
   pub of_wire : IsOfWire (history_of line run)
   pub on_the_bus : LawfulOnTheBus (injectors (history_of line run)) (journal_run line run)
   pub statuses : TakesStatuses (history_of line run)
-  pub due : EachTurn (RunsWhereDue (injectors (history_of line run)) start.disks) (history_of line run)
+  pub due : (wild : ℕ → Bool) → EachTurn (RunsWhereDue wild start.disks) (history_of line run)
   pub on_lists : LawfulOnLists (injectors (history_of line run)) start.disks (history_of line run)
   pub reads : IsTame (history_of line run) → WereRead start.disks (history_of line run)
   pub lengths : (i : ℕ) → i < run.initiators → injectors (history_of line run) i ≡ false → EachMoment (LengthOf start.disks i) (history_of line run)

@@ -3,14 +3,12 @@ use Rattle.std.specs.Prelude.{◌≡◌, ℕ, Bool, List, [], Result, Ok, Err, I
 use Rattle.std.proofs.Common.{◌∙◌, ap, subst, sym}
 use Rattle.rbc_disk.specs.Disk.{Disk}
 use Rattle.sbp_journal.specs.declared.event.Event.{Event}
-use Rattle.sbp_laws.specs.Lawful.{injectors}
 use Rattle.sbp_world.proofs.Lists.Clauses.{lengths_law, lists_law, reads_law}
 use Rattle.sbp_world.proofs.Lists.Executes.{due_runs_law}
 use Rattle.sbp_world.proofs.Lists.GrantRuns.{few_logins_law}
 use Rattle.sbp_world.proofs.Standing.{begins, goes_on, settles}
 use Rattle.sbp_world.proofs.Wire.Entries.{bus_law}
 use Rattle.sbp_world.proofs.Wire.Runs.{all_runs}
-use Rattle.sbp_world.specs.Histories.{history_of}
 use Rattle.sbp_world.specs.Hosts.Runs.{IsRun}
 use Rattle.sbp_world.specs.Lines.{Happens}
 use Rattle.sbp_world.specs.Making.{new_world}
@@ -25,7 +23,7 @@ laws_of run are first is =
     record {
       of_wire = (all_runs.runs first run is.few is.count are is.lines).has_laws;
       on_the_bus = bus_law.lawful first run is.few is.media is.count are is.lines;
-      due = λ some most. due_runs_law.after_lines first run bounds some most (sym is.media) (injectors (history_of first run));
+      due = λ some most. due_runs_law.after_lines first run bounds some most (sym is.media);
       few_logins = λ some most. few_logins_law.few first run bounds some most (sym is.media);
       on_lists = λ some most. lists_law.lists first run bounds some most (sym is.media);
       reads = λ some most. reads_law.after_lines first run bounds some most (sym is.media);
