@@ -26,6 +26,7 @@ pub mod Live
 pub mod LoginAnswers
 pub mod OrbReads
 pub mod CarriedRuns
+pub mod Brought
 pub mod CarriedEnds
 pub mod OneUp
 pub mod SendsLast

@@ -1,4 +1,13 @@
 -- The laws of lists, as the clauses of a world have them: with the lines of a run, which name units of 16 bits.
+use Rattle.std.proofs.Common.{◌≡◌, ◌<◌, ◌≤◌, ℕ, length}
+use Rattle.sbp_laws.specs.Lawful.{injectors}
+use Rattle.sbp_world.specs.Histories.{history_of}
+use Rattle.sbp_world.specs.Runs.{Run}
+use Rattle.sbp_world.specs.Hosts.Runs.{IsRun}
+use Rattle.sbp_world.specs.Lists.Brought.{AreBrought}
+use Rattle.sbp_world.specs.Lists.FewLogins.{IsTameOrFew}
+use Rattle.sbp_world.proofs.Lists.Executes.{ends_read_law, runs_fed_law, runs_read_law}
+use Rattle.sbp_world.proofs.Lists.ListsProved.{closing}
 use Rattle.sbp_world.specs.Lists.AnswerLengths.{AnswerLengthsLaw}
 use Rattle.sbp_world.specs.Lists.CarriedEnds.{WereReadLaw}
 use Rattle.sbp_world.specs.Lists.Closes.{OpenListsLaw}
@@ -80,3 +89,13 @@ waits_law = reads_as_got_law open_lists_law
 
 pub feeds_law : ReadAndFedLaw
 feeds_law = read_and_fed_law open_lists_law one_up
+
+-- how ORBs and their data were read
+pub brought_law : (line : ℕ) (run : Run) → IsRun run → 0 < run.units → run.units ≤ 4 → length run.start.disks ≡ run.units → IsTameOrFew (history_of line run) → AreBrought (injectors (history_of line run)) run.start.disks (history_of line run)
+brought_law line run r has small size tame =
+    let so_far = closing.before open_lists_law line run r has small size tame in
+    record {
+      runs = runs_read_law.after_lines line run r has small size so_far;
+      buffers = runs_fed_law.after_lines line run r has small size so_far;
+      ends = ends_read_law.after_lines line run r has small size so_far;
+    }
