@@ -36,7 +36,7 @@ use Rattle.sbp_world.proofs.Lists.FedFolds.{AreSo, AreStill, IsKept, Pends, over
 use Rattle.sbp_world.proofs.Lists.FedNotes.{managed_kept, note_kept, request_kept}
 use Rattle.sbp_world.proofs.Lists.FedPieces.{IsPiece, all_bytes, all_more, turn_more}
 use Rattle.sbp_world.proofs.Lists.FedSteps.{Feeding, Hears, IsFed, abort_feeds, ahead_steps, bell_feeds, late_feeds, lost_feeds, main_steps, new_feeds, point_feeds, reset_feeds, unheard_feeds}
-use Rattle.sbp_world.proofs.Lists.OrbReading.{ahead_more, brings}
+use Rattle.sbp_world.proofs.Lists.OrbReading.{ahead_more}
 use Rattle.sbp_bus.specs.Packets.{judged_note}
 use Rattle.sbp_journal.specs.declared.cause.Judged.{Judged}
 use Rattle.sbp_journal.specs.declared.cause.Judged.TheVariants as judgements
