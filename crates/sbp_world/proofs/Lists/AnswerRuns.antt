@@ -1,4 +1,6 @@
 -- Runs in a history that goes on: notes of no run add none; and an ORB of the latest list that ran before, and is the first one that has not ended now, was so before.
+use Rattle.sbp_world.specs.Lists.AnswersTold.{IsAnswerOf}
+use Rattle.rbc_disk.specs.Disk.{Disk}
 use Rattle.std.proofs.Common.{◌==◌}
 use Rattle.std.proofs.Common.{◌+◌}
 use Rattle.std.proofs.Common.{◌⊎◌, inl, inr, length, Option, Some, None}
@@ -144,3 +146,17 @@ pub answering_none : (m : Machine) (place : ℕ) (plain : PlainDisk) (told : Opt
 unfolding reply_step
 answering_none m place plain told Main answer e = answering_main place plain (told_or told) m.phase m answer e
 answering_none m place plain told Ahead answer e = none_if (is_ahead m.ahead) (ahead_step m answer) (quiet, m) (ahead_none m (payload_of answer 32)) refl
+
+-- ---- the answer to a command as it ran
+-- it stays so as a history goes on
+pub answer_on : (start : List Disk) (more ms now : List Moment) → more ++ ms ≡ now → (i n k : ℕ) (answer : List ℕ) → IsAnswerOf start ms i n k answer → IsAnswerOf start now i n k answer
+answer_on start more ms now is i n k answer x = record {
+  later = more ++ x.later;
+  before = x.before;
+  unit = x.unit;
+  cdb = x.cdb;
+  bytes = x.bytes;
+  check = x.check;
+  is = joined more x.later _ ∙ (ap (λ h. more ++ h) x.is ∙ is);
+  told = x.told;
+}

@@ -193,7 +193,7 @@ module _ (w : WorldState) (g : Good w.target) (Fifo : ℕ → Type 0) (fifos : A
     abbrev Found : Finding Purpose → Type 0
     Found f = (judging_step w.target.layer sent.generation sent.bytes).0 ≡ f
 
-    module _ (reply_ok : (p : Packet) (label : LabelParts) (place : ℕ) → Found (of_response p label (Some (purposes.Agent place))) → (b : place < 8) (login : Login) → login_at w.target place ≡ Some login → (which : Which) → which_in (desk_at w.target place) (header_in p).source label ≡ Some which → Steps place (reply_step (M place) place (plain_in (there w g then).units media.disks login.unit) run which (answer_in p))) (its : (p : Packet) (label : LabelParts) → Found (of_response p label (Some purposes.Management)) → Its (answer_in p)) where
+    module _ (reply_ok : (p : Packet) (label : LabelParts) (place : ℕ) → Found (of_response p label (Some (purposes.Agent place))) → (b : place < 8) (login : Login) → served_login w.target place ≡ Some login → (which : Which) → which_in (desk_at w.target place) (header_in p).source label ≡ Some which → Steps place (reply_step (M place) place (plain_in (there w g then).units media.disks login.unit) run which (answer_in p))) (its : (p : Packet) (label : LabelParts) → Found (of_response p label (Some purposes.Management)) → Its (answer_in p)) where
       idle_here : WroteSo then (first w g then)
       idle_here = to_logins tt
 
@@ -216,7 +216,7 @@ module _ (w : WorldState) (g : Good w.target) (Fifo : ℕ → Type 0) (fifos : A
           let is = login_of place login l in
           let step : AgentStep × Machine = reply_step (M place) place (plain_in (there w g then).units media.disks login.unit) run which (answer_in p) in
           let inside : place < length (there w g then).desks = (let z = g.mid.size in omega (arith, z, b)) in
-          steps_so place b login is step (reply_ok p label place f b login is which e)
+          steps_so place b login is step (reply_ok p label place f b login l which e)
           (λ outcome ran.
           advance_tells (IsFirstRun place step.1 outcome) (first_keeps place step.1 outcome) (there w g then) place inside login media.disks run which (answer_in p)
           (subst (λ x. IsFirstRun place step.1 outcome (tell_ran place step.1 x empty_outbox).sides) (sym ran) (record { more = []; is = refl })))

@@ -1,4 +1,5 @@
 -- Each write of the data of an ORB but the latest one was closed and served, and behind an end, but as failed, each one; and until a write is judged its slot has the ORB: by induction on the history.
+use Rattle.rbc_disk.specs.Disk.{Disk}
 use Rattle.std.proofs.Common.{arith, ◌≡◌, ◌∙◌, refl, sym, ap, subst, ◌<◌, ◌≤◌, ◌-◌, ◌+◌, ◌^◌, ◌&&◌, not, ℕ, suc, nat_eq, nat_lt, Bool, true, false, cond, List, [], ◌∷◌, ◌++◌, length, Option, Some, None}
 use Rattle.std.proofs.lemmas.Bool.Decides.{nat_tests}
 use Rattle.bus_transactions.specs.Packets.{SerialsCount}
@@ -76,13 +77,13 @@ sent_by : (t : Terms) (i serial : ℕ) (so : Option Sending) → t.sent serial �
 sent_by t i serial None e f g = absurd (let z : None ≡ Some 0 = f in cc)
 sent_by t i serial (Some q) e f g = record { packet = q; sent = e; from = same_node q.from 0 f; to = same_node q.to (suc i) g }
 
-module _ (wild : ℕ → Bool) (i : ℕ) (own : wild i ≡ false) where
+module _ (start : List Disk) (wild : ℕ → Bool) (i : ℕ) (own : wild i ≡ false) where
   -- ---- what each history of a run is
   pub record IsSound (ms : List Moment) : Type 0 where
     pub passes : PassLaw wild ms
     pub rises : Rises ms
     pub serials : SerialsCount ms
-    pub each : EachMoment (DataSo i) ms
+    pub each : EachMoment (DataSo start i) ms
     pub ends_so : EachMoment (EndSo i) ms
     pub once : OnceLaw wild ms
     pub taken : EachMoment (TakenSo i) ms
@@ -95,7 +96,7 @@ module _ (wild : ℕ → Bool) (i : ℕ) (own : wild i ≡ false) where
         passes = each_from _ later before f.passes;
         rises = each_from _ later before f.rises;
         serials = c;
-        each = each_from (DataSo i) later before f.each;
+        each = each_from (DataSo start i) later before f.each;
         ends_so = each_from (EndSo i) later before f.ends_so;
         once = each_from (OnceAt wild) later before f.once;
         taken = each_from (TakenSo i) later before f.taken;
@@ -103,7 +104,7 @@ module _ (wild : ℕ → Bool) (i : ℕ) (own : wild i ≡ false) where
       }
 
   -- ---- a slot has the ORB while that has not ended, but as failed
-  module _ (ms : List Moment) (f : IsSound ms) (n k serial slot : ℕ) (packet : Sending) (d : IsDataOf ms i n k serial packet slot) (current : packet.generation ≡ (terms ms).generation (suc i)) (still : (status : StatusKind) → ended_status ms i n k ≡ Some status → (status ≡ kinds.Failed → ⊥) → ⊥) where
+  module _ (ms : List Moment) (f : IsSound ms) (n k serial slot : ℕ) (packet : Sending) (d : IsDataOf start ms i n k serial packet slot) (current : packet.generation ≡ (terms ms).generation (suc i)) (still : (status : StatusKind) → ended_status ms i n k ≡ Some status → (status ≡ kinds.Failed → ⊥) → ⊥) where
     abbrev T : List Moment
     T = turn i ms n k serial slot packet d
 
@@ -130,7 +131,7 @@ module _ (wild : ℕ → Bool) (i : ℕ) (own : wild i ≡ false) where
         subst (λ h. HasSlot h i slot (orb n k)) at (slot_stays_unless i slot (orb n k) M T (subst Rises (sym at) f.rises) then none_over held)
 
   -- ---- the write that is answered in a turn
-  module _ (B : List Moment) (f : IsSound B) (g : AreServed B i) (n k : ℕ) (m : Machine) (got : ℕ) (a : IsAnswered B i n k m got) where
+  module _ (B : List Moment) (f : IsSound B) (g : AreServed start B i) (n k : ℕ) (m : Machine) (got : ℕ) (a : IsAnswered B i n k m got) where
     pub sent : IsSent (terms B) i a.serial
     sent = sent_by (terms B) i a.serial ((terms B).sent a.serial) refl a.from a.to
 
@@ -146,8 +147,8 @@ module _ (wild : ℕ → Bool) (i : ℕ) (own : wild i ≡ false) where
     writes : IsDataWrite q.bytes s
     writes = record { access = a.access; is = access_is; writes = a.writes; goes = a.stands }
 
-    owned : IsOwned i B a.serial s q
-    owned = owner i B f.each a.serial s q (record { is = sent.sent; from_target = sent.from; to_host = sent.to }) writes
+    owned : IsOwned start i B a.serial s q
+    owned = owner start i B f.each a.serial s q (record { is = sent.sent; from_target = sent.from; to_host = sent.to }) writes
 
     gen_is : q.generation ≡ (terms B).generation 0
     gen_is = under_way_now (terms B) a.serial q sent.sent a.under_way ∙ ap (λ x. (terms B).generation x) sent.from
@@ -185,7 +186,7 @@ module _ (wild : ℕ → Bool) (i : ℕ) (own : wild i ≡ false) where
       same = same_orb owned.list owned.number n k (sym has.there ∙ there)
 
       -- so it is of this ORB
-      pub its : IsDataOf B i n k a.serial q s
+      pub its : IsDataOf start B i n k a.serial q s
       its = record {
         sent = owned.of.sent;
         writes = owned.of.writes;
@@ -242,7 +243,7 @@ module _ (wild : ℕ → Bool) (i : ℕ) (own : wild i ≡ false) where
           (subst (λ (x : Access). chunk x.offset (length x.payload) ≡ cut_to (length m.answer - a.done_before) (chunk_from (laid_out s a.cmd a.cmd.segments) a.done_before limit)) access_same a.piece)
           (subst (λ (x : Access). 0 < length x.payload) access_same a.some) a.whole
 
-      module _ (serial slot : ℕ) (packet : Sending) (d : IsDataOf B i n k serial packet slot) where
+      module _ (serial slot : ℕ) (packet : Sending) (d : IsDataOf start B i n k serial packet slot) where
         -- none was sent behind it
         pub none_behind : a.serial < serial → ⊥
         none_behind less =
@@ -257,7 +258,7 @@ module _ (wild : ℕ → Bool) (i : ℕ) (own : wild i ≡ false) where
             let level : packet.generation ≡ (terms B).generation 0 = omega (arith, low, of, high, x) in
             not_closed (g.earlier n k a.serial serial s slot q packet its d less (level ∙ current))
 
-      module _ (later : List Moment) (once : OnceLaw wild (later ++ said (notes.Got got) ∷ B)) (serial slot : ℕ) (packet : Sending) (d : IsDataOf B i n k serial packet slot) where
+      module _ (later : List Moment) (once : OnceLaw wild (later ++ said (notes.Got got) ∷ B)) (serial slot : ℕ) (packet : Sending) (d : IsDataOf start B i n k serial packet slot) where
         now_closed : serial ≡ a.serial → WasClosed (later ++ said (notes.Got got) ∷ B) serial
         now_closed e = record { later = later; before = B; got = got; is = refl; closed = a.closed ∙ ap (λ x. Some x) (sym e); served = subst (λ x. WasServed (terms B) x) (sym e) (served (each_from (OnceAt wild) later (said (notes.Got got) ∷ B) once)) }
 
@@ -319,11 +320,11 @@ module _ (wild : ℕ → Bool) (i : ℕ) (own : wild i ≡ false) where
 
   -- ---- at a history, behind those before it
   abbrev pub Before : List Moment → Type 0
-  Before ms = (front B : List Moment) (z : Moment) (back : List Moment) → front ++ z ∷ (back ++ B) ≡ ms → AreServed B i
+  Before ms = (front B : List Moment) (z : Moment) (back : List Moment) → front ++ z ∷ (back ++ B) ≡ ms → AreServed start B i
 
   module _ (ms : List Moment) (f : IsSound ms) (below : Before ms) where
     -- one before another
-    module _ (n k serial next slot other : ℕ) (packet following : Sending) (d : IsDataOf ms i n k serial packet slot) (e : IsDataOf ms i n k next following other) (less : serial < next) (current : following.generation ≡ (terms ms).generation (suc i)) where
+    module _ (n k serial next slot other : ℕ) (packet following : Sending) (d : IsDataOf start ms i n k serial packet slot) (e : IsDataOf start ms i n k next following other) (less : serial < next) (current : following.generation ≡ (terms ms).generation (suc i)) where
       abbrev pub B : List Moment
       B = turn i ms n k next other following e
 
@@ -336,10 +337,10 @@ module _ (wild : ℕ → Bool) (i : ℕ) (own : wild i ≡ false) where
       sound : IsSound B
       sound = sound_from (mid i ms n k next other following e) B (subst IsSound (sym whole_is) f)
 
-      served_before : AreServed B i
+      served_before : AreServed start B i
       served_before = below e.later B sends e.was.later (split e.later (sends ∷ e.was.later) B ∙ whole_is)
 
-      early : IsDataOf B i n k serial packet slot
+      early : IsDataOf start B i n k serial packet slot
       early = into_turn i ms n k next other following e f.serials n k serial slot packet d less
 
       level : (terms B).generation 0 ≡ (terms B).generation (suc i)
@@ -408,7 +409,7 @@ module _ (wild : ℕ → Bool) (i : ℕ) (own : wild i ≡ false) where
       pub sound_turn : IsSound C
       sound_turn = sound_from w.later C then_sound
 
-      pub served_turn : AreServed C i
+      pub served_turn : AreServed start C i
       served_turn = below moment.later C ended_note w.later (ap (λ h. moment.later ++ ended_note ∷ h) w.is ∙ moment.is)
 
       sees_more : (terms C).generation (suc i) ≤ (terms ms).generation (suc i)
@@ -419,7 +420,7 @@ module _ (wild : ℕ → Bool) (i : ℕ) (own : wild i ≡ false) where
           let g : (terms ((moment.later ++ ended_note ∷ []) ++ past)).generation (suc i) ≡ (terms ms).generation (suc i) = ap (λ h. (terms h).generation (suc i)) at_past in
           omega (arith, a, b, c, g)
 
-      module _ (serial slot : ℕ) (packet : Sending) (d : IsDataOf ms i n k serial packet slot) where
+      module _ (serial slot : ℕ) (packet : Sending) (d : IsDataOf start ms i n k serial packet slot) where
         abbrev leaving_note : Moment
         leaving_note = said (notes.Sent serial packet.generation packet.from packet.to packet.bytes)
 
@@ -442,13 +443,13 @@ module _ (wild : ℕ → Bool) (i : ℕ) (own : wild i ≡ false) where
             by_test true g = absurd (not_behind (let z : (terms past).count < serial = grind (arith, nat_tests) in z))
             by_test false g = grind (arith, nat_tests)
 
-        inner : IsDataOf past i n k serial packet slot
-        inner = shrink i (moment.later ++ ended_note ∷ []) past n k serial slot packet (subst SerialsCount (sym at_past) f.serials) within (subst (λ h. IsDataOf h i n k serial packet slot) (sym at_past) d)
+        inner : IsDataOf start past i n k serial packet slot
+        inner = shrink i (moment.later ++ ended_note ∷ []) past n k serial slot packet (subst SerialsCount (sym at_past) f.serials) within (subst (λ h. IsDataOf start h i n k serial packet slot) (sym at_past) d)
 
-        then_inner : IsDataOf (w.later ++ C) i n k serial packet slot
-        then_inner = subst (λ h. IsDataOf h i n k serial packet slot) (sym w.is) inner
+        then_inner : IsDataOf start (w.later ++ C) i n k serial packet slot
+        then_inner = subst (λ h. IsDataOf start h i n k serial packet slot) (sym w.is) inner
 
-        pub first_data : IsDataOf C i n k serial packet slot
+        pub first_data : IsDataOf start C i n k serial packet slot
         first_data = shrink i w.later C n k serial slot packet then_sound.serials (dry_before i w.later C w.alone then_sound.serials serial slot packet then_inner.sent then_inner.writes) then_inner
 
         abbrev D : List Moment
@@ -493,7 +494,7 @@ module _ (wild : ℕ → Bool) (i : ℕ) (own : wild i ≡ false) where
           ended_closed = subst (λ h. WasClosed h serial) at_past (closed_on (moment.later ++ ended_note ∷ []) past serial (by_written w.written))
 
     -- one that was not judged
-    still_held : (n k serial slot : ℕ) (packet : Sending) (d : IsDataOf ms i n k serial packet slot) → packet.generation ≡ (terms ms).generation (suc i) → (terms ms).news serial ≡ 0 → HasSlot ms i slot (orb n k)
+    still_held : (n k serial slot : ℕ) (packet : Sending) (d : IsDataOf start ms i n k serial packet slot) → packet.generation ≡ (terms ms).generation (suc i) → (terms ms).news serial ≡ 0 → HasSlot ms i slot (orb n k)
     still_held n k serial slot packet d current fresh =
         holds ms f n k serial slot packet d current
         (λ status e proper.
@@ -505,7 +506,7 @@ module _ (wild : ℕ → Bool) (i : ℕ) (own : wild i ≡ false) where
         let one = w.served.once in
         omega (arith, more, same, one, fresh))
 
-    pub served_at : AreServed ms i
+    pub served_at : AreServed start ms i
     served_at = record {
       earlier = λ n k serial next slot other packet following d e less current. earlier_closed n k serial next slot other packet following d e less current;
       ended = λ n k serial slot packet status d e proper current. ended_closed n k status e proper serial slot packet d current;
@@ -516,9 +517,9 @@ module _ (wild : ℕ → Bool) (i : ℕ) (own : wild i ≡ false) where
   pub before_all : (ms : List Moment) → IsSound ms → Before ms
   before_all [] f [] B z back e = absurd (let y : z ∷ (back ++ B) ≡ [] = e in cc)
   before_all [] f (x ∷ front) B z back e = absurd (let y : x ∷ (front ++ z ∷ (back ++ B)) ≡ [] = e in cc)
-  before_all (m ∷ past) f [] B z [] e = subst (λ h. AreServed h i) (sym (tail_is z m B past e)) (served_at past (sound_from (m ∷ []) past f) (before_all past (sound_from (m ∷ []) past f)))
+  before_all (m ∷ past) f [] B z [] e = subst (λ h. AreServed start h i) (sym (tail_is z m B past e)) (served_at past (sound_from (m ∷ []) past f) (before_all past (sound_from (m ∷ []) past f)))
   before_all (m ∷ past) f [] B z (y ∷ back) e = before_all past (sound_from (m ∷ []) past f) [] B y back (tail_is z m (y ∷ (back ++ B)) past e)
   before_all (m ∷ past) f (x ∷ front) B z back e = before_all past (sound_from (m ∷ []) past f) front B z back (tail_is x m (front ++ z ∷ (back ++ B)) past e)
 
-  pub are_served : (ms : List Moment) → IsSound ms → AreServed ms i
+  pub are_served : (ms : List Moment) → IsSound ms → AreServed start ms i
   are_served ms f = served_at ms f (before_all ms f)

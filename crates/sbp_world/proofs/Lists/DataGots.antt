@@ -1,4 +1,5 @@
 -- A write into a data buffer that an initiator gets is the latest one of the data of the ORB that the slot has: it was not judged before, and is of the generation that the initiator is in.
+use Rattle.rbc_disk.specs.Disk.{Disk}
 use Rattle.std.proofs.Common.{arith, ◌≡◌, ◌∙◌, refl, sym, ap, subst, ◌<◌, ◌≤◌, ◌&&◌, not, ℕ, suc, nat_lt, Bool, true, false, List, [], ◌∷◌, ◌++◌, Some}
 use Rattle.std.proofs.lemmas.Bool.Decides.{nat_tests}
 use Rattle.async_packet.specs.Reading.{reading}
@@ -34,13 +35,13 @@ both_not false false e f = refl
 both_not false true e f = absurd (let z : true ≡ false = f in cc)
 both_not true b e f = absurd (let z : true ≡ false = e in cc)
 
-module _ (wild : ℕ → Bool) (i : ℕ) (own : wild i ≡ false) where
-  module _ (past : List Moment) (serial : ℕ) (known : IsKnown wild (said (notes.Got serial) ∷ past) i) (sound : IsSound wild i own (said (notes.Got serial) ∷ past)) (packet : Sending) (sent : (terms past).sent serial ≡ Some packet) (to : packet.to ≡ suc i) (slot : ℕ) (x : IsDataWrite packet.bytes slot) where
-    here : IsSound wild i own past
-    here = sound_from wild i own (said (notes.Got serial) ∷ []) past sound
+module _ (start : List Disk) (wild : ℕ → Bool) (i : ℕ) (own : wild i ≡ false) where
+  module _ (past : List Moment) (serial : ℕ) (known : IsKnown wild (said (notes.Got serial) ∷ past) i) (sound : IsSound start wild i own (said (notes.Got serial) ∷ past)) (packet : Sending) (sent : (terms past).sent serial ≡ Some packet) (to : packet.to ≡ suc i) (slot : ℕ) (x : IsDataWrite packet.bytes slot) where
+    here : IsSound start wild i own past
+    here = sound_from start wild i own (said (notes.Got serial) ∷ []) past sound
 
-    served : AreServed past i
-    served = are_served wild i own past here
+    served : AreServed start past i
+    served = are_served start wild i own past here
 
     from : packet.from ≡ 0
     from =
@@ -60,8 +61,8 @@ module _ (wild : ℕ → Bool) (i : ℕ) (own : wild i ≡ false) where
     fresh : (terms past).news serial ≡ 0
     fresh = sound.once.0.0 fair
 
-    owned : IsOwned i past serial slot packet
-    owned = owner i past here.each serial slot packet (record { is = sent; from_target = from; to_host = to }) x
+    owned : IsOwned start i past serial slot packet
+    owned = owner start i past here.each serial slot packet (record { is = sent; from_target = from; to_host = to }) x
 
     not_closed : WasClosed past serial → ⊥
     not_closed w =
@@ -73,7 +74,7 @@ module _ (wild : ℕ → Bool) (i : ℕ) (own : wild i ≡ false) where
         let none = fresh in
         omega (arith, more, same, one, none)
 
-    level : (other place : ℕ) (one : Sending) → IsDataOf past i owned.list owned.number other one place → serial < other → one.generation ≡ (terms past).generation (suc i)
+    level : (other place : ℕ) (one : Sending) → IsDataOf start past i owned.list owned.number other one place → serial < other → one.generation ≡ (terms past).generation (suc i)
     level other place one d less =
         let early = into_turn i past owned.list owned.number other place one d here.serials owned.list owned.number serial slot packet owned.of less in
         let T = turn i past owned.list owned.number other place one d in
@@ -86,7 +87,7 @@ module _ (wild : ℕ → Bool) (i : ℕ) (own : wild i ≡ false) where
         let now = current in
         omega (arith, low, of, high, now)
 
-    no_later : (other place : ℕ) (one : Sending) → IsDataOf past i owned.list owned.number other one place → other ≤ serial
+    no_later : (other place : ℕ) (one : Sending) → IsDataOf start past i owned.list owned.number other one place → other ≤ serial
     no_later other place one d = by (nat_lt serial other) refl
       where
         by : (b : Bool) → nat_lt serial other ≡ b → other ≤ serial
@@ -95,19 +96,19 @@ module _ (wild : ℕ → Bool) (i : ℕ) (own : wild i ≡ false) where
             absurd (not_closed (served.earlier owned.list owned.number serial other slot place packet one owned.of d less (level other place one d less)))
         by false e = grind (arith, nat_tests)
 
-    pub got_so : IsLatestData past i serial slot packet
+    pub got_so : IsLatestData start past i serial slot packet
     got_so = record {
       list = owned.list;
       number = owned.number;
       of = owned.of;
       has = served.held owned.list owned.number serial slot packet owned.of current fresh;
-      reached = (in_sequence wild i own past here).each owned.list owned.number serial slot packet owned.of current;
+      reached = (in_sequence start wild i own past here).each owned.list owned.number serial slot packet owned.of current;
       latest = no_later;
       earlier = λ other place one d less. served.earlier owned.list owned.number other serial place slot one packet d owned.of less current;
     }
 
-  pub gots_so : (ms : List Moment) → IsKnown wild ms i → IsSound wild i own ms → EachMoment (GotSo i) ms
+  pub gots_so : (ms : List Moment) → IsKnown wild ms i → IsSound start wild i own ms → EachMoment (GotSo start i) ms
   gots_so [] known sound = tt
   gots_so (said (notes.Got serial) ∷ past) known sound =
-      ((λ packet sent to slot x. got_so past serial known sound packet sent to slot x), gots_so past (known_less wild (said (notes.Got serial)) past i known) (sound_from wild i own (said (notes.Got serial) ∷ []) past sound))
-  gots_so (m ∷ past) known sound = (tt, gots_so past (known_less wild m past i known) (sound_from wild i own (m ∷ []) past sound))
+      ((λ packet sent to slot x. got_so past serial known sound packet sent to slot x), gots_so past (known_less wild (said (notes.Got serial)) past i known) (sound_from start wild i own (said (notes.Got serial) ∷ []) past sound))
+  gots_so (m ∷ past) known sound = (tt, gots_so past (known_less wild m past i known) (sound_from start wild i own (m ∷ []) past sound))

@@ -28,7 +28,10 @@ use Rattle.sbp_world.proofs.Lists.SlotsHeld.{slots_stay_law}
 use Rattle.sbp_world.proofs.Lists.StatusKnown.{each_from, generation_grows}
 use Rattle.sbp_world.proofs.Lists.StatusMoments.{HasTaken, over_taken, taken_stays}
 use Rattle.sbp_world.proofs.Lists.StatusRuns.{rises_of}
-use Rattle.sbp_world.proofs.Lists.TameWalks.{tame_after, tame_between}
+use Rattle.sbp_world.proofs.Lists.TameWalks.{from_after, from_between}
+use Rattle.sbp_world.proofs.Lists.OwnFifos.{tame_before}
+use Rattle.sbp_world.specs.Lists.OwnLogins.{IsTame}
+use Rattle.sbp_world.specs.Lists.Closes.{UnderFrom}
 use Rattle.sbp_world.proofs.Lists.Walks.{Walks}
 
 no : false ≡ true → ⊥
@@ -83,7 +86,7 @@ module _ (i slot : ℕ) (one : Orb) (mid before : List Moment) (rises : Rises (m
   slot_stays none h = slot_stays_unless (λ front back is o. none_over none front back is (over_taken (back ++ before) i one o)) h
 
 -- ---- in a history in which data are sent as they are to be
-module _ (ms : List Moment) (i : ℕ) (rises : Rises ms) (serials : SerialsCount ms) (each : EachMoment (DataSo i) ms) where
+module _ (start : List Disk) (ms : List Moment) (i : ℕ) (rises : Rises ms) (serials : SerialsCount ms) (each : EachMoment (DataSo start i) ms) where
   module _ (serial slot : ℕ) (packet : Sending) (t : IsToHost ms i serial packet) (x : IsDataWrite packet.bytes slot) where
     s : WasSent ms serial packet
     s = sent_moment ms serial packet t.is
@@ -91,10 +94,10 @@ module _ (ms : List Moment) (i : ℕ) (rises : Rises ms) (serials : SerialsCount
     abbrev leaves : Moment
     leaves = said (notes.Sent serial packet.generation packet.from packet.to packet.bytes)
 
-    so : DataSo i leaves s.before
-    so = (each_from (DataSo i) s.later (leaves ∷ s.before) (subst (EachMoment (DataSo i)) (sym s.is) each)).0
+    so : DataSo start i leaves s.before
+    so = (each_from (DataSo start i) s.later (leaves ∷ s.before) (subst (EachMoment (DataSo start i)) (sym s.is) each)).0
 
-    was : WasPiece s.before i packet.generation slot x.access
+    was : WasPiece start s.before i packet.generation slot x.access
     was = so t.from_target t.to_host slot x
 
     abbrev mid : List Moment
@@ -145,9 +148,9 @@ nothing = record { after_lines = λ line run r has small size. tt; between = λ 
 abbrev AllHeld : (ℕ → Bool) → List Moment → WorldState → Type 0
 AllHeld wild ms w = (i : ℕ) → i < length w.initiators → wild i ≡ false → AreDataHeld ms i
 
-held_walk : (wild : ℕ → Bool) (units ready : ℕ) → 0 < units → (start : List Disk) → Walks wild units ready start Nothing AllDataSo (AllHeld wild)
+held_walk : (wild : ℕ → Bool) (units ready : ℕ) → 0 < units → (start : List Disk) → Walks wild units ready start Nothing (AllDataSo start) (AllHeld wild)
 held_walk wild units ready has start past s later t step p i b own =
-    data_held (hist later t.world) i (rises_of later t.world step.reaches.holds.sound.stands (hist later t.world) refl) step.reaches.site.serials ((step.so_far_then i own) i b (step.reaches.calm i own))
+    data_held start (hist later t.world) i (rises_of later t.world step.reaches.holds.sound.stands (hist later t.world) refl) step.reaches.site.serials ((step.so_far_then i own) i b (step.reaches.calm i own))
 
 none_sent : (packet : Sending) → None ≡ Some packet → ⊥
 none_sent packet e = cc
@@ -162,9 +165,9 @@ delivers : (most : Option ℕ) → DeliversMore (more_deliveries most)
 delivers (Some count) = tt
 delivers None = tt
 
-pub held_law : Under (WhereTame AllDataSo) → Under (WhereTame AllDataHeld)
+pub held_law : UnderFrom (λ start. WhereTame (AllDataSo start)) → Under (WhereTame AllDataHeld)
 held_law sends = record {
-  after_lines = λ line run r has small size so_far tame i b calm. tame_after Nothing AllDataSo AllHeld nothing sends held_walk first_held line run r has small size so_far tame i b calm;
+  after_lines = λ line run r has small size so_far tame i b calm. from_after IsTame tame_before Nothing AllDataSo (λ start. AllHeld) nothing sends held_walk first_held line run r has small size so_far tame i b calm;
   between = λ line run r has small size next most told m so_far tame i b calm.
-      tame_between Nothing AllDataSo AllHeld nothing sends held_walk first_held line run r has small size next (more_deliveries most) (delivers most) told m so_far tame i b calm;
+      from_between IsTame tame_before Nothing AllDataSo (λ start. AllHeld) nothing sends held_walk first_held line run r has small size next (more_deliveries most) (delivers most) told m so_far tame i b calm;
 }

@@ -1,4 +1,5 @@
 -- In every run in which no initiator injected packets, the target sent the data of answers as they are to be sent, where the lines name units of 16 bits.
+use Rattle.sbp_world.specs.Lists.Closes.{UnderFrom}
 use Rattle.std.proofs.Common.{ℕ, ◌<◌, List, length}
 use Rattle.sbp_journal.specs.Run.{Moment}
 use Rattle.sbp_laws.specs.Turns.{EachMoment}
@@ -48,7 +49,7 @@ module _ (short : ShortLaw) where
   untaken_by : Under (WhereTame AreUntaken)
   untaken_by = tame_part AreUntaken (places.untaken_law opened_known.laws.pointers opened_known.laws.begun (here_beside short) (placed_beside short))
 
-  pub data_sent_law : Under (WhereTame AllDataSo)
+  pub data_sent_law : UnderFrom (λ start. WhereTame (AllDataSo start))
   data_sent_law = data_sent opened_known.laws.pointers opened_known.laws.begun (here_by short) (places.names opened_known.laws.pointers opened_known.laws.begun (here_by short) (placed_by short)) untaken_by dry_by
 
   pub data_held_law : Under (WhereTame AllDataHeld)
@@ -57,7 +58,7 @@ module _ (short : ShortLaw) where
   statuses_by : Under (WhereTameOrFew AllStatuses)
   statuses_by = places.statuses opened_known.laws.pointers opened_known.laws.begun (here_beside short) (placed_beside short)
 
-pub answers_end_law : Under (WhereTame AllEndSo)
+pub answers_end_law : Under AllEndSo
 answers_end_law = ends_law (ground_law opened_known.laws.pointers opened_known.laws.begun)
 
 -- what each history of such a run is

@@ -1,5 +1,6 @@
 -- What the management writes as it goes on: into no buffer, where its write is to none; and behind a time-out it writes nothing. So the data that are sent are as they are to
 -- be.
+use Rattle.rbc_disk.specs.Disk.{Disk}
 use Rattle.std.proofs.Common.{arith, ◌≡◌, ◌∙◌, refl, sym, ap, subst, ◌≤◌, ◌==◌, nat_le, ℕ, suc, Bool, true, false, cond, List, [], ◌∷◌, ◌++◌, length, Option, Some, None}
 use Rattle.std.proofs.lemmas.Bool.Decides.{nat_tests}
 use Rattle.bus_memory.specs.declared.window.Window.TheVariants as windows
@@ -146,7 +147,7 @@ unfolding management.reply_step
 late_dry w i op is ours at len e slot goes =
     late_by op op.phase w at len (subst (λ (o : Option Operation). (management.reply_to o w.target.manager w.target.logins w.target.keys Expired).0.ask ≡ asks.Write at len) is e)
 
-module _ (wild : ℕ → Bool) (i : ℕ) (own : wild i ≡ false) (past : List Moment) (w : WorldState) (r : Ready wild past w) (asked : AreAsked wild (hist past w) w) (owned : AreOwn w) (each : EachMoment (DataSo i) (hist past w)) (slots : HaveSlots (hist past w) i) where
+module _ (disks : List Disk) (wild : ℕ → Bool) (i : ℕ) (own : wild i ≡ false) (past : List Moment) (w : WorldState) (r : Ready wild past w) (asked : AreAsked wild (hist past w) w) (owned : AreOwn w) (each : EachMoment (DataSo disks i) (hist past w)) (slots : HaveSlots (hist past w) i) where
   abbrev Ours : ℕ → Type 0
   Ours source = node_of w.generations 0 source ≡ Some (suc i)
 
@@ -162,23 +163,23 @@ module _ (wild : ℕ → Bool) (i : ℕ) (own : wild i ≡ false) (past : List M
     unfolding manage
     manage_leaves = by_operation w.target.manager.operation refl
 
-  due_leaving : (note : Note) (start : List Moment) (source : ℕ) (packets : List Outgoing) → Leaves source (Ours source) packets → Due wild i own past w r asked owned each slots note start packets
-  due_leaving note start source _ (leaves_none packets e) = subst (Due wild i own past w r asked owned each slots note start) (sym e) tt
+  due_leaving : (note : Note) (start : List Moment) (source : ℕ) (packets : List Outgoing) → Leaves source (Ours source) packets → Due disks wild i own past w r asked owned each slots note start packets
+  due_leaving note start source _ (leaves_none packets e) = subst (Due disks wild i own past w r asked owned each slots note start) (sym e) tt
   due_leaving note start source _ (leaves_one packets packet e to dry) =
-      subst (Due wild i own past w r asked owned each slots note start) (sym e) ((λ there slot x. absurd (dry (ap (λ a. node_of w.generations 0 a) (sym to) ∙ there) slot x)), tt)
+      subst (Due disks wild i own past w r asked owned each slots note start) (sym e) ((λ there slot x. absurd (dry (ap (λ a. node_of w.generations 0 a) (sym to) ∙ there) slot x)), tt)
 
-  due_of : (note : Note) (start : List Moment) (source : Option ℕ) (packets : List Outgoing) → IfLeaves Ours source packets → Due wild i own past w r asked owned each slots note start packets
-  due_of note start None packets e = subst (Due wild i own past w r asked owned each slots note start) (sym e) tt
+  due_of : (note : Note) (start : List Moment) (source : Option ℕ) (packets : List Outgoing) → IfLeaves Ours source packets → Due disks wild i own past w r asked owned each slots note start packets
+  due_of note start None packets e = subst (Due disks wild i own past w r asked owned each slots note start) (sym e) tt
   due_of note start (Some source) packets l = due_leaving note start source packets l
 
-  managed_data : (layer : Layer Purpose) (answer : Answer) → AreAsksDry w i answer → (s : Scene) (note : Note) → IsFirst note → (u : WorldState) → Behind note w u → AreOthers s.outbox.sides → s ≡ manage answer (first w r.good layer) → EachMoment (DataSo i) (hist past (handed_out 0 0 s.outbox u))
+  managed_data : (layer : Layer Purpose) (answer : Answer) → AreAsksDry w i answer → (s : Scene) (note : Note) → IsFirst note → (u : WorldState) → Behind note w u → AreOthers s.outbox.sides → s ≡ manage answer (first w r.good layer) → EachMoment (DataSo disks i) (hist past (handed_out 0 0 s.outbox u))
   managed_data layer answer dry s note f u b others e =
-      hands wild i own past w r asked owned each slots note f u b s.outbox others
+      hands disks wild i own past w r asked owned each slots note f u b s.outbox others
       (due_of note (hist past (told_all 0 s.outbox.sides u)) (management.source_in w.target.manager.operation) s.outbox.packets
       (subst (λ (y : Scene). IfLeaves Ours (management.source_in w.target.manager.operation) y.outbox.packets) (sym e) (manage_leaves layer answer dry)))
 
   -- so what is known of the management follows from where it asks to write
-  pub given_data : ((sent : Sent) → IsFor w sent → (p : Packet) (label : LabelParts) → (judging_step w.target.layer sent.generation sent.bytes).0 ≡ of_response p label (Some purposes.Management) → AreAsksDry w i (answer_in p)) → Given wild i own past w r
+  pub given_data : ((sent : Sent) → IsFor w sent → (p : Packet) (label : LabelParts) → (judging_step w.target.layer sent.generation sent.bytes).0 ≡ of_response p label (Some purposes.Management) → AreAsksDry w i (answer_in p)) → Given disks wild i own past w r
   given_data dry = record {
     owned = owned;
     managed = λ sent is_for p label found s note f u b others e. managed_data (judging_step w.target.layer sent.generation sent.bytes).1 (answer_in p) (dry sent is_for p label found) s note f u b others e;

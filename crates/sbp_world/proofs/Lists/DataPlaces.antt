@@ -1,5 +1,9 @@
 -- The data of answers are sent as they are to be in every run in which no initiator injected packets, where lists were open as they should be before, each login has a FIFO
 -- of a login, and the management asks to write into no buffer of an initiator.
+use Rattle.rbc_disk.specs.Disk.{Disk}
+use Rattle.sbp_world.proofs.Lists.AnswersTold.{there_law}
+use Rattle.sbp_world.proofs.Lists.DataWhole.{all_filled}
+use Rattle.sbp_world.specs.Lists.Closes.{UnderFrom}
 use Rattle.std.proofs.Common.{◌≡◌, ◌<◌, ℕ, Bool, false, List, length, Some}
 use Rattle.async_packet.specs.Labels.{LabelParts}
 use Rattle.async_packet.specs.Packet.{Packet}
@@ -40,15 +44,15 @@ placed_on : (i : ℕ) (w : WorldState) → Placed i w → Placed i (without_note
 placed_on i w p =
     ((λ place login e. p.0 place login e), (λ sent is_for packet label found op is ours at len e slot goes. p.1 sent (record { serial = is_for.serial; found = is_for.found; to = is_for.to }) packet label found op is ours at len e slot goes))
 
-gives : (wild : ℕ → Bool) (i : ℕ) (own : wild i ≡ false) (past : List Moment) (w : WorldState) (r : Ready wild past w) → AreAsked wild (hist past w) w → Placed i w → EachMoment (DataSo i) (hist past w) → HaveSlots (hist past w) i → Given wild i own past w r
-gives wild i own past w r asked placed each slots = given_data wild i own past w r asked placed.0 each slots placed.1
+gives : (start : List Disk) (wild : ℕ → Bool) (i : ℕ) (own : wild i ≡ false) (past : List Moment) (w : WorldState) (r : Ready wild past w) → AreAsked wild (hist past w) w → Placed i w → EachMoment (DataSo start i) (hist past w) → HaveSlots (hist past w) i → Given start wild i own past w r
+gives start wild i own past w r asked placed each slots = given_data start wild i own past w r asked placed.0 each slots placed.1
 
 module _ (pointers : PointersLaw) (begun : BegunLaw) (here : Under (WhereTame AreHere)) (names : Under (WhereTame AreNames)) (untaken : Under (WhereTame AreUntaken)) (dry : Under (WhereTame AllOfficeDry)) where
-  over : Under (WhereTame (Over Placed placed_on gives))
+  over : UnderFrom (λ start. WhereTame (Over Placed placed_on gives start))
   over = record {
-    after_lines = λ line run r has small size so_far tame. (here.after_lines line run r has small size so_far tame, (names.after_lines line run r has small size so_far tame, (untaken.after_lines line run r has small size so_far tame, (whole_law.after_lines line run r has small size so_far tame, dry.after_lines line run r has small size so_far tame))));
-    between = λ line run r has small size next most told m so_far tame. (here.between line run r has small size next most told m so_far tame, (names.between line run r has small size next most told m so_far tame, (untaken.between line run r has small size next most told m so_far tame, (whole_law.between line run r has small size next most told m so_far tame, dry.between line run r has small size next most told m so_far tame))));
+    after_lines = λ line run r has small size so_far tame. (here.after_lines line run r has small size so_far tame, (names.after_lines line run r has small size so_far tame, (untaken.after_lines line run r has small size so_far tame, (whole_law.after_lines line run r has small size so_far, (dry.after_lines line run r has small size so_far tame, (there_law.after_lines line run r has small size so_far, (all_filled.after_lines line run r has small size).fills))))));
+    between = λ line run r has small size next most told m so_far tame. (here.between line run r has small size next most told m so_far tame, (names.between line run r has small size next most told m so_far tame, (untaken.between line run r has small size next most told m so_far tame, (whole_law.between line run r has small size next most told m so_far, (dry.between line run r has small size next most told m so_far tame, (there_law.between line run r has small size next most told m so_far, (all_filled.between line run r has small size next most told m).fills))))));
   }
 
-  pub data_sent : Under (WhereTame AllDataSo)
+  pub data_sent : UnderFrom (λ start. WhereTame (AllDataSo start))
   data_sent = data_law Placed placed_on gives (ground_law pointers begun) over

@@ -1,6 +1,6 @@
 -- At each place of a run in which no initiator injected packets, and before which lists were open as they should be, the target sent the data of answers as they are to be
 -- sent; where this is known of the management.
-use Rattle.std.proofs.Common.{◌≡◌, sym, subst, ◌<◌, ℕ, Bool, false, List, [], length, Option, Some, None, arith}
+use Rattle.std.proofs.Common.{◌≡◌, ◌∙◌, ap, sym, subst, ◌<◌, ℕ, Bool, false, List, [], length, Option, Some, None, arith}
 use Rattle.rbc_disk.specs.Disk.{Disk}
 use Rattle.sbp_journal.specs.Run.{Moment}
 use Rattle.sbp_laws.specs.Turns.{EachMoment}
@@ -11,7 +11,7 @@ use Rattle.sbp_world.proofs.Agents.Management.Holding.{target_generation}
 use Rattle.sbp_world.proofs.Agents.Management.Still.{hist}
 use Rattle.sbp_world.specs.Agents.Management.Terms.{DeliversMore}
 use Rattle.sbp_world.specs.Hosts.Runs.{more_deliveries}
-use Rattle.sbp_world.specs.Lists.Closes.{Always, AreHere, Under, WhereTame, AreUntaken}
+use Rattle.sbp_world.specs.Lists.Closes.{Always, AreHere, UnderFrom, WhereTame, AreUntaken}
 use Rattle.sbp_world.specs.Lists.DataWrites.{AllDataSo, DataSo}
 use Rattle.sbp_world.specs.Lists.Needs.{IsCalm, initiator_in, machine_at}
 use Rattle.sbp_world.proofs.Lists.DataWalk.{Facts, Given, turn_data}
@@ -19,7 +19,13 @@ use Rattle.sbp_world.proofs.Lists.Executes.{asked_of}
 use Rattle.sbp_world.proofs.Lists.RunOutcomes.{AreAsked}
 use Rattle.sbp_world.proofs.Lists.StatusPoints.{open_up}
 use Rattle.sbp_world.proofs.Lists.StatusProved.{AreNames, Ground}
-use Rattle.sbp_world.proofs.Lists.TameWalks.{tame_after, tame_between}
+use Rattle.sbp_world.proofs.Lists.TameWalks.{from_after, from_between}
+use Rattle.sbp_world.proofs.Lists.OwnFifos.{tame_before}
+use Rattle.sbp_world.specs.Lists.OwnLogins.{IsTame}
+use Rattle.sbp_world.proofs.Lists.AnswersTold.{AreToldThere}
+use Rattle.sbp_world.proofs.Lists.AnswerLengths.{AreFilled, commands_fill}
+use Rattle.sbp_bus.specs.Places.{or_nobody}
+use Rattle.sbp_world.proofs.Agents.UnitsLines.{opened as units_opened}
 use Rattle.sbp_world.proofs.Lists.Turns.{Ready}
 use Rattle.sbp_world.proofs.Lists.Walks.{Step, Walks}
 use Rattle.sbp_world.proofs.Lists.DataHears.{AreHeard, heard_there}
@@ -31,22 +37,22 @@ use Rattle.sbp_world.specs.Lists.DataWhole.{AreWhole}
 use Rattle.sbp_world.proofs.Lists.DataSteps.{answers_is}
 use Rattle.sbp_world.proofs.Lists.Full.{IsFull}
 
-abbrev pub AllData : (ℕ → Bool) → List Moment → WorldState → Type 0
-AllData wild ms w = (i : ℕ) → i < length w.initiators → wild i ≡ false → EachMoment (DataSo i) ms
+abbrev pub AllData : List Disk → (ℕ → Bool) → List Moment → WorldState → Type 0
+AllData start wild ms w = (i : ℕ) → i < length w.initiators → wild i ≡ false → EachMoment (DataSo start i) ms
 
-pub full_of : (past : List Moment) (w : WorldState) → AreWhole past w → (q : ℕ) → q < 8 → IsFull (machine_at w q)
-full_of past w whole q b e = let x = whole q b (answers_is (machine_at w q).phase e) in record { more = x.0; fills = x.1 }
+pub full_of : (wild : ℕ → Bool) (past : List Moment) (w : WorldState) → ((j : ℕ) → wild j ≡ false → IsCalm past j) → AreWhole past w → (q : ℕ) → q < 8 → wild (initiator_in w q) ≡ false → IsFull (machine_at w q)
+full_of wild past w calm whole q b own e = let x = whole q b (calm (initiator_in w q) own) (answers_is (machine_at w q).phase e) in record { more = x.0; fills = x.1 }
 
 delivers : (most : Option ℕ) → DeliversMore (more_deliveries most)
 delivers (Some count) = tt
 delivers None = tt
 
-module _ (Placed : ℕ → WorldState → Type 0) (placed_on : (i : ℕ) (w : WorldState) → Placed i w → Placed i (without_notes w)) (gives : (wild : ℕ → Bool) (i : ℕ) (own : wild i ≡ false) (past : List Moment) (w : WorldState) (r : Ready wild past w) → AreAsked wild (hist past w) w → Placed i w → EachMoment (DataSo i) (hist past w) → HaveSlots (hist past w) i → Given wild i own past w r) where
+module _ (Placed : ℕ → WorldState → Type 0) (placed_on : (i : ℕ) (w : WorldState) → Placed i w → Placed i (without_notes w)) (gives : (start : List Disk) (wild : ℕ → Bool) (i : ℕ) (own : wild i ≡ false) (past : List Moment) (w : WorldState) (r : Ready wild past w) → AreAsked wild (hist past w) w → Placed i w → EachMoment (DataSo start i) (hist past w) → HaveSlots (hist past w) i → Given start wild i own past w r) where
   -- what is known where lists were open as they should be before
-  abbrev pub Over : List Moment → WorldState → Type 0
-  Over ms w = AreHere ms w × (AreNames ms w × (AreUntaken ms w × (AreWhole ms w × ((i : ℕ) → i < length w.initiators → IsCalm ms i → Placed i w))))
+  abbrev pub Over : List Disk → List Moment → WorldState → Type 0
+  Over start ms w = AreHere ms w × (AreNames ms w × (AreUntaken ms w × (AreWhole ms w × (((i : ℕ) → i < length w.initiators → IsCalm ms i → Placed i w) × (AreToldThere start ms w × AreFilled ms)))))
 
-  module _ (wild : ℕ → Bool) (units ready : ℕ) (has : 0 < units) (start : List Disk) (past : List Moment) (s : Scene) (later : List Moment) (t : Scene) (step : Step wild units ready start Ground Over past s later t) (p : AllData wild (hist past s.world) s.world) (i : ℕ) (b : i < length t.world.initiators) (own : wild i ≡ false) where
+  module _ (wild : ℕ → Bool) (units ready : ℕ) (has : 0 < units) (start : List Disk) (past : List Moment) (s : Scene) (later : List Moment) (t : Scene) (step : Step wild units ready start Ground (Over start) past s later t) (p : AllData start wild (hist past s.world) s.world) (i : ℕ) (b : i < length t.world.initiators) (own : wild i ≡ false) where
     abbrev w : WorldState
     w = s.world
 
@@ -59,7 +65,7 @@ module _ (Placed : ℕ → WorldState → Type 0) (placed_on : (i : ℕ) (w : Wo
     calm : IsCalm ms i
     calm = step.stands.reached.calm i own
 
-    facts : Facts wild i own (Placed i) past w
+    facts : Facts start wild i own (Placed i) past w
     facts =
         let h = step.stands.reached.holds in
         let site = step.stands.reached.site in
@@ -71,8 +77,8 @@ module _ (Placed : ℕ → WorldState → Type 0) (placed_on : (i : ℕ) (w : Wo
           ready = step.stands.known_all;
           each = p i inside own;
           asked_orbs = asked_of wild start units ready has w h site step.stands.lists step.stands.reached.calm k.orbs;
-          placed = o.1.1.1.1 i inside calm;
-          full = λ q b. full_of ms w o.1.1.1.0 q b;
+          placed = o.1.1.1.1.0 i inside calm;
+          full = λ q b own. full_of wild ms w step.stands.reached.calm o.1.1.1.0 q b own;
           same_gen = sym (target_generation w h.sound.stands);
           prepared = λ place n j there named.
               let x = named_prepared units ready has start w h site place n j there named in
@@ -80,6 +86,13 @@ module _ (Placed : ℕ → WorldState → Type 0) (placed_on : (i : ℕ) (w : Wo
           slots = λ n j e from below.
               let inner = step.stands.known_all.within i n inside in
               has_slot ms i n j (initiator_at w i).lists.slots (site.rows i inside) (omega (arith, inner, below)) (o.1.1.0 i inside calm n j from) e;
+          answered = record {
+            had = λ q b own e n list latest. o.1.1.1.1.1.0 q b (step.stands.reached.calm (initiator_in w q) own) e n list latest;
+            fills = λ j n k cmd g. commands_fill ms o.1.1.1.1.1.1 j n k cmd g;
+            unit_is = λ q login is.
+                let held = site.held.held q login is in
+                ap (λ o. (or_nobody o).unit) held.there ∙ held.unit_is;
+          };
           up = λ q c l. open_up wild i own units ready has start w h site inside calm lists k.opened k.caught k.known.pointers k.known.first here q c l;
         }
 
@@ -88,19 +101,21 @@ module _ (Placed : ℕ → WorldState → Type 0) (placed_on : (i : ℕ) (w : Wo
         heard_there wild units ready has start w step.stands.reached.holds step.stands.reached.site step.stands.lists step.stands.reached.calm step.known.orbs (λ p d. step.stands.reached.kept.on p d)
         serial sent found zero_to packet label place e is_which c mild answering
 
-    data_now : EachMoment (DataSo i) (hist later t.world)
-    data_now = turn_data wild i own (Placed i) (placed_on i) (gives wild i own) past s later t step.turn facts heard_so
+    data_now : EachMoment (DataSo start i) (hist later t.world)
+    data_now =
+        turn_data start wild i own (Placed i) (placed_on i) (gives start wild i own) past s later t step.turn facts heard_so (step.units_are).each
+        (λ line event. (units_opened units ready has start past line event w s.media.disks step.units_are).each)
 
-  data_walk : (wild : ℕ → Bool) (units ready : ℕ) → 0 < units → (start : List Disk) → Walks wild units ready start Ground Over (AllData wild)
+  data_walk : (wild : ℕ → Bool) (units ready : ℕ) → 0 < units → (start : List Disk) → Walks wild units ready start Ground (Over start) (AllData start wild)
   data_walk wild units ready has start past s later t step p = λ i b own. data_now wild units ready has start past s later t step p i b own
 
-  first_data : (wild : ℕ → Bool) (line : ℕ) (run : Run) → AllData wild (moments_behind line run []) (beginning run).world
+  first_data : (wild : ℕ → Bool) (line : ℕ) (run : Run) → AllData run.start.disks wild (moments_behind line run []) (beginning run).world
   first_data wild line run = λ i b own. (tt, (tt, tt))
 
   -- ---- over a run in which no initiator injected packets
-  pub data_law : Always Ground → Under (WhereTame Over) → Under (WhereTame AllDataSo)
+  pub data_law : Always Ground → UnderFrom (λ start. WhereTame (Over start)) → UnderFrom (λ start. WhereTame (AllDataSo start))
   data_law ground over = record {
-    after_lines = λ line run r has small size so_far tame i b calm. tame_after Ground Over AllData ground over data_walk first_data line run r has small size so_far tame i b calm;
+    after_lines = λ line run r has small size so_far tame i b calm. from_after IsTame tame_before Ground Over AllData ground over data_walk first_data line run r has small size so_far tame i b calm;
     between = λ line run r has small size next most told m so_far tame i b calm.
-        tame_between Ground Over AllData ground over data_walk first_data line run r has small size next (more_deliveries most) (delivers most) told m so_far tame i b calm;
+        from_between IsTame tame_before Ground Over AllData ground over data_walk first_data line run r has small size next (more_deliveries most) (delivers most) told m so_far tame i b calm;
   }

@@ -1,5 +1,6 @@
 -- In a history each write of the data of an ORB but the latest one was closed and served, and behind an end, but as failed, the latest one was, too: a write follows as the one before it is answered, and so
 -- does such an end; and the write that is answered is of this ORB, as its slot has no other one while it is under way.
+use Rattle.rbc_disk.specs.Disk.{Disk}
 use Rattle.std.proofs.Common.{arith, ◌≡◌, ◌∙◌, refl, sym, ap, subst, ◌<◌, ◌≤◌, ◌+◌, ◌==◌, ◌&&◌, not, ℕ, suc, nat_eq, nat_lt, Bool, true, false, cond, List, [], ◌∷◌, ◌++◌, Option, Some, None}
 use Rattle.std.proofs.lemmas.Bool.Decides.{nat_tests}
 use Rattle.bus_transactions.specs.Packets.{SerialsCount}
@@ -54,16 +55,16 @@ module _ (serial generation from to : ℕ) (bytes : List ℕ) (before : List Mom
   inside (m ∷ later) last [] e c high = (later, sym (tail_is (said (notes.Sent serial generation from to bytes)) m before (later ++ last) e))
   inside (m ∷ later) last (x ∷ front) e c high = inside later last front (tail_is x m (front ++ E) (later ++ last) e) (serials_from (m ∷ []) (later ++ last) c) high
 
-module _ (i : ℕ) where
+module _ {start : List Disk} (i : ℕ) where
   -- what was sent before some moments
-  pub shrink : (later B : List Moment) (n k serial slot : ℕ) (packet : Sending) → SerialsCount (later ++ B) → serial ≤ (terms B).count → IsDataOf (later ++ B) i n k serial packet slot → IsDataOf B i n k serial packet slot
+  pub shrink : (later B : List Moment) (n k serial slot : ℕ) (packet : Sending) → SerialsCount (later ++ B) → serial ≤ (terms B).count → IsDataOf start (later ++ B) i n k serial packet slot → IsDataOf start B i n k serial packet slot
   shrink [] B n k serial slot packet c low d = d
   shrink (m ∷ later) B n k serial slot packet c low d = by d.later d.is (λ x. shrink later B n k serial slot packet (serials_from (m ∷ []) (later ++ B) c) low x)
     where
       grown : (terms B).count ≤ (terms (later ++ B)).count
       grown = (remains later B (serials_from (m ∷ []) (later ++ B) c)).count
 
-      by : (front : List Moment) → front ++ said (notes.Sent serial packet.generation packet.from packet.to packet.bytes) ∷ d.before ≡ m ∷ (later ++ B) → (IsDataOf (later ++ B) i n k serial packet slot → IsDataOf B i n k serial packet slot) → IsDataOf B i n k serial packet slot
+      by : (front : List Moment) → front ++ said (notes.Sent serial packet.generation packet.from packet.to packet.bytes) ∷ d.before ≡ m ∷ (later ++ B) → (IsDataOf start (later ++ B) i n k serial packet slot → IsDataOf start B i n k serial packet slot) → IsDataOf start B i n k serial packet slot
       by [] e again =
           let leaves = said (notes.Sent serial packet.generation packet.from packet.to packet.bytes) in
           let same : d.before ≡ later ++ B = tail_is leaves m d.before (later ++ B) e in
@@ -85,6 +86,7 @@ module _ (i : ℕ) where
             number_is = d.number_is;
           })
 
+module _ (i : ℕ) where
   -- none was sent in moments without data
   pub dry_before : (later B : List Moment) → AreDry i later → SerialsCount (later ++ B) → (serial slot : ℕ) (packet : Sending) → IsToHost (later ++ B) i serial packet → IsDataWrite packet.bytes slot → serial ≤ (terms B).count
   dry_before [] B dry c serial slot packet t x = sent_below B serial packet c t.is
@@ -94,22 +96,24 @@ module _ (i : ℕ) where
       by (is_here e) again = absurd ((subst (λ y. IsDry i y) e dry.0) t.from_target t.to_host slot x)
       by (is_before e) again = again (record { is = e; from_target = t.from_target; to_host = t.to_host })
 
+module _ (start : List Disk) (i : ℕ) where
   -- each write of data is of an ORB
   pub record IsOwned (ms : List Moment) (serial slot : ℕ) (packet : Sending) : Type 0 where
     pub list : ℕ
     pub number : ℕ
-    pub of : IsDataOf ms i list number serial packet slot
+    pub of : IsDataOf start ms i list number serial packet slot
 
-  pub owner : (ms : List Moment) → EachMoment (DataSo i) ms → (serial slot : ℕ) (packet : Sending) → IsToHost ms i serial packet → IsDataWrite packet.bytes slot → IsOwned ms serial slot packet
+  pub owner : (ms : List Moment) → EachMoment (DataSo start i) ms → (serial slot : ℕ) (packet : Sending) → IsToHost ms i serial packet → IsDataWrite packet.bytes slot → IsOwned ms serial slot packet
   owner ms each serial slot packet t x =
       let s : WasSent ms serial packet = sent_moment ms serial packet t.is in
       let leaves = said (notes.Sent serial packet.generation packet.from packet.to packet.bytes) in
-      let so : DataSo i leaves s.before = (each_from (DataSo i) s.later (leaves ∷ s.before) (subst (EachMoment (DataSo i)) (sym s.is) each)).0 in
-      let was : WasPiece s.before i packet.generation slot x.access = so t.from_target t.to_host slot x in
+      let so : DataSo start i leaves s.before = (each_from (DataSo start i) s.later (leaves ∷ s.before) (subst (EachMoment (DataSo start i)) (sym s.is) each)).0 in
+      let was : WasPiece start s.before i packet.generation slot x.access = so t.from_target t.to_host slot x in
       record { list = was.list; number = ends was.before i was.list; of = record { sent = t; writes = x; later = s.later; before = s.before; is = s.is; was = was; list_is = refl; number_is = refl } }
 
+module _ {start : List Disk} (i : ℕ) where
   -- what is known of one
-  module _ (ms : List Moment) (n k serial slot : ℕ) (packet : Sending) (d : IsDataOf ms i n k serial packet slot) where
+  module _ (ms : List Moment) (n k serial slot : ℕ) (packet : Sending) (d : IsDataOf start ms i n k serial packet slot) where
     abbrev pub leaving : Moment
     leaving = said (notes.Sent serial packet.generation packet.from packet.to packet.bytes)
 
@@ -144,17 +148,17 @@ module _ (i : ℕ) where
       seen_low = let a = d.was.seen in let b = grows (suc i) in omega (arith, a, b)
 
     -- another one that was sent before it, was so before its turn
-    pub into_turn : SerialsCount ms → (m l first place : ℕ) (early : Sending) → IsDataOf ms i m l first early place → first < serial → IsDataOf turn i m l first early place
+    pub into_turn : SerialsCount ms → (m l first place : ℕ) (early : Sending) → IsDataOf start ms i m l first early place → first < serial → IsDataOf start turn i m l first early place
     into_turn c m l first place early e less =
         let there : SerialsCount (d.later ++ leaving ∷ d.before) = subst SerialsCount (sym d.is) c in
         let number : serial ≡ (terms d.before).count + 1 = (serials_from d.later (leaving ∷ d.before) there).0 in
         let front = d.later ++ leaving ∷ [] in
         let at : front ++ d.before ≡ ms = sym (split d.later (leaving ∷ []) d.before) ∙ d.is in
         let counted : SerialsCount (front ++ d.before) = subst SerialsCount (sym at) c in
-        let one : IsDataOf d.before i m l first early place = shrink front d.before m l first place early counted (omega (arith, number, less)) (subst (λ h. IsDataOf h i m l first early place) (sym at) e) in
+        let one : IsDataOf start d.before i m l first early place = shrink i front d.before m l first place early counted (omega (arith, number, less)) (subst (λ h. IsDataOf start h i m l first early place) (sym at) e) in
         let inner : SerialsCount (d.was.later ++ turn) = subst SerialsCount (sym d.was.is) (serials_from front d.before counted) in
-        let two : IsDataOf (d.was.later ++ turn) i m l first early place = subst (λ h. IsDataOf h i m l first early place) (sym d.was.is) one in
-        shrink d.was.later turn m l first place early inner (dry_before d.was.later turn d.was.alone inner first place early two.sent two.writes) two
+        let two : IsDataOf start (d.was.later ++ turn) i m l first early place = subst (λ h. IsDataOf start h i m l first early place) (sym d.was.is) one in
+        shrink i d.was.later turn m l first place early inner (dry_before i d.was.later turn d.was.alone inner first place early two.sent two.writes) two
 
 -- ---- a status that was taken
 pub closed_on : (later before : List Moment) (serial : ℕ) → WasClosed before serial → WasClosed (later ++ before) serial

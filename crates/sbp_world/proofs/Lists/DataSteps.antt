@@ -404,7 +404,7 @@ module _ (wild : ℕ → Bool) (past : List Moment) (w : WorldState) (r : Ready 
   is_open = waits_has wild past w r place b (header_in p).source label which e
 
   -- its command ran in this turn
-  ran_now : (outcome : Outcome) → step.0.ran ≡ Some outcome → runs ms i O.n (ends ms i O.n) ≡ 0
+  pub ran_now : (outcome : Outcome) → step.0.ran ≡ Some outcome → runs ms i O.n (ends ms i O.n) ≡ 0
   ran_now outcome ran =
       let k = keeps wild past w r asked sent is_for run disks p label place f b login which e own in
       let once = (subst (λ x. IfSome x (λ o. IsRun (orbs ms i O.n) before_now place (plain_in w.target.units disks login.unit) step.1.present step.1.orb step.1.segments step.1.payload)) ran k.runs).once in
@@ -523,6 +523,12 @@ module _ (wild : ℕ → Bool) (past : List Moment) (w : WorldState) (r : Ready 
           let good = good_before same in
           let ran_before : 0 < runs ms i O.n (ends ms i O.n) = subst (λ j. 0 < runs ms i O.n j) G.is (has_run ms i O.n G.progress.ended G.progress.outcome good (G.ran unrun_law)) in
           by_which ran_before same (good_answers (orbs ms i O.n) G.progress M.phase M G.along.main is_open good) which refl
+
+  -- what it writes to a buffer is of an answer
+  pub answers_now : step.0.ended ≡ None → (offset size : ℕ) → step.0.ask ≡ asks.Write offset size → 0 < offset → answers step.1.phase ≡ true
+  answers_now none offset size wrote some =
+      let k : Keeps (orbs ms i O.n) before_now place (plain_in w.target.units disks login.unit) (main_beside which M) (ahead_beside which M) step = keeps wild past w r asked sent is_for run disks p label place f b login which e own in
+      ap answers (is_answering step.1.phase step.1 offset size (k.main_is ∙ main_wrote step.0.promoted step.0.ask _ _ offset size wrote) some)
 
   -- ---- an end
   module _ (status : StatusKind) (ended : step.0.ended ≡ Some status) where

@@ -1,5 +1,8 @@
 -- A delivery to the target sends the data of answers as they are to be sent: each write into a buffer of an initiator that injected no packets is of the next chunk of the
 -- present ORB of one of its lists, as the turn began; where this is known of the management.
+use Rattle.sbp_world.proofs.Lists.AnswerRuns.{answer_on}
+use Rattle.sbp_world.specs.Lists.AnswersTold.{IsAnswerOf}
+use Rattle.rbc_disk.specs.Disk.{Disk}
 use Rattle.std.proofs.Common.{◌≡◌, ◌∙◌, refl, sym, ap, ℕ, suc, List, [], ◌∷◌, ◌++◌, Some, None, subst, ◌≤◌, ◌<◌, Bool, true, false, cond, nat_eq, arith}
 use Rattle.command_agent.specs.Machine.{Machine, new_machine}
 use Rattle.sbp_bus.specs.Generations.{GenerationsState, node_of, topology_at}
@@ -39,7 +42,7 @@ pub data IsTurnBy (ms : List Moment) (i n k : ℕ) (m : Machine) (note : Note) :
   by_first : runs ms i n k ≡ 0 → m.written ≡ 0 → IsTurnBy ms i n k m note
   by_follows : (got : ℕ) → note ≡ notes.Got got → IsAnswered ms i n k m got → IsTurnBy ms i n k m note
 
-pub record IsPieceNow (ms start : List Moment) (i : ℕ) (note : Note) (generation slot : ℕ) (access : Access) : Type 0 where
+pub record IsPieceNow (disks : List Disk) (ms start : List Moment) (i : ℕ) (note : Note) (generation slot : ℕ) (access : Access) : Type 0 where
   pub list : ℕ
   pub machine : Machine
   pub size : ℕ
@@ -52,6 +55,7 @@ pub record IsPieceNow (ms start : List Moment) (i : ℕ) (note : Note) (generati
   pub seen : generation ≤ (terms ms).generation (suc i)
   pub own : generation ≡ (terms ms).generation 0
   pub held : generation ≡ (terms ms).generation (suc i) → HasSlot ms i slot (orb list (ends ms i list))
+  pub told : IsAnswerOf disks start i list (ends ms i list) machine.answer
 
 -- what ran has run
 ran_more : (m : Moment) (before : List Moment) (i n k : ℕ) → 0 < runs before i n k → 0 < runs (m ∷ before) i n k
@@ -68,11 +72,11 @@ pub ran_on : (later before : List Moment) (i n k : ℕ) → 0 < runs before i n 
 ran_on [] before i n k r = r
 ran_on (m ∷ later) before i n k r = ran_more m (later ++ before) i n k (ran_on later before i n k r)
 
-module _ (i : ℕ) (past ms : List Moment) (note : Note) where
+module _ (disks : List Disk) (i : ℕ) (past ms : List Moment) (note : Note) where
   pub record Sends (now : List Moment) : Type 0 where
     pub grown : Grown (said note ∷ ms) now
     pub dry : AreDry i grown.new
-    pub so : EachMoment (DataSo i) now
+    pub so : EachMoment (DataSo disks i) now
 
   -- sides that are no notes of its own
   abbrev pub IsTold : Side → Type 0
@@ -83,7 +87,7 @@ module _ (i : ℕ) (past ms : List Moment) (note : Note) where
   AreTold [] = Unit {0}
   AreTold (side ∷ later) = IsTold side × AreTold later
 
-  pub noted : (moment : Moment) (now : List Moment) → DataSo i moment now → IsDry i moment → Sends now → Sends (moment ∷ now)
+  pub noted : (moment : Moment) (now : List Moment) → DataSo disks i moment now → IsDry i moment → Sends now → Sends (moment ∷ now)
   unfolding grown_note
   noted moment now d dry h = record { grown = grown_note moment (said note ∷ ms) now h.grown; dry = (dry, h.dry); so = (d, h.so) }
 
@@ -135,7 +139,7 @@ module _ (i : ℕ) (past ms : List Moment) (note : Note) where
 
   -- ---- packets that leave, each write of data among them as it is to be
   abbrev pub IsDue : List Moment → GenerationsState → Outgoing → Type 0
-  IsDue start g packet = node_of g 0 packet.to ≡ Some (suc i) → (slot : ℕ) (x : IsDataWrite packet.bytes slot) → IsPieceNow ms start i note (topology_at g 0).generation slot x.access
+  IsDue start g packet = node_of g 0 packet.to ≡ Some (suc i) → (slot : ℕ) (x : IsDataWrite packet.bytes slot) → IsPieceNow disks ms start i note (topology_at g 0).generation slot x.access
 
   turn_of : (n k : ℕ) (m : Machine) (later now : List Moment) → later ++ said note ∷ ms ≡ now → IsTurnBy ms i n k m note → IsInTurn now ms i n k m
   turn_of n k m later now is (by_first none start) = is_first none start
@@ -158,7 +162,7 @@ module _ (i : ℕ) (past ms : List Moment) (note : Note) where
   are_dry_on (moment ∷ a) b f h = (f.0, are_dry_on a b f.1 h)
 
   abbrev Each : List Moment → Type 0
-  Each now = EachMoment (DataSo i) now
+  Each now = EachMoment (DataSo disks i) now
 
   all_dry : (g : GenerationsState) (packets : List Outgoing) (w : WorldState) → w.generations ≡ g → AllDry g packets → Each (hist past w) → Each (hist past (sent_all 0 packets w))
   unfolding sent_all
@@ -200,6 +204,7 @@ module _ (i : ℕ) (past ms : List Moment) (note : Note) where
               seen = subst (λ (y : GenerationsState). (topology_at y 0).generation ≤ (terms ms).generation (suc i)) (sym e) p.seen;
               own = ap (λ (y : GenerationsState). (topology_at y 0).generation) e ∙ p.own;
               held = λ same. p.held (ap (λ (y : GenerationsState). (topology_at y 0).generation) (sym e) ∙ same);
+              told = answer_on disks h.on.new start (hist past w) h.on.is i p.list (ends ms i p.list) p.machine.answer p.told;
             }),
         h.sends.so,
       )))

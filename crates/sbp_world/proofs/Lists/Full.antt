@@ -91,3 +91,13 @@ pub record IsClosed (F : ℕ → Machine → Type 0) : Type 0 where
 
 pub full_closed : IsClosed (λ q m. IsFull m)
 full_closed = record { reset = λ q m. reset_full m; abort = λ q m. abort_full m; lost = λ q m. lost_full m; bell = λ q m. bell_full m; point = λ q m. point_full m }
+
+-- and so is what is known of the agents of some places
+pub closed_where : (Own : ℕ → Type 0) (F : ℕ → Machine → Type 0) → IsClosed F → IsClosed (λ q m. Own q → F q m)
+closed_where Own F closed = record {
+  reset = λ q m own. closed.reset q m;
+  abort = λ q m orb h own. closed.abort q m orb (h own);
+  lost = λ q m which cause h own. closed.lost q m which cause (h own);
+  bell = λ q m h own. closed.bell q m (h own);
+  point = λ q m pointer h own. closed.point q m pointer (h own);
+}

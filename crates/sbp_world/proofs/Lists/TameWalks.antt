@@ -13,12 +13,13 @@ use Rattle.sbp_world.specs.Worlds.{Scene, WorldState, begun}
 use Rattle.sbp_world.specs.Agents.Management.Terms.{DeliversMore}
 use Rattle.sbp_world.proofs.Agents.Management.Still.{hist}
 use Rattle.sbp_world.specs.Hosts.Runs.{IsRun}
-use Rattle.sbp_world.specs.Lists.Closes.{Always, Under, WhereTame, WhereTameOrFew}
+use Rattle.sbp_world.specs.Lists.Closes.{Always, Under, UnderFrom, WhereTame, WhereTameOrFew}
 use Rattle.sbp_world.specs.Lists.Needs.{OpenBefore, OpenBetween}
 use Rattle.sbp_world.specs.Lists.OwnLogins.{IsTame}
 use Rattle.sbp_world.proofs.Lists.Gots.{Next, next, next_line, same_still, turn_next}
 use Rattle.sbp_world.proofs.Lists.OwnFifos.{tame_before}
-use Rattle.sbp_world.proofs.Lists.Walks.{Step, Turn, Walks, walked_after, walked_between}
+use Rattle.sbp_world.proofs.Lists.Walks.{Step, Turn, Walks, walked_from, walked_from_between}
+use Rattle.sbp_world.proofs.Lists.Courses.{EveryPlace}
 
 -- a condition on a history that was so before wherever it is so
 abbrev pub Where : (List Moment → Type 0) → (List Moment → WorldState → Type 0) → List Moment → WorldState → Type 0
@@ -53,21 +54,44 @@ module _ (Still : List Moment → Type 0) (closed : (later past : List Moment) �
     still_walks : Walks wild units ready start Q U P → Walks wild units ready start Q (Where Still U) (Where Still P)
     still_walks walks past s later t step p = λ still. walks past s later t (still_step past s later t step still) (p (turn_still past s later t step.turn still))
 
-  module _ (Q U : List Moment → WorldState → Type 0) (P : (ℕ → Bool) → List Moment → WorldState → Type 0) (always : Always Q) (under : Under (Where Still U)) (walks : (wild : ℕ → Bool) (units ready : ℕ) → 0 < units → (start : List Disk) → Walks wild units ready start Q U (P wild)) (first : (wild : ℕ → Bool) (line : ℕ) (run : Run) → P wild (moments_behind line run []) (beginning run).world) (line : ℕ) (run : Run) (r : IsRun run) (has : 0 < run.units) (small : run.units ≤ 4) (size : length run.start.disks ≡ run.units) where
-    abbrev Kept : (ℕ → Bool) → List Moment → WorldState → Type 0
-    Kept wild = Where Still (P wild)
+  -- by what the units' media held at the start
+  module _ (Q : List Moment → WorldState → Type 0) (V : List Disk → List Moment → WorldState → Type 0) (P : List Disk → (ℕ → Bool) → List Moment → WorldState → Type 0) (always : Always Q) (under : UnderFrom (λ start. Where Still (V start))) (walks : (wild : ℕ → Bool) (units ready : ℕ) → 0 < units → (start : List Disk) → Walks wild units ready start Q (V start) (P start wild)) (first : (wild : ℕ → Bool) (line : ℕ) (run : Run) → P run.start.disks wild (moments_behind line run []) (beginning run).world) (line : ℕ) (run : Run) (r : IsRun run) (has : 0 < run.units) (small : run.units ≤ 4) (size : length run.start.disks ≡ run.units) where
+    abbrev Over : List Disk → List Moment → WorldState → Type 0
+    Over start = Where Still (V start)
 
-    each_walks : (wild : ℕ → Bool) (units ready : ℕ) → 0 < units → (start : List Disk) → Walks wild units ready start Q (Where Still U) (Kept wild)
-    each_walks wild units ready has start = still_walks wild units ready start Q U (P wild) (walks wild units ready has start)
+    abbrev Kept : List Disk → (ℕ → Bool) → List Moment → WorldState → Type 0
+    Kept start wild = Where Still (P start wild)
 
-    each_first : (wild : ℕ → Bool) (line : ℕ) (run : Run) → Kept wild (moments_behind line run []) (beginning run).world
+    over : EveryPlace Over
+    over = record {
+      after_lines = λ at_line one is_run some few fits so_far. under.after_lines at_line one is_run some few fits so_far;
+      between = λ at_line one is_run some few fits next most told m so_far. under.between at_line one is_run some few fits next most told m so_far;
+    }
+
+    each_walks : (wild : ℕ → Bool) (units ready : ℕ) → 0 < units → (start : List Disk) → Walks wild units ready start Q (Over start) (Kept start wild)
+    each_walks wild units ready has start = still_walks wild units ready start Q (V start) (P start wild) (walks wild units ready has start)
+
+    each_first : (wild : ℕ → Bool) (line : ℕ) (run : Run) → Kept run.start.disks wild (moments_behind line run []) (beginning run).world
     each_first wild line run = λ still. first wild line run
 
+    pub from_after : OpenBefore line run run.entries → Still (history_of line run) → P run.start.disks (injectors (history_of line run)) (history_of line run) (after (beginning run) run.entries).world
+    from_after so_far still = walked_from Q Over Kept always over each_walks each_first line run r has small size so_far still
+
+    pub from_between : (line_number : ℕ) (event : Event) (d : DeliversMore event) (told : List (Option Told)) (m : MayAll told (begun (after (beginning run) run.entries))) → OpenBetween line run line_number event told → (let w = (after_all told (begun (after (beginning run) run.entries))).world in let now = map said w.fresh ++ asked line_number event ∷ history_of line run in Still now → P run.start.disks (injectors now) now w)
+    from_between line_number event d told m so_far still = walked_from_between Q Over Kept always over each_walks each_first line run r has small size line_number event d told m so_far still
+
+  module _ (Q U : List Moment → WorldState → Type 0) (P : (ℕ → Bool) → List Moment → WorldState → Type 0) (always : Always Q) (under : Under (Where Still U)) (walks : (wild : ℕ → Bool) (units ready : ℕ) → 0 < units → (start : List Disk) → Walks wild units ready start Q U (P wild)) (first : (wild : ℕ → Bool) (line : ℕ) (run : Run) → P wild (moments_behind line run []) (beginning run).world) (line : ℕ) (run : Run) (r : IsRun run) (has : 0 < run.units) (small : run.units ≤ 4) (size : length run.start.disks ≡ run.units) where
+    from_start : UnderFrom (λ start. Where Still U)
+    from_start = record {
+      after_lines = λ at_line one is_run some few fits so_far. under.after_lines at_line one is_run some few fits so_far;
+      between = λ at_line one is_run some few fits next most told m so_far. under.between at_line one is_run some few fits next most told m so_far;
+    }
+
     pub still_after : OpenBefore line run run.entries → Still (history_of line run) → P (injectors (history_of line run)) (history_of line run) (after (beginning run) run.entries).world
-    still_after so_far still = walked_after Q (Where Still U) Kept always under each_walks each_first line run r has small size so_far still
+    still_after = from_after Q (λ start. U) (λ start. P) always from_start walks first line run r has small size
 
     pub still_between : (line_number : ℕ) (event : Event) (d : DeliversMore event) (told : List (Option Told)) (m : MayAll told (begun (after (beginning run) run.entries))) → OpenBetween line run line_number event told → (let w = (after_all told (begun (after (beginning run) run.entries))).world in let now = map said w.fresh ++ asked line_number event ∷ history_of line run in Still now → P (injectors now) now w)
-    still_between line_number event d told m so_far still = walked_between Q (Where Still U) Kept always under each_walks each_first line run r has small size line_number event d told m so_far still
+    still_between = from_between Q (λ start. U) (λ start. P) always from_start walks first line run r has small size
 
 -- what holds where no initiator injected packets, or few logins were given, does where none did
 pub tame_part : (U : List Moment → WorldState → Type 0) → Under (WhereTameOrFew U) → Under (WhereTame U)

@@ -317,18 +317,19 @@ every under = record {
   between = λ line run r has small size next most told m so_far. under.between line run r has small size next most told m so_far;
 }
 
-module _ (Q U : List Moment → WorldState → Type 0) (P : (ℕ → Bool) → List Moment → WorldState → Type 0) (always : Always Q) (under : Under U) (walks : (wild : ℕ → Bool) (units ready : ℕ) → 0 < units → (start : List Disk) → Walks wild units ready start Q U (P wild)) (first : (wild : ℕ → Bool) (line : ℕ) (run : Run) → P wild (moments_behind line run []) (beginning run).world) (line : ℕ) (run : Run) (r : IsRun run) (has : 0 < run.units) (small : run.units ≤ 4) (size : length run.start.disks ≡ run.units) where
+-- by what the units' media held at the start
+module _ (Q : List Moment → WorldState → Type 0) (V : List Disk → List Moment → WorldState → Type 0) (P : List Disk → (ℕ → Bool) → List Moment → WorldState → Type 0) (always : Always Q) (under : EveryPlace V) (walks : (wild : ℕ → Bool) (units ready : ℕ) → 0 < units → (start : List Disk) → Walks wild units ready start Q (V start) (P start wild)) (first : (wild : ℕ → Bool) (line : ℕ) (run : Run) → P run.start.disks wild (moments_behind line run []) (beginning run).world) (line : ℕ) (run : Run) (r : IsRun run) (has : 0 < run.units) (small : run.units ≤ 4) (size : length run.start.disks ≡ run.units) where
   abbrev last : Scene
   last = after (beginning run) run.entries
 
-  abbrev own_walks : (wild : ℕ → Bool) → Walks wild run.units (ready_logins run.initiators run.ready) run.start.disks Q U (P wild)
+  abbrev own_walks : (wild : ℕ → Bool) → Walks wild run.units (ready_logins run.initiators run.ready) run.start.disks Q (V run.start.disks) (P run.start.disks wild)
   own_walks wild = walks wild run.units (ready_logins run.initiators run.ready) has run.start.disks
 
-  lines_walked : (wild : ℕ → Bool) → OpenBefore line run run.entries → ((i : ℕ) → wild i ≡ false → IsCalm (history_of line run) i) → P wild (history_of line run) last.world
-  lines_walked wild so_far calm = walk_after wild Q (λ start. U) (P wild) always (every under) line run r.few has small size (own_walks wild) (first wild line run) run.entries r.short r.entries r.lines (λ i own. so_far) calm
+  lines_walked : (wild : ℕ → Bool) → OpenBefore line run run.entries → ((i : ℕ) → wild i ≡ false → IsCalm (history_of line run) i) → P run.start.disks wild (history_of line run) last.world
+  lines_walked wild so_far calm = walk_after wild Q V (P run.start.disks wild) always under line run r.few has small size (own_walks wild) (first wild line run) run.entries r.short r.entries r.lines (λ i own. so_far) calm
 
-  pub walked_after : OpenBefore line run run.entries → P (injectors (history_of line run)) (history_of line run) last.world
-  walked_after so_far = lines_walked (injectors (history_of line run)) so_far (λ i own. own)
+  pub walked_from : OpenBefore line run run.entries → P run.start.disks (injectors (history_of line run)) (history_of line run) last.world
+  walked_from so_far = lines_walked (injectors (history_of line run)) so_far (λ i own. own)
 
   module _ (next : ℕ) (event : Event) (d : DeliversMore event) (told : List (Option Told)) (m : MayAll told (begun last)) (so_far : OpenBetween line run next event told) where
     abbrev end : WorldState
@@ -346,9 +347,16 @@ module _ (Q U : List Moment → WorldState → Type 0) (P : (ℕ → Bool) → L
     x : EarlyAfter wild (opened wild) line run r.few has small size run.entries last.world
     x = early_after wild (opened wild) line run r.few has small size run.entries r.short r.entries r.lines (λ i own. so_far.before) (λ i own. so_far.begins) first_calm
 
-    pub walked_between : P wild ms end
-    walked_between =
-        let p = subst (λ h. P wild h last.world) (sym x.so_far.is) (lines_walked wild so_far.before first_calm) in
-        subst (λ h. P wild (map said end.fresh ++ asked next event ∷ h) end) x.so_far.is
-        (walk_at wild Q (λ start. U) (P wild) always (every under) line run r.few has small size (own_walks wild) (first wild line run) run.entries r.short r.entries r.lines (λ i own. so_far.before) x (λ i own. so_far.begins) first_calm next event d told m (λ i own. so_far.goes)
+    pub walked_from_between : P run.start.disks wild ms end
+    walked_from_between =
+        let p = subst (λ h. P run.start.disks wild h last.world) (sym x.so_far.is) (lines_walked wild so_far.before first_calm) in
+        subst (λ h. P run.start.disks wild (map said end.fresh ++ asked next event ∷ h) end) x.so_far.is
+        (walk_at wild Q V (P run.start.disks wild) always under line run r.few has small size (own_walks wild) (first wild line run) run.entries r.short r.entries r.lines (λ i own. so_far.before) x (λ i own. so_far.begins) first_calm next event d told m (λ i own. so_far.goes)
         (λ i own. subst (λ h. IsCalm (map said end.fresh ++ asked next event ∷ h) i) (sym x.so_far.is) own) p)
+
+module _ (Q U : List Moment → WorldState → Type 0) (P : (ℕ → Bool) → List Moment → WorldState → Type 0) (always : Always Q) (under : Under U) (walks : (wild : ℕ → Bool) (units ready : ℕ) → 0 < units → (start : List Disk) → Walks wild units ready start Q U (P wild)) (first : (wild : ℕ → Bool) (line : ℕ) (run : Run) → P wild (moments_behind line run []) (beginning run).world) (line : ℕ) (run : Run) (r : IsRun run) (has : 0 < run.units) (small : run.units ≤ 4) (size : length run.start.disks ≡ run.units) where
+  pub walked_after : OpenBefore line run run.entries → P (injectors (history_of line run)) (history_of line run) (after (beginning run) run.entries).world
+  walked_after = walked_from Q (λ start. U) (λ start. P) always (every under) walks first line run r has small size
+
+  pub walked_between : (next : ℕ) (event : Event) (d : DeliversMore event) (told : List (Option Told)) (m : MayAll told (begun (after (beginning run) run.entries))) → OpenBetween line run next event told → (let w = (after_all told (begun (after (beginning run) run.entries))).world in let now = map said w.fresh ++ asked next event ∷ history_of line run in P (injectors now) now w)
+  walked_between = walked_from_between Q (λ start. U) (λ start. P) always (every under) walks first line run r has small size

@@ -4,6 +4,7 @@
 -- ORB_POINTER that was got was named for a list whose slot held its first ORB then, and that a list whose write waits has no end, is shown with these.
 use Rattle.std.specs.Prelude.{◌≡◌, ◌<◌, ◌≤◌, ℕ, suc, true, List, ◌∷◌, ◌++◌, length, map, Option, Some, None}
 use Rattle.command_agent.specs.declared.phase.Phase.TheVariants as phases
+use Rattle.rbc_disk.specs.Disk.{Disk}
 use Rattle.rbc_disk.specs.Runs.{Told}
 use Rattle.sbp_journal.specs.Run.{Moment, asked, said}
 use Rattle.sbp_journal.specs.Transactions.{Sending}
@@ -34,6 +35,11 @@ pub record Always (Q : List Moment → WorldState → Type 0) : Type 0 where
 pub record Under (U : List Moment → WorldState → Type 0) : Type 0 where
   pub after_lines : (line : ℕ) (run : Run) → IsRun run → 0 < run.units → run.units ≤ 4 → length run.start.disks ≡ run.units → OpenBefore line run run.entries → U (history_of line run) (after (beginning run) run.entries).world
   pub between : (line : ℕ) (run : Run) → IsRun run → 0 < run.units → run.units ≤ 4 → length run.start.disks ≡ run.units → (next : ℕ) (most : Option ℕ) (told : List (Option Told)) → MayAll told (begun (after (beginning run) run.entries)) → OpenBetween line run next (more_deliveries most) told → (let w = (after_all told (begun (after (beginning run) run.entries))).world in U (map said w.fresh ++ asked next (more_deliveries most) ∷ history_of line run) w)
+
+-- what holds at every such place, by what each unit's medium held at the start
+pub record UnderFrom (U : List Disk → List Moment → WorldState → Type 0) : Type 0 where
+  pub after_lines : (line : ℕ) (run : Run) → IsRun run → 0 < run.units → run.units ≤ 4 → length run.start.disks ≡ run.units → OpenBefore line run run.entries → U run.start.disks (history_of line run) (after (beginning run) run.entries).world
+  pub between : (line : ℕ) (run : Run) → IsRun run → 0 < run.units → run.units ≤ 4 → length run.start.disks ≡ run.units → (next : ℕ) (most : Option ℕ) (told : List (Option Told)) → MayAll told (begun (after (beginning run) run.entries)) → OpenBetween line run next (more_deliveries most) told → (let w = (after_all told (begun (after (beginning run) run.entries))).world in U run.start.disks (map said w.fresh ++ asked next (more_deliveries most) ∷ history_of line run) w)
 
 -- where no initiator injected packets
 abbrev pub WhereTame : (List Moment → WorldState → Type 0) → List Moment → WorldState → Type 0

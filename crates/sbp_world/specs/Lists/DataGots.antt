@@ -1,6 +1,7 @@
 -- What an initiator gets of answers (NCITS 325-1998, data buffers): a write into the data buffer of a slot is of the data of the ORB that the slot has, in its sequence; it is the latest write of these data, and each one
 -- before it was served. And one that was served was got.
 use Rattle.std.specs.Prelude.{◌≡◌, ◌<◌, ◌≤◌, ℕ, suc, List, ◌∷◌, ◌++◌, length, Some}
+use Rattle.rbc_disk.specs.Disk.{Disk}
 use Rattle.sbp_journal.specs.declared.note.Note.TheVariants as notes
 use Rattle.sbp_journal.specs.Run.{Moment, said}
 use Rattle.sbp_journal.specs.Transactions.{Sending}
@@ -8,7 +9,7 @@ use Rattle.sbp_journal.specs.Wire.{terms}
 use Rattle.sbp_laws.specs.Lists.{orb}
 use Rattle.sbp_laws.specs.Turns.{EachMoment}
 use Rattle.sbp_world.specs.Worlds.{WorldState}
-use Rattle.sbp_world.specs.Lists.Closes.{Under, WhereTame}
+use Rattle.sbp_world.specs.Lists.Closes.{Under, UnderFrom, WhereTame}
 use Rattle.sbp_world.specs.Lists.DataSequences.{IsReached}
 use Rattle.sbp_world.specs.Lists.DataServes.{IsDataOf, WasClosed}
 use Rattle.sbp_world.specs.Lists.DataWrites.{IsDataWrite}
@@ -16,24 +17,24 @@ use Rattle.sbp_world.specs.Lists.Needs.{IsCalm}
 use Rattle.sbp_world.specs.Lists.SlotsStay.{HasSlot}
 use Rattle.sbp_world.specs.Lists.Statuses.{IsToHost}
 
-pub record IsLatestData (past : List Moment) (i serial slot : ℕ) (packet : Sending) : Type 0 where
+pub record IsLatestData (start : List Disk) (past : List Moment) (i serial slot : ℕ) (packet : Sending) : Type 0 where
   pub list : ℕ
   pub number : ℕ
-  pub of : IsDataOf past i list number serial packet slot
+  pub of : IsDataOf start past i list number serial packet slot
   pub has : HasSlot past i slot (orb list number)
-  pub reached : IsReached past i list number serial of.was.machine.written
-  pub latest : (other place : ℕ) (one : Sending) → IsDataOf past i list number other one place → other ≤ serial
-  pub earlier : (other place : ℕ) (one : Sending) → IsDataOf past i list number other one place → other < serial → WasClosed past other
+  pub reached : IsReached start past i list number serial of.was.machine.written
+  pub latest : (other place : ℕ) (one : Sending) → IsDataOf start past i list number other one place → other ≤ serial
+  pub earlier : (other place : ℕ) (one : Sending) → IsDataOf start past i list number other one place → other < serial → WasClosed past other
 
-abbrev pub GotSo : ℕ → Moment → List Moment → Type 0
-GotSo i (said (notes.Got serial)) past = (packet : Sending) → (terms past).sent serial ≡ Some packet → packet.to ≡ suc i → (slot : ℕ) → IsDataWrite packet.bytes slot → IsLatestData past i serial slot packet
-GotSo i moment past = Unit {0}
+abbrev pub GotSo : List Disk → ℕ → Moment → List Moment → Type 0
+GotSo start i (said (notes.Got serial)) past = (packet : Sending) → (terms past).sent serial ≡ Some packet → packet.to ≡ suc i → (slot : ℕ) → IsDataWrite packet.bytes slot → IsLatestData start past i serial slot packet
+GotSo start i moment past = Unit {0}
 
-abbrev pub AllGotSo : List Moment → WorldState → Type 0
-AllGotSo past w = (i : ℕ) → i < length w.initiators → IsCalm past i → EachMoment (GotSo i) past
+abbrev pub AllGotSo : List Disk → List Moment → WorldState → Type 0
+AllGotSo start past w = (i : ℕ) → i < length w.initiators → IsCalm past i → EachMoment (GotSo start i) past
 
 abbrev pub DataGotsLaw : Type 0
-DataGotsLaw = Under (WhereTame AllGotSo)
+DataGotsLaw = UnderFrom (λ start. WhereTame (AllGotSo start))
 
 -- ---- what was served was got
 pub record WasGot (past : List Moment) (serial : ℕ) : Type 0 where

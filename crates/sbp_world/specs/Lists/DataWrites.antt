@@ -28,7 +28,8 @@ use Rattle.sbp_world.specs.Telling.{holder}
 use Rattle.sbp_world.specs.Worlds.{WorldState, begun}
 use Rattle.sbp_world.specs.Agents.Management.Terms.{DeliversMore}
 use Rattle.sbp_world.specs.Hosts.Runs.{IsRun}
-use Rattle.sbp_world.specs.Lists.Closes.{Under, WhereTame}
+use Rattle.sbp_world.specs.Lists.AnswersTold.{IsAnswerOf}
+use Rattle.sbp_world.specs.Lists.Closes.{UnderFrom, WhereTame}
 use Rattle.sbp_world.specs.Lists.Needs.{IsCalm, OpenAfter, OpenBefore, OpenBehind, OpenBetween, initiator_in, machine_at}
 use Rattle.sbp_world.specs.Lists.SlotsStay.{HasSlot}
 use Rattle.orb_layout.specs.declared.status.StatusKind.{StatusKind}
@@ -89,7 +90,7 @@ AreDry i [] = Unit {0}
 AreDry i (moment ∷ before) = IsDry i moment × AreDry i before
 
 -- As the turn began in which it was sent, it was that of the first ORB of a list that had not ended.
-pub record WasPiece (past : List Moment) (i generation slot : ℕ) (access : Access) : Type 0 where
+pub record WasPiece (start : List Disk) (past : List Moment) (i generation slot : ℕ) (access : Access) : Type 0 where
   pub later : List Moment
   pub before : List Moment
   pub is : later ++ before ≡ past
@@ -108,18 +109,20 @@ pub record WasPiece (past : List Moment) (i generation slot : ℕ) (access : Acc
   pub seen : generation ≤ (terms before).generation (suc i)
   pub own : generation ≡ (terms before).generation 0
   pub held : generation ≡ (terms before).generation (suc i) → HasSlot before i slot (orb list (ends before i list))
+  -- and its bytes are of the answer to the command of this ORB as it ran
+  pub told : IsAnswerOf start past i list (ends before i list) machine.answer
 
-abbrev pub DataSo : ℕ → Moment → List Moment → Type 0
-DataSo i (said (notes.Sent serial generation from to bytes)) past = from ≡ 0 → to ≡ suc i → (slot : ℕ) (x : IsDataWrite bytes slot) → WasPiece past i generation slot x.access
-DataSo i moment past = Unit {0}
+abbrev pub DataSo : List Disk → ℕ → Moment → List Moment → Type 0
+DataSo start i (said (notes.Sent serial generation from to bytes)) past = from ≡ 0 → to ≡ suc i → (slot : ℕ) (x : IsDataWrite bytes slot) → WasPiece start past i generation slot x.access
+DataSo start i moment past = Unit {0}
 
 -- at each place of a run, of the initiators that injected no packets
-abbrev pub AllDataSo : List Moment → WorldState → Type 0
-AllDataSo past w = (i : ℕ) → i < length w.initiators → IsCalm past i → EachMoment (DataSo i) past
+abbrev pub AllDataSo : List Disk → List Moment → WorldState → Type 0
+AllDataSo start past w = (i : ℕ) → i < length w.initiators → IsCalm past i → EachMoment (DataSo start i) past
 
 -- so it is of every run in which no initiator injected packets, where lists were open as they should be before
 abbrev pub DataSentLaw : Type 0
-DataSentLaw = Under (WhereTame AllDataSo)
+DataSentLaw = UnderFrom (λ start. WhereTame (AllDataSo start))
 
 -- ---- what an agent waits for
 

@@ -1,6 +1,6 @@
 -- The management ORB that the target keeps while it reads the EUI-64 of the node that sent it (NCITS 325-1998, management agent, login and reconnect): of an initiator
 -- in the target's generation, and of the operation that it has under way, it is the ORB in the place of that operation.
-use Rattle.std.specs.Prelude.{◌≡◌, ◌<◌, ◌≤◌, ℕ, suc, true, List, ◌∷◌, ◌++◌, map, length, Option, Some}
+use Rattle.std.specs.Prelude.{◌≡◌, ℕ, suc, true, List, Some}
 use Rattle.bus_memory.specs.declared.window.Window.TheVariants as windows
 use Rattle.bus_memory.specs.Windows.{start as start_of}
 use Rattle.mgmt_agent.specs.declared.operation.Operation.{Operation}
@@ -9,19 +9,12 @@ use Rattle.mgmt_agent.specs.declared.operation.Phase.TheVariants as phases
 use Rattle.orb_layout.specs.declared.management.ManagementOrb.{ManagementOrb}
 use Rattle.orb_layout.specs.ManagementOrbs.{management_orb}
 use Rattle.rbc_disk.specs.Disk.{Disk}
-use Rattle.rbc_disk.specs.Runs.{Told}
-use Rattle.sbp_journal.specs.Run.{Moment, asked, said}
+use Rattle.sbp_journal.specs.Run.{Moment}
 use Rattle.sbp_journal.specs.Wire.{terms}
 use Rattle.sbp_laws.specs.Hosts.{Underway, host_at, is_management}
 use Rattle.sbp_laws.specs.Packets.{id_for}
 use Rattle.sbp_laws.specs.Served.{place_bytes, place_held}
 use Rattle.sbp_laws.specs.Targets.{target_at}
-use Rattle.sbp_world.specs.Histories.{history_of}
-use Rattle.sbp_world.specs.Runs.{Run, after, beginning}
-use Rattle.sbp_world.specs.Settling.{MayAll, after_all}
-use Rattle.sbp_world.specs.Worlds.{begun}
-use Rattle.sbp_world.specs.Hosts.Runs.{IsRun, more_deliveries}
-use Rattle.sbp_world.specs.Lists.Needs.{IsCalm}
 
 -- a phase keeps this ORB
 abbrev pub KeepsIn : Phase → ManagementOrb → Type 0
@@ -35,9 +28,3 @@ orb_in_place past i place = management_orb (place_bytes (place_held past i place
 
 pub record IsKept (start : List Disk) (past : List Moment) (i : ℕ) : Type 0 where
   pub keeps : (op : Operation) (underway : Underway) → (target_at start past).manager.operation ≡ Some op → op.source ≡ id_for (terms past) 0 (suc i) → (terms past).generation 0 ≡ (terms past).generation (suc i) → (host_at past i).operation ≡ Some underway → is_management underway.operation ≡ true → op.orb ≡ start_of (windows.Management underway.place) → KeepsIn op.phase (orb_in_place past i underway.place)
-
--- After every line of every run of a machine with a unit, at most four, and a medium for each; and behind each delivery of a line that delivers one packet
--- after the other. Of the initiators that injected no packets.
-pub record KeptLaw : Type 0 where
-  pub after_lines : (line : ℕ) (run : Run) → IsRun run → 0 < run.units → run.units ≤ 4 → length run.start.disks ≡ run.units → (i : ℕ) → i < run.initiators → IsCalm (history_of line run) i → IsKept run.start.disks (history_of line run) i
-  pub between : (line : ℕ) (run : Run) → IsRun run → 0 < run.units → run.units ≤ 4 → length run.start.disks ≡ run.units → (next : ℕ) (most : Option ℕ) (told : List (Option Told)) → MayAll told (begun (after (beginning run) run.entries)) → (i : ℕ) → i < run.initiators → (let now = map said (after_all told (begun (after (beginning run) run.entries))).world.fresh ++ asked next (more_deliveries most) ∷ history_of line run in IsCalm now i → IsKept run.start.disks now i)
