@@ -76,6 +76,7 @@ pub mod Firsts
 pub mod Follows
 pub mod Frees
 pub mod Generations
+pub mod GotTurns
 pub mod Gots
 pub mod CountedLogins
 pub mod DecisionsDue
@@ -208,9 +209,12 @@ pub mod ManageTurns
 pub mod ManageWire
 pub mod ManageWrites
 pub mod ManageYoung
+pub mod ManagedGots
 pub mod Named
 pub mod NamedWrites
 pub mod Naming
+pub mod OfficeAsks
+pub mod OfficeWrites
 pub mod OnceLaws
 pub mod OpenCuts
 pub mod OpenDeliveries
@@ -417,9 +421,12 @@ pub mod Clauses
 pub mod ShortLines
 pub mod AnswerLengths
 pub mod LinedAppends
+pub mod AheadGots
+pub mod AheadSince
 pub mod AnswerChecks
 pub mod SentGots
 pub mod WasReads
+pub mod WriteAnswers
 pub mod AnswerGots
 pub mod Fair
 pub mod DataPieces

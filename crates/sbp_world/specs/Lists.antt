@@ -1,4 +1,6 @@
+pub mod AheadGots
 pub mod Along
+pub mod AtGots
 pub mod Bases
 pub mod Begun
 pub mod Brings
@@ -33,6 +35,7 @@ pub mod SendsLast
 pub mod EndReads
 pub mod OrbNames
 pub mod ManagedFor
+pub mod ManagedGots
 pub mod Managing
 pub mod Names
 pub mod Needs

@@ -1,4 +1,5 @@
 //! The laws of the lists and the agents.
+ghost use Rattle.sbp_world.specs.Lists.AheadGots.{AheadAsGotLaw, AheadSinceLaw};
 ghost use Rattle.sbp_world.specs.Lists.Along.{AlongLaw};
 ghost use Rattle.sbp_world.specs.Lists.Bases.{BasesLaw};
 ghost use Rattle.sbp_world.specs.Lists.Brings.{BringsLaw};
@@ -6,6 +7,7 @@ ghost use Rattle.sbp_world.specs.Lists.CarriedEnds.{WereReadLaw};
 ghost use Rattle.sbp_world.specs.Lists.CarriedRuns.{RunsReadLaw};
 ghost use Rattle.sbp_world.specs.Lists.FedRuns.{BesideLaw, RunsFedLaw, RunsSinceLaw};
 ghost use Rattle.sbp_world.specs.Lists.GotOnce.{GotOnceLaw};
+ghost use Rattle.sbp_world.specs.Lists.ManagedGots.{ManagedAsGotLaw};
 ghost use Rattle.sbp_world.specs.Lists.OwnGots.{OwnAsGotLaw};
 ghost use Rattle.sbp_world.specs.Lists.OwnReads.{OwnGotsLaw, OwnReadsLaw};
 ghost use Rattle.sbp_world.specs.Lists.OwnSince.{OwnSinceLaw};
@@ -212,6 +214,29 @@ pub fn agents_read_their_own_as_packets_are_got()
 #[tactic(auto, using(crate::proofs::Lists::Clauses::got_law))]
 pub fn answers_are_their_own_as_they_are_got()
     ensures { OwnAsGotLaw }
+{}
+
+/// In every run in which no initiator injected packets, as each packet is got: what answers a request of the target's management
+/// operation begins elsewhere than in the page table and the buffer of a slot, or brings no bytes of the buffer, as the answer to a write.
+#[tactic(auto, using(crate::proofs::Lists::Clauses::managed_gots))]
+pub fn answers_to_the_management_begin_elsewhere()
+    ensures { ManagedAsGotLaw }
+{}
+
+/// In every run in which no initiator injected packets, as each packet is got: while the agent of a place waits for an answer of an initiator
+/// and has an ORB that it read ahead, what is got of the initiator begins elsewhere than in the slot of that ORB, where what answers
+/// no agent does.
+#[tactic(auto, using(crate::proofs::Lists::Clauses::ahead_gots))]
+pub fn orbs_read_ahead_are_spared_as_packets_are_got()
+    ensures { AheadAsGotLaw }
+{}
+
+/// By every history, where what is got begins elsewhere than in the slots of ORBs that were read ahead: while the agent of a place waited
+/// for an answer of an initiator and had an ORB read ahead as each packet was got, and what answers no agent begins elsewhere, what
+/// was got of this initiator begins elsewhere than in the slot of that ORB.
+#[tactic(auto, using(crate::proofs::Lists::AheadSince::ahead_since_law))]
+pub fn what_is_got_since_spares_the_orb_read_ahead()
+    ensures { AheadSinceLaw }
 {}
 
 /// In every run in which no initiator injected packets the response that brought the ORB of each run, as the carried law has

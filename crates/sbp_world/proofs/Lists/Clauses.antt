@@ -21,17 +21,21 @@ use Rattle.sbp_world.specs.Lists.OwnReads.{OwnGotsLaw, OwnReadsLaw}
 use Rattle.sbp_world.specs.Lists.OwnWaits.{ReadsAsGotLaw}
 use Rattle.sbp_world.specs.Lists.ReadFeeds.{ReadAndFedLaw}
 use Rattle.sbp_world.proofs.Lists.AnswerLengths.{answer_lengths_law}
+use Rattle.sbp_world.proofs.Lists.AheadGots.{ahead_as_got_law}
 use Rattle.sbp_world.proofs.Lists.CarriedEnds.{were_read_law}
 use Rattle.sbp_world.proofs.Lists.DataLaws as data_laws
 use Rattle.sbp_world.proofs.Lists.DataLaws.{data_sent_law, data_held_law}
 use Rattle.sbp_world.proofs.Lists.FedOwnerRuns.{own_gots_law, own_reads_law}
 use Rattle.sbp_world.proofs.Lists.Lawful as proved
+use Rattle.sbp_world.proofs.Lists.ManagedGots.{managed_as_got_law}
 use Rattle.sbp_world.proofs.Lists.OneUp.{one_up_law}
 use Rattle.sbp_world.proofs.Lists.OwnGots.{own_as_got_law}
 use Rattle.sbp_world.proofs.Lists.OwnWaits.{reads_as_got_law}
 use Rattle.sbp_world.proofs.Lists.ReadFeeds.{read_and_fed_law}
 use Rattle.sbp_world.proofs.Lists.ShortLines.{short_law}
+use Rattle.sbp_world.specs.Lists.AheadGots.{AheadAsGotLaw}
 use Rattle.sbp_world.specs.Lists.DataHolds.{DataHeldLaw}
+use Rattle.sbp_world.specs.Lists.ManagedGots.{ManagedAsGotLaw}
 use Rattle.sbp_world.specs.Lists.DataGots.{DataGotsLaw, ServedGotLaw}
 use Rattle.sbp_world.specs.Lists.DataSequences.{DataSequenceLaw}
 use Rattle.sbp_world.specs.Lists.DataServes.{DataServedLaw}
@@ -80,6 +84,12 @@ served_got = data_laws.got_law short_law
 
 pub gots_law : OwnGotsLaw
 gots_law = own_gots_law open_lists_law
+
+pub managed_gots : ManagedAsGotLaw
+managed_gots = managed_as_got_law short_law open_lists_law
+
+pub ahead_gots : AheadAsGotLaw
+ahead_gots = ahead_as_got_law short_law open_lists_law
 
 pub got_law : OwnAsGotLaw
 got_law = own_as_got_law open_lists_law

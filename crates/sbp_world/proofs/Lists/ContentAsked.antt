@@ -2,12 +2,14 @@
 use Rattle.std.proofs.Common.{arith, ◌≡◌, ◌∙◌, refl, sym, ap, ℕ, zero, ◌&&◌, nat_eq, nat_le, not, Bool, true, false, cond, List, [], ◌∷◌, length, Some, None}
 use Rattle.std.proofs.lemmas.Bool.Decides.{nat_tests}
 use Rattle.async_packet.specs.Fields.{largest}
-use Rattle.label_table.specs.Bodies.{Body, block_read, block_write}
+use Rattle.label_table.specs.Bodies.{Body, block_read, block_write, quadlet_read}
 use Rattle.mgmt_agent.specs.declared.operation.Operation.{Operation}
 use Rattle.mgmt_agent.specs.declared.operation.Phase.{Phase}
 use Rattle.mgmt_agent.specs.declared.operation.Phase.TheVariants as phases
+use Rattle.mgmt_agent.specs.Machine.{high_eui_at, low_eui_at}
 use Rattle.orb_layout.specs.declared.ask.Ask.{Ask}
 use Rattle.rbc_disk.specs.Disk.{Disk}
+use Rattle.sbp_journal.specs.Addresses.{Access}
 use Rattle.sbp_journal.specs.declared.note.Note.TheVariants as notes
 use Rattle.sbp_journal.specs.Run.{Moment, said}
 use Rattle.sbp_laws.specs.Targets.{is_nothing, is_serial, target_at}
@@ -36,9 +38,17 @@ content phases.Orb op ask out body a e =
 content phases.Status op ask out body (status, (fifo, (a, o))) e =
     let f : cond (nat_le (length out) largest) (Some (block_write fifo out)) None ≡ Some body = sym (ap (λ x. manager_body x out) a) ∙ e in
     (status, (fifo, written (nat_le (length out) largest) fifo out body f ∙ ap (λ x. write_access fifo x) o))
-content (phases.HighEui orb) op ask out body a e = tt
-content (phases.LowEui orb high) op ask out body a e = tt
-content (phases.Response fifo) op ask out body a e = tt
+content (phases.HighEui orb) op ask out body a e =
+    let f : Some (quadlet_read high_eui_at) ≡ Some body = sym (ap (λ x. manager_body x out) a) ∙ e in
+    let is : quadlet_read high_eui_at ≡ body = cc in
+    ap access_for (sym is)
+content (phases.LowEui orb high) op ask out body a e =
+    let f : Some (quadlet_read low_eui_at) ≡ Some body = sym (ap (λ x. manager_body x out) a) ∙ e in
+    let is : quadlet_read low_eui_at ≡ body = cc in
+    ap access_for (sym is)
+content (phases.Response fifo) op ask out body (offset, (size, a)) e =
+    let f : cond (nat_le (length out) largest) (Some (block_write offset out)) None ≡ Some body = sym (ap (λ x. manager_body x out) a) ∙ e in
+    ap (λ (x : Access). x.is_write) (written (nat_le (length out) largest) offset out body f)
 
 -- ---- the packet of a serial
 asks_for : (a b c : Bool) → (not a && (b && c)) ≡ true → a ≡ false

@@ -41,7 +41,7 @@ same_serial : (m n : ℕ) → Some m ≡ Some n → m ≡ n
 same_serial m n e = cc
 
 -- ---- what a moment does to the operation and its request
-data Moves (before now : Office) (m : Moment) : Type 0 where
+pub data Moves (before now : Office) (m : Moment) : Type 0 where
   keeps : now.manager ≡ before.manager → now.decided ≡ before.decided → now.manages ≡ before.manages → Moves before now m
   drops : now.manages ≡ None → Moves before now m
   puts : (serial generation to : ℕ) (bytes : List ℕ) → m ≡ said (notes.Sent serial generation zero to bytes) → now.manager ≡ before.manager → now.decided ≡ before.decided → now.manages ≡ Some serial → is_nothing now.asks ≡ true → is_nothing before.asks ≡ false → Moves before now m
@@ -238,7 +238,7 @@ note_moves (notes.Unsolicited i) past wire t b = behind_moves (notes.Unsolicited
 note_moves (notes.Unsent i) past wire t b = behind_moves (notes.Unsent i) past wire t tt
 note_moves (notes.Told i) past wire t b = behind_moves (notes.Told i) past wire t tt
 
-its_by : (a b c : Bool) → a ≡ false → b ≡ true → c ≡ true → (not a && (b && c)) ≡ true
+pub its_by : (a b c : Bool) → a ≡ false → b ≡ true → c ≡ true → (not a && (b && c)) ≡ true
 its_by false true true e f g = refl
 its_by true b c e f g = untrue (sym e)
 its_by false false c e f g = untrue f
@@ -250,7 +250,7 @@ pub record Bound (start : List Disk) (past : List Moment) : Type 0 where
   pub bare : Bare (office_of (target_at start past))
 
 module _ (start : List Disk) where
-  moment_moves : (m : Moment) (past : List Moment) → Bare (office_of (target_at start past)) → Moves (office_of (target_at start past)) (office_of (target_at start (m ∷ past))) m
+  pub moment_moves : (m : Moment) (past : List Moment) → Bare (office_of (target_at start past)) → Moves (office_of (target_at start past)) (office_of (target_at start (m ∷ past))) m
   moment_moves (asked line event) past b = rest_moves (target_at start past) (asked line event)
   moment_moves (said note) past b = note_moves note past (known_at start past).wire (target_at start past) b
 

@@ -1,4 +1,5 @@
--- What an operation of the management asks for, by its phase: at the start the 32 bytes of its ORB, where it stands; at the end the status block that names it.
+-- What an operation of the management asks for, by its phase: at the start the 32 bytes of its ORB, where it stands; then the halves of the EUI-64 in the ROM; a write of
+-- the response; at the end the status block that names the ORB.
 use Rattle.std.proofs.Common.{◌≡◌, ◌∙◌, refl, sym, ap, subst, ℕ, ◌*◌, ◌+◌, ◌^◌, ◌==◌, not, Bool, true, false, cond, List, [], ◌∷◌, length, Option, Some, None, Result, Ok, Err}
 use Rattle.std.specs.Prelude.{is_none, position, unwrap_or}
 use Rattle.login_table.specs.Table.{Table}
@@ -42,7 +43,9 @@ use Rattle.sbp_world.proofs.Sessions.Buffers.{untrue}
 abbrev pub AskOf : Phase → Operation → Ask → List ℕ → Type 0
 AskOf phases.Orb op ask out = ask ≡ asks.Read op.orb 32
 AskOf phases.Status op ask out = (status : Status) × ((fifo : ℕ) × ((ask ≡ asks.Write fifo 8) × (out ≡ status_block op.orb status)))
-AskOf phase op ask out = Unit {0}
+AskOf (phases.HighEui orb) op ask out = ask ≡ asks.Read high_eui_at 4
+AskOf (phases.LowEui orb high) op ask out = ask ≡ asks.Read low_eui_at 4
+AskOf (phases.Response fifo) op ask out = (offset : ℕ) × ((size : ℕ) × (ask ≡ asks.Write offset size))
 
 abbrev pub SitsAs : Option Operation → Ask → List ℕ → Type 0
 SitsAs operation ask out = ((op : Operation) → operation ≡ Some op → is_nothing ask ≡ false → AskOf op.phase op ask out) × (operation ≡ None → ask ≡ Nothing)
@@ -70,7 +73,7 @@ module _ (m : Machine) (t : Table) (keys : List (List ℕ)) (answer : Answer) (o
 
   responds : (begun : Machine) (orb : ManagementOrb) (status : Status) (b : Bool) → (let s = cond b (status_step begun own orb.fifo status) (quiet (asks.Write orb.second (length begun.outgoing)), in_phase begun own (phases.Response orb.fifo)) in SitsAs s.1.operation s.0.ask s.1.outgoing)
   responds begun orb status true = tells_status begun orb.fifo status
-  responds begun orb status false = sits_with (record own { phase = phases.Response orb.fifo }) (asks.Write orb.second (length begun.outgoing)) begun.outgoing tt
+  responds begun orb status false = sits_with (record own { phase = phases.Response orb.fifo }) (asks.Write orb.second (length begun.outgoing)) begun.outgoing (orb.second, (length begun.outgoing, refl))
 
   decided_left : (orb : ManagementOrb) (x : Outcome × Table) → Left (decided_as x m own orb)
   decided_left orb (outcome, table) =
@@ -85,11 +88,11 @@ module _ (m : Machine) (t : Table) (keys : List (List ℕ)) (answer : Answer) (o
   orb_left (Ok bytes) =
       let orb = management_orb bytes in
       pick_left (reads_eui orb) (beside t (eui_step m own (phases.HighEui orb) high_eui_at)) (decide_step m own orb 0 t keys)
-      (sits_with (record own { phase = phases.HighEui orb }) (asks.Read high_eui_at 4) m.outgoing tt) (decides orb 0)
+      (sits_with (record own { phase = phases.HighEui orb }) (asks.Read high_eui_at 4) m.outgoing refl) (decides orb 0)
 
   high_left : (got : Result (List ℕ) FailCause) (orb : ManagementOrb) → Left (beside t (high_got got m own orb))
   high_left (Err cause) orb = sits_nothing None Nothing m.outgoing refl
-  high_left (Ok bytes) orb = sits_with (record own { phase = phases.LowEui orb (quad bytes 0) }) (asks.Read low_eui_at 4) m.outgoing tt
+  high_left (Ok bytes) orb = sits_with (record own { phase = phases.LowEui orb (quad bytes 0) }) (asks.Read low_eui_at 4) m.outgoing refl
 
   low_left : (got : Result (List ℕ) FailCause) (orb : ManagementOrb) (high : ℕ) → Left (low_got got m own orb high t keys)
   low_left (Err cause) orb high = sits_nothing None Nothing m.outgoing refl

@@ -1,4 +1,4 @@
--- The management asks to write into no buffer of an initiator, where the ORBs that it reads name none.
+-- Where the management asks to write, as the ORBs that it reads name it: to their FIFOs, and to the places of their responses. So it asks to write into no buffer of an initiator.
 use Rattle.std.proofs.Common.{arith, ◌≡◌, ◌∙◌, refl, sym, ap, subst, ◌<◌, ◌+◌, ◌*◌, ◌^◌, ◌==◌, ℕ, Bool, true, false, cond, List, [], length, Option, Some, None, Result, Ok, Err}
 use Rattle.bus_memory.specs.Memory.{new_memory}
 use Rattle.bus_memory.specs.declared.window.Window.{Window}
@@ -40,7 +40,7 @@ front_dry : (at slot : ℕ) → at < 0x1100_0000 → window_at at ≡ Some (wind
 front_dry at slot low e = let share = (subst (IfShare at) e (window_share at)).1 in omega (arith, share, low)
 
 aside_dry : (at : ℕ) → IsAside at → IsDryAt at
-aside_dry at (in_front low) slot goes = front_dry at slot low (moved at slot (omega (arith, low)) goes)
+aside_dry at (in_front low) slot goes = front_dry at slot (omega (arith, low)) (moved at slot (omega (arith, low)) goes)
 aside_dry at (of_response place small is) slot goes =
     let here : window_at (start (windows.Response place)) ≡ Some (windows.Response place) = window_here (new_memory []) (start (windows.Response place)) (windows.Response place) small (omega arith) (omega arith) in
     no_place place slot (sym here ∙ (ap window_at (sym is) ∙ moved at slot (omega (arith, small, is)) goes))
@@ -59,12 +59,12 @@ none_write at len e = cc
 read_write : (from size at len : ℕ) → asks.Read from size ≡ asks.Write at len → ⊥
 read_write from size at len e = cc
 
-module _ (m : management.Machine) (t : Table) (keys : List (List ℕ)) (answer : Answer) (own : Operation) where
+module _ (May : ℕ → Type 0) (its : (fifo : ℕ) → IsItsFifo fifo → May fifo) (aside : (at : ℕ) → IsAside at → May at) (m : management.Machine) (t : Table) (keys : List (List ℕ)) (answer : Answer) (own : Operation) where
   abbrev Dry : Ask → Type 0
-  Dry ask = (at len : ℕ) → ask ≡ asks.Write at len → IsDryAt at
+  Dry ask = (at len : ℕ) → ask ≡ asks.Write at len → May at
 
-  to_dry : (fifo len : ℕ) → IsDryAt fifo → Dry (asks.Write fifo len)
-  to_dry fifo len d at size e = subst IsDryAt (same_at fifo len at size e) d
+  to_dry : (fifo len : ℕ) → May fifo → Dry (asks.Write fifo len)
+  to_dry fifo len d at size e = subst May (same_at fifo len at size e) d
 
   none_dry : Dry asks.Nothing
   none_dry at len e = absurd (none_write at len e)
@@ -73,8 +73,8 @@ module _ (m : management.Machine) (t : Table) (keys : List (List ℕ)) (answer :
   read_dry from size at len e = absurd (read_write from size at len e)
 
   responds : (begun : management.Machine) (orb : ManagementOrb) (status : Status) → IsGoodOrb orb → (b : Bool) → Dry (cond b (management.status_step begun own orb.fifo status) (management.quiet (asks.Write orb.second (length begun.outgoing)), management.in_phase begun own (phases.Response orb.fifo))).0.ask
-  responds begun orb status g true = to_dry orb.fifo 8 (its_dry orb.fifo g.its)
-  responds begun orb status g false = to_dry orb.second (length begun.outgoing) (aside_dry orb.second g.aside)
+  responds begun orb status g true = to_dry orb.fifo 8 (its orb.fifo g.its)
+  responds begun orb status g false = to_dry orb.second (length begun.outgoing) (aside orb.second g.aside)
 
   decided_dry : (orb : ManagementOrb) (x : Outcome × Table) → IsGoodOrb orb → Dry (management.decided_as x m own orb).0.ask
   decided_dry orb (outcome, table) g = responds (record m { outgoing = management.cut_response orb outcome table }) orb outcome.status g (length (management.cut_response orb outcome table) == 0)
@@ -104,7 +104,7 @@ module _ (m : management.Machine) (t : Table) (keys : List (List ℕ)) (answer :
 
   response_dry : (failure : Option FailCause) (fifo : ℕ) → IsItsFifo fifo → Dry (management.beside t (management.response_written failure m own fifo)).0.ask
   response_dry (Some cause) fifo g = none_dry
-  response_dry None fifo g = to_dry fifo 8 (its_dry fifo g)
+  response_dry None fifo g = to_dry fifo 8 (its fifo g)
 
   status_dry : (failure : Option FailCause) → Dry (management.beside t (management.status_written failure m)).0.ask
   status_dry None = none_dry
@@ -117,6 +117,9 @@ module _ (m : management.Machine) (t : Table) (keys : List (List ℕ)) (answer :
   phase_dry (phases.Response fifo) g f = response_dry (write_failure answer) fifo g
   phase_dry phases.Status g f = status_dry (write_failure answer)
 
-  pub reply_dry : m.operation ≡ Some own → GoodIn own.phase → (own.phase ≡ phases.Orb → (xs : List ℕ) → payload_of answer 32 ≡ Ok xs → IsGoodOrb (management_orb xs)) → Dry (management.reply_step m t keys answer).0.ask
+  pub reply_may : m.operation ≡ Some own → GoodIn own.phase → (own.phase ≡ phases.Orb → (xs : List ℕ) → payload_of answer 32 ≡ Ok xs → IsGoodOrb (management_orb xs)) → Dry (management.reply_step m t keys answer).0.ask
   unfolding management.reply_step
-  reply_dry is g f = subst (λ (o : Option Operation). Dry (management.reply_to o m t keys answer).0.ask) (sym is) (phase_dry own.phase g f)
+  reply_may is g f = subst (λ (o : Option Operation). Dry (management.reply_to o m t keys answer).0.ask) (sym is) (phase_dry own.phase g f)
+
+pub reply_dry : (m : management.Machine) (t : Table) (keys : List (List ℕ)) (answer : Answer) (own : Operation) → m.operation ≡ Some own → GoodIn own.phase → (own.phase ≡ phases.Orb → (xs : List ℕ) → payload_of answer 32 ≡ Ok xs → IsGoodOrb (management_orb xs)) → (at len : ℕ) → (management.reply_step m t keys answer).0.ask ≡ asks.Write at len → IsDryAt at
+reply_dry m t keys answer own is g f at len e = reply_may IsDryAt its_dry aside_dry m t keys answer own is g f at len e

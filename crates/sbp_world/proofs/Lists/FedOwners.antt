@@ -52,7 +52,7 @@ orb_none offset slot s b e f =
     let none : None ≡ Some slot = sym (ap data_slot here) ∙ f in
     cc
 
-one_slot : (window : Option Window) (slot s : ℕ) → data_slot window ≡ Some slot → slot_in window ≡ Some s → slot ≡ s
+pub one_slot : (window : Option Window) (slot s : ℕ) → data_slot window ≡ Some slot → slot_in window ≡ Some s → slot ≡ s
 one_slot (Some (windows.Table x)) slot s e f = same_some slot s (sym e ∙ f)
 one_slot (Some (windows.Buffer x)) slot s e f = same_some slot s (sym e ∙ f)
 one_slot (Some windows.Rom) slot s e f = absurd (let x : None ≡ Some slot = e in cc)

@@ -51,7 +51,7 @@ module _ (units ready : ℕ) (has : 0 < units) (start : List Disk) {past : List 
       (are_own_gots units ready has start w h site (q.lists tame) q.along tame place b x.is_open serial r other slot which closed purpose)
 
 -- ---- as a line begins
-held_same : (event : Event) (t : Terms) → (opened event t).held ≡ t.held
+pub held_same : (event : Event) (t : Terms) → (opened event t).held ≡ t.held
 held_same (events.Reset physical) t = refl
 held_same (events.Repeat serial) t = refl
 held_same _ t = refl
@@ -81,16 +81,16 @@ module _ (start : List Disk) (line : ℕ) (event : Event) (past : List Moment) w
   in_held None = refl
   in_held (Some sending) = as_held (part_of sending.bytes) sending
 
-  answered_same : (serial : ℕ) → answered_at u serial ≡ answered_at t serial
+  pub answered_same : (serial : ℕ) → answered_at u serial ≡ answered_at t serial
   answered_same serial = ap (λ (f : ℕ → Option Sending). answered_in u (f serial)) sent_same ∙ in_held (t.sent serial)
 
   -- what is read by it
-  read_so : (i serial : ℕ) (own : Option ℕ) → read_by u i serial own ≡ read_by t i serial own
+  pub read_so : (i serial : ℕ) (own : Option ℕ) → read_by u i serial own ≡ read_by t i serial own
   read_so i serial None = refl
   read_so i serial (Some own) =
       ap (λ (f : ℕ → Option Sending). cond (is_serial (sender_in (f serial)) (suc i) && is_serial (receiver_in (f serial)) 0) (moved_by (access_in (packet_in (f own))) (bytes_in (answer_in (packet_in (f serial))))) []) sent_same
 
-  read_same : (i serial : ℕ) → read_by u i serial (answered_at u serial) ≡ read_by t i serial (answered_at t serial)
+  pub read_same : (i serial : ℕ) → read_by u i serial (answered_at u serial) ≡ read_by t i serial (answered_at t serial)
   read_same i serial = ap (read_by u i serial) (answered_same serial) ∙ read_so i serial (answered_at t serial)
 
   main_so : (T : Target) (place serial : ℕ) (own : Option ℕ) → main_moved u T place serial own ≡ main_moved t T place serial own

@@ -57,6 +57,7 @@ use Rattle.sbp_world.proofs.Lists.OrbsHeard.{asked_by_it, is_answered, manages_i
 use Rattle.sbp_world.proofs.Lists.OrbsRead.{access_there, in_phase}
 use Rattle.sbp_world.proofs.Lists.OwnCounts.{FewAt}
 use Rattle.sbp_world.proofs.Lists.OwnPlaces.{IfGood, held_good, none_before}
+use Rattle.sbp_world.specs.Lists.ReadOrbs.{IsAnswered}
 use Rattle.sbp_world.proofs.Lists.OwnReplies.{delivery_good}
 use Rattle.sbp_world.proofs.Lists.PlacedOps.{IsHeldOp, Written, asked_held, each_from}
 
@@ -127,20 +128,11 @@ module _ (units ready : ℕ) (more_units : 0 < units) (start : List Disk) {past 
   good_bytes place None bytes g some e = absurd (some refl)
   good_bytes place (Some one) bytes g some e = subst (λ (xs : List ℕ). IsGoodOrb (management_orb xs)) (sym e) g
 
-  module _ (serial : ℕ) (sent : Sent) (found : found_sent serial w.store.kept ≡ Some sent) (zero_to : sent.to ≡ 0) (p : Packet) (label : LabelParts) (e : (judging_step w.target.layer sent.generation sent.bytes).0 ≡ of_response p label (Some purposes.Management)) (old : Operation) (there : w.target.manager.operation ≡ Some old) (source : old.source ≡ id_in w i) (own : IsOwnOp start before i old) where
-    of_it : old.source ≡ id_for (terms before) 0 (suc i)
-    of_it = source ∙ sym (id_is units ready more_units start w h i inside)
-
-    abbrev read : ℕ
-    read = asked_by_it units ready more_units start w h serial sent found zero_to p label e
-
-    manages_it : (target_at start before).manages ≡ Some read
-    manages_it = manages_is units ready more_units start w h serial sent found zero_to p label e old there i of_it none calm
-
-    pub brings_good : old.phase ≡ phases.Orb → (bytes : List ℕ) → answer_in p ≡ Payload bytes → IsGoodOrb (management_orb bytes)
-    brings_good phase bytes answer =
-        let answered = is_answered units ready more_units start w h serial sent found zero_to p label e old there i of_it none calm bytes answer in
-        let was : WasAsked start before read old = are.each read old (((bound start before counts).own read manages_it).0 ∙ (operation_is units ready more_units start w h i inside ∙ there)) in
+  -- what answers the request of an operation
+  module _ (old : Operation) (operation : (target_at start before).manager.operation ≡ Some old) (own : IsOwnOp start before i old) (read : ℕ) (manages_it : (target_at start before).manages ≡ Some read) (phase : old.phase ≡ phases.Orb) (serial : ℕ) (bytes : List ℕ) (answered : IsAnswered before i serial read bytes) where
+    pub answer_good : IsGoodOrb (management_orb bytes)
+    answer_good =
+        let was : WasAsked start before read old = are.each read old (((bound start before counts).own read manages_it).0 ∙ operation) in
         let reads : was.access ≡ read_access old.orb 32 = in_phase old.phase phases.Orb old was.access phase was.content in
         let is = access_there start before counts read old was in
         let b = places serial read own.place was.access bytes own.small
@@ -165,6 +157,20 @@ module _ (units ready : ℕ) (more_units : 0 < units) (start : List Disk) {past 
         let below = b.below in
         let good_there : IfGood (place_held b.before i own.place) = held_good i own.place own.small few_nodes b.before (short_from front b.before (subst AreShort (sym at) shorts)) (each_from (FewAt i) front b.before (subst (EachMoment (FewAt i)) (sym at) few)) in
         good_bytes own.place (place_held b.before i own.place) bytes good_there (own.held front b.before at (omega (arith, behind, below))) b.held
+
+  module _ (serial : ℕ) (sent : Sent) (found : found_sent serial w.store.kept ≡ Some sent) (zero_to : sent.to ≡ 0) (p : Packet) (label : LabelParts) (e : (judging_step w.target.layer sent.generation sent.bytes).0 ≡ of_response p label (Some purposes.Management)) (old : Operation) (there : w.target.manager.operation ≡ Some old) (source : old.source ≡ id_in w i) (own : IsOwnOp start before i old) where
+    of_it : old.source ≡ id_for (terms before) 0 (suc i)
+    of_it = source ∙ sym (id_is units ready more_units start w h i inside)
+
+    abbrev read : ℕ
+    read = asked_by_it units ready more_units start w h serial sent found zero_to p label e
+
+    manages_it : (target_at start before).manages ≡ Some read
+    manages_it = manages_is units ready more_units start w h serial sent found zero_to p label e old there i of_it none calm
+
+    pub brings_good : old.phase ≡ phases.Orb → (bytes : List ℕ) → answer_in p ≡ Payload bytes → IsGoodOrb (management_orb bytes)
+    brings_good phase bytes answer =
+        answer_good old (operation_is units ready more_units start w h i inside ∙ there) own read manages_it phase serial bytes (is_answered units ready more_units start w h serial sent found zero_to p label e old there i of_it none calm bytes answer)
 
     -- they are those of the ORB that stood in the place then
     pub brings_held : old.phase ≡ phases.Orb → (bytes : List ℕ) → answer_in p ≡ Payload bytes → StoodThere before i own.place bytes

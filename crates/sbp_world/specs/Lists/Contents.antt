@@ -1,13 +1,13 @@
 -- What the target sends for an operation of its management, in every run (NCITS 325-1998, management agent, login response and status block): a packet that the
--- operation asked for asks for what it asked for then. It reads the 32 bytes of its ORB at the address that was written; or it writes the response, or the
--- status block that names the ORB, as the target had them.
+-- operation asked for asks for what it asked for then. It reads the 32 bytes of its ORB at the address that was written, or a half of the EUI-64 in the ROM; or it
+-- writes the response, or the status block that names the ORB, as the target had them.
 use Rattle.std.specs.Prelude.{◌≡◌, ◌≤◌, ◌<◌, ℕ, zero, true, false, List, [], ◌∷◌, ◌++◌, length, map, Option, Some}
 use Rattle.label_table.specs.Bodies.{Body, block_read, block_write, quadlet_read, quadlet_write}
 use Rattle.mgmt_agent.specs.declared.operation.Operation.{Operation}
 use Rattle.mgmt_agent.specs.declared.operation.Phase.{Phase}
 use Rattle.mgmt_agent.specs.declared.operation.Phase.TheVariants as phases
 use Rattle.mgmt_agent.specs.declared.status.Status.{Status}
-use Rattle.mgmt_agent.specs.Machine.{status_block}
+use Rattle.mgmt_agent.specs.Machine.{high_eui_at, low_eui_at, status_block}
 use Rattle.rbc_disk.specs.Disk.{Disk}
 use Rattle.rbc_disk.specs.Runs.{Told}
 use Rattle.sbp_journal.specs.Addresses.{Access}
@@ -49,11 +49,13 @@ AreContents start past = EachMoment (ContentAt start) past
 
 -- ---- by the phase of the operation
 
--- its ORB is read, where it stands
+-- its ORB is read, where it stands; the halves of the EUI-64 are; the response is written; or the status block
 abbrev pub AccessOf : Phase → Operation → Access → Type 0
 AccessOf phases.Orb op access = access ≡ read_access op.orb 32
 AccessOf phases.Status op access = (status : Status) × ((fifo : ℕ) × (access ≡ write_access fifo (status_block op.orb status)))
-AccessOf phase op access = Unit {0}
+AccessOf (phases.HighEui orb) op access = access ≡ access_for (quadlet_read high_eui_at)
+AccessOf (phases.LowEui orb high) op access = access ≡ access_for (quadlet_read low_eui_at)
+AccessOf (phases.Response fifo) op access = access.is_write ≡ true
 
 -- A packet of an operation, as it was sent: behind that history, with these bytes.
 pub record WasAsked (start : List Disk) (past : List Moment) (serial : ℕ) (op : Operation) : Type 0 where

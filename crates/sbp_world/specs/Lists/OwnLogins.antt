@@ -42,12 +42,12 @@ pub data IsItsFifo (fifo : ℕ) : Type 0 where
   of_login : IsLoginFifo fifo → IsItsFifo fifo
   of_place : (place : ℕ) → place < 2 → fifo ≡ 0x12002000 + 0x20 * place → IsItsFifo fifo
 
--- the place of a response, or an address in front of the buffers of the slots
+-- the place of a response, or an address in front of the slots
 pub data IsAside (at : ℕ) : Type 0 where
-  in_front : at < 0x1100_0000 → IsAside at
+  in_front : at < 0x1000_0000 → IsAside at
   of_response : (place : ℕ) → place < 2 → at ≡ start (windows.Response place) → IsAside at
 
--- an ORB names such a FIFO, and that of a login where it asks for one; and its response goes to no buffer of a slot
+-- an ORB names such a FIFO, and that of a login where it asks for one; and its response goes to no slot
 pub record IsGoodOrb (orb : ManagementOrb) : Type 0 where
   pub aside : IsAside orb.second
   pub its : IsItsFifo orb.fifo

@@ -1,0 +1,206 @@
+-- As each packet is got in a run in which no initiator injected packets, what answers the management operation begins elsewhere than in a slot.
+use Rattle.std.proofs.Common.{arith, inl, ◌≡◌, ◌∙◌, refl, sym, ap, subst, ◌<◌, ◌+◌, ◌&&◌, ℕ, suc, Bool, true, false, cond, List, [], ◌∷◌, length, Option, Some, None}
+use Rattle.bus_memory.specs.Memory.{new_memory}
+use Rattle.bus_memory.specs.declared.window.Window.{Window}
+use Rattle.bus_memory.specs.declared.window.Window.TheVariants as windows
+use Rattle.bus_memory.specs.Windows.{start as start_of, window_at}
+use Rattle.bus_memory.proofs.Found.{window_here}
+use Rattle.bus_transactions.specs.Packets.{SerialsCount}
+use Rattle.command_agent.specs.declared.step.Which.TheVariants.{Ahead, Main}
+use Rattle.mgmt_agent.specs.declared.operation.Operation.{Operation}
+use Rattle.mgmt_agent.specs.declared.operation.Phase.{Phase}
+use Rattle.mgmt_agent.specs.declared.operation.Phase.TheVariants as phases
+use Rattle.mgmt_agent.specs.Machine.{high_eui_at, low_eui_at}
+use Rattle.rbc_disk.specs.Disk.{Disk}
+use Rattle.sbp_journal.specs.Addresses.{Access}
+use Rattle.sbp_journal.specs.Run.{Moment, asked}
+use Rattle.sbp_journal.specs.Wire.{Terms, terms}
+use Rattle.sbp_journal.specs.declared.event.Event.{Event}
+use Rattle.sbp_laws.specs.CarriedBytes.{moved_by, payload_at, read_by}
+use Rattle.sbp_laws.specs.Packets.{access_at, answered_at, receiver_in, sender_in}
+use Rattle.sbp_laws.specs.Targets.{Agent, Purpose, Target, for_agent, for_manager, for_nobody, is_serial, over, purpose_among, purpose_of, target_at}
+use Rattle.sbp_laws.specs.Turns.{EachMoment}
+use Rattle.sbp_world.specs.Worlds.{WorldState}
+use Rattle.sbp_world.specs.Wire.Wires.{Stands}
+use Rattle.sbp_world.specs.Agents.Management.Offices.{Office}
+use Rattle.sbp_world.proofs.Agents.Handed.{is_its_serial}
+use Rattle.sbp_world.proofs.Agents.Management.Offices.{over_keeps}
+use Rattle.sbp_world.proofs.Agents.Management.Still.{hist}
+use Rattle.sbp_world.specs.Lists.Contents.{AccessOf, AreAsked, WasAsked}
+use Rattle.sbp_world.specs.Lists.FedRuns.{AllElsewhere, IsElsewhere}
+use Rattle.sbp_world.specs.Lists.ManagedGots.{IsManagedElsewhere, ManagedAsGot, ManagedAsGotLaw}
+use Rattle.sbp_world.specs.Hosts.Runs.{more_deliveries}
+use Rattle.sbp_world.specs.Making.{ready_logins}
+use Rattle.sbp_world.specs.Lists.Closes.{OpenListsLaw}
+use Rattle.sbp_world.specs.Lists.OwnLogins.{IsTame}
+use Rattle.sbp_world.specs.Lists.Placings.{BasedAt, IsInAPlace}
+use Rattle.sbp_world.specs.Lists.Shorts.{AreShort}
+use Rattle.sbp_world.proofs.Lists.BufferClears.{Ground, Tamely, ground_everywhere}
+use Rattle.sbp_world.proofs.Lists.Courses.{EveryPlace, Keeps, at_between, at_lines, more_than_one}
+use Rattle.sbp_world.proofs.Lists.GotTurns.{got_turn}
+use Rattle.sbp_world.proofs.Lists.Judging.{goes_next}
+use Rattle.sbp_world.proofs.Lists.ListsProved.{closing}
+use Rattle.sbp_world.proofs.Lists.LiveGiven.{ShortLaw, shorts_everywhere}
+use Rattle.sbp_world.proofs.Lists.LiveLogins.{logins_based}
+use Rattle.sbp_world.proofs.Lists.LiveRuns.{goes_tame}
+use Rattle.sbp_world.proofs.Lists.OfficeWrites.{OfficeSoAt, office_everywhere, op_placed, IsOffTables}
+use Rattle.sbp_world.proofs.Lists.OrbWaits.{over_twice}
+use Rattle.sbp_world.proofs.Lists.OwnGots.{answered_same, read_so}
+use Rattle.sbp_world.specs.Lists.OwnReads.{data_slot}
+use Rattle.sbp_world.proofs.Lists.ContentManages.{bound}
+use Rattle.sbp_world.proofs.Lists.ManageTerms.{none_is}
+use Rattle.sbp_world.proofs.Lists.OfficeAsks.{OfficeSo}
+use Rattle.sbp_world.proofs.Lists.OrbsRead.{access_there}
+use Rattle.sbp_world.proofs.Lists.WriteAnswers.{no_bytes}
+
+-- ---- a request of the operation
+among_not : (k : ℕ) (agents : List Agent) (serial : ℕ) → purpose_among k agents serial ≡ for_manager → ⊥
+among_not k [] serial e = (let no : for_nobody ≡ for_manager = e in cc)
+among_not k (a ∷ agents) serial e = by (is_serial a.main serial) (is_serial a.ahead serial) (among_not (k + 1) agents serial) e
+  where
+    by : (x y : Bool) → (purpose_among (k + 1) agents serial ≡ for_manager → ⊥) → cond x (for_agent k Main) (cond y (for_agent k Ahead) (purpose_among (k + 1) agents serial)) ≡ for_manager → ⊥
+    by true y f e = (let no : for_agent k Main ≡ for_manager = e in cc)
+    by false true f e = (let no : for_agent k Ahead ≡ for_manager = e in cc)
+    by false false f e = f e
+
+of_manager : (b : Bool) (rest : Purpose) → cond b for_manager rest ≡ for_manager → (rest ≡ for_manager → ⊥) → b ≡ true
+of_manager true rest e f = refl
+of_manager false rest e f = absurd (f e)
+
+pub manages_it : (start : List Disk) (past : List Moment) (own : ℕ) → purpose_of (over (target_at start past)) own ≡ for_manager → (target_at start past).manages ≡ Some own
+manages_it start past own e =
+    let T = over (target_at start past) in
+    let b = of_manager (is_serial T.manages own) (purpose_among 0 T.agents own) e (among_not 0 T.agents own) in
+    sym (ap (λ (o : Office). o.manages) (over_keeps (target_at start past))) ∙ is_its_serial T.manages own b
+
+-- ---- where it begins
+abbrev pub NoData : ℕ → Type 0
+NoData at = (slot : ℕ) → data_slot (window_at at) ≡ Some slot → ⊥
+
+rom_high : window_at high_eui_at ≡ Some windows.Rom
+unfolding window_at
+rom_high = refl
+
+rom_low : window_at low_eui_at ≡ Some windows.Rom
+unfolding window_at
+rom_low = refl
+
+no_data : (at : ℕ) (window : Window) → window_at at ≡ Some window → ((slot : ℕ) → data_slot (Some window) ≡ Some slot → ⊥) → NoData at
+no_data at window e f slot d = f slot (ap data_slot (sym e) ∙ d)
+
+rom_data : (slot : ℕ) → data_slot (Some windows.Rom) ≡ Some slot → ⊥
+rom_data slot e = none_is slot e
+
+place_data : (place slot : ℕ) → data_slot (Some (windows.Management place)) ≡ Some slot → ⊥
+place_data place slot e = none_is slot e
+
+place_there : (place : ℕ) → place < 2 → window_at (start_of (windows.Management place)) ≡ Some (windows.Management place)
+place_there place small = window_here (new_memory []) (start_of (windows.Management place)) (windows.Management place) small (omega arith) (omega arith)
+
+-- it reads elsewhere, or writes
+data Aims (access : Access) : Type 0 where
+  elsewhere : NoData access.offset → Aims access
+  writes : access.is_write ≡ true → Aims access
+
+aims_by : (phase : Phase) (op : Operation) (access : Access) → AccessOf phase op access → IsInAPlace op → Aims access
+aims_by phases.Orb op access a p =
+    elsewhere (subst (λ (x : Access). NoData x.offset) (sym a) (subst NoData (sym p.orb) (no_data (start_of (windows.Management p.place)) (windows.Management p.place) (place_there p.place p.small) (place_data p.place))))
+aims_by (phases.HighEui orb) op access a p = elsewhere (subst (λ (x : Access). NoData x.offset) (sym a) (no_data high_eui_at windows.Rom rom_high rom_data))
+aims_by (phases.LowEui orb high) op access a p = elsewhere (subst (λ (x : Access). NoData x.offset) (sym a) (no_data low_eui_at windows.Rom rom_low rom_data))
+aims_by (phases.Response fifo) op access a p = writes a
+aims_by phases.Status op access (status, (fifo, a)) p = writes (ap (λ (x : Access). x.is_write) a)
+
+-- ---- at a place
+module _ {past : List Moment} (start : List Disk) (w : WorldState) (stands : Stands past w) (counts : SerialsCount (hist past w)) (are : AreAsked start (hist past w)) (placed : (op : Operation) → (target_at start (hist past w)).manager.operation ≡ Some op → IsInAPlace op) (o : OfficeSo IsOffTables start (hist past w)) where
+  abbrev ms : List Moment
+  ms = hist past w
+
+  abbrev t : Terms
+  t = terms ms
+
+  module _ (serial i slot own : ℕ) (closed : answered_at t serial ≡ Some own) (purpose : purpose_of (over (target_at start ms)) own ≡ for_manager) where
+    abbrev Elsewhere : Type 0
+    Elsewhere = AllElsewhere slot (read_by t i serial (Some own))
+
+    manages : (target_at start ms).manages ≡ Some own
+    manages = manages_it start ms own purpose
+
+    read_at : (b : Bool) (access : Access) → access_at t own ≡ Some access → IsElsewhere slot (record { offset = access.offset; bytes = payload_at t serial }) → AllElsewhere slot (cond b (moved_by (access_at t own) (payload_at t serial)) [])
+    read_at false access is e = tt
+    read_at true access is e = subst (λ (a : Option Access). AllElsewhere slot (moved_by a (payload_at t serial))) (sym is) (e, tt)
+
+    by_access : (access : Access) → access_at t own ≡ Some access → Aims access → IsElsewhere slot (record { offset = access.offset; bytes = payload_at t serial })
+    by_access access is (elsewhere none) = record { table = λ e. none slot (ap data_slot e); buffer = λ e. absurd (none slot (ap data_slot e)) }
+    by_access access is (writes write) = record { table = λ e. o.waits_may own manages access is write slot e; buffer = λ e. no_bytes w stands serial own closed access is write }
+
+    by_operation : (operation : Option Operation) → (target_at start ms).manager.operation ≡ operation → Elsewhere
+    by_operation None e = none_is own (sym ((bound start ms counts).bare e) ∙ manages)
+    by_operation (Some op) e =
+        let was : WasAsked start ms own op = are.each own op (((bound start ms counts).own own manages).0 ∙ e) in
+        let is = access_there start ms counts own op was in
+        read_at (is_serial (sender_in (t.sent serial)) (suc i) && is_serial (receiver_in (t.sent serial)) 0) was.access is (by_access was.access is (aims_by op.phase op was.access was.content (placed op e)))
+
+    managed_elsewhere : Elsewhere
+    managed_elsewhere = by_operation (target_at start ms).manager.operation refl
+
+  pub managed_here : (serial : ℕ) → IsManagedElsewhere start ms serial
+  managed_here serial i slot own closed purpose = managed_elsewhere serial i slot own closed purpose
+
+-- ---- as a line begins
+managed_asked : (start : List Disk) (line : ℕ) (event : Event) (past : List Moment) → ((serial : ℕ) → IsManagedElsewhere start past serial) → (serial : ℕ) → IsManagedElsewhere start (asked line event ∷ past) serial
+managed_asked start line event past a serial i slot own closed purpose =
+    subst (AllElsewhere slot) (sym (read_so start line event past i serial (Some own)))
+    (a serial i slot own (sym (answered_same start line event past serial) ∙ closed) (subst (λ (T : Target). purpose_of T own ≡ for_manager) (over_twice (target_at start past)) purpose))
+
+-- ---- at each place of a run
+record Kit (start : List Disk) (past : List Moment) (w : WorldState) : Type 0 where
+  ground : Ground start past w
+  office : OfficeSoAt start past w
+  based : IsTame past → (i : ℕ) → i < length w.initiators → EachMoment (BasedAt i) past
+  shorts : AreShort past
+
+abbrev ManagedSo : List Disk → List Moment → WorldState → Type 0
+ManagedSo start past w = IsTame past → EachMoment (ManagedAsGot start) past
+
+module _ (short : ShortLaw) where
+  kit_everywhere : EveryPlace Kit
+  kit_everywhere =
+      let shorts = shorts_everywhere short in
+      let based = logins_based short in
+      record {
+        after_lines = λ line run r has small size so_far. record {
+          ground = ground_everywhere.after_lines line run r has small size so_far;
+          office = office_everywhere.after_lines line run r has small size so_far;
+          based = based.after_lines line run r has small size so_far;
+          shorts = shorts.after_lines line run r has small size so_far;
+        };
+        between = λ line run r has small size next most told m so_far. record {
+          ground = ground_everywhere.between line run r has small size next most told m so_far;
+          office = office_everywhere.between line run r has small size next most told m so_far;
+          based = based.between line run r has small size next most told m so_far;
+          shorts = shorts.between line run r has small size next most told m so_far;
+        };
+      }
+
+  all_managed : (units ready : ℕ) → 0 < units → (start : List Disk) → Keeps units ready start (Kit start) (ManagedSo start)
+  all_managed units ready has start past s later t lines more g h h_now q q_now e tame =
+      let before = hist past s.world in
+      let tame_old = goes_tame past s later t g tame in
+      let c : Tamely (length s.world.initiators) before = (tame_old, q.shorts, q.based tame_old) in
+      got_turn (IsManagedElsewhere start) (managed_asked start) before (hist later t.world) (goes_next past s later t g)
+      (managed_here start s.world h.sound.stands q.ground.known.counts q.ground.known.are (λ op is. op_placed units ready has start s.world h q.ground c op is) (q.office c)) (e tame_old)
+
+  managed_as_got : EveryPlace ManagedSo
+  managed_as_got = record {
+    after_lines = λ line run r has small size so_far.
+        at_lines Kit (ManagedSo run.start.disks) kit_everywhere line run r.few has small size (all_managed run.units (ready_logins run.initiators run.ready) has run.start.disks) (λ tame. (tt, (tt, tt))) r so_far;
+    between = λ line run r has small size next most told m so_far.
+        at_between Kit (ManagedSo run.start.disks) kit_everywhere line run r.few has small size (all_managed run.units (ready_logins run.initiators run.ready) has run.start.disks) (λ tame. (tt, (tt, tt))) r next most told m so_far;
+  }
+
+  pub managed_as_got_law : OpenListsLaw → ManagedAsGotLaw
+  managed_as_got_law lists = record {
+    after_lines = λ line run r has small size tame. managed_as_got.after_lines line run r has small size (closing.before lists line run r has small size (inl tame)) tame;
+    between = λ line run r has small size next most told m tame.
+        managed_as_got.between line run r has small size next most told m (closing.between lists line run r has small size next (more_deliveries most) (more_than_one most) told m (inl tame)) tame;
+  }
