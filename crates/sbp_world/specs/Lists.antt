@@ -1,4 +1,5 @@
 pub mod Along
+pub mod AnswersCarried
 pub mod Bases
 pub mod Begun
 pub mod Brings

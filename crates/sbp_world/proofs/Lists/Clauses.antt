@@ -32,6 +32,7 @@ use Rattle.sbp_world.proofs.Lists.OwnWaits.{reads_as_got_law}
 use Rattle.sbp_world.proofs.Lists.ReadFeeds.{read_and_fed_law}
 use Rattle.sbp_world.proofs.Lists.ShortLines.{short_law}
 use Rattle.sbp_world.specs.Lists.DataHolds.{DataHeldLaw}
+use Rattle.sbp_world.specs.Lists.AnswersCarried.{AnswersBroughtLaw}
 use Rattle.sbp_world.specs.Lists.DataGots.{DataGotsLaw, ServedGotLaw}
 use Rattle.sbp_world.specs.Lists.DataSequences.{DataSequenceLaw}
 use Rattle.sbp_world.specs.Lists.DataServes.{DataServedLaw}
@@ -74,6 +75,9 @@ sequence_law = data_laws.sequence_law short_law
 
 pub data_gots : DataGotsLaw
 data_gots = data_laws.gots_law short_law
+
+pub answers_brought : AnswersBroughtLaw
+answers_brought = data_laws.brought_law short_law
 
 pub served_got : ServedGotLaw
 served_got = data_laws.got_law short_law
