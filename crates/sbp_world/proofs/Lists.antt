@@ -459,6 +459,14 @@ pub mod DataOver
 pub mod DataHolds
 pub mod MachineTurns
 pub mod AnswersKept
+pub mod AnswersCarriedChunks
+pub mod AnswersCarriedWrites
+pub mod AnswersCarriedBefore
+pub mod AnswersCarriedGot
+pub mod AnswersCarriedTracks
+pub mod AnswersCarriedLines
+pub mod AnswersCarriedTaken
+pub mod AnswersCarriedRuns
 pub mod AnswerRuns
 pub mod AnswerComes
 pub mod AnswerDisks

@@ -1,6 +1,7 @@
 pub mod AheadGots
 pub mod Along
 pub mod AtGots
+pub mod AnswersCarried
 pub mod Bases
 pub mod Begun
 pub mod Brings

@@ -38,6 +38,7 @@ ghost use Rattle.sbp_world.specs.Lists.AnswerLengths.{AnswerLengthsLaw};
 ghost use Rattle.sbp_world.specs.Lists.AnswersTold.{AnswersToldLaw};
 ghost use Rattle.sbp_world.specs.Lists.EndReads.{EndsReadLaw};
 ghost use Rattle.sbp_world.specs.Lists.DataEnds.{AnswersEndLaw};
+ghost use Rattle.sbp_world.specs.Lists.AnswersCarried.{AnswersBroughtLaw};
 ghost use Rattle.sbp_world.specs.Lists.DataGots.{DataGotsLaw, ServedGotLaw};
 ghost use Rattle.sbp_world.specs.Lists.DataHolds.{DataHeldLaw};
 ghost use Rattle.sbp_world.specs.Lists.DataSequences.{DataSequenceLaw};
@@ -579,6 +580,15 @@ pub fn initiators_get_data_in_sequence()
 #[tactic(auto, using(crate::proofs::Lists::Clauses::served_got))]
 pub fn data_that_were_served_were_got()
     ensures { ServedGotLaw }
+{}
+
+/// In every run in which no initiator injected packets, where lists were open as they should be before, a good status is taken of an ORB
+/// whose data go to its initiator, and of which the target wrote data in the generation that the initiator is in. Then what brought
+/// bytes of its buffer since the append are the writes to its chunks that the initiator got since the run; they are these chunks, each
+/// once and in order; and the answer is their payloads, joined, as the carried law says.
+#[tactic(auto, using(crate::proofs::Lists::Clauses::answers_brought))]
+pub fn answers_are_what_data_writes_brought()
+    ensures { AnswersBroughtLaw }
 {}
 
 /// In every run in which no initiator injected packets, where lists were open as they should be before, the answer that an agent writes

@@ -36,6 +36,7 @@ use Rattle.sbp_world.proofs.Lists.ShortLines.{short_law}
 use Rattle.sbp_world.specs.Lists.AheadGots.{AheadAsGotLaw}
 use Rattle.sbp_world.specs.Lists.DataHolds.{DataHeldLaw}
 use Rattle.sbp_world.specs.Lists.ManagedGots.{ManagedAsGotLaw}
+use Rattle.sbp_world.specs.Lists.AnswersCarried.{AnswersBroughtLaw}
 use Rattle.sbp_world.specs.Lists.DataGots.{DataGotsLaw, ServedGotLaw}
 use Rattle.sbp_world.specs.Lists.DataSequences.{DataSequenceLaw}
 use Rattle.sbp_world.specs.Lists.DataServes.{DataServedLaw}
@@ -78,6 +79,9 @@ sequence_law = data_laws.sequence_law short_law
 
 pub data_gots : DataGotsLaw
 data_gots = data_laws.gots_law short_law
+
+pub answers_brought : AnswersBroughtLaw
+answers_brought = data_laws.brought_law short_law
 
 pub served_got : ServedGotLaw
 served_got = data_laws.got_law short_law

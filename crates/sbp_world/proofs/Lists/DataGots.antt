@@ -49,7 +49,7 @@ module _ (start : List Disk) (wild : ℕ → Bool) (i : ℕ) (own : wild i ≡ f
         let of : IsOfTarget past i serial = known.sources.0 in
         of packet p.packet x.access sent to p.is p.asks (writes_no_rom p.packet x.access p.asks x.writes)
 
-    current : packet.generation ≡ (terms past).generation (suc i)
+    pub current : packet.generation ≡ (terms past).generation (suc i)
     current = got_by serial past packet known.judged sent ∙ ap (λ y. (terms past).generation y) to
 
     fair : is_fair_write wild (terms past) serial ≡ true
@@ -58,7 +58,7 @@ module _ (start : List Disk) (wild : ℕ → Bool) (i : ℕ) (own : wild i ≡ f
         (ap (λ so. is_fair wild so) sent ∙ both_not packet.injected (is_wild wild packet.from) (here.honest serial packet sent from) (ap (λ y. is_wild wild y) from))
         (ap (λ so. is_write_in (access_in (packet_in so))) sent ∙ (ap (λ o. is_write_in o) x.is ∙ x.writes))
 
-    fresh : (terms past).news serial ≡ 0
+    pub fresh : (terms past).news serial ≡ 0
     fresh = sound.once.0.0 fair
 
     owned : IsOwned start i past serial slot packet

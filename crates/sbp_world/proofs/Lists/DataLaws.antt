@@ -4,6 +4,8 @@ use Rattle.std.proofs.Common.{ℕ, ◌<◌, List, length}
 use Rattle.sbp_journal.specs.Run.{Moment}
 use Rattle.sbp_laws.specs.Turns.{EachMoment}
 use Rattle.sbp_world.specs.Worlds.{WorldState}
+use Rattle.sbp_world.specs.Lists.AnswersCarried.{AnswersBroughtLaw}
+use Rattle.sbp_world.proofs.Lists.AnswersCarriedRuns.{answers_brought_law}
 use Rattle.sbp_world.specs.Lists.Closes.{AreUntaken, Under, WhereTame, WhereTameOrFew}
 use Rattle.sbp_world.specs.Lists.DataGots.{DataGotsLaw, ServedGotLaw}
 use Rattle.sbp_world.specs.Lists.DataSequences.{DataSequenceLaw}
@@ -74,3 +76,6 @@ module _ (short : ShortLaw) where
 
   pub got_law : ServedGotLaw
   got_law = served_got_law (data_sent_law short) answers_end_law (statuses_by short)
+
+  pub brought_law : AnswersBroughtLaw
+  brought_law = answers_brought_law (data_sent_law short) answers_end_law (statuses_by short)

@@ -40,7 +40,7 @@ use Rattle.sbp_world.proofs.Lists.OpenProved.{After, facts_at, were_after}
 use Rattle.sbp_world.proofs.Lists.StatusRuns.{delivering, honest_of, rises_of}
 use Rattle.sbp_world.proofs.Lists.StatusKnown.{IsKnown}
 
-delivers : (most : Option ℕ) → DeliversMore (more_deliveries most)
+pub delivers : (most : Option ℕ) → DeliversMore (more_deliveries most)
 delivers (Some count) = tt
 delivers None = tt
 

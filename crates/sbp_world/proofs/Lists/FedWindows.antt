@@ -19,7 +19,7 @@ use Rattle.sbp_world.specs.Lists.FedRuns.{AreBeside, IsElsewhere, no_more, other
 use Rattle.sbp_world.proofs.Lists.Slots.{IsFilled, data_window}
 
 -- a chunk has bytes
-some_bytes : (segments : List Segment) (done limit : ℕ) (c : Chunk) → 0 < limit → chunk_from segments done limit ≡ Some c → 0 < c.length
+pub some_bytes : (segments : List Segment) (done limit : ℕ) (c : Chunk) → 0 < limit → chunk_from segments done limit ≡ Some c → 0 < c.length
 some_bytes [] done limit c b e = absurd (let x : None ≡ Some c = e in cc)
 some_bytes (segment ∷ rest) done limit c b e = by (λ f. some_bytes rest (done - segment.length) limit c b f) (nat_lt done segment.length) refl e
   where
@@ -40,7 +40,7 @@ module _ (slot : ℕ) (small : slot < 32) (cmd : Cmd) (filled : IsFilled slot cm
       let follow : addresses c.offset c.length ≡ take c.length (drop done (buffer_addresses laid)) = subst (λ o. IfSome o (λ (piece : Chunk). addresses piece.offset piece.length ≡ take piece.length (drop done (buffer_addresses laid)))) e (chunk_in_place laid done limit) in
       data_window slot small cmd filled (read_access c.offset c.length) done (some_bytes laid done limit c some e) follow
 
-  taken_stands : (calls done : ℕ) → begins_one (taken_from calls laid done limit) one ≡ true → window_at one.offset ≡ Some (windows.Buffer slot)
+  pub taken_stands : (calls done : ℕ) → begins_one (taken_from calls laid done limit) one ≡ true → window_at one.offset ≡ Some (windows.Buffer slot)
   taken_stands zero done e = absurd (let x : false ≡ true = e in cc)
   taken_stands (suc calls) done e = by_chunk (λ d f. taken_stands calls d f) (chunk_from laid done limit) refl e
     where
