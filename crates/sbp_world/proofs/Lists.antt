@@ -423,6 +423,7 @@ pub mod AnswerLengths
 pub mod LinedAppends
 pub mod AheadGots
 pub mod AheadSince
+pub mod AheadWaits
 pub mod AnswerChecks
 pub mod SentGots
 pub mod WasReads

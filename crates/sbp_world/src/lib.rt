@@ -97,6 +97,7 @@ pub use of_lists::agents_are_along_lists;
 pub use of_lists::agents_read_for_their_own_orbs;
 pub use of_lists::agents_read_their_own_as_packets_are_got;
 pub use of_lists::agents_read_what_lists_hold;
+pub use of_lists::agents_that_read_ahead_wait_for_an_answer;
 pub use of_lists::agents_write_the_next_chunk;
 pub use of_lists::answers_are_as_the_disk_told;
 pub use of_lists::answers_are_sent_in_chunks;

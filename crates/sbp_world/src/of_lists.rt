@@ -1,5 +1,5 @@
 //! The laws of the lists and the agents.
-ghost use Rattle.sbp_world.specs.Lists.AheadGots.{AheadAsGotLaw, AheadSinceLaw};
+ghost use Rattle.sbp_world.specs.Lists.AheadGots.{AheadAsGotLaw, AheadSinceLaw, WaitsAsGotLaw};
 ghost use Rattle.sbp_world.specs.Lists.Along.{AlongLaw};
 ghost use Rattle.sbp_world.specs.Lists.Bases.{BasesLaw};
 ghost use Rattle.sbp_world.specs.Lists.Brings.{BringsLaw};
@@ -230,6 +230,13 @@ pub fn answers_to_the_management_begin_elsewhere()
 #[tactic(auto, using(crate::proofs::Lists::Clauses::ahead_gots))]
 pub fn orbs_read_ahead_are_spared_as_packets_are_got()
     ensures { AheadAsGotLaw }
+{}
+
+/// In every run in which no initiator injected packets, as each packet is got: an agent that has an ORB which it read ahead waits for an
+/// answer of an initiator.
+#[tactic(auto, using(crate::proofs::Lists::Clauses::ahead_waits))]
+pub fn agents_that_read_ahead_wait_for_an_answer()
+    ensures { WaitsAsGotLaw }
 {}
 
 /// By every history, where what is got begins elsewhere than in the slots of ORBs that were read ahead: while the agent of a place waited

@@ -317,7 +317,7 @@ module _ (start : List Disk) (line : ℕ) (event : Event) (past : List Moment) w
     to = ap (λ (f : ℕ → Option Sending). receiver_in (f a.mine)) (sym (opened_terms event (terms past)).sent) ∙ a.to;
   }
 
-  ahead_before : (place slot : ℕ) → HasAhead start here place slot → HasAhead start past place slot
+  pub ahead_before : (place slot : ℕ) → HasAhead start here place slot → HasAhead start past place slot
   ahead_before place slot x = record {
     orb = x.orb;
     kept = subst (λ (y : Target). (agent_at y place).machine.ahead ≡ aheads.Kept x.orb) twice x.kept;

@@ -22,6 +22,7 @@ use Rattle.sbp_world.specs.Lists.OwnWaits.{ReadsAsGotLaw}
 use Rattle.sbp_world.specs.Lists.ReadFeeds.{ReadAndFedLaw}
 use Rattle.sbp_world.proofs.Lists.AnswerLengths.{answer_lengths_law}
 use Rattle.sbp_world.proofs.Lists.AheadGots.{ahead_as_got_law}
+use Rattle.sbp_world.proofs.Lists.AheadWaits.{waits_as_got_law}
 use Rattle.sbp_world.proofs.Lists.CarriedEnds.{were_read_law}
 use Rattle.sbp_world.proofs.Lists.DataLaws as data_laws
 use Rattle.sbp_world.proofs.Lists.DataLaws.{data_sent_law, data_held_law}
@@ -33,7 +34,7 @@ use Rattle.sbp_world.proofs.Lists.OwnGots.{own_as_got_law}
 use Rattle.sbp_world.proofs.Lists.OwnWaits.{reads_as_got_law}
 use Rattle.sbp_world.proofs.Lists.ReadFeeds.{read_and_fed_law}
 use Rattle.sbp_world.proofs.Lists.ShortLines.{short_law}
-use Rattle.sbp_world.specs.Lists.AheadGots.{AheadAsGotLaw}
+use Rattle.sbp_world.specs.Lists.AheadGots.{AheadAsGotLaw, WaitsAsGotLaw}
 use Rattle.sbp_world.specs.Lists.DataHolds.{DataHeldLaw}
 use Rattle.sbp_world.specs.Lists.ManagedGots.{ManagedAsGotLaw}
 use Rattle.sbp_world.specs.Lists.AnswersCarried.{AnswersBroughtLaw}
@@ -91,6 +92,9 @@ gots_law = own_gots_law open_lists_law
 
 pub managed_gots : ManagedAsGotLaw
 managed_gots = managed_as_got_law short_law open_lists_law
+
+pub ahead_waits : WaitsAsGotLaw
+ahead_waits = waits_as_got_law open_lists_law
 
 pub ahead_gots : AheadAsGotLaw
 ahead_gots = ahead_as_got_law short_law open_lists_law

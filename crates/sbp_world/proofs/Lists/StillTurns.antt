@@ -119,7 +119,7 @@ unlisted_holds phases.WritingLastStatus e = untrue (sym e)
 unlisted_holds phases.ReadingNext e = untrue (sym e)
 unlisted_holds phases.Suspended e = untrue (sym e)
 
-unlisted_reads : (phase : Phase) → has_list phase ≡ false → has_read phase ≡ false
+pub unlisted_reads : (phase : Phase) → has_list phase ≡ false → has_read phase ≡ false
 unlisted_reads phases.Reset e = refl
 unlisted_reads phases.Dead e = refl
 unlisted_reads phases.Fetching e = untrue (sym e)

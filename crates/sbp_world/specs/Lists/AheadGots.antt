@@ -57,3 +57,20 @@ AreKeptAhead start i place slot (moment ∷ between) before = AreKeptAhead start
 -- So what was got of the initiator in them begins elsewhere than in the slot.
 abbrev pub AheadSinceLaw : Type 0
 AheadSinceLaw = (start : List Disk) (i place slot : ℕ) → place < 8 → (between before : List Moment) → EachMoment (AheadAsGot start) (between ++ before) → AreKeptAhead start i place slot between before → AreOthers i slot between before
+
+-- ---- an agent that has an ORB read ahead
+-- it waits for an answer of an initiator
+pub record WaitsFor (start : List Disk) (past : List Moment) (place : ℕ) : Type 0 where
+  pub initiator : ℕ
+  pub awaited : IsAwaited start past initiator place
+
+abbrev pub AreWaitingAhead : List Disk → List Moment → ℕ → Type 0
+AreWaitingAhead start past serial = (place : ℕ) → place < 8 → (slot : ℕ) → HasAhead start past place slot → WaitsFor start past place
+
+abbrev pub WaitsAsGot : List Disk → Moment → List Moment → Type 0
+WaitsAsGot start moment past = AtGot (AreWaitingAhead start) moment past
+
+-- After every line of every run, and behind each delivery of a line that delivers one packet after the other.
+pub record WaitsAsGotLaw : Type 0 where
+  pub after_lines : (line : ℕ) (run : Run) → IsRun run → 0 < run.units → run.units ≤ 4 → length run.start.disks ≡ run.units → IsTame (history_of line run) → EachMoment (WaitsAsGot run.start.disks) (history_of line run)
+  pub between : (line : ℕ) (run : Run) → IsRun run → 0 < run.units → run.units ≤ 4 → length run.start.disks ≡ run.units → (next : ℕ) (most : Option ℕ) (told : List (Option Told)) → MayAll told (begun (after (beginning run) run.entries)) → (let now = map said (after_all told (begun (after (beginning run) run.entries))).world.fresh ++ asked next (more_deliveries most) ∷ history_of line run in IsTame now → EachMoment (WaitsAsGot run.start.disks) now)
