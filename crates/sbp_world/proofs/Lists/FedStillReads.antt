@@ -9,6 +9,7 @@ use Rattle.sbp_journal.specs.Transactions.{Sending}
 use Rattle.sbp_journal.specs.Wire.{terms}
 use Rattle.sbp_journal.specs.declared.note.Note.TheVariants as notes
 use Rattle.sbp_laws.specs.CarriedBytes.{Moved}
+use Rattle.sbp_laws.specs.Lawful.{injectors}
 use Rattle.sbp_laws.specs.Lists.{orb as named_orb, prepared_in}
 use Rattle.sbp_laws.specs.Packets.{receiver_in}
 use Rattle.sbp_laws.specs.Targets.{Target, agent_at, over, target_at}
@@ -18,7 +19,7 @@ use Rattle.sbp_world.specs.Agents.Alike.{has_list, moves_data}
 use Rattle.sbp_world.specs.Agents.AskedRuns.{serial_of}
 use Rattle.sbp_world.proofs.Agents.Management.Holding.{Holding}
 use Rattle.sbp_world.proofs.Agents.Management.Still.{hist}
-use Rattle.sbp_world.specs.Lists.Needs.{initiator_in, is_open_at, machine_at}
+use Rattle.sbp_world.specs.Lists.Needs.{IsCalm, initiator_in, is_open_at, machine_at}
 use Rattle.sbp_world.specs.Lists.OrbNames.{IsJustBrought, IsStillBrought}
 use Rattle.sbp_world.proofs.Lists.FedFolds as folds
 use Rattle.sbp_world.proofs.Lists.FedFolds.{over_still}
@@ -26,6 +27,7 @@ use Rattle.sbp_world.proofs.Lists.FedReads as reads
 use Rattle.sbp_world.proofs.Lists.FedReads.{IsTurned, feeding}
 use Rattle.sbp_world.proofs.Lists.FedSteps.{IsFed}
 use Rattle.sbp_world.proofs.Lists.FedStill.{ReadBy, TurnedBy, closed_feeds, fed_alike, fed_so}
+use Rattle.sbp_world.proofs.Lists.ManageTerms.{untrue}
 use Rattle.sbp_world.proofs.Lists.OrbNotes.{GotBrings}
 use Rattle.sbp_world.proofs.Lists.Sites.{Site, waiting}
 use Rattle.sbp_world.proofs.Lists.StillReads.{IsHad, named_over, still_had}
@@ -44,12 +46,12 @@ pub record KnownHad (start : List Disk) (now before : List Moment) (w : WorldSta
   pub response_is : had.named.brought.response ≡ response
   pub earlier_is : had.named.brought.earlier ≡ earlier
 
--- of each agent that has a list open
+-- of each agent that has a list open of an initiator that injected no packets
 abbrev pub FedStill : List Disk → List Moment → WorldState → ℕ → Machine → Type 0
 FedStill start past w place m = IsFed (ReadBy start (KnownStill start past w) past place) (TurnedBy start (KnownStill start past w) past place) m
 
 abbrev pub AreFedStill : List Disk → List Moment → WorldState → Type 0
-AreFedStill start past w = (place : ℕ) → place < 8 → is_open_at w place ≡ true → FedStill start past w place (machine_at w place)
+AreFedStill start past w = (place : ℕ) → place < 8 → is_open_at w place ≡ true → IsCalm past (initiator_in w place) → FedStill start past w place (machine_at w place)
 
 -- what is known of it otherwise
 module _ (start : List Disk) (past : List Moment) (place : ℕ) (J K : ℕ → ℕ → CommandOrb → ℕ → List Moment → Type 0) where
@@ -69,7 +71,7 @@ module _ (units ready : ℕ) (has : 0 < units) (start : List Disk) {past : List 
   T = over (target_at start before)
 
   abbrev pub K : ℕ → ℕ → CommandOrb → ℕ → List Moment → Type 0
-  K p at orb response earlier = p < 8 → KnownHad start now before w p at orb response earlier
+  K p at orb response earlier = p < 8 → IsCalm before (initiator_in w p) → KnownHad start now before w p at orb response earlier
 
   abbrev pub R : List Moment → ℕ → ℕ → CommandOrb → Type 0
   R ms p at orb = ReadBy start K ms p at orb
@@ -82,60 +84,73 @@ module _ (units ready : ℕ) (has : 0 < units) (start : List Disk) {past : List 
 
   -- ---- before it
   had_before : (p : ℕ) (at : ℕ) (orb : CommandOrb) (response : ℕ) (earlier : List Moment) → KnownStill start before w p at orb response earlier → K p at orb response earlier
-  had_before p at orb response earlier x small = record { had = still_had start before now back behind w p at orb x.had; response_is = x.response_is; earlier_is = x.earlier_is }
+  had_before p at orb response earlier x small calm = record { had = still_had start before now back behind w p at orb x.had; response_is = x.response_is; earlier_is = x.earlier_is }
 
   all_before : folds.AreStill (λ p m. IsFed (IsBrought start before p) (IsTurned start before p) m) T
   all_before = over_still (λ p m. IsFed (IsBrought start before p) (IsTurned start before p) m) (reads.kept start before) (target_at start before) (feeding start before asked_so)
 
-  by_list : (p : ℕ) (b : p < 8) (x : Bool) → has_list (machine_at w p).phase ≡ x → Fed before p (agent_at T p).machine
-  by_list p b true e =
+  -- of one that injected none
+  by_calm : (p : ℕ) (b : p < 8) → is_open_at w p ≡ true → IsCalm before (initiator_in w p) → Fed before p (agent_at T p).machine
+  by_calm p b e calm =
       let a = (agent_at T p).machine in
       let m = machine_at w p in
       let alike = (site.agents.are.each p b).machine in
       let here = fed_so (ReadBy start (KnownStill start before w) before p) (R before p) (TurnedBy start (KnownStill start before w) before p) (U before p) m
       (λ holds reads. turned_known start before p (KnownStill start before w) K m.present m.orb reads (had_before p m.present m.orb))
-      (λ orb kept offset next. read_known start before p (KnownStill start before w) K (aligned offset) orb (had_before p (aligned offset) orb)) (fed p b e) in
+      (λ orb kept offset next. read_known start before p (KnownStill start before w) K (aligned offset) orb (had_before p (aligned offset) orb)) (fed p b e calm) in
       fed_alike (R before p) (U before p) m a (sym alike.phase) (sym (alike.present e)) (sym (alike.orb e)) (sym (alike.payload e)) (λ f. sym (alike.segments (ap moves_data (sym alike.phase) ∙ f))) (sym (alike.ahead e)) here
+
+  -- nothing is said of a place that there is not, or of an initiator that injected packets
+  none_read : (p : ℕ) → (p < 8 → IsCalm before (initiator_in w p) → ⊥) → (at : ℕ) (orb : CommandOrb) → IsBrought start before p at orb → R before p at orb
+  none_read p none at orb b = record { response = b.response; earlier = b.earlier; later = b.later; is = b.is; known = λ small calm. absurd (none small calm) }
+
+  none_turned : (p : ℕ) → (p < 8 → IsCalm before (initiator_in w p) → ⊥) → (at : ℕ) (orb : CommandOrb) (reads : List Moved) → IsTurned start before p at orb reads → U before p at orb reads
+  none_turned p none at orb reads t =
+      record { response = t.brought.response; earlier = t.brought.earlier; later = t.later; between = t.between; is = t.is; reads_are = t.reads_are; known = λ small calm. absurd (none small calm) }
+
+  none_said : (p : ℕ) → (p < 8 → IsCalm before (initiator_in w p) → ⊥) → Fed before p (agent_at T p).machine
+  none_said p none =
+      let m = (agent_at T p).machine in
+      fed_so (IsBrought start before p) (R before p) (IsTurned start before p) (U before p) m
+      (λ holds reads. none_turned p none m.present m.orb reads) (λ orb kept offset next. none_read p none (aligned offset) orb) (all_before.agents p)
+
+  by_own : (p : ℕ) (b : p < 8) → is_open_at w p ≡ true → (x : Bool) → injectors before (initiator_in w p) ≡ x → Fed before p (agent_at T p).machine
+  by_own p b e true f = none_said p (λ small calm. untrue (sym calm ∙ f))
+  by_own p b e false f = by_calm p b e f
+
+  by_list : (p : ℕ) (b : p < 8) (x : Bool) → has_list (machine_at w p).phase ≡ x → Fed before p (agent_at T p).machine
+  by_list p b true e = by_own p b e (injectors before (initiator_in w p)) refl
   by_list p b false e =
       closed_feeds (IsBrought start before p) (R before p) (IsTurned start before p) (U before p) (agent_at T p).machine (ap has_list (site.agents.are.each p b).machine.phase ∙ e) (all_before.agents p)
 
-  far_read : (p : ℕ) → 8 ≤ p → (at : ℕ) (orb : CommandOrb) → IsBrought start before p at orb → R before p at orb
-  far_read p far at orb b = record { response = b.response; earlier = b.earlier; later = b.later; is = b.is; known = λ small. absurd (omega (arith, far, small)) }
-
-  far_turned : (p : ℕ) → 8 ≤ p → (at : ℕ) (orb : CommandOrb) (reads : List Moved) → IsTurned start before p at orb reads → U before p at orb reads
-  far_turned p far at orb reads t =
-      record { response = t.brought.response; earlier = t.brought.earlier; later = t.later; between = t.between; is = t.is; reads_are = t.reads_are; known = λ small. absurd (omega (arith, far, small)) }
-
   by_place : (p : ℕ) (x : Bool) → nat_lt p 8 ≡ x → Fed before p (agent_at T p).machine
   by_place p true e = by_list p (grind (arith, nat_tests)) (has_list (machine_at w p).phase) refl
-  by_place p false e =
-      let far : 8 ≤ p = grind (arith, nat_tests) in
-      let m = (agent_at T p).machine in
-      fed_so (IsBrought start before p) (R before p) (IsTurned start before p) (U before p) m
-      (λ holds reads. far_turned p far m.present m.orb reads) (λ orb kept offset next. far_read p far (aligned offset) orb) (all_before.agents p)
+  by_place p false e = let far : 8 ≤ p = grind (arith, nat_tests) in none_said p (λ small calm. omega (arith, far, small))
 
   pub fed_before : folds.AreStill (Fed before) T
   fed_before = record { agents = λ p. by_place p (nat_lt p 8) refl; none = all_before.none }
 
   -- ---- what a packet brings
-  module _ (ms : List Moment) (same : over (target_at start ms) ≡ T) (sent : (terms ms).sent ≡ (terms before).sent) (there : (i slot : ℕ) → prepared_in ms i slot ≡ prepared_in before i slot) (serial : ℕ) (front : List Moment) (is : front ++ said (notes.Got serial) ∷ ms ≡ now) where
+  module _ (ms : List Moment) (same : over (target_at start ms) ≡ T) (sent : (terms ms).sent ≡ (terms before).sent) (there : (i slot : ℕ) → prepared_in ms i slot ≡ prepared_in before i slot) (quiet : (i : ℕ) → IsCalm before i → IsCalm ms i) (serial : ℕ) (front : List Moment) (is : front ++ said (notes.Got serial) ∷ ms ≡ now) where
     same_node : (i j : ℕ) → Some (suc i) ≡ Some (suc j) → i ≡ j
     same_node i j e = cc
 
-    just_known : (p : ℕ) → p < 8 → (at : ℕ) (orb : CommandOrb) (x : IsJustBrought start ms serial p at orb) → KnownHad start now before w p at orb x.named.brought.response x.named.brought.earlier
-    just_known p b at orb x =
-        let y = x.named in
+    just_known : (p : ℕ) → p < 8 → IsCalm before (initiator_in w p) → (at : ℕ) (orb : CommandOrb) (x : IsJustBrought start ms serial p at orb) → KnownHad start now before w p at orb x.from.brought.response x.from.brought.earlier
+    just_known p b calm at orb x =
+        let y = x.from in
         let e = x.now in
         let waits : serial_of y.brought.which (agent_at T p) ≡ Some y.brought.request =
         subst (λ (z : Target). serial_of y.brought.which (agent_at z p) ≡ Some y.brought.request) same (subst (λ ps. serial_of y.brought.which (agent_at (over (target_at start ps)) p) ≡ Some y.brought.request) e y.brought.waited) in
         let asked = waiting units ready has start w h site p b y.brought.which y.brought.request waits in
         let to : receiver_in ((terms before).sent y.brought.request) ≡ Some (suc y.i) =
         subst (λ (f : ℕ → Option Sending). receiver_in (f y.brought.request) ≡ Some (suc y.i)) sent (subst (λ ps. receiver_in ((terms ps).sent y.brought.request) ≡ Some (suc y.i)) e y.to) in
+        let own : y.i ≡ initiator_in w p = same_node y.i (initiator_in w p) (sym to ∙ asked.to) in
+        let led = y.led (subst (λ ps. IsCalm ps y.i) (sym e) (quiet y.i (subst (IsCalm before) (sym own) calm))) in
         record {
           had = record {
-            named = named_over start (said (notes.Got serial) ∷ ms) now front is p at orb y;
-            initiator = same_node y.i (initiator_in w p) (sym to ∙ asked.to);
-            there = sym (there y.i y.led.slot) ∙ subst (λ ps. prepared_in ps y.i y.led.slot ≡ Some (named_orb y.led.n y.led.k)) e y.led.there;
+            named = named_over start (said (notes.Got serial) ∷ ms) now front is p at orb (record { brought = y.brought; i = y.i; to = y.to; led = led });
+            initiator = own;
+            there = sym (there y.i led.slot) ∙ subst (λ ps. prepared_in ps y.i led.slot ≡ Some (named_orb led.n led.k)) e led.there;
           };
           response_is = refl;
           earlier_is = refl;
@@ -143,8 +158,8 @@ module _ (units ready : ℕ) (has : 0 < units) (start : List Disk) {past : List 
 
     just_read : (p : ℕ) (at : ℕ) (orb : CommandOrb) → IsJustBrought start ms serial p at orb → R (said (notes.Got serial) ∷ ms) p at orb
     just_read p at orb x =
-        let y = x.named.brought in
-        record { response = y.response; earlier = y.earlier; later = y.later; is = y.is; known = λ b. just_known p b at orb x }
+        let y = x.from.brought in
+        record { response = y.response; earlier = y.earlier; later = y.later; is = y.is; known = λ b calm. just_known p b calm at orb x }
 
     pub got_read : GotBrings (IsJustBrought start ms serial) (terms ms) serial (over (target_at start ms)) → GotBrings (R (said (notes.Got serial) ∷ ms)) (terms ms) serial (over (target_at start ms))
     got_read just own closed place which purpose =
